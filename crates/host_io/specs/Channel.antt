@@ -1,0 +1,62 @@
+-- What the outside tells of one role: a stream that is read, or one that is written.
+-- `read`, `write` and `flush` are described here once, for a source, a sink and a role of a host alike.
+use Rattle.std.specs.Prelude.{◌≡◌, ◌⊎◌, ℕ, ◌+◌, ◌-◌, ◌^◌, ◌<◌, ◌≤◌, min, Bool, List, [], ◌++◌, length, take, Option, None, Some, Result, Ok, Err, IsTrue, IsOk, IsErr, IfOk}
+use Rattle.host_io.specs.declared.source.Failed.{Failed}
+
+-- The meanings of a role. The name is that of the file that it was opened or created under, none at first.
+-- Bytes are listed from the first on; `flushed` counts those of `written` that the last flush that succeeded covered.
+pub record Channel : Type 0 where
+  pub name : Option (List ℕ)
+  pub faults : ℕ
+  pub taken : List ℕ
+  pub left : List ℕ
+  pub written : List ℕ
+  pub flushed : ℕ
+
+-- A count of faults rose: it is greater now, or stands at the end of its type. Later rises keep this true.
+abbrev pub Rose : ℕ → ℕ → Type 0
+Rose old new = min (old + 1) (2 ^ 64 - 1) ≤ new
+
+-- the bytes that a call moved: as many as it answers, and none where it failed
+abbrev pub moved : Result ℕ Failed → ℕ
+moved (Ok n) = n
+moved (Err e) = 0
+
+-- Counts never fall, and a call fails only where its count rose.
+pub record Counts {T : Type 0} (old new : Channel) (result : Result T Failed) : Type 0 where
+  pub no_less : old.faults ≤ new.faults
+  pub cause : IsErr result → Rose old.faults new.faults
+
+-- A read into a buffer of this capacity, which holds `buffer` afterwards. The bytes answered come from the
+-- front of what was left; none for a buffer that isn't empty is the end. A failed read takes nothing.
+pub record Reads (tells : Bool) (old new : Channel) (capacity : ℕ) (buffer : List ℕ) (result : Result ℕ Failed) : Type 0 where
+  pub count : IfOk result (λ n. n ≤ capacity)
+  pub taken : IsTrue tells → new.taken ≡ old.taken ++ take (moved result) buffer
+  pub left : IsTrue tells → old.left ≡ take (moved result) buffer ++ new.left
+  pub ended : IsTrue tells → result ≡ Ok 0 → 0 < capacity → old.left ≡ []
+  pub written : new.written ≡ old.written
+  pub flushed : new.flushed ≡ old.flushed
+  pub name : new.name ≡ old.name
+  pub faults : Counts old new result
+
+-- A write of a piece: its first bytes, as many as are answered, at least one of a piece that isn't empty. A
+-- failed write writes nothing.
+pub record Writes (tells : Bool) (old new : Channel) (piece : List ℕ) (result : Result ℕ Failed) : Type 0 where
+  pub count : IfOk result (λ n. n ≤ length piece)
+  pub progress : IfOk result (λ n. 0 < length piece → 0 < n)
+  pub written : IsTrue tells → new.written ≡ old.written ++ take (moved result) piece
+  pub flushed : new.flushed ≡ old.flushed
+  pub taken : new.taken ≡ old.taken
+  pub left : new.left ≡ old.left
+  pub name : new.name ≡ old.name
+  pub faults : Counts old new result
+
+-- A flush changes no byte. Where it succeeds, all that was written is flushed.
+pub record Flushes {T : Type 0} (tells : Bool) (old new : Channel) (result : Result T Failed) : Type 0 where
+  pub done : IsTrue tells → IsOk result → new.flushed ≡ length new.written
+  pub failed : IsErr result → new.flushed ≡ old.flushed
+  pub written : new.written ≡ old.written
+  pub taken : new.taken ≡ old.taken
+  pub left : new.left ≡ old.left
+  pub name : new.name ≡ old.name
+  pub faults : Counts old new result

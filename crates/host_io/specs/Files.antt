@@ -1,0 +1,85 @@
+-- What a host keeps of its other roles and of its files in a call of one role, and what opening and creating do.
+use Rattle.std.specs.Prelude.{◌≡◌, ◌≢◌, ◌⊎◌, ℕ, Bool, List, [], Option, None, Some, Result, IsTrue, IsFalse, IsOk, IsErr, ◌==◌, ⊤}
+use Rattle.host_io.specs.declared.source.Failed.{Failed}
+use Rattle.host_io.specs.declared.role.Role.{Role}
+use Rattle.host_io.specs.declared.role.Role.TheVariants.{Cnf, Order, Schedule, ProofIn, ProofOut, Made, Out, Err}
+use Rattle.host_io.specs.Channel.{Channel, Counts}
+
+-- a number for each role, by which two roles are told apart
+abbrev pub code_of : Role → ℕ
+code_of Cnf = 1
+code_of Order = 2
+code_of Schedule = 3
+code_of ProofIn = 4
+code_of ProofOut = 5
+code_of Made = 6
+code_of Out = 7
+code_of Err = 8
+
+abbrev pub same_role : Role → Role → Bool
+same_role a b = code_of a == code_of b
+
+-- Cnf, Order, Schedule and ProofIn are opened and read.
+abbrev pub IsInput : Role → Type 0
+IsInput Cnf = ⊤
+IsInput Order = ⊤
+IsInput Schedule = ⊤
+IsInput ProofIn = ⊤
+IsInput ProofOut = ⊥
+IsInput Made = ⊥
+IsInput Out = ⊥
+IsInput Err = ⊥
+
+-- ProofOut and Made are created.
+abbrev pub IsCreated : Role → Type 0
+IsCreated Cnf = ⊥
+IsCreated Order = ⊥
+IsCreated Schedule = ⊥
+IsCreated ProofIn = ⊥
+IsCreated ProofOut = ⊤
+IsCreated Made = ⊤
+IsCreated Out = ⊥
+IsCreated Err = ⊥
+
+-- A role of this name may be written and flushed: standard output and standard error always, a created one once it has its name.
+abbrev pub IsWritable : Role → Option (List ℕ) → Type 0
+IsWritable Cnf name = ⊥
+IsWritable Order name = ⊥
+IsWritable Schedule name = ⊥
+IsWritable ProofIn name = ⊥
+IsWritable ProofOut name = name ≢ None
+IsWritable Made name = name ≢ None
+IsWritable Out name = ⊤
+IsWritable Err name = ⊤
+
+-- the files of a host: what stands under a name
+abbrev pub Files : Type 0
+Files = List ℕ → Option (List ℕ)
+
+-- A call of one role changes nothing of another's.
+abbrev pub Others : Role → (Role → Channel) → (Role → Channel) → Type 0
+Others role old new = (other : Role) → IsFalse (same_role other role) → new other ≡ old other
+
+-- No file but the one of this name changed; without a name, none did.
+abbrev pub FilesBut : Option (List ℕ) → Files → Files → Type 0
+FilesBut own old new = (file : List ℕ) → own ≢ Some file → new file ≡ old file
+
+-- A call of one role that may change the file of one name: the other roles and the other files stay.
+pub record Kept (role : Role) (own : Option (List ℕ)) (old new : Role → Channel) (old_files new_files : Files) : Type 0 where
+  pub others : Others role old new
+  pub files : FilesBut own old_files new_files
+
+-- nothing was taken, written or flushed yet
+pub record IsIdle (channel : Channel) : Type 0 where
+  pub taken : channel.taken ≡ []
+  pub written : channel.written ≡ []
+  pub flushed : channel.flushed ≡ 0
+
+-- Opening or creating under a name: afterwards the role has that name, or, where the call failed, maybe still
+-- none. It takes and writes nothing, and a role without a name has not done so before.
+pub record Opens {T : Type 0} (old new : Channel) (name : List ℕ) (result : Result T Failed) : Type 0 where
+  pub named : IsOk result → new.name ≡ Some name
+  pub failed : IsErr result → (new.name ≡ Some name) ⊎ (new.name ≡ None)
+  pub was_idle : IsIdle old
+  pub idle : IsIdle new
+  pub faults : Counts old new result

@@ -1,0 +1,3 @@
+pub mod Channel
+pub mod Files
+pub mod Beside
