@@ -1,0 +1,5 @@
+pub mod Truth
+pub mod Formula
+pub mod Number
+pub mod Text
+pub mod ProofText

@@ -1,0 +1,6 @@
+pub mod State
+pub mod Chain
+pub mod Addition
+pub mod Run
+pub mod Strict
+pub mod Marks

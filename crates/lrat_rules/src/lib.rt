@@ -1,0 +1,8 @@
+//! The rules of LRAT: live clauses, hints and their chains, when an addition is good, and the verdict on a proof.
+//! Layers above rely on the definitions in `specs/`, and on the laws that this crate's functions ensure.
+//! (Cruz-Filipe, Heule, Hunt, Kaufmann, Schneider-Kamp: Efficient Certified RAT Verification, CADE 2017.)
+#![tactic(auto)]
+
+mod outcome;
+
+pub use outcome::{Effect, Reason};
