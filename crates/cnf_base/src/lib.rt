@@ -3,12 +3,14 @@
 #![tactic(auto)]
 
 mod examples;
+mod formula;
 mod list;
 mod literal;
 mod memory;
 mod step;
 
 pub use examples::{number_examples, step_examples, token_examples};
+pub use formula::{Cnf, CnfBuilder};
 pub use list::{Group, GroupList, Id, IdList, Items, LitList};
 pub use literal::Lit;
 pub use memory::OutOfMemory;
