@@ -1,2 +1,4 @@
+pub mod Added
+pub mod Front
 pub mod Kept
 pub mod Written

@@ -6,16 +6,16 @@ use Rattle.host_io.specs.declared.role.Role.{Role}
 use Rattle.host_io.specs.declared.role.Role.TheVariants.{Cnf, Order, Schedule, ProofIn, ProofOut, Made, Out, Err}
 use Rattle.host_io.specs.Channel.{Channel, Counts}
 
--- a number for each role, by which two roles are told apart
+-- the number of a role, by which two roles are told apart
 abbrev pub code_of : Role → ℕ
-code_of Cnf = 1
-code_of Order = 2
-code_of Schedule = 3
-code_of ProofIn = 4
-code_of ProofOut = 5
-code_of Made = 6
-code_of Out = 7
-code_of Err = 8
+code_of Cnf = 0
+code_of Order = 1
+code_of Schedule = 2
+code_of ProofIn = 3
+code_of ProofOut = 4
+code_of Made = 5
+code_of Out = 6
+code_of Err = 7
 
 abbrev pub same_role : Role → Role → Bool
 same_role a b = code_of a == code_of b

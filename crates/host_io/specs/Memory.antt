@@ -1,10 +1,10 @@
 -- What a host in memory holds: the files that were added, the newest first, and a channel for each role.
-use Rattle.std.specs.Prelude.{◌≡◌, ◌≢◌, ℕ, List, [], ◌∷◌, Option, None, Some, slice_index_or, if◌then◌else◌}
+use Rattle.std.specs.Prelude.{◌≡◌, ◌≢◌, ◌⊎◌, ℕ, List, [], ◌∷◌, Option, None, Some, length, slice_index_or, if◌then◌else◌}
 use Rattle.std.specs.Str.{bytes_eq}
 use Rattle.host_io.specs.declared.role.Role.{Role}
 use Rattle.host_io.specs.declared.role.Role.TheVariants.{ProofOut, Made}
 use Rattle.host_io.specs.Channel.{Channel}
-use Rattle.host_io.specs.Files.{Files, code_of}
+use Rattle.host_io.specs.Files.{Files, code_of, IsInput, IsCreated, IsIdle}
 use Rattle.host_io.specs.Beside.{is_named}
 
 pub record Memory : Type 0 where
@@ -17,6 +17,15 @@ fresh = record { name = None; faults = 0; taken = []; left = []; written = []; f
 
 abbrev pub channel_of : Memory → Role → Channel
 channel_of memory role = slice_index_or memory.streams (code_of role) fresh
+
+-- all roles but standard output and standard error are used under a name only
+abbrev pub IsNamedFirst : Role → Type 0
+IsNamedFirst role = IsInput role ⊎ IsCreated role
+
+-- There is a channel for each role, and one that wants a name and has none has not been used.
+pub record IsSettled (streams : List Channel) : Type 0 where
+  pub all : length streams ≡ 8
+  pub idle : (role : Role) → IsNamedFirst role → (slice_index_or streams (code_of role) fresh).name ≡ None → IsIdle (slice_index_or streams (code_of role) fresh)
 
 -- the newest of the files that has this name
 abbrev pub stored : List (List ℕ × List ℕ) → List ℕ → Option (List ℕ)

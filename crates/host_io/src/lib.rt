@@ -7,6 +7,7 @@
 #![tactic(auto)]
 
 mod law;
+mod memory_host;
 mod host;
 mod host_sink;
 mod host_source;
@@ -22,6 +23,7 @@ pub use host::Host;
 pub use host_sink::HostSink;
 pub use host_source::HostSource;
 pub use client::put;
+pub use memory_host::{MemoryHost, OutOfMemory};
 pub use role::Role;
 pub use source::{Failed, Sink, Source};
 pub use whole::write_all;

@@ -2,6 +2,7 @@
 ghost use Rattle.std.specs.Prelude.{◌≡◌, ◌+◌, ◌-◌, ◌^◌, min, true, None, Some, Ok, length};
 ghost use Rattle.host_io.specs.Channel.{Channel, Reads, Writes, Flushes};
 ghost use Rattle.host_io.specs.Files.{IsIdle};
+ghost use Rattle.host_io.specs.Beside.{is_named};
 ghost use Rattle.host_io.specs.Memory.{fresh};
 
 use crate::source::Failed;
@@ -49,6 +50,16 @@ impl Stream {
         ensures { result.now ≡ self.now.written }
     {
         &self.output
+    }
+
+    /// Whether this is its name.
+    pub(crate) fn is_named(&self, name: &str) -> bool
+        ensures { result ≡ is_named self.now.name name.now }
+    {
+        match &self.name {
+            None => false,
+            Some(own) => own.as_slice() == name.as_bytes(),
+        }
     }
 
     /// Takes this name, and reads these bytes from now on.
