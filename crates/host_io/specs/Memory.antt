@@ -1,5 +1,5 @@
 -- What a host in memory holds: the files that were added, the newest first, and a channel for each role.
-use Rattle.std.specs.Prelude.{◌≡◌, ◌≢◌, ◌⊎◌, ℕ, List, [], ◌∷◌, Option, None, Some, length, slice_index_or, if◌then◌else◌}
+use Rattle.std.specs.Prelude.{◌≡◌, ◌≢◌, ◌⊎◌, ℕ, ◌+◌, ◌-◌, ◌^◌, min, List, [], ◌∷◌, Option, None, Some, length, slice_index_or, if◌then◌else◌}
 use Rattle.std.specs.Str.{bytes_eq}
 use Rattle.host_io.specs.declared.role.Role.{Role}
 use Rattle.host_io.specs.declared.role.Role.TheVariants.{ProofOut, Made}
@@ -14,6 +14,10 @@ pub record Memory : Type 0 where
 -- a role that was not met yet
 abbrev pub fresh : Channel
 fresh = record { name = None; faults = 0; taken = []; left = []; written = []; flushed = 0 }
+
+-- a fault more in this role
+abbrev pub faulted : Channel → Channel
+faulted channel = record channel { faults = min (channel.faults + 1) (2 ^ 64 - 1) }
 
 abbrev pub channel_of : Memory → Role → Channel
 channel_of memory role = slice_index_or memory.streams (code_of role) fresh

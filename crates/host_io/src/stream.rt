@@ -1,9 +1,9 @@
 // One role of a host in memory: what it reads from a copy of its file, and what it writes.
-ghost use Rattle.std.specs.Prelude.{◌≡◌, ◌+◌, ◌-◌, ◌^◌, min, true, None, Some, Ok, length};
+ghost use Rattle.std.specs.Prelude.{◌≡◌, ◌≤◌, true, None, Some, Ok, length};
 ghost use Rattle.host_io.specs.Channel.{Channel, Reads, Writes, Flushes};
 ghost use Rattle.host_io.specs.Files.{IsIdle};
 ghost use Rattle.host_io.specs.Beside.{is_named};
-ghost use Rattle.host_io.specs.Memory.{fresh};
+ghost use Rattle.host_io.specs.Memory.{fresh, faulted};
 
 use crate::source::Failed;
 use std::alloc::Global;
@@ -74,7 +74,8 @@ impl Stream {
 
     /// Counts a fault.
     pub(crate) fn fail(&mut self) -> Failed
-        ensures { self.new ≡ record self.old { faults = min (self.old.faults + 1) (2 ^ 64 - 1) } }
+        ensures faulted { self.new ≡ faulted self.old }
+        ensures no_less { self.old.faults ≤ self.new.faults }
     {
         self.faults = self.faults.saturating_add(1);
         Failed
