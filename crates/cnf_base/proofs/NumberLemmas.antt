@@ -1,12 +1,12 @@
 -- A number that is printed is read again, and its text is a word.
-use Rattle.std.proofs.Common.{◌≡◌, ℕ, zero, suc, ◌+◌, ◌-◌, ◌*◌, ◌^◌, ◌<◌, ◌≤◌, Bool, true, false, cond, not, ◌&&◌, ◌==◌, List, [], ◌∷◌, length, ℤ, pos, negsuc, nat_abs, Option, Some, None, option_map, option_and_then, decimal, nat_le, refl, ap, sym, subst, ◌∙◌, arith, rules}
+use Rattle.std.proofs.Common.{◌≡◌, ℕ, suc, ◌^◌, ◌<◌, ◌≤◌, true, false, not, ◌==◌, List, [], ◌∷◌, length, ℤ, pos, negsuc, nat_abs, Some, option_map, option_and_then, decimal, refl, ap, ◌∙◌, arith, rules}
 use Rattle.std.specs.Fmt.{signed_decimal}
 use Rattle.std.specs.List.{list_all}
 use Rattle.std.proofs.lemmas.Bool.{cond-true, cond-false, and_parts, and_from, le-leb}
 use Rattle.std.proofs.lemmas.Bool.Decides.{nat_tests}
 use Rattle.std.proofs.lemmas.Fmt.{digits_decimal, digits_value-decimal, length-decimal-le, decimal_nonempty}
 use Rattle.std.proofs.lemmas.Str.Parse.{IsNumeralModel, numerals_by_fold}
-use Rattle.cnf_base.specs.Number.{is_digit, is_numeral, value_after, numeral_value, is_short, plain_number, negative, signed_value, signed_number}
+use Rattle.cnf_base.specs.Number.{is_digit, value_after, numeral_value, plain_number, negative, signed_value, signed_number}
 use Rattle.cnf_base.specs.Text.{is_blank, has_bytes}
 use Rattle.cnf_base.specs.ProofText.{is_delete_word}
 use Rattle.cnf_base.proofs.TextLemmas.{is_word, none_pass}
@@ -74,9 +74,9 @@ word_signed_decimal (negsuc n) small = digits_word (decimal (suc n)) (digits_dec
 pub first_digit : (n : ℕ) → n < 2 ^ 64 → (byte : ℕ) × (bytes : List ℕ) × (decimal n ≡ byte ∷ bytes) × (is_digit byte ≡ true)
 first_digit n small = first (decimal n) (digits_decimal numerals n small) (decimal_nonempty n small)
   where
-  first : (ds : List ℕ) → list_all is_digit ds ≡ true → 0 < length ds → (byte : ℕ) × (bytes : List ℕ) × (ds ≡ byte ∷ bytes) × (is_digit byte ≡ true)
-  first [] digits some = absurd (omega arith)
-  first (byte ∷ bytes) digits some = (byte, bytes, refl, (and_parts (is_digit byte) (list_all is_digit bytes) digits).0)
+    first : (ds : List ℕ) → list_all is_digit ds ≡ true → 0 < length ds → (byte : ℕ) × (bytes : List ℕ) × (ds ≡ byte ∷ bytes) × (is_digit byte ≡ true)
+    first [] digits some = absurd (omega arith)
+    first (byte ∷ bytes) digits some = (byte, bytes, refl, (and_parts (is_digit byte) (list_all is_digit bytes) digits).0)
 
 -- a number is not the word `d`
 delete_word_digits : (bytes : List ℕ) → list_all is_digit bytes ≡ true → is_delete_word bytes ≡ false

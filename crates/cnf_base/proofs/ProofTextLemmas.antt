@@ -1,10 +1,10 @@
 -- The line that is written for a step spells the step.
-use Rattle.std.proofs.Common.{◌≡◌, ℕ, zero, suc, ◌+◌, ◌-◌, ◌*◌, ◌^◌, ◌<◌, ◌≤◌, Bool, true, false, cond, not, ◌&&◌, ◌==◌, List, [], ◌∷◌, ◌++◌, map, flat_map, length, ℤ, pos, negsuc, neg_ℤ, nat_abs, Option, Some, None, IfSome, option_map, option_and_then, decimal, nat_le, nat_lt, refl, ap, sym, subst, ◌∙◌, append_assoc, append-nil, length-append, arith, rules}
+use Rattle.std.proofs.Common.{◌≡◌, ℕ, zero, suc, ◌+◌, ◌^◌, ◌<◌, Bool, true, false, not, ◌&&◌, ◌==◌, List, [], ◌∷◌, ◌++◌, map, flat_map, length, ℤ, pos, negsuc, neg_ℤ, nat_abs, Option, Some, None, IfSome, option_map, option_and_then, decimal, nat_le, nat_lt, slice_index, refl, ap, sym, subst, ◌∙◌, append_assoc, append-nil, length-append, arith}
 use Rattle.std.specs.Fmt.{signed_decimal}
 use Rattle.std.specs.List.{list_all, join_with_byte}
-use Rattle.std.proofs.lemmas.Bool.{cond-true, cond-false, and_parts, and_from, not-true, le-leb, leb-true, ltb-true}
+use Rattle.std.proofs.lemmas.Bool.{cond-true, cond-false, cond_both, and_parts, and_from, not-true, leb-true, ltb-true}
 use Rattle.std.proofs.lemmas.Bool.Decides.{nat_tests}
-use Rattle.std.proofs.lemmas.List.{map-append}
+use Rattle.std.proofs.lemmas.List.{map-append, same_from_push}
 use Rattle.std.proofs.lemmas.List.Folds.{list_all-append, list_all-map}
 use Rattle.std.proofs.lemmas.Fmt.{decimal_digit}
 use Rattle.cnf_base.specs.declared.step.Step.{Step}
@@ -13,8 +13,8 @@ use Rattle.cnf_base.specs.declared.list.Group.{Group}
 use Rattle.cnf_base.specs.Truth.{is_literal_of}
 use Rattle.cnf_base.specs.Number.{is_digit, plain_number, signed_number}
 use Rattle.cnf_base.specs.Text.{is_line_end, begins_with, words_of, row_of, rows, line_ends}
-use Rattle.cnf_base.specs.ProofText.{max_id, max_literal, is_id, is_hint, all_given, in_front, split_at, is_empty, is_zero, given_if, hints_before_group, groups_of, addition_of, addition_from, deletion_of, is_delete_word, step_with, step_of, Line, line_of_row, proof_lines, group_numbers, step_words, line_of_step, is_group, is_printable, are_whole_lines}
-use Rattle.cnf_base.proofs.TextLemmas.{is_word, none_pass, words_of-join, join_one_line, rows-line, line_ends-line, whole_lines-append}
+use Rattle.cnf_base.specs.ProofText.{max_id, max_literal, is_id, is_hint, all_given, in_front, split_at, is_empty, is_zero, given_if, hints_before_group, groups_of, addition_of, addition_from, deletion_of, is_delete_word, step_with, step_of, line_of_row, proof_lines, group_numbers, step_words, line_of_step, is_group, is_printable, are_whole_lines}
+use Rattle.cnf_base.proofs.TextLemmas.{is_word, none_pass, words_of-join, join_one_line, rows-line, line_ends-line, line_ends_none, whole_lines-append}
 use Rattle.cnf_base.proofs.NumberLemmas.{plain_number-decimal, signed_number-signed_decimal, word_decimal, word_signed_decimal, delete_word_signed, first_digit}
 
 and_four : (a b c d : Bool) → a ≡ true → b ≡ true → c ≡ true → d ≡ true → (a && b && c && d) ≡ true
@@ -228,6 +228,11 @@ front_of_line step = join_with_byte 32 (step_words step)
 pub words_of-line : (step : Step) → is_printable step ≡ true → words_of (front_of_line step) ≡ step_words step
 words_of-line step good = words_of-join (step_words step) (words_good step good)
 
+pub step_of-line : (step : Step) (front : List ℕ) → is_printable step ≡ true → line_of_step step ≡ front ++ 10 ∷ [] → step_of (words_of front) ≡ Some step
+step_of-line step front good line =
+    ap (λ bytes. step_of (words_of bytes)) (sym (same_from_push (front_of_line step) front 10 10 line).0)
+    ∙ ap step_of (words_of-line step good) ∙ step_of-words step good
+
 pub one_line : (step : Step) → is_printable step ≡ true → none_pass is_line_end (front_of_line step) ≡ true
 one_line step good = join_one_line (step_words step) (words_good step good)
 
@@ -259,3 +264,91 @@ whole-line bytes step = subst (λ bs. are_whole_lines bs ≡ true) (append_assoc
 
 pub line_ends-step : (bytes : List ℕ) (step : Step) → is_printable step ≡ true → line_ends (bytes ++ line_of_step step) ≡ line_ends bytes + 1
 line_ends-step bytes step good = line_ends-line 0 (front_of_line step) (one_line step good) bytes
+
+tail_same : {x y : ℕ} {xs ys : List ℕ} → x ∷ xs ≡ y ∷ ys → xs ≡ ys
+tail_same e = cc
+
+-- the first byte of a step's line is a digit
+first_of_join : (byte : ℕ) (bytes : List ℕ) (words : List (List ℕ)) (more : List ℕ) → slice_index (join_with_byte 32 ((byte ∷ bytes) ∷ words) ++ more) 0 ≡ byte
+first_of_join byte bytes [] more = refl
+first_of_join byte bytes (word ∷ words) more = refl
+
+pub first_byte : (step : Step) → is_printable step ≡ true → is_digit (slice_index (line_of_step step) 0) ≡ true
+first_byte step good =
+    let words = words_first step good in
+    let digit = first_digit words.0 words.3 in
+    let same : step_words step ≡ (digit.0 ∷ digit.1) ∷ words.1 = words.2 ∙ ap (λ word. word ∷ words.1) digit.2 in
+    subst (λ ws. is_digit (slice_index (join_with_byte 32 ws ++ 10 ∷ []) 0) ≡ true) (sym same)
+    (ap is_digit (first_of_join digit.0 digit.1 words.1 (10 ∷ [])) ∙ digit.3)
+
+-- a front of a line that leaves something out has no line end
+front_none : (front rest line : List ℕ) → none_pass is_line_end line ≡ true → front ++ rest ≡ line ++ 10 ∷ [] → 0 < length rest → none_pass is_line_end front ≡ true
+front_none [] rest line one cut some = refl
+front_none (byte ∷ front) rest [] one cut some =
+    let total : length (front ++ rest) ≡ 0 = ap length (tail_same cut) in
+    absurd (omega (arith, length-append front rest))
+front_none (byte ∷ front) rest (first ∷ line) one cut some =
+    let parts = and_parts (not (is_line_end first)) (none_pass is_line_end line) one in
+    let same : byte ≡ first = cc in
+    and_from _ _ (rw same parts.0) (front_none front rest line parts.1 (tail_same cut) some)
+
+pub line_ends-front : (front rest : List ℕ) (step : Step) → is_printable step ≡ true → front ++ rest ≡ line_of_step step → 0 < length rest → line_ends front ≡ 0
+line_ends-front front rest step good cut some = line_ends_none front (front_none front rest (front_of_line step) (one_line step good) cut some)
+
+-- What a line spells is in range.
+given_if_some : {X : Type 0} (P : X → Type 0) (b : Bool) (x : X) → (b ≡ true → P x) → IfSome (given_if b x) P
+given_if_some P true x h = h refl
+given_if_some P false x h = tt
+
+and_then_some : {X Y : Type 0} (P : Y → Type 0) (f : X → Option Y) → ((x : X) → IfSome (f x) P) → (o : Option X) → IfSome (option_and_then f o) P
+and_then_some P f h None = tt
+and_then_some P f h (Some x) = h x
+
+hints_before_range : (hints : List ℤ) → list_all is_hint hints ≡ true → list_all is_id (hints_before_group hints) ≡ true
+hints_before_range [] good = refl
+hints_before_range (pos n ∷ hints) good =
+    let parts = and_parts (is_id n) (list_all is_hint hints) good in
+    and_from _ _ parts.0 (hints_before_range hints parts.1)
+hints_before_range (negsuc n ∷ hints) good = refl
+
+groups_range : (hints : List ℤ) → list_all is_hint hints ≡ true → list_all is_group (groups_of hints) ≡ true
+groups_range [] good = refl
+groups_range (pos n ∷ hints) good = groups_range hints (and_parts (is_id n) (list_all is_hint hints) good).1
+groups_range (negsuc n ∷ hints) good =
+    let parts = and_parts (is_id (suc n)) (list_all is_hint hints) good in
+    and_from _ _ (and_from _ _ parts.0 (hints_before_range hints parts.1)) (groups_range hints parts.1)
+
+abbrev Printable : Step → Type 0
+Printable step = is_printable step ≡ true
+
+addition_range : (id : ℕ) (literals : List ℤ) (parts : List ℤ × List ℤ) → IfSome (addition_of id literals parts) Printable
+addition_range id literals (hints, rest) =
+    given_if_some Printable _ (Add id literals (hints_before_group hints) (groups_of hints))
+    (λ good. let parts = four_parts (is_id id) (list_all (is_literal_of max_literal) literals) (list_all is_hint hints) (is_empty rest) good in
+    and_four _ _ _ _ parts.0 parts.1 (hints_before_range hints parts.2) (groups_range hints parts.2))
+
+addition_from_range : (id : ℕ) (parts : List ℤ × List ℤ) → IfSome (addition_from id parts) Printable
+addition_from_range id (literals, rest) = and_then_some Printable (addition_of id literals) (addition_range id literals) (split_at is_zero rest)
+
+deletion_range : (id : ℕ) (parts : List ℕ × List ℕ) → IfSome (deletion_of id parts) Printable
+deletion_range id (ids, rest) =
+    given_if_some Printable _ (Delete id ids) (λ good. (and_parts (nat_le id max_id && list_all is_id ids) (is_empty rest) good).0)
+
+step_with_range : (id : ℕ) (words : List (List ℕ)) → IfSome (step_with id words) Printable
+step_with_range id [] = tt
+step_with_range id (word ∷ words) =
+    cond_both (is_delete_word word) _ _ (λ o. IfSome o Printable)
+    (λ _. and_then_some Printable (λ numbers. option_and_then (deletion_of id) (split_at (λ n. n == 0) numbers))
+    (λ numbers. and_then_some Printable (deletion_of id) (deletion_range id) (split_at (λ n. n == 0) numbers)) (all_given (map plain_number words)))
+    (λ _. and_then_some Printable (λ numbers. option_and_then (addition_from id) (split_at is_zero numbers))
+    (λ numbers. and_then_some Printable (addition_from id) (addition_from_range id) (split_at is_zero numbers)) (all_given (map signed_number (word ∷ words))))
+
+step_of_range : (words : List (List ℕ)) → IfSome (step_of words) Printable
+step_of_range [] = tt
+step_of_range (word ∷ words) = and_then_some Printable (λ id. step_with id words) (λ id. step_with_range id words) (plain_number word)
+
+pub printable_of_words : (words : List (List ℕ)) (step : Step) → step_of words ≡ Some step → is_printable step ≡ true
+printable_of_words words step e = subst (λ o. IfSome o Printable) e (step_of_range words)
+
+pub addition_parts : (words : List (List ℕ)) (id : ℕ) (literals : List ℤ) (hints : List ℕ) (groups : List Group) → step_of words ≡ Some (Add id literals hints groups) → (is_id id ≡ true) × (list_all (is_literal_of max_literal) literals ≡ true) × (list_all is_id hints ≡ true) × (list_all is_group groups ≡ true)
+addition_parts words id literals hints groups e = four_parts _ _ _ _ (printable_of_words words (Add id literals hints groups) e)

@@ -1,11 +1,11 @@
 -- The pieces, lines and tokens of a text, and of a text that grows by a line.
-use Rattle.std.proofs.Common.{◌≡◌, ℕ, suc, ◌+◌, ◌<◌, Bool, true, false, cond, not, ◌&&◌, ◌==◌, ◌⊎◌, List, [], ◌∷◌, ◌++◌, length, filter, count_by, IsTrue, refl, ap, sym, subst, ◌∙◌, inl, inr, ⊎_elim, append_assoc, append-nil, arith, add_assoc, add-one}
+use Rattle.std.proofs.Common.{◌≡◌, ℕ, suc, ◌+◌, ◌<◌, Bool, true, false, cond, not, ◌&&◌, ◌⊎◌, List, [], ◌∷◌, ◌++◌, length, filter, count_by, refl, ap, sym, subst, ◌∙◌, inl, inr, ⊎_elim, append_assoc, append-nil, arith}
 use Rattle.std.specs.List.{list_all, join_with_byte}
 use Rattle.std.proofs.lemmas.Bool.{cond-true, cond-false, and_parts, and_from, not-true, eqb-true}
 use Rattle.std.proofs.lemmas.Bool.Decides.{nat_tests}
 use Rattle.std.proofs.lemmas.List.Folds.{list_all-append}
 use Rattle.std.proofs.lemmas.List.Sums.{sum_by-cons, sum_by-append}
-use Rattle.cnf_base.specs.Text.{is_line_end, is_blank, begin_with, pieces, has_bytes, words_of, Row, row_of, rows_from, rows, line_ends}
+use Rattle.cnf_base.specs.Text.{is_line_end, is_blank, begin_with, pieces, has_bytes, words_of, row_of, rows_from, rows, line_ends}
 use Rattle.cnf_base.specs.ProofText.{are_whole_lines}
 
 -- none of the bytes passes the test
@@ -28,8 +28,8 @@ module _ (test : ℕ → Bool) where
       let some : 0 < length (pieces test bytes) = omega (arith, length-pieces bytes) in
       let count : count_by test (byte ∷ bytes) ≡ cond (test byte) 1 0 + count_by test bytes = sum_by-cons (λ x. cond (test x) 1 0) byte bytes in
       elim (test byte) as (λ b. count_by test (byte ∷ bytes) ≡ cond b 1 0 + count_by test bytes → length (cond b ([] ∷ pieces test bytes) (begin_with byte (pieces test bytes))) ≡ count_by test (byte ∷ bytes) + 1) [
-        true ↦ λ e. omega (arith, length-pieces bytes)
-      | false ↦ λ e. omega (arith, length-pieces bytes, length-begin_with byte (pieces test bytes) some)
+        | true ↦ λ e. omega (arith, length-pieces bytes)
+        | false ↦ λ e. omega (arith, length-pieces bytes, length-begin_with byte (pieces test bytes) some)
       ] count
 
   -- a byte that passes ends the pieces before it
@@ -39,8 +39,8 @@ module _ (test : ℕ → Bool) where
       let some : 0 < length (pieces test xs) = omega (arith, length-pieces xs) in
       rw (pieces-append xs byte ys here)
       (elim (test x) as (λ b. cond b ([] ∷ (pieces test xs ++ pieces test ys)) (begin_with x (pieces test xs ++ pieces test ys)) ≡ cond b ([] ∷ pieces test xs) (begin_with x (pieces test xs)) ++ pieces test ys) [
-        true ↦ refl
-      | false ↦ begin_with-append x (pieces test xs) (pieces test ys) some
+        | true ↦ refl
+        | false ↦ begin_with-append x (pieces test xs) (pieces test ys) some
       ])
 
   -- where no byte passes, the text is the one piece
@@ -72,7 +72,7 @@ whole_lines-append (byte ∷ more ∷ front) = whole_lines-append (more ∷ fron
 line_ends_push : (front : List ℕ) → line_ends (front ++ 10 ∷ []) ≡ line_ends front + 1
 line_ends_push front = sum_by-append (λ x. cond (is_line_end x) 1 0) front (10 ∷ [])
 
-line_ends_none : (bytes : List ℕ) → none_pass is_line_end bytes ≡ true → line_ends bytes ≡ 0
+pub line_ends_none : (bytes : List ℕ) → none_pass is_line_end bytes ≡ true → line_ends bytes ≡ 0
 line_ends_none bytes none =
     let whole : length (pieces is_line_end bytes) ≡ 1 = ap length (pieces_none is_line_end bytes none) in
     omega (arith, length-pieces is_line_end bytes)
