@@ -1,5 +1,5 @@
 // Laws of the definitions of texts, numbers and steps, as clauses of functions without work.
-ghost use Rattle.std.specs.Prelude.{◌≡◌, ℕ, ◌+◌, ◌^◌, ◌<◌, ℤ, nat_abs, List, [], ◌∷◌, ◌++◌, length, None, Some, IsTrue, decimal, slice_index};
+ghost use Rattle.std.specs.Prelude.{◌≡◌, ℕ, ◌+◌, ◌^◌, ◌<◌, ℤ, nat_abs, List, [], ◌∷◌, ◌++◌, length, None, Some, IsTrue, nat_le, decimal, slice_index};
 ghost use Rattle.std.specs.Fmt.{signed_decimal};
 ghost use Rattle.std.specs.List.{list_all, join_with_byte};
 ghost use Rattle.cnf_base.specs.declared.list.Group.{Group};
@@ -8,7 +8,7 @@ ghost use Rattle.cnf_base.specs.declared.step.Step.TheVariants.{Add, Delete};
 ghost use Rattle.cnf_base.specs.Truth.{is_literal_of};
 ghost use Rattle.cnf_base.specs.Number.{is_digit, plain_number, signed_number};
 ghost use Rattle.cnf_base.specs.Text.{words_of, line_ends};
-ghost use Rattle.cnf_base.specs.ProofText.{max_literal, is_id, is_group, is_printable, step_words, step_of, line_of_step, proof_lines, are_whole_lines};
+ghost use Rattle.cnf_base.specs.ProofText.{max_id, max_literal, is_id, is_group, is_printable, step_words, step_of, line_of_step, proof_lines, are_whole_lines};
 
 /// A number that is printed is read again.
 pub fn number_laws()
@@ -49,5 +49,6 @@ pub fn step_range_law()
         → IsTrue (list_all is_id hints) }
     ensures groups { (words : List (List ℕ)) (id : ℕ) (literals : List ℤ) (hints : List ℕ) (groups : List Group) → step_of words ≡ Some (Add id literals hints groups)
         → IsTrue (list_all is_group groups) }
+    ensures deletion { (words : List (List ℕ)) (id : ℕ) (ids : List ℕ) → step_of words ≡ Some (Delete id ids) → IsTrue (nat_le id max_id) }
     ensures deleted { (words : List (List ℕ)) (id : ℕ) (ids : List ℕ) → step_of words ≡ Some (Delete id ids) → IsTrue (list_all is_id ids) }
 {}

@@ -18,5 +18,8 @@ returns-clause-hints c words id literals hints groups e = (addition_parts words 
 pub returns-clause-groups : goal.returns-clause-groups
 returns-clause-groups c words id literals hints groups e = (addition_parts words id literals hints groups e).3
 
+pub returns-clause-deletion : goal.returns-clause-deletion
+returns-clause-deletion c words id ids e = (and_parts _ _ (printable_of_words words (Delete id ids) e)).0
+
 pub returns-clause-deleted : goal.returns-clause-deleted
 returns-clause-deleted c words id ids e = (and_parts _ _ (printable_of_words words (Delete id ids) e)).1
