@@ -14,7 +14,7 @@ not_both (Err e) ok err = cc
 -- a write that failed, of a piece with more behind it
 pub cut_short : {tells : Bool} {old new : Channel} {piece : List ℕ} {result answer : Result (Unit {0}) Failed} → WritesAll tells old new piece result → IsErr result → IsErr answer
     → (held bytes after more : List ℕ) → held ++ bytes ≡ piece ++ more → Emits tells old new held after bytes answer
-cut_short {true} {old} {new} {piece} {result} {answer} w err failed held bytes after more whole =
+cut_short {tells = true} {old} {new} {piece} {result} {answer} w err failed held bytes after more whole =
     let front = w.failed refl err in
     record {
       gained = take front.0 piece;
@@ -28,7 +28,7 @@ cut_short {true} {old} {new} {piece} {result} {answer} w err failed held bytes a
       name = w.name;
       faults = record { no_less = w.faults.no_less; cause = λ _. w.faults.cause err };
     }
-cut_short {false} {old} {new} {piece} {result} {answer} w err failed held bytes after more whole =
+cut_short {tells = false} {old} {new} {piece} {result} {answer} w err failed held bytes after more whole =
     record {
       gained = [];
       rest = piece ++ more;
@@ -83,3 +83,34 @@ all_at_once {piece = piece} w ok held bytes after whole = record {
 pub alone : {tells : Bool} {old new : Channel} {piece : List ℕ} {result : Result (Unit {0}) Failed} → WritesAll tells old new piece result → Emits tells old new [] [] piece result
 alone {piece = piece} {result = Ok u} w = all_at_once w refl [] piece [] (sym (append-nil piece))
 alone {piece = piece} {result = Err e} w = cut_short w refl refl [] piece [] [] (sym (append-nil piece))
+
+-- a failure within a longer piece
+pub fails_within : {tells : Bool} {old new : Channel} {held after front : List ℕ} {result answer : Result (Unit {0}) Failed} → Emits tells old new held after front result → IsErr result → IsErr answer
+    → (bytes more now : List ℕ) → bytes ≡ front ++ more → Emits tells old new held now bytes answer
+fails_within {held = held} {front = front} {answer = answer} x err failed bytes more now whole = record {
+  gained = x.gained;
+  rest = x.rest ++ more;
+  balance = ap (λ (l : List ℕ). held ++ l) whole ∙ sym (append_assoc held front more) ∙ ap (λ (l : List ℕ). l ++ more) x.balance ∙ append_assoc x.gained x.rest more;
+  done = λ ok. absurd (not_both answer ok failed);
+  written = x.written;
+  flushed = x.flushed;
+  taken = x.taken;
+  left = x.left;
+  name = x.name;
+  faults = record { no_less = x.faults.no_less; cause = λ _. x.faults.cause err };
+}
+
+-- nothing happened
+pub nothing : {tells : Bool} (channel : Channel) (held : List ℕ) → Emits tells channel channel held held [] (Ok tt)
+nothing channel held = record {
+  gained = [];
+  rest = held;
+  balance = append-nil held;
+  done = λ _. refl;
+  written = λ _. sym (append-nil channel.written);
+  flushed = refl;
+  taken = refl;
+  left = refl;
+  name = refl;
+  faults = record { no_less = omega arith; cause = λ err. absurd (not_both (Ok tt) refl err) };
+}
