@@ -3,6 +3,8 @@
 //! (Cruz-Filipe, Heule, Hunt, Kaufmann, Schneider-Kamp: Efficient Certified RAT Verification, CADE 2017.)
 #![tactic(auto)]
 
+mod laws;
 mod outcome;
 
+pub use laws::{conflict_law, definition_law, start_law, strict_addition_law};
 pub use outcome::{Effect, Reason};

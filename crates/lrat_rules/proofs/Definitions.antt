@@ -1,0 +1,1 @@
+-- A definition is a good addition.

@@ -1,0 +1,4 @@
+pub mod Tests
+pub mod Strictness
+pub mod Definitions
+pub mod Starts

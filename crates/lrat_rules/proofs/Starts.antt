@@ -1,0 +1,1 @@
+-- The formula's clauses at the start.

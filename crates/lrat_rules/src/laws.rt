@@ -1,0 +1,33 @@
+// Laws of the rules, over everything: functions without work, whose clauses the crates above cite by a call.
+ghost use Rattle.std.specs.Prelude.{◌≡◌, ◌<◌, ◌+◌, ◌||◌, ◌++◌, ℕ, ℤ, List, [], ◌∷◌, map, length, None, Some, IsTrue, slice_index_or};
+ghost use Rattle.lrat_rules.specs.State.{State, Live, clause_at, start};
+ghost use Rattle.lrat_rules.specs.Chain.{Closes, literals_of};
+ghost use Rattle.lrat_rules.specs.Addition.{fault};
+ghost use Rattle.lrat_rules.specs.Strict.{RefutesStrictly, IsDefinition};
+ghost use Rattle.lrat_rules.specs.Run.{Spells};
+
+/// An addition by a strict refutation is good, and its hints close.
+pub fn strict_addition_law()
+    ensures good { (state : State) (id : ℕ) (clause : List ℤ) (hints : List ℕ) → state.top < id
+        → RefutesStrictly state.live clause hints → fault state id clause hints [] ≡ None }
+    ensures closes { (live : Live) (clause : List ℤ) (hints : List ℕ) → RefutesStrictly live clause hints → Closes live (literals_of clause) hints }
+{}
+
+/// A clause whose candidates are all named, and all blocked, is a good addition with no further hints.
+pub fn definition_law()
+    ensures { (state : State) (id : ℕ) (clause : List ℤ) (candidates : List ℕ) → state.top < id
+        → IsDefinition state.live clause candidates → fault state id clause [] (map (λ candidate. record { id = candidate; hints = [] }) candidates) ≡ None }
+{}
+
+/// A live clause without literals refutes every clause, as the only hint.
+pub fn conflict_law()
+    ensures { (live : Live) (clause : List ℤ) (hint : ℕ) → clause_at live hint ≡ Some [] → RefutesStrictly live clause (hint ∷ []) }
+{}
+
+/// At first the formula's clauses stand under 1, 2, .., and nothing else; the empty text spells this state.
+pub fn start_law()
+    ensures clauses { (clauses : List (List ℤ)) (i : ℕ) → i < length clauses → clause_at (start clauses).live (i + 1) ≡ Some (slice_index_or clauses i []) }
+    ensures none_at_zero { (clauses : List (List ℤ)) → clause_at (start clauses).live 0 ≡ None }
+    ensures none_above { (clauses : List (List ℤ)) (id : ℕ) → length clauses < id → clause_at (start clauses).live id ≡ None }
+    ensures spells { (clauses : List (List ℤ)) → Spells clauses [] (start clauses) }
+{}
