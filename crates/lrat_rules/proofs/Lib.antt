@@ -2,3 +2,5 @@ pub mod Tests
 pub mod Strictness
 pub mod Definitions
 pub mod Starts
+pub mod Chains
+pub mod Resolvents

@@ -5,6 +5,8 @@
 
 mod laws;
 mod outcome;
+mod soundness;
 
 pub use laws::{conflict_law, definition_law, start_law, strict_addition_law};
 pub use outcome::{Effect, Reason};
+pub use soundness::soundness_law;
