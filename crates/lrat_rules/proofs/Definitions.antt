@@ -9,6 +9,7 @@ use Rattle.lrat_rules.specs.State.{State, Live, clause_at}
 use Rattle.lrat_rules.specs.Chain.{FalseSet, Open, literals_of}
 use Rattle.lrat_rules.specs.Addition.{holds_negated, is_blocked_by, if_live, is_candidate, is_blocked, group_fault_at, groups_fault, first_of_faults, is_settled, resolvents_fault, fault_after_hints, fault}
 use Rattle.lrat_rules.specs.Strict.{IsDefinition}
+use Rattle.lrat_rules.proofs.Tests.{list_all_each}
 
 -- the group of a candidate without hints
 abbrev bare_group : ℕ → Group
@@ -27,10 +28,6 @@ groups_fault-blocked live n pivot (candidate ∷ candidates) each =
     let here : (is_candidate live pivot candidate ≡ true) × (is_blocked live n pivot candidate ≡ true) = each candidate (or_left _ _ (eq-eqb candidate candidate refl)) in
     let rest : groups_fault live n pivot (map bare_group candidates) ≡ None = groups_fault-blocked live n pivot candidates (λ id h. each id (or_right _ _ h)) in
     ap (λ f. first_of_faults f (groups_fault live n pivot (map bare_group candidates))) (group_fault_at-blocked live n pivot [] (clause_at live candidate) here.0 here.1) ∙ rest
-
-list_all_each : {X : Type 0} (p : X → Bool) (xs : List X) → ((x : X) → p x ≡ true) → list_all p xs ≡ true
-list_all_each p [] each = refl
-list_all_each p (x ∷ xs) each = rw (each x) (list_all_each p xs each)
 
 settled_cases : (c b g : Bool) → (c ≡ true → b ≡ true) → (not c || b || g) ≡ true
 settled_cases true b g h = rw (h refl)

@@ -4,3 +4,5 @@ pub mod Definitions
 pub mod Starts
 pub mod Chains
 pub mod Resolvents
+pub mod SoundSteps
+pub mod Refuted

@@ -13,10 +13,10 @@ numbered_at first clauses id = finmap.find nat_cmp id (numbered_from first claus
 pub clause_at-start : (clauses : List (List ℤ)) (id : ℕ) → clause_at (start clauses).live id ≡ numbered_at 1 clauses id
 clause_at-start clauses id = finmap.get-from_entries nat_cmp_total (numbered_from 1 clauses) id
 
-numbered_at_first : (first : ℕ) (clause : List ℤ) (clauses : List (List ℤ)) (id : ℕ) → id ≡ first → numbered_at first (clause ∷ clauses) id ≡ Some clause
+pub numbered_at_first : (first : ℕ) (clause : List ℤ) (clauses : List (List ℤ)) (id : ℕ) → id ≡ first → numbered_at first (clause ∷ clauses) id ≡ Some clause
 numbered_at_first first clause clauses id e = rw (unsigned_tied id first, eq-eqb id first e)
 
-numbered_at_later : (first : ℕ) (clause : List ℤ) (clauses : List (List ℤ)) (id : ℕ) → (id ≡ first → ⊥) → numbered_at first (clause ∷ clauses) id ≡ numbered_at (first + 1) clauses id
+pub numbered_at_later : (first : ℕ) (clause : List ℤ) (clauses : List (List ℤ)) (id : ℕ) → (id ≡ first → ⊥) → numbered_at first (clause ∷ clauses) id ≡ numbered_at (first + 1) clauses id
 numbered_at_later first clause clauses id e = rw (unsigned_tied id first, ne_eqb id first e)
 
 pub numbered_at-within : (first : ℕ) (clauses : List (List ℤ)) (i id : ℕ) → id ≡ first + i → i < length clauses → numbered_at first clauses id ≡ Some (get_or clauses i [])

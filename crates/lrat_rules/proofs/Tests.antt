@@ -3,7 +3,7 @@ use Rattle.std.proofs.Common.{◌≡◌, ◌==◌, ℕ, Bool, true, false, not, 
 use Rattle.std.specs.List.{list_any, list_all}
 use Rattle.std.specs.Ordering.{eq_by_cmp}
 use Rattle.std.specs.Cmp.{unsigned_tied}
-use Rattle.std.proofs.lemmas.Bool.{and_parts, or_cases, or_left, or_right}
+use Rattle.std.proofs.lemmas.Bool.{and_parts, and_from, or_cases, or_left, or_right}
 use Rattle.std.proofs.lemmas.Bool.Decides.{Decides-int_eq}
 use Rattle.std.proofs.lemmas.Cmp.{int_eq_equiv}
 
@@ -38,3 +38,11 @@ list_all_key p (x ∷ xs) id all any =
       inl here ↦ subst (λ k. p k ≡ true) (sym (eqb-true id x (sym (unsigned_tied id x) ∙ here))) (and_parts (p x) _ all).0
       | inr later ↦ list_all_key p xs id (and_parts (p x) _ all).1 later
     ]
+
+pub list_all_each : {X : Type 0} (p : X → Bool) (xs : List X) → ((x : X) → p x ≡ true) → list_all p xs ≡ true
+list_all_each p [] each = refl
+list_all_each p (x ∷ xs) each = rw (each x) (list_all_each p xs each)
+
+pub list_all_weaken : {X : Type 0} (p q : X → Bool) (xs : List X) → ((x : X) → p x ≡ true → q x ≡ true) → list_all p xs ≡ true → list_all q xs ≡ true
+list_all_weaken p q [] weaken h = refl
+list_all_weaken p q (x ∷ xs) weaken h = and_from _ _ (weaken x (and_parts (p x) _ h).0) (list_all_weaken p q xs weaken (and_parts (p x) _ h).1)
