@@ -6,3 +6,5 @@ pub mod Chains
 pub mod Resolvents
 pub mod SoundSteps
 pub mod Refuted
+pub mod MoreLines
+pub mod Samples

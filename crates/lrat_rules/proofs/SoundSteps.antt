@@ -141,7 +141,7 @@ judge_line-sound state reached number lines a m more (Some step) z h =
       | Some reason ↦ λ bad stops. cc
     ] refl h
 
-same_reached : (x y : State) → Reached x ≡ Reached y → x ≡ y
+pub same_reached : (x y : State) → Reached x ≡ Reached y → x ≡ y
 same_reached x y e = cc
 
 pub run-sound : (a : Assignment) (state reached : State) (lines : List Line) → IsModel a state.live → lines_have_no_zero lines ≡ true → run state lines ≡ Reached reached

@@ -1,10 +1,12 @@
 // Laws of the rules, over everything: functions without work, whose clauses the crates above cite by a call.
 ghost use Rattle.std.specs.Prelude.{◌≡◌, ◌<◌, ◌+◌, ◌||◌, ◌++◌, ℕ, ℤ, List, [], ◌∷◌, map, length, None, Some, IsTrue, slice_index_or};
+ghost use Rattle.cnf_base.specs.declared.step.Step.{Step};
+ghost use Rattle.cnf_base.specs.ProofText.{proof_lines, line_of_step, is_printable, are_whole_lines};
 ghost use Rattle.lrat_rules.specs.State.{State, Live, clause_at, start};
 ghost use Rattle.lrat_rules.specs.Chain.{Closes, literals_of};
 ghost use Rattle.lrat_rules.specs.Addition.{fault};
 ghost use Rattle.lrat_rules.specs.Strict.{RefutesStrictly, IsDefinition};
-ghost use Rattle.lrat_rules.specs.Run.{Spells};
+ghost use Rattle.lrat_rules.specs.Run.{Reached, Refutes, Spells, run, step_fault, after_step, step_adds_empty, adds_empty_clause};
 
 /// An addition by a strict refutation is good, and its hints close.
 pub fn strict_addition_law()
@@ -30,4 +32,11 @@ pub fn start_law()
     ensures none_at_zero { (clauses : List (List ℤ)) → clause_at (start clauses).live 0 ≡ None }
     ensures none_above { (clauses : List (List ℤ)) (id : ℕ) → length clauses < id → clause_at (start clauses).live id ≡ None }
     ensures spells { (clauses : List (List ℤ)) → Spells clauses [] (start clauses) }
+{}
+
+/// A text of good steps one of which adds the empty clause is verified; and a verified text is such a text.
+pub fn refuted_law()
+    ensures refutes { (clauses : List (List ℤ)) (bytes : List ℕ) (state : State) → Spells clauses bytes state → IsTrue (adds_empty_clause bytes) → Refutes clauses bytes }
+    ensures reaches { (clauses : List (List ℤ)) (bytes : List ℕ) → Refutes clauses bytes → (state : State) × (run (start clauses) (proof_lines bytes) ≡ Reached state) }
+    ensures adds_empty { (clauses : List (List ℤ)) (bytes : List ℕ) → Refutes clauses bytes → IsTrue (adds_empty_clause bytes) }
 {}
