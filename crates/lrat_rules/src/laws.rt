@@ -34,6 +34,16 @@ pub fn start_law()
     ensures spells { (clauses : List (List ℤ)) → Spells clauses [] (start clauses) }
 {}
 
+/// The line of a good step on a text of good steps leads one step on.
+pub fn one_more_step_law()
+    ensures spells { (clauses : List (List ℤ)) (bytes : List ℕ) (state : State) (step : Step) → Spells clauses bytes state → step_fault state step ≡ None
+        → IsTrue (is_printable step) → Spells clauses (bytes ++ line_of_step step) (after_step state step) }
+    ensures adds_empty { (bytes : List ℕ) (step : Step) → IsTrue (are_whole_lines bytes) → IsTrue (is_printable step)
+        → adds_empty_clause (bytes ++ line_of_step step) ≡ (adds_empty_clause bytes || step_adds_empty step) }
+{
+    cnf_base::one_more_line_law();
+}
+
 /// A text of good steps one of which adds the empty clause is verified; and a verified text is such a text.
 pub fn refuted_law()
     ensures refutes { (clauses : List (List ℤ)) (bytes : List ℕ) (state : State) → Spells clauses bytes state → IsTrue (adds_empty_clause bytes) → Refutes clauses bytes }

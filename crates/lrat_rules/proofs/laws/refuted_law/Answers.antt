@@ -1,4 +1,3 @@
-use Rattle.lrat_rules.proofs.MoreLines.{Spells-one_more}
 use Rattle.lrat_rules.proofs.Refuted.{IsVerifiedRun-Refutes, Refutes-Spells}
 use Rattle.lrat_rules.proofs.laws.refuted_law.Goals as goal
 
