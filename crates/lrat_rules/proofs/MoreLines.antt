@@ -1,12 +1,11 @@
 -- A run over one more line.
-use Rattle.std.proofs.Common.{◌≡◌, ℕ, ◌+◌, Bool, true, false, ◌||◌, ℤ, List, [], ◌∷◌, ◌++◌, Option, None, Some, IsTrue, refl, sym, ap, ◌∙◌}
+use Rattle.std.proofs.Common.{◌≡◌, ℕ, Bool, true, false, ◌||◌, ℤ, List, [], ◌∷◌, ◌++◌, Option, None, Some, IsTrue, refl, ap, ◌∙◌}
 use Rattle.std.specs.List.{list_any}
 use Rattle.std.proofs.lemmas.List.Folds.{list_any-append}
 use Rattle.cnf_base.specs.declared.step.Step.{Step}
 use Rattle.cnf_base.specs.ProofText.{Line, proof_lines, line_of_step, are_whole_lines}
-use Rattle.lrat_rules.specs.declared.outcome.Reason.{Reason}
 use Rattle.lrat_rules.specs.State.{State, start}
-use Rattle.lrat_rules.specs.Run.{step_fault, after_step, Judged, Reached, Stopped, judge_step, judge_line, run, step_adds_empty, line_adds_empty, adds_empty_clause, Spells}
+use Rattle.lrat_rules.specs.Run.{step_fault, after_step, Judged, Reached, judge_step, judge_line, run, step_adds_empty, line_adds_empty, adds_empty_clause, Spells}
 use Rattle.lrat_rules.proofs.SoundSteps.{same_reached}
 
 judge_line-goes_on : (state reached : State) (number : ℕ) (later more : State → Judged) (result : Judged)
@@ -15,7 +14,7 @@ judge_line-goes_on : (state reached : State) (number : ℕ) (later more : State 
 judge_line-goes_on state reached number later more result goes_on None h = cc
 judge_line-goes_on state reached number later more result goes_on (Some step) h =
     elim (step_fault state step) as (λ f. judge_step state number later step f ≡ Reached reached → judge_step state number more step f ≡ result) [
-      None ↦ λ e. goes_on (after_step state step) e
+      | None ↦ λ e. goes_on (after_step state step) e
       | Some reason ↦ λ e. cc
     ] h
 

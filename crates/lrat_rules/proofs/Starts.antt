@@ -1,10 +1,9 @@
 -- The formula's clauses at the start.
-use Rattle.std.proofs.Common.{◌≡◌, ℕ, zero, suc, ◌<◌, ◌≤◌, ◌+◌, Bool, true, false, cond, ℤ, List, [], ◌∷◌, length, get_or, Option, None, Some, nat_cmp, ◌==◌, refl, ap, ◌∙◌, sym, arith, eq-eqb, ne_eqb, add-one}
-use Rattle.std.specs.Ordering.{eq_by_cmp}
+use Rattle.std.proofs.Common.{◌≡◌, ℕ, zero, suc, ◌<◌, ◌≤◌, ◌+◌, ℤ, List, [], ◌∷◌, length, get_or, Option, None, Some, nat_cmp, refl, ◌∙◌, arith, eq-eqb, ne_eqb}
 use Rattle.std.specs.Cmp.{unsigned_tied}
 use Rattle.std.specs.FinMap as finmap
 use Rattle.std.proofs.lemmas.Cmp.{nat_cmp_total}
-use Rattle.lrat_rules.specs.State.{State, Live, clause_at, start, numbered_from}
+use Rattle.lrat_rules.specs.State.{clause_at, start, numbered_from}
 
 -- the clause that stands under a number in a numbered list
 abbrev pub numbered_at : ℕ → List (List ℤ) → ℕ → Option (List ℤ)
@@ -13,10 +12,10 @@ numbered_at first clauses id = finmap.find nat_cmp id (numbered_from first claus
 pub clause_at-start : (clauses : List (List ℤ)) (id : ℕ) → clause_at (start clauses).live id ≡ numbered_at 1 clauses id
 clause_at-start clauses id = finmap.get-from_entries nat_cmp_total (numbered_from 1 clauses) id
 
-pub numbered_at_first : (first : ℕ) (clause : List ℤ) (clauses : List (List ℤ)) (id : ℕ) → id ≡ first → numbered_at first (clause ∷ clauses) id ≡ Some clause
+numbered_at_first : (first : ℕ) (clause : List ℤ) (clauses : List (List ℤ)) (id : ℕ) → id ≡ first → numbered_at first (clause ∷ clauses) id ≡ Some clause
 numbered_at_first first clause clauses id e = rw (unsigned_tied id first, eq-eqb id first e)
 
-pub numbered_at_later : (first : ℕ) (clause : List ℤ) (clauses : List (List ℤ)) (id : ℕ) → (id ≡ first → ⊥) → numbered_at first (clause ∷ clauses) id ≡ numbered_at (first + 1) clauses id
+numbered_at_later : (first : ℕ) (clause : List ℤ) (clauses : List (List ℤ)) (id : ℕ) → (id ≡ first → ⊥) → numbered_at first (clause ∷ clauses) id ≡ numbered_at (first + 1) clauses id
 numbered_at_later first clause clauses id e = rw (unsigned_tied id first, ne_eqb id first e)
 
 pub numbered_at-within : (first : ℕ) (clauses : List (List ℤ)) (i id : ℕ) → id ≡ first + i → i < length clauses → numbered_at first clauses id ≡ Some (get_or clauses i [])

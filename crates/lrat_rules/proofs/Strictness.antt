@@ -1,13 +1,12 @@
 -- A strict refutation closes, so that its addition is good.
-use Rattle.std.proofs.Common.{◌≡◌, ℕ, ◌<◌, Bool, true, false, not, ◌&&◌, ℤ, neg_ℤ, List, [], ◌∷◌, Option, None, Some, IsTrue, refl, ap, ◌∙◌, sym}
+use Rattle.std.proofs.Common.{◌≡◌, ℕ, ◌<◌, Bool, true, not, ℤ, neg_ℤ, List, [], ◌∷◌, Option, None, Some, refl}
 use Rattle.std.proofs.lemmas.Bool.{lt-leb, and_parts}
 use Rattle.cnf_base.specs.ProofText.{is_empty}
 use Rattle.lrat_rules.specs.declared.outcome.Effect.{Effect}
 use Rattle.lrat_rules.specs.declared.outcome.Effect.TheVariants.{Conflict, Unit as Forced, NotUnit}
-use Rattle.lrat_rules.specs.declared.outcome.Reason.{Reason}
 use Rattle.lrat_rules.specs.State.{State, Live, clause_at}
 use Rattle.lrat_rules.specs.Chain.{FalseSet, Outcome, Closed, Closes, literals_of, with_literal, effect, chain, after_effect, after_hint}
-use Rattle.lrat_rules.specs.Addition.{fault, fault_after_hints}
+use Rattle.lrat_rules.specs.Addition.{fault}
 use Rattle.lrat_rules.specs.Strict.{is_strict, is_strict_effect, is_strict_hint, RefutesStrictly}
 
 after_strict_effect : (n : FalseSet) (last : Bool) (strict : FalseSet → Bool) (more : FalseSet → Outcome) → ((m : FalseSet) → strict m ≡ true → more m ≡ Closed)

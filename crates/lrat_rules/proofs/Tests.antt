@@ -1,9 +1,9 @@
 -- What tests of numbers and lists tell.
-use Rattle.std.proofs.Common.{◌≡◌, ◌==◌, ℕ, Bool, true, false, not, ◌&&◌, ◌||◌, List, [], ◌∷◌, ℤ, int_eq, nat_cmp, refl, sym, ◌∙◌, subst, eqb-true, inl, inr}
+use Rattle.std.proofs.Common.{◌≡◌, ℕ, Bool, true, false, not, ◌||◌, List, [], ◌∷◌, ℤ, int_eq, nat_cmp, refl, sym, ◌∙◌, subst, eqb-true, inl, inr}
 use Rattle.std.specs.List.{list_any, list_all}
 use Rattle.std.specs.Ordering.{eq_by_cmp}
 use Rattle.std.specs.Cmp.{unsigned_tied}
-use Rattle.std.proofs.lemmas.Bool.{and_parts, and_from, or_cases, or_left, or_right}
+use Rattle.std.proofs.lemmas.Bool.{and_parts, and_from, or_cases}
 use Rattle.std.proofs.lemmas.Bool.Decides.{Decides-int_eq}
 use Rattle.std.proofs.lemmas.Cmp.{int_eq_equiv}
 
@@ -35,7 +35,7 @@ pub list_all_key : (p : ℕ → Bool) (ids : List ℕ) (id : ℕ) → list_all p
 list_all_key p [] id all any = cc
 list_all_key p (x ∷ xs) id all any =
     elim (or_cases (eq_by_cmp nat_cmp id x) _ any) [
-      inl here ↦ subst (λ k. p k ≡ true) (sym (eqb-true id x (sym (unsigned_tied id x) ∙ here))) (and_parts (p x) _ all).0
+      | inl here ↦ subst (λ k. p k ≡ true) (sym (eqb-true id x (sym (unsigned_tied id x) ∙ here))) (and_parts (p x) _ all).0
       | inr later ↦ list_all_key p xs id (and_parts (p x) _ all).1 later
     ]
 

@@ -12,10 +12,11 @@ abbrev pub make_true : ℤ → Assignment → Assignment
 make_true (pos n) a x = if x == n then true else a x
 make_true (negsuc n) a x = if x == suc n then false else a x
 
--- no literal of the clause is 0
+-- the literal names a variable: it isn't 0, whose negation would be itself
 abbrev pub is_nonzero : ℤ → Bool
 is_nonzero literal = nat_lt 0 (nat_abs literal)
 
+-- no literal of the clause is 0
 abbrev pub has_no_zero : List ℤ → Bool
 has_no_zero clause = list_all is_nonzero clause
 
@@ -23,14 +24,19 @@ has_no_zero clause = list_all is_nonzero clause
 abbrev pub LiveHasNoZero : Live → Type 0
 LiveHasNoZero live = (id : ℕ) (clause : List ℤ) → clause_at live id ≡ Some clause → IsTrue (has_no_zero clause)
 
--- no literal of a clause that the lines add is 0
-abbrev pub step_has_no_zero : Option Step → Bool
-step_has_no_zero None = true
-step_has_no_zero (Some (Add id clause hints groups)) = has_no_zero clause
-step_has_no_zero (Some (Delete id ids)) = true
+-- no literal that the step adds is 0
+abbrev pub step_has_no_zero : Step → Bool
+step_has_no_zero (Add id clause hints groups) = has_no_zero clause
+step_has_no_zero (Delete id ids) = true
 
+-- no literal that the line adds is 0
+abbrev pub line_has_no_zero : Option Step → Bool
+line_has_no_zero None = true
+line_has_no_zero (Some step) = step_has_no_zero step
+
+-- no literal that the lines add is 0
 abbrev pub lines_have_no_zero : List Line → Bool
-lines_have_no_zero lines = list_all (λ line. step_has_no_zero line.step) lines
+lines_have_no_zero lines = list_all (λ line. line_has_no_zero line.step) lines
 
 -- the live clauses hold under the assignment, or under it with the clause's first literal made true
 abbrev pub SatisfiesUpToPivot : Assignment → List ℤ → Live → Type 0
