@@ -221,7 +221,7 @@ pub words_first : (step : Step) → is_printable step ≡ true → (id : ℕ) ×
 words_first (Add id literals hints groups) good = (id, _, refl, small_below id (id_small id (four_parts (is_id id) _ _ _ good).0))
 words_first (Delete id ids) good = (id, _, refl, small_below id (and_parts (nat_le id max_id) _ good).0)
 
--- One more line on whole lines.
+-- The line without its end: its words, and that it is one line.
 abbrev pub front_of_line : Step → List ℕ
 front_of_line step = join_with_byte 32 (step_words step)
 
@@ -236,6 +236,7 @@ step_of-line step front good line =
 pub one_line : (step : Step) → is_printable step ≡ true → none_pass is_line_end (front_of_line step) ≡ true
 one_line step good = join_one_line (step_words step) (words_good step good)
 
+-- One more line on whole lines: it is no comment, since it begins with a digit.
 digit_no_comment : (byte : ℕ) → is_digit byte ≡ true → byte == 99 ≡ false
 digit_no_comment byte digit = grind (arith, nat_tests)
 
@@ -263,8 +264,9 @@ pub whole-line : (bytes : List ℕ) (step : Step) → are_whole_lines (bytes ++ 
 whole-line bytes step = subst (λ bs. are_whole_lines bs ≡ true) (append_assoc bytes (front_of_line step) (10 ∷ [])) (whole_lines-append (bytes ++ front_of_line step))
 
 pub line_ends-step : (bytes : List ℕ) (step : Step) → is_printable step ≡ true → line_ends (bytes ++ line_of_step step) ≡ line_ends bytes + 1
-line_ends-step bytes step good = line_ends-line 0 (front_of_line step) (one_line step good) bytes
+line_ends-step bytes step good = line_ends-line (front_of_line step) (one_line step good) bytes
 
+-- The first byte, and fronts of the line.
 tail_same : {x y : ℕ} {xs ys : List ℕ} → x ∷ xs ≡ y ∷ ys → xs ≡ ys
 tail_same e = cc
 

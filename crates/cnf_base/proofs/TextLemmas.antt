@@ -77,14 +77,14 @@ line_ends_none bytes none =
     let whole : length (pieces is_line_end bytes) ≡ 1 = ap length (pieces_none is_line_end bytes none) in
     omega (arith, length-pieces is_line_end bytes)
 
+pub line_ends-line : (line : List ℕ) → none_pass is_line_end line ≡ true → (bytes : List ℕ) → line_ends (bytes ++ (line ++ 10 ∷ [])) ≡ line_ends bytes + 1
+line_ends-line line one bytes =
+    omega (arith, sum_by-append (λ x. cond (is_line_end x) 1 0) bytes (line ++ 10 ∷ []), line_ends_push line, line_ends_none line one)
+
 -- one more line on whole lines
 module _ (comment : ℕ) (line : List ℕ) (one : none_pass is_line_end line ≡ true) where
   line_pieces : pieces is_line_end (line ++ 10 ∷ []) ≡ line ∷ [] ∷ []
   line_pieces = pieces-append is_line_end line 10 [] refl ∙ ap (λ ps. ps ++ [] ∷ []) (pieces_none is_line_end line one)
-
-  pub line_ends-line : (bytes : List ℕ) → line_ends (bytes ++ (line ++ 10 ∷ [])) ≡ line_ends bytes + 1
-  line_ends-line bytes =
-      omega (arith, sum_by-append (λ x. cond (is_line_end x) 1 0) bytes (line ++ 10 ∷ []), line_ends_push line, line_ends_none line one)
 
   rows_after : (front : List ℕ) → rows comment ((front ++ 10 ∷ []) ++ (line ++ 10 ∷ [])) ≡ rows comment (front ++ 10 ∷ []) ++ row_of comment (line_ends (front ++ 10 ∷ []) + 1) (words_of line)
   rows_after front =

@@ -1,6 +1,7 @@
 -- A formula in conjunctive normal form, and how it is stored: all literals in one row, cut at the clauses' ends.
-use Rattle.std.specs.Prelude.{ℕ, ◌≤◌, Bool, ◌&&◌, ℤ, List, [], ◌∷◌, length, nat_le, slice_range}
-use Rattle.cnf_base.specs.Truth.{AreClausesOf}
+use Rattle.std.specs.Prelude.{◌≡◌, ℕ, ◌≤◌, Bool, true, ◌&&◌, ℤ, List, [], ◌∷◌, length, drop, nat_le, slice_range, IsTrue}
+use Rattle.std.specs.List.{list_all}
+use Rattle.cnf_base.specs.Truth.{is_literal_of, AreClausesOf}
 
 -- how many variables it has, and its clauses as they stand
 pub record Formula : Type 0 where
