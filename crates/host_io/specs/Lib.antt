@@ -2,3 +2,4 @@ pub mod Channel
 pub mod Files
 pub mod Beside
 pub mod Memory
+pub mod Real

@@ -8,11 +8,14 @@
 
 mod law;
 mod memory_host;
+mod real_host;
+mod real_role;
 mod host;
 mod host_sink;
 mod host_source;
 mod lent;
 mod client;
+mod device;
 mod role;
 mod source;
 mod stream;
@@ -24,6 +27,7 @@ pub use host_sink::HostSink;
 pub use host_source::HostSource;
 pub use client::put;
 pub use memory_host::{MemoryHost, OutOfMemory};
+pub use real_host::RealHost;
 pub use role::Role;
 pub use source::{Failed, Sink, Source};
 pub use whole::write_all;

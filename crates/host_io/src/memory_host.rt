@@ -5,11 +5,10 @@ ghost use Rattle.std.specs.Option.{option_copied};
 ghost use Rattle.host_io.specs.declared.role.Role.{Role};
 ghost use Rattle.host_io.specs.declared.role.Role.TheVariants.{ProofOut, Made};
 ghost use Rattle.host_io.specs.Channel.{Channel, Reads, Writes, Flushes};
-ghost use Rattle.host_io.specs.Files.{code_of};
 ghost use Rattle.host_io.specs.Memory.{Memory, fresh, channel_of, files_of, stored, IsUnnamed, AddsFile};
 
 use crate::host::Host;
-use crate::role::Role;
+use crate::role::{Role, place};
 use crate::source::Failed;
 use crate::stream::Stream;
 use std::alloc::{AllocError, AllocFailed, Global};
@@ -63,23 +62,6 @@ impl Model for MemoryHost {
     ghost view = { λ h. record { streams = h.streams; files = h.files.items } };
 
     ghost invariant = { λ h. IsSettled h.streams };
-}
-
-// The place of a role among the streams.
-fn place(role: Role) -> usize
-    ensures place { result ≡ code_of role }
-    ensures below { result < 8 }
-{
-    match role {
-        Role::Cnf => 0,
-        Role::Order => 1,
-        Role::Schedule => 2,
-        Role::ProofIn => 3,
-        Role::ProofOut => 4,
-        Role::Made => 5,
-        Role::Out => 6,
-        Role::Err => 7,
-    }
 }
 
 impl MemoryHost {
