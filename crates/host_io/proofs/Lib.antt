@@ -1,5 +1,6 @@
 pub mod Added
 pub mod Front
 pub mod Kept
+pub mod Parts
 pub mod Unopened
 pub mod Written

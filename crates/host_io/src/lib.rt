@@ -16,12 +16,14 @@ mod host_source;
 mod lent;
 mod client;
 mod device;
+mod failing_host;
 mod role;
 mod source;
 mod stream;
 mod whole;
 
 pub use law::beside_kept;
+pub use failing_host::FailingHost;
 pub use host::Host;
 pub use host_sink::HostSink;
 pub use host_source::HostSource;
