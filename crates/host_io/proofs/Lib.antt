@@ -1,5 +1,6 @@
 pub mod Added
 pub mod Front
+pub mod HasRead
 pub mod Kept
 pub mod Parts
 pub mod Unopened
