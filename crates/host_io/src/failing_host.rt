@@ -53,6 +53,7 @@ impl FailingHost {
         ensures fails { result.fails ≡ fails.items }
         ensures piece { result.piece ≡ piece }
         ensures calls { (role : Role) → calls_of result role ≡ 0 }
+        ensures unnamed { (role : Role) → (channel_of result role).name ≡ None }
     {
         FailingHost {
             base,

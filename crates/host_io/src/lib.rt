@@ -22,6 +22,8 @@ mod failing_host;
 mod role;
 mod source;
 mod stream;
+#[cfg(test)]
+mod tests;
 mod whole;
 
 pub use law::beside_kept;

@@ -1,8 +1,8 @@
 // A host over the real system. No clause can say which bytes reach or leave it, so it tells names and counts
 // alone, and is trusted for the bytes.
-ghost use Rattle.std.specs.Prelude.{◌≡◌, false, length, IfOk};
+ghost use Rattle.std.specs.Prelude.{◌≡◌, false, None, length, IfOk};
 ghost use Rattle.host_io.specs.declared.role.Role.{Role};
-ghost use Rattle.host_io.specs.Real.{unmet, quiet, quiet_channel, quiet_files};
+ghost use Rattle.host_io.specs.Real.{quiet_channel, quiet_files};
 
 use crate::device::{Device, Target};
 use crate::host::Host;
@@ -36,7 +36,8 @@ impl Model for RealHost {
 impl RealHost {
     /// No role has a name, and no fault was met.
     pub fn new(rt: HostRuntime) -> Self
-        ensures { (role : Role) → quiet_channel result role ≡ quiet unmet }
+        ensures unnamed { (role : Role) → (quiet_channel result role).name ≡ None }
+        ensures faults { (role : Role) → (quiet_channel result role).faults ≡ 0 }
     {
         RealHost {
             rt,
