@@ -20,7 +20,7 @@ pub more_read : (tells : Bool) (old mid new : Channel) (buffer rest : List ℕ) 
 more_read tells old mid new buffer rest done capacity n so_far long step =
     let front_long : length (take done buffer) ≡ done = length-take-le done buffer so_far.within in
     let parts : take (done + n) (take done buffer ++ rest) ≡ take done buffer ++ take n rest =
-        ap (λ k. take (k + n) (take done buffer ++ rest)) (sym front_long) ∙ take-append-add (take done buffer) rest n in
+    ap (λ k. take (k + n) (take done buffer ++ rest)) (sym front_long) ∙ take-append-add (take done buffer) rest n in
     let whole : length (take done buffer ++ rest) ≡ length (take done buffer) + length rest = length-append (take done buffer) rest in
     record {
       within = omega (arith, step.count, so_far.within);

@@ -14,7 +14,7 @@ named (Some name) file h = ap Some ((bytes_eq-Decides name file).0 h)
 unnamed : (own : Option (List ℕ)) (file : List ℕ) → own ≢ Some file → is_named own file ≡ false
 unnamed own file n =
     elim (is_named own file) as (λ b. is_named own file ≡ b → b ≡ false) [
-      true ↦ λ h. absurd (n (named own file h))
+      | true ↦ λ h. absurd (n (named own file h))
       | false ↦ λ _. refl
     ] refl
 
@@ -46,7 +46,7 @@ others_same role old new kept = λ i other. at other i
     at : (other : Role) → others_of role new other ≡ others_of role old other
     at other =
         elim (same_role other role) as (λ b. same_role other role ≡ b → cond b None (Some (new other)) ≡ cond b None (Some (old other))) [
-          true ↦ λ _. refl
+          | true ↦ λ _. refl
           | false ↦ λ h. ap Some (kept other h)
         ] refl
 
@@ -56,7 +56,7 @@ files_same own old new kept = λ i file. at file i
     at : (file : List ℕ) → files_but own new file ≡ files_but own old file
     at file =
         elim (is_named own file) as (λ b. is_named own file ≡ b → cond b None (Some (new file)) ≡ cond b None (Some (old file))) [
-          true ↦ λ _. refl
+          | true ↦ λ _. refl
           | false ↦ λ h. ap Some (kept file (λ e. named_not own file e h))
         ] refl
 
@@ -65,7 +65,7 @@ pub rest_kept : (lender : ℕ) (role : Role) (own own' : Option (List ℕ)) (old
 rest_kept lender role own own' old new old_files new_files kept name same =
     let others : others_of role new ≡ others_of role old = others_same role old new kept.others in
     let files : files_but own' new_files ≡ files_but own old_files =
-        ap (λ o. files_but o new_files) same ∙ files_same own old_files new_files kept.files in
+    ap (λ o. files_but o new_files) same ∙ files_same own old_files new_files kept.files in
     λ i. record {
       lenders = lender ∷ [];
       rest = Some (record { role = role; name = name i; others = others i; files = files i });
@@ -102,12 +102,12 @@ kept_back channel files old new start end role start_role end_role lender lent l
     record {
       same = cc;
       kept = subst (λ h. Kept role own (channel old) (channel h) (files old) (files h)) (sym new_is) (
-        subst (λ r. Kept r own (channel old) (channel end) (files old) (files end)) role_is (
+          subst (λ r. Kept r own (channel old) (channel end) (files old) (files end)) role_is (
           subst (λ o. Kept start_role o (channel old) (channel end) (files old) (files end)) own_is (
-            subst (λ h. Kept start_role start_own (channel h) (channel end) (files h) (files end)) start_is kept
+          subst (λ h. Kept start_role start_own (channel h) (channel end) (files h) (files end)) start_is kept
           )
-        )
-      );
+          )
+          );
     }
 
 pub keeps_beside : {H : Type 0} (channel : H → Role → Channel) (files : H → Files) → KeepsBeside channel files

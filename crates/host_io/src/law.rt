@@ -7,5 +7,4 @@ use crate::host::Host;
 #[inline(always)]
 pub fn beside_kept<H: Host>()
     ensures { KeepsBeside H.channel H.files }
-{
-}
+{}

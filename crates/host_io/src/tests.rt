@@ -4,7 +4,7 @@ ghost use Rattle.host_io.specs.declared.role.Role.{Role};
 ghost use Rattle.host_io.specs.Files.{IsInput, IsCreated};
 ghost use Rattle.host_io.specs.Memory.{channel_of, fresh};
 
-use crate::{FailingHost, Failed, Host, MemoryHost, OutOfMemory, RealHost, Role, load, put};
+use crate::{Failed, FailingHost, Host, MemoryHost, OutOfMemory, RealHost, Role, load, put};
 use std::alloc::Global;
 use std::process::Abort;
 use std::test::Fail;
@@ -22,7 +22,13 @@ fn two_files(alloc: Global) -> Result<MemoryHost, OutOfMemory>
 }
 
 // Opens the file, and loads from it twice.
-fn load_twice<H: Host>(host: &mut H, role: Role, name: &str, first: &mut [u8], second: &mut [u8]) -> Result<(usize, usize), Failed>
+fn load_twice<H: Host>(
+    host: &mut H,
+    role: Role,
+    name: &str,
+    first: &mut [u8],
+    second: &mut [u8],
+) -> Result<(usize, usize), Failed>
     requires input { IsInput role }
     requires unnamed { (any : Role) → (H.channel host.old any).name ≡ None }
 {
@@ -32,7 +38,13 @@ fn load_twice<H: Host>(host: &mut H, role: Role, name: &str, first: &mut [u8], s
 }
 
 // Creates the file, and puts two pieces into it.
-fn put_twice<H: Host>(host: &mut H, role: Role, name: &str, first: &[u8], second: &[u8]) -> Result<bool, Failed>
+fn put_twice<H: Host>(
+    host: &mut H,
+    role: Role,
+    name: &str,
+    first: &[u8],
+    second: &[u8],
+) -> Result<bool, Failed>
     requires created { IsCreated role }
     requires unnamed { (any : Role) → (H.channel host.old any).name ≡ None }
 {
@@ -136,7 +148,13 @@ fn real_files(rt: HostRuntime) -> Result<(), Fail> {
     let mut reader = RealHost::new(rt);
     let mut first = [0u8; 6];
     let mut second = vec![in rt.alloc(); 0u8; 300000]?;
-    let counts = load_twice(&mut reader, Role::Cnf, path.as_str(), &mut first, &mut second);
+    let counts = load_twice(
+        &mut reader,
+        Role::Cnf,
+        path.as_str(),
+        &mut first,
+        &mut second,
+    );
     assert_eq!(rt; counts, Ok((6, 199999)));
     assert_eq!(rt; first.as_slice(), b"smallp".as_slice());
     fs::remove_file(&rt, path.as_str())?;
@@ -149,7 +167,10 @@ fn real_buffers(rt: HostRuntime) -> Result<(), Fail> {
     let id = process::id(rt.process());
     let path = format!(in rt.alloc(); "/tmp/host_io_buffer_{id}")?;
     let mut host = RealHost::new(rt);
-    assert_eq!(rt; write_once(&mut host, Role::Made, path.as_str(), b"later"), Ok(5));
+    assert_eq!(rt;
+        write_once(&mut host, Role::Made, path.as_str(), b"later"),
+        Ok(5)
+    );
     assert_eq!(rt; fs::read(&rt, path.as_str())?.len(), 0);
     fs::remove_file(&rt, path.as_str())?;
     Ok(())
@@ -160,12 +181,24 @@ fn real_faults(rt: HostRuntime) -> Result<(), Fail> {
     let mut host = RealHost::new(rt);
     let full = "/dev/full";
     assert_eq!(rt; write_once(&mut host, Role::ProofOut, full, b"late"), Ok(4));
-    assert_eq!(rt; put_twice(&mut RealHost::new(rt), Role::Made, full, b"late", b""), Err(Failed));
+    assert_eq!(rt;
+        put_twice(&mut RealHost::new(rt), Role::Made, full, b"late", b""),
+        Err(Failed)
+    );
     let bytes = vec![in rt.alloc(); 0u8; 100000]?;
-    assert_eq!(rt; write_once(&mut RealHost::new(rt), Role::Made, full, &bytes), Err(Failed));
+    assert_eq!(rt;
+        write_once(&mut RealHost::new(rt), Role::Made, full, &bytes),
+        Err(Failed)
+    );
     let mut reader = RealHost::new(rt);
     let missing = "/tmp/no/such/file";
-    let counts = load_twice(&mut reader, Role::Cnf, missing, &mut [0u8; 1], &mut [0u8; 1]);
+    let counts = load_twice(
+        &mut reader,
+        Role::Cnf,
+        missing,
+        &mut [0u8; 1],
+        &mut [0u8; 1],
+    );
     assert_eq!(rt; counts, Err(Failed));
     Ok(())
 }

@@ -11,7 +11,8 @@ pub fn write_all<S: Sink>(sink: &mut S, bytes: &[u8]) -> Result<(), Failed>
 {
     let mut done = 0;
     'pieces: while done < bytes.len() {
-        done += sink.write(&bytes[done..])?;
+        let written = sink.write(&bytes[done..])?;
+        done += written;
     }
     Ok(())
 }

@@ -19,5 +19,5 @@ returns-clause-puts g c =
     let made = c.new-sink.ensures in
     let same = c.flush.ensures.beside ∙ c.write_all.ensures.beside in
     carried (λ old new. Puts g.H.Host.tells old new c.args.bytes.now c.flush.result) _ _ _ _ (
-      puts_whole _ _ _ _ _ _ _ c.in_ok-write_all.ensures.writes c.flush.ensures.flushes
+    puts_whole _ _ _ _ _ _ _ c.in_ok-write_all.ensures.writes c.flush.ensures.flushes
     ) (cc) (c.beside_kept.ensures.sink made.same_reference made.same_value made.role same (search rules)).same
