@@ -1,9 +1,7 @@
 -- What is left of a block, and the front of a token.
-use Rattle.std.proofs.Common.{◌≡◌, ℕ, zero, suc, ◌+◌, ◌-◌, ◌<◌, ◌≤◌, min, true, false, List, [], ◌∷◌, length, get_or, take, drop, refl, sym, ◌∙◌, ap, arith, add-one}
+use Rattle.std.proofs.Common.{◌≡◌, ℕ, zero, suc, ◌+◌, ◌<◌, ◌≤◌, min, List, [], ◌∷◌, length, get_or, take, drop, refl, ◌∙◌, ap, arith, add-one}
 use Rattle.std.specs.Prelude.{nat_lt}
-use Rattle.std.proofs.lemmas.Grind.{common_steps}
 use Rattle.cnf_base.specs.Text.{has_bytes}
-use native.Mathlib.Numerals.{unary_clauses}
 
 -- the next byte, and what is left after it
 drop-take_suc : (xs : List ℕ) (at end : ℕ) → at < end → end ≤ length xs → drop at (take end xs) ≡ get_or xs at 0 ∷ drop (suc at) (take end xs)

@@ -1,6 +1,6 @@
 -- Bytes that ended no token were looked at.
-use Rattle.std.proofs.Common.{◌≡◌, ℕ, zero, suc, ◌+◌, ◌-◌, ◌<◌, ◌≤◌, Bool, true, false, List, [], ◌∷◌, ◌++◌, length, get_or, take, drop, refl, sym, ◌∙◌, ap, arith}
-use Rattle.std.specs.Prelude.{◌==◌, ◌&&◌, IsTrue, IsFalse, if◌then◌else◌}
+use Rattle.std.proofs.Common.{◌≡◌, ℕ, ◌+◌, ◌-◌, ◌<◌, ◌≤◌, Bool, true, false, List, [], ◌∷◌, ◌++◌, length, get_or, take, drop, refl, ◌∙◌, ap, arith}
+use Rattle.std.specs.Prelude.{◌==◌, ◌&&◌, if◌then◌else◌}
 use Rattle.cnf_base.specs.Text.{is_blank, is_line_end, has_bytes}
 use Rattle.text_scan.specs.declared.lexer.Mode.TheVariants.{LineStart}
 use Rattle.text_scan.specs.Items.{Items, too_long, next_word}
@@ -71,16 +71,16 @@ module _ (old : Scan) (lex : Lex) (block : List ℕ) (at stop end room : ℕ) (t
   pub turn_goes_on : (next : Lex) → next ≡ after lex (get_or block at 0) → ends_word lex (get_or block at 0) ≡ false → IsTurn old next (room - (at + 1)) (drop (at + 1) (take end block))
   turn_goes_on next is quiet = record {
     same = λ more. turn.same more
-      ∙ ap (λ bytes. items_from lex (room - at) (bytes ++ more)) cut
-      ∙ quiet_byte lex (room - at) (get_or block at 0) (drop (at + 1) (take end block) ++ more) some_room quiet
-      ∙ rw (room_left, is) refl;
+        ∙ ap (λ bytes. items_from lex (room - at) (bytes ++ more)) cut
+        ∙ quiet_byte lex (room - at) (get_or block at 0) (drop (at + 1) (take end block) ++ more) some_room quiet
+        ∙ rw (room_left, is) refl;
     count = counted;
     shorter = (let longer = ap length cut in omega (arith, longer, turn.shorter));
   }
 
   -- a byte that ended one
   pub turn_ends : (next : Lex) → next ≡ after lex (get_or block at 0) → ends_word lex (get_or block at 0) ≡ true → (more : List ℕ) → items_from old.lex old.room (old.unread ++ more)
-    ≡ next_word (record { bytes = lex.word; line = lex.line }) (items_from next (room - (at + 1)) (drop (at + 1) (take end block) ++ more))
+      ≡ next_word (record { bytes = lex.word; line = lex.line }) (items_from next (room - (at + 1)) (drop (at + 1) (take end block) ++ more))
   turn_ends next is ends more = turn.same more
       ∙ ap (λ bytes. items_from lex (room - at) (bytes ++ more)) cut
       ∙ ending_byte lex (room - at) (get_or block at 0) (drop (at + 1) (take end block) ++ more) some_room ends

@@ -1,5 +1,5 @@
 -- What a scanner gives in turn: the tokens of a text, and then its end, or that it is longer than the limit.
-use Rattle.std.specs.Prelude.{ℕ, Bool, List, [], ◌∷◌, map, length, take, nat_le, if◌then◌else◌}
+use Rattle.std.specs.Prelude.{ℕ, List, [], ◌∷◌, map, length, take, nat_le, if◌then◌else◌}
 use Rattle.std.specs.List.{list_any}
 use Rattle.cnf_base.specs.Text.{Word, is_blank, tokens, end_line}
 

@@ -1,6 +1,6 @@
 -- The items of a text, byte by byte: what is known of the line and the token in which the next byte stands.
 use Rattle.std.specs.Prelude.{ℕ, ◌+◌, ◌-◌, Bool, ◌&&◌, List, [], ◌∷◌, ◌++◌, length, nat_lt, ◌==◌, if◌then◌else◌}
-use Rattle.cnf_base.specs.Text.{Word, is_blank, is_line_end, has_bytes}
+use Rattle.cnf_base.specs.Text.{is_blank, is_line_end, has_bytes}
 use Rattle.text_scan.specs.declared.lexer.Mode.{Mode}
 use Rattle.text_scan.specs.declared.lexer.Mode.TheVariants.{LineStart, Comment, Words}
 use Rattle.text_scan.specs.Items.{Items, the_end, too_long, next_word}
@@ -31,11 +31,11 @@ word_with Words word byte = if nat_lt (length word) 65 then word ++ byte ∷ [] 
 
 abbrev pub after_letter : Lex → ℕ → Lex
 after_letter lex byte = record {
-    comment = lex.comment;
-    mode = mode_with lex.mode lex.comment byte;
-    line = lex.line;
-    word = word_with (mode_with lex.mode lex.comment byte) lex.word byte;
-  }
+  comment = lex.comment;
+  mode = mode_with lex.mode lex.comment byte;
+  line = lex.line;
+  word = word_with (mode_with lex.mode lex.comment byte) lex.word byte;
+}
 
 -- what is known after one more byte
 abbrev pub after : Lex → ℕ → Lex

@@ -1,5 +1,5 @@
 -- A scanner as its callers see it, and what a call gives.
-use Rattle.std.specs.Prelude.{◌≡◌, ℕ, ◌+◌, ◌<◌, Bool, true, false, List, ◌++◌, Option, None, Some, Result, Ok, Err, ⊤}
+use Rattle.std.specs.Prelude.{◌≡◌, ℕ, ◌+◌, ◌<◌, Bool, true, false, List, ◌++◌, Option, None, Some, Result, Ok, Err}
 use Rattle.cnf_base.specs.Text.{Word}
 use Rattle.text_scan.specs.declared.scanner.Status.{Status}
 use Rattle.text_scan.specs.declared.scanner.Status.TheVariants.{Reading, Ended, Overlong, Faulted}

@@ -59,11 +59,11 @@ impl Model for Scanner {
     ghost Value = { Scan };
 
     ghost view = { λ s. record {
-        lex = s.lexer;
-        room = s.room - s.at;
-        unread = drop s.at (take s.end s.block);
-        status = s.status;
-        line = s.line;
+      lex = s.lexer;
+      room = s.room - s.at;
+      unread = drop s.at (take s.end s.block);
+      status = s.status;
+      line = s.line;
     } };
 
     ghost invariant = { λ s. IsBlock s.block s.at s.stop s.end s.room s.lexer.line };

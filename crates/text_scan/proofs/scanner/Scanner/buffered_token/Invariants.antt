@@ -1,6 +1,5 @@
 -- So far no token ended, and the items from here on are those from the start on.
-use Rattle.std.proofs.Common.{◌≡◌, ℕ, ◌+◌, ◌-◌, List, ◌++◌, length, take, drop}
-use Rattle.text_scan.specs.Lexer.{items_from}
+use Rattle.std.proofs.Common.{◌≡◌, ◌-◌, take, drop}
 use Rattle.text_scan.specs.Block.{IsBlock}
 use Rattle.text_scan.proofs.Turn.{IsTurn}
 use Rattle.text_scan.proofs.scanner.Scanner.buffered_token.Given as goal

@@ -1,5 +1,5 @@
 -- The end isn't reached exactly where something is left.
-use Rattle.std.proofs.Common.{◌≤◌, arith, length}
+use Rattle.std.proofs.Common.{arith}
 use Rattle.text_scan.proofs.Block.{has_bytes-drop}
 use Rattle.text_scan.proofs.scanner.Scanner.has_unread.Goals as goal
 

@@ -1,5 +1,5 @@
 -- No token ended so far, and what is ahead with the bytes taken is what was ahead at the start.
-use Rattle.std.proofs.Common.{◌≡◌, ℕ, ◌+◌, ◌-◌, ◌*◌, ◌≤◌, min, List, length}
+use Rattle.std.proofs.Common.{◌≡◌, ◌+◌, ◌-◌, ◌*◌, ◌≤◌, min, length}
 use Rattle.std.specs.Prelude.{IsTrue}
 use Rattle.text_scan.specs.declared.scanner.Status.TheVariants.{Reading}
 use Rattle.text_scan.specs.Scan.{ahead}

@@ -1,5 +1,4 @@
 -- The bytes up to the token's length and to 64 are the first 64 of the token.
-use Rattle.std.proofs.Common.{◌≡◌, take, min, ◌∙◌, ap, sym}
 use Rattle.text_scan.proofs.Block.{take_take}
 use Rattle.text_scan.proofs.token.Token.bytes.Goals as goal
 
