@@ -1,5 +1,5 @@
 -- A formula in conjunctive normal form, and how it is stored: all literals in one row, cut at the clauses' ends.
-use Rattle.std.specs.Prelude.{◌≡◌, ℕ, ◌≤◌, Bool, true, ◌&&◌, ℤ, List, [], ◌∷◌, length, drop, nat_le, slice_range, IsTrue}
+use Rattle.std.specs.Prelude.{ℕ, zero, suc, ◌≤◌, ◌<◌, ◌^◌, Bool, ◌&&◌, ℤ, List, [], ◌∷◌, length, nat_le, slice_range, slice_index, IsTrue}
 use Rattle.std.specs.List.{list_all}
 use Rattle.cnf_base.specs.Truth.{is_literal_of, AreClausesOf}
 
@@ -30,7 +30,20 @@ abbrev pub last_end : ℕ → List ℕ → ℕ
 last_end start [] = start
 last_end start (end ∷ ends) = last_end end ends
 
+-- where the clause at a place begins
+abbrev pub start_at : ℕ → List ℕ → ℕ → ℕ
+start_at start ends zero = start
+start_at start ends (suc place) = slice_index ends place
+
 -- the ends don't fall, and none is past the row
 abbrev pub are_ends : ℕ → List ℕ → ℕ → Bool
 are_ends start [] limit = nat_le start limit
 are_ends start (end ∷ ends) limit = nat_le start end && are_ends end ends limit
+
+-- a row of literals with its ends, within the limits, its literals of these variables
+pub record IsStored (vars : ℕ) (literals : List ℤ) (ends : List ℕ) : Type 0 where
+  pub in_order : IsTrue (are_ends 0 ends (length literals))
+  pub few_vars : vars ≤ 1000000
+  pub few_ends : length ends ≤ 10000000
+  pub few_literals : length literals < 2 ^ 32
+  pub of_vars : IsTrue (list_all (is_literal_of vars) literals)

@@ -2,7 +2,7 @@
 --     addition   id literals 0 hints 0      a negative hint -d opens the group of candidate d
 --     deletion   id d ids 0
 -- (Cruz-Filipe, Heule, Hunt, Kaufmann, Schneider-Kamp: Efficient Certified RAT Verification, CADE 2017.)
-use Rattle.std.specs.Prelude.{ℕ, zero, suc, Bool, true, false, ◌&&◌, ℤ, pos, negsuc, nat_abs, neg_ℤ, List, [], ◌∷◌, ◌++◌, map, Option, None, Some, nat_lt, nat_le, ◌==◌, if◌then◌else◌, decimal}
+use Rattle.std.specs.Prelude.{ℕ, suc, Bool, true, false, ◌&&◌, ℤ, pos, negsuc, nat_abs, neg_ℤ, List, [], ◌∷◌, ◌++◌, map, Option, None, Some, nat_lt, nat_le, ◌==◌, if◌then◌else◌, decimal}
 use Rattle.std.specs.Fmt.{signed_decimal}
 use Rattle.std.specs.List.{list_all, flat_map, join_with_byte}
 use Rattle.std.specs.Option.{option_map, option_and_then}

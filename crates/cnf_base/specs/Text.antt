@@ -1,7 +1,7 @@
 -- Texts in lines and tokens. Blanks are space, tab, CR and LF; lines are counted from 1 and end by LF; a line whose
 -- first byte that isn't a blank is the comment byte is skipped whole; a token is a longest run of bytes that
 -- aren't blanks. (DIMACS, 'Satisfiability: Suggested Format', 1993, and the LRAT paper's textual format.)
-use Rattle.std.specs.Prelude.{ℕ, ◌+◌, Bool, true, false, not, ◌||◌, List, [], ◌∷◌, ◌++◌, map, ◌==◌, if◌then◌else◌}
+use Rattle.std.specs.Prelude.{ℕ, ◌+◌, Bool, true, false, ◌||◌, List, [], ◌∷◌, ◌++◌, map, ◌==◌, if◌then◌else◌}
 use Rattle.std.specs.List.{filter, flat_map, count_by}
 
 abbrev pub is_line_end : ℕ → Bool

@@ -15,6 +15,8 @@ pub fn number_examples()
     ensures lone_minus { signed_number (codes "-") ≡ None }
     ensures at_limit { plain_number (replicate 64 48) ≡ Some 0 }
     ensures over_limit { plain_number (replicate 65 48) ≡ None }
+    ensures signed_at_limit { signed_number (45 ∷ replicate 62 48 ++ 49 ∷ []) ≡ Some (negsuc 0) }
+    ensures signed_over_limit { signed_number (45 ∷ replicate 63 48 ++ 49 ∷ []) ≡ None }
 {}
 
 /// Tokens: blanks, CR LF, comment lines, a last line without its end, the line of the end.
@@ -34,10 +36,22 @@ pub fn step_examples()
     ensures deletion { step_of (words_of (codes "0 d 3 4 0")) ≡ Some (Delete 0 (3 ∷ 4 ∷ [])) }
     ensures not_ended { step_of (words_of (codes "3 0 1 2")) ≡ None }
     ensures more_behind { step_of (words_of (codes "3 0 1 2 0 5")) ≡ None }
+    ensures two_steps { step_of (words_of (codes "3 1 0 2 0 4 5 0 2 0")) ≡ None }
     ensures identifier_zero { step_of (words_of (codes "0 0 1 0")) ≡ None }
     ensures literal_limit { step_of (words_of (codes "3 2147483648 0 0")) ≡ None }
     ensures hint_limit { step_of (words_of (codes "3 0 1000000000000000000 0")) ≡ None }
     ensures lines { proof_lines (codes "c 3 x\n3 1 0\r\n") ≡ record { line = 2; step = None } ∷ [] }
     ensures written { line_of_step (Add 7 (negsuc 2 ∷ []) [] (record { id = 6; hints = [] } ∷ [])) ≡ codes "7 -3 0 -6 0\n" }
     ensures deletion_written { line_of_step (Delete 9 (4 ∷ [])) ≡ codes "9 d 4 0\n" }
+{}
+
+/// A proof of six lines.
+pub fn proof_example()
+    ensures { proof_lines (codes "2 3 -2 0 0\n3 -3 2 0 -2 0\n4 4 -1 0 0\n5 4 1 -3 0 0\n6 -4 1 3 0 -4 -5 0\n7 4 0 4 5 2 1 0\n")
+        ≡ record { line = 1; step = Some (Add 2 (pos 3 ∷ negsuc 1 ∷ []) [] []) }
+        ∷ record { line = 2; step = Some (Add 3 (negsuc 2 ∷ pos 2 ∷ []) [] (record { id = 2; hints = [] } ∷ [])) }
+        ∷ record { line = 3; step = Some (Add 4 (pos 4 ∷ negsuc 0 ∷ []) [] []) }
+        ∷ record { line = 4; step = Some (Add 5 (pos 4 ∷ pos 1 ∷ negsuc 2 ∷ []) [] []) }
+        ∷ record { line = 5; step = Some (Add 6 (negsuc 3 ∷ pos 1 ∷ pos 3 ∷ []) [] (record { id = 4; hints = [] } ∷ record { id = 5; hints = [] } ∷ [])) }
+        ∷ record { line = 6; step = Some (Add 7 (pos 4 ∷ []) (4 ∷ 5 ∷ 2 ∷ 1 ∷ []) []) } ∷ [] }
 {}

@@ -3,12 +3,16 @@
 #![tactic(auto)]
 
 mod examples;
+mod formula;
+mod laws;
 mod list;
 mod literal;
 mod memory;
 mod step;
 
-pub use examples::{number_examples, step_examples, token_examples};
+pub use examples::{number_examples, proof_example, step_examples, token_examples};
+pub use formula::{Cnf, CnfBuilder};
+pub use laws::{front_of_line_law, number_laws, one_more_line_law, step_line_law, step_range_law};
 pub use list::{Group, GroupList, Id, IdList, Items, LitList};
 pub use literal::Lit;
 pub use memory::OutOfMemory;

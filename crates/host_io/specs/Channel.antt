@@ -60,3 +60,24 @@ pub record Flushes {T : Type 0} (tells : Bool) (old new : Channel) (result : Res
   pub left : new.left ≡ old.left
   pub name : new.name ≡ old.name
   pub faults : Counts old new result
+
+-- Writing a whole piece: all of its bytes, or, where a write failed, a front of them.
+pub record WritesAll {T : Type 0} (tells : Bool) (old new : Channel) (piece : List ℕ) (result : Result T Failed) : Type 0 where
+  pub done : IsTrue tells → IsOk result → new.written ≡ old.written ++ piece
+  pub failed : IsTrue tells → IsErr result → (n : ℕ) × (new.written ≡ old.written ++ take n piece)
+  pub flushed : new.flushed ≡ old.flushed
+  pub taken : new.taken ≡ old.taken
+  pub left : new.left ≡ old.left
+  pub name : new.name ≡ old.name
+  pub faults : Counts old new result
+
+-- Putting a whole piece: writing all of it and flushing it.
+pub record Puts {T : Type 0} (tells : Bool) (old new : Channel) (piece : List ℕ) (result : Result T Failed) : Type 0 where
+  pub done : IsTrue tells → IsOk result → new.written ≡ old.written ++ piece
+  pub flushed : IsTrue tells → IsOk result → new.flushed ≡ length new.written
+  pub failed : IsTrue tells → IsErr result → (n : ℕ) × (new.written ≡ old.written ++ take n piece)
+  pub unflushed : IsErr result → new.flushed ≡ old.flushed
+  pub taken : new.taken ≡ old.taken
+  pub left : new.left ≡ old.left
+  pub name : new.name ≡ old.name
+  pub faults : Counts old new result

@@ -1,20 +1,21 @@
 -- What a host keeps of its other roles and of its files in a call of one role, and what opening and creating do.
 use Rattle.std.specs.Prelude.{◌≡◌, ◌≢◌, ◌⊎◌, ℕ, Bool, List, [], Option, None, Some, Result, IsTrue, IsFalse, IsOk, IsErr, ◌==◌, ⊤}
+use Rattle.std.specs.Coded.{Unit-prop}
 use Rattle.host_io.specs.declared.source.Failed.{Failed}
 use Rattle.host_io.specs.declared.role.Role.{Role}
 use Rattle.host_io.specs.declared.role.Role.TheVariants.{Cnf, Order, Schedule, ProofIn, ProofOut, Made, Out, Err}
 use Rattle.host_io.specs.Channel.{Channel, Counts}
 
--- a number for each role, by which two roles are told apart
+-- the number of a role, by which two roles are told apart
 abbrev pub code_of : Role → ℕ
-code_of Cnf = 1
-code_of Order = 2
-code_of Schedule = 3
-code_of ProofIn = 4
-code_of ProofOut = 5
-code_of Made = 6
-code_of Out = 7
-code_of Err = 8
+code_of Cnf = 0
+code_of Order = 1
+code_of Schedule = 2
+code_of ProofIn = 3
+code_of ProofOut = 4
+code_of Made = 5
+code_of Out = 6
+code_of Err = 7
 
 abbrev pub same_role : Role → Role → Bool
 same_role a b = code_of a == code_of b
@@ -51,6 +52,34 @@ IsWritable ProofOut name = name ≢ None
 IsWritable Made name = name ≢ None
 IsWritable Out name = ⊤
 IsWritable Err name = ⊤
+
+⊥-prop : IsProp ⊥
+⊥-prop a b = absurd a
+
+¬-prop : {A : Type 0} → IsProp (A → ⊥)
+¬-prop f g = λ i x. ⊥-prop (f x) (g x) i
+
+-- being an input has one proof at most, so that a view may keep it
+pub IsInput-prop : (role : Role) → IsProp (IsInput role)
+IsInput-prop Cnf = Unit-prop
+IsInput-prop Order = Unit-prop
+IsInput-prop Schedule = Unit-prop
+IsInput-prop ProofIn = Unit-prop
+IsInput-prop ProofOut = ⊥-prop
+IsInput-prop Made = ⊥-prop
+IsInput-prop Out = ⊥-prop
+IsInput-prop Err = ⊥-prop
+
+-- and so has being writable
+pub IsWritable-prop : (role : Role) (name : Option (List ℕ)) → IsProp (IsWritable role name)
+IsWritable-prop Cnf name = ⊥-prop
+IsWritable-prop Order name = ⊥-prop
+IsWritable-prop Schedule name = ⊥-prop
+IsWritable-prop ProofIn name = ⊥-prop
+IsWritable-prop ProofOut name = ¬-prop
+IsWritable-prop Made name = ¬-prop
+IsWritable-prop Out name = Unit-prop
+IsWritable-prop Err name = Unit-prop
 
 -- the files of a host: what stands under a name
 abbrev pub Files : Type 0

@@ -1,3 +1,4 @@
 pub mod Channel
 pub mod Files
 pub mod Beside
+pub mod Memory

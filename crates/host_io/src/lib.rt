@@ -6,10 +6,24 @@
 //! Stands on nothing.
 #![tactic(auto)]
 
+mod law;
+mod memory_host;
 mod host;
+mod host_sink;
+mod host_source;
+mod lent;
+mod client;
 mod role;
 mod source;
+mod stream;
+mod whole;
 
+pub use law::beside_kept;
 pub use host::Host;
+pub use host_sink::HostSink;
+pub use host_source::HostSource;
+pub use client::put;
+pub use memory_host::{MemoryHost, OutOfMemory};
 pub use role::Role;
 pub use source::{Failed, Sink, Source};
+pub use whole::write_all;

@@ -1,0 +1,4 @@
+pub mod FlatFormula
+pub mod NumberLemmas
+pub mod ProofTextLemmas
+pub mod TextLemmas

@@ -1,0 +1,204 @@
+// A host that keeps its files in memory and tells all. Each role reads a copy of its file, so that no call of
+// one role is met by another.
+ghost use Rattle.std.specs.Prelude.{◌≡◌, ◌<◌, ◌≤◌, [], List, ℕ, None, Some, true, length, IfSome, OnOk, OnErr};
+ghost use Rattle.std.specs.Option.{option_copied};
+ghost use Rattle.host_io.specs.declared.role.Role.{Role};
+ghost use Rattle.host_io.specs.declared.role.Role.TheVariants.{ProofOut, Made};
+ghost use Rattle.host_io.specs.Channel.{Channel, Reads, Writes, Flushes};
+ghost use Rattle.host_io.specs.Files.{code_of};
+ghost use Rattle.host_io.specs.Memory.{Memory, fresh, channel_of, files_of, stored, IsUnnamed, AddsFile};
+
+use crate::host::Host;
+use crate::role::Role;
+use crate::source::Failed;
+use crate::stream::Stream;
+use std::alloc::{AllocError, AllocFailed, Global};
+use std::marker::Model;
+use thiserror::Error;
+
+/// No memory was left.
+#[derive(Clone, Copy, Debug, PartialEq, Eq, Error)]
+#[error("out of memory")]
+pub struct OutOfMemory;
+
+impl From<AllocError> for OutOfMemory {
+    fn from(_: AllocError) -> Self {
+        OutOfMemory
+    }
+}
+
+impl<T: Drop> From<AllocFailed<T>> for OutOfMemory {
+    fn from(_: AllocFailed<T>) -> Self {
+        OutOfMemory
+    }
+}
+
+// A file of this name.
+#[derive(Drop)]
+struct StoredFile {
+    name: Vec<u8>,
+    bytes: Vec<u8>,
+}
+
+impl Model for StoredFile {
+    ghost use Rattle.std.specs.Prelude.{List, ℕ};
+
+    ghost Value = { List ℕ × List ℕ };
+
+    ghost view = { λ f. (f.name.items, f.bytes.items) };
+}
+
+#[derive(Drop)]
+pub struct MemoryHost {
+    alloc: Global,
+    streams: [Stream; 8],
+    files: Vec<StoredFile>,
+}
+
+impl Model for MemoryHost {
+    ghost use Rattle.host_io.specs.Memory.{Memory, IsSettled};
+
+    ghost Value = { Memory };
+
+    ghost view = { λ h. record { streams = h.streams; files = h.files.items } };
+
+    ghost invariant = { λ h. IsSettled h.streams };
+}
+
+// The place of a role among the streams.
+fn place(role: Role) -> usize
+    ensures place { result ≡ code_of role }
+    ensures below { result < 8 }
+{
+    match role {
+        Role::Cnf => 0,
+        Role::Order => 1,
+        Role::Schedule => 2,
+        Role::ProofIn => 3,
+        Role::ProofOut => 4,
+        Role::Made => 5,
+        Role::Out => 6,
+        Role::Err => 7,
+    }
+}
+
+impl MemoryHost {
+    /// No file, and no role met yet.
+    pub fn new(alloc: Global) -> Self
+        ensures channels { (role : Role) → channel_of result role ≡ fresh }
+        ensures files { (name : List ℕ) → files_of result name ≡ None }
+    {
+        MemoryHost {
+            alloc,
+            streams: [
+                Stream::new(alloc),
+                Stream::new(alloc),
+                Stream::new(alloc),
+                Stream::new(alloc),
+                Stream::new(alloc),
+                Stream::new(alloc),
+                Stream::new(alloc),
+                Stream::new(alloc),
+            ],
+            files: Vec::new(alloc),
+        }
+    }
+
+    /// Adds a file, or replaces the one of this name.
+    pub fn add_file(&mut self, name: &str, bytes: &[u8]) -> Result<(), OutOfMemory>
+        requires { IsUnnamed self.old }
+        ensures ok { OnOk result (AddsFile self.old self.new name.now bytes.now) }
+        ensures err { OnErr result (self.new ≡ self.old) }
+    {
+        let file = StoredFile {
+            name: name.as_bytes().to_vec(self.alloc)?,
+            bytes: bytes.to_vec(self.alloc)?,
+        };
+        self.files.insert(0, file)?;
+        Ok(())
+    }
+
+    /// What the role has written.
+    pub fn output(&self, role: Role) -> &[u8]
+        ensures { result.now ≡ (channel_of self.now role).written }
+    {
+        self.streams[place(role)].output()
+    }
+
+    /// The file of this name, if there is one.
+    pub fn file(&self, name: &str) -> Option<&[u8]>
+        ensures file { option_copied result ≡ files_of self.now name.now }
+    {
+        let made = &self.streams[place(Role::Made)];
+        if made.is_named(name) {
+            return Some(made.output());
+        }
+        let proof_out = &self.streams[place(Role::ProofOut)];
+        if proof_out.is_named(name) {
+            return Some(proof_out.output());
+        }
+        find(&self.files, name)
+    }
+
+    // Copies of this name and of the file that has it.
+    fn copies(&self, name: &str) -> Option<(Vec<u8>, Vec<u8>)>
+        ensures { IfSome result (λ copies. (copies.0.items ≡ name.now) × (files_of self.now name.now ≡ Some copies.1.items)) }
+    {
+        let bytes = self.file(name)?.to_vec(self.alloc).ok()?;
+        let name = name.as_bytes().to_vec(self.alloc).ok()?;
+        Some((name, bytes))
+    }
+}
+
+// The newest of the files that has this name.
+fn find<'a>(files: &'a [StoredFile], name: &str) -> Option<&'a [u8]>
+    ensures { option_copied result ≡ stored files.now name.now }
+{
+    for file in files {
+        if file.name.as_slice() == name.as_bytes() {
+            return Some(&file.bytes);
+        }
+    }
+    None
+}
+
+impl Host for MemoryHost {
+    ghost tells = { true };
+
+    ghost channel = { channel_of };
+
+    ghost files = { files_of };
+
+    fn open_read(&mut self, role: Role, name: &str) -> Result<(), Failed> {
+        match self.copies(name) {
+            Some((name, bytes)) => {
+                self.streams[place(role)].open(name, bytes);
+                Ok(())
+            }
+            None => Err(self.streams[place(role)].fail()),
+        }
+    }
+
+    fn create(&mut self, role: Role, name: &str) -> Result<(), Failed> {
+        match name.as_bytes().to_vec(self.alloc) {
+            Ok(name) => {
+                self.streams[place(role)].open(name, Vec::new(self.alloc));
+                Ok(())
+            }
+            Err(_) => Err(self.streams[place(role)].fail()),
+        }
+    }
+
+    fn read(&mut self, role: Role, buf: &mut [u8]) -> Result<usize, Failed> {
+        Ok(self.streams[place(role)].read(buf))
+    }
+
+    fn write(&mut self, role: Role, bytes: &[u8]) -> Result<usize, Failed> {
+        self.streams[place(role)].write(bytes)
+    }
+
+    fn flush(&mut self, role: Role) -> Result<(), Failed> {
+        self.streams[place(role)].flush();
+        Ok(())
+    }
+}
