@@ -33,6 +33,12 @@ is_reading Ended = false
 is_reading Overlong = false
 is_reading Faulted = false
 
+abbrev pub is_faulted : Status → Bool
+is_faulted Reading = false
+is_faulted Ended = false
+is_faulted Overlong = false
+is_faulted Faulted = true
+
 -- how many more tokens can be given at most, so that a loop over them ends whatever the source does
 abbrev pub fuel_in : Status → ℕ → ℕ
 fuel_in Reading room = room + 1
@@ -51,10 +57,15 @@ Gives (Ok None) line before after = (before ≡ the_end line) × (after ≡ the_
 Gives (Err TooLong) line before after = (before ≡ too_long line) × (after ≡ too_long line)
 Gives (Err ReadFault) line before after = before ≡ after
 
--- What a call makes of the scanner, whatever the source does: after a token its line is answered and fuel was used;
--- after the end or an error it has stopped.
+-- A token was given: its line is answered, fewer can come, and no read failed.
+pub record GaveWord (word : Word) (old new : Scan) : Type 0 where
+  pub line : new.line ≡ word.line
+  pub less : fuel new < fuel old
+  pub sound : is_faulted new.status ≡ false
+
+-- What a call makes of the scanner, whatever the source does: after the end or an error it has stopped.
 abbrev pub Moves : Result (Option Word) ScanError → Scan → Scan → Type 0
-Moves (Ok (Some word)) old new = (new.line ≡ word.line) × (fuel new < fuel old)
+Moves (Ok (Some word)) old new = GaveWord word old new
 Moves (Ok None) old new = new.status ≡ Ended
 Moves (Err TooLong) old new = new.status ≡ Overlong
 Moves (Err ReadFault) old new = (new.status ≡ Faulted) × (new.line ≡ old.line)

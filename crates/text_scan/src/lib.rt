@@ -3,9 +3,11 @@
 //! Stands on cnf_base, whose specs say what a token is, and host_io.
 #![tactic(auto)]
 
+mod laws;
 mod lexer;
 mod scanner;
 mod token;
 
+pub use laws::{kept_word_law, short_text_law};
 pub use scanner::{ScanError, Scanner};
 pub use token::Token;

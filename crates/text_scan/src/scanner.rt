@@ -6,7 +6,7 @@ ghost use Rattle.text_scan.specs.declared.scanner.Status.TheVariants.{Reading, E
 ghost use Rattle.text_scan.specs.declared.scanner.ScanError.TheVariants.{ReadFault};
 ghost use Rattle.text_scan.specs.Items.{items, the_end, too_long, next_word};
 ghost use Rattle.text_scan.specs.Lexer.{items_from, word_then};
-ghost use Rattle.text_scan.specs.Scan.{ahead, is_reading, Gives, Moves, last_answer};
+ghost use Rattle.text_scan.specs.Scan.{ahead, is_reading, is_faulted, Gives, Moves, last_answer};
 ghost use Rattle.text_scan.specs.Decides.{Decides, OnlyReads};
 
 use crate::lexer::Lexer;
@@ -96,7 +96,7 @@ impl Scanner {
         ensures gives { IsTrue S.tells → Decides (S.channel source.old) (S.channel source.new)
             (λ bytes more. Gives result self.new.line (ahead self.old bytes) (ahead self.new more)) }
         ensures moves { Moves result self.old self.new }
-        ensures fault { result ≡ Err ReadFault → self.old.status ≡ Reading →
+        ensures fault { result ≡ Err ReadFault → is_faulted self.old.status ≡ false →
             Rose (S.channel source.old).faults (S.channel source.new).faults }
         // Once it has stopped, nothing changes.
         ensures stopped_answer { is_reading self.old.status ≡ false → result ≡ last_answer self.old.status }
