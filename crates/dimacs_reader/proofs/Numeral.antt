@@ -55,37 +55,3 @@ whole_numeral digits value from some =
     let all : list_all is_digit digits ≡ true = sym from.all ∙ ap (list_all is_digit) ended in
     let same : value ≡ capped (value_after 0 digits) = (let e : value ≡ capped value = omega (arith, from.small) in e ∙ ap (λ l. capped (value_after value l)) (sym ended) ∙ from.value_is) in
     rw (numeral_test digits some, all) (ap Some same)
-
--- A minus sign
-pub minus_none : (bytes : List ℕ) → 0 < length bytes → get_or bytes 0 0 ≡ 45 → None ≡ option_map capped (numeral_value (drop 1 bytes)) → None ≡ option_map capped_ℤ (signed_value bytes)
-minus_none [] some minus none = absurd (omega arith)
-minus_none (byte ∷ bytes) some minus none =
-    let e : (byte == 45) ≡ true = grind arith in
-    rw e (negative_none (numeral_value bytes) none)
-  where
-    negative_none : (value : Option ℕ) → None ≡ option_map capped value → None ≡ option_map capped_ℤ (option_and_then negative value)
-    negative_none None none = refl
-    negative_none (Some n) none = cc
-
-negative_some : (value : Option ℕ) (n : ℕ) (result : Option ℤ) → Some n ≡ option_map capped value → (n ≡ 0 → result ≡ None) → (0 < n → result ≡ Some (neg_ℤ (pos n))) → result ≡ option_map capped_ℤ (option_and_then negative value)
-negative_some None n result some zero_is other_is = cc
-negative_some (Some zero) n result some zero_is other_is = let e : n ≡ capped 0 = cc in let z : n ≡ 0 = e ∙ omega arith in zero_is z
-negative_some (Some (suc m)) n result some zero_is other_is = let e : n ≡ capped (suc m) = cc in other_is (omega arith) ∙ ap (λ k. Some (neg_ℤ (pos k))) e
-
-pub minus_some : (bytes : List ℕ) (n : ℕ) (result : Option ℤ) → 0 < length bytes → get_or bytes 0 0 ≡ 45 → Some n ≡ option_map capped (numeral_value (drop 1 bytes))
-    → (n ≡ 0 → result ≡ None) → (0 < n → result ≡ Some (neg_ℤ (pos n))) → result ≡ option_map capped_ℤ (signed_value bytes)
-minus_some [] n result some minus value zero_is other_is = absurd (omega arith)
-minus_some (byte ∷ bytes) n result some minus value zero_is other_is =
-    let e : (byte == 45) ≡ true = grind arith in
-    rw e (negative_some (numeral_value bytes) n result value zero_is other_is)
-
--- no minus sign
-map_pos : (value : Option ℕ) → option_map pos (option_map capped value) ≡ option_map capped_ℤ (option_map pos value)
-map_pos None = refl
-map_pos (Some n) = refl
-
-pub no_minus : (bytes : List ℕ) (value : Option ℕ) → 0 < length bytes → (get_or bytes 0 0 ≡ 45 → ⊥) → value ≡ option_map capped (numeral_value bytes) → option_map pos value ≡ option_map capped_ℤ (signed_value bytes)
-no_minus [] value some other is = absurd (omega arith)
-no_minus (byte ∷ bytes) value some other is =
-    let e : (byte == 45) ≡ false = grind arith in
-    ap (option_map pos) is ∙ rw e (map_pos (numeral_value (byte ∷ bytes)))

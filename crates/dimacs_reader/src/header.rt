@@ -21,6 +21,7 @@ const MAX_BYTES: u64 = 4_000_000_000;
 
 /// How many variables and how many clauses a header may announce.
 const MAX_VARS: u64 = 1_000_000;
+
 const MAX_CLAUSES: u64 = 10_000_000;
 
 /// Reads a CNF text to its end, or to the `%` that ends it, and answers what it is. Memory may be refused instead,

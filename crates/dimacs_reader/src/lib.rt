@@ -10,3 +10,6 @@ mod number;
 
 pub use error::{CnfError, CnfKind};
 pub use header::read_cnf;
+
+#[cfg(test)]
+mod tests;

@@ -30,11 +30,11 @@ pub record OnlyReads (old new : Channel) : Type 0 where
 
 pub OnlyReads-then : {a b c : Channel} → OnlyReads a b → OnlyReads b c → OnlyReads a c
 OnlyReads-then p q = record {
-    written = q.written ∙ p.written;
-    flushed = q.flushed ∙ p.flushed;
-    name = q.name ∙ p.name;
-    faults = omega (arith, p.faults, q.faults);
-  }
+  written = q.written ∙ p.written;
+  flushed = q.flushed ∙ p.flushed;
+  name = q.name ∙ p.name;
+  faults = omega (arith, p.faults, q.faults);
+}
 
 -- by the bytes that were taken
 pub Decides-by : (old new : Channel) (P : List ℕ → List ℕ → Type 0) (bytes : List ℕ) → new.taken ≡ old.taken ++ bytes → old.left ≡ bytes ++ new.left
@@ -54,10 +54,10 @@ Decides-none channel P holds = Decides-by channel channel P [] (sym (append-nil 
 -- what follows from it
 pub Decides-map : {old new : Channel} {P : List ℕ → List ℕ → Type 0} (Q : List ℕ → List ℕ → Type 0) → Decides old new P → ((bytes more : List ℕ) → P bytes more → Q bytes more) → Decides old new Q
 Decides-map {old} {new} Q decides gives = record {
-    taken = decides.taken;
-    left = decides.left;
-    holds = λ more may. gives (gained old new ++ more) more (decides.holds more may);
-  }
+  taken = decides.taken;
+  left = decides.left;
+  holds = λ more may. gives (gained old new ++ more) more (decides.holds more may);
+}
 
 -- both are nothing where they are nothing together
 front_nil : (xs ys : List ℕ) → xs ++ ys ≡ [] → xs ≡ []
@@ -78,11 +78,11 @@ Decides-then {a} {b} {c} {P} {Q} R first second joins =
     (second.taken ∙ ap (λ (l : List ℕ). l ++ h) first.taken ∙ append_assoc a.taken g h)
     (first.left ∙ ap (λ (l : List ℕ). g ++ l) second.left ∙ sym (append_assoc g h c.left))
     (λ more may.
-      let follows : MayFollow b (h ++ more) = λ none.
-          let empty : h ++ c.left ≡ [] = sym second.left ∙ none in
-          ap (λ (l : List ℕ). l ++ more) (front_nil h c.left empty) ∙ may (back_nil h c.left empty)
-      in
-      subst (λ (l : List ℕ). R l more) (sym (append_assoc g h more)) (joins (g ++ (h ++ more)) (h ++ more) more (first.holds (h ++ more) follows) (second.holds more may)))
+    let follows : MayFollow b (h ++ more) = λ none.
+    let empty : h ++ c.left ≡ [] = sym second.left ∙ none in
+    ap (λ (l : List ℕ). l ++ more) (front_nil h c.left empty) ∙ may (back_nil h c.left empty)
+    in
+    subst (λ (l : List ℕ). R l more) (sym (append_assoc g h more)) (joins (g ++ (h ++ more)) (h ++ more) more (first.holds (h ++ more) follows) (second.holds more may)))
 
 -- it holds of the whole text
 pub Decides-whole : {old new : Channel} {P : List ℕ → List ℕ → Type 0} → Decides old new P → P old.left new.left

@@ -11,3 +11,6 @@ mod token;
 pub use laws::{kept_word_law, short_text_law};
 pub use scanner::{ScanError, Scanner};
 pub use token::Token;
+
+#[cfg(test)]
+mod tests;

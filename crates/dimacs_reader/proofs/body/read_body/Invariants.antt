@@ -9,7 +9,7 @@ use Rattle.dimacs_reader.proofs.body.read_body.Given as goal
 abbrev pub invariant-tokens : goal.invariant-tokens
 invariant-tokens g l = record {
   same : IsTrue g.S.Source.tells → Decides (g.S.Source.channel l.fn.source) (g.S.Source.channel l.source)
-    (λ bytes more. body (ahead l.fn.scanner bytes) l.fn.body.count l.fn.body.draft ≡ body (ahead l.scanner more) l.body.count l.body.draft);
+      (λ bytes more. body (ahead l.fn.scanner bytes) l.fn.body.count l.fn.body.draft ≡ body (ahead l.scanner more) l.body.count l.body.draft);
   sound : is_faulted l.scanner.status ≡ false;
   reads : OnlyReads (g.S.Source.channel l.fn.source) (g.S.Source.channel l.source);
   beside : g.S.Source.beside l.source ≡ g.S.Source.beside l.fn.source;
