@@ -9,6 +9,8 @@ mod list;
 mod literal;
 mod memory;
 mod step;
+#[cfg(test)]
+mod tests;
 
 pub use examples::{number_examples, proof_example, step_examples, token_examples};
 pub use formula::{Cnf, CnfBuilder};
