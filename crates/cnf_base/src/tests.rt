@@ -8,7 +8,7 @@ use std::test::Fail;
 /// The number, the variable, the sign and the negation of a literal; none of 0 and the least `i32`.
 #[test]
 fn literals(rt: HostRuntime) {
-    for (number, want) in [
+    for (number, expected) in [
         (0, None),
         (i32::MIN, None),
         (
@@ -19,13 +19,11 @@ fn literals(rt: HostRuntime) {
         (1, Some((1, 1, false, -1))),
         (i32::MAX, Some((2147483647, 2147483647, false, -2147483647))),
     ] {
-        let parts = Lit::new(number).map(|l| (
-            l.get(),
-            l.var(),
-            l.is_negative(),
-            l.negated().get(),
-        ));
-        assert_eq!(rt; parts, want, "{number}");
+        let parts = Lit::new(number).map(|literal| {
+            let negated = literal.negated().get();
+            (literal.get(), literal.var(), literal.is_negative(), negated)
+        });
+        assert_eq!(rt; parts, expected, "{number}");
     }
 }
 
@@ -52,6 +50,7 @@ fn lists(rt: HostRuntime) -> Result<(), Fail> {
     Ok(())
 }
 
+// Adds the clause of these numbers.
 fn push_clause(builder: &mut CnfBuilder, vars: u32, numbers: &[i32]) -> Result<(), Fail>
     requires vars { vars ≡ builder.old.vars }
     requires room { length builder.old.clauses < 10000000 }
@@ -67,6 +66,7 @@ fn push_clause(builder: &mut CnfBuilder, vars: u32, numbers: &[i32]) -> Result<(
     Ok(())
 }
 
+// The formula of these clauses.
 fn formula(alloc: Global, vars: u32, clauses: &[&[i32]]) -> Result<Cnf, Fail>
     requires vars { vars ≤ 1000000 }
     requires few { length clauses.now < 10000000 }
@@ -78,6 +78,7 @@ fn formula(alloc: Global, vars: u32, clauses: &[&[i32]]) -> Result<Cnf, Fail>
     Ok(builder.finish())
 }
 
+// Whether the formula has just these clauses.
 fn has_clauses(cnf: &Cnf, clauses: &[&[i32]]) -> bool {
     if cnf.len() != clauses.len() {
         return false;
@@ -99,7 +100,7 @@ fn formulas(rt: HostRuntime) -> Result<(), Fail> {
     let tautology: [&[i32]; 1] = [&[1, -1]];
     let repeated: [&[i32]; 2] = [&[2, 2, -1, 2], &[2, 2, -1, 2]];
     let only_empty: [&[i32]; 1] = [&[]];
-    for (vars, clauses, values, want) in [
+    for (vars, clauses, values, expected) in [
         (3, &chain[..], [true, true, true], true),
         (3, &chain, [false, true, true], false),
         (3, &chain, [true, false, true], false),
@@ -124,7 +125,7 @@ fn formulas(rt: HostRuntime) -> Result<(), Fail> {
         assert_eq!(rt; cnf.is_empty(), clauses.is_empty());
         assert!(rt; has_clauses(&cnf, clauses), "{clauses:?}");
         let is_true = cnf.satisfied_by(&values[..vars as usize]);
-        assert_eq!(rt; is_true, want, "{clauses:?} {values:?}");
+        assert_eq!(rt; is_true, expected, "{clauses:?} {values:?}");
     }
     Ok(())
 }

@@ -1,5 +1,4 @@
-use Rattle.std.proofs.Common.{◌≡◌, []}
-use Rattle.std.proofs.Common.{length}
+use Rattle.std.proofs.Common.{◌≡◌, [], length}
 use Rattle.cnf_base.proofs.tests.formula.Given as goal
 
 abbrev pub invariant-loop-numbers : goal.invariant-loop-numbers
