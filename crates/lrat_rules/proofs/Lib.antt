@@ -8,3 +8,4 @@ pub mod SoundSteps
 pub mod Refuted
 pub mod MoreLines
 pub mod Samples
+pub mod Passes
