@@ -1,6 +1,6 @@
 -- How far the reading into a buffer has come.
-use Rattle.std.proofs.Common.{◌≡◌, ℕ, ◌+◌, ◌-◌, ◌<◌, ◌≤◌, Bool, List, [], ◌++◌, length, take, drop, IsTrue, Ok, arith, append_assoc, refl, sym, ◌∙◌, ap, length-append, length-drop}
-use Rattle.std.proofs.Math.Seq.{take-append_seam, drop-append_seam, take-append-add}
+use Rattle.std.proofs.Common.{◌≡◌, ℕ, ◌+◌, ◌-◌, ◌≤◌, Bool, List, [], ◌++◌, length, take, drop, IsTrue, Ok, arith, append_assoc, refl, sym, ◌∙◌, ap, length-append, length-drop}
+use Rattle.std.proofs.Math.Seq.{take-append-add}
 use Rattle.std.proofs.lemmas.List.{length-take-le, drop_all, append-nil}
 use borrow.Rule.Slice.PartMut.{put_mid}
 use Rattle.host_io.specs.Channel.{Channel, Reads}

@@ -1,11 +1,10 @@
 -- What is beside one role of a host is the same exactly where the host kept the rest.
 use Rattle.std.proofs.Common.{◌≡◌, ◌≢◌, ℕ, Bool, true, false, cond, Option, None, Some, List, [], ◌∷◌, refl, sym, ◌∙◌, ap, subst}
-use Rattle.std.specs.Str.{bytes_eq}
 use Rattle.std.proofs.lemmas.Slice.Eq.{bytes_eq-Decides}
 use Rattle.host_io.specs.declared.role.Role.{Role}
 use Rattle.host_io.specs.Channel.{Channel}
 use Rattle.host_io.specs.Files.{Files, same_role, Others, FilesBut, Kept}
-use Rattle.host_io.specs.Beside.{Rest, Beside, IsBack, KeepsBeside, is_named, others_of, files_but, rest_of, beside_role}
+use Rattle.host_io.specs.Beside.{Rest, IsBack, KeepsBeside, is_named, others_of, files_but, beside_role}
 
 named : (own : Option (List ℕ)) (file : List ℕ) → is_named own file ≡ true → own ≡ Some file
 named None file h = cc

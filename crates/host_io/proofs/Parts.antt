@@ -2,7 +2,7 @@
 use Rattle.std.proofs.Common.{◌≡◌, ℕ, ◌<◌, ◌≤◌, Bool, List, ◌++◌, length, take, Result, Ok, Err, arith, refl, ◌∙◌}
 use Rattle.std.proofs.lemmas.List.{take-append-le, length-take-le, take-take}
 use Rattle.host_io.specs.declared.source.Failed.{Failed}
-use Rattle.host_io.specs.Channel.{Channel, Reads, Writes, moved}
+use Rattle.host_io.specs.Channel.{Channel, Reads, Writes}
 
 pub reads_front_part : (tells : Bool) (old new : Channel) (count capacity : ℕ) (front rest : List ℕ) (result : Result ℕ Failed) → length front ≡ count → count ≤ capacity → (0 < capacity → 0 < count) → Reads tells old new count front result → Reads tells old new capacity (front ++ rest) result
 reads_front_part tells old new count capacity front rest (Ok n) long fits some reads =

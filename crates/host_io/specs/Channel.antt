@@ -1,6 +1,6 @@
 -- What the outside tells of one role: a stream that is read, or one that is written.
 -- `read`, `write` and `flush` are described here once, for a source, a sink and a role of a host alike.
-use Rattle.std.specs.Prelude.{◌≡◌, ◌⊎◌, ℕ, ◌+◌, ◌-◌, ◌^◌, ◌<◌, ◌≤◌, min, Bool, List, [], ◌++◌, length, take, drop, Option, None, Some, Result, Ok, Err, IsTrue, IsOk, IsErr, IfOk}
+use Rattle.std.specs.Prelude.{◌≡◌, ℕ, ◌+◌, ◌-◌, ◌^◌, ◌<◌, ◌≤◌, min, Bool, List, [], ◌++◌, length, take, drop, Option, Result, Ok, Err, IsTrue, IsOk, IsErr, IfOk}
 use Rattle.host_io.specs.declared.source.Failed.{Failed}
 
 -- The meanings of a role. The name is that of the file that it was opened or created under, none at first.

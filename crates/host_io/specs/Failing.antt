@@ -1,5 +1,5 @@
 -- A host in memory whose calls fail as planned: the calls of each role so far, and which of them fail.
-use Rattle.std.specs.Prelude.{◌≡◌, ℕ, ◌+◌, ◌-◌, ◌^◌, ◌≤◌, ◌==◌, ◌&&◌, min, Bool, List, [], Result, IsTrue, IsFalse, IsErr, IfOk, slice_index_or}
+use Rattle.std.specs.Prelude.{◌≡◌, ℕ, ◌+◌, ◌-◌, ◌^◌, ◌==◌, ◌&&◌, min, Bool, List, Result, IsTrue, IsFalse, IsErr, slice_index_or}
 use Rattle.std.specs.List.{list_any}
 use Rattle.host_io.specs.declared.source.Failed.{Failed}
 use Rattle.host_io.specs.declared.role.Role.{Role}
