@@ -9,4 +9,5 @@ mod ledger;
 mod live;
 
 pub use error::LedgerError;
-pub use ledger::Ledger;
+pub use ledger::{Ledger, start_clauses};
+pub use live::LiveClauses;

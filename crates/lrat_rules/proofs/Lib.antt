@@ -9,3 +9,4 @@ pub mod Refuted
 pub mod MoreLines
 pub mod Samples
 pub mod Passes
+pub mod MarksAtStart
