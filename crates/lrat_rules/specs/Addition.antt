@@ -1,7 +1,7 @@
 -- When an addition is good: its hints refute the negation of its clause, or its first literal, the pivot, has a
 -- refutation for each candidate, a live clause with the pivot's negation. A candidate is blocked, and needs no
 -- hints, where another literal of it has its negation among the false ones. (LRAT: RUP and RAT steps.)
-use Rattle.std.specs.Prelude.{ℕ, Bool, true, false, not, ◌||◌, ◌&&◌, ℤ, neg_ℤ, List, [], ◌∷◌, Option, None, Some, nat_le, ◌==◌, if◌then◌else◌}
+use Rattle.std.specs.Prelude.{ℕ, Bool, false, not, ◌||◌, ◌&&◌, ℤ, neg_ℤ, List, [], ◌∷◌, Option, None, Some, nat_le, ◌==◌, if◌then◌else◌}
 use Rattle.std.specs.List.{list_any, list_all}
 use Rattle.std.specs.Ordering.{int_eq}
 use Rattle.std.specs.FinMap as map

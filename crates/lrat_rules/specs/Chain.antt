@@ -1,6 +1,6 @@
 -- Hints: each names a live clause, which under the literals that are false so far is a conflict, forces a literal,
 -- or is a bad hint. (LRAT: reverse unit propagation with hints.)
-use Rattle.std.specs.Prelude.{◌≡◌, ℕ, Bool, true, false, not, ◌||◌, ℤ, neg_ℤ, List, [], ◌∷◌, Option, None, Some, if◌then◌else◌}
+use Rattle.std.specs.Prelude.{◌≡◌, ℕ, Bool, not, ◌||◌, ℤ, neg_ℤ, List, [], ◌∷◌, Option, None, Some, if◌then◌else◌}
 use Rattle.std.specs.List.{filter, list_any, list_all}
 use Rattle.std.specs.Ordering.{int_eq}
 use Rattle.lrat_rules.specs.declared.outcome.Effect.{Effect}

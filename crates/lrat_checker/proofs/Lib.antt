@@ -1,0 +1,4 @@
+pub mod TreeMaps
+pub mod Walks
+pub mod Starts
+pub mod GroupFaults

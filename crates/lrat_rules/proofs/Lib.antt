@@ -1,0 +1,11 @@
+pub mod Tests
+pub mod Strictness
+pub mod Definitions
+pub mod Starts
+pub mod Chains
+pub mod Resolvents
+pub mod SoundSteps
+pub mod Refuted
+pub mod MoreLines
+pub mod Samples
+pub mod Passes

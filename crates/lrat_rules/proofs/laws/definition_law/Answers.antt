@@ -1,0 +1,5 @@
+use Rattle.lrat_rules.proofs.Definitions.{fault-definition}
+use Rattle.lrat_rules.proofs.laws.definition_law.Goals as goal
+
+pub returns : goal.returns
+returns c = fault-definition

@@ -1,0 +1,60 @@
+// Laws of the rules, over everything: functions without work, whose clauses the crates above cite by a call.
+ghost use Rattle.std.specs.Prelude.{◌≡◌, ◌<◌, ◌+◌, ◌||◌, ◌++◌, ℕ, ℤ, List, [], ◌∷◌, map, length, None, Some, IsTrue, is_some, slice_index_or, if◌then◌else◌, ◌==◌};
+ghost use Rattle.std.specs.List.{list_all};
+ghost use Rattle.cnf_base.specs.declared.step.Step.{Step};
+ghost use Rattle.cnf_base.specs.ProofText.{proof_lines, line_of_step, is_printable, are_whole_lines};
+ghost use Rattle.lrat_rules.specs.State.{State, Live, clause_at, start, with_clause};
+ghost use Rattle.lrat_rules.specs.Chain.{Closes, literals_of};
+ghost use Rattle.lrat_rules.specs.Addition.{fault};
+ghost use Rattle.lrat_rules.specs.Strict.{RefutesStrictly, IsDefinition};
+ghost use Rattle.lrat_rules.specs.Run.{Reached, Refutes, Spells, run, step_fault, after_step, step_adds_empty, adds_empty_clause};
+
+/// An addition by a strict refutation is good, and its hints close.
+pub fn strict_addition_law()
+    ensures good { (state : State) (id : ℕ) (clause : List ℤ) (hints : List ℕ) → state.top < id
+        → RefutesStrictly state.live clause hints → fault state id clause hints [] ≡ None }
+    ensures closes { (live : Live) (clause : List ℤ) (hints : List ℕ) → RefutesStrictly live clause hints → Closes live (literals_of clause) hints }
+    ensures live { (live : Live) (clause : List ℤ) (hints : List ℕ) → RefutesStrictly live clause hints → IsTrue (list_all (λ hint. is_some (clause_at live hint)) hints) }
+{}
+
+/// A clause whose candidates are all named, and all blocked, is a good addition with no further hints.
+pub fn definition_law()
+    ensures { (state : State) (id : ℕ) (clause : List ℤ) (candidates : List ℕ) → state.top < id
+        → IsDefinition state.live clause candidates → fault state id clause [] (map (λ candidate. record { id = candidate; hints = [] }) candidates) ≡ None }
+{}
+
+/// A live clause without literals refutes every clause, as the only hint.
+pub fn conflict_law()
+    ensures { (live : Live) (clause : List ℤ) (hint : ℕ) → clause_at live hint ≡ Some [] → RefutesStrictly live clause (hint ∷ []) }
+{}
+
+/// At first the formula's clauses stand under 1, 2, .., and nothing else; the empty text spells this state.
+pub fn start_law()
+    ensures clauses { (clauses : List (List ℤ)) (i : ℕ) → i < length clauses → clause_at (start clauses).live (i + 1) ≡ Some (slice_index_or clauses i []) }
+    ensures none_at_zero { (clauses : List (List ℤ)) → clause_at (start clauses).live 0 ≡ None }
+    ensures none_above { (clauses : List (List ℤ)) (id : ℕ) → length clauses < id → clause_at (start clauses).live id ≡ None }
+    ensures spells { (clauses : List (List ℤ)) → Spells clauses [] (start clauses) }
+    ensures appended { (clauses : List (List ℤ)) (clause : List ℤ) → start (clauses ++ clause ∷ []) ≡ record { live = with_clause (start clauses).live (length clauses + 1) clause; top = length clauses + 1 } }
+{}
+
+/// What stands under a number once a clause was put under one.
+pub fn live_law()
+    ensures { (live : Live) (id other : ℕ) (clause : List ℤ) → clause_at (with_clause live id clause) other ≡ (if other == id then Some clause else clause_at live other) }
+{}
+
+/// The line of a good step on a text of good steps leads one step on.
+pub fn one_more_step_law()
+    ensures spells { (clauses : List (List ℤ)) (bytes : List ℕ) (state : State) (step : Step) → Spells clauses bytes state → step_fault state step ≡ None
+        → IsTrue (is_printable step) → Spells clauses (bytes ++ line_of_step step) (after_step state step) }
+    ensures adds_empty { (bytes : List ℕ) (step : Step) → IsTrue (are_whole_lines bytes) → IsTrue (is_printable step)
+        → adds_empty_clause (bytes ++ line_of_step step) ≡ (adds_empty_clause bytes || step_adds_empty step) }
+{
+    cnf_base::one_more_line_law();
+}
+
+/// A text of good steps one of which adds the empty clause is verified; and a verified text is such a text.
+pub fn refuted_law()
+    ensures refutes { (clauses : List (List ℤ)) (bytes : List ℕ) (state : State) → Spells clauses bytes state → IsTrue (adds_empty_clause bytes) → Refutes clauses bytes }
+    ensures reaches { (clauses : List (List ℤ)) (bytes : List ℕ) → Refutes clauses bytes → (state : State) × (run (start clauses) (proof_lines bytes) ≡ Reached state) }
+    ensures adds_empty { (clauses : List (List ℤ)) (bytes : List ℕ) → Refutes clauses bytes → IsTrue (adds_empty_clause bytes) }
+{}
