@@ -1,11 +1,10 @@
 -- The value of digits, cut, from any digit on.
-use Rattle.std.proofs.Common.{◌≡◌, ℕ, zero, suc, ◌+◌, ◌-◌, ◌*◌, ◌<◌, ◌≤◌, min, Bool, true, false, List, [], ◌∷◌, length, get_or, drop, refl, sym, ◌∙◌, ap, arith, add-one, drop-cons, Option, None, Some}
+use Rattle.std.proofs.Common.{◌≡◌, ℕ, ◌+◌, ◌-◌, ◌*◌, ◌<◌, ◌≤◌, min, true, false, List, [], ◌∷◌, length, get_or, drop, refl, sym, ◌∙◌, ap, arith, add-one, drop-cons, None, Some}
 use Rattle.std.proofs.Math.Seq.{drop-length}
-use Rattle.std.specs.Prelude.{◌&&◌, if◌then◌else◌, ◌==◌, ℤ, pos, negsuc, neg_ℤ, nat_abs, IfSome}
 use Rattle.std.specs.List.{list_all}
-use Rattle.std.specs.Option.{option_map, option_and_then}
-use Rattle.cnf_base.specs.Number.{is_digit, is_numeral, numeral_value, value_after, negative, signed_value}
-use Rattle.dimacs_reader.specs.Capped.{capped, cap, capped_ℤ}
+use Rattle.std.specs.Option.{option_map}
+use Rattle.cnf_base.specs.Number.{is_digit, is_numeral, numeral_value, value_after}
+use Rattle.dimacs_reader.specs.Capped.{capped, cap}
 
 -- cutting at each digit is cutting in the end
 capped-value_after : (digits : List ℕ) (value : ℕ) → capped (value_after (capped value) digits) ≡ capped (value_after value digits)

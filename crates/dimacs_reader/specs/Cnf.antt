@@ -1,11 +1,10 @@
 -- The DIMACS CNF format: a header `p cnf V C`, then C clauses, each its literals and a zero. A clause may span lines;
 -- comment lines begin with `c`; a token `%` ends the text, as in old benchmark files. Clauses are kept as they stand.
 -- (DIMACS, 'Satisfiability: Suggested Format', 1993.)
-use Rattle.std.specs.Prelude.{ℕ, zero, suc, ◌+◌, Bool, true, false, ◌&&◌, ℤ, pos, negsuc, nat_abs, List, [], ◌∷◌, ◌++◌, length, sum_by, Option, None, Some, nat_lt, nat_le, codes, if◌then◌else◌}
+use Rattle.std.specs.Prelude.{ℕ, zero, suc, ◌+◌, Bool, ◌&&◌, ℤ, pos, negsuc, nat_abs, List, [], ◌∷◌, ◌++◌, length, sum_by, Option, None, Some, nat_lt, nat_le, codes, if◌then◌else◌}
 use Rattle.std.specs.Str.{bytes_eq}
 use Rattle.cnf_base.specs.Formula.{Formula, Draft}
 use Rattle.cnf_base.specs.Number.{is_short, plain_number, signed_number}
-use Rattle.cnf_base.specs.Text.{Word}
 use Rattle.text_scan.specs.Items.{Items, the_end, too_long, next_word, items}
 use Rattle.dimacs_reader.specs.declared.error.CnfKind.{CnfKind}
 use Rattle.dimacs_reader.specs.declared.error.CnfKind.TheVariants.{NoHeader, BadHeader, BadToken, LiteralRange, TooManyClauses, ClauseMissing, NoEndingZero, Limit}

@@ -145,7 +145,7 @@ or_true : (b : Bool) → (b || true) ≡ true
 or_true true = refl
 or_true false = refl
 
-blank_end : (byte : ℕ) → is_line_end byte ≡ true → is_blank byte ≡ true
+pub blank_end : (byte : ℕ) → is_line_end byte ≡ true → is_blank byte ≡ true
 blank_end byte ends = rw ends (or_true (byte == 32 || byte == 9 || byte == 13))
 
 -- the kinds of a byte
@@ -174,7 +174,7 @@ behind true x xs ys = refl
 behind false x xs ys = refl
 
 -- the first 65 bytes of a token, with one more
-word_with-take : (n : ℕ) (word : List ℕ) (byte : ℕ) → (if nat_lt (length (take n word)) n then take n word ++ byte ∷ [] else take n word) ≡ take n (word ++ byte ∷ [])
+pub word_with-take : (n : ℕ) (word : List ℕ) (byte : ℕ) → (if nat_lt (length (take n word)) n then take n word ++ byte ∷ [] else take n word) ≡ take n (word ++ byte ∷ [])
 word_with-take zero word byte = refl
 word_with-take (suc zero) [] byte = refl
 word_with-take (suc (suc n)) [] byte = let e : nat_lt 0 (suc (suc n)) ≡ true = grind arith in rw e refl

@@ -1,6 +1,6 @@
 -- What is kept of a token says the same as the token.
-use Rattle.std.proofs.Common.{◌≡◌, ℕ, zero, suc, ◌≤◌, min, Bool, true, false, List, [], ◌∷◌, length, take, refl, sym, ◌∙◌, ap, arith, length-take}
-use Rattle.std.specs.Prelude.{nat_le, map, Option, None, if◌then◌else◌, ◌&&◌, IsTrue, ℤ}
+use Rattle.std.proofs.Common.{◌≡◌, ℕ, zero, suc, ◌≤◌, min, Bool, true, false, List, [], ◌∷◌, length, take, refl, ◌∙◌, ap, arith, length-take}
+use Rattle.std.specs.Prelude.{nat_le, map, Option, None, if◌then◌else◌, ◌&&◌, IsTrue}
 use Rattle.std.specs.List.{list_all}
 use Rattle.cnf_base.specs.Number.{is_short, numeral_value, plain_number, signed_value, signed_number}
 use Rattle.cnf_base.specs.Text.{Word}

@@ -2,3 +2,4 @@ pub mod Block
 pub mod Turn
 pub mod Bridge
 pub mod Kept
+pub mod WordAhead

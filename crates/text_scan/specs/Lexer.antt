@@ -1,5 +1,5 @@
 -- The items of a text, byte by byte: what is known of the line and the token in which the next byte stands.
-use Rattle.std.specs.Prelude.{ℕ, ◌+◌, ◌-◌, Bool, ◌&&◌, List, [], ◌∷◌, ◌++◌, length, nat_lt, ◌==◌, if◌then◌else◌}
+use Rattle.std.specs.Prelude.{ℕ, ◌+◌, ◌-◌, Bool, true, false, not, ◌&&◌, List, [], ◌∷◌, ◌++◌, length, nat_lt, ◌==◌, if◌then◌else◌}
 use Rattle.cnf_base.specs.Text.{is_blank, is_line_end, has_bytes}
 use Rattle.text_scan.specs.declared.lexer.Mode.{Mode}
 use Rattle.text_scan.specs.declared.lexer.Mode.TheVariants.{LineStart, Comment, Words}
@@ -52,6 +52,15 @@ word_then (byte ∷ bytes) line items = next_word (record { bytes = byte ∷ byt
 -- this byte ends a token
 abbrev pub ends_word : Lex → ℕ → Bool
 ends_word lex byte = is_blank byte && has_bytes lex.word
+
+-- this byte, which is no blank, begins one
+abbrev pub is_words : Mode → Bool
+is_words LineStart = false
+is_words Comment = false
+is_words Words = true
+
+abbrev pub begins_word : Lex → ℕ → Bool
+begins_word lex byte = not (has_bytes lex.word) && not (is_blank byte) && is_words (mode_with lex.mode lex.comment byte)
 
 abbrev pub given_at : Lex → ℕ → Items → Items
 given_at lex byte items = if is_blank byte then word_then lex.word lex.line items else items

@@ -1,9 +1,11 @@
 // One byte after another: which line it is, whether a comment, and the token that has begun.
-ghost use Rattle.std.specs.Prelude.{◌≡◌, ◌+◌, ◌^◌, ◌<◌, ◌≤◌, length, IsTrue};
+ghost use Rattle.std.specs.Prelude.{false, take, slice_index, ◌≡◌, ◌+◌, ◌^◌, ◌<◌, ◌≤◌, length, IsTrue};
+ghost use Rattle.std.specs.List.{list_any};
+ghost use Rattle.text_scan.specs.declared.lexer.Mode.TheVariants.{Words};
 ghost use Rattle.cnf_base.specs.Text.{is_blank, has_bytes};
-ghost use Rattle.text_scan.specs.Lexer.{lex_start, after, after_letter, ends_word};
+ghost use Rattle.text_scan.specs.Lexer.{lex_start, after, after_letter, ends_word, begins_word};
 
-use crate::token::{KEPT, Token};
+use crate::token::{KEPT, SPACE, Token};
 use std::marker::Model;
 
 /// What stood on the line so far: blanks alone, a comment, or tokens.
@@ -21,11 +23,11 @@ pub struct Lexer {
     mode: Mode,
     line: u64,
     len: usize,
-    word: [u8; KEPT],
+    word: [u8; SPACE],
 }
 
 impl Model for Lexer {
-    ghost use Rattle.std.specs.Prelude.{◌≤◌, take};
+    ghost use Rattle.std.specs.Prelude.{false, take, slice_index, ◌≤◌, take};
     ghost use Rattle.text_scan.specs.Lexer.{Lex};
 
     ghost Value = { Lex };
@@ -42,6 +44,20 @@ fn is_blank(byte: u8) -> bool
     byte == b' ' || byte == b'\t' || byte == b'\r' || byte == b'\n'
 }
 
+/// How many bytes stand before the first blank.
+#[inline(always)]
+pub fn letters(bytes: &[u8]) -> usize
+    ensures range { result ≤ length bytes.now }
+    ensures none { list_any is_blank (take result bytes.now) ≡ false }
+    ensures blank { result < length bytes.now → IsTrue (is_blank (slice_index bytes.now result)) }
+{
+    let mut len = 0;
+    while len < bytes.len() && !is_blank(bytes[len]) {
+        len += 1;
+    }
+    len
+}
+
 impl Lexer {
     pub fn new(comment: u8) -> Lexer
         ensures { result ≡ lex_start comment }
@@ -51,7 +67,7 @@ impl Lexer {
             mode: Mode::LineStart,
             line: 1,
             len: 0,
-            word: [0; KEPT],
+            word: [0; SPACE],
         }
     }
 
@@ -84,6 +100,31 @@ impl Lexer {
         ensures { result ≡ record { bytes = self.now.word; line = self.now.line } }
     {
         Token::new(&self.word, self.len, self.line)
+    }
+
+    /// Whether this byte begins a token.
+    #[inline(always)]
+    pub fn begins_word(&self, byte: u8) -> bool
+        ensures { result ≡ begins_word self.now byte }
+    {
+        if self.len > 0 || is_blank(byte) {
+            return false;
+        }
+        match self.mode {
+            Mode::LineStart => byte != self.comment,
+            Mode::Comment => false,
+            Mode::Words => true,
+        }
+    }
+
+    /// Takes a blank behind a token.
+    #[inline(always)]
+    pub fn pass_word(&mut self, blank: u8)
+        requires { self.old.line + 1 < 2 ^ 64 }
+        ensures { self.new ≡ after (record self.old { mode = Words }) blank }
+    {
+        self.mode = Mode::Words;
+        self.take(blank);
     }
 
     /// Takes one more byte. A token that it ends is let go.

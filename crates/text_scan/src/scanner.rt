@@ -7,10 +7,11 @@ ghost use Rattle.text_scan.specs.declared.scanner.ScanError.TheVariants.{ReadFau
 ghost use Rattle.text_scan.specs.Items.{items, the_end, too_long, next_word};
 ghost use Rattle.text_scan.specs.Lexer.{items_from, word_then};
 ghost use Rattle.text_scan.specs.Scan.{ahead, is_reading, is_faulted, Gives, Moves, last_answer};
+ghost use Rattle.text_scan.specs.Block.{IsWordAhead};
 ghost use Rattle.text_scan.specs.Decides.{Decides, OnlyReads};
 
-use crate::lexer::Lexer;
-use crate::token::Token;
+use crate::lexer::{Lexer, letters};
+use crate::token::{SPACE, Token};
 use host_io::Source;
 use std::marker::Model;
 use thiserror::Error;
@@ -150,6 +151,60 @@ impl Scanner {
     // The next token that ends among the bytes that are read and under the limit.
     #[inline(always)]
     fn buffered_token(&mut self) -> Option<Token>
+        ensures found { IfSome result (λ token. (more : List ℕ) → items_from self.old.lex self.old.room (self.old.unread ++ more)
+            ≡ next_word token (items_from self.new.lex self.new.room (self.new.unread ++ more))) }
+        ensures none { IfNone result ((more : List ℕ) → items_from self.old.lex self.old.room (self.old.unread ++ more)
+            ≡ items_from self.new.lex self.new.room (self.new.unread ++ more)) }
+        ensures over { IfNone result (IsTrue (has_bytes self.new.unread) → self.new.room ≡ 0) }
+        ensures room { self.new.room + length self.old.unread ≡ self.old.room + length self.new.unread }
+        ensures progress { IfSome result (λ _. self.new.room < self.old.room) }
+        ensures status { self.new.status ≡ self.old.status }
+        ensures line { self.new.line ≡ self.old.line }
+    {
+        match self.whole_token() {
+            Some(token) => Some(token),
+            None => self.token_by_bytes(),
+        }
+    }
+
+    // The same where the next byte begins a token that ends in the block; else nothing. Its bytes are copied at once.
+    #[inline(always)]
+    fn whole_token(&mut self) -> Option<Token>
+        ensures found { IfSome result (λ token. (more : List ℕ) → items_from self.old.lex self.old.room (self.old.unread ++ more)
+            ≡ next_word token (items_from self.new.lex self.new.room (self.new.unread ++ more))) }
+        ensures none { IfNone result (self.new ≡ self.old) }
+        ensures room { self.new.room + length self.old.unread ≡ self.old.room + length self.new.unread }
+        ensures progress { IfSome result (λ _. self.new.room < self.old.room) }
+        ensures status { self.new.status ≡ self.old.status }
+        ensures line { self.new.line ≡ self.old.line }
+    {
+        let Some((token, len)) = self.word_ahead() else {
+            return None;
+        };
+        let blank = self.block[self.at + len];
+        self.lexer.pass_word(blank);
+        self.at += len + 1;
+        Some(token)
+    }
+
+    // The token that begins with the next byte, with its length, if there is one and it ends in the block.
+    #[inline(always)]
+    fn word_ahead(&self) -> Option<(Token, usize)>
+        ensures { IfSome result (λ word. IsWordAhead self.now word.0 word.1) }
+    {
+        if self.stop - self.at < SPACE {
+            return None;
+        }
+        let window = &self.block[self.at..self.stop];
+        let len = letters(window);
+        if len >= window.len() || !self.lexer.begins_word(window[0]) {
+            return None;
+        }
+        Some((Token::of_front(window, len, self.lexer.line()), len))
+    }
+
+    // The same byte by byte.
+    fn token_by_bytes(&mut self) -> Option<Token>
         ensures found { IfSome result (λ token. (more : List ℕ) → items_from self.old.lex self.old.room (self.old.unread ++ more)
             ≡ next_word token (items_from self.new.lex self.new.room (self.new.unread ++ more))) }
         ensures none { IfNone result ((more : List ℕ) → items_from self.old.lex self.old.room (self.old.unread ++ more)

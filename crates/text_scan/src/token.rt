@@ -7,10 +7,13 @@ use std::marker::Model;
 /// How many bytes of a token are kept: enough to see that it is longer than 64.
 pub const KEPT: usize = 65;
 
+/// The space for them, in whole words, so that a token is copied fast.
+pub const SPACE: usize = 72;
+
 /// A token of a text. In contracts it is its bytes, at most 65 of them, and its line.
 #[derive(Debug, Drop)]
 pub struct Token {
-    bytes: [u8; KEPT],
+    bytes: [u8; SPACE],
     len: usize,
     line: u64,
 }
@@ -28,13 +31,28 @@ impl Model for Token {
 
 impl Token {
     #[inline(always)]
-    pub(crate) fn new(bytes: &[u8; KEPT], len: usize, line: u64) -> Token
+    pub(crate) fn new(bytes: &[u8; SPACE], len: usize, line: u64) -> Token
         requires { len ≤ 65 }
         ensures { result ≡ record { bytes = take len bytes.now; line = line } }
     {
         Token {
             bytes: *bytes,
             len,
+            line,
+        }
+    }
+
+    /// The token of so many bytes at the front of these.
+    #[inline(always)]
+    pub(crate) fn of_front(front: &[u8], len: usize, line: u64) -> Token
+        requires { 72 ≤ length front.now }
+        ensures { result ≡ record { bytes = take 65 (take len front.now); line = line } }
+    {
+        let mut bytes = [0; SPACE];
+        bytes.copy_from_slice(&front[..SPACE]);
+        Token {
+            bytes,
+            len: len.min(KEPT),
             line,
         }
     }

@@ -1,6 +1,6 @@
 -- What is ahead of a new scanner are the items of the text.
 use Rattle.std.proofs.Common.{◌≡◌, ◌∙◌, sym, ap}
-use Rattle.text_scan.specs.Decides.{Decides, Decides-map}
+use Rattle.text_scan.specs.Decides.{Decides-map}
 use Rattle.dimacs_reader.specs.Cnf.{cnf_of, cnf, formula}
 use Rattle.dimacs_reader.proofs.header.read_cnf.Goals as goal
 

@@ -1,8 +1,7 @@
 -- Its length is under the limit, and each of its tokens is kept whole.
 use Rattle.std.proofs.Common.{◌≡◌, true, length, arith, refl}
 use Rattle.std.specs.Prelude.{nat_le}
-use Rattle.cnf_base.specs.Text.{tokens, end_line}
-use Rattle.text_scan.specs.Items.{words_then, the_end}
+use Rattle.cnf_base.specs.Text.{tokens}
 use Rattle.text_scan.proofs.Kept.{map-kept}
 use Rattle.text_scan.proofs.laws.short_text_law.Goals as goal
 

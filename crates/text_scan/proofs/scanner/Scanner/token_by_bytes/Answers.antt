@@ -1,7 +1,7 @@
 -- Each byte is one step of the lexer.
 use Rattle.std.proofs.Common.{◌∙◌, sym}
 use Rattle.text_scan.proofs.Turn.{turn_goes_on, turn_ends, less_room, block_goes_on}
-use Rattle.text_scan.proofs.scanner.Scanner.buffered_token.Goals as goal
+use Rattle.text_scan.proofs.scanner.Scanner.token_by_bytes.Goals as goal
 
 pub returns-then-ends_word-clause-found : goal.returns-then-ends_word-clause-found
 returns-then-ends_word-clause-found c = let s = c.loop-self.self-inside in λ more.

@@ -2,7 +2,7 @@
 use Rattle.std.proofs.Common.{◌≡◌, ◌-◌, take, drop}
 use Rattle.text_scan.specs.Block.{IsBlock}
 use Rattle.text_scan.proofs.Turn.{IsTurn}
-use Rattle.text_scan.proofs.scanner.Scanner.buffered_token.Given as goal
+use Rattle.text_scan.proofs.scanner.Scanner.token_by_bytes.Given as goal
 
 abbrev pub invariant-loop-self : goal.invariant-loop-self
 invariant-loop-self l = record {
