@@ -3,3 +3,4 @@ pub mod Formula
 pub mod Number
 pub mod Text
 pub mod ProofText
+pub mod Cut

@@ -8,7 +8,10 @@ mod laws;
 mod list;
 mod literal;
 mod memory;
+mod range;
 mod step;
+#[cfg(test)]
+mod tests;
 
 pub use examples::{number_examples, proof_example, step_examples, token_examples};
 pub use formula::{Cnf, CnfBuilder};
@@ -16,4 +19,5 @@ pub use laws::{front_of_line_law, number_laws, one_more_line_law, step_line_law,
 pub use list::{Group, GroupList, Id, IdList, Items, LitList};
 pub use literal::Lit;
 pub use memory::OutOfMemory;
+pub use range::literals_in_range;
 pub use step::Step;

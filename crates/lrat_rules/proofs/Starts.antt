@@ -1,9 +1,10 @@
 -- The formula's clauses at the start.
-use Rattle.std.proofs.Common.{◌≡◌, ℕ, zero, suc, ◌<◌, ◌≤◌, ◌+◌, ℤ, List, [], ◌∷◌, length, get_or, Option, None, Some, nat_cmp, refl, ◌∙◌, arith, eq-eqb, ne_eqb}
+use Rattle.std.proofs.Common.{◌≡◌, ℕ, zero, suc, ◌<◌, ◌≤◌, ◌+◌, ℤ, List, [], ◌∷◌, ◌++◌, length, get_or, Option, None, Some, nat_cmp, cond, refl, sym, ap, ◌∙◌, arith, eq-eqb, ne_eqb, length-append}
+use Rattle.std.specs.Prelude.{if◌then◌else◌, ◌==◌}
 use Rattle.std.specs.Cmp.{unsigned_tied}
 use Rattle.std.specs.FinMap as finmap
 use Rattle.std.proofs.lemmas.Cmp.{nat_cmp_total}
-use Rattle.lrat_rules.specs.State.{clause_at, start, numbered_from}
+use Rattle.lrat_rules.specs.State.{Live, clause_at, start, numbered_from, with_clause}
 
 -- the clause that stands under a number in a numbered list
 abbrev pub numbered_at : ℕ → List (List ℤ) → ℕ → Option (List ℤ)
@@ -40,3 +41,25 @@ clause_at-start-zero clauses = clause_at-start clauses 0 ∙ numbered_at-below 1
 
 pub clause_at-start-above : (clauses : List (List ℤ)) (id : ℕ) → length clauses < id → clause_at (start clauses).live id ≡ None
 clause_at-start-above clauses id h = clause_at-start clauses id ∙ numbered_at-above 1 clauses id (omega arith)
+
+numbered_from-append : (first : ℕ) (clauses : List (List ℤ)) (clause : List ℤ) → numbered_from first (clauses ++ clause ∷ []) ≡ numbered_from first clauses ++ (first + length clauses, clause) ∷ []
+numbered_from-append first [] clause = let same : first ≡ first + 0 = omega arith in ap (λ (n : ℕ). (n, clause) ∷ []) same
+numbered_from-append first (head ∷ clauses) clause =
+    let same : first + 1 + length clauses ≡ first + suc (length clauses) = omega arith in
+    ap (λ es. (first, head) ∷ es) (numbered_from-append (first + 1) clauses clause ∙ ap (λ (n : ℕ). numbered_from (first + 1) clauses ++ (n, clause) ∷ []) same)
+
+-- one clause more at the start stands under the next number
+pub start-append : (clauses : List (List ℤ)) (clause : List ℤ) → start (clauses ++ clause ∷ []) ≡ record { live = with_clause (start clauses).live (length clauses + 1) clause; top = length clauses + 1 }
+start-append clauses clause =
+    let next : length clauses + 1 ≡ 1 + length clauses = omega arith in
+    let new : finmap.find nat_cmp (1 + length clauses) (numbered_from 1 clauses) ≡ None = numbered_at-above 1 clauses (1 + length clauses) (omega arith) in
+    let live : finmap.from_entries (numbered_from 1 (clauses ++ clause ∷ [])) ≡ finmap.insert (finmap.from_entries (numbered_from 1 clauses)) (length clauses + 1) clause =
+    ap finmap.from_entries (numbered_from-append 1 clauses clause)
+    ∙ finmap.from_entries_push nat_cmp_total finmap.nat_cmp-IsAntisymmetric (numbered_from 1 clauses) (1 + length clauses) clause new
+    ∙ ap (λ (n : ℕ). finmap.insert (finmap.from_entries (numbered_from 1 clauses)) n clause) (sym next) in
+    let top : length (clauses ++ clause ∷ []) ≡ length clauses + 1 = omega (arith, length-append clauses (clause ∷ [])) in
+    λ i. record { live = live i; top = top i }
+
+-- what stands under a number once a clause was put under one
+pub clause_at-with_clause : (live : Live) (id other : ℕ) (clause : List ℤ) → clause_at (with_clause live id clause) other ≡ (if other == id then Some clause else clause_at live other)
+clause_at-with_clause live id other clause = finmap.get-insert nat_cmp_total live id clause other ∙ ap (λ b. cond b (Some clause) (clause_at live other)) (unsigned_tied other id)

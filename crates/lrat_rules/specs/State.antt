@@ -1,7 +1,8 @@
 -- The clauses that stand at some line of a proof, by their numbers, and the greatest number so far.
-use Rattle.std.specs.Prelude.{◌≡◌, ℕ, ◌+◌, ℤ, List, [], ◌∷◌, length, Option, Some, IsTrue}
+use Rattle.std.specs.Prelude.{◌≡◌, ℕ, ◌+◌, ℤ, List, [], ◌∷◌, length, Option, Some, IsTrue, refl}
 use Rattle.std.specs.Ordering.{nat_cmp}
 use Rattle.std.specs.FinMap as map
+use Rattle.std.specs.Coded.{Coded, code_by, coded×, coded_ℕ, coded_ℤ, coded_list}
 use Rattle.cnf_base.specs.Truth.{Assignment, clause_holds}
 
 -- live clauses by their numbers
@@ -35,3 +36,8 @@ without_clauses live (id ∷ ids) = without_clauses (map.remove live id) ids
 -- an assignment under which each live clause holds
 abbrev pub SatisfiesLive : Assignment → Live → Type 0
 SatisfiesLive a live = (id : ℕ) (clause : List ℤ) → clause_at live id ≡ Some clause → IsTrue (clause_holds a clause)
+
+-- a state can be a model's value: it is stored as the pair of its fields
+abbrev pub state_code : Coded State
+state_code =
+    code_by (Live × ℕ) (coded× (map.code coded_ℕ (coded_list coded_ℤ)) coded_ℕ) (λ s. (s.live, s.top)) (λ p. record { live = p.0; top = p.1 }) (λ _. refl)

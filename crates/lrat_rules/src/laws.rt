@@ -1,8 +1,9 @@
 // Laws of the rules, over everything: functions without work, whose clauses the crates above cite by a call.
-ghost use Rattle.std.specs.Prelude.{◌≡◌, ◌<◌, ◌+◌, ◌||◌, ◌++◌, ℕ, ℤ, List, [], ◌∷◌, map, length, None, Some, IsTrue, slice_index_or};
+ghost use Rattle.std.specs.Prelude.{◌≡◌, ◌<◌, ◌+◌, ◌||◌, ◌++◌, ℕ, ℤ, List, [], ◌∷◌, map, length, None, Some, IsTrue, is_some, slice_index_or, if◌then◌else◌, ◌==◌};
+ghost use Rattle.std.specs.List.{list_all};
 ghost use Rattle.cnf_base.specs.declared.step.Step.{Step};
 ghost use Rattle.cnf_base.specs.ProofText.{proof_lines, line_of_step, is_printable, are_whole_lines};
-ghost use Rattle.lrat_rules.specs.State.{State, Live, clause_at, start};
+ghost use Rattle.lrat_rules.specs.State.{State, Live, clause_at, start, with_clause};
 ghost use Rattle.lrat_rules.specs.Chain.{Closes, literals_of};
 ghost use Rattle.lrat_rules.specs.Addition.{fault};
 ghost use Rattle.lrat_rules.specs.Strict.{RefutesStrictly, IsDefinition};
@@ -13,6 +14,7 @@ pub fn strict_addition_law()
     ensures good { (state : State) (id : ℕ) (clause : List ℤ) (hints : List ℕ) → state.top < id
         → RefutesStrictly state.live clause hints → fault state id clause hints [] ≡ None }
     ensures closes { (live : Live) (clause : List ℤ) (hints : List ℕ) → RefutesStrictly live clause hints → Closes live (literals_of clause) hints }
+    ensures live { (live : Live) (clause : List ℤ) (hints : List ℕ) → RefutesStrictly live clause hints → IsTrue (list_all (λ hint. is_some (clause_at live hint)) hints) }
 {}
 
 /// A clause whose candidates are all named, and all blocked, is a good addition with no further hints.
@@ -32,6 +34,12 @@ pub fn start_law()
     ensures none_at_zero { (clauses : List (List ℤ)) → clause_at (start clauses).live 0 ≡ None }
     ensures none_above { (clauses : List (List ℤ)) (id : ℕ) → length clauses < id → clause_at (start clauses).live id ≡ None }
     ensures spells { (clauses : List (List ℤ)) → Spells clauses [] (start clauses) }
+    ensures appended { (clauses : List (List ℤ)) (clause : List ℤ) → start (clauses ++ clause ∷ []) ≡ record { live = with_clause (start clauses).live (length clauses + 1) clause; top = length clauses + 1 } }
+{}
+
+/// What stands under a number once a clause was put under one.
+pub fn live_law()
+    ensures { (live : Live) (id other : ℕ) (clause : List ℤ) → clause_at (with_clause live id clause) other ≡ (if other == id then Some clause else clause_at live other) }
 {}
 
 /// The line of a good step on a text of good steps leads one step on.

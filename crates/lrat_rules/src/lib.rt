@@ -12,7 +12,8 @@ mod soundness;
 pub use chain::Chain;
 pub use examples::{refutation_example, resolvent_example};
 pub use laws::{
-    conflict_law, definition_law, one_more_step_law, refuted_law, start_law, strict_addition_law,
+    conflict_law, definition_law, live_law, one_more_step_law, refuted_law, start_law,
+    strict_addition_law,
 };
 pub use outcome::{Effect, Reason};
 pub use soundness::soundness_law;

@@ -1,10 +1,18 @@
 -- How the parts of a line add up.
-use Rattle.std.proofs.Common.{◌≡◌, ℕ, ◌+◌, ◌≤◌, ◌^◌, ◌-◌, min, Bool, true, false, List, [], ◌∷◌, ◌++◌, take, drop, refl, sym, ◌∙◌, ap, append_assoc, Ok, Err, arith}
-use Rattle.std.specs.Prelude.{Result, IsTrue, IsOk, IsErr}
-use Rattle.std.proofs.lemmas.List.{take-append-drop, append-nil}
-use Rattle.host_io.specs.Channel.{Channel, Counts, WritesAll, Rose}
+use Rattle.std.proofs.Common.{◌≡◌, ℕ, ◌+◌, Bool, true, false, List, [], ◌∷◌, ◌++◌, take, drop, length, get_or, ◌<◌, refl, sym, ◌∙◌, ap, subst, append_assoc, Ok, Err, arith}
+use Rattle.std.specs.Prelude.{Result, IsOk, IsErr}
+use Rattle.std.proofs.lemmas.List.{take-append-drop, append-nil, take_more}
+use Rattle.std.proofs.lemmas.Grind.{flat_map-append}
+use Rattle.std.specs.List.{flat_map}
+use Rattle.host_io.specs.Channel.{Channel, WritesAll}
 use Rattle.host_io.specs.declared.source.Failed.{Failed}
-use Rattle.lrat_write.specs.Emitted.{Emits}
+use Rattle.std.specs.Prelude.{map, ℤ, pos, decimal}
+use Rattle.std.specs.Fmt.{signed_decimal}
+use Rattle.std.specs.List.{join_with_byte}
+use Rattle.std.proofs.Math.Seq.{take-append_seam, take-append-add}
+use Rattle.cnf_base.specs.declared.step.Step.TheVariants.{Add}
+use Rattle.cnf_base.specs.ProofText.{line_of_step}
+use Rattle.lrat_write.specs.Emitted.{Emits, spaced, spaced_literal, spaced_id, add_line}
 
 -- no answer is both
 not_both : (r : Result (Unit {0}) Failed) → IsOk r → IsErr r → ⊥
@@ -49,8 +57,8 @@ in_turn {tells} {a} {b} {c} {held} {middle} {after} {first} {second} x ok y = re
   gained = x.gained ++ y.gained;
   rest = y.rest;
   balance = sym (append_assoc held first second)
-    ∙ ap (λ (l : List ℕ). l ++ second) (x.balance ∙ ap (λ (l : List ℕ). x.gained ++ l) (sym (x.done ok)))
-    ∙ append_assoc x.gained middle second ∙ ap (λ (l : List ℕ). x.gained ++ l) y.balance ∙ sym (append_assoc x.gained y.gained y.rest);
+      ∙ ap (λ (l : List ℕ). l ++ second) (x.balance ∙ ap (λ (l : List ℕ). x.gained ++ l) (sym (x.done ok)))
+      ∙ append_assoc x.gained middle second ∙ ap (λ (l : List ℕ). x.gained ++ l) y.balance ∙ sym (append_assoc x.gained y.gained y.rest);
   done = y.done;
   written = λ t. y.written t ∙ ap (λ (l : List ℕ). l ++ y.gained) (x.written t) ∙ append_assoc a.written x.gained y.gained;
   flushed = y.flushed ∙ x.flushed;
@@ -113,4 +121,92 @@ nothing channel held = record {
   left = refl;
   name = refl;
   faults = record { no_less = omega arith; cause = λ err. absurd (not_both (Ok tt) refl err) };
+}
+
+-- the text of a list's front, and of the rest
+pub flat_map-take-more : {X : Type 0} (f : X → List ℕ) (xs : List X) (i : ℕ) (d : X) → i < length xs → flat_map f (take (i + 1) xs) ≡ flat_map f (take i xs) ++ f (get_or xs i d)
+flat_map-take-more f xs i d lt =
+    ap (flat_map f) (take_more xs i d lt) ∙ flat_map-append f (take i xs) (get_or xs i d ∷ []) ∙ ap (λ (l : List ℕ). flat_map f (take i xs) ++ l) (append-nil (f (get_or xs i d)))
+
+pub flat_map-split : {X : Type 0} (f : X → List ℕ) (xs : List X) (n : ℕ) (z : List ℕ) → flat_map f xs ++ z ≡ flat_map f (take n xs) ++ (flat_map f (drop n xs) ++ z)
+flat_map-split f xs n z =
+    ap (λ l. flat_map f l ++ z) (sym (take-append-drop n xs)) ∙ ap (λ (l : List ℕ). l ++ z) (flat_map-append f (take n xs) (drop n xs)) ∙ append_assoc (flat_map f (take n xs)) (flat_map f (drop n xs)) z
+
+-- one more item of a list, and a failure at it
+pub one_more : {X : Type 0} {tells : Bool} {a b c : Channel} {held middle after piece : List ℕ} {result : Result (Unit {0}) Failed} (f : X → List ℕ) (xs : List X) (i : ℕ) (d : X) → i < length xs
+    → Emits tells a b held middle (flat_map f (take i xs)) (Ok tt) → piece ≡ f (get_or xs i d) → Emits tells b c middle after piece result → Emits tells a c held after (flat_map f (take (i + 1) xs)) result
+one_more {tells = tells} {a = a} {c = c} {held = held} {after = after} {result = result} f xs i d lt x is y =
+    subst (λ (l : List ℕ). Emits tells a c held after l result) (ap (λ (l : List ℕ). flat_map f (take i xs) ++ l) is ∙ sym (flat_map-take-more f xs i d lt)) (in_turn x refl y)
+
+pub fails_at : {X : Type 0} {tells : Bool} {a b c : Channel} {held middle after piece : List ℕ} {result answer : Result (Unit {0}) Failed} (f : X → List ℕ) (xs : List X) (i : ℕ) (d : X) (z now : List ℕ) → i < length xs
+    → Emits tells a b held middle (flat_map f (take i xs)) (Ok tt) → piece ≡ f (get_or xs i d) → Emits tells b c middle after piece result → IsErr result → IsErr answer
+    → Emits tells a c held now (flat_map f xs ++ z) answer
+fails_at {answer = answer} f xs i d z now lt x is y err failed =
+    fails_within (one_more f xs i d lt x is y) err failed (flat_map f xs ++ z) (flat_map f (drop (i + 1) xs) ++ z) now (flat_map-split f xs (i + 1) z)
+
+pub four_parts : (a b c d : List ℕ) → ((a ++ b) ++ c) ++ d ≡ a ++ (b ++ (c ++ d))
+four_parts a b c d = simp append_assoc
+
+-- words in a row with a space between two are the first, and each further one behind a space
+join-spaced : (word : List ℕ) (words : List (List ℕ)) → join_with_byte 32 (word ∷ words) ≡ word ++ flat_map spaced words
+join-spaced word [] = sym (append-nil word)
+join-spaced word (next ∷ words) = ap (λ (l : List ℕ). word ++ (32 ∷ l)) (join-spaced next words)
+
+flat_map-map : {X Y : Type 0} (f : Y → List ℕ) (g : X → Y) (xs : List X) → flat_map f (map g xs) ≡ flat_map (λ x. f (g x)) xs
+flat_map-map f g [] = refl
+flat_map-map f g (x ∷ xs) = ap (λ (l : List ℕ). f (g x) ++ l) (flat_map-map f g xs)
+
+pub add_line-is : (id : ℕ) (clause : List ℤ) (hints : List ℕ) → add_line id clause hints ≡ line_of_step (Add id clause hints [])
+add_line-is id clause hints =
+    let zero_word : List (List ℕ) = (48 ∷ []) ∷ [] in
+    let hint_words : map signed_decimal (map pos hints ++ []) ≡ map signed_decimal (map pos hints) = ap (map signed_decimal) (append-nil (map pos hints)) in
+    let clause_text : flat_map spaced (map signed_decimal clause) ≡ flat_map spaced_literal clause = flat_map-map spaced signed_decimal clause in
+    let hint_text : flat_map spaced (map signed_decimal (map pos hints)) ≡ flat_map spaced_id hints =
+    flat_map-map spaced signed_decimal (map pos hints) ∙ flat_map-map (λ (z : ℤ). spaced (signed_decimal z)) pos hints in
+    let words : flat_map spaced ((map signed_decimal clause ++ (48 ∷ []) ∷ map signed_decimal (map pos hints ++ [])) ++ zero_word)
+    ≡ (flat_map spaced_literal clause ++ (32 ∷ 48 ∷ flat_map spaced_id hints)) ++ (32 ∷ 48 ∷ []) =
+    flat_map-append spaced (map signed_decimal clause ++ (48 ∷ []) ∷ map signed_decimal (map pos hints ++ [])) zero_word
+    ∙ ap (λ (l : List ℕ). l ++ (32 ∷ 48 ∷ [])) (
+    flat_map-append spaced (map signed_decimal clause) ((48 ∷ []) ∷ map signed_decimal (map pos hints ++ []))
+    ∙ (λ i. clause_text i ++ (32 ∷ 48 ∷ (ap (flat_map spaced) hint_words ∙ hint_text) i))) in
+    let left : add_line id clause hints ≡ decimal id ++ (flat_map spaced_literal clause ++ (32 ∷ 48 ∷ (flat_map spaced_id hints ++ (32 ∷ 48 ∷ 10 ∷ [])))) =
+    four_parts (decimal id) (flat_map spaced_literal clause ++ 32 ∷ 48 ∷ []) (flat_map spaced_id hints ++ 32 ∷ 48 ∷ []) (10 ∷ [])
+    ∙ ap (λ (l : List ℕ). decimal id ++ l) (append_assoc (flat_map spaced_literal clause) (32 ∷ 48 ∷ []) ((flat_map spaced_id hints ++ 32 ∷ 48 ∷ []) ++ 10 ∷ [])
+    ∙ ap (λ (l : List ℕ). flat_map spaced_literal clause ++ (32 ∷ 48 ∷ l)) (append_assoc (flat_map spaced_id hints) (32 ∷ 48 ∷ []) (10 ∷ []))) in
+    let right : line_of_step (Add id clause hints []) ≡ decimal id ++ (flat_map spaced_literal clause ++ (32 ∷ 48 ∷ (flat_map spaced_id hints ++ (32 ∷ 48 ∷ 10 ∷ [])))) =
+    ap (λ (l : List ℕ). l ++ 10 ∷ []) (join-spaced (decimal id) ((map signed_decimal clause ++ (48 ∷ []) ∷ map signed_decimal (map pos hints ++ [])) ++ zero_word) ∙ ap (λ (l : List ℕ). decimal id ++ l) words)
+    ∙ append_assoc (decimal id) ((flat_map spaced_literal clause ++ (32 ∷ 48 ∷ flat_map spaced_id hints)) ++ (32 ∷ 48 ∷ [])) (10 ∷ [])
+    ∙ ap (λ (l : List ℕ). decimal id ++ l) (append_assoc (flat_map spaced_literal clause ++ (32 ∷ 48 ∷ flat_map spaced_id hints)) (32 ∷ 48 ∷ []) (10 ∷ [])
+    ∙ append_assoc (flat_map spaced_literal clause) (32 ∷ 48 ∷ flat_map spaced_id hints) (32 ∷ 48 ∷ 10 ∷ [])) in
+    left ∙ sym right
+
+-- what was emitted of a piece, and the rest of it, written at the end
+pub written_out : {tells : Bool} {a b c : Channel} {held bytes last : List ℕ} {result : Result (Unit {0}) Failed} → Emits tells a b [] held bytes (Ok tt) → last ≡ held → WritesAll tells b c last result → WritesAll tells a c bytes result
+written_out {a = a} {c = c} {bytes = bytes} {last = last} x is w =
+    let parts : bytes ≡ x.gained ++ last = x.balance ∙ ap (λ (l : List ℕ). x.gained ++ l) (sym (is ∙ x.done refl)) in
+    record {
+      done = λ t ok. w.done t ok ∙ ap (λ (l : List ℕ). l ++ last) (x.written t) ∙ append_assoc a.written x.gained last ∙ ap (λ (l : List ℕ). a.written ++ l) (sym parts);
+      failed = λ t err.
+          let front = w.failed t err in (
+            length x.gained + front.0,
+            front.1 ∙ ap (λ (l : List ℕ). l ++ take front.0 last) (x.written t) ∙ append_assoc a.written x.gained (take front.0 last)
+                ∙ ap (λ (l : List ℕ). a.written ++ l) (sym (ap (take (length x.gained + front.0)) parts ∙ take-append-add x.gained last front.0)),
+          );
+      flushed = w.flushed ∙ x.flushed;
+      taken = w.taken ∙ x.taken;
+      left = w.left ∙ x.left;
+      name = w.name ∙ x.name;
+      faults = record { no_less = omega (arith, x.faults.no_less, w.faults.no_less); cause = λ err. omega (arith, x.faults.no_less, w.faults.cause err) };
+    }
+
+-- a piece that was cut before its end
+pub cut_before : {tells : Bool} {a b : Channel} {held bytes : List ℕ} {result answer : Result (Unit {0}) Failed} → Emits tells a b [] held bytes result → IsErr result → IsErr answer → WritesAll tells a b bytes answer
+cut_before {a = a} {bytes = bytes} {answer = answer} x err failed = record {
+  done = λ t ok. absurd (not_both answer ok failed);
+  failed = λ t _. (length x.gained, x.written t ∙ ap (λ (l : List ℕ). a.written ++ l) (sym (ap (take (length x.gained)) x.balance ∙ take-append_seam x.gained x.rest)));
+  flushed = x.flushed;
+  taken = x.taken;
+  left = x.left;
+  name = x.name;
+  faults = record { no_less = x.faults.no_less; cause = λ _. x.faults.cause err };
 }

@@ -1,5 +1,5 @@
 -- A line on its way: what is held back of it until it is long enough for a write, and what the sink has of it.
-use Rattle.std.specs.Prelude.{◌≡◌, ◌≤◌, ℕ, Bool, ℤ, pos, List, [], ◌∷◌, ◌++◌, Result, IsTrue, IsOk, IsErr, decimal}
+use Rattle.std.specs.Prelude.{◌≡◌, ℕ, Bool, ℤ, List, [], ◌∷◌, ◌++◌, Result, IsTrue, IsOk, decimal}
 use Rattle.std.specs.Fmt.{signed_decimal}
 use Rattle.std.specs.List.{flat_map}
 use Rattle.host_io.specs.Channel.{Channel, Counts}
@@ -27,7 +27,7 @@ abbrev pub spaced_literal : ℤ → List ℕ
 spaced_literal literal = spaced (signed_decimal literal)
 
 abbrev pub spaced_id : ℕ → List ℕ
-spaced_id id = spaced (signed_decimal (pos id))
+spaced_id id = spaced (decimal id)
 
 -- literals, or clause numbers, and the zero that ends them, each behind a space
 abbrev pub literals_text : List ℤ → List ℕ
@@ -35,3 +35,7 @@ literals_text literals = flat_map spaced_literal literals ++ spaced (48 ∷ [])
 
 abbrev pub ids_text : List ℕ → List ℕ
 ids_text ids = flat_map spaced_id ids ++ spaced (48 ∷ [])
+
+-- the parts of an addition's line: its number, its clause, its hints, the line end
+abbrev pub add_line : ℕ → List ℤ → List ℕ → List ℕ
+add_line id clause hints = decimal id ++ literals_text clause ++ ids_text hints ++ 10 ∷ []

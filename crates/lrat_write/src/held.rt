@@ -1,15 +1,12 @@
 // A line is collected in a small buffer on the stack, and handed to the sink when that is full.
 ghost use Rattle.std.specs.Prelude.{◌≡◌, ◌≤◌, ◌∷◌, [], IsTrue, OnOk, take, length};
 ghost use Rattle.std.specs.List.{flat_map, list_all};
-ghost use Rattle.std.specs.Fmt.{signed_decimal};
-ghost use Rattle.cnf_base.specs.Truth.{is_literal_of};
-ghost use Rattle.cnf_base.specs.ProofText.{max_literal, is_id};
 ghost use Rattle.lrat_write.specs.Emitted.{Emits, spaced, literals_text, ids_text};
 
 use arrayvec::ArrayVec;
 use cnf_base::{Id, Lit};
 use host_io::{Failed, Sink, write_all};
-use itoa::Buffer;
+use itoa::{Buffer, Integer};
 
 /// What is held back of a line.
 pub type Held = ArrayVec<u8, 512>;
@@ -41,8 +38,12 @@ fn emit_first<S: Sink>(sink: &mut S, held: &mut Held, piece: &[u8]) -> Result<()
 }
 
 /// Puts a space and a number.
-pub fn emit_number<S: Sink>(sink: &mut S, held: &mut Held, number: i64) -> Result<(), Failed>
-    ensures emits { Emits S.tells (S.channel sink.old) (S.channel sink.new) held.old.items held.new.items (spaced (signed_decimal number)) result }
+pub fn emit_number<S: Sink, I: Integer>(
+    sink: &mut S,
+    held: &mut Held,
+    number: I,
+) -> Result<(), Failed>
+    ensures emits { Emits S.tells (S.channel sink.old) (S.channel sink.new) held.old.items held.new.items (spaced (I.text number)) result }
     ensures beside { S.beside sink.new ≡ S.beside sink.old }
 {
     emit(sink, held, b" ")?;
@@ -53,23 +54,20 @@ pub fn emit_number<S: Sink>(sink: &mut S, held: &mut Held, number: i64) -> Resul
 pub fn emit_literals<S: Sink>(sink: &mut S, held: &mut Held, literals: &[Lit]) -> Result<(), Failed>
     ensures emits { Emits S.tells (S.channel sink.old) (S.channel sink.new) held.old.items held.new.items (literals_text literals.now) result }
     ensures beside { S.beside sink.new ≡ S.beside sink.old }
-    ensures range { OnOk result (IsTrue (list_all (is_literal_of max_literal) literals.now)) }
 {
     for literal in literals {
-        let _in_range = literal.var();
-        emit_number(sink, held, literal.get() as i64)?;
+        emit_number(sink, held, literal.get())?;
     }
     emit(sink, held, b" 0")
 }
 
 /// Puts clause numbers and the zero that ends them, each behind a space.
 pub fn emit_ids<S: Sink>(sink: &mut S, held: &mut Held, ids: &[Id]) -> Result<(), Failed>
-    requires { IsTrue (list_all is_id ids.now) }
     ensures emits { Emits S.tells (S.channel sink.old) (S.channel sink.new) held.old.items held.new.items (ids_text ids.now) result }
     ensures beside { S.beside sink.new ≡ S.beside sink.old }
 {
     for id in ids {
-        emit_number(sink, held, id.get() as i64)?;
+        emit_number(sink, held, id.get())?;
     }
     emit(sink, held, b" 0")
 }

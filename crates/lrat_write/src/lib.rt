@@ -4,6 +4,6 @@
 #![tactic(auto)]
 
 mod held;
+mod line;
 
-
-pub use held::{Held, emit};
+pub use line::write_add;

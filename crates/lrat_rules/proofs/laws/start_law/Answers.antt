@@ -1,4 +1,4 @@
-use Rattle.lrat_rules.proofs.Starts.{clause_at-start-within, clause_at-start-zero, clause_at-start-above}
+use Rattle.lrat_rules.proofs.Starts.{clause_at-start-within, clause_at-start-zero, clause_at-start-above, start-append}
 use Rattle.lrat_rules.proofs.laws.start_law.Goals as goal
 
 pub returns-clause-clauses : goal.returns-clause-clauses
@@ -9,3 +9,6 @@ returns-clause-none_at_zero c = clause_at-start-zero
 
 pub returns-clause-none_above : goal.returns-clause-none_above
 returns-clause-none_above c = clause_at-start-above
+
+pub returns-clause-appended : goal.returns-clause-appended
+returns-clause-appended c = start-append

@@ -1,4 +1,5 @@
-use Rattle.lrat_rules.proofs.Strictness.{Closes-strict, fault-closes}
+use Rattle.lrat_rules.proofs.Strictness.{Closes-strict, fault-closes, live-strict}
+use Rattle.lrat_rules.specs.Chain.{literals_of}
 use Rattle.lrat_rules.proofs.laws.strict_addition_law.Goals as goal
 
 pub returns-clause-good : goal.returns-clause-good
@@ -6,3 +7,6 @@ returns-clause-good c state id clause hints above r = fault-closes state id clau
 
 pub returns-clause-closes : goal.returns-clause-closes
 returns-clause-closes c live clause hints r = Closes-strict r
+
+pub returns-clause-live : goal.returns-clause-live
+returns-clause-live c live clause hints r = live-strict live (literals_of clause) hints r.strict

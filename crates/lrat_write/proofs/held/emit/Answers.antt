@@ -1,6 +1,4 @@
-use Rattle.std.proofs.Common.{◌≡◌, [], ◌++◌, List, ℕ, sym, ◌∙◌, ap, refl}
-use Rattle.std.proofs.lemmas.List.{append-nil}
-use Rattle.lrat_write.specs.Emitted.{Emits}
+use Rattle.std.proofs.Common.{[], ◌++◌, List, ℕ, sym, ◌∙◌, ap, refl}
 use Rattle.lrat_write.proofs.Emitting.{cut_short, in_turn, all_at_once}
 use Rattle.lrat_write.proofs.held.emit.Goals as goal
 
@@ -12,5 +10,5 @@ returns-in_err-write_all-in-Err-clause-emits g c =
 pub returns-in_ok-write_all-in-Err-clause-emits : goal.returns-in_ok-write_all-in-Err-clause-emits
 returns-in_ok-write_all-in-Err-clause-emits g c =
     let first = all_at_once c.in_ok-write_all-in-Err.ensures.writes refl c.args.held.now.items [] c.clear.new.self.items
-      (ap (λ (l : List ℕ). l ++ []) (sym (c.as_slice.ensures.value ∙ ap (λ v. v.items) c.in-Err.ensures.err)) ∙ ap (λ (l : List ℕ). c.as_slice.result.now ++ l) (sym c.clear.ensures)) in
+    (ap (λ (l : List ℕ). l ++ []) (sym (c.as_slice.ensures.value ∙ ap (λ v. v.items) c.in-Err.ensures.err)) ∙ ap (λ (l : List ℕ). c.as_slice.result.now ++ l) (sym c.clear.ensures)) in
     in_turn first refl c.emit_first.ensures.emits

@@ -1,5 +1,3 @@
-use Rattle.std.proofs.Common.{◌≡◌, [], ◌∙◌, sym, subst, List, ℕ}
-use Rattle.lrat_write.specs.Emitted.{Emits}
 use Rattle.lrat_write.proofs.Emitting.{alone}
 use Rattle.lrat_write.proofs.held.emit_first.Goals as goal
 

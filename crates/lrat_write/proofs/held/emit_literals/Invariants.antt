@@ -1,7 +1,5 @@
-use Rattle.std.proofs.Common.{◌≡◌, true, take, Ok}
-use Rattle.std.specs.List.{flat_map, list_all}
-use Rattle.cnf_base.specs.Truth.{is_literal_of}
-use Rattle.cnf_base.specs.ProofText.{max_literal}
+use Rattle.std.proofs.Common.{◌≡◌, take, Ok}
+use Rattle.std.specs.List.{flat_map}
 use Rattle.lrat_write.specs.Emitted.{Emits, spaced_literal}
 use Rattle.lrat_write.proofs.held.emit_literals.Given as goal
 
@@ -9,4 +7,3 @@ abbrev pub invariant-loop-literal : goal.invariant-loop-literal
 invariant-loop-literal g l =
     Emits g.S.Sink.tells (g.S.Sink.channel l.fn.sink) (g.S.Sink.channel l.sink) l.fn.held.items l.held.items (flat_map spaced_literal (take l.literal-index l.literals)) (Ok tt)
     × (g.S.Sink.beside l.sink ≡ g.S.Sink.beside l.fn.sink)
-    × (list_all (is_literal_of max_literal) (take l.literal-index l.literals) ≡ true)

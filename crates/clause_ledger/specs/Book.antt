@@ -1,0 +1,50 @@
+-- A ledger as callers see it, and what its proof has to do with its clauses.
+use Rattle.std.specs.Prelude.{◌≡◌, ◌<◌, ◌≤◌, ◌+◌, ◌++◌, ℕ, Bool, ℤ, List, [], Some, IsTrue, length, take, slice_index_or, refl}
+use Rattle.std.specs.Coded.{Coded, code_by, coded×, coded_ℕ, coded_bool}
+use Rattle.cnf_base.specs.declared.step.Step.TheVariants.{Add}
+use Rattle.cnf_base.specs.ProofText.{line_of_step}
+use Rattle.host_io.specs.Channel.{Channel, Rose}
+use Rattle.lrat_rules.specs.State.{State, state_code, clause_at, with_clause}
+use Rattle.lrat_rules.specs.Run.{Spells}
+
+-- its sink, its live clauses with the greatest number, the greatest number allowed, and whether no write failed yet
+pub record Book (S : Type 0) : Type 0 where
+  pub sink : S
+  pub state : State
+  pub limit : ℕ
+  pub in_step : Bool
+
+-- a book can be a model's value: it is stored as its fields
+abbrev pub book_code : {S : Type 0} → Coded S → Coded (Book S)
+book_code {S} code =
+    code_by (S × (State × (ℕ × Bool))) (coded× code (coded× state_code (coded× coded_ℕ coded_bool))) (λ b. (b.sink, (b.state, (b.limit, b.in_step))))
+    (λ p. record { sink = p.0; state = p.1.0; limit = p.1.1.0; in_step = p.1.1.1 }) (λ _. refl)
+
+-- The sink's bytes spell good steps from the formula's clauses to this state, in which these clauses stand under
+-- 1, 2, .. and no number is above the greatest.
+pub record IsProofOf (clauses : List (List ℤ)) (tells : Bool) (channel : Channel) (state : State) : Type 0 where
+  pub spelled : IsTrue tells → Spells clauses channel.written state
+  pub formula : (i : ℕ) → i < length clauses → clause_at state.live (i + 1) ≡ Some (slice_index_or clauses i [])
+  pub numbers : (id : ℕ) (clause : List ℤ) → clause_at state.live id ≡ Some clause → (0 < id) × (id ≤ state.top)
+  pub from_formula : length clauses ≤ state.top
+
+-- a call of a ledger touches nothing of its sink but what is written, and the counts of faults never fall
+pub record OnlyWrites (before after : Channel) : Type 0 where
+  pub flushed : after.flushed ≡ before.flushed
+  pub taken : after.taken ≡ before.taken
+  pub left : after.left ≡ before.left
+  pub name : after.name ≡ before.name
+  pub faults : before.faults ≤ after.faults
+
+-- A write failed: its count rose, and a front of the call's own line was written.
+pub record IsTorn (tells : Bool) (before after : Channel) (line : List ℕ) : Type 0 where
+  pub rose : Rose before.faults after.faults
+  pub cut : IsTrue tells → (n : ℕ) × (after.written ≡ before.written ++ take n line)
+
+-- the line of an addition under the next number
+abbrev pub next_line : State → List ℤ → List ℕ → List ℕ
+next_line state clause hints = line_of_step (Add (state.top + 1) clause hints [])
+
+-- one clause more, under the next number
+abbrev pub with_next : State → List ℤ → State
+with_next state clause = record { live = with_clause state.live (state.top + 1) clause; top = state.top + 1 }

@@ -1,0 +1,189 @@
+// The ledger: live clauses, and the lines that made them.
+ghost use Rattle.std.specs.Prelude.{◌≡◌, ◌≤◌, ◌+◌, ◌-◌, ◌++◌, ◌↔◌, ℤ, List, [], true, false, IsTrue, OnOk, IfOk, IfErr, IsErrOf, OnErr, is_ok, length};
+ghost use Rattle.std.specs.Option.{option_copied};
+ghost use Rattle.cnf_base.specs.ProofText.{max_id};
+ghost use Rattle.host_io.specs.Channel.{Rose, Flushes};
+ghost use Rattle.lrat_rules.specs.State.{start, clause_at};
+ghost use Rattle.lrat_rules.specs.Strict.{RefutesStrictly};
+ghost use Rattle.lrat_rules.specs.Run.{IsCutProof};
+ghost use Rattle.clause_ledger.specs.Book.{IsProofOf, OnlyWrites, IsTorn, next_line, with_next};
+
+use crate::error::LedgerError;
+use crate::live::LiveClauses;
+use cnf_base::{Cnf, Id, Lit, OutOfMemory, literals_in_range};
+use host_io::Sink;
+use lrat_rules::{live_law, one_more_step_law, start_law, strict_addition_law};
+use lrat_write::write_add;
+use std::alloc::Global;
+use std::marker::Model;
+
+/// The live clauses of a run and its proof, which goes to a sink line by line.
+#[derive(Drop)]
+pub struct Ledger<S: Sink + Drop> {
+    sink: S,
+    live: LiveClauses,
+    max_ids: u64,
+    in_step: bool,
+}
+
+impl<S: Sink + Drop> Model for Ledger<S> {
+    ghost use Rattle.std.specs.Prelude.{◌≤◌};
+    ghost use Rattle.cnf_base.specs.ProofText.{max_id};
+    ghost use Rattle.clause_ledger.specs.Book.{Book, book_code};
+
+    ghost Value = { Book S };
+
+    ghost coded = { book_code S.code };
+
+    ghost view = { λ l. record { sink = l.sink; state = l.live; limit = l.max_ids; in_step = l.in_step } };
+
+    ghost invariant = { λ l. (l.max_ids ≤ max_id) × (l.live.top ≤ max_id) };
+}
+
+impl<S: Sink + Drop> Ledger<S> {
+    /// Opens a ledger with the clauses of a formula, whose numbers are 1, 2, .. `max_ids` is the greatest number
+    /// allowed for additions. A refusal for want of memory hands the sink back.
+    pub fn open(
+        alloc: Global,
+        formula: &Cnf,
+        sink: S,
+        max_ids: u64,
+    ) -> Result<Ledger<S>, (S, OutOfMemory)>
+        requires limit { max_ids ≤ max_id }
+        requires fresh { IsTrue S.tells → (S.channel sink).written ≡ [] }
+        ensures opened { IfOk result (λ ledger. ledger ≡ record { sink = sink; state = start formula.now.clauses; limit = max_ids; in_step = true }) }
+        ensures proof { IfOk result (λ ledger. IsProofOf formula.now.clauses S.tells (S.channel ledger.sink) ledger.state) }
+        ensures refused { IfErr result (λ back. back.0 ≡ sink) }
+    {
+        start_law();
+        formula.is_formula();
+        match copied(alloc, formula) {
+            Ok(live) => Ok(Ledger {
+                sink,
+                live,
+                max_ids,
+                in_step: true,
+            }),
+            Err(e) => Err((sink, e)),
+        }
+    }
+
+    /// Adds a clause under the next number, with a strict refutation of its negation as hints.
+    pub fn add(&mut self, clause: &[Lit], hints: &[Id]) -> Result<Id, LedgerError>
+        requires in_step { IsTrue self.old.in_step }
+        requires strict { RefutesStrictly self.old.state.live clause.now hints.now }
+        ensures added { IfOk result (λ id. (id ≡ self.old.state.top + 1) × (self.new.state ≡ with_next self.old.state clause.now)) }
+        ensures line { IsTrue S.tells → OnOk result ((S.channel self.new.sink).written ≡ (S.channel self.old.sink).written ++ next_line self.old.state clause.now hints.now) }
+        ensures kept { (clauses : List (List ℤ)) → IsProofOf clauses S.tells (S.channel self.old.sink) self.old.state
+            → OnOk result (IsProofOf clauses S.tells (S.channel self.new.sink) self.new.state) }
+        ensures in_step { OnOk result (IsTrue self.new.in_step) }
+        ensures limit { self.new.limit ≡ self.old.limit }
+
+        // The number limit is tried first; it and want of memory change nothing.
+        ensures id_limit { IsErrOf result LedgerError.IdLimit ↔ (self.old.limit ≤ self.old.state.top) }
+        ensures limit_unchanged { IsErrOf result LedgerError.IdLimit → self.new ≡ self.old }
+        ensures memory_unchanged { IsErrOf result LedgerError.OutOfMemory → self.new ≡ self.old }
+
+        // A failed write leaves the ledger out of step, behind its proof a front of one good line.
+        ensures write_fault { IsErrOf result LedgerError.WriteFault
+            → IsTorn S.tells (S.channel self.old.sink) (S.channel self.new.sink) (next_line self.old.state clause.now hints.now) }
+        ensures out_of_step { IsErrOf result LedgerError.WriteFault → self.new.in_step ≡ false }
+        ensures cut { (clauses : List (List ℤ)) → IsProofOf clauses S.tells (S.channel self.old.sink) self.old.state → IsTrue S.tells
+            → IsErrOf result LedgerError.WriteFault → IsCutProof clauses (S.channel self.new.sink).written }
+
+        ensures only_writes { OnlyWrites (S.channel self.old.sink) (S.channel self.new.sink) }
+        ensures beside { S.beside self.new.sink ≡ S.beside self.old.sink }
+    {
+        one_more_step_law();
+        strict_addition_law();
+        live_law();
+        literals_in_range(clause);
+        if self.live.top() >= self.max_ids {
+            return Err(LedgerError::IdLimit);
+        }
+        self.live.push(clause)?;
+        let id = Id(self.live.top());
+        match write_add(&mut self.sink, id, clause, hints) {
+            Ok(()) => Ok(id),
+            Err(_) => {
+                self.in_step = false;
+                Err(LedgerError::WriteFault)
+            }
+        }
+    }
+
+    /// The clause of a number, where it is live.
+    pub fn clause(&self, id: Id) -> Option<&[Lit]>
+        ensures { option_copied result ≡ clause_at self.now.state.live id }
+    {
+        self.live.get(id)
+    }
+
+    /// The greatest number so far.
+    pub fn last_id(&self) -> u64
+        ensures { result ≡ self.now.state.top }
+    {
+        self.live.top()
+    }
+
+    /// How many numbers are left under the limit.
+    pub fn ids_left(&self) -> u64
+        ensures { result ≡ self.now.limit - self.now.state.top }
+    {
+        self.max_ids.saturating_sub(self.live.top())
+    }
+
+    /// False exactly once a call has answered `WriteFault`.
+    pub fn is_in_step(&self) -> bool
+        ensures { result ≡ self.now.in_step }
+    {
+        self.in_step
+    }
+
+    /// Flushes all that was written. Only `WriteFault` may come.
+    pub fn finish(&mut self) -> Result<(), LedgerError>
+        requires { IsTrue self.old.in_step }
+        ensures state { self.new.state ≡ self.old.state }
+        ensures limit { self.new.limit ≡ self.old.limit }
+        ensures in_step { self.new.in_step ≡ is_ok result }
+        ensures written { (S.channel self.new.sink).written ≡ (S.channel self.old.sink).written }
+        ensures flushed { IsTrue S.tells → OnOk result ((S.channel self.new.sink).flushed ≡ length (S.channel self.new.sink).written) }
+        ensures unflushed { OnErr result ((S.channel self.new.sink).flushed ≡ (S.channel self.old.sink).flushed) }
+        ensures write_fault { IfErr result (λ e. (e ≡ LedgerError.WriteFault) × Rose (S.channel self.old.sink).faults (S.channel self.new.sink).faults) }
+        ensures counts { (S.channel self.old.sink).faults ≤ (S.channel self.new.sink).faults }
+        ensures name { (S.channel self.new.sink).name ≡ (S.channel self.old.sink).name }
+        ensures beside { S.beside self.new.sink ≡ S.beside self.old.sink }
+    {
+        match self.sink.flush() {
+            Ok(()) => Ok(()),
+            Err(_) => {
+                self.in_step = false;
+                Err(LedgerError::WriteFault)
+            }
+        }
+    }
+
+    /// Hands the sink back.
+    pub fn close(self) -> S
+        ensures { result ≡ self.sink }
+    {
+        let Ledger {
+            sink,
+            live: _,
+            max_ids: _,
+            in_step: _,
+        } = self;
+        sink
+    }
+}
+
+fn copied(alloc: Global, formula: &Cnf) -> Result<LiveClauses, OutOfMemory>
+    ensures { IfOk result (λ live. live ≡ start formula.now.clauses) }
+{
+    start_law();
+    let mut live = LiveClauses::new(alloc);
+    for i in 0..formula.len() {
+        live.push(formula.clause(i + 1))?;
+    }
+    Ok(live)
+}

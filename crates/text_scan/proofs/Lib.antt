@@ -1,0 +1,4 @@
+pub mod Block
+pub mod Turn
+pub mod Bridge
+pub mod Kept
