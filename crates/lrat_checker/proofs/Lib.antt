@@ -1,4 +1,3 @@
 pub mod TreeMaps
 pub mod Walks
-pub mod Starts
 pub mod GroupFaults

@@ -19,9 +19,11 @@ use Rattle.std.proofs.lemmas.Map.Views.{All-found}
 turned : {Y : Type 0} (k q : ℕ) (x y : Y) → cond (eq_by_cmp nat_cmp k q) x y ≡ cond (eq_by_cmp nat_cmp q k) x y
 turned k q x y = ap (λ b. cond b x y) ((eq_by_cmp_equiv nat_cmp_total).symm k q)
 
+-- a key below another passes the test of it
 less : (k q : ℕ) → nat_cmp k q ≡ Less → T (is_lt (nat_cmp k q))
 less k q e = rw e tt
 
+-- two tests that hold, together
 both : (a b : Bool) → T a → T b → T (a && b)
 both true b p q = q
 both false b p q = p
@@ -31,28 +33,35 @@ module _ {X : Type 0} where
   abbrev pub finite : BTreeMap ℕ X → finmap.FinMap nat_cmp X
   finite m = finmap.from_entries m.entries
 
+  -- a look-up in a list of entries, in the words of both
   lookup-find : (q : ℕ) (es : List (ℕ × X)) → lookup (tree.is_at (nat_cmp q)) es ≡ finmap.find nat_cmp q es
   lookup-find q [] = refl
   lookup-find q (e ∷ es) = ap (cond (eq_by_cmp nat_cmp q e.0) (Some e.1)) (lookup-find q es)
 
+  -- a look-up in the map
   pub get-finite : (m : BTreeMap ℕ X) (q : ℕ) → finmap.get (finite m) q ≡ tree.get nat_cmp m q
   get-finite m q = finmap.get-from_entries nat_cmp_total m.entries q ∙ sym (lookup-find q m.entries)
 
+  -- equal look-ups make equal maps
   same_finite : (m : BTreeMap ℕ X) (n : finmap.FinMap nat_cmp X) → ((q : ℕ) → tree.get nat_cmp m q ≡ finmap.get n q) → finite m ≡ n
   same_finite m n same = finmap.same_map nat_cmp_total finmap.nat_cmp-IsAntisymmetric (finite m) n (λ q. get-finite m q ∙ same q)
 
+  -- an insertion
   pub finite-insert : (m n : BTreeMap ℕ X) (k : ℕ) (v : X) → tree.Updates nat_cmp m n k (Some v) → finite n ≡ finmap.insert (finite m) k v
   finite-insert m n k v updates =
       same_finite n _ (λ q. updates.0 q ∙ turned k q _ _ ∙ sym (finmap.get-insert nat_cmp_total (finite m) k v q ∙ ap (cond (eq_by_cmp nat_cmp q k) (Some v)) (get-finite m q)))
 
+  -- a removal
   pub finite-remove : (m n : BTreeMap ℕ X) (k : ℕ) → tree.Updates nat_cmp m n k None → finite n ≡ finmap.remove (finite m) k
   finite-remove m n k updates =
       same_finite n _ (λ q. updates.0 q ∙ turned k q _ _ ∙ sym (finmap.get-remove nat_cmp_total (finite m) k q ∙ ap (cond (eq_by_cmp nat_cmp q k) None) (get-finite m q)))
 
+  -- keys in order, by the test that finite maps have for it
   below_all_from : (k : ℕ) (es : List (ℕ × X)) → AllByRecursion (λ y. nat_cmp k y ≡ Less) (keys_of es) → T (below_all nat_cmp k es)
   below_all_from k [] h = tt
   below_all_from k (e ∷ es) h = both _ _ (less k e.0 h.0) (below_all_from k es h.1)
 
+  -- entries in order, by that test
   is_sorted_from : (es : List (ℕ × X)) → IsStrictlySortedBy nat_cmp (keys_of es) → T (finmap.is_sorted nat_cmp es)
   is_sorted_from [] h = tt
   is_sorted_from (e ∷ es) h = both _ _ (below_all_from e.0 es (sorted_head nat_cmp e.0 (keys_of es) h)) (is_sorted_from es (sorted_tail nat_cmp e.0 (keys_of es) h))
@@ -66,6 +75,7 @@ module _ {X : Type 0} where
       (λ q. finmap.get-from_entries nat_cmp_total m.entries q ∙ sym (finmap.get-from_sorted nat_cmp m.entries q sorted)) in
       ap finmap.entries same ∙ finmap.entries-from_sorted nat_cmp m.entries sorted
 
+  -- two tests that agree on each entry agree on all
   along : (p : ℕ × X → Bool) (q : ℕ → Bool) (es : List (ℕ × X)) → All (λ e. q e.0 ≡ p e) es → list_all (λ e. q e.0) es ≡ list_all p es
   along p q [] h = refl
   along p q (e ∷ es) h = ap₂ (λ a b. a && b) (All-head (λ x. q x.0 ≡ p x) e es h) (along p q es (All-tail (λ x. q x.0 ≡ p x) e es h))

@@ -10,10 +10,12 @@ use Rattle.lrat_rules.specs.Addition.{is_settled}
 use Rattle.lrat_checker.specs.Walk.{settles}
 use Rattle.lrat_checker.proofs.TreeMaps.{finite, list_all-keys}
 
+-- what is asked of a live clause's number is asked of the clause
 settled_at : (live : Live) (n : FalseSet) (pivot : ℤ) (groups : List Group) (id : ℕ) (clause : List ℤ) → clause_at live id ≡ Some clause
     → is_settled live n pivot groups id ≡ settles n pivot groups id clause
 settled_at live n pivot groups id clause e = rw e refl
 
+-- the walk over the map's entries asks it of all numbers
 pub walk_settles : (clauses : BTreeMap ℕ (List ℤ)) → tree.IsOrdered nat_cmp clauses → (n : FalseSet) (pivot : ℤ) (groups : List Group)
     → list_all (is_settled (finite clauses) n pivot groups) (finmap.keys (finite clauses)) ≡ list_all (λ entry. settles n pivot groups entry.0 entry.1) clauses.entries
 walk_settles clauses ordered n pivot groups =

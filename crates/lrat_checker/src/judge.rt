@@ -22,8 +22,7 @@ pub struct Judge {
 }
 
 impl Model for Judge {
-    ghost use Rattle.lrat_rules.specs.State.{State};
-    ghost use Rattle.lrat_checker.specs.Coding.{state_code};
+    ghost use Rattle.lrat_rules.specs.State.{State, state_code};
 
     ghost Value = { State };
 

@@ -11,3 +11,6 @@ mod judge;
 mod live;
 
 pub use judge::Judge;
+
+#[cfg(test)]
+mod tests;
