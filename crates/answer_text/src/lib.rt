@@ -4,6 +4,8 @@
 
 mod model;
 mod status;
+#[cfg(test)]
+mod tests;
 
 pub use model::write_model;
 pub use status::{
