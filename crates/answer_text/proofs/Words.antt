@@ -5,30 +5,19 @@ use Rattle.std.proofs.lemmas.List.{drop_all}
 use Rattle.answer_text.specs.Model.{literal, words_from, has_room, separator, width_behind, wrapped}
 use Rattle.answer_text.specs.Status.{unknown_line}
 
-pub room : (width : ℕ) (word : List ℕ) → width + 1 + length word ≤ 78 → has_room width word ≡ true
+-- whether the line has room
+room : (width : ℕ) (word : List ℕ) → width + 1 + length word ≤ 78 → has_room width word ≡ true
 room width word fits = search rules
 
-pub no_room : (width : ℕ) (word : List ℕ) → 78 < width + 1 + length word → has_room width word ≡ false
+no_room : (width : ℕ) (word : List ℕ) → 78 < width + 1 + length word → has_room width word ≡ false
 no_room width word long = search rules
 
+-- the word behind what stands before it
 pub space_before : (width : ℕ) (word : List ℕ) → width + 1 + length word ≤ 78 → separator width word ++ word ≡ codes " " ++ word
 space_before width word fits = rw (room width word fits) refl
 
 pub line_before : (width : ℕ) (word : List ℕ) → 78 < width + 1 + length word → separator width word ++ word ≡ codes "\nv " ++ word
 line_before width word long = rw (no_room width word long) refl
-
-pub width_on : (width : ℕ) (word : List ℕ) → width + 1 + length word ≤ 78 → width_behind width word ≡ width + 1 + length word
-width_on width word fits = rw (room width word fits) refl
-
-pub width_anew : (width : ℕ) (word : List ℕ) → 78 < width + 1 + length word → width_behind width word ≡ 2 + length word
-width_anew width word long = rw (no_room width word long) refl
-
--- a true variable, and a false one
-pub is_literal_true : (variable : ℕ) (value : Bool) (digits : List ℕ) → value ≡ true → digits ≡ decimal variable → digits ≡ literal variable value
-is_literal_true variable value digits is e = e ∙ sym (ap (literal variable) is)
-
-pub is_literal_false : (variable : ℕ) (value : Bool) (digits : List ℕ) → value ≡ false → digits ≡ decimal variable → codes "-" ++ digits ≡ literal variable value
-is_literal_false variable value digits is e = ap (λ (l : List ℕ). codes "-" ++ l) e ∙ sym (ap (literal variable) is)
 
 rest_of : (i : ℕ) (values : List Bool) (d : Bool) → i < length values → drop i values ≡ get_or values i d ∷ drop (i + 1) values
 rest_of i values d below = drop-cons values i d below ∙ ap (λ (n : ℕ). get_or values i d ∷ drop n values) (sym (add-one i))
