@@ -105,10 +105,7 @@ impl<S: Sink + Drop> Ledger<S> {
         let id = Id(self.live.top());
         match write_add(&mut self.sink, id, clause, hints) {
             Ok(()) => Ok(id),
-            Err(_) => {
-                self.in_step = false;
-                Err(LedgerError::WriteFault)
-            }
+            Err(_) => Err(self.fault()),
         }
     }
 
@@ -151,16 +148,24 @@ impl<S: Sink + Drop> Ledger<S> {
         ensures unflushed { OnErr result ((S.channel self.new.sink).flushed ≡ (S.channel self.old.sink).flushed) }
         ensures write_fault { IfErr result (λ e. (e ≡ LedgerError.WriteFault) × Rose (S.channel self.old.sink).faults (S.channel self.new.sink).faults) }
         ensures counts { (S.channel self.old.sink).faults ≤ (S.channel self.new.sink).faults }
+        ensures taken { (S.channel self.new.sink).taken ≡ (S.channel self.old.sink).taken }
+        ensures left { (S.channel self.new.sink).left ≡ (S.channel self.old.sink).left }
         ensures name { (S.channel self.new.sink).name ≡ (S.channel self.old.sink).name }
         ensures beside { S.beside self.new.sink ≡ S.beside self.old.sink }
     {
         match self.sink.flush() {
             Ok(()) => Ok(()),
-            Err(_) => {
-                self.in_step = false;
-                Err(LedgerError::WriteFault)
-            }
+            Err(_) => Err(self.fault()),
         }
+    }
+
+    // Remembers that a call of the sink failed.
+    fn fault(&mut self) -> LedgerError
+        ensures error { result ≡ LedgerError.WriteFault }
+        ensures state { self.new ≡ record self.old { in_step = false } }
+    {
+        self.in_step = false;
+        LedgerError::WriteFault
     }
 
     /// Hands the sink back.

@@ -43,4 +43,5 @@ returns-in-Err-clause-cut g c =
     let front = c.in-Err.ensures.writes.failed t refl in
     next_cut state c.args.clause.now c.args.hints.now proof t good printable front.0 (g.S.Sink.channel c.write_add.new.sink).written
     (front.1 ∙ ap (λ (n : ℕ). (g.S.Sink.channel c.self.inside.sink).written ++ take front.0 (line_of_step (Add n c.args.clause.now c.args.hints.now []))) id)) in
-    λ clauses proof t _. cut clauses proof t
+    λ clauses proof t _.
+    subst (λ (b : Book _). IsCutProof clauses (g.S.Sink.channel b.sink).written) (sym c.fault.ensures.state) (cut clauses proof t)
