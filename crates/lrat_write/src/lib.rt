@@ -8,4 +8,4 @@ mod line;
 #[cfg(test)]
 mod tests;
 
-pub use line::write_add;
+pub use line::{write_add, write_define};

@@ -4,7 +4,7 @@ ghost use Rattle.std.specs.Prelude.{◌≡◌, ◌<◌, ◌≤◌, [], true, Non
 ghost use Rattle.host_io.specs.Channel.{Channel};
 ghost use Rattle.host_io.specs.Beside.{Beside};
 
-use crate::write_add;
+use crate::{write_add, write_define};
 use cnf_base::{Id, Lit};
 use host_io::{Failed, Sink};
 use std::alloc::Global;
@@ -92,6 +92,35 @@ fn additions(rt: HostRuntime) -> Result<(), Fail> {
         for piece in [1, 1000] {
             let mut sink = PieceSink::new(rt.alloc(), piece, 1000);
             write_add(&mut sink, Id(id), &clause, &hints)?;
+            assert_eq!(rt; sink.bytes.as_slice(), line.as_bytes(), "{line}");
+        }
+    }
+    Ok(())
+}
+
+/// Lines of definitions, in pieces of one byte and whole.
+#[test]
+fn definitions(rt: HostRuntime) -> Result<(), Fail> {
+    let lines: [(u64, &[i32], &[Id], &str); 3] = [
+        (2, &[3, -2], &[], "2 3 -2 0 0\n"),
+        (6, &[-4, 1, 3], &[Id(4), Id(5)], "6 -4 1 3 0 -4 -5 0\n"),
+        (
+            8,
+            &[1],
+            &[Id(999999999999999999)],
+            "8 1 0 -999999999999999999 0\n",
+        ),
+    ];
+    for (id, clause, candidates, line) in lines {
+        let clause = literals(rt.alloc(), clause)?;
+        assert!(rt;
+            candidates
+                .iter()
+                .all(|id| id.get() > 0 && id.get() <= 999999999999999999)
+        );
+        for piece in [1, 1000] {
+            let mut sink = PieceSink::new(rt.alloc(), piece, 1000);
+            write_define(&mut sink, Id(id), &clause, candidates)?;
             assert_eq!(rt; sink.bytes.as_slice(), line.as_bytes(), "{line}");
         }
     }
