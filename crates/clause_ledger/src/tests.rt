@@ -6,7 +6,7 @@ ghost use Rattle.lrat_rules.specs.State.{start};
 use crate::{Ledger, LedgerError};
 use cnf_base::{Cnf, CnfBuilder, Id, Lit, OutOfMemory};
 use host_io::{Failed, Host, HostSink, MemoryHost, Role, Sink};
-use lrat_rules::{conflict_law, start_law};
+use lrat_rules::{conflict_law, live_law, start_law};
 use std::alloc::Global;
 use std::process::Abort;
 use std::test::Fail;
@@ -207,6 +207,35 @@ fn limits_and_faults(rt: HostRuntime) -> Result<(), Fail> {
         let outcome = run(rt.alloc(), &formula, max_ids, calls)?;
         assert_eq!(rt; outcome, expected, "{max_ids} {calls}");
     }
+    Ok(())
+}
+
+fn literal(number: i32) -> Result<Lit, Fail>
+    ensures { IfOk result (λ literal. literal ≡ number) }
+{
+    Ok(Lit::new(number).ok_or("no literal")?)
+}
+
+/// A definition without candidates, and one whose candidate it is.
+#[test]
+fn definitions(rt: HostRuntime) -> Result<(), Fail> {
+    start_law();
+    live_law();
+    let x2 = literal(2)?;
+    let x3 = literal(3)?;
+    let formula = empty_clause(rt.alloc())?;
+    let sink = FailingSink::new(rt.alloc(), 2);
+    let mut ledger = open(rt.alloc(), &formula, sink, 3)?;
+    let first = ledger.define(&[x3, x2.negated()], &[])?;
+    let second = ledger.define(&[x3.negated(), x2], &[Id(2)])?;
+    assert_eq!(rt; (first, second), (Id(2), Id(3)));
+    assert_eq!(rt; ledger.clause(Id(2)), Some(&[x3, x2.negated()][..]));
+    assert_eq!(rt; (ledger.last_id(), ledger.ids_left()), (3, 0));
+    let sink = ledger.close();
+    assert_eq!(rt;
+        sink.bytes.as_slice(),
+        b"2 3 -2 0 0\n3 -3 2 0 -2 0\n".as_slice()
+    );
     Ok(())
 }
 

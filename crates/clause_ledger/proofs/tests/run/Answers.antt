@@ -1,5 +1,5 @@
 use Rattle.std.proofs.Common.{[], ◌∷◌, ap, ◌∙◌, arith}
-use Rattle.lrat_rules.specs.State.{State, start, clause_at}
+use Rattle.lrat_rules.specs.State.{start, clause_at}
 use Rattle.clause_ledger.specs.Book.{Book}
 use Rattle.clause_ledger.proofs.tests.run.Goals as goal
 
