@@ -1,19 +1,25 @@
 -- One good line more keeps the proof, and the front of one leaves a proof that was cut short.
-use Rattle.std.proofs.Common.{◌≡◌, ℕ, ◌+◌, ◌<◌, ◌≤◌, Bool, true, ◌&&◌, ℤ, List, [], ◌∷◌, ◌++◌, take, drop, Some, None, inl, inr, refl, sym, ◌∙◌, ap, arith}
-use Rattle.std.proofs.lemmas.Bool.{and_parts, and_from, lt-ltb, le-leb, ne_eqb, cases_eq}
+use Rattle.std.proofs.Common.{◌≡◌, ℕ, ◌+◌, ◌≤◌, Bool, true, ◌&&◌, ℤ, List, [], ◌∷◌, ◌++◌, take, drop, Option, Some, None, inl, inr, refl, sym, ◌∙◌, ap, subst, arith, eq-eqb}
+use Rattle.std.proofs.lemmas.Bool.{and_parts, and_from, or_left, or_right, lt-ltb, le-leb, ne_eqb, cases_eq}
 use Rattle.std.proofs.lemmas.List.{take-append-drop}
 use Rattle.std.specs.Prelude.{IsTrue, is_some, nat_lt, nat_le, if◌then◌else◌, ◌==◌}
-use Rattle.std.specs.List.{list_all}
+use Rattle.std.specs.List.{list_any, list_all}
+use Rattle.cnf_base.specs.declared.list.Group.{Group}
+use Rattle.cnf_base.specs.declared.step.Step.{Step}
 use Rattle.cnf_base.specs.declared.step.Step.TheVariants.{Add}
 use Rattle.cnf_base.specs.Truth.{is_literal_of}
-use Rattle.cnf_base.specs.ProofText.{max_id, max_literal, is_id, is_printable}
+use Rattle.cnf_base.specs.ProofText.{max_id, max_literal, is_id, is_group, is_printable, line_of_step}
 use Rattle.host_io.specs.Channel.{Channel}
 use Rattle.lrat_rules.specs.State.{State, Live, clause_at, with_clause}
-use Rattle.lrat_rules.specs.Run.{Spells, IsCutProof, step_fault}
-use Rattle.clause_ledger.specs.Book.{IsProofOf, next_line, with_next}
+use Rattle.lrat_rules.specs.Addition.{holds_negated, if_live, is_candidate, fault}
+use Rattle.lrat_rules.specs.Strict.{IsDefinition}
+use Rattle.lrat_rules.specs.Run.{Spells, IsCutProof, step_fault, after_step}
+use Rattle.lrat_write.specs.Emitted.{bare_groups}
+use Rattle.clause_ledger.specs.Book.{IsProofOf, with_next}
+use Rattle.clause_ledger.proofs.Rows.{AreNumbers}
 
 -- live numbers are in range
-pub ids_in_range : (live : Live) (top : ℕ) → ((id : ℕ) (clause : List ℤ) → clause_at live id ≡ Some clause → (0 < id) × (id ≤ top)) → top ≤ max_id
+ids_in_range : (live : Live) (top : ℕ) → AreNumbers live top → top ≤ max_id
     → (ids : List ℕ) → list_all (λ id. is_some (clause_at live id)) ids ≡ true → list_all is_id ids ≡ true
 ids_in_range live top numbers small [] h = refl
 ids_in_range live top numbers small (id ∷ ids) h =
@@ -25,14 +31,49 @@ ids_in_range live top numbers small (id ∷ ids) h =
     ] refl parts.0 in
     and_from (is_id id) (list_all is_id ids) here (ids_in_range live top numbers small ids parts.1)
 
+-- the candidates of a definition are live
+is_some-candidate : (pivot : ℤ) (o : Option (List ℤ)) → if_live (holds_negated pivot) o ≡ true → is_some o ≡ true
+is_some-candidate pivot None h = cc
+is_some-candidate pivot (Some clause) h = refl
+
+all_candidates_live : (live : Live) (pivot : ℤ) (candidates : List ℕ) → ((id : ℕ) → list_any (λ candidate. candidate == id) candidates ≡ true → is_candidate live pivot id ≡ true)
+    → list_all (λ id. is_some (clause_at live id)) candidates ≡ true
+all_candidates_live live pivot [] each = refl
+all_candidates_live live pivot (candidate ∷ candidates) each =
+    and_from (is_some (clause_at live candidate)) (list_all (λ id. is_some (clause_at live id)) candidates)
+    (is_some-candidate pivot (clause_at live candidate) (each candidate (or_left _ _ (eq-eqb candidate candidate refl))))
+    (all_candidates_live live pivot candidates (λ id h. each id (or_right _ _ h)))
+
+pub candidates_in_range : (live : Live) (top : ℕ) → AreNumbers live top → top ≤ max_id
+    → (clause : List ℤ) (candidates : List ℕ) → IsDefinition live clause candidates → list_all is_id candidates ≡ true
+candidates_in_range live top numbers small clause candidates definition =
+    ids_in_range live top numbers small candidates (all_candidates_live live definition.pivot candidates (λ id h. definition.named id ∙ h))
+
+-- so are the groups of candidates that want no hints
+bare_groups_in_range : (candidates : List ℕ) → list_all is_id candidates ≡ true → list_all is_group (bare_groups candidates) ≡ true
+bare_groups_in_range [] h = refl
+bare_groups_in_range (candidate ∷ candidates) h =
+    let parts = and_parts (is_id candidate) (list_all is_id candidates) h in
+    and_from (is_id candidate && true) (list_all is_group (bare_groups candidates)) (and_from (is_id candidate) true parts.0 refl) (bare_groups_in_range candidates parts.1)
+
 -- the line under the next number can be read again
-pub next_printable : {clauses : List (List ℤ)} {tells : Bool} {channel : Channel} (state : State) (clause : List ℤ) (hints : List ℕ) → IsProofOf clauses tells channel state → state.top + 1 ≤ max_id
-    → list_all (is_literal_of max_literal) clause ≡ true → list_all (λ id. is_some (clause_at state.live id)) hints ≡ true → is_printable (Add (state.top + 1) clause hints []) ≡ true
-next_printable state clause hints proof small literals live =
-    let number : is_id (state.top + 1) ≡ true = and_from (nat_lt 0 (state.top + 1)) (nat_le (state.top + 1) max_id) (lt-ltb 0 (state.top + 1) (omega arith)) (le-leb (state.top + 1) max_id small) in
-    let ids = ids_in_range state.live state.top proof.numbers (omega arith) hints live in
-    and_from (is_id (state.top + 1) && list_all (is_literal_of max_literal) clause && list_all is_id hints) true
-    (and_from (is_id (state.top + 1) && list_all (is_literal_of max_literal) clause) (list_all is_id hints) (and_from (is_id (state.top + 1)) (list_all (is_literal_of max_literal) clause) number literals) ids) refl
+next_printable : (top : ℕ) (clause : List ℤ) (hints : List ℕ) (groups : List Group) → top + 1 ≤ max_id → list_all (is_literal_of max_literal) clause ≡ true
+    → list_all is_id hints ≡ true → list_all is_group groups ≡ true → is_printable (Add (top + 1) clause hints groups) ≡ true
+next_printable top clause hints groups small literals ids all_groups =
+    let number : is_id (top + 1) ≡ true = and_from (nat_lt 0 (top + 1)) (nat_le (top + 1) max_id) (lt-ltb 0 (top + 1) (omega arith)) (le-leb (top + 1) max_id small) in
+    let front : (is_id (top + 1) && list_all (is_literal_of max_literal) clause) ≡ true = and_from (is_id (top + 1)) (list_all (is_literal_of max_literal) clause) number literals in
+    and_from (is_id (top + 1) && list_all (is_literal_of max_literal) clause && list_all is_id hints) (list_all is_group groups)
+    (and_from (is_id (top + 1) && list_all (is_literal_of max_literal) clause) (list_all is_id hints) front ids) all_groups
+
+pub hints_printable : (live : Live) (top : ℕ) → AreNumbers live top → top + 1 ≤ max_id → (clause : List ℤ) → list_all (is_literal_of max_literal) clause ≡ true
+    → (hints : List ℕ) → list_all (λ id. is_some (clause_at live id)) hints ≡ true → is_printable (Add (top + 1) clause hints []) ≡ true
+hints_printable live top numbers small clause literals hints all_live =
+    next_printable top clause hints [] small literals (ids_in_range live top numbers (omega arith) hints all_live) refl
+
+pub candidates_printable : (live : Live) (top : ℕ) → AreNumbers live top → top + 1 ≤ max_id → (clause : List ℤ) → list_all (is_literal_of max_literal) clause ≡ true
+    → (candidates : List ℕ) → IsDefinition live clause candidates → is_printable (Add (top + 1) clause [] (bare_groups candidates)) ≡ true
+candidates_printable live top numbers small clause literals candidates definition =
+    next_printable top clause [] (bare_groups candidates) small literals refl (bare_groups_in_range candidates (candidates_in_range live top numbers (omega arith) clause candidates definition))
 
 -- what stands under a number once a clause was put under one
 abbrev pub LiveLaw : Type 0
@@ -54,21 +95,34 @@ next_kept {clauses = clauses} state clause law proof spelled = record {
   from_formula = omega (arith, proof.from_formula);
 }
 
--- a front of the line of a good step
-pub next_cut : {clauses : List (List ℤ)} {tells : Bool} {before : Channel} (state : State) (clause : List ℤ) (hints : List ℕ) → IsProofOf clauses tells before state → IsTrue tells
-    → step_fault state (Add (state.top + 1) clause hints []) ≡ None → is_printable (Add (state.top + 1) clause hints []) ≡ true
-    → (n : ℕ) (written : List ℕ) → written ≡ before.written ++ take n (next_line state clause hints) → IsCutProof clauses written
-next_cut {before = before} state clause hints proof t good printable n written is = record {
-  whole = before.written;
-  cut = take n (next_line state clause hints);
-  parts = is;
-  state = state;
-  spelled = proof.spelled t;
-  line = record {
-    step = Add (state.top + 1) clause hints [];
-    good = good;
-    printable = printable;
-    rest = drop n (next_line state clause hints);
-    line = sym (take-append-drop n (next_line state clause hints));
-  };
-}
+-- the line of a good step on a text of good steps leads one step on
+abbrev pub SpellsLaw : Type 0
+SpellsLaw = (clauses : List (List ℤ)) (bytes : List ℕ) (state : State) (step : Step) → Spells clauses bytes state → step_fault state step ≡ None → IsTrue (is_printable step)
+    → Spells clauses (bytes ++ line_of_step step) (after_step state step)
+
+module _ (state : State) (clause : List ℤ) (hints : List ℕ) (groups : List Group) (good : fault state (state.top + 1) clause hints groups ≡ None)
+    (printable : is_printable (Add (state.top + 1) clause hints groups) ≡ true) where
+  -- the whole line of a good addition under the next number
+  pub addition_kept : LiveLaw → SpellsLaw → {clauses : List (List ℤ)} {tells : Bool} {before after : Channel} → IsProofOf clauses tells before state
+      → (IsTrue tells → after.written ≡ before.written ++ line_of_step (Add (state.top + 1) clause hints groups)) → IsProofOf clauses tells after (with_next state clause)
+  addition_kept law spells {clauses = clauses} {before = before} proof wrote =
+      next_kept state clause law proof (λ t. subst (λ (bytes : List ℕ). Spells clauses bytes (with_next state clause)) (sym (wrote t))
+      (spells clauses before.written state (Add (state.top + 1) clause hints groups) (proof.spelled t) good printable))
+
+  -- a front of it
+  pub addition_cut : {clauses : List (List ℤ)} {tells : Bool} {before : Channel} → IsProofOf clauses tells before state → IsTrue tells
+      → (n : ℕ) (written : List ℕ) → written ≡ before.written ++ take n (line_of_step (Add (state.top + 1) clause hints groups)) → IsCutProof clauses written
+  addition_cut {before = before} proof t n written is = record {
+    whole = before.written;
+    cut = take n (line_of_step (Add (state.top + 1) clause hints groups));
+    parts = is;
+    state = state;
+    spelled = proof.spelled t;
+    line = record {
+      step = Add (state.top + 1) clause hints groups;
+      good = good;
+      printable = printable;
+      rest = drop n (line_of_step (Add (state.top + 1) clause hints groups));
+      line = sym (take-append-drop n (line_of_step (Add (state.top + 1) clause hints groups)));
+    };
+  }

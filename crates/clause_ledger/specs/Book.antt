@@ -6,6 +6,7 @@ use Rattle.cnf_base.specs.ProofText.{line_of_step}
 use Rattle.host_io.specs.Channel.{Channel, Rose}
 use Rattle.lrat_rules.specs.State.{State, state_code, clause_at, with_clause}
 use Rattle.lrat_rules.specs.Run.{Spells}
+use Rattle.lrat_write.specs.Emitted.{bare_groups}
 
 -- its sink, its live clauses with the greatest number, the greatest number allowed, and whether no write failed yet
 pub record Book (S : Type 0) : Type 0 where
@@ -44,6 +45,10 @@ pub record IsTorn (tells : Bool) (before after : Channel) (line : List ℕ) : Ty
 -- the line of an addition under the next number
 abbrev pub next_line : State → List ℤ → List ℕ → List ℕ
 next_line state clause hints = line_of_step (Add (state.top + 1) clause hints [])
+
+-- the line of a definition under the next number
+abbrev pub definition_line : State → List ℤ → List ℕ → List ℕ
+definition_line state clause candidates = line_of_step (Add (state.top + 1) clause [] (bare_groups candidates))
 
 -- one clause more, under the next number
 abbrev pub with_next : State → List ℤ → State

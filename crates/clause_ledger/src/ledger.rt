@@ -1,19 +1,19 @@
 // The ledger: live clauses, and the lines that made them.
-ghost use Rattle.std.specs.Prelude.{◌≡◌, ◌≤◌, ◌+◌, ◌-◌, ◌++◌, ◌↔◌, ℤ, List, [], true, false, IsTrue, OnOk, IfOk, IfErr, IsErrOf, OnErr, is_ok, length};
+ghost use Rattle.std.specs.Prelude.{◌≡◌, ◌≢◌, ◌<◌, ◌≤◌, ◌+◌, ◌-◌, ◌++◌, ◌↔◌, ℕ, ℤ, List, [], Some, true, false, IsTrue, OnOk, IfOk, IfErr, IsErrOf, OnErr, is_ok, length};
 ghost use Rattle.std.specs.Option.{option_copied};
 ghost use Rattle.cnf_base.specs.ProofText.{max_id};
 ghost use Rattle.host_io.specs.Channel.{Rose, Flushes};
 ghost use Rattle.lrat_rules.specs.State.{start, clause_at};
-ghost use Rattle.lrat_rules.specs.Strict.{RefutesStrictly};
+ghost use Rattle.lrat_rules.specs.Strict.{RefutesStrictly, IsDefinition};
 ghost use Rattle.lrat_rules.specs.Run.{IsCutProof};
-ghost use Rattle.clause_ledger.specs.Book.{IsProofOf, OnlyWrites, IsTorn, next_line, with_next};
+ghost use Rattle.clause_ledger.specs.Book.{IsProofOf, OnlyWrites, IsTorn, next_line, definition_line, with_next};
 
 use crate::error::LedgerError;
 use crate::live::LiveClauses;
 use cnf_base::{Cnf, Id, Lit, OutOfMemory, literals_in_range};
 use host_io::Sink;
-use lrat_rules::{live_law, one_more_step_law, start_law, strict_addition_law};
-use lrat_write::write_add;
+use lrat_rules::{definition_law, live_law, one_more_step_law, start_law, strict_addition_law};
+use lrat_write::{write_add, write_define};
 use std::alloc::Global;
 use std::marker::Model;
 
@@ -107,17 +107,46 @@ impl<S: Sink + Drop> Ledger<S> {
         strict_addition_law();
         live_law();
         literals_in_range(clause);
-        if self.live.top() >= self.max_ids {
-            return Err(LedgerError::IdLimit);
-        }
-        self.live.push(clause)?;
-        let id = Id(self.live.top());
+        let id = self.keep(clause)?;
         match write_add(&mut self.sink, id, clause, hints) {
             Ok(()) => Ok(id),
-            Err(_) => {
-                self.in_step = false;
-                Err(LedgerError::WriteFault)
-            }
+            Err(_) => Err(self.fault()),
+        }
+    }
+
+    /// Adds a clause under the next number by its first literal: each live clause that holds its negation is named as
+    /// a candidate, and blocked. Answers and failures are those of `add`.
+    pub fn define(&mut self, clause: &[Lit], candidates: &[Id]) -> Result<Id, LedgerError>
+        requires in_step { IsTrue self.old.in_step }
+        requires definition { IsDefinition self.old.state.live clause.now candidates.now }
+        ensures added { IfOk result (λ id. (id ≡ self.old.state.top + 1) × (self.new.state ≡ with_next self.old.state clause.now)) }
+        ensures line { IsTrue S.tells → OnOk result ((S.channel self.new.sink).written ≡ (S.channel self.old.sink).written ++ definition_line self.old.state clause.now candidates.now) }
+        ensures kept { (clauses : List (List ℤ)) → IsProofOf clauses S.tells (S.channel self.old.sink) self.old.state
+            → OnOk result (IsProofOf clauses S.tells (S.channel self.new.sink) self.new.state) }
+        ensures in_step { OnOk result (IsTrue self.new.in_step) }
+        ensures limit { self.new.limit ≡ self.old.limit }
+
+        ensures id_limit { IsErrOf result LedgerError.IdLimit ↔ (self.old.limit ≤ self.old.state.top) }
+        ensures limit_unchanged { IsErrOf result LedgerError.IdLimit → self.new ≡ self.old }
+        ensures memory_unchanged { IsErrOf result LedgerError.OutOfMemory → self.new ≡ self.old }
+
+        ensures write_fault { IsErrOf result LedgerError.WriteFault
+            → IsTorn S.tells (S.channel self.old.sink) (S.channel self.new.sink) (definition_line self.old.state clause.now candidates.now) }
+        ensures out_of_step { IsErrOf result LedgerError.WriteFault → self.new.in_step ≡ false }
+        ensures cut { (clauses : List (List ℤ)) → IsProofOf clauses S.tells (S.channel self.old.sink) self.old.state → IsTrue S.tells
+            → IsErrOf result LedgerError.WriteFault → IsCutProof clauses (S.channel self.new.sink).written }
+
+        ensures only_writes { OnlyWrites (S.channel self.old.sink) (S.channel self.new.sink) }
+        ensures beside { S.beside self.new.sink ≡ S.beside self.old.sink }
+    {
+        one_more_step_law();
+        definition_law();
+        live_law();
+        literals_in_range(clause);
+        let id = self.keep(clause)?;
+        match write_define(&mut self.sink, id, clause, candidates) {
+            Ok(()) => Ok(id),
+            Err(_) => Err(self.fault()),
         }
     }
 
@@ -160,16 +189,41 @@ impl<S: Sink + Drop> Ledger<S> {
         ensures unflushed { OnErr result ((S.channel self.new.sink).flushed ≡ (S.channel self.old.sink).flushed) }
         ensures write_fault { IfErr result (λ e. (e ≡ LedgerError.WriteFault) × Rose (S.channel self.old.sink).faults (S.channel self.new.sink).faults) }
         ensures counts { (S.channel self.old.sink).faults ≤ (S.channel self.new.sink).faults }
+        ensures taken { (S.channel self.new.sink).taken ≡ (S.channel self.old.sink).taken }
+        ensures left { (S.channel self.new.sink).left ≡ (S.channel self.old.sink).left }
         ensures name { (S.channel self.new.sink).name ≡ (S.channel self.old.sink).name }
         ensures beside { S.beside self.new.sink ≡ S.beside self.old.sink }
     {
         match self.sink.flush() {
             Ok(()) => Ok(()),
-            Err(_) => {
-                self.in_step = false;
-                Err(LedgerError::WriteFault)
-            }
+            Err(_) => Err(self.fault()),
         }
+    }
+
+    // Keeps a clause under the next number, before its line is written.
+    fn keep(&mut self, clause: &[Lit]) -> Result<Id, LedgerError>
+        ensures kept { IfOk result (λ id. (id ≡ self.old.state.top + 1) × (self.new ≡ record self.old { state = with_next self.old.state clause.now })) }
+        ensures id_limit { IsErrOf result LedgerError.IdLimit ↔ (self.old.limit ≤ self.old.state.top) }
+        ensures refused { IfErr result (λ e. e ≢ LedgerError.WriteFault) }
+        ensures unchanged { OnErr result (self.new ≡ self.old) }
+        ensures next { OnOk result (self.old.state.top + 1 ≤ max_id) }
+        ensures numbers { (id : ℕ) (clause : List ℤ) → clause_at self.old.state.live id ≡ Some clause → (0 < id) × (id ≤ self.old.state.top) }
+    {
+        let top = self.live.top();
+        if top >= self.max_ids {
+            return Err(LedgerError::IdLimit);
+        }
+        self.live.push(clause)?;
+        Ok(Id(top + 1))
+    }
+
+    // Remembers that a call of the sink failed.
+    fn fault(&mut self) -> LedgerError
+        ensures error { result ≡ LedgerError.WriteFault }
+        ensures state { self.new ≡ record self.old { in_step = false } }
+    {
+        self.in_step = false;
+        LedgerError::WriteFault
     }
 
     /// Hands the sink back.

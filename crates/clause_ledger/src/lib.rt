@@ -7,6 +7,8 @@
 mod error;
 mod ledger;
 mod live;
+#[cfg(test)]
+mod tests;
 
 pub use error::LedgerError;
 pub use ledger::{Ledger, start_clauses};

@@ -1,6 +1,6 @@
 // Live clauses by their numbers, which are consecutive, stored flat: one row of literals and one of the clauses'
 // ends, so that a clause costs no allocation. Place i of the ends is that of clause i + 1.
-ghost use Rattle.std.specs.Prelude.{◌≡◌, ◌+◌, ◌-◌, ◌<◌, ◌≤◌, [], None, OnOk, OnErr, ◌++◌, ◌∷◌, length, slice_range, slice_index};
+ghost use Rattle.std.specs.Prelude.{◌≡◌, ◌+◌, ◌-◌, ◌<◌, ◌≤◌, ℕ, ℤ, List, [], None, Some, OnOk, OnErr, ◌++◌, ◌∷◌, length, slice_range, slice_index};
 ghost use Rattle.std.specs.Option.{option_copied};
 ghost use Rattle.cnf_base.specs.Formula.{start_at};
 ghost use Rattle.clause_ledger.specs.Rows.{AreRows};
@@ -43,10 +43,12 @@ impl LiveClauses {
         }
     }
 
-    /// The greatest number.
+    /// The greatest number; live ones are from 1 up to it.
     pub fn top(&self) -> u64
-        ensures { result ≡ self.now.top }
+        ensures value { result ≡ self.now.top }
+        ensures numbers { (id : ℕ) (clause : List ℤ) → clause_at self.now.live id ≡ Some clause → (0 < id) × (id ≤ self.now.top) }
     {
+        start_law();
         self.ends.as_slice().len() as u64
     }
 

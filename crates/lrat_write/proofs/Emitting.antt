@@ -6,13 +6,14 @@ use Rattle.std.proofs.lemmas.Grind.{flat_map-append}
 use Rattle.std.specs.List.{flat_map}
 use Rattle.host_io.specs.Channel.{Channel, WritesAll}
 use Rattle.host_io.specs.declared.source.Failed.{Failed}
-use Rattle.std.specs.Prelude.{map, ℤ, pos, decimal}
+use Rattle.std.specs.Prelude.{zero, suc, map, ℤ, pos, neg_ℤ, decimal}
+use Rattle.std.proofs.lemmas.Bool.{and_parts}
 use Rattle.std.specs.Fmt.{signed_decimal}
-use Rattle.std.specs.List.{join_with_byte}
+use Rattle.std.specs.List.{join_with_byte, list_all}
 use Rattle.std.proofs.Math.Seq.{take-append_seam, take-append-add}
 use Rattle.cnf_base.specs.declared.step.Step.TheVariants.{Add}
-use Rattle.cnf_base.specs.ProofText.{line_of_step}
-use Rattle.lrat_write.specs.Emitted.{Emits, spaced, spaced_literal, spaced_id, add_line}
+use Rattle.cnf_base.specs.ProofText.{line_of_step, is_id, group_numbers}
+use Rattle.lrat_write.specs.Emitted.{Emits, literals_text, ids_text, line_text, bare_groups}
 
 -- no answer is both
 not_both : (r : Result (Unit {0}) Failed) → IsOk r → IsErr r → ⊥
@@ -128,24 +129,36 @@ pub flat_map-take-more : {X : Type 0} (f : X → List ℕ) (xs : List X) (i : �
 flat_map-take-more f xs i d lt =
     ap (flat_map f) (take_more xs i d lt) ∙ flat_map-append f (take i xs) (get_or xs i d ∷ []) ∙ ap (λ (l : List ℕ). flat_map f (take i xs) ++ l) (append-nil (f (get_or xs i d)))
 
-pub flat_map-split : {X : Type 0} (f : X → List ℕ) (xs : List X) (n : ℕ) (z : List ℕ) → flat_map f xs ++ z ≡ flat_map f (take n xs) ++ (flat_map f (drop n xs) ++ z)
-flat_map-split f xs n z =
-    ap (λ l. flat_map f l ++ z) (sym (take-append-drop n xs)) ∙ ap (λ (l : List ℕ). l ++ z) (flat_map-append f (take n xs) (drop n xs)) ∙ append_assoc (flat_map f (take n xs)) (flat_map f (drop n xs)) z
+pub flat_map-split : {X : Type 0} (f : X → List ℕ) (xs : List X) (n : ℕ) → flat_map f xs ≡ flat_map f (take n xs) ++ flat_map f (drop n xs)
+flat_map-split f xs n = ap (flat_map f) (sym (take-append-drop n xs)) ∙ flat_map-append f (take n xs) (drop n xs)
+
+-- the same bytes, written in another way
+pub same_text : {tells : Bool} {old new : Channel} {held after bytes text : List ℕ} {result : Result (Unit {0}) Failed} → Emits tells old new held after bytes result → bytes ≡ text
+    → Emits tells old new held after text result
+same_text {tells = tells} {old = old} {new = new} {held = held} {after = after} {result = result} x is = subst (λ (l : List ℕ). Emits tells old new held after l result) is x
 
 -- one more item of a list, and a failure at it
 pub one_more : {X : Type 0} {tells : Bool} {a b c : Channel} {held middle after piece : List ℕ} {result : Result (Unit {0}) Failed} (f : X → List ℕ) (xs : List X) (i : ℕ) (d : X) → i < length xs
     → Emits tells a b held middle (flat_map f (take i xs)) (Ok tt) → piece ≡ f (get_or xs i d) → Emits tells b c middle after piece result → Emits tells a c held after (flat_map f (take (i + 1) xs)) result
-one_more {tells = tells} {a = a} {c = c} {held = held} {after = after} {result = result} f xs i d lt x is y =
-    subst (λ (l : List ℕ). Emits tells a c held after l result) (ap (λ (l : List ℕ). flat_map f (take i xs) ++ l) is ∙ sym (flat_map-take-more f xs i d lt)) (in_turn x refl y)
+one_more f xs i d lt x is y = same_text (in_turn x refl y) (ap (λ (l : List ℕ). flat_map f (take i xs) ++ l) is ∙ sym (flat_map-take-more f xs i d lt))
 
-pub fails_at : {X : Type 0} {tells : Bool} {a b c : Channel} {held middle after piece : List ℕ} {result answer : Result (Unit {0}) Failed} (f : X → List ℕ) (xs : List X) (i : ℕ) (d : X) (z now : List ℕ) → i < length xs
+pub fails_at : {X : Type 0} {tells : Bool} {a b c : Channel} {held middle after piece : List ℕ} {result answer : Result (Unit {0}) Failed} (f : X → List ℕ) (xs : List X) (i : ℕ) (d : X) (now : List ℕ) → i < length xs
     → Emits tells a b held middle (flat_map f (take i xs)) (Ok tt) → piece ≡ f (get_or xs i d) → Emits tells b c middle after piece result → IsErr result → IsErr answer
-    → Emits tells a c held now (flat_map f xs ++ z) answer
-fails_at {answer = answer} f xs i d z now lt x is y err failed =
-    fails_within (one_more f xs i d lt x is y) err failed (flat_map f xs ++ z) (flat_map f (drop (i + 1) xs) ++ z) now (flat_map-split f xs (i + 1) z)
+    → Emits tells a c held now (flat_map f xs) answer
+fails_at f xs i d now lt x is y err failed = fails_within (one_more f xs i d lt x is y) err failed (flat_map f xs) (flat_map f (drop (i + 1) xs)) now (flat_map-split f xs (i + 1))
 
-pub four_parts : (a b c d : List ℕ) → ((a ++ b) ++ c) ++ d ≡ a ++ (b ++ (c ++ d))
-four_parts a b c d = simp append_assoc
+-- five parts of a line, from the second, the third and the fourth on
+pub from_second : (a b c d e : List ℕ) → (((a ++ b) ++ c) ++ d) ++ e ≡ a ++ (b ++ (c ++ (d ++ e)))
+from_second a b c d e = simp append_assoc
+
+pub from_third : (a b c d e : List ℕ) → (((a ++ b) ++ c) ++ d) ++ e ≡ (a ++ b) ++ (c ++ (d ++ e))
+from_third a b c d e = append_assoc ((a ++ b) ++ c) d e ∙ append_assoc (a ++ b) c (d ++ e)
+
+pub from_fourth : (a b c d e : List ℕ) → (((a ++ b) ++ c) ++ d) ++ e ≡ ((a ++ b) ++ c) ++ (d ++ e)
+from_fourth a b c d e = append_assoc ((a ++ b) ++ c) d e
+
+abbrev spaced : List ℕ → List ℕ
+spaced word = 32 ∷ word
 
 -- words in a row with a space between two are the first, and each further one behind a space
 join-spaced : (word : List ℕ) (words : List (List ℕ)) → join_with_byte 32 (word ∷ words) ≡ word ++ flat_map spaced words
@@ -156,29 +169,51 @@ flat_map-map : {X Y : Type 0} (f : Y → List ℕ) (g : X → Y) (xs : List X) �
 flat_map-map f g [] = refl
 flat_map-map f g (x ∷ xs) = ap (λ (l : List ℕ). f (g x) ++ l) (flat_map-map f g xs)
 
-pub add_line-is : (id : ℕ) (clause : List ℤ) (hints : List ℕ) → add_line id clause hints ≡ line_of_step (Add id clause hints [])
-add_line-is id clause hints =
+-- numbers behind a space are the words of a line
+line_text-words : (id : ℕ) (clause : List ℤ) (lead ids : List ℕ) (numbers : List ℤ) → flat_map spaced (map signed_decimal numbers) ≡ ids_text lead ids
+    → line_text id clause lead ids ≡ join_with_byte 32 (decimal id ∷ map signed_decimal clause ++ (48 ∷ []) ∷ map signed_decimal numbers ++ (48 ∷ []) ∷ []) ++ 10 ∷ []
+line_text-words id clause lead ids numbers is =
     let zero_word : List (List ℕ) = (48 ∷ []) ∷ [] in
-    let hint_words : map signed_decimal (map pos hints ++ []) ≡ map signed_decimal (map pos hints) = ap (map signed_decimal) (append-nil (map pos hints)) in
-    let clause_text : flat_map spaced (map signed_decimal clause) ≡ flat_map spaced_literal clause = flat_map-map spaced signed_decimal clause in
-    let hint_text : flat_map spaced (map signed_decimal (map pos hints)) ≡ flat_map spaced_id hints =
-    flat_map-map spaced signed_decimal (map pos hints) ∙ flat_map-map (λ (z : ℤ). spaced (signed_decimal z)) pos hints in
-    let words : flat_map spaced ((map signed_decimal clause ++ (48 ∷ []) ∷ map signed_decimal (map pos hints ++ [])) ++ zero_word)
-    ≡ (flat_map spaced_literal clause ++ (32 ∷ 48 ∷ flat_map spaced_id hints)) ++ (32 ∷ 48 ∷ []) =
-    flat_map-append spaced (map signed_decimal clause ++ (48 ∷ []) ∷ map signed_decimal (map pos hints ++ [])) zero_word
+    let clause_text : flat_map spaced (map signed_decimal clause) ≡ literals_text clause = flat_map-map spaced signed_decimal clause in
+    let words : flat_map spaced ((map signed_decimal clause ++ (48 ∷ []) ∷ map signed_decimal numbers) ++ zero_word)
+    ≡ (literals_text clause ++ (32 ∷ 48 ∷ ids_text lead ids)) ++ (32 ∷ 48 ∷ []) =
+    flat_map-append spaced (map signed_decimal clause ++ (48 ∷ []) ∷ map signed_decimal numbers) zero_word
     ∙ ap (λ (l : List ℕ). l ++ (32 ∷ 48 ∷ [])) (
-    flat_map-append spaced (map signed_decimal clause) ((48 ∷ []) ∷ map signed_decimal (map pos hints ++ []))
-    ∙ (λ i. clause_text i ++ (32 ∷ 48 ∷ (ap (flat_map spaced) hint_words ∙ hint_text) i))) in
-    let left : add_line id clause hints ≡ decimal id ++ (flat_map spaced_literal clause ++ (32 ∷ 48 ∷ (flat_map spaced_id hints ++ (32 ∷ 48 ∷ 10 ∷ [])))) =
-    four_parts (decimal id) (flat_map spaced_literal clause ++ 32 ∷ 48 ∷ []) (flat_map spaced_id hints ++ 32 ∷ 48 ∷ []) (10 ∷ [])
-    ∙ ap (λ (l : List ℕ). decimal id ++ l) (append_assoc (flat_map spaced_literal clause) (32 ∷ 48 ∷ []) ((flat_map spaced_id hints ++ 32 ∷ 48 ∷ []) ++ 10 ∷ [])
-    ∙ ap (λ (l : List ℕ). flat_map spaced_literal clause ++ (32 ∷ 48 ∷ l)) (append_assoc (flat_map spaced_id hints) (32 ∷ 48 ∷ []) (10 ∷ []))) in
-    let right : line_of_step (Add id clause hints []) ≡ decimal id ++ (flat_map spaced_literal clause ++ (32 ∷ 48 ∷ (flat_map spaced_id hints ++ (32 ∷ 48 ∷ 10 ∷ [])))) =
-    ap (λ (l : List ℕ). l ++ 10 ∷ []) (join-spaced (decimal id) ((map signed_decimal clause ++ (48 ∷ []) ∷ map signed_decimal (map pos hints ++ [])) ++ zero_word) ∙ ap (λ (l : List ℕ). decimal id ++ l) words)
-    ∙ append_assoc (decimal id) ((flat_map spaced_literal clause ++ (32 ∷ 48 ∷ flat_map spaced_id hints)) ++ (32 ∷ 48 ∷ [])) (10 ∷ [])
-    ∙ ap (λ (l : List ℕ). decimal id ++ l) (append_assoc (flat_map spaced_literal clause ++ (32 ∷ 48 ∷ flat_map spaced_id hints)) (32 ∷ 48 ∷ []) (10 ∷ [])
-    ∙ append_assoc (flat_map spaced_literal clause) (32 ∷ 48 ∷ flat_map spaced_id hints) (32 ∷ 48 ∷ 10 ∷ [])) in
+    flat_map-append spaced (map signed_decimal clause) ((48 ∷ []) ∷ map signed_decimal numbers)
+    ∙ (λ i. clause_text i ++ (32 ∷ 48 ∷ is i))) in
+    let left : line_text id clause lead ids ≡ decimal id ++ (literals_text clause ++ (32 ∷ 48 ∷ (ids_text lead ids ++ (32 ∷ 48 ∷ 10 ∷ [])))) =
+    from_second (decimal id) (literals_text clause) (32 ∷ 48 ∷ []) (ids_text lead ids) (32 ∷ 48 ∷ 10 ∷ []) in
+    let right : join_with_byte 32 (decimal id ∷ map signed_decimal clause ++ (48 ∷ []) ∷ map signed_decimal numbers ++ zero_word) ++ 10 ∷ []
+    ≡ decimal id ++ (literals_text clause ++ (32 ∷ 48 ∷ (ids_text lead ids ++ (32 ∷ 48 ∷ 10 ∷ [])))) =
+    ap (λ (l : List ℕ). l ++ 10 ∷ []) (join-spaced (decimal id) ((map signed_decimal clause ++ (48 ∷ []) ∷ map signed_decimal numbers) ++ zero_word) ∙ ap (λ (l : List ℕ). decimal id ++ l) words)
+    ∙ append_assoc (decimal id) ((literals_text clause ++ (32 ∷ 48 ∷ ids_text lead ids)) ++ (32 ∷ 48 ∷ [])) (10 ∷ [])
+    ∙ ap (λ (l : List ℕ). decimal id ++ l) (append_assoc (literals_text clause ++ (32 ∷ 48 ∷ ids_text lead ids)) (32 ∷ 48 ∷ []) (10 ∷ [])
+    ∙ append_assoc (literals_text clause) (32 ∷ 48 ∷ ids_text lead ids) (32 ∷ 48 ∷ 10 ∷ [])) in
     left ∙ sym right
+
+hints_text : (hints : List ℕ) → flat_map spaced (map signed_decimal (map pos hints ++ [])) ≡ ids_text (32 ∷ []) hints
+hints_text hints =
+    ap (λ (l : List ℤ). flat_map spaced (map signed_decimal l)) (append-nil (map pos hints)) ∙ flat_map-map spaced signed_decimal (map pos hints)
+    ∙ flat_map-map (λ (z : ℤ). spaced (signed_decimal z)) pos hints
+
+pub line_text-add : (id : ℕ) (clause : List ℤ) (hints : List ℕ) → line_text id clause (32 ∷ []) hints ≡ line_of_step (Add id clause hints [])
+line_text-add id clause hints = line_text-words id clause (32 ∷ []) hints (map pos hints ++ []) (hints_text hints)
+
+-- the negation of a number that isn't 0 is written with a minus sign
+signed_decimal-neg : (n : ℕ) → is_id n ≡ true → signed_decimal (neg_ℤ (pos n)) ≡ 45 ∷ decimal n
+signed_decimal-neg zero h = cc
+signed_decimal-neg (suc n) h = refl
+
+candidates_text : (candidates : List ℕ) → list_all is_id candidates ≡ true → flat_map spaced (map signed_decimal (flat_map group_numbers (bare_groups candidates))) ≡ ids_text (32 ∷ 45 ∷ []) candidates
+candidates_text [] h = refl
+candidates_text (candidate ∷ candidates) h =
+    let parts = and_parts (is_id candidate) (list_all is_id candidates) h in
+    λ i. 32 ∷ signed_decimal-neg candidate parts.0 i ++ candidates_text candidates parts.1 i
+
+pub line_text-define : (id : ℕ) (clause : List ℤ) (candidates : List ℕ) → list_all is_id candidates ≡ true
+    → line_text id clause (32 ∷ 45 ∷ []) candidates ≡ line_of_step (Add id clause [] (bare_groups candidates))
+line_text-define id clause candidates h =
+    line_text-words id clause (32 ∷ 45 ∷ []) candidates (flat_map group_numbers (bare_groups candidates)) (candidates_text candidates h)
 
 -- what was emitted of a piece, and the rest of it, written at the end
 pub written_out : {tells : Bool} {a b c : Channel} {held bytes last : List ℕ} {result : Result (Unit {0}) Failed} → Emits tells a b [] held bytes (Ok tt) → last ≡ held → WritesAll tells b c last result → WritesAll tells a c bytes result

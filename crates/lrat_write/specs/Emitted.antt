@@ -1,7 +1,8 @@
 -- A line on its way: what is held back of it until it is long enough for a write, and what the sink has of it.
-use Rattle.std.specs.Prelude.{◌≡◌, ℕ, Bool, ℤ, List, [], ◌∷◌, ◌++◌, Result, IsTrue, IsOk, decimal}
+use Rattle.std.specs.Prelude.{◌≡◌, ℕ, Bool, ℤ, List, [], ◌∷◌, ◌++◌, map, Result, IsTrue, IsOk, decimal}
 use Rattle.std.specs.Fmt.{signed_decimal}
 use Rattle.std.specs.List.{flat_map}
+use Rattle.cnf_base.specs.declared.list.Group.{Group}
 use Rattle.host_io.specs.Channel.{Channel, Counts}
 use Rattle.host_io.specs.declared.source.Failed.{Failed}
 
@@ -19,23 +20,24 @@ pub record Emits (tells : Bool) (old new : Channel) (held after bytes : List ℕ
   pub name : new.name ≡ old.name
   pub faults : Counts old new result
 
--- a word behind a space
-abbrev pub spaced : List ℕ → List ℕ
-spaced word = 32 ∷ word
-
+-- literals, each behind a space
 abbrev pub spaced_literal : ℤ → List ℕ
-spaced_literal literal = spaced (signed_decimal literal)
+spaced_literal literal = 32 ∷ signed_decimal literal
 
-abbrev pub spaced_id : ℕ → List ℕ
-spaced_id id = spaced (decimal id)
-
--- literals, or clause numbers, and the zero that ends them, each behind a space
 abbrev pub literals_text : List ℤ → List ℕ
-literals_text literals = flat_map spaced_literal literals ++ spaced (48 ∷ [])
+literals_text literals = flat_map spaced_literal literals
 
-abbrev pub ids_text : List ℕ → List ℕ
-ids_text ids = flat_map spaced_id ids ++ spaced (48 ∷ [])
+-- clause numbers, each behind the same lead
+abbrev pub led_id : List ℕ → ℕ → List ℕ
+led_id lead id = lead ++ decimal id
 
--- the parts of an addition's line: its number, its clause, its hints, the line end
-abbrev pub add_line : ℕ → List ℤ → List ℕ → List ℕ
-add_line id clause hints = decimal id ++ literals_text clause ++ ids_text hints ++ 10 ∷ []
+abbrev pub ids_text : List ℕ → List ℕ → List ℕ
+ids_text lead ids = flat_map (led_id lead) ids
+
+-- the parts of a line: its number, its clause, a zero, its hints or candidates, a zero and the line end
+abbrev pub line_text : ℕ → List ℤ → List ℕ → List ℕ → List ℕ
+line_text id clause lead ids = decimal id ++ literals_text clause ++ 32 ∷ 48 ∷ [] ++ ids_text lead ids ++ 32 ∷ 48 ∷ 10 ∷ []
+
+-- the groups of candidates that want no hints
+abbrev pub bare_groups : List ℕ → List Group
+bare_groups candidates = map (λ candidate. record { id = candidate; hints = [] }) candidates

@@ -1,7 +1,6 @@
 // A line is collected in a small buffer on the stack, and handed to the sink when that is full.
-ghost use Rattle.std.specs.Prelude.{◌≡◌, ◌≤◌, ◌∷◌, [], IsTrue, OnOk, take, length};
-ghost use Rattle.std.specs.List.{flat_map, list_all};
-ghost use Rattle.lrat_write.specs.Emitted.{Emits, spaced, literals_text, ids_text};
+ghost use Rattle.std.specs.Prelude.{◌≡◌, [], ◌++◌};
+ghost use Rattle.lrat_write.specs.Emitted.{Emits, literals_text, ids_text};
 
 use arrayvec::ArrayVec;
 use cnf_base::{Id, Lit};
@@ -37,37 +36,43 @@ fn emit_first<S: Sink>(sink: &mut S, held: &mut Held, piece: &[u8]) -> Result<()
     }
 }
 
-/// Puts a space and a number.
+/// Puts what leads a number in, and the number.
 pub fn emit_number<S: Sink, I: Integer>(
     sink: &mut S,
     held: &mut Held,
+    lead: &[u8],
     number: I,
 ) -> Result<(), Failed>
-    ensures emits { Emits S.tells (S.channel sink.old) (S.channel sink.new) held.old.items held.new.items (spaced (I.text number)) result }
+    ensures emits { Emits S.tells (S.channel sink.old) (S.channel sink.new) held.old.items held.new.items (lead.now ++ I.text number) result }
     ensures beside { S.beside sink.new ≡ S.beside sink.old }
 {
-    emit(sink, held, b" ")?;
+    emit(sink, held, lead)?;
     emit(sink, held, Buffer::new().format(number).as_bytes())
 }
 
-/// Puts the literals of a clause and the zero that ends them, each behind a space.
+/// Puts the literals of a clause, each behind a space.
 pub fn emit_literals<S: Sink>(sink: &mut S, held: &mut Held, literals: &[Lit]) -> Result<(), Failed>
     ensures emits { Emits S.tells (S.channel sink.old) (S.channel sink.new) held.old.items held.new.items (literals_text literals.now) result }
     ensures beside { S.beside sink.new ≡ S.beside sink.old }
 {
     for literal in literals {
-        emit_number(sink, held, literal.get())?;
+        emit_number(sink, held, b" ", literal.get())?;
     }
-    emit(sink, held, b" 0")
+    Ok(())
 }
 
-/// Puts clause numbers and the zero that ends them, each behind a space.
-pub fn emit_ids<S: Sink>(sink: &mut S, held: &mut Held, ids: &[Id]) -> Result<(), Failed>
-    ensures emits { Emits S.tells (S.channel sink.old) (S.channel sink.new) held.old.items held.new.items (ids_text ids.now) result }
+/// Puts clause numbers, each behind the same lead: a space, or a space and a minus sign.
+pub fn emit_ids<S: Sink>(
+    sink: &mut S,
+    held: &mut Held,
+    lead: &[u8],
+    ids: &[Id],
+) -> Result<(), Failed>
+    ensures emits { Emits S.tells (S.channel sink.old) (S.channel sink.new) held.old.items held.new.items (ids_text lead.now ids.now) result }
     ensures beside { S.beside sink.new ≡ S.beside sink.old }
 {
     for id in ids {
-        emit_number(sink, held, id.get())?;
+        emit_number(sink, held, lead, id.get())?;
     }
-    emit(sink, held, b" 0")
+    Ok(())
 }

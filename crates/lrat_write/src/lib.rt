@@ -5,5 +5,7 @@
 
 mod held;
 mod line;
+#[cfg(test)]
+mod tests;
 
-pub use line::write_add;
+pub use line::{write_add, write_define};

@@ -1,9 +1,10 @@
 // The line of each kind of step that the solver writes.
-ghost use Rattle.std.specs.Prelude.{◌≡◌, []};
+ghost use Rattle.std.specs.Prelude.{◌≡◌, [], IsTrue};
+ghost use Rattle.std.specs.List.{list_all};
 ghost use Rattle.cnf_base.specs.declared.step.Step.TheVariants.{Add};
-ghost use Rattle.cnf_base.specs.ProofText.{line_of_step};
+ghost use Rattle.cnf_base.specs.ProofText.{line_of_step, is_id};
 ghost use Rattle.host_io.specs.Channel.{WritesAll};
-ghost use Rattle.lrat_write.specs.Emitted.{Emits, add_line};
+ghost use Rattle.lrat_write.specs.Emitted.{Emits, line_text, bare_groups};
 
 use crate::held::{Held, emit, emit_ids, emit_literals};
 use cnf_base::{Id, Lit};
@@ -16,23 +17,55 @@ pub fn write_add<S: Sink>(sink: &mut S, id: Id, clause: &[Lit], hints: &[Id]) ->
     ensures writes { WritesAll S.tells (S.channel sink.old) (S.channel sink.new) (line_of_step (Add id clause.now hints.now [])) result }
     ensures beside { S.beside sink.new ≡ S.beside sink.old }
 {
+    write_line(sink, id, clause, b" ", hints)
+}
+
+/// Writes the line of an addition with candidates that want no hints: `id lit .. 0 -candidate .. 0`. Where a write
+/// fails, a front of the line was written. Takes no memory.
+pub fn write_define<S: Sink>(
+    sink: &mut S,
+    id: Id,
+    clause: &[Lit],
+    candidates: &[Id],
+) -> Result<(), Failed>
+    requires { IsTrue (list_all is_id candidates.now) }
+    ensures writes { WritesAll S.tells (S.channel sink.old) (S.channel sink.new)
+        (line_of_step (Add id clause.now [] (bare_groups candidates.now))) result }
+    ensures beside { S.beside sink.new ≡ S.beside sink.old }
+{
+    write_line(sink, id, clause, b" -", candidates)
+}
+
+// Writes a line whose numbers behind the clause have the same lead.
+fn write_line<S: Sink>(
+    sink: &mut S,
+    id: Id,
+    clause: &[Lit],
+    lead: &[u8],
+    ids: &[Id],
+) -> Result<(), Failed>
+    ensures writes { WritesAll S.tells (S.channel sink.old) (S.channel sink.new) (line_text id clause.now lead.now ids.now) result }
+    ensures beside { S.beside sink.new ≡ S.beside sink.old }
+{
     let mut held = Held::new();
-    emit_add_line(sink, &mut held, id, clause, hints)?;
+    emit_line(sink, &mut held, id, clause, lead, ids)?;
     write_all(sink, held.as_slice())
 }
 
-fn emit_add_line<S: Sink>(
+fn emit_line<S: Sink>(
     sink: &mut S,
     held: &mut Held,
     id: Id,
     clause: &[Lit],
-    hints: &[Id],
+    lead: &[u8],
+    ids: &[Id],
 ) -> Result<(), Failed>
-    ensures emits { Emits S.tells (S.channel sink.old) (S.channel sink.new) held.old.items held.new.items (add_line id clause.now hints.now) result }
+    ensures emits { Emits S.tells (S.channel sink.old) (S.channel sink.new) held.old.items held.new.items (line_text id clause.now lead.now ids.now) result }
     ensures beside { S.beside sink.new ≡ S.beside sink.old }
 {
     emit(sink, held, Buffer::new().format(id.get()).as_bytes())?;
     emit_literals(sink, held, clause)?;
-    emit_ids(sink, held, hints)?;
-    emit(sink, held, b"\n")
+    emit(sink, held, b" 0")?;
+    emit_ids(sink, held, lead, ids)?;
+    emit(sink, held, b" 0\n")
 }

@@ -1,25 +1,21 @@
-use Rattle.std.proofs.Common.{◌≡◌, ℤ, ◌∷◌, ◌++◌, [], List, take, ◌∙◌, ap, refl, subst, w32}
-use Rattle.std.specs.Fmt.{signed_decimal}
+use Rattle.std.proofs.Common.{◌∙◌, ap, refl, w32}
 use Rattle.std.specs.List.{flat_map}
 use Rattle.std.proofs.lemmas.Int.{to_z-of_z}
 use Rattle.std.proofs.lemmas.List.{take_all}
-use Rattle.lrat_write.specs.Emitted.{Emits, spaced, spaced_literal}
-use Rattle.lrat_write.proofs.Emitting.{in_turn, one_more, fails_at}
+use Rattle.lrat_write.specs.Emitted.{spaced_literal}
+use Rattle.lrat_write.proofs.Emitting.{one_more, fails_at, same_text}
 use Rattle.lrat_write.proofs.held.emit_literals.Goals as goal
 
 pub returns-in_err-emit_number-clause-emits : goal.returns-in_err-emit_number-clause-emits
 returns-in_err-emit_number-clause-emits g c =
-    fails_at spaced_literal c.args.literals.now c.loop-literal.literal-index c.literal-item.result (spaced (48 ∷ [])) c.emit_number.new.held.items c.loop-literal-test.true c.loop-literal.invariant.0
-    (ap (λ (z : ℤ). spaced (signed_decimal z)) (to_z-of_z w32 c.get.result (record { sfits = c.get.type_inv }) ∙ c.get.ensures ∙ c.literal-item.is)) c.in_err-emit_number.ensures.emits refl c.from_residual.ensures.0
+    fails_at spaced_literal c.args.literals.now c.loop-literal.literal-index c.literal-item.result c.emit_number.new.held.items c.loop-literal-test.true c.loop-literal.invariant.0
+    (ap spaced_literal (to_z-of_z w32 c.get.result (record { sfits = c.get.type_inv }) ∙ c.get.ensures ∙ c.literal-item.is)) c.in_err-emit_number.ensures.emits refl c.from_residual.ensures.0
 
 pub loop-literal-preserved : goal.loop-literal-preserved
 loop-literal-preserved g c = (
-  one_more spaced_literal c.args.literals.now c.loop-literal.literal-index c.literal-item.result c.loop-literal-test.true c.loop-literal.invariant.0 (ap (λ (z : ℤ). spaced (signed_decimal z)) (to_z-of_z w32 c.get.result (record { sfits = c.get.type_inv }) ∙ c.get.ensures ∙ c.literal-item.is)) c.in_ok-emit_number.ensures.emits,
+  one_more spaced_literal c.args.literals.now c.loop-literal.literal-index c.literal-item.result c.loop-literal-test.true c.loop-literal.invariant.0 (ap spaced_literal (to_z-of_z w32 c.get.result (record { sfits = c.get.type_inv }) ∙ c.get.ensures ∙ c.literal-item.is)) c.in_ok-emit_number.ensures.emits,
   c.in_ok-emit_number.ensures.beside ∙ c.loop-literal.invariant.1,
 )
 
 pub returns-clause-emits : goal.returns-clause-emits
-returns-clause-emits g c =
-    let all : take c.loop-literal.literal-index c.args.literals.now ≡ c.args.literals.now = take_all c.loop-literal.literal-index c.args.literals.now c.loop-literal-test.false in
-    subst (λ (literals : List ℤ). Emits g.S.Sink.tells (g.S.Sink.channel c.args.sink.now) (g.S.Sink.channel c.emit.new.sink) c.args.held.now.items c.emit.new.held.items (flat_map spaced_literal literals ++ spaced (48 ∷ [])) c.emit.result)
-    all (in_turn c.loop-literal.invariant.0 refl c.emit.ensures.emits)
+returns-clause-emits g c = same_text c.loop-literal.invariant.0 (ap (flat_map spaced_literal) (take_all c.loop-literal.literal-index c.args.literals.now c.loop-literal-test.false))
