@@ -1,0 +1,42 @@
+-- What was written of a complaint.
+use Rattle.std.proofs.Common.{◌≡◌, ℕ, Bool, List, [], ◌++◌, take, drop, refl, sym, ◌∙◌, append_assoc, subst, Ok, Err, arith}
+use Rattle.std.specs.Prelude.{Result, codes, decimal}
+use Rattle.std.proofs.lemmas.List.{append-nil, take-append-drop}
+use Rattle.dimacs_reader.specs.declared.error.CnfKind.{CnfKind}
+use Rattle.host_io.specs.declared.source.Failed.{Failed}
+use Rattle.host_io.specs.Channel.{Channel, WritesAll, Flushes}
+use Rattle.solver_cli.specs.declared.status.Status.{Status}
+use Rattle.solver_cli.specs.declared.status.Status.TheVariants.{CnfRefused}
+use Rattle.solver_cli.specs.ErrorText.{kind_name, error_text}
+use Rattle.solver_cli.specs.Phases.{Complains}
+
+-- the text was written, and whatever came of the flush
+pub complained : {T U : Type 0} (tells : Bool) (old mid new : Channel) (status : Status) (result : Result T Failed) (flushed : Result U Failed) → WritesAll tells old mid (error_text status) result → Flushes tells mid new flushed → Complains tells old new status
+complained tells old mid new status (Ok u) flushed writes flushes = record {
+  written = λ t. (error_text status, [], flushes.written ∙ writes.done t refl, sym (append-nil (error_text status)), λ _. refl);
+  only = record { name = flushes.name ∙ writes.name; faults = omega (arith, flushes.faults.no_less, writes.faults.no_less) };
+}
+complained tells old mid new status (Err e) flushed writes flushes = record {
+  written = λ t.
+      let front = writes.failed t refl in (
+        take front.0 (error_text status),
+        drop front.0 (error_text status),
+        flushes.written ∙ front.1,
+        sym (take-append-drop front.0 (error_text status)),
+        λ none. absurd (none (omega (arith, writes.faults.cause refl, flushes.faults.no_less))),
+      );
+  only = record { name = flushes.name ∙ writes.name; faults = omega (arith, flushes.faults.no_less, writes.faults.no_less) };
+}
+
+-- the three parts of the line about a text that was refused
+three_parts : (start digits last kind : List ℕ) → ((start ++ digits) ++ last) ++ kind ++ codes "\n" ≡ start ++ (digits ++ (last ++ kind ++ codes "\n"))
+three_parts start digits last kind = simp append_assoc
+
+-- what is written behind the line's number
+abbrev pub kind_part : CnfKind → List ℕ
+kind_part kind = codes ": " ++ kind_name kind ++ codes "\n"
+
+-- writing the three parts writes the line
+pub refused : {T : Type 0} {tells : Bool} {old new : Channel} {result : Result T Failed} (kind : CnfKind) (line : ℕ) → WritesAll tells old new (codes "error: cnf line " ++ (decimal line ++ kind_part kind)) result → WritesAll tells old new (error_text (CnfRefused kind line)) result
+refused {tells = tells} {old = old} {new = new} {result = result} kind line writes =
+    subst (λ (text : List ℕ). WritesAll tells old new text result) (sym (three_parts (codes "error: cnf line ") (decimal line) (codes ": ") (kind_name kind))) writes

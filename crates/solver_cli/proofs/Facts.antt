@@ -1,0 +1,112 @@
+-- What the stages of a run say of its streams, for the promises.
+use Rattle.std.proofs.Common.{◌≡◌, ℕ, true, false, List, [], ◌++◌, length, append-nil, refl, sym, ap, ◌∙◌, Some, None, Err, inl, inr, true≢false}
+use Rattle.std.specs.Prelude.{Option, drop, ◌⊎◌}
+use Rattle.std.proofs.Math.Seq.{drop-append_seam}
+use Rattle.cnf_base.specs.Formula.{Formula}
+use Rattle.host_io.specs.Channel.{Channel}
+use Rattle.host_io.specs.declared.role.Role.{Role}
+use Rattle.host_io.specs.declared.role.Role.TheVariants.{Cnf}
+use Rattle.dimacs_reader.specs.declared.error.CnfKind.{CnfKind}
+use Rattle.dimacs_reader.specs.Cnf.{CnfText, formula, refusal, overlong}
+use Rattle.solver_cli.specs.declared.status.Status.{Status}
+use Rattle.solver_cli.specs.declared.status.Status.TheVariants.{Sat, Unsat, Unknown, Usage, CnfRefused, TooLong, ReadFault, WriteFault, OutOfMemory}
+use Rattle.solver_cli.specs.ErrorText.{is_answer}
+use Rattle.solver_cli.specs.Command.{Command, Solve}
+use Rattle.solver_cli.specs.Phases.{IsRead, IsReadStatus, IsProofStatus}
+
+-- what was written behind what stood there
+pub behind : (old new : Channel) (part : List ℕ) → new.written ≡ old.written ++ part → drop (length old.written) new.written ≡ part
+behind old new part grown = ap (drop (length old.written)) grown ∙ drop-append_seam old.written part
+
+pub grown_by : (old new : Channel) (part : List ℕ) → new.written ≡ old.written ++ part → new.written ≡ old.written ++ drop (length old.written) new.written
+grown_by old new part grown = grown ∙ ap (λ (l : List ℕ). old.written ++ l) (sym (behind old new part grown))
+
+pub nothing_more : (old new : Channel) → new.written ≡ old.written → new.written ≡ old.written ++ []
+nothing_more old new same = same ∙ sym (append-nil old.written)
+
+-- a stream that was idle before
+pub whole_of : (old new : Channel) → old.written ≡ [] → drop (length old.written) new.written ≡ new.written
+whole_of old new idle = ap (λ (l : List ℕ). drop (length l) new.written) idle
+
+-- two statuses, one of which is an answer
+pub no_answer : {status other : Status} → is_answer status ≡ false → is_answer other ≡ true → status ≡ other → ⊥
+no_answer unanswered answers same = true≢false (sym answers ∙ ap is_answer (sym same) ∙ unanswered)
+
+-- how reading ends a run
+pub record Refuses (status : Status) (text : CnfText) : Type 0 where
+  pub kind : CnfKind
+  pub line : ℕ
+  pub ends : status ≡ CnfRefused kind line
+  pub says : text ≡ refusal kind line
+
+pub record Exceeds (status : Status) (text : CnfText) : Type 0 where
+  pub ends : status ≡ TooLong Cnf
+  pub says : text ≡ overlong
+
+pub read_statuses : (status : Status) → IsReadStatus status → (is_answer status ≡ false) × ((status ≡ WriteFault) → ⊥) × ((status ≡ Usage) → ⊥)
+read_statuses Sat p = absurd p
+read_statuses Unsat p = absurd p
+read_statuses (Unknown why) p = absurd p
+read_statuses Usage p = absurd p
+read_statuses (CnfRefused kind line) p = (refl, (λ e. cc), λ e. cc)
+read_statuses (TooLong role) p = (refl, (λ e. cc), λ e. cc)
+read_statuses ReadFault p = (refl, (λ e. cc), λ e. cc)
+read_statuses WriteFault p = absurd p
+read_statuses OutOfMemory p = (refl, (λ e. cc), λ e. cc)
+
+-- the refusal of a text, or a fault or want of memory
+pub read_ends : (status : Status) (whole taken : CnfText) → IsRead (Err status) whole taken → IsReadStatus status
+    → (status ≡ ReadFault) ⊎ ((status ≡ OutOfMemory) ⊎ ((taken ≡ whole) × (Refuses status whole ⊎ Exceeds status whole)))
+read_ends Sat whole taken is p = absurd p
+read_ends Unsat whole taken is p = absurd p
+read_ends (Unknown why) whole taken is p = absurd p
+read_ends Usage whole taken is p = absurd p
+read_ends (CnfRefused kind line) whole taken is p = inr (inr (is.1 ∙ sym is.0, inl (record { kind = kind; line = line; ends = refl; says = is.0 })))
+read_ends (TooLong role) whole taken is p = inr (inr (is.2 ∙ sym is.1, inr (record { ends = ap (λ (r : Role). TooLong r) is.0; says = is.1 })))
+read_ends ReadFault whole taken is p = inl refl
+read_ends WriteFault whole taken is p = absurd p
+read_ends OutOfMemory whole taken is p = inr (inl refl)
+
+-- how writing a proof, or an answer, ends a run
+pub write_ends : (T : Type 0) (status : Status) → IsProofStatus {T = T} (Err status) → (status ≡ WriteFault) ⊎ (status ≡ OutOfMemory)
+write_ends T Sat p = absurd p
+write_ends T Unsat p = absurd p
+write_ends T (Unknown why) p = absurd p
+write_ends T Usage p = absurd p
+write_ends T (CnfRefused kind line) p = absurd p
+write_ends T (TooLong role) p = absurd p
+write_ends T ReadFault p = absurd p
+write_ends T WriteFault p = inl refl
+write_ends T OutOfMemory p = inr refl
+
+-- the words give one command, and a file has one text
+pub one_text : (files : List ℕ → Option (List ℕ)) {words : Option Command} {file other proof other_proof bytes text : List ℕ}
+    → words ≡ Some (Solve file proof) → words ≡ Some (Solve other other_proof) → files file ≡ Some bytes → files other ≡ Some text → bytes ≡ text
+one_text files here there stands stands_there = same_some (sym stands ∙ ap files (same_file (sym here ∙ there)) ∙ stands_there) where
+  same_some : {a b : List ℕ} → ◌≡◌ {A = Option (List ℕ)} (Some a) (Some b) → a ≡ b
+  same_some e = cc
+
+  same_file : {a b c d : List ℕ} → ◌≡◌ {A = Option Command} (Some (Solve a b)) (Some (Solve c d)) → a ≡ c
+  same_file e = cc
+
+pub not_usage : {words : Option Command} {asked : Command} → words ≡ Some asked → words ≡ None → ⊥
+not_usage e d = cc
+
+pub formula_refusal : {text : CnfText} {problem : Formula} {kind : CnfKind} {line : ℕ} → text ≡ formula problem → text ≡ refusal kind line → ⊥
+formula_refusal e d = cc
+
+pub formula_overlong : {text : CnfText} {problem : Formula} → text ≡ formula problem → text ≡ overlong → ⊥
+formula_overlong e d = cc
+
+pub refusal_overlong : {text : CnfText} {kind : CnfKind} {line : ℕ} → text ≡ refusal kind line → text ≡ overlong → ⊥
+refusal_overlong e d = cc
+
+pub same_refusal : {status : Status} {text : CnfText} {kind other : CnfKind} {line number : ℕ} → text ≡ refusal kind line → text ≡ refusal other number → status ≡ CnfRefused kind line → status ≡ CnfRefused other number
+same_refusal here there ends = ends ∙ inner _ _ _ _ (sym here ∙ there) where
+  inner : (kind other : CnfKind) (line number : ℕ) → refusal kind line ≡ refusal other number → CnfRefused kind line ≡ CnfRefused other number
+  inner kind other line number e = cc
+
+pub same_formula : {text : CnfText} {problem other : Formula} → text ≡ formula problem → text ≡ formula other → problem ≡ other
+same_formula e d = inner _ _ (sym e ∙ d) where
+  inner : (problem other : Formula) → formula problem ≡ formula other → problem ≡ other
+  inner problem other e = cc

@@ -1,0 +1,11 @@
+pub mod Ends
+pub mod Tautologies
+pub mod Reading
+pub mod Staged
+pub mod Complaints
+pub mod Facts
+pub mod Promised
+pub mod Accepted
+pub mod Printed
+pub mod Named
+pub mod Whole

@@ -1,0 +1,80 @@
+-- The promises of a whole run, from those of its work and of the line on standard error.
+use Rattle.std.proofs.Common.{◌≡◌, ℕ, true≢false, List, refl, sym, ap, ◌∙◌, subst, Some, None, inl, inr}
+use Rattle.std.specs.Prelude.{◌⊎◌, IsFalse, Option}
+use Rattle.host_io.specs.Channel.{Channel}
+use Rattle.host_io.specs.Files.{Files, FilesBut, same_role, Others, Kept}
+use Rattle.host_io.specs.declared.role.Role.{Role}
+use Rattle.host_io.specs.declared.role.Role.TheVariants.{Cnf, Order, Schedule, ProofIn, ProofOut, Made, Out, Err as ErrRole}
+use Rattle.solver_cli.specs.Phases.{Complains}
+use Rattle.solver_cli.specs.Stages.{Streams, streams_of, Untaken, Uncreated, Undecided, Answered, Stages}
+use Rattle.solver_cli.specs.Headline.{Run, Promises}
+use Rattle.solver_cli.proofs.Promised.{Core, misused, untaken}
+use Rattle.solver_cli.proofs.Accepted.{uncreated, undecided}
+use Rattle.solver_cli.proofs.Printed.{Law, answered}
+use Rattle.solver_cli.proofs.Named.{stream_names, names, error_stands}
+
+core : Law → (run : Run) → Stages run.tells run.words (streams_of run.before) (streams_of run.after) run.files run.status → Core run
+core law run (inl m) = misused run m
+core law run (inr t) = came t.came where
+  came : Untaken run.tells (streams_of run.before) (streams_of run.after) run.files t.file run.status ⊎ (Uncreated run.tells (streams_of run.before) (streams_of run.after) run.files t.file t.proof run.status
+      ⊎ (Undecided run.tells (streams_of run.before) (streams_of run.after) run.files t.file t.proof run.status ⊎ Answered run.tells (streams_of run.before) (streams_of run.after) run.files t.file t.proof run.status)) → Core run
+  came (inl u) = untaken run t.file t.proof t.asked u
+  came (inr (inl u)) = uncreated run t.file t.proof t.asked u
+  came (inr (inr (inl u))) = undecided run t.file t.proof t.asked u
+  came (inr (inr (inr a))) = answered law run t.file t.proof t.asked a
+
+whole : Law → (run : Run) → ((role : Role) → (run.before role).name ≡ None) → Stages run.tells run.words (streams_of run.before) (streams_of run.after) run.files run.status
+    → ((role : Role) → IsFalse (same_role role Cnf) → IsFalse (same_role role ProofOut) → IsFalse (same_role role Out) → (run.after role).name ≡ None)
+    → FilesBut (run.after ProofOut).name run.files run.files_after → Complains run.tells (run.before ErrRole) (run.after ErrRole) run.status → Promises run
+whole law run unnamed stages others files complains =
+    let c : Core run = core law run stages in
+    record {
+      unsatisfiable = c.unsatisfiable;
+      satisfiable = c.satisfiable;
+      undecided = c.undecided;
+      refusals = c.refusals;
+      faults = c.faults;
+      output = c.output;
+      error = error_stands run complains;
+      proof = c.proof;
+      names = names run (stream_names run unnamed stages) others files;
+      complete = c.complete;
+    }
+
+-- the streams stay where only standard error was written
+streams_kept : (old new : Role → Channel) → Others ErrRole old new → streams_of new ≡ streams_of old
+streams_kept old new beside = λ i. record { cnf = beside Cnf refl i; proof = beside ProofOut refl i; out = beside Out refl i }
+
+pub promises : Law → (run : Run) (middle : Role → Channel) (files : Files) → ((role : Role) → (run.before role).name ≡ None)
+    → Stages run.tells run.words (streams_of run.before) (streams_of middle) run.files run.status
+    → ((role : Role) → IsFalse (same_role role Cnf) → IsFalse (same_role role ProofOut) → IsFalse (same_role role Out) → middle role ≡ run.before role)
+    → FilesBut (middle ProofOut).name run.files files → Complains run.tells (middle ErrRole) (run.after ErrRole) run.status
+    → Kept ErrRole (middle ErrRole).name middle run.after files run.files_after → Promises run
+promises law run middle files unnamed stages others beside complains kept = whole law run unnamed
+    (subst (λ (s : Streams). Stages run.tells run.words (streams_of run.before) s run.files run.status) (sym (streams_kept middle run.after kept.others)) stages)
+    named
+    (λ file own. kept.files file (λ same. none_some (sym err_none ∙ same)) ∙ beside file (λ same. own (ap (λ (c : Channel). c.name) (kept.others ProofOut refl) ∙ same)))
+    (subst (λ (c : Channel). Complains run.tells c (run.after ErrRole) run.status) (others ErrRole refl refl refl) complains) where
+      err_none : (middle ErrRole).name ≡ None
+      err_none = ap (λ (c : Channel). c.name) (others ErrRole refl refl refl) ∙ unnamed ErrRole
+
+      none_some : {file : List ℕ} → ◌≡◌ {A = Option (List ℕ)} None (Some file) → ⊥
+      none_some e = cc
+
+      after_err : (run.after ErrRole).name ≡ None
+      after_err = complains.only.name ∙ err_none
+
+      still : (role : Role) → IsFalse (same_role role ErrRole) → IsFalse (same_role role Cnf) → IsFalse (same_role role ProofOut) → IsFalse (same_role role Out) → (run.after role).name ≡ None
+      still role e a b c = ap (λ (x : Channel). x.name) (kept.others role e ∙ others role a b c) ∙ unnamed role
+
+      named : (role : Role) → IsFalse (same_role role Cnf) → IsFalse (same_role role ProofOut) → IsFalse (same_role role Out) → (run.after role).name ≡ None
+      named role a b c = by role a b c where
+        by : (role : Role) → IsFalse (same_role role Cnf) → IsFalse (same_role role ProofOut) → IsFalse (same_role role Out) → (run.after role).name ≡ None
+        by ErrRole a b c = after_err
+        by Cnf a b c = absurd (true≢false a)
+        by ProofOut a b c = absurd (true≢false b)
+        by Out a b c = absurd (true≢false c)
+        by Order a b c = still Order refl refl refl refl
+        by Schedule a b c = still Schedule refl refl refl refl
+        by ProofIn a b c = still ProofIn refl refl refl refl
+        by Made a b c = still Made refl refl refl refl

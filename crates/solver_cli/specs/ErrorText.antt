@@ -1,0 +1,53 @@
+-- What is written on standard error.
+use Rattle.std.specs.Prelude.{ℕ, Bool, true, false, List, [], ◌++◌, codes, decimal}
+use Rattle.host_io.specs.declared.role.Role.{Role}
+use Rattle.host_io.specs.declared.role.Role.TheVariants.{Cnf, Order, Schedule, ProofIn, ProofOut, Made, Out, Err}
+use Rattle.dimacs_reader.specs.declared.error.CnfKind.{CnfKind}
+use Rattle.dimacs_reader.specs.declared.error.CnfKind.TheVariants.{NoHeader, BadHeader, BadToken, LiteralRange, TooManyClauses, ClauseMissing, NoEndingZero, Limit}
+use Rattle.solver_cli.specs.declared.status.Status.{Status}
+use Rattle.solver_cli.specs.declared.status.Status.TheVariants.{Sat, Unsat, Unknown, Usage, CnfRefused, TooLong, ReadFault, WriteFault, OutOfMemory}
+
+abbrev pub kind_name : CnfKind → List ℕ
+kind_name NoHeader = codes "NoHeader"
+kind_name BadHeader = codes "BadHeader"
+kind_name BadToken = codes "BadToken"
+kind_name LiteralRange = codes "LiteralRange"
+kind_name TooManyClauses = codes "TooManyClauses"
+kind_name ClauseMissing = codes "ClauseMissing"
+kind_name NoEndingZero = codes "NoEndingZero"
+kind_name Limit = codes "Limit"
+
+-- the word for a text that is read
+abbrev pub role_word : Role → List ℕ
+role_word Cnf = codes "cnf"
+role_word Order = codes "order"
+role_word Schedule = codes "schedule"
+role_word ProofIn = codes "proof"
+role_word ProofOut = codes "proof"
+role_word Made = codes "made"
+role_word Out = codes "out"
+role_word Err = codes "err"
+
+-- the text that a status other than an answer puts there, and nothing for an answer
+abbrev pub error_text : Status → List ℕ
+error_text Sat = []
+error_text Unsat = []
+error_text (Unknown why) = []
+error_text Usage = codes "error: bad usage\n"
+error_text (CnfRefused kind line) = codes "error: cnf line " ++ decimal line ++ codes ": " ++ kind_name kind ++ codes "\n"
+error_text (TooLong role) = codes "error: " ++ role_word role ++ codes " too long\n"
+error_text ReadFault = codes "error: read failed\n"
+error_text WriteFault = codes "error: write failed\n"
+error_text OutOfMemory = codes "error: out of memory\n"
+
+-- a status that answers the question
+abbrev pub is_answer : Status → Bool
+is_answer Sat = true
+is_answer Unsat = true
+is_answer (Unknown why) = true
+is_answer Usage = false
+is_answer (CnfRefused kind line) = false
+is_answer (TooLong role) = false
+is_answer ReadFault = false
+is_answer WriteFault = false
+is_answer OutOfMemory = false

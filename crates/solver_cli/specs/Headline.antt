@@ -1,0 +1,188 @@
+-- What the program promises, over one run of it: its words, the host before and after, and how it ended. What it
+-- says of bytes is said of hosts that tell their bytes.
+use Rattle.std.specs.Prelude.{◌≡◌, ◌≢◌, ◌⊎◌, ◌++◌, ◌↔◌, ℕ, Bool, true, false, List, [], Option, None, Some, length, drop, IsTrue, IsFalse}
+use Rattle.cnf_base.specs.Truth.{Assignment, Satisfies, assignment_of}
+use Rattle.cnf_base.specs.Formula.{Formula}
+use Rattle.host_io.specs.declared.role.Role.{Role}
+use Rattle.host_io.specs.declared.role.Role.TheVariants.{Cnf, Order, Schedule, ProofIn, ProofOut, Made, Out, Err}
+use Rattle.host_io.specs.Channel.{Channel, Rose}
+use Rattle.host_io.specs.Files.{Files, FilesBut}
+use Rattle.dimacs_reader.specs.declared.error.CnfKind.{CnfKind}
+use Rattle.dimacs_reader.specs.Cnf.{CnfText, formula, refusal, overlong, cnf}
+use Rattle.lrat_rules.specs.Run.{Refutes}
+use Rattle.answer_text.specs.Status.{sat_text, unsat_line}
+use Rattle.solver_cli.specs.declared.status.Why.TheVariants.{NodeLimit}
+use Rattle.solver_cli.specs.declared.status.Status.{Status}
+use Rattle.solver_cli.specs.declared.status.Status.TheVariants.{Sat, Unsat, Unknown, Usage, CnfRefused, TooLong, ReadFault, WriteFault, OutOfMemory}
+use Rattle.solver_cli.specs.declared.answer.Answer.{Answer}
+use Rattle.solver_cli.specs.Command.{Command, Solve, command}
+use Rattle.solver_cli.specs.ErrorText.{error_text, is_answer}
+use Rattle.solver_cli.specs.Answer.{Holds, IsProof, IsProofSoFar, NodesAreUsed, answer_text, status_of}
+
+-- One run of the program: whether the host tells its bytes, the words, the roles and the files before, the roles
+-- and the files after, and how it ended.
+pub record Run : Type 0 where
+  pub tells : Bool
+  pub words : List (List ℕ)
+  pub before : Role → Channel
+  pub after : Role → Channel
+  pub files : Files
+  pub files_after : Files
+  pub status : Status
+
+-- the bytes that a role wrote in the run, and those that it took
+abbrev pub written_in : Run → Role → List ℕ
+written_in run role = drop (length (run.before role).written) (run.after role).written
+
+abbrev pub taken_in : Run → Role → List ℕ
+taken_in run role = drop (length (run.before role).taken) (run.after role).taken
+
+-- the role's count of faults rose
+abbrev pub HasFault : Run → Role → Type 0
+HasFault run role = Rose (run.before role).faults (run.after role).faults
+
+-- the words ask to decide this file, whose text says this, and to write the proof to that one
+pub record Asks (run : Run) (file proof : List ℕ) (text : CnfText) : Type 0 where
+  pub command : command run.words ≡ Some (Solve file proof)
+  pub bytes : List ℕ
+  pub stands : run.files file ≡ Some bytes
+  pub says : cnf bytes ≡ text
+
+-- they ask to decide this formula
+pub record AsksFor (run : Run) (problem : Formula) : Type 0 where
+  pub file : List ℕ
+  pub proof : List ℕ
+  pub asks : Asks run file proof (formula problem)
+
+-- Unsatisfiable: the very bytes of the proof refute the formula's clauses, so that no assignment satisfies them.
+pub record IsRefuted (run : Run) : Type 0 where
+  pub problem : Formula
+  pub asked : AsksFor run problem
+  pub refuted : Refutes problem.clauses (written_in run ProofOut)
+  pub unsatisfiable : (a : Assignment) → Satisfies a problem.clauses → ⊥
+  pub printed : written_in run Out ≡ unsat_line
+
+abbrev pub UnsatisfiableIsProved : Run → Type 0
+UnsatisfiableIsProved run = run.status ≡ Unsat → IsTrue run.tells → IsRefuted run
+
+-- Satisfiable: the values that were printed satisfy the formula's clauses.
+pub record IsSatisfied (run : Run) : Type 0 where
+  pub problem : Formula
+  pub asked : AsksFor run problem
+  pub values : List Bool
+  pub one_each : length values ≡ problem.vars
+  pub satisfied : Satisfies (assignment_of values) problem.clauses
+  pub printed : written_in run Out ≡ sat_text values
+
+abbrev pub SatisfiableIsTrue : Run → Type 0
+SatisfiableIsTrue run = run.status ≡ Sat → IsTrue run.tells → IsSatisfied run
+
+-- Undecided: the nodes allowed are in use.
+pub record IsUndecided (run : Run) : Type 0 where
+  pub problem : Formula
+  pub asked : AsksFor run problem
+  pub used : NodesAreUsed problem (written_in run ProofOut)
+
+abbrev pub LimitsAreReached : Run → Type 0
+LimitsAreReached run = run.status ≡ Unknown NodeLimit → IsTrue run.tells → IsUndecided run
+
+-- a refusal is that of the named file's whole text, and already that of the bytes taken
+pub record IsRefusedBy (run : Run) (text : CnfText) : Type 0 where
+  pub file : List ℕ
+  pub proof : List ℕ
+  pub asks : Asks run file proof text
+  pub decided : cnf (taken_in run Cnf) ≡ text
+
+-- Refusals: of words exactly where they are no command; of a text only where the format refuses it.
+pub record RefusalsAreDue (run : Run) : Type 0 where
+  pub usage : (run.status ≡ Usage) ↔ (command run.words ≡ None)
+  pub refused : (kind : CnfKind) (line : ℕ) → run.status ≡ CnfRefused kind line → IsTrue run.tells → IsRefusedBy run (refusal kind line)
+  pub too_long : (role : Role) → run.status ≡ TooLong role → (role ≡ Cnf) × (IsTrue run.tells → IsRefusedBy run overlong)
+
+-- Faults: a read fault comes only where a read of the formula's file failed, a write fault only where the text was
+-- accepted and a write or a flush of the proof or of standard output failed.
+pub record FaultsAreCounted (run : Run) : Type 0 where
+  pub read : run.status ≡ ReadFault → HasFault run Cnf
+  pub write : run.status ≡ WriteFault → HasFault run ProofOut ⊎ HasFault run Out
+  pub accepted : run.status ≡ WriteFault → IsTrue run.tells → (problem : Formula) × AsksFor run problem
+
+-- a true answer to the question that the words ask, after a flushed proof of whole lines
+pub record IsTrueAnswer (run : Run) (answer : Answer) : Type 0 where
+  pub problem : Formula
+  pub asked : AsksFor run problem
+  pub holds : Holds problem (written_in run ProofOut) answer
+  pub proof : IsProof problem.clauses (written_in run ProofOut)
+  pub flushed : (run.after ProofOut).flushed ≡ length (run.after ProofOut).written
+  pub rest : List ℕ
+  pub front : answer_text problem.vars answer ≡ written_in run Out ++ rest
+
+-- Standard output: nothing, or a front of a true answer's text; the whole of it and flushed, where the run ends
+-- with that answer, and nothing, where it ends otherwise but for a failed write.
+pub record OutputStands (run : Run) : Type 0 where
+  pub grows : IsTrue run.tells → (run.after Out).written ≡ (run.before Out).written ++ written_in run Out
+  pub front : IsTrue run.tells → (written_in run Out ≡ []) ⊎ ((answer : Answer) × IsTrueAnswer run answer)
+  pub answered : IsTrue (is_answer run.status) → IsTrue run.tells → (answer : Answer) × (true_answer : IsTrueAnswer run answer) × (run.status ≡ status_of answer) × (true_answer.rest ≡ [])
+  pub flushed : IsTrue (is_answer run.status) → IsTrue run.tells → (run.after Out).flushed ≡ length (run.after Out).written
+  pub silent : IsFalse (is_answer run.status) → run.status ≢ WriteFault → IsTrue run.tells → written_in run Out ≡ []
+
+-- Standard error: a front of the status's text, the whole of it where no write to it failed; nothing for an answer.
+pub record ErrorStands (run : Run) : Type 0 where
+  pub grows : IsTrue run.tells → (run.after Err).written ≡ (run.before Err).written ++ written_in run Err
+  pub front : IsTrue run.tells → (rest : List ℕ) × (error_text run.status ≡ written_in run Err ++ rest) × ((HasFault run Err → ⊥) → rest ≡ [])
+
+-- The proof: nothing, or whole lines that are good steps from the clauses of the formula that is asked for; a
+-- front of one good line may stand behind them only after a failed write.
+pub record ProofStands (run : Run) : Type 0 where
+  pub so_far : IsTrue run.tells → (written_in run ProofOut ≡ []) ⊎ ((problem : Formula) × AsksFor run problem × IsProofSoFar problem.clauses (written_in run ProofOut))
+  pub whole : run.status ≢ WriteFault → IsTrue run.tells → (written_in run ProofOut ≡ []) ⊎ ((problem : Formula) × AsksFor run problem × IsProof problem.clauses (written_in run ProofOut))
+
+-- a status with which a run ends before it creates a file
+abbrev pub ends_before_proof : Status → Bool
+ends_before_proof Sat = false
+ends_before_proof Unsat = false
+ends_before_proof (Unknown why) = false
+ends_before_proof Usage = true
+ends_before_proof (CnfRefused kind line) = true
+ends_before_proof (TooLong role) = true
+ends_before_proof ReadFault = true
+ends_before_proof WriteFault = false
+ends_before_proof OutOfMemory = false
+
+-- the roles that have a name only where the words give it
+abbrev pub name_given : Role → Command → Option (List ℕ)
+name_given Cnf (Solve file proof) = Some file
+name_given Order (Solve file proof) = None
+name_given Schedule (Solve file proof) = None
+name_given ProofIn (Solve file proof) = None
+name_given ProofOut (Solve file proof) = Some proof
+name_given Made (Solve file proof) = None
+name_given Out (Solve file proof) = None
+name_given Err (Solve file proof) = None
+
+-- Names: a role has none, or the one that the words give it. Files: none changed but the proof's, which is created
+-- only once the formula was read.
+pub record NamesAreGiven (run : Run) : Type 0 where
+  pub names : (role : Role) → ((run.after role).name ≡ None) ⊎ ((asked : Command) × (command run.words ≡ Some asked) × ((run.after role).name ≡ name_given role asked))
+  pub files : FilesBut (run.after ProofOut).name run.files run.files_after
+  pub read_first : IsTrue (ends_before_proof run.status) → (run.after ProofOut).name ≡ None
+
+-- Complete: what is asked for is answered, unless a call of the host failed or memory ran out.
+pub record IsComplete (run : Run) : Type 0 where
+  pub answers : (problem : Formula) → AsksFor run problem → IsTrue run.tells → (HasFault run Cnf → ⊥) → (HasFault run ProofOut → ⊥) → (HasFault run Out → ⊥)
+      → IsTrue (is_answer run.status) ⊎ (run.status ≡ OutOfMemory)
+  pub refuses : (file proof : List ℕ) (kind : CnfKind) (line : ℕ) → Asks run file proof (refusal kind line) → IsTrue run.tells → (HasFault run Cnf → ⊥)
+      → (run.status ≡ CnfRefused kind line) ⊎ (run.status ≡ OutOfMemory)
+  pub overlong : (file proof : List ℕ) → Asks run file proof overlong → IsTrue run.tells → (HasFault run Cnf → ⊥) → (run.status ≡ TooLong Cnf) ⊎ (run.status ≡ OutOfMemory)
+
+-- All that the program promises of a run.
+pub record Promises (run : Run) : Type 0 where
+  pub unsatisfiable : UnsatisfiableIsProved run
+  pub satisfiable : SatisfiableIsTrue run
+  pub undecided : LimitsAreReached run
+  pub refusals : RefusalsAreDue run
+  pub faults : FaultsAreCounted run
+  pub output : OutputStands run
+  pub error : ErrorStands run
+  pub proof : ProofStands run
+  pub names : NamesAreGiven run
+  pub complete : IsComplete run

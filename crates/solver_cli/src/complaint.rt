@@ -1,0 +1,81 @@
+// The line on standard error.
+ghost use Rattle.std.specs.Prelude.{◌≡◌, ◌++◌, codes};
+ghost use Rattle.host_io.specs.declared.role.Role.TheVariants.{Err as ErrRole};
+ghost use Rattle.host_io.specs.Channel.{WritesAll};
+ghost use Rattle.host_io.specs.Files.{Kept};
+ghost use Rattle.solver_cli.specs.declared.status.Status.TheVariants.{CnfRefused};
+ghost use Rattle.solver_cli.specs.ErrorText.{kind_name, role_word, error_text};
+ghost use Rattle.solver_cli.specs.Phases.{Complains};
+
+use crate::status::Status;
+use dimacs_reader::CnfKind;
+use host_io::{Failed, Host, HostSink, Role, Sink, beside_kept, write_all};
+use itoa::Buffer;
+
+/// Writes the status's line on standard error, and nothing for an answer. That the line could not be written ends
+/// no run otherwise.
+pub fn complain<H: Host>(host: &mut H, status: Status)
+    ensures complains { Complains H.tells (H.channel host.old ErrRole) (H.channel host.new ErrRole) status }
+    ensures kept { Kept ErrRole (H.channel host.old ErrRole).name (H.channel host.old) (H.channel host.new) (H.files host.old) (H.files host.new) }
+{
+    beside_kept::<H>();
+    let mut sink = HostSink::new(host, Role::Err);
+    let _written = write_status(&mut sink, status);
+    let _flushed = sink.flush();
+}
+
+fn write_status<S: Sink>(sink: &mut S, status: Status) -> Result<(), Failed>
+    ensures writes { WritesAll S.tells (S.channel sink.old) (S.channel sink.new) (error_text status) result }
+    ensures beside { S.beside sink.new ≡ S.beside sink.old }
+{
+    match status {
+        Status::Sat | Status::Unsat | Status::Unknown(_) => Ok(()),
+        Status::Usage => write_all(sink, b"error: bad usage\n"),
+        Status::CnfRefused(kind, line) => write_refused(sink, kind, line),
+        Status::TooLong(role) => write_all(sink, too_long(role).as_bytes()),
+        Status::ReadFault => write_all(sink, b"error: read failed\n"),
+        Status::WriteFault => write_all(sink, b"error: write failed\n"),
+        Status::OutOfMemory => write_all(sink, b"error: out of memory\n"),
+    }
+}
+
+// What is wrong with the formula's text, and in which line.
+fn write_refused<S: Sink>(sink: &mut S, kind: CnfKind, line: u64) -> Result<(), Failed>
+    ensures writes { WritesAll S.tells (S.channel sink.old) (S.channel sink.new) (error_text (CnfRefused kind line)) result }
+    ensures beside { S.beside sink.new ≡ S.beside sink.old }
+{
+    write_all(sink, b"error: cnf line ")?;
+    write_all(sink, Buffer::new().format(line).as_bytes())?;
+    write_all(sink, kind_text(kind).as_bytes())
+}
+
+// The end of a line that tells a kind.
+fn kind_text(kind: CnfKind) -> &'static str
+    ensures { result.now ≡ codes ": " ++ kind_name kind ++ codes "\n" }
+{
+    match kind {
+        CnfKind::NoHeader => ": NoHeader\n",
+        CnfKind::BadHeader => ": BadHeader\n",
+        CnfKind::BadToken => ": BadToken\n",
+        CnfKind::LiteralRange => ": LiteralRange\n",
+        CnfKind::TooManyClauses => ": TooManyClauses\n",
+        CnfKind::ClauseMissing => ": ClauseMissing\n",
+        CnfKind::NoEndingZero => ": NoEndingZero\n",
+        CnfKind::Limit => ": Limit\n",
+    }
+}
+
+// The line about a text that is too long.
+fn too_long(role: Role) -> &'static str
+    ensures { result.now ≡ codes "error: " ++ role_word role ++ codes " too long\n" }
+{
+    match role {
+        Role::Cnf => "error: cnf too long\n",
+        Role::Order => "error: order too long\n",
+        Role::Schedule => "error: schedule too long\n",
+        Role::ProofIn | Role::ProofOut => "error: proof too long\n",
+        Role::Made => "error: made too long\n",
+        Role::Out => "error: out too long\n",
+        Role::Err => "error: err too long\n",
+    }
+}

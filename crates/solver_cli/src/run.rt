@@ -1,0 +1,81 @@
+// One run of the program.
+ghost use Rattle.std.specs.Prelude.{◌≡◌, None, map, IsFalse, true};
+ghost use Rattle.std.specs.String.{string_bytes};
+ghost use Rattle.host_io.specs.declared.role.Role.{Role};
+ghost use Rattle.host_io.specs.declared.role.Role.TheVariants.{Cnf as CnfRole, ProofOut, Out};
+ghost use Rattle.host_io.specs.Files.{FilesBut, same_role};
+ghost use Rattle.host_io.specs.Memory.{channel_of, files_of};
+ghost use Rattle.solver_cli.specs.Headline.{Promises};
+ghost use Rattle.solver_cli.specs.Stages.{Stages, streams_of};
+
+use crate::complaint::complain;
+use crate::formula::take_formula;
+use crate::output::put_answer;
+use crate::proof::prove;
+use crate::status::Status;
+use crate::words::read_words;
+use host_io::{Host, MemoryHost, Role as HostRole};
+use lrat_rules::soundness_law;
+use std::alloc::Global;
+
+fn work<H: Host>(alloc: Global, words: &[String], host: &mut H) -> Status
+    requires unnamed { (role : Role) → (H.channel host.old role).name ≡ None }
+    ensures stages { Stages H.tells (map string_bytes words.now) (streams_of (H.channel host.old)) (streams_of (H.channel host.new)) (H.files host.old) result }
+    ensures others { (role : Role) → IsFalse (same_role role CnfRole) → IsFalse (same_role role ProofOut) → IsFalse (same_role role Out) → H.channel host.new role ≡ H.channel host.old role }
+    ensures files { FilesBut (H.channel host.new ProofOut).name (H.files host.old) (H.files host.new) }
+{
+    let Some(asked) = read_words(words) else {
+        return Status::Usage;
+    };
+    let formula = match take_formula(alloc, host, asked.formula) {
+        Ok(formula) => formula,
+        Err(status) => return status,
+    };
+    if host.create(HostRole::ProofOut, asked.proof).is_err() {
+        return Status::WriteFault;
+    }
+    let answer = match prove(alloc, host, &formula) {
+        Ok(answer) => answer,
+        Err(status) => return status,
+    };
+    match put_answer(alloc, host, &formula, answer) {
+        Ok(()) => answer.status(),
+        Err(status) => status,
+    }
+}
+
+/// Does all that the program does: reads the words (the program's own name first), decides the formula, writes the
+/// proof, prints the answer or what went wrong, and says how the run ends.
+pub fn run<H: Host>(alloc: Global, words: &[String], host: &mut H) -> Status
+    requires unnamed { (role : Role) → (H.channel host.old role).name ≡ None }
+    ensures promises { Promises (record {
+      tells = H.tells;
+      words = map string_bytes words.now;
+      before = H.channel host.old;
+      after = H.channel host.new;
+      files = H.files host.old;
+      files_after = H.files host.new;
+      status = result;
+    }) }
+{
+    soundness_law();
+    let status = work(alloc, words, host);
+    complain(host, status);
+    status
+}
+
+/// As `run`, over a host in memory, which tells all bytes.
+pub fn run_in_memory(alloc: Global, words: &[String], host: &mut MemoryHost) -> Status
+    requires unnamed { (role : Role) → (channel_of host.old role).name ≡ None }
+    ensures promises { Promises (record {
+      tells = true;
+      words = map string_bytes words.now;
+      before = channel_of host.old;
+      after = channel_of host.new;
+      files = files_of host.old;
+      files_after = files_of host.new;
+      status = result;
+    }) }
+{
+    run(alloc, words, host)
+}

@@ -1,0 +1,78 @@
+// How the program ends.
+ghost use Rattle.std.specs.Prelude.{◌≡◌};
+ghost use Rattle.solver_cli.specs.ExitCode.{exit_code};
+
+use dimacs_reader::{CnfError, CnfKind};
+use host_io::Role;
+
+/// Why a formula was left undecided.
+#[derive(Clone, Copy, Debug, PartialEq, Eq)]
+pub enum Why {
+    /// The diagrams reached the greatest number of nodes.
+    NodeLimit,
+}
+
+/// How the program ends.
+#[derive(Clone, Copy, Debug, PartialEq, Eq)]
+pub enum Status {
+    /// The formula has a satisfying assignment, which was printed.
+    Sat,
+    /// The formula has none, and the proof was written.
+    Unsat,
+    /// The formula was left undecided.
+    Unknown(Why),
+    /// The words ask for nothing that the program does.
+    Usage,
+    /// The formula's text is none; the line is where that shows.
+    CnfRefused(CnfKind, u64),
+    /// The text of this role has more than 4,000,000,000 bytes.
+    TooLong(Role),
+    /// A file could not be opened or read.
+    ReadFault,
+    /// A file or standard output could not be written.
+    WriteFault,
+    OutOfMemory,
+}
+
+impl Status {
+    /// The exit code: 10, 20 and 0 as at SAT competitions, 2 for a refused text, 3 to 6 for what went wrong.
+    pub fn code(self) -> u8
+        ensures { result ≡ exit_code self }
+    {
+        match self {
+            Status::Sat => 10,
+            Status::Unsat => 20,
+            Status::Unknown(_) => 0,
+            Status::CnfRefused(..) | Status::TooLong(_) => 2,
+            Status::ReadFault => 3,
+            Status::WriteFault => 4,
+            Status::OutOfMemory => 5,
+            Status::Usage => 6,
+        }
+    }
+}
+
+impl From<CnfError> for Status {
+    ghost use Rattle.solver_cli.specs.ExitCode.{status_of_error};
+
+    ghost from_gives = { λ e status. status ≡ status_of_error e };
+
+    fn from(e: CnfError) -> Status {
+        match e {
+            CnfError::Refused(kind, line) => Status::CnfRefused(kind, line),
+            CnfError::ReadFault => Status::ReadFault,
+            CnfError::TooLong => Status::TooLong(Role::Cnf),
+            CnfError::OutOfMemory => Status::OutOfMemory,
+        }
+    }
+}
+
+impl From<cnf_base::OutOfMemory> for Status {
+    ghost use Rattle.solver_cli.specs.declared.status.Status.TheVariants.{OutOfMemory};
+
+    ghost from_gives = { λ _ status. status ≡ OutOfMemory };
+
+    fn from(_: cnf_base::OutOfMemory) -> Status {
+        Status::OutOfMemory
+    }
+}
