@@ -57,14 +57,23 @@ impl<S: Sink + Drop> Ledger<S> {
     {
         start_law();
         formula.is_formula();
-        match copied(alloc, formula) {
-            Ok(live) => Ok(Ledger {
-                sink,
-                live,
-                max_ids,
-                in_step: true,
-            }),
+        match start_clauses(alloc, formula) {
+            Ok(live) => Ok(Ledger::new(live, sink, max_ids)),
             Err(e) => Err((sink, e)),
+        }
+    }
+
+    /// A ledger over clauses that stand already, as `start_clauses` makes them.
+    pub fn new(live: LiveClauses, sink: S, max_ids: u64) -> Self
+        requires limit { max_ids ≤ max_id }
+        requires top { live.top ≤ max_id }
+        ensures { result ≡ record { sink = sink; state = live; limit = max_ids; in_step = true } }
+    {
+        Ledger {
+            sink,
+            live,
+            max_ids,
+            in_step: true,
         }
     }
 
@@ -231,7 +240,8 @@ impl<S: Sink + Drop> Ledger<S> {
     }
 }
 
-fn copied(alloc: Global, formula: &Cnf) -> Result<LiveClauses, OutOfMemory>
+/// The clauses of a formula under 1, 2, ..
+pub fn start_clauses(alloc: Global, formula: &Cnf) -> Result<LiveClauses, OutOfMemory>
     ensures { IfOk result (λ live. live ≡ start formula.now.clauses) }
 {
     start_law();

@@ -11,4 +11,5 @@ mod live;
 mod tests;
 
 pub use error::LedgerError;
-pub use ledger::Ledger;
+pub use ledger::{Ledger, start_clauses};
+pub use live::LiveClauses;

@@ -1,5 +1,5 @@
 -- What adding a file does to the files of a host in memory.
-use Rattle.std.proofs.Common.{◌≡◌, ◌≢◌, ℕ, Bool, true, false, cond, List, [], ◌∷◌, Option, None, Some, refl, sym, ◌∙◌, subst}
+use Rattle.std.proofs.Common.{◌≡◌, ◌≢◌, ℕ, true, false, List, ◌∷◌, Option, None, refl, sym, ◌∙◌, subst}
 use Rattle.std.specs.Str.{bytes_eq}
 use Rattle.std.proofs.lemmas.Slice.Eq.{bytes_eq-Decides}
 use Rattle.host_io.specs.declared.role.Role.TheVariants.{ProofOut, Made}
@@ -13,7 +13,7 @@ uncreated channel file rest none = rw none refl
 unequal : (a b : List ℕ) → a ≢ b → bytes_eq a b ≡ false
 unequal a b n =
     elim (bytes_eq a b) as (λ t. bytes_eq a b ≡ t → t ≡ false) [
-      true ↦ λ h. absurd (n ((bytes_eq-Decides a b).0 h))
+      | true ↦ λ h. absurd (n ((bytes_eq-Decides a b).0 h))
       | false ↦ λ _. refl
     ] refl
 
@@ -38,5 +38,5 @@ pub adds_front : (memory : Memory) (streams : List Channel) (files new_files : L
 adds_front memory streams files new_files own own_bytes name bytes seen front name_is bytes_is unnamed =
     let unnamed_parts : IsUnnamed (record { streams = streams; files = files }) = subst IsUnnamed (sym seen) unnamed in
     subst (λ m. AddsFile m (record { streams = streams; files = new_files }) name bytes) seen (
-      rw (front, name_is, bytes_is) (adds_file streams files name bytes unnamed_parts)
+    rw (front, name_is, bytes_is) (adds_file streams files name bytes unnamed_parts)
     )

@@ -1,8 +1,7 @@
 -- Reading from the front of what is left.
-use Rattle.std.proofs.Common.{◌≡◌, ℕ, ◌+◌, ◌-◌, ◌<◌, ◌≤◌, min, List, [], ◌∷◌, ◌++◌, length, take, drop, Option, Result, Ok, true, arith, refl, sym, ◌∙◌, ap, length-drop, length-append}
+use Rattle.std.proofs.Common.{◌≡◌, ℕ, ◌+◌, min, List, [], ◌∷◌, ◌++◌, length, take, drop, Ok, true, arith, refl, sym, ◌∙◌, ap}
 use Rattle.std.proofs.Math.Seq.{take-add}
 use Rattle.std.proofs.lemmas.List.{take_at, length-take, take-append-drop, drop-drop}
-use Rattle.host_io.specs.declared.source.Failed.{Failed}
 use Rattle.host_io.specs.Channel.{Channel, Reads}
 
 -- a channel that has read this far in the bytes that were there to be read

@@ -1,11 +1,10 @@
 -- What is beside one role of a host is the same exactly where the host kept the rest.
 use Rattle.std.proofs.Common.{◌≡◌, ◌≢◌, ℕ, Bool, true, false, cond, Option, None, Some, List, [], ◌∷◌, refl, sym, ◌∙◌, ap, subst}
-use Rattle.std.specs.Str.{bytes_eq}
 use Rattle.std.proofs.lemmas.Slice.Eq.{bytes_eq-Decides}
 use Rattle.host_io.specs.declared.role.Role.{Role}
 use Rattle.host_io.specs.Channel.{Channel}
 use Rattle.host_io.specs.Files.{Files, same_role, Others, FilesBut, Kept}
-use Rattle.host_io.specs.Beside.{Rest, Beside, is_named, others_of, files_but, rest_of, beside_role}
+use Rattle.host_io.specs.Beside.{Rest, IsBack, KeepsBeside, is_named, others_of, files_but, beside_role}
 
 named : (own : Option (List ℕ)) (file : List ℕ) → is_named own file ≡ true → own ≡ Some file
 named None file h = cc
@@ -14,7 +13,7 @@ named (Some name) file h = ap Some ((bytes_eq-Decides name file).0 h)
 unnamed : (own : Option (List ℕ)) (file : List ℕ) → own ≢ Some file → is_named own file ≡ false
 unnamed own file n =
     elim (is_named own file) as (λ b. is_named own file ≡ b → b ≡ false) [
-      true ↦ λ h. absurd (n (named own file h))
+      | true ↦ λ h. absurd (n (named own file h))
       | false ↦ λ _. refl
     ] refl
 
@@ -46,7 +45,7 @@ others_same role old new kept = λ i other. at other i
     at : (other : Role) → others_of role new other ≡ others_of role old other
     at other =
         elim (same_role other role) as (λ b. same_role other role ≡ b → cond b None (Some (new other)) ≡ cond b None (Some (old other))) [
-          true ↦ λ _. refl
+          | true ↦ λ _. refl
           | false ↦ λ h. ap Some (kept other h)
         ] refl
 
@@ -56,7 +55,7 @@ files_same own old new kept = λ i file. at file i
     at : (file : List ℕ) → files_but own new file ≡ files_but own old file
     at file =
         elim (is_named own file) as (λ b. is_named own file ≡ b → cond b None (Some (new file)) ≡ cond b None (Some (old file))) [
-          true ↦ λ _. refl
+          | true ↦ λ _. refl
           | false ↦ λ h. ap Some (kept file (λ e. named_not own file e h))
         ] refl
 
@@ -65,7 +64,7 @@ pub rest_kept : (lender : ℕ) (role : Role) (own own' : Option (List ℕ)) (old
 rest_kept lender role own own' old new old_files new_files kept name same =
     let others : others_of role new ≡ others_of role old = others_same role old new kept.others in
     let files : files_but own' new_files ≡ files_but own old_files =
-        ap (λ o. files_but o new_files) same ∙ files_same own old_files new_files kept.files in
+    ap (λ o. files_but o new_files) same ∙ files_same own old_files new_files kept.files in
     λ i. record {
       lenders = lender ∷ [];
       rest = Some (record { role = role; name = name i; others = others i; files = files i });
@@ -93,19 +92,25 @@ lender_in [] = 0
 lender_in (lender ∷ lenders) = lender
 
 -- The host that comes back from a view is the view's own at its end, and it kept the rest.
-pub kept_back : {H : Type 0} (channel : H → Role → Channel) (files : H → Files) (old new start end : H) (role start_role end_role : Role) (lender lent last : ℕ) (own start_own end_own : Option (List ℕ)) → lent ≡ lender → start ≡ old → start_role ≡ role → start_own ≡ own → beside_role last end_role end_own (channel end) (files end) ≡ beside_role lent start_role start_own (channel start) (files start) → (lender ≡ last → new ≡ end) → (channel new role ≡ channel end end_role) × Kept role own (channel old) (channel new) (files old) (files new)
+kept_back : {H : Type 0} (channel : H → Role → Channel) (files : H → Files) (old new start end : H) (role start_role end_role : Role) (lender lent last : ℕ) (own start_own end_own : Option (List ℕ)) → lent ≡ lender → start ≡ old → start_role ≡ role → start_own ≡ own → beside_role last end_role end_own (channel end) (files end) ≡ beside_role lent start_role start_own (channel start) (files start) → (lender ≡ last → new ≡ end) → IsBack channel files role own old new (channel end end_role)
 kept_back channel files old new start end role start_role end_role lender lent last own start_own end_own lent_is start_is role_is own_is same tie =
     let last_is : last ≡ lent = ap (λ b. lender_in b.lenders) same in
     let end_role_is : end_role ≡ start_role = ap (λ b. role_in start_role b.rest) same in
     let new_is : new ≡ end = tie (sym (last_is ∙ lent_is)) in
-    let kept : Kept start_role start_own (channel start) (channel end) (files start) (files end) = kept_of_rest _ _ _ _ _ _ _ _ _ _ same in
-    (
-      cc,
-      subst (λ h. Kept role own (channel old) (channel h) (files old) (files h)) (sym new_is) (
-        subst (λ r. Kept r own (channel old) (channel end) (files old) (files end)) role_is (
+    let kept : Kept start_role start_own (channel start) (channel end) (files start) (files end) = kept_of_rest last lent start_role end_role start_own end_own (channel start) (channel end) (files start) (files end) same in
+    record {
+      same = cc;
+      kept = subst (λ h. Kept role own (channel old) (channel h) (files old) (files h)) (sym new_is) (
+          subst (λ r. Kept r own (channel old) (channel end) (files old) (files end)) role_is (
           subst (λ o. Kept start_role o (channel old) (channel end) (files old) (files end)) own_is (
-            subst (λ h. Kept start_role start_own (channel h) (channel end) (files h) (files end)) start_is kept
+          subst (λ h. Kept start_role start_own (channel h) (channel end) (files h) (files end)) start_is kept
           )
-        )
-      )
-    )
+          )
+          );
+    }
+
+pub keeps_beside : {H : Type 0} (channel : H → Role → Channel) (files : H → Files) → KeepsBeside channel files
+keeps_beside channel files = record {
+  source = λ {old} {new} {start} {end} {role} {start_role} {end_role} {lender} {lent} {last} lent_is start_is role_is same tie. kept_back channel files old new start end role start_role end_role lender lent last None None None lent_is start_is role_is refl same tie;
+  sink = λ {old} {new} {start} {end} {role} {start_role} {end_role} {lender} {lent} {last} lent_is start_is role_is same tie. kept_back channel files old new start end role start_role end_role lender lent last _ _ _ lent_is start_is role_is (cc) same tie;
+}

@@ -1,5 +1,7 @@
 pub mod Added
 pub mod Front
+pub mod HasRead
 pub mod Kept
+pub mod Parts
 pub mod Unopened
 pub mod Written

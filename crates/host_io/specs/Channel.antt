@@ -1,6 +1,6 @@
 -- What the outside tells of one role: a stream that is read, or one that is written.
 -- `read`, `write` and `flush` are described here once, for a source, a sink and a role of a host alike.
-use Rattle.std.specs.Prelude.{◌≡◌, ◌⊎◌, ℕ, ◌+◌, ◌-◌, ◌^◌, ◌<◌, ◌≤◌, min, Bool, List, [], ◌++◌, length, take, Option, None, Some, Result, Ok, Err, IsTrue, IsOk, IsErr, IfOk}
+use Rattle.std.specs.Prelude.{◌≡◌, ℕ, ◌+◌, ◌-◌, ◌^◌, ◌<◌, ◌≤◌, min, Bool, List, [], ◌++◌, length, take, drop, Option, Result, Ok, Err, IsTrue, IsOk, IsErr, IfOk}
 use Rattle.host_io.specs.declared.source.Failed.{Failed}
 
 -- The meanings of a role. The name is that of the file that it was opened or created under, none at first.
@@ -79,5 +79,17 @@ pub record Puts {T : Type 0} (tells : Bool) (old new : Channel) (piece : List �
   pub unflushed : IsErr result → new.flushed ≡ old.flushed
   pub taken : new.taken ≡ old.taken
   pub left : new.left ≡ old.left
+  pub name : new.name ≡ old.name
+  pub faults : Counts old new result
+
+-- Reading until the buffer is full or the input ends. Where a read failed, a front of what was left was taken.
+pub record Fills (tells : Bool) (old new : Channel) (capacity : ℕ) (buffer : List ℕ) (result : Result ℕ Failed) : Type 0 where
+  pub count : IfOk result (λ n. n ≤ capacity)
+  pub taken : IsTrue tells → IsOk result → new.taken ≡ old.taken ++ take (moved result) buffer
+  pub left : IsTrue tells → IsOk result → old.left ≡ take (moved result) buffer ++ new.left
+  pub ended : IsTrue tells → IfOk result (λ n. n < capacity → new.left ≡ [])
+  pub failed : IsTrue tells → IsErr result → (n : ℕ) × (new.taken ≡ old.taken ++ take n old.left) × (new.left ≡ drop n old.left)
+  pub written : new.written ≡ old.written
+  pub flushed : new.flushed ≡ old.flushed
   pub name : new.name ≡ old.name
   pub faults : Counts old new result

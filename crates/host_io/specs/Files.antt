@@ -1,5 +1,5 @@
 -- What a host keeps of its other roles and of its files in a call of one role, and what opening and creating do.
-use Rattle.std.specs.Prelude.{◌≡◌, ◌≢◌, ◌⊎◌, ℕ, Bool, List, [], Option, None, Some, Result, IsTrue, IsFalse, IsOk, IsErr, ◌==◌, ⊤}
+use Rattle.std.specs.Prelude.{◌≡◌, ◌≢◌, ◌⊎◌, ℕ, Bool, List, [], Option, None, Some, Result, IsFalse, IsOk, IsErr, ◌==◌, ⊤}
 use Rattle.std.specs.Coded.{Unit-prop}
 use Rattle.host_io.specs.declared.source.Failed.{Failed}
 use Rattle.host_io.specs.declared.role.Role.{Role}

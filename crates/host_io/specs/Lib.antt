@@ -2,3 +2,5 @@ pub mod Channel
 pub mod Files
 pub mod Beside
 pub mod Memory
+pub mod Failing
+pub mod Real

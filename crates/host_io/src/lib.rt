@@ -6,24 +6,34 @@
 //! Stands on nothing.
 #![tactic(auto)]
 
-mod law;
-mod memory_host;
+#[cfg(test)]
+mod by_value;
+mod client;
+mod device;
+mod failing_host;
 mod host;
 mod host_sink;
 mod host_source;
+mod law;
 mod lent;
-mod client;
+mod memory_host;
+mod real_host;
+mod real_role;
 mod role;
 mod source;
 mod stream;
+#[cfg(test)]
+mod tests;
 mod whole;
 
-pub use law::beside_kept;
+pub use client::{load, put};
+pub use failing_host::FailingHost;
 pub use host::Host;
 pub use host_sink::HostSink;
 pub use host_source::HostSource;
-pub use client::put;
+pub use law::beside_kept;
 pub use memory_host::{MemoryHost, OutOfMemory};
+pub use real_host::RealHost;
 pub use role::Role;
 pub use source::{Failed, Sink, Source};
-pub use whole::write_all;
+pub use whole::{fill, write_all};

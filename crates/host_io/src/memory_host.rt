@@ -1,15 +1,15 @@
 // A host that keeps its files in memory and tells all. Each role reads a copy of its file, so that no call of
 // one role is met by another.
-ghost use Rattle.std.specs.Prelude.{◌≡◌, ◌<◌, ◌≤◌, [], List, ℕ, None, Some, true, length, IfSome, OnOk, OnErr};
+ghost use Rattle.std.specs.Prelude.{◌≡◌, ◌≢◌, ◌≤◌, List, ℕ, None, Some, true, length, IfSome, OnOk, OnErr};
 ghost use Rattle.std.specs.Option.{option_copied};
 ghost use Rattle.host_io.specs.declared.role.Role.{Role};
 ghost use Rattle.host_io.specs.declared.role.Role.TheVariants.{ProofOut, Made};
 ghost use Rattle.host_io.specs.Channel.{Channel, Reads, Writes, Flushes};
-ghost use Rattle.host_io.specs.Files.{code_of};
-ghost use Rattle.host_io.specs.Memory.{Memory, fresh, channel_of, files_of, stored, IsUnnamed, AddsFile};
+ghost use Rattle.host_io.specs.Files.{Kept, IsIdle};
+ghost use Rattle.host_io.specs.Memory.{Memory, fresh, faulted, channel_of, files_of, stored, IsNamedFirst, IsUnnamed, AddsFile};
 
 use crate::host::Host;
-use crate::role::Role;
+use crate::role::{Role, place};
 use crate::source::Failed;
 use crate::stream::Stream;
 use std::alloc::{AllocError, AllocFailed, Global};
@@ -65,23 +65,6 @@ impl Model for MemoryHost {
     ghost invariant = { λ h. IsSettled h.streams };
 }
 
-// The place of a role among the streams.
-fn place(role: Role) -> usize
-    ensures place { result ≡ code_of role }
-    ensures below { result < 8 }
-{
-    match role {
-        Role::Cnf => 0,
-        Role::Order => 1,
-        Role::Schedule => 2,
-        Role::ProofIn => 3,
-        Role::ProofOut => 4,
-        Role::Made => 5,
-        Role::Out => 6,
-        Role::Err => 7,
-    }
-}
-
 impl MemoryHost {
     /// No file, and no role met yet.
     pub fn new(alloc: Global) -> Self
@@ -128,6 +111,10 @@ impl MemoryHost {
     /// The file of this name, if there is one.
     pub fn file(&self, name: &str) -> Option<&[u8]>
         ensures file { option_copied result ≡ files_of self.now name.now }
+
+        // a created file is what its role wrote
+        ensures made { (channel_of self.now Made).name ≡ Some name.now → option_copied result ≡ Some (channel_of self.now Made).written }
+        ensures proof_out { (channel_of self.now ProofOut).name ≡ Some name.now → (channel_of self.now Made).name ≢ Some name.now → option_copied result ≡ Some (channel_of self.now ProofOut).written }
     {
         let made = &self.streams[place(Role::Made)];
         if made.is_named(name) {
@@ -138,6 +125,16 @@ impl MemoryHost {
             return Some(proof_out.output());
         }
         find(&self.files, name)
+    }
+
+    /// Counts a fault in this role.
+    pub(crate) fn fail(&mut self, role: Role) -> Failed
+        ensures faulted { channel_of self.new role ≡ faulted (channel_of self.old role) }
+        ensures no_less { (channel_of self.old role).faults ≤ (channel_of self.new role).faults }
+        ensures kept { Kept role None (channel_of self.old) (channel_of self.new) (files_of self.old) (files_of self.new) }
+        ensures unused { IsNamedFirst role → (channel_of self.old role).name ≡ None → IsIdle (channel_of self.old role) }
+    {
+        self.streams[place(role)].fail()
     }
 
     // Copies of this name and of the file that has it.
@@ -175,7 +172,7 @@ impl Host for MemoryHost {
                 self.streams[place(role)].open(name, bytes);
                 Ok(())
             }
-            None => Err(self.streams[place(role)].fail()),
+            None => Err(self.fail(role)),
         }
     }
 
@@ -185,7 +182,7 @@ impl Host for MemoryHost {
                 self.streams[place(role)].open(name, Vec::new(self.alloc));
                 Ok(())
             }
-            Err(_) => Err(self.streams[place(role)].fail()),
+            Err(_) => Err(self.fail(role)),
         }
     }
 

@@ -8,3 +8,5 @@ pub mod SoundSteps
 pub mod Refuted
 pub mod MoreLines
 pub mod Samples
+pub mod Passes
+pub mod MarksAtStart

@@ -5,3 +5,4 @@ pub mod Run
 pub mod Strict
 pub mod Soundness
 pub mod Marks
+pub mod FalseLiterals

@@ -3,6 +3,8 @@ ghost use Rattle.std.specs.Prelude.{◌≡◌, ◌<◌, ◌+◌, ◌||◌, ◌++
 ghost use Rattle.std.specs.List.{list_all};
 ghost use Rattle.cnf_base.specs.declared.step.Step.{Step};
 ghost use Rattle.cnf_base.specs.ProofText.{proof_lines, line_of_step, is_printable, are_whole_lines};
+ghost use Rattle.cnf_base.specs.Truth.{AreClausesOf};
+ghost use Rattle.lrat_rules.specs.Marks.{in_use};
 ghost use Rattle.lrat_rules.specs.State.{State, Live, clause_at, start, with_clause};
 ghost use Rattle.lrat_rules.specs.Chain.{Closes, literals_of};
 ghost use Rattle.lrat_rules.specs.Addition.{fault};
@@ -57,4 +59,9 @@ pub fn refuted_law()
     ensures refutes { (clauses : List (List ℤ)) (bytes : List ℕ) (state : State) → Spells clauses bytes state → IsTrue (adds_empty_clause bytes) → Refutes clauses bytes }
     ensures reaches { (clauses : List (List ℤ)) (bytes : List ℕ) → Refutes clauses bytes → (state : State) × (run (start clauses) (proof_lines bytes) ≡ Reached state) }
     ensures adds_empty { (clauses : List (List ℤ)) (bytes : List ℕ) → Refutes clauses bytes → IsTrue (adds_empty_clause bytes) }
+{}
+
+/// At the start no extension variable is in use.
+pub fn marks_law()
+    ensures { (vars : ℕ) (clauses : List (List ℤ)) → AreClausesOf vars clauses → in_use vars (start clauses) ≡ 0 }
 {}

@@ -3,14 +3,16 @@
 //! (Cruz-Filipe, Heule, Hunt, Kaufmann, Schneider-Kamp: Efficient Certified RAT Verification, CADE 2017.)
 #![tactic(auto)]
 
+mod chain;
 mod examples;
 mod laws;
 mod outcome;
 mod soundness;
 
+pub use chain::Chain;
 pub use examples::{refutation_example, resolvent_example};
 pub use laws::{
-    conflict_law, definition_law, live_law, one_more_step_law, refuted_law, start_law,
+    conflict_law, definition_law, live_law, marks_law, one_more_step_law, refuted_law, start_law,
     strict_addition_law,
 };
 pub use outcome::{Effect, Reason};

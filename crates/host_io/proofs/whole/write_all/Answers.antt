@@ -5,6 +5,6 @@ use Rattle.host_io.proofs.whole.write_all.Goals as goal
 
 pub pieces-preserved : goal.pieces-preserved
 pieces-preserved g c = (
-  more_written _ _ _ _ _ _ _ _ (grind (arith, common_steps)) c.pieces.invariant.0 c.in_ok-done.ensures.writes,
-  c.in_ok-done.ensures.beside ∙ c.pieces.invariant.1
+  more_written _ _ _ _ _ _ _ _ (grind (arith, common_steps)) c.pieces.invariant.0 c.in_ok-written.ensures.writes,
+  c.in_ok-written.ensures.beside ∙ c.pieces.invariant.1,
 )

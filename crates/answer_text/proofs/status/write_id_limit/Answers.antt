@@ -1,0 +1,10 @@
+use Rattle.std.proofs.Common.{ℕ, List, subst}
+use Rattle.std.specs.Prelude.{codes}
+use Rattle.host_io.specs.Channel.{WritesAll}
+use Rattle.answer_text.proofs.Words.{limit_lines}
+use Rattle.answer_text.proofs.status.write_id_limit.Goals as goal
+
+pub returns-clause-writes : goal.returns-clause-writes
+returns-clause-writes g c =
+    subst (λ (text : List ℕ). WritesAll g.S.Sink.tells (g.S.Sink.channel c.args.sink.now) (g.S.Sink.channel c.write_limit.new.sink) text c.write_limit.result)
+    (limit_lines (codes "c identifier limit ") c.args.n) c.write_limit.ensures.writes

@@ -1,0 +1,13 @@
+//! The texts that a solver prints: the lines of its outcome and the lines of a model. Each is exactly the text that
+//! its contract names, or a front of it where a write fails, and takes no memory.
+#![tactic(auto)]
+
+mod model;
+mod status;
+#[cfg(test)]
+mod tests;
+
+pub use model::write_model;
+pub use status::{
+    write_id_limit, write_node_limit, write_not_verified, write_sat, write_unsat, write_verified,
+};

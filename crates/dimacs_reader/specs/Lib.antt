@@ -1,0 +1,4 @@
+pub mod Cnf
+pub mod Answers
+pub mod Capped
+pub mod Body

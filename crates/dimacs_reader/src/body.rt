@@ -1,0 +1,182 @@
+// The body of a CNF text: the clauses' numbers, up to the end of the text or `%`.
+ghost use Rattle.std.specs.Prelude.{◌≡◌, ◌<◌, ◌≤◌, [], true, false, nat_abs, length, None, Some, Err, IsTrue, OnOk, OnErr, codes};
+ghost use Rattle.cnf_base.specs.Number.{signed_number};
+ghost use Rattle.host_io.specs.Channel.{Rose};
+ghost use Rattle.text_scan.specs.Decides.{Decides, OnlyReads};
+ghost use Rattle.text_scan.specs.Scan.{ahead, is_faulted};
+ghost use Rattle.dimacs_reader.specs.declared.error.CnfError.TheVariants.{ReadFault, OutOfMemory};
+ghost use Rattle.dimacs_reader.specs.Answers.{Answers};
+ghost use Rattle.dimacs_reader.specs.Body.{Takes, answer_of};
+ghost use Rattle.dimacs_reader.specs.Capped.{cap};
+ghost use Rattle.dimacs_reader.specs.Cnf.{max_vars, max_clauses, max_literals, literals_of, is_word, with_number, with_read, offence_of, text_end, body as body_text};
+
+use crate::error::{CnfError, CnfKind};
+use crate::number::signed_number;
+use cnf_base::{Cnf, CnfBuilder, Lit};
+use host_io::Source;
+use std::alloc::Global;
+use std::marker::Model;
+use text_scan::{Scanner, Token};
+
+/// How many literals a formula may have.
+const MAX_LITERALS: u32 = 100_000_000;
+
+/// What was read of the body. In contracts it is the number of clauses that the header announces, and the draft.
+#[derive(Debug, Drop)]
+pub struct Body {
+    builder: CnfBuilder,
+    vars: u32,
+    count: u32,
+    ended: u32,
+    begun: u32,
+    literals: u32,
+}
+
+impl Model for Body {
+    ghost use Rattle.dimacs_reader.specs.Body.{BodyState, IsBody};
+
+    ghost Value = { BodyState };
+
+    ghost view = { λ b. record { count = b.count; draft = b.builder } };
+
+    ghost invariant = { λ b. IsBody b.vars b.count b.ended b.begun b.literals b.builder };
+}
+
+/// Whether a token is this word.
+#[inline(always)]
+pub fn is_word(token: &Token, text: &[u8]) -> bool
+    requires { length text.now ≤ 64 }
+    ensures { result ≡ is_word text.now token.now.bytes }
+{
+    !token.is_long() && token.bytes() == text
+}
+
+impl Body {
+    pub fn new(alloc: Global, vars: u32, count: u32) -> Body
+        requires few_vars { vars ≤ max_vars }
+        requires few_clauses { count ≤ max_clauses }
+        ensures { result ≡ record { count = count; draft = record { vars = vars; clauses = []; begun = [] } } }
+    {
+        Body {
+            builder: CnfBuilder::new(alloc, vars),
+            vars,
+            count,
+            ended: 0,
+            begun: 0,
+            literals: 0,
+        }
+    }
+
+    /// Judges the next token, and adds its number.
+    #[inline(always)]
+    fn take(&mut self, token: &Token) -> Result<(), CnfError>
+        ensures takes { Takes result (offence_of (signed_number token.now.bytes) self.old.count self.old.draft) token.now.line
+            (with_read (signed_number token.now.bytes) self.old.draft) self.new.draft }
+        ensures count { self.new.count ≡ self.old.count }
+    {
+        match signed_number(token) {
+            None => Err(CnfError::Refused(CnfKind::BadToken, token.line())),
+            Some(number) => self.take_number(number, token.line()),
+        }
+    }
+
+    #[inline(always)]
+    fn take_number(&mut self, number: i64, line: u64) -> Result<(), CnfError>
+        ensures takes { Takes result (offence_of (Some number) self.old.count self.old.draft) line (with_number number self.old.draft) self.new.draft }
+        ensures count { self.new.count ≡ self.old.count }
+        ensures few_vars { self.old.draft.vars ≤ max_vars }
+    {
+        if let Some(kind) = self.offence(number) {
+            return Err(CnfError::Refused(kind, line));
+        }
+        self.put(number)
+    }
+
+    // What is wrong with a number, if anything.
+    #[inline(always)]
+    fn offence(&self, number: i64) -> Option<CnfKind>
+        ensures value { result ≡ offence_of (Some number) self.now.count self.now.draft }
+        ensures few_vars { self.now.draft.vars ≤ max_vars }
+    {
+        if self.ended >= self.count {
+            Some(CnfKind::TooManyClauses)
+        } else if number.unsigned_abs() > self.vars as u64 {
+            Some(CnfKind::LiteralRange)
+        } else if number != 0 && self.literals >= MAX_LITERALS {
+            Some(CnfKind::Limit)
+        } else {
+            None
+        }
+    }
+
+    // Adds a number that doesn't offend.
+    #[inline(always)]
+    fn put(&mut self, number: i64) -> Result<(), CnfError>
+        requires { offence_of (Some number) self.old.count self.old.draft ≡ None }
+        ensures ok { OnOk result (self.new ≡ record { count = self.old.count; draft = with_number number self.old.draft }) }
+        ensures err { OnErr result (result ≡ Err OutOfMemory) }
+        ensures count { self.new.count ≡ self.old.count }
+    {
+        let _vars = self.vars;
+        match Lit::new(number as i32) {
+            None => {
+                self.builder.end_clause()?;
+                self.ended += 1;
+                self.begun = 0;
+            }
+            Some(literal) => {
+                self.builder.push_lit(literal)?;
+                self.begun += 1;
+                self.literals += 1;
+            }
+        }
+        Ok(())
+    }
+
+    // The end of the clauses, on this line.
+    fn finish(self, line: u64) -> Result<Cnf, CnfError>
+        ensures { result ≡ answer_of (text_end self.count self.draft line) }
+    {
+        let Body {
+            builder,
+            vars: _,
+            count,
+            ended,
+            begun,
+            literals: _,
+        } = self;
+        if begun > 0 {
+            Err(CnfError::Refused(CnfKind::NoEndingZero, line))
+        } else if ended < count {
+            Err(CnfError::Refused(CnfKind::ClauseMissing, line))
+        } else {
+            Ok(builder.finish())
+        }
+    }
+}
+
+/// Reads the body to its end, and answers what it is.
+pub fn read_body<S: Source>(
+    mut body: Body,
+    scanner: &mut Scanner,
+    source: &mut S,
+) -> Result<Cnf, CnfError>
+    requires { is_faulted scanner.old.status ≡ false }
+    ensures decides { IsTrue S.tells → Decides (S.channel source.old) (S.channel source.new)
+        (λ bytes more. Answers result (body_text (ahead scanner.old bytes) body.count body.draft)) }
+    ensures fault { result ≡ Err ReadFault → Rose (S.channel source.old).faults (S.channel source.new).faults }
+    ensures reads { OnlyReads (S.channel source.old) (S.channel source.new) }
+    ensures beside { S.beside source.new ≡ S.beside source.old }
+{
+    'tokens: loop {
+        match scanner.next(source)? {
+            None => return body.finish(scanner.line()),
+            Some(token) => {
+                if is_word(&token, b"%") {
+                    return body.finish(token.line());
+                }
+                body.take(&token)?;
+            }
+        }
+    }
+}

@@ -1,0 +1,144 @@
+// The header of a CNF text, token by token: `p`, `cnf`, the number of variables, the number of clauses.
+ghost use Rattle.std.specs.Prelude.{◌≡◌, ◌≤◌, false, Err, IsTrue, IfOk};
+ghost use Rattle.cnf_base.specs.Formula.{IsFormula};
+ghost use Rattle.host_io.specs.Channel.{Rose};
+ghost use Rattle.text_scan.specs.Decides.{Decides, OnlyReads};
+ghost use Rattle.text_scan.specs.Scan.{ahead, is_faulted};
+ghost use Rattle.dimacs_reader.specs.declared.error.CnfError.TheVariants.{ReadFault};
+ghost use Rattle.dimacs_reader.specs.Answers.{Answers};
+ghost use Rattle.dimacs_reader.specs.Cnf.{max_vars, cnf, cnf_of, after_p, after_format, after_vars};
+
+use crate::body::{Body, is_word, read_body};
+use crate::error::{CnfError, CnfKind};
+use crate::number::plain_number;
+use cnf_base::Cnf;
+use host_io::Source;
+use std::alloc::Global;
+use text_scan::Scanner;
+
+/// How many bytes a text may have.
+const MAX_BYTES: u64 = 4_000_000_000;
+
+/// How many variables and how many clauses a header may announce.
+const MAX_VARS: u64 = 1_000_000;
+
+const MAX_CLAUSES: u64 = 10_000_000;
+
+/// Reads a CNF text to its end, or to the `%` that ends it, and answers what it is. Memory may be refused instead,
+/// or a read may fail. No read follows once the answer is decided.
+pub fn read_cnf<S: Source>(alloc: Global, source: &mut S) -> Result<Cnf, CnfError>
+    // The answer is the grammar's of the bytes that were taken and whatever may follow them, so of the whole text.
+    ensures decides { IsTrue S.tells → Decides (S.channel source.old) (S.channel source.new) (λ bytes more. Answers result (cnf bytes)) }
+    ensures fault { result ≡ Err ReadFault → Rose (S.channel source.old).faults (S.channel source.new).faults }
+    ensures formula { IfOk result IsFormula }
+
+    ensures reads { OnlyReads (S.channel source.old) (S.channel source.new) }
+    ensures beside { S.beside source.new ≡ S.beside source.old }
+{
+    let mut scanner = Scanner::new(b'c', MAX_BYTES);
+    let cnf = read_header(alloc, &mut scanner, source)?;
+    cnf.is_formula();
+    Ok(cnf)
+}
+
+fn read_header<S: Source>(
+    alloc: Global,
+    scanner: &mut Scanner,
+    source: &mut S,
+) -> Result<Cnf, CnfError>
+    requires { is_faulted scanner.old.status ≡ false }
+    ensures decides { IsTrue S.tells → Decides (S.channel source.old) (S.channel source.new)
+        (λ bytes more. Answers result (cnf_of (ahead scanner.old bytes))) }
+    ensures fault { result ≡ Err ReadFault → Rose (S.channel source.old).faults (S.channel source.new).faults }
+    ensures reads { OnlyReads (S.channel source.old) (S.channel source.new) }
+    ensures beside { S.beside source.new ≡ S.beside source.old }
+{
+    match scanner.next(source)? {
+        None => Err(CnfError::Refused(CnfKind::NoHeader, scanner.line())),
+        Some(token) => {
+            if is_word(&token, b"p") {
+                read_format(alloc, scanner, source)
+            } else {
+                Err(CnfError::Refused(CnfKind::NoHeader, token.line()))
+            }
+        }
+    }
+}
+
+fn read_format<S: Source>(
+    alloc: Global,
+    scanner: &mut Scanner,
+    source: &mut S,
+) -> Result<Cnf, CnfError>
+    requires { is_faulted scanner.old.status ≡ false }
+    ensures decides { IsTrue S.tells → Decides (S.channel source.old) (S.channel source.new)
+        (λ bytes more. Answers result (after_p (ahead scanner.old bytes))) }
+    ensures fault { result ≡ Err ReadFault → Rose (S.channel source.old).faults (S.channel source.new).faults }
+    ensures reads { OnlyReads (S.channel source.old) (S.channel source.new) }
+    ensures beside { S.beside source.new ≡ S.beside source.old }
+{
+    match scanner.next(source)? {
+        None => Err(CnfError::Refused(CnfKind::BadHeader, scanner.line())),
+        Some(token) => {
+            if is_word(&token, b"cnf") {
+                read_vars(alloc, scanner, source)
+            } else {
+                Err(CnfError::Refused(CnfKind::BadHeader, token.line()))
+            }
+        }
+    }
+}
+
+fn read_vars<S: Source>(
+    alloc: Global,
+    scanner: &mut Scanner,
+    source: &mut S,
+) -> Result<Cnf, CnfError>
+    requires { is_faulted scanner.old.status ≡ false }
+    ensures decides { IsTrue S.tells → Decides (S.channel source.old) (S.channel source.new)
+        (λ bytes more. Answers result (after_format (ahead scanner.old bytes))) }
+    ensures fault { result ≡ Err ReadFault → Rose (S.channel source.old).faults (S.channel source.new).faults }
+    ensures reads { OnlyReads (S.channel source.old) (S.channel source.new) }
+    ensures beside { S.beside source.new ≡ S.beside source.old }
+{
+    match scanner.next(source)? {
+        None => Err(CnfError::Refused(CnfKind::BadHeader, scanner.line())),
+        Some(token) => match plain_number(&token) {
+            None => Err(CnfError::Refused(CnfKind::BadHeader, token.line())),
+            Some(vars) => {
+                if vars > MAX_VARS {
+                    return Err(CnfError::Refused(CnfKind::Limit, token.line()));
+                }
+                read_count(alloc, vars as u32, scanner, source)
+            }
+        },
+    }
+}
+
+fn read_count<S: Source>(
+    alloc: Global,
+    vars: u32,
+    scanner: &mut Scanner,
+    source: &mut S,
+) -> Result<Cnf, CnfError>
+    requires few_vars { vars ≤ max_vars }
+    requires sound { is_faulted scanner.old.status ≡ false }
+    ensures decides { IsTrue S.tells → Decides (S.channel source.old) (S.channel source.new)
+        (λ bytes more. Answers result (after_vars vars (ahead scanner.old bytes))) }
+    ensures fault { result ≡ Err ReadFault → Rose (S.channel source.old).faults (S.channel source.new).faults }
+    ensures reads { OnlyReads (S.channel source.old) (S.channel source.new) }
+    ensures beside { S.beside source.new ≡ S.beside source.old }
+{
+    match scanner.next(source)? {
+        None => Err(CnfError::Refused(CnfKind::BadHeader, scanner.line())),
+        Some(token) => match plain_number(&token) {
+            None => Err(CnfError::Refused(CnfKind::BadHeader, token.line())),
+            Some(count) => {
+                if count > MAX_CLAUSES {
+                    return Err(CnfError::Refused(CnfKind::Limit, token.line()));
+                }
+                read_body(Body::new(alloc, vars, count as u32), scanner, source)
+            }
+        },
+    }
+}

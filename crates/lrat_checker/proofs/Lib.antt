@@ -1,0 +1,3 @@
+pub mod TreeMaps
+pub mod Walks
+pub mod GroupFaults

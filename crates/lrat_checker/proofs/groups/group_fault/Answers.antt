@@ -1,0 +1,23 @@
+use Rattle.std.proofs.Common.{◌≡◌, true, false, sym, rules}
+use Rattle.lrat_rules.specs.Addition.{holds_negated, is_blocked_by}
+use Rattle.lrat_rules.specs.FalseLiterals.{set_of}
+use Rattle.lrat_checker.proofs.GroupFaults.{group_fault-stray, group_fault-blocked, group_fault-candidate}
+use Rattle.lrat_checker.proofs.groups.group_fault.Goals as goal
+
+pub returns-then-not-contains-clause-fault : goal.returns-then-not-contains-clause-fault
+returns-then-not-contains-clause-fault c =
+    let absent : holds_negated c.args.pivot c.in-Some.clause.now ≡ false = search rules in
+    sym (group_fault-stray _ (set_of c.args.chain.now) _ c.args.group.now _ c.in-Some.ensures absent)
+
+pub returns-then-is_blocked-clause-fault : goal.returns-then-is_blocked-clause-fault
+returns-then-is_blocked-clause-fault c =
+    let held : holds_negated c.args.pivot c.in-Some.clause.now ≡ true = search rules in
+    let blocked : is_blocked_by (set_of c.args.chain.now) c.args.pivot c.in-Some.clause.now ≡ true = search rules in
+    sym (group_fault-blocked _ (set_of c.args.chain.now) _ c.args.group.now _ c.in-Some.ensures held blocked)
+
+pub returns-clause-fault : goal.returns-clause-fault
+returns-clause-fault c =
+    let held : holds_negated c.args.pivot c.in-Some.clause.now ≡ true = search rules in
+    let unblocked : is_blocked_by (set_of c.args.chain.now) c.args.pivot c.in-Some.clause.now ≡ false = search rules in
+    rw (group_fault-candidate c.args.live.now (set_of c.args.chain.now) c.args.pivot c.args.group.now _ c.in-Some.ensures held unblocked, ← c.as_slice.ensures)
+    c.candidate_fault.ensures.fault

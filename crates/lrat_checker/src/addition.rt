@@ -1,0 +1,54 @@
+// When an addition is good: its number is greater than all earlier ones, and its hints refute the clause's negation,
+// or its first literal, the pivot, has a refutation for each candidate. (LRAT: RUP and RAT steps.)
+ghost use Rattle.std.specs.Prelude.{◌≡◌, None, IfOk, OnOk};
+ghost use Rattle.lrat_rules.specs.Chain.{literals_of};
+ghost use Rattle.lrat_rules.specs.Addition.{fault, fault_after_hints};
+ghost use Rattle.lrat_rules.specs.FalseLiterals.{set_of, before_of};
+ghost use Rattle.lrat_checker.specs.Ends.{outcome_at};
+
+use crate::groups::resolvents_fault;
+use crate::hints::{HintsEnd, run_hints};
+use crate::live::LiveClauses;
+use cnf_base::{Group, Id, Lit, OutOfMemory};
+use lrat_rules::{Chain, Reason};
+
+/// Why the addition of this clause under this number isn't good, if it isn't.
+pub fn addition_fault(
+    live: &LiveClauses,
+    top: Id,
+    chain: &mut Chain,
+    id: Id,
+    clause: &[Lit],
+    hints: &[Id],
+    groups: &[Group],
+) -> Result<Option<Reason>, OutOfMemory>
+    ensures { IfOk result (λ answer. answer ≡ fault (record { live = live.now; top = top }) id clause.now hints.now groups.now) }
+{
+    if id.get() <= top.get() {
+        return Ok(Some(Reason::IdNotGreater));
+    }
+    chain.restart(clause)?;
+    let end = run_hints(live, chain, hints)?;
+    fault_after_hints(live, chain, clause, groups, end)
+}
+
+// After the addition's own hints.
+fn fault_after_hints(
+    live: &LiveClauses,
+    chain: &mut Chain,
+    clause: &[Lit],
+    groups: &[Group],
+    end: HintsEnd,
+) -> Result<Option<Reason>, OutOfMemory>
+    requires { before_of chain.old ≡ None }
+    ensures { IfOk result (λ answer. answer ≡ fault_after_hints live.now clause.now groups.now (outcome_at (set_of chain.old) end)) }
+{
+    match end {
+        HintsEnd::BadHint(reason) => Ok(Some(reason)),
+        HintsEnd::Conflict => Ok(None),
+        HintsEnd::NoConflict => match clause {
+            [] => Ok(Some(Reason::NoConflict)),
+            [pivot, ..] => resolvents_fault(live, chain, *pivot, groups),
+        },
+    }
+}

@@ -1,0 +1,99 @@
+// The resolvents of an addition: each candidate, a live clause with the pivot's negation, is blocked, or a group of
+// hints refutes its resolvent with the added clause. (LRAT: resolution asymmetric tautologies.)
+ghost use Rattle.std.specs.Prelude.{◌≡◌, None, IfOk, OnOk};
+ghost use Rattle.lrat_rules.specs.Chain.{chain as chain_of};
+ghost use Rattle.lrat_rules.specs.Addition.{with_candidate, outcome_fault, group_fault, groups_fault, resolvents_fault};
+ghost use Rattle.lrat_rules.specs.FalseLiterals.{set_of, before_of};
+
+use crate::hints::{HintsEnd, run_hints};
+use crate::live::LiveClauses;
+use cnf_base::{Group, Id, Lit, OutOfMemory};
+use lrat_rules::{Chain, Reason};
+
+/// The first fault of the groups in turn, or else that a candidate is neither blocked nor named by a group.
+pub fn resolvents_fault(
+    live: &LiveClauses,
+    chain: &mut Chain,
+    pivot: Lit,
+    groups: &[Group],
+) -> Result<Option<Reason>, OutOfMemory>
+    requires { before_of chain.old ≡ None }
+    ensures { IfOk result (λ fault. fault ≡ resolvents_fault live.now (set_of chain.old) pivot groups.now) }
+{
+    if let Some(reason) = groups_fault(live, chain, pivot, groups)? {
+        return Ok(Some(reason));
+    }
+    if live.all_settled(chain, pivot, groups) {
+        Ok(None)
+    } else {
+        Ok(Some(Reason::CandidateOpen))
+    }
+}
+
+// The groups in turn, each under the false literals that the addition's hints left.
+fn groups_fault(
+    live: &LiveClauses,
+    chain: &mut Chain,
+    pivot: Lit,
+    groups: &[Group],
+) -> Result<Option<Reason>, OutOfMemory>
+    requires { before_of chain.old ≡ None }
+    ensures fault { IfOk result (λ fault. fault ≡ groups_fault live.now (set_of chain.old) pivot groups.now) }
+    ensures same_set { OnOk result (set_of chain.new ≡ set_of chain.old) }
+    ensures no_group { OnOk result (before_of chain.new ≡ None) }
+{
+    for group in groups {
+        if let Some(reason) = group_fault(live, chain, pivot, group)? {
+            return Ok(Some(reason));
+        }
+    }
+    Ok(None)
+}
+
+// A group is of a candidate, which is blocked or refuted by its hints.
+fn group_fault(
+    live: &LiveClauses,
+    chain: &mut Chain,
+    pivot: Lit,
+    group: &Group,
+) -> Result<Option<Reason>, OutOfMemory>
+    requires { before_of chain.old ≡ None }
+    ensures fault { IfOk result (λ fault. fault ≡ group_fault live.now (set_of chain.old) pivot group.now) }
+    ensures same_set { OnOk result (set_of chain.new ≡ set_of chain.old) }
+    ensures no_group { OnOk result (before_of chain.new ≡ None) }
+{
+    let Some(clause) = live.clause(group.id) else {
+        return Ok(Some(Reason::GroupStray));
+    };
+    let negated = pivot.negated();
+    if !clause.contains(&negated) {
+        return Ok(Some(Reason::GroupStray));
+    }
+    if chain.is_blocked(clause, pivot) {
+        return Ok(None);
+    }
+    candidate_fault(live, chain, pivot, clause, group.hints.as_slice())
+}
+
+// The hints of a group have to reach a conflict, under the candidate's literals too.
+fn candidate_fault(
+    live: &LiveClauses,
+    chain: &mut Chain,
+    pivot: Lit,
+    clause: &[Lit],
+    hints: &[Id],
+) -> Result<Option<Reason>, OutOfMemory>
+    requires { before_of chain.old ≡ None }
+    ensures fault { IfOk result (λ fault. fault ≡ outcome_fault (chain_of live.now (with_candidate (set_of chain.old) pivot clause.now) hints.now)) }
+    ensures same_set { OnOk result (set_of chain.new ≡ set_of chain.old) }
+    ensures no_group { OnOk result (before_of chain.new ≡ None) }
+{
+    chain.open_group(clause, pivot)?;
+    let end = run_hints(live, chain, hints)?;
+    chain.close_group();
+    match end {
+        HintsEnd::BadHint(reason) => Ok(Some(reason)),
+        HintsEnd::NoConflict => Ok(Some(Reason::CandidateOpen)),
+        HintsEnd::Conflict => Ok(None),
+    }
+}

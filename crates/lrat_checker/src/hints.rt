@@ -1,0 +1,43 @@
+// A run over hints: each names a live clause, which under the false literals so far is a conflict, forces a literal,
+// or is bad. (LRAT: reverse unit propagation with hints.)
+ghost use Rattle.std.specs.Prelude.{◌≡◌, IfOk, OnOk};
+ghost use Rattle.lrat_rules.specs.Chain.{chain as chain_of};
+ghost use Rattle.lrat_rules.specs.FalseLiterals.{set_of, before_of};
+ghost use Rattle.lrat_checker.specs.Ends.{outcome_at};
+
+use crate::live::LiveClauses;
+use cnf_base::{Id, OutOfMemory};
+use lrat_rules::{Chain, Effect, Reason};
+
+/// Where a run over hints ends.
+#[derive(Clone, Copy, Debug, PartialEq, Eq)]
+pub enum HintsEnd {
+    /// All hints were taken, and none of them is a conflict.
+    NoConflict,
+    /// A hint is a conflict. Those after it are ignored.
+    Conflict,
+    /// A hint is bad, the first one.
+    BadHint(Reason),
+}
+
+/// Takes the hints in turn, up to the first conflict or bad hint.
+pub fn run_hints(
+    live: &LiveClauses,
+    chain: &mut Chain,
+    hints: &[Id],
+) -> Result<HintsEnd, OutOfMemory>
+    ensures outcome { IfOk result (λ end. chain_of live.now (set_of chain.old) hints.now ≡ outcome_at (set_of chain.new) end) }
+    ensures same_group { OnOk result (before_of chain.new ≡ before_of chain.old) }
+{
+    for hint in hints {
+        let Some(clause) = live.clause(*hint) else {
+            return Ok(HintsEnd::BadHint(Reason::HintNotLive));
+        };
+        match chain.hint(clause)? {
+            Effect::Conflict => return Ok(HintsEnd::Conflict),
+            Effect::NotUnit => return Ok(HintsEnd::BadHint(Reason::HintNotUnit)),
+            Effect::Unit(_) => {}
+        }
+    }
+    Ok(HintsEnd::NoConflict)
+}

@@ -1,0 +1,113 @@
+// The judge of a proof's steps. It keeps the live clauses, the greatest number, and the memory of one chain of hints.
+ghost use Rattle.std.specs.Prelude.{◌≡◌, IfOk, OnErr, IfNone, OnSome};
+ghost use Rattle.std.specs.FinMap as map;
+ghost use Rattle.std.specs.Option.{option_copied};
+ghost use Rattle.lrat_rules.specs.State.{start, clause_at, with_clause, numbered_from};
+ghost use Rattle.lrat_rules.specs.Addition.{fault};
+ghost use Rattle.lrat_rules.specs.Run.{step_fault, after_step};
+
+use crate::addition::addition_fault;
+use crate::live::LiveClauses;
+use cnf_base::{Cnf, Group, Id, Lit, OutOfMemory, Step};
+use lrat_rules::{Chain, Reason};
+use std::alloc::Global;
+use std::marker::Model;
+
+/// Judges the steps of a proof in turn, from a formula's clauses on.
+#[derive(Debug, Drop)]
+pub struct Judge {
+    live: LiveClauses,
+    top: Id,
+    chain: Chain,
+}
+
+impl Model for Judge {
+    ghost use Rattle.lrat_rules.specs.State.{State, state_code};
+
+    ghost Value = { State };
+
+    ghost coded = { state_code };
+
+    ghost view = { λ judge. record { live = judge.live; top = judge.top } };
+}
+
+impl Judge {
+    /// The formula's clauses are live, under 1, 2, ..
+    pub fn open(alloc: Global, formula: &Cnf) -> Result<Judge, OutOfMemory>
+        ensures { IfOk result (λ judge. judge ≡ start formula.now.clauses) }
+    {
+        let chain = Chain::start(alloc, &[])?;
+        let live = numbered(alloc, formula)?;
+        let top = Id(formula.len() as u64);
+        Ok(Judge { live, top, chain })
+    }
+
+    /// Why the step isn't good, or nothing: then it is taken. A bad step and a refusal change nothing.
+    pub fn step(&mut self, step: &Step) -> Result<Option<Reason>, OutOfMemory>
+        ensures fault { IfOk result (λ fault. fault ≡ step_fault self.old step.now) }
+        ensures good { IfOk result (λ fault. IfNone fault (self.new ≡ after_step self.old step.now)) }
+        ensures bad { IfOk result (λ fault. OnSome fault (self.new ≡ self.old)) }
+        ensures err { OnErr result (self.new ≡ self.old) }
+    {
+        match step {
+            Step::Add {
+                id,
+                lits,
+                pos,
+                groups,
+            } => self.add(*id, lits.as_slice(), pos.as_slice(), groups.as_slice()),
+            Step::Delete { ids, .. } => {
+                self.live.remove_all(ids.as_slice());
+                Ok(None)
+            }
+        }
+    }
+
+    /// The clause of this number, where it is live.
+    pub fn clause(&self, id: Id) -> Option<&[Lit]>
+        ensures { option_copied result ≡ clause_at self.now.live id }
+    {
+        self.live.clause(id)
+    }
+
+    fn add(
+        &mut self,
+        id: Id,
+        clause: &[Lit],
+        hints: &[Id],
+        groups: &[Group],
+    ) -> Result<Option<Reason>, OutOfMemory>
+        ensures fault { IfOk result (λ answer. answer ≡ fault self.old id clause.now hints.now groups.now) }
+        ensures good { IfOk result (λ answer. IfNone answer (self.new ≡ record { live = with_clause self.old.live id clause.now; top = id })) }
+        ensures bad { IfOk result (λ answer. OnSome answer (self.new ≡ self.old)) }
+        ensures err { OnErr result (self.new ≡ self.old) }
+    {
+        let fault = addition_fault(
+            &self.live,
+            self.top,
+            &mut self.chain,
+            id,
+            clause,
+            hints,
+            groups,
+        )?;
+        if let Some(reason) = fault {
+            return Ok(Some(reason));
+        }
+        self.live.insert(id, clause)?;
+        self.top = id;
+        Ok(None)
+    }
+}
+
+// The clauses of a formula under 1, 2, ..
+fn numbered(alloc: Global, formula: &Cnf) -> Result<LiveClauses, OutOfMemory>
+    ensures { IfOk result (λ live. live ≡ map.from_entries (numbered_from 1 formula.now.clauses)) }
+{
+    let mut live = LiveClauses::new(alloc);
+    lrat_rules::start_law();
+    for i in 0..formula.len() {
+        live.insert(Id(i as u64 + 1), formula.clause(i + 1))?;
+    }
+    Ok(live)
+}

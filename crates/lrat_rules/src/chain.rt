@@ -1,0 +1,161 @@
+// The chain of hints of one addition: reverse unit propagation under the literals that the addition makes false,
+// and under those of a candidate while its group is open. (Cruz-Filipe, Heule, Hunt, Kaufmann, Schneider-Kamp:
+// Efficient Certified RAT Verification, CADE 2017.) The literals stand in a plain list, in the order in which they
+// became false, so that the end of a group cuts off what it added.
+ghost use Rattle.std.specs.Prelude.{◌≡◌, ◌&&◌, ◌++◌, not, neg_ℤ, IsTrue, false, None, Some, OnOk, OnErr, IfOk, take, length};
+ghost use Rattle.std.specs.List.{filter};
+ghost use Rattle.std.specs.Ordering.{int_eq};
+ghost use Rattle.lrat_rules.specs.Chain.{literals_of, effect};
+ghost use Rattle.lrat_rules.specs.Addition.{is_blocked_by, with_candidate};
+ghost use Rattle.lrat_rules.specs.FalseLiterals.{set_of, before_of, is_open, set_after, SameSets};
+
+use crate::outcome::Effect;
+use cnf_base::{Lit, OutOfMemory};
+use std::alloc::Global;
+use std::marker::Model;
+
+/// The literals that are false in an addition's chain of hints.
+#[derive(Debug, Drop)]
+pub struct Chain {
+    literals: Vec<Lit>,
+    opened: Option<usize>,
+}
+
+impl Model for Chain {
+    ghost use Rattle.lrat_rules.specs.FalseLiterals.{FalseLiterals, IsWithin};
+
+    ghost Value = { FalseLiterals };
+
+    ghost view = { λ c. record { literals = c.literals.items; opened = c.opened } };
+
+    ghost invariant = { λ c. IsWithin c.literals.items c.opened };
+}
+
+#[tactic(auto, unfolding(crate::specs::FalseLiterals::set_of, crate::specs::FalseLiterals::before_of))]
+impl Chain {
+    /// The literals of an addition's clause are false, and no group is open.
+    pub fn start(alloc: Global, clause: &[Lit]) -> Result<Chain, OutOfMemory>
+        ensures set { IfOk result (λ chain. set_of chain ≡ literals_of clause.now) }
+        ensures no_group { IfOk result (λ chain. before_of chain ≡ None) }
+    {
+        let literals = Vec::from_slice(alloc, clause)?;
+        Ok(Chain {
+            literals,
+            opened: None,
+        })
+    }
+
+    /// The same for the next addition, in the same memory. A refusal leaves everything as it was.
+    pub fn restart(&mut self, clause: &[Lit]) -> Result<(), OutOfMemory>
+        ensures set { OnOk result (set_of self.new ≡ literals_of clause.now) }
+        ensures no_group { OnOk result (before_of self.new ≡ None) }
+        ensures err { OnErr result (SameSets self.old self.new) }
+    {
+        self.literals.reserve(clause.len())?;
+        self.opened = None;
+        self.literals.clear();
+        self.literals.extend_from_slice(clause).unwrap();
+        Ok(())
+    }
+
+    /// Takes a hint's clause. The forced literal's negation becomes false.
+    pub fn hint(&mut self, clause: &[Lit]) -> Result<Effect, OutOfMemory>
+        ensures effect { IfOk result (λ answer. answer ≡ effect (set_of self.old) clause.now) }
+        ensures set { IfOk result (λ answer. set_of self.new ≡ set_after (set_of self.old) answer) }
+        ensures same_group { OnOk result (before_of self.new ≡ before_of self.old) }
+        ensures err { OnErr result (SameSets self.old self.new) }
+    {
+        let effect = effect_on(self.literals.as_slice(), clause);
+        if let Effect::Unit(literal) = effect {
+            self.literals.push(literal.negated())?;
+        }
+        Ok(effect)
+    }
+
+    /// Whether a literal of a candidate other than the pivot's negation has its negation among the false ones.
+    pub fn is_blocked(&self, clause: &[Lit], pivot: Lit) -> bool
+        requires { before_of self.now ≡ None }
+        ensures { result ≡ is_blocked_by (set_of self.now) pivot clause.now }
+    {
+        let literals = self.literals.as_slice();
+        let negated = pivot.negated();
+        clause.iter().any(|x| blocks(literals, negated, *x))
+    }
+
+    /// Opens the group of a candidate: its literals other than the pivot's negation become false.
+    pub fn open_group(&mut self, clause: &[Lit], pivot: Lit) -> Result<(), OutOfMemory>
+        requires { before_of self.old ≡ None }
+        ensures set { OnOk result (set_of self.new ≡ with_candidate (set_of self.old) pivot clause.now) }
+        ensures group { OnOk result (before_of self.new ≡ Some (set_of self.old)) }
+        ensures err { OnErr result (SameSets self.old self.new) }
+    {
+        let count = self.literals.len();
+        let negated = pivot.negated();
+        match push_others(&mut self.literals, clause, negated) {
+            Ok(()) => {
+                self.opened = Some(count);
+                Ok(())
+            }
+            Err(e) => {
+                self.literals.truncate(count);
+                Err(e)
+            }
+        }
+    }
+
+    /// Closes the group: what it added is no longer false.
+    pub fn close_group(&mut self)
+        requires { IsTrue (is_open self.old) }
+        ensures set { before_of self.old ≡ Some (set_of self.new) }
+        ensures no_group { before_of self.new ≡ None }
+    {
+        if let Some(count) = self.opened {
+            self.literals.truncate(count);
+        }
+        self.opened = None;
+    }
+}
+
+// One pass: the first literal that isn't false is forced, unless another one follows.
+fn effect_on(literals: &[Lit], clause: &[Lit]) -> Effect
+    ensures { result ≡ effect (literals_of literals.now) clause.now }
+{
+    let mut forced: Option<Lit> = None;
+    for literal in clause {
+        if literals.contains(literal) {
+            continue;
+        }
+        match forced {
+            None => forced = Some(*literal),
+            Some(first) => {
+                if first != *literal {
+                    return Effect::NotUnit;
+                }
+            }
+        }
+    }
+    match forced {
+        None => Effect::Conflict,
+        Some(literal) => Effect::Unit(literal),
+    }
+}
+
+// A candidate's literal that isn't the pivot's negation, and has its own negation among the false ones.
+fn blocks(literals: &[Lit], negated_pivot: Lit, literal: Lit) -> bool
+    ensures { result ≡ (not (int_eq literal negated_pivot) && literals_of literals.now (neg_ℤ literal)) }
+{
+    literal != negated_pivot && literals.contains(&literal.negated())
+}
+
+// Appends the literals of a clause other than one. After a refusal some may stand behind the old ones.
+fn push_others(literals: &mut Vec<Lit>, clause: &[Lit], other_than: Lit) -> Result<(), OutOfMemory>
+    ensures ok { OnOk result (literals.new.items ≡ literals.old.items ++ filter (λ x. not (int_eq x other_than)) clause.now) }
+    ensures err { OnErr result (take (length literals.old.items) literals.new.items ≡ literals.old.items) }
+{
+    for literal in clause {
+        if *literal != other_than {
+            literals.push(*literal)?;
+        }
+    }
+    Ok(())
+}

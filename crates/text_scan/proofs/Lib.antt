@@ -1,0 +1,5 @@
+pub mod Block
+pub mod Turn
+pub mod Bridge
+pub mod Kept
+pub mod WordAhead

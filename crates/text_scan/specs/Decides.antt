@@ -1,0 +1,93 @@
+-- What the bytes taken from a source decide, whatever follows them.
+use Rattle.std.specs.Prelude.{◌≡◌, ℕ, ◌≤◌, List, [], ◌∷◌, ◌++◌, length, drop, refl}
+use Rattle.std.proofs.Common.{sym, ◌∙◌, ap, subst, append_assoc, append-nil, arith}
+use Rattle.std.proofs.Math.Seq.{drop-append_seam}
+use Rattle.host_io.specs.Channel.{Channel}
+
+-- the bytes taken from one moment to another
+abbrev pub gained : Channel → Channel → List ℕ
+gained old new = drop (length old.taken) new.taken
+
+-- these bytes may follow those taken: where nothing is left, nothing does
+abbrev pub MayFollow : Channel → List ℕ → Type 0
+MayFollow channel more = channel.left ≡ [] → more ≡ []
+
+-- Bytes were taken from the front of what was left, and P holds of them with whatever may follow, and of what
+-- follows. So it holds of the whole text, and it was decided by the bytes taken.
+pub record Decides (old new : Channel) (P : List ℕ → List ℕ → Type 0) : Type 0 where
+  pub taken : new.taken ≡ old.taken ++ gained old new
+  pub left : old.left ≡ gained old new ++ new.left
+  pub holds : (more : List ℕ) → MayFollow new more → P (gained old new ++ more) more
+
+-- nothing but bytes, and maybe faults, came from the source
+pub record OnlyReads (old new : Channel) : Type 0 where
+  pub written : new.written ≡ old.written
+  pub flushed : new.flushed ≡ old.flushed
+  pub name : new.name ≡ old.name
+  pub faults : old.faults ≤ new.faults
+
+-- The laws by which a reader joins its calls.
+
+pub OnlyReads-then : {a b c : Channel} → OnlyReads a b → OnlyReads b c → OnlyReads a c
+OnlyReads-then p q = record {
+  written = q.written ∙ p.written;
+  flushed = q.flushed ∙ p.flushed;
+  name = q.name ∙ p.name;
+  faults = omega (arith, p.faults, q.faults);
+}
+
+-- by the bytes that were taken
+pub Decides-by : (old new : Channel) (P : List ℕ → List ℕ → Type 0) (bytes : List ℕ) → new.taken ≡ old.taken ++ bytes → old.left ≡ bytes ++ new.left
+    → ((more : List ℕ) → MayFollow new more → P (bytes ++ more) more) → Decides old new P
+Decides-by old new P bytes taken left holds =
+    let same : gained old new ≡ bytes = ap (drop (length old.taken)) taken ∙ drop-append_seam old.taken bytes in
+    record {
+      taken = taken ∙ ap (λ (l : List ℕ). old.taken ++ l) (sym same);
+      left = left ∙ ap (λ (l : List ℕ). l ++ new.left) (sym same);
+      holds = λ more may. subst (λ (l : List ℕ). P (l ++ more) more) (sym same) (holds more may);
+    }
+
+-- nothing was taken
+pub Decides-none : (channel : Channel) (P : List ℕ → List ℕ → Type 0) → ((more : List ℕ) → P more more) → Decides channel channel P
+Decides-none channel P holds = Decides-by channel channel P [] (sym (append-nil channel.taken)) refl (λ more _. holds more)
+
+-- what follows from it
+pub Decides-map : {old new : Channel} {P : List ℕ → List ℕ → Type 0} (Q : List ℕ → List ℕ → Type 0) → Decides old new P → ((bytes more : List ℕ) → P bytes more → Q bytes more) → Decides old new Q
+Decides-map {old} {new} Q decides gives = record {
+  taken = decides.taken;
+  left = decides.left;
+  holds = λ more may. gives (gained old new ++ more) more (decides.holds more may);
+}
+
+-- both are nothing where they are nothing together
+front_nil : (xs ys : List ℕ) → xs ++ ys ≡ [] → xs ≡ []
+front_nil [] ys e = refl
+front_nil (x ∷ xs) ys e = cc
+
+back_nil : (xs ys : List ℕ) → xs ++ ys ≡ [] → ys ≡ []
+back_nil [] ys e = e
+back_nil (x ∷ xs) ys e = cc
+
+-- one call after another: what the first says of all bytes and of those that follow it, and the second of those
+pub Decides-then : {a b c : Channel} {P Q : List ℕ → List ℕ → Type 0} (R : List ℕ → List ℕ → Type 0) → Decides a b P → Decides b c Q
+    → ((bytes middle more : List ℕ) → P bytes middle → Q middle more → R bytes more) → Decides a c R
+Decides-then {a} {b} {c} {P} {Q} R first second joins =
+    let g : List ℕ = gained a b in
+    let h : List ℕ = gained b c in
+    Decides-by a c R (g ++ h)
+    (second.taken ∙ ap (λ (l : List ℕ). l ++ h) first.taken ∙ append_assoc a.taken g h)
+    (first.left ∙ ap (λ (l : List ℕ). g ++ l) second.left ∙ sym (append_assoc g h c.left))
+    (λ more may.
+    let follows : MayFollow b (h ++ more) = λ none.
+    let empty : h ++ c.left ≡ [] = sym second.left ∙ none in
+    ap (λ (l : List ℕ). l ++ more) (front_nil h c.left empty) ∙ may (back_nil h c.left empty)
+    in
+    subst (λ (l : List ℕ). R l more) (sym (append_assoc g h more)) (joins (g ++ (h ++ more)) (h ++ more) more (first.holds (h ++ more) follows) (second.holds more may)))
+
+-- it holds of the whole text
+pub Decides-whole : {old new : Channel} {P : List ℕ → List ℕ → Type 0} → Decides old new P → P old.left new.left
+Decides-whole {old} {new} {P} decides = subst (λ (l : List ℕ). P l new.left) (sym decides.left) (decides.holds new.left (λ e. e))
+
+-- and of the bytes taken
+pub Decides-taken : {old new : Channel} {P : List ℕ → List ℕ → Type 0} → Decides old new P → P (gained old new) []
+Decides-taken {old} {new} {P} decides = subst (λ (l : List ℕ). P l []) (append-nil (gained old new)) (decides.holds [] (λ _. refl))

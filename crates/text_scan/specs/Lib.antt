@@ -1,0 +1,5 @@
+pub mod Items
+pub mod Lexer
+pub mod Scan
+pub mod Decides
+pub mod Block

@@ -1,0 +1,78 @@
+-- A scanner as its callers see it, and what a call gives.
+use Rattle.std.specs.Prelude.{◌≡◌, ℕ, ◌+◌, ◌<◌, Bool, true, false, List, ◌++◌, Option, None, Some, Result, Ok, Err}
+use Rattle.cnf_base.specs.Text.{Word}
+use Rattle.text_scan.specs.declared.scanner.Status.{Status}
+use Rattle.text_scan.specs.declared.scanner.Status.TheVariants.{Reading, Ended, Overlong, Faulted}
+use Rattle.text_scan.specs.declared.scanner.ScanError.{ScanError}
+use Rattle.text_scan.specs.declared.scanner.ScanError.TheVariants.{ReadFault, TooLong}
+use Rattle.text_scan.specs.Items.{Items, the_end, too_long, next_word}
+use Rattle.text_scan.specs.Lexer.{Lex, items_from}
+
+-- What is known of the text up to the bytes that are taken and not yet looked at, how many of the bytes from there
+-- on are under the limit, whether it still reads, and the line that it answers.
+pub record Scan : Type 0 where
+  pub lex : Lex
+  pub room : ℕ
+  pub unread : List ℕ
+  pub status : Status
+  pub line : ℕ
+
+-- the items that are still to be given, where these bytes follow those taken
+abbrev pub ahead_in : Status → Scan → List ℕ → Items
+ahead_in Reading scan more = items_from scan.lex scan.room (scan.unread ++ more)
+ahead_in Ended scan more = the_end scan.line
+ahead_in Overlong scan more = too_long scan.line
+ahead_in Faulted scan more = items_from scan.lex scan.room (scan.unread ++ more)
+
+abbrev pub ahead : Scan → List ℕ → Items
+ahead scan more = ahead_in scan.status scan more
+
+abbrev pub is_reading : Status → Bool
+is_reading Reading = true
+is_reading Ended = false
+is_reading Overlong = false
+is_reading Faulted = false
+
+abbrev pub is_faulted : Status → Bool
+is_faulted Reading = false
+is_faulted Ended = false
+is_faulted Overlong = false
+is_faulted Faulted = true
+
+-- how many more tokens can be given at most, so that a loop over them ends whatever the source does
+abbrev pub fuel_in : Status → ℕ → ℕ
+fuel_in Reading room = room + 1
+fuel_in Ended room = 0
+fuel_in Overlong room = 0
+fuel_in Faulted room = 0
+
+abbrev pub fuel : Scan → ℕ
+fuel scan = fuel_in scan.status scan.room
+
+-- An answer, and the line that the scanner then answers, are the first of the items ahead; those after it are ahead
+-- now. A fault gives none.
+abbrev pub Gives : Result (Option Word) ScanError → ℕ → Items → Items → Type 0
+Gives (Ok (Some word)) line before after = before ≡ next_word word after
+Gives (Ok None) line before after = (before ≡ the_end line) × (after ≡ the_end line)
+Gives (Err TooLong) line before after = (before ≡ too_long line) × (after ≡ too_long line)
+Gives (Err ReadFault) line before after = before ≡ after
+
+-- A token was given: its line is answered, fewer can come, and no read failed.
+pub record GaveWord (word : Word) (old new : Scan) : Type 0 where
+  pub line : new.line ≡ word.line
+  pub less : fuel new < fuel old
+  pub sound : is_faulted new.status ≡ false
+
+-- What a call makes of the scanner, whatever the source does: after the end or an error it has stopped.
+abbrev pub Moves : Result (Option Word) ScanError → Scan → Scan → Type 0
+Moves (Ok (Some word)) old new = GaveWord word old new
+Moves (Ok None) old new = new.status ≡ Ended
+Moves (Err TooLong) old new = new.status ≡ Overlong
+Moves (Err ReadFault) old new = (new.status ≡ Faulted) × (new.line ≡ old.line)
+
+-- the answer of a scanner that has stopped
+abbrev pub last_answer : Status → Result (Option Word) ScanError
+last_answer Reading = Ok None
+last_answer Ended = Ok None
+last_answer Overlong = Err TooLong
+last_answer Faulted = Err ReadFault

@@ -1,0 +1,302 @@
+// The scanner: blocks of bytes from a source, cut into tokens byte by byte, up to a limit.
+ghost use Rattle.std.specs.Prelude.{◌≡◌, ℕ, ◌+◌, ◌^◌, ◌<◌, ◌≤◌, true, false, List, [], ◌++◌, length, None, Ok, Err, IsTrue, IfSome, IfNone, IfOk, OnOk, OnErr, is_ok, if◌then◌else◌};
+ghost use Rattle.cnf_base.specs.Text.{has_bytes};
+ghost use Rattle.host_io.specs.Channel.{Rose};
+ghost use Rattle.text_scan.specs.declared.scanner.Status.TheVariants.{Reading, Ended, Overlong, Faulted};
+ghost use Rattle.text_scan.specs.declared.scanner.ScanError.TheVariants.{ReadFault};
+ghost use Rattle.text_scan.specs.Items.{items, the_end, too_long, next_word};
+ghost use Rattle.text_scan.specs.Lexer.{items_from, word_then};
+ghost use Rattle.text_scan.specs.Scan.{ahead, is_reading, is_faulted, Gives, Moves, last_answer};
+ghost use Rattle.text_scan.specs.Block.{IsWordAhead};
+ghost use Rattle.text_scan.specs.Decides.{Decides, OnlyReads};
+
+use crate::lexer::{Lexer, letters};
+use crate::token::{SPACE, Token};
+use host_io::Source;
+use std::marker::Model;
+use thiserror::Error;
+
+/// How many bytes are asked of the source at once.
+const BLOCK: usize = 16384;
+
+/// Why there is no further token before the end.
+#[derive(Clone, Copy, Debug, PartialEq, Eq, Error)]
+pub enum ScanError {
+    #[error("a read failed")]
+    ReadFault,
+    #[error("the text is too long")]
+    TooLong,
+}
+
+/// Whether a scanner still reads, and else what it answers from now on.
+#[derive(Clone, Copy, Debug, PartialEq, Eq)]
+enum Status {
+    Reading,
+    Ended,
+    Overlong,
+    Faulted,
+}
+
+/// Cuts the text that a source gives into tokens.
+#[derive(Debug, Drop)]
+pub struct Scanner {
+    block: [u8; BLOCK],
+    // the first byte of the block that isn't looked at yet, the first that may not be, and the end of the bytes read
+    at: usize,
+    stop: usize,
+    end: usize,
+    // how many bytes from the start of the block on are under the limit
+    room: u64,
+    lexer: Lexer,
+    status: Status,
+    line: u64,
+}
+
+impl Model for Scanner {
+    ghost use Rattle.std.specs.Prelude.{◌-◌, drop, take};
+    ghost use Rattle.text_scan.specs.Scan.{Scan};
+    ghost use Rattle.text_scan.specs.Block.{IsBlock};
+
+    ghost Value = { Scan };
+
+    ghost view = { λ s. record {
+      lex = s.lexer;
+      room = s.room - s.at;
+      unread = drop s.at (take s.end s.block);
+      status = s.status;
+      line = s.line;
+    } };
+
+    ghost invariant = { λ s. IsBlock s.block s.at s.stop s.end s.room s.lexer.line };
+}
+
+impl Scanner {
+    /// A scanner of a text that may have as many bytes as the limit says. Lines whose first byte that is no blank
+    /// is the comment byte are skipped.
+    pub fn new(comment: u8, limit: u64) -> Scanner
+        requires { limit + 1 < 2 ^ 64 }
+        ensures items { (bytes : List ℕ) → ahead result bytes ≡ items comment limit bytes }
+        ensures reading { result.status ≡ Reading }
+        ensures line { result.line ≡ 1 }
+    {
+        Scanner {
+            block: [0; BLOCK],
+            at: 0,
+            stop: 0,
+            end: 0,
+            room: limit,
+            lexer: Lexer::new(comment),
+            status: Status::Reading,
+            line: 1,
+        }
+    }
+
+    /// The next token; None is the end. After None or an error it gives the same again and reads nothing.
+    #[inline(always)]
+    pub fn next<S: Source>(&mut self, source: &mut S) -> Result<Option<Token>, ScanError>
+        ensures gives { IsTrue S.tells → Decides (S.channel source.old) (S.channel source.new)
+            (λ bytes more. Gives result self.new.line (ahead self.old bytes) (ahead self.new more)) }
+        ensures moves { Moves result self.old self.new }
+        ensures fault { result ≡ Err ReadFault → is_faulted self.old.status ≡ false →
+            Rose (S.channel source.old).faults (S.channel source.new).faults }
+        // Once it has stopped, nothing changes.
+        ensures stopped_answer { is_reading self.old.status ≡ false → result ≡ last_answer self.old.status }
+        ensures stopped_scanner { is_reading self.old.status ≡ false → self.new ≡ self.old }
+        ensures stopped_source { is_reading self.old.status ≡ false → S.channel source.new ≡ S.channel source.old }
+
+        ensures reads { OnlyReads (S.channel source.old) (S.channel source.new) }
+        ensures beside { S.beside source.new ≡ S.beside source.old }
+    {
+        match self.status {
+            Status::Reading => self.read_on(source),
+            Status::Ended => Ok(None),
+            Status::Overlong => Err(ScanError::TooLong),
+            Status::Faulted => Err(ScanError::ReadFault),
+        }
+    }
+
+    /// The line of the token that was given last, 1 before the first; after None that of the end; after TooLong
+    /// one more than the number of line ends under the limit.
+    #[inline(always)]
+    pub fn line(&self) -> u64
+        ensures { result ≡ self.now.line }
+    {
+        self.line
+    }
+
+    fn read_on<S: Source>(&mut self, source: &mut S) -> Result<Option<Token>, ScanError>
+        requires { self.old.status ≡ Reading }
+        ensures gives { IsTrue S.tells → Decides (S.channel source.old) (S.channel source.new)
+            (λ bytes more. Gives result self.new.line (ahead self.old bytes) (ahead self.new more)) }
+        ensures moves { Moves result self.old self.new }
+        ensures fault { result ≡ Err ReadFault → Rose (S.channel source.old).faults (S.channel source.new).faults }
+        ensures reads { OnlyReads (S.channel source.old) (S.channel source.new) }
+        ensures beside { S.beside source.new ≡ S.beside source.old }
+    {
+        'turns: loop {
+            if let Some(token) = self.buffered_token() {
+                self.set_line(token.line());
+                return Ok(Some(token));
+            }
+            if self.has_unread() {
+                self.set_overlong();
+                return Err(ScanError::TooLong);
+            }
+            if !self.fill(source)? {
+                return Ok(self.last_token());
+            }
+        }
+    }
+
+    // The next token that ends among the bytes that are read and under the limit.
+    #[inline(always)]
+    fn buffered_token(&mut self) -> Option<Token>
+        ensures found { IfSome result (λ token. (more : List ℕ) → items_from self.old.lex self.old.room (self.old.unread ++ more)
+            ≡ next_word token (items_from self.new.lex self.new.room (self.new.unread ++ more))) }
+        ensures none { IfNone result ((more : List ℕ) → items_from self.old.lex self.old.room (self.old.unread ++ more)
+            ≡ items_from self.new.lex self.new.room (self.new.unread ++ more)) }
+        ensures over { IfNone result (IsTrue (has_bytes self.new.unread) → self.new.room ≡ 0) }
+        ensures room { self.new.room + length self.old.unread ≡ self.old.room + length self.new.unread }
+        ensures progress { IfSome result (λ _. self.new.room < self.old.room) }
+        ensures status { self.new.status ≡ self.old.status }
+        ensures line { self.new.line ≡ self.old.line }
+    {
+        match self.whole_token() {
+            Some(token) => Some(token),
+            None => self.token_by_bytes(),
+        }
+    }
+
+    // The same where the next byte begins a token that ends in the block; else nothing. Its bytes are copied at once.
+    #[inline(always)]
+    fn whole_token(&mut self) -> Option<Token>
+        ensures found { IfSome result (λ token. (more : List ℕ) → items_from self.old.lex self.old.room (self.old.unread ++ more)
+            ≡ next_word token (items_from self.new.lex self.new.room (self.new.unread ++ more))) }
+        ensures none { IfNone result (self.new ≡ self.old) }
+        ensures room { self.new.room + length self.old.unread ≡ self.old.room + length self.new.unread }
+        ensures progress { IfSome result (λ _. self.new.room < self.old.room) }
+        ensures status { self.new.status ≡ self.old.status }
+        ensures line { self.new.line ≡ self.old.line }
+    {
+        let Some((token, len)) = self.word_ahead() else {
+            return None;
+        };
+        let blank = self.block[self.at + len];
+        self.lexer.pass_word(blank);
+        self.at += len + 1;
+        Some(token)
+    }
+
+    // The token that begins with the next byte, with its length, if there is one and it ends in the block.
+    #[inline(always)]
+    fn word_ahead(&self) -> Option<(Token, usize)>
+        ensures { IfSome result (λ word. IsWordAhead self.now word.0 word.1) }
+    {
+        if self.stop - self.at < SPACE {
+            return None;
+        }
+        let window = &self.block[self.at..self.stop];
+        let len = letters(window);
+        if len >= window.len() || !self.lexer.begins_word(window[0]) {
+            return None;
+        }
+        Some((Token::of_front(window, len, self.lexer.line()), len))
+    }
+
+    // The same byte by byte.
+    fn token_by_bytes(&mut self) -> Option<Token>
+        ensures found { IfSome result (λ token. (more : List ℕ) → items_from self.old.lex self.old.room (self.old.unread ++ more)
+            ≡ next_word token (items_from self.new.lex self.new.room (self.new.unread ++ more))) }
+        ensures none { IfNone result ((more : List ℕ) → items_from self.old.lex self.old.room (self.old.unread ++ more)
+            ≡ items_from self.new.lex self.new.room (self.new.unread ++ more)) }
+        ensures over { IfNone result (IsTrue (has_bytes self.new.unread) → self.new.room ≡ 0) }
+        ensures room { self.new.room + length self.old.unread ≡ self.old.room + length self.new.unread }
+        ensures progress { IfSome result (λ _. self.new.room < self.old.room) }
+        ensures status { self.new.status ≡ self.old.status }
+        ensures line { self.new.line ≡ self.old.line }
+    {
+        while self.at < self.stop {
+            let byte = self.block[self.at];
+            self.at += 1;
+            if self.lexer.ends_word(byte) {
+                let token = self.lexer.word();
+                self.lexer.take(byte);
+                return Some(token);
+            }
+            self.lexer.take(byte);
+        }
+        None
+    }
+
+    #[inline(always)]
+    fn has_unread(&self) -> bool
+        ensures { result ≡ has_bytes self.now.unread }
+    {
+        self.at < self.end
+    }
+
+    #[inline(always)]
+    fn set_line(&mut self, line: u64)
+        ensures { self.new ≡ record self.old { line = line } }
+    {
+        self.line = line;
+    }
+
+    // More bytes are there than the limit allows.
+    fn set_overlong(&mut self)
+        ensures { self.new ≡ record self.old { status = Overlong; line = self.old.lex.line } }
+    {
+        self.status = Status::Overlong;
+        self.line = self.lexer.line();
+    }
+
+    // The token that the end of the text ends, if one has begun. Nothing is read from then on.
+    fn last_token(&mut self) -> Option<Token>
+        ensures stopped { self.new ≡ record self.old { status = Ended; line = self.old.lex.line } }
+        ensures found { IfSome result (λ token. (items : _) → word_then self.old.lex.word self.old.lex.line items ≡ next_word token items) }
+        ensures none { IfNone result ((items : _) → word_then self.old.lex.word self.old.lex.line items ≡ items) }
+        ensures line { IfSome result (λ token. token.line ≡ self.old.lex.line) }
+    {
+        self.status = Status::Ended;
+        self.line = self.lexer.line();
+        if self.lexer.has_word() {
+            Some(self.lexer.word())
+        } else {
+            None
+        }
+    }
+
+    // Reads the next block. False is the end.
+    fn fill<S: Source>(&mut self, source: &mut S) -> Result<bool, ScanError>
+        requires reading { self.old.status ≡ Reading }
+        requires used { self.old.unread ≡ [] }
+        ensures same { IsTrue S.tells → Decides (S.channel source.old) (S.channel source.new)
+            (λ bytes more. ahead self.old bytes ≡ ahead self.new more) }
+        ensures ended { IsTrue S.tells → result ≡ Ok false → (S.channel source.new).left ≡ [] }
+        ensures ended_unread { result ≡ Ok false → self.new.unread ≡ [] }
+        ensures more { result ≡ Ok true → 0 < length self.new.unread }
+        ensures kept { self.new ≡ record self.old { unread = self.new.unread; status = self.new.status } }
+        ensures status_ok { OnOk result (self.new.status ≡ Reading) }
+        ensures status_err { OnErr result (self.new.status ≡ Faulted) }
+        ensures error { OnErr result (result ≡ Err ReadFault) }
+        ensures fault { OnErr result (Rose (S.channel source.old).faults (S.channel source.new).faults) }
+        ensures reads { OnlyReads (S.channel source.old) (S.channel source.new) }
+        ensures beside { S.beside source.new ≡ S.beside source.old }
+    {
+        self.room -= self.at as u64;
+        self.at = 0;
+        self.stop = 0;
+        self.end = 0;
+        match source.read(&mut self.block) {
+            Ok(len) => {
+                self.end = len;
+                self.stop = (len as u64).min(self.room) as usize;
+                Ok(len > 0)
+            }
+            Err(_) => {
+                self.status = Status::Faulted;
+                Err(ScanError::ReadFault)
+            }
+        }
+    }
+}
