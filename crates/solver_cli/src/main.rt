@@ -8,6 +8,8 @@ mod output;
 mod proof;
 mod run;
 mod status;
+#[cfg(test)]
+mod tests;
 mod words;
 
 use crate::complaint::complain;
