@@ -9,3 +9,4 @@ pub mod Accepted
 pub mod Printed
 pub mod Named
 pub mod Whole
+pub mod FirstEmpty

@@ -9,7 +9,7 @@ use Rattle.solver_cli.specs.declared.status.Status.TheVariants.{Sat, Unsat, Unkn
 use Rattle.solver_cli.specs.declared.status.Why.TheVariants.{NodeLimit}
 use Rattle.solver_cli.specs.declared.answer.Answer.{Answer}
 use Rattle.solver_cli.specs.declared.answer.Answer.TheVariants.{Satisfiable, Unsatisfiable, NodesUsed}
-use Rattle.solver_cli.specs.Answer.{Holds, IsProof, answer_text, status_of}
+use Rattle.solver_cli.specs.Answer.{Refutation, Holds, IsProof, answer_text, status_of}
 use Rattle.solver_cli.specs.Command.{Solve, command}
 use Rattle.solver_cli.specs.ErrorText.{is_answer}
 use Rattle.solver_cli.specs.Phases.{PutsAnswer}
@@ -103,12 +103,13 @@ answered law run file proof asked a = go a.printed a.puts a.ends where
       record {
         unsatisfiable = λ e t.
             let is : a.answer ≡ Unsatisfiable = is_unsat a.answer (sym ends ∙ e) in
-            let refuted : Refutes a.problem.clauses (written_in run ProofOut) = subst (λ (x : Answer). Holds a.problem (written_in run ProofOut) x) is (holds t) in
+            let refuted : Refutation a.problem.clauses (written_in run ProofOut) = subst (λ (x : Answer). Holds a.problem (written_in run ProofOut) x) is (holds t) in
             record {
               problem = a.problem;
               asked = asks_for run file proof a.problem (read t);
-              refuted = refuted;
-              unsatisfiable = law a.problem.vars a.problem.clauses (written_in run ProofOut) a.takes.statuses.literals refuted;
+              refuted = refuted.refutes;
+              at_once = refuted.at_once;
+              unsatisfiable = law a.problem.vars a.problem.clauses (written_in run ProofOut) a.takes.statuses.literals refuted.refutes;
               printed = all t ∙ ap (answer_text a.problem.vars) is;
             };
         satisfiable = λ e t.

@@ -1,10 +1,11 @@
 -- The answers of `solve`, when they are true, and their texts on standard output.
-use Rattle.std.specs.Prelude.{◌≡◌, ◌⊎◌, ℕ, Bool, false, ℤ, neg_ℤ, List, replicate, IsFalse}
+use Rattle.std.specs.Prelude.{◌≡◌, ◌⊎◌, ◌+◌, ◌∷◌, suc, if◌then◌else◌, ℕ, Bool, false, ℤ, neg_ℤ, List, replicate, IsFalse, [], length, IsTrue}
 use Rattle.std.specs.List.{list_any, list_all}
 use Rattle.std.specs.Ordering.{int_eq}
 use Rattle.cnf_base.specs.Truth.{Satisfies, assignment_of}
 use Rattle.cnf_base.specs.Formula.{Formula}
-use Rattle.cnf_base.specs.ProofText.{is_empty}
+use Rattle.cnf_base.specs.declared.step.Step.TheVariants.{Add}
+use Rattle.cnf_base.specs.ProofText.{is_empty, line_of_step}
 use Rattle.lrat_rules.specs.State.{State}
 use Rattle.lrat_rules.specs.Run.{Spells, Refutes, IsCutProof}
 use Rattle.lrat_rules.specs.Marks.{in_use}
@@ -25,6 +26,20 @@ is_tautology clause = list_any (λ literal. list_any (λ other. int_eq other (ne
 
 abbrev pub has_empty_clause : List (List ℤ) → Bool
 has_empty_clause clauses = list_any is_empty clauses
+
+-- the place of the first empty clause, from 1 on
+abbrev pub first_empty : List (List ℤ) → ℕ
+first_empty [] = 1
+first_empty (clause ∷ more) = (if is_empty clause then 1 else suc (first_empty more))
+
+-- the one line that refutes clauses one of which is empty: the next number, and the first empty clause as its hint
+abbrev pub one_line : List (List ℤ) → List ℕ
+one_line clauses = line_of_step (Add (length clauses + 1) [] (first_empty clauses ∷ []) [])
+
+-- the bytes refute the clauses, by one line where one of them is empty
+pub record Refutation (clauses : List (List ℤ)) (bytes : List ℕ) : Type 0 where
+  pub refutes : Refutes clauses bytes
+  pub at_once : IsTrue (has_empty_clause clauses) → bytes ≡ one_line clauses
 
 -- the bytes are whole lines, good steps from the formula's clauses
 pub record IsProof (clauses : List (List ℤ)) (bytes : List ℕ) : Type 0 where
@@ -51,7 +66,7 @@ pub record NodesAreUsed (formula : Formula) (bytes : List ℕ) : Type 0 where
 -- the answer is true of the formula and the proof that was written
 abbrev pub Holds : Formula → List ℕ → Answer → Type 0
 Holds formula bytes Satisfiable = AllFalseSatisfies formula
-Holds formula bytes Unsatisfiable = Refutes formula.clauses bytes
+Holds formula bytes Unsatisfiable = Refutation formula.clauses bytes
 Holds formula bytes NodesUsed = NodesAreUsed formula bytes
 
 -- its text on standard output, for so many variables

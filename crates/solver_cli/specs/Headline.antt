@@ -17,7 +17,7 @@ use Rattle.solver_cli.specs.declared.status.Status.TheVariants.{Sat, Unsat, Unkn
 use Rattle.solver_cli.specs.declared.answer.Answer.{Answer}
 use Rattle.solver_cli.specs.Command.{Command, Solve, command}
 use Rattle.solver_cli.specs.ErrorText.{error_text, is_answer}
-use Rattle.solver_cli.specs.Answer.{Holds, IsProof, IsProofSoFar, NodesAreUsed, answer_text, status_of}
+use Rattle.solver_cli.specs.Answer.{Holds, IsProof, IsProofSoFar, NodesAreUsed, has_empty_clause, one_line, answer_text, status_of}
 
 -- One run of the program: whether the host tells its bytes, the words, the roles and the files before, the roles
 -- and the files after, and how it ended.
@@ -54,11 +54,13 @@ pub record AsksFor (run : Run) (problem : Formula) : Type 0 where
   pub proof : List ℕ
   pub asks : Asks run file proof (formula problem)
 
--- Unsatisfiable: the very bytes of the proof refute the formula's clauses, so that no assignment satisfies them.
+-- Unsatisfiable: the very bytes of the proof refute the formula's clauses, so that no assignment satisfies them. Where
+-- a clause is empty they are one line.
 pub record IsRefuted (run : Run) : Type 0 where
   pub problem : Formula
   pub asked : AsksFor run problem
   pub refuted : Refutes problem.clauses (written_in run ProofOut)
+  pub at_once : IsTrue (has_empty_clause problem.clauses) → written_in run ProofOut ≡ one_line problem.clauses
   pub unsatisfiable : (a : Assignment) → Satisfies a problem.clauses → ⊥
   pub printed : written_in run Out ≡ unsat_line
 

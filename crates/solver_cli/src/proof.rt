@@ -1,15 +1,15 @@
 // Deciding a formula and writing the proof. So far a formula is decided only where it holds an empty clause, or
 // where each of its clauses is a tautology: for all others no node is allowed.
-ghost use Rattle.std.specs.Prelude.{◌≡◌, ◌≢◌, ◌+◌, ◌-◌, ◌<◌, ◌≤◌, ℤ, List, [], None, Some, Ok, Err, IsTrue, IsFalse, IsOk, MatchOption, length, slice_index_or};
+ghost use Rattle.std.specs.Prelude.{◌++◌, ◌∷◌, ◌≡◌, ◌≢◌, ◌+◌, ◌-◌, ◌<◌, ◌≤◌, ℤ, List, [], None, Some, Ok, Err, IsTrue, IsFalse, IsOk, MatchOption, length, slice_index_or};
 ghost use Rattle.std.specs.List.{list_all};
 ghost use Rattle.cnf_base.specs.ProofText.{max_id};
 ghost use Rattle.host_io.specs.declared.role.Role.TheVariants.{ProofOut};
 ghost use Rattle.host_io.specs.Files.{Kept};
 ghost use Rattle.lrat_rules.specs.State.{clause_at};
 ghost use Rattle.lrat_rules.specs.Run.{Refutes};
-ghost use Rattle.clause_ledger.specs.Book.{IsProofOf};
+ghost use Rattle.clause_ledger.specs.Book.{IsProofOf, next_line};
 ghost use Rattle.solver_cli.specs.declared.status.Status.TheVariants.{WriteFault};
-ghost use Rattle.solver_cli.specs.Answer.{has_empty_clause, is_tautology};
+ghost use Rattle.solver_cli.specs.Answer.{has_empty_clause, first_empty, one_line, is_tautology};
 ghost use Rattle.solver_cli.specs.Phases.{EndsProof, OnlyWritten, IsProofStatus, WritesProof};
 
 use crate::answer::Answer;
@@ -81,7 +81,9 @@ fn refute<S: Sink + Drop>(
     requires from_one { 1 ≤ number }
     requires to_len { number ≤ length formula.now.clauses }
     requires empty { slice_index_or formula.now.clauses (number - 1) [] ≡ [] }
+    requires first { number ≡ first_empty formula.now.clauses }
     ensures refutes { IsTrue S.tells → IsOk result → Refutes formula.now.clauses (S.channel sink.new).written }
+    ensures line { IsTrue S.tells → IsOk result → (S.channel sink.new).written ≡ one_line formula.now.clauses }
     ensures ends { EndsProof formula.now.clauses S.tells (S.channel sink.old) (S.channel sink.new) (IsOk result) (result ≡ Err WriteFault) }
     ensures statuses { IsProofStatus result }
     ensures only { OnlyWritten (S.channel sink.old) (S.channel sink.new) }
@@ -108,6 +110,7 @@ fn add_empty<S: Sink + Drop>(ledger: &mut Ledger<S>, hint: Id) -> Result<(), Sta
         → EndsProof clauses S.tells (S.channel ledger.old.sink) (S.channel ledger.new.sink) (IsOk result) (result ≡ Err WriteFault) }
     ensures refutes { (clauses : List (List ℤ)) → IsProofOf clauses S.tells (S.channel ledger.old.sink) ledger.old.state
         → IsTrue S.tells → IsOk result → Refutes clauses (S.channel ledger.new.sink).written }
+    ensures line { IsTrue S.tells → IsOk result → (S.channel ledger.new.sink).written ≡ (S.channel ledger.old.sink).written ++ next_line ledger.old.state [] (hint ∷ []) }
     ensures statuses { IsProofStatus result }
     ensures only { OnlyWritten (S.channel ledger.old.sink) (S.channel ledger.new.sink) }
     ensures beside { S.beside ledger.new.sink ≡ S.beside ledger.old.sink }
@@ -141,7 +144,7 @@ fn finish<S: Sink + Drop>(ledger: &mut Ledger<S>) -> Result<(), Status>
 // The number of the first empty clause, if there is one.
 fn first_empty(formula: &Cnf) -> Option<usize>
     ensures { MatchOption result (IsFalse (has_empty_clause formula.now.clauses))
-        (λ number. (1 ≤ number) × (number ≤ length formula.now.clauses) × (slice_index_or formula.now.clauses (number - 1) [] ≡ [])) }
+        (λ number. (number ≡ first_empty formula.now.clauses) × IsTrue (has_empty_clause formula.now.clauses) × (1 ≤ number) × (number ≤ length formula.now.clauses) × (slice_index_or formula.now.clauses (number - 1) [] ≡ [])) }
 {
     for i in 0..formula.len() {
         if formula.clause(i + 1).is_empty() {

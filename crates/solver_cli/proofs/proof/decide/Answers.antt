@@ -9,7 +9,7 @@ pub returns-in-Ok-clause-writes : goal.returns-in-Ok-clause-writes
 returns-in-Ok-clause-writes g c =
     let refuted = c.in-Ok.ensures in
     record {
-      answer = λ t. refuted.refutes t refl;
+      answer = λ t. record { refutes = refuted.refutes t refl; at_once = λ _. refuted.line t refl };
       proof = record { whole = λ no. refuted.ends.whole (λ e. cc); so_far = refuted.ends.so_far; flushed = λ d. refuted.ends.flushed refl; fault = λ e. cc };
       statuses = tt;
       only = refuted.only;
