@@ -13,3 +13,6 @@ mod reader;
 pub use error::StepError;
 pub use laws::whole_text_law;
 pub use reader::StepReader;
+
+#[cfg(test)]
+mod tests;
