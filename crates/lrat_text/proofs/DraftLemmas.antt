@@ -1,14 +1,13 @@
 -- The draft of a line says which step its tokens spell.
-use Rattle.std.proofs.Common.{◌≡◌, ℕ, Bool, true, false, List, [], ◌∷◌, ◌++◌, map, ℤ, Option, Some, None, option_map, option_and_then, nat_lt, ◌==◌, if◌then◌else◌, refl, sym, ◌∙◌, ap, subst}
-use Rattle.cnf_base.specs.declared.step.Step.{Step}
+use Rattle.std.proofs.Common.{◌≡◌, ℕ, true, false, List, [], ◌∷◌, ◌++◌, map, ℤ, Option, Some, None, option_map, option_and_then, ◌==◌, if◌then◌else◌, refl, sym, ◌∙◌, ap}
 use Rattle.cnf_base.specs.Number.{plain_number, signed_number}
-use Rattle.cnf_base.specs.Text.{Word, Row}
-use Rattle.cnf_base.specs.ProofText.{all_given, split_at, is_zero, addition_from, deletion_of, is_delete_word, step_with, step_of, line_of_row}
+use Rattle.cnf_base.specs.Text.{Word}
+use Rattle.cnf_base.specs.ProofText.{all_given, split_at, is_zero, addition_from, deletion_of, is_delete_word, step_with, step_of}
 use Rattle.text_scan.specs.Items.{Items, the_end, too_long, next_word}
 use Rattle.lrat_text.specs.declared.draft.Kind.{Kind}
 use Rattle.lrat_text.specs.declared.draft.Kind.TheVariants.{Empty, Begun, Adds, Deletes}
 use Rattle.lrat_text.specs.Numbers.{capped, capped_ℤ, positive, signed_word, plain_word, deletion_from, addition_by}
-use Rattle.lrat_text.specs.Steps.{Steps, no_more, overlong, step_then, line_then, steps_after, steps_of, row_of_word, row_with}
+use Rattle.lrat_text.specs.Steps.{step_then, steps_after, steps_of, row_of_word}
 use Rattle.lrat_text.specs.Draft.{DraftLine, no_draft, draft_of_word, with_given, draft_with, judged, judged_in, is_open, is_open_kind, drafted}
 use Rattle.lrat_text.proofs.Cut.{all_given-map, addition_by-capped, deletion_from-capped}
 
@@ -50,7 +49,7 @@ draft_of-push line first [] word =
 draft_of-push line first (next ∷ words) word =
     let id : Option ℕ = option_map capped (plain_number first) in
     elim (is_delete_word next) as (λ b. as_draft line id (if b then Deletes else Adds)
-      (if b then all_given (map plain_word (words ++ word.bytes ∷ [])) else all_given (map signed_word (next ∷ (words ++ word.bytes ∷ []))))
+    (if b then all_given (map plain_word (words ++ word.bytes ∷ [])) else all_given (map signed_word (next ∷ (words ++ word.bytes ∷ []))))
     ≡ draft_with (as_draft line id (if b then Deletes else Adds) (if b then all_given (map plain_word words) else all_given (map signed_word (next ∷ words)))) word) [
       | true ↦ ap (as_draft line id Deletes) (all_given-push plain_word words word.bytes)
       | false ↦ ap (as_draft line id Adds) (all_given-push signed_word (next ∷ words) word.bytes)

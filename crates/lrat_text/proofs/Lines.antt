@@ -1,14 +1,12 @@
 -- The steps of a text within the limit are those of its lines.
-use Rattle.std.proofs.Common.{◌≡◌, ℕ, ◌+◌, ◌<◌, Bool, true, false, List, [], ◌∷◌, ◌++◌, map, take, ℤ, Option, Some, None, option_and_then, ◌==◌, if◌then◌else◌, refl, sym, ◌∙◌, ap, arith, append_assoc, append-nil}
+use Rattle.std.proofs.Common.{◌≡◌, ℕ, ◌+◌, ◌<◌, true, false, List, [], ◌∷◌, ◌++◌, map, take, Option, Some, None, option_and_then, ◌==◌, if◌then◌else◌, refl, ◌∙◌, ap, arith, append_assoc, append-nil}
 use Rattle.std.proofs.lemmas.Bool.Decides.{nat_tests}
-use Rattle.std.proofs.lemmas.List.{map-append}
 use Rattle.std.specs.List.{flat_map}
-use Rattle.cnf_base.specs.declared.step.Step.{Step}
 use Rattle.cnf_base.specs.Number.{plain_number, signed_number}
-use Rattle.cnf_base.specs.Text.{Word, Row, words_of, begins_with, row_of, rows_from, words_of_row}
+use Rattle.cnf_base.specs.Text.{Word, words_of, begins_with, row_of, rows_from, words_of_row}
 use Rattle.cnf_base.specs.ProofText.{all_given, split_at, is_zero, addition_from, deletion_of, is_delete_word, step_with, step_of, line_of_row}
-use Rattle.text_scan.specs.Items.{Items, the_end, next_word, words_then, kept}
-use Rattle.lrat_text.specs.Steps.{Steps, no_more, step_then, line_then, lines_then, steps_after, steps_of, row_of_word}
+use Rattle.text_scan.specs.Items.{Items, the_end, words_then, kept}
+use Rattle.lrat_text.specs.Steps.{Steps, no_more, step_then, line_then, lines_then, steps_after, steps_of}
 
 abbrev word_at : ℕ → List ℕ → Word
 word_at line bytes = record { bytes = bytes; line = line }
@@ -31,11 +29,11 @@ module _ (keeps : IsKept) where
       let plain : map plain_number (map (take 65) words) ≡ map plain_number words = map_kept plain_number keeps.plain words in
       let deletion : is_delete_word (take 65 word) ≡ is_delete_word word = keeps.deletion (word_at 0 word) in
       ap (λ b. if b then option_and_then (λ numbers. option_and_then (deletion_of id) (split_at (λ n. n == 0) numbers)) (all_given (map plain_number (map (take 65) words)))
-        else option_and_then (λ numbers. option_and_then (addition_from id) (split_at is_zero numbers)) (all_given (map signed_number (map (take 65) (word ∷ words))))) deletion
+      else option_and_then (λ numbers. option_and_then (addition_from id) (split_at is_zero numbers)) (all_given (map signed_number (map (take 65) (word ∷ words))))) deletion
       ∙ ap (λ ns. if is_delete_word word then option_and_then (λ numbers. option_and_then (deletion_of id) (split_at (λ n. n == 0) numbers)) (all_given ns)
-        else option_and_then (λ numbers. option_and_then (addition_from id) (split_at is_zero numbers)) (all_given (map signed_number (map (take 65) (word ∷ words))))) plain
+      else option_and_then (λ numbers. option_and_then (addition_from id) (split_at is_zero numbers)) (all_given (map signed_number (map (take 65) (word ∷ words))))) plain
       ∙ ap (λ ns. if is_delete_word word then option_and_then (λ numbers. option_and_then (deletion_of id) (split_at (λ n. n == 0) numbers)) (all_given (map plain_number words))
-        else option_and_then (λ numbers. option_and_then (addition_from id) (split_at is_zero numbers)) (all_given ns)) signed
+      else option_and_then (λ numbers. option_and_then (addition_from id) (split_at is_zero numbers)) (all_given ns)) signed
 
   step_of-kept : (words : List (List ℕ)) → step_of (map (take 65) words) ≡ step_of words
   step_of-kept [] = refl
@@ -68,7 +66,7 @@ module _ (keeps : IsKept) where
   -- a line with tokens, then the lines behind it
   whole_line : (e n : ℕ) (first : List ℕ) (words : List (List ℕ)) (texts : List (List ℕ))
       → (steps_after (words_then (map kept (words_from (n + 1) texts)) (the_end e)) (record { line = n; words = take 65 first ∷ map (take 65) words })
-        ≡ line_then (line_of_row (record { line = n; words = take 65 first ∷ map (take 65) words })) (lines_from (n + 1) texts (no_more e)))
+      ≡ line_then (line_of_row (record { line = n; words = take 65 first ∷ map (take 65) words })) (lines_from (n + 1) texts (no_more e)))
       → steps_after (words_then (map kept (map (word_at n) words ++ words_from (n + 1) texts)) (the_end e)) (record { line = n; words = take 65 first ∷ [] })
       ≡ step_then (step_of (first ∷ words)) n (lines_from (n + 1) texts (no_more e))
   whole_line e n first words texts behind =
@@ -85,11 +83,11 @@ module _ (keeps : IsKept) where
       ≡ step_then (step_of (first ∷ words)) line (lines_then (map line_of_row (row_of 99 n tokens ++ rows_from 99 (n + 1) texts)) (no_more e))) [
         | [] ↦ lines_open e texts line (n + 1) first words (omega arith)
         | token ∷ tokens ↦ elim (begins_with 99 token) as (λ b. steps_after (words_then (map kept (flat_map words_of_row ((if b then [] else record { line = n; words = token ∷ tokens } ∷ []) ++ rows_from 99 (n + 1) texts))) (the_end e)) (record { line = line; words = first ∷ words })
-          ≡ step_then (step_of (first ∷ words)) line (lines_then (map line_of_row ((if b then [] else record { line = n; words = token ∷ tokens } ∷ []) ++ rows_from 99 (n + 1) texts)) (no_more e))) [
-            | true ↦ lines_open e texts line (n + 1) first words (omega arith)
-            | false ↦ rw (other_line line n below) (ap (step_then (step_of (first ∷ words)) line)
-                (whole_line e n token tokens texts (lines_open e texts n (n + 1) (take 65 token) (map (take 65) tokens) (omega arith))))
-          ]
+            ≡ step_then (step_of (first ∷ words)) line (lines_then (map line_of_row ((if b then [] else record { line = n; words = token ∷ tokens } ∷ []) ++ rows_from 99 (n + 1) texts)) (no_more e))) [
+              | true ↦ lines_open e texts line (n + 1) first words (omega arith)
+              | false ↦ rw (other_line line n below) (ap (step_then (step_of (first ∷ words)) line)
+                  (whole_line e n token tokens texts (lines_open e texts n (n + 1) (take 65 token) (map (take 65) tokens) (omega arith))))
+            ]
       ]
 
   pub lines_closed : (e : ℕ) (texts : List (List ℕ)) (n : ℕ) → steps_of (words_then (map kept (words_from n texts)) (the_end e)) ≡ lines_from n texts (no_more e)
@@ -99,8 +97,8 @@ module _ (keeps : IsKept) where
       ≡ lines_then (map line_of_row (row_of 99 n tokens ++ rows_from 99 (n + 1) texts)) (no_more e)) [
         | [] ↦ lines_closed e texts (n + 1)
         | token ∷ tokens ↦ elim (begins_with 99 token) as (λ b. steps_of (words_then (map kept (flat_map words_of_row ((if b then [] else record { line = n; words = token ∷ tokens } ∷ []) ++ rows_from 99 (n + 1) texts))) (the_end e))
-          ≡ lines_then (map line_of_row ((if b then [] else record { line = n; words = token ∷ tokens } ∷ []) ++ rows_from 99 (n + 1) texts)) (no_more e)) [
-            | true ↦ lines_closed e texts (n + 1)
-            | false ↦ whole_line e n token tokens texts (lines_open e texts n (n + 1) (take 65 token) (map (take 65) tokens) (omega arith))
-          ]
+            ≡ lines_then (map line_of_row ((if b then [] else record { line = n; words = token ∷ tokens } ∷ []) ++ rows_from 99 (n + 1) texts)) (no_more e)) [
+              | true ↦ lines_closed e texts (n + 1)
+              | false ↦ whole_line e n token tokens texts (lines_open e texts n (n + 1) (take 65 token) (map (take 65) tokens) (omega arith))
+            ]
       ]

@@ -1,10 +1,10 @@
 -- The numbers of a line as they are kept: cut at a bound above every identifier, so that numerals of any length are
 -- judged by it.
-use Rattle.std.specs.Prelude.{ℕ, suc, min, ℤ, pos, negsuc, neg_ℤ, nat_abs, Bool, ◌&&◌, List, map, Option, None, Some, nat_le}
+use Rattle.std.specs.Prelude.{ℕ, suc, min, ℤ, pos, negsuc, neg_ℤ, nat_abs, ◌&&◌, List, map, Option, nat_le}
 use Rattle.std.specs.List.{list_all}
 use Rattle.std.specs.Option.{option_map, option_and_then}
 use Rattle.cnf_base.specs.declared.step.Step.{Step}
-use Rattle.cnf_base.specs.declared.step.Step.TheVariants.{Add, Delete}
+use Rattle.cnf_base.specs.declared.step.Step.TheVariants.{Delete}
 use Rattle.cnf_base.specs.Number.{plain_number, signed_number}
 use Rattle.cnf_base.specs.ProofText.{max_id, is_hint, is_zero, is_empty, given_if, split_at, addition_from}
 

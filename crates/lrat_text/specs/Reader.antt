@@ -2,8 +2,6 @@
 use Rattle.std.specs.Prelude.{◌≡◌, ℕ, ◌+◌, ◌<◌, Bool, true, false, List, Option, None, Some, Result, Ok, Err, ⊤, ◌&&◌, nat_lt, if◌then◌else◌}
 use Rattle.cnf_base.specs.declared.step.Step.{Step}
 use Rattle.text_scan.specs.Scan.{Scan, ahead, fuel as scan_fuel}
-use Rattle.text_scan.specs.declared.scanner.ScanError.{ScanError}
-use Rattle.text_scan.specs.declared.scanner.ScanError.TheVariants.{ReadFault as ScanFault, TooLong as ScanTooLong}
 use Rattle.lrat_text.specs.declared.error.StepError.{StepError}
 use Rattle.lrat_text.specs.declared.error.StepError.TheVariants.{Syntax, ReadFault, TooLong, OutOfMemory}
 use Rattle.lrat_text.specs.declared.reader.Status.{Status}

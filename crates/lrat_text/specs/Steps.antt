@@ -1,6 +1,6 @@
 -- What a reader of a proof gives in turn: the steps that the lines of the text spell, up to the first line that
 -- spells none, to the end, or to the limit.
-use Rattle.std.specs.Prelude.{ℕ, Bool, true, false, ◌&&◌, List, [], ◌∷◌, ◌++◌, Option, None, Some, nat_lt, ◌==◌, if◌then◌else◌}
+use Rattle.std.specs.Prelude.{ℕ, Bool, true, false, List, [], ◌∷◌, ◌++◌, Option, None, Some, nat_lt, ◌==◌, if◌then◌else◌}
 use Rattle.cnf_base.specs.declared.step.Step.{Step}
 use Rattle.cnf_base.specs.Text.{Word, Row}
 use Rattle.cnf_base.specs.ProofText.{Line, line_of_row}

@@ -145,7 +145,13 @@ pub fn addition(alloc: Global, id: u64, numbers: &[i64]) -> Result<Option<Step>,
     let Some(hints_end) = first_zero(rest) else {
         return Ok(None);
     };
-    addition_of(alloc, id, &numbers[..end], &rest[..hints_end], &rest[hints_end + 1..])
+    addition_of(
+        alloc,
+        id,
+        &numbers[..end],
+        &rest[..hints_end],
+        &rest[hints_end + 1..],
+    )
 }
 
 fn addition_of(

@@ -133,10 +133,19 @@ fn reads_steps(rt: HostRuntime) -> Result<(), Fail> {
         (b"\n c 1 2\n\n", "end 4"),
         (b"3 0 1 2 0\n", "1: 3 + | 1 2; end 2"),
         (b"3 0 1 2 0", "1: 3 + | 1 2; end 1"),
-        (b"3 1 -1 0 1 0\n4 0 1 2 0\n", "1: 3 + 1 -1 | 1; 2: 4 + | 1 2; end 3"),
-        (b"3 0 1 2 0\n3 d 1 7 1 0\n", "1: 3 + | 1 2; 2: 3 - 1 7 1; end 3"),
+        (
+            b"3 1 -1 0 1 0\n4 0 1 2 0\n",
+            "1: 3 + 1 -1 | 1; 2: 4 + | 1 2; end 3",
+        ),
+        (
+            b"3 0 1 2 0\n3 d 1 7 1 0\n",
+            "1: 3 + | 1 2; 2: 3 - 1 7 1; end 3",
+        ),
         (b"2 1 0 -5 0\r\n", "1: 2 + 1 | (5); end 2"),
-        (b"6 -4 1 3 0 7 -4 8 -5 0", "1: 6 + -4 1 3 | 7 (4 8) (5); end 1"),
+        (
+            b"6 -4 1 3 0 7 -4 8 -5 0",
+            "1: 6 + -4 1 3 | 7 (4 8) (5); end 1",
+        ),
         (b"0 d 0\nc x\n1 d 1 0\n", "1: 0 -; 3: 1 - 1; end 4"),
         (b"1 0 0 \n\t\r\n2 0 0", "1: 1 + |; 3: 2 + |; end 3"),
         (b"007 -01 00 0009 000", "1: 7 + -1 | 9; end 1"),
@@ -144,8 +153,14 @@ fn reads_steps(rt: HostRuntime) -> Result<(), Fail> {
             b"999999999999999999 2147483647 0 -999999999999999999 0",
             "1: 999999999999999999 + 2147483647 | (999999999999999999); end 1",
         ),
-        (b"999999999999999999 d 999999999999999999 0", "1: 999999999999999999 - 999999999999999999; end 1"),
-        (b"3 0 1 0\n3 0\n", "1: 3 + | 1; line 2 is no step of a proof"),
+        (
+            b"999999999999999999 d 999999999999999999 0",
+            "1: 999999999999999999 - 999999999999999999; end 1",
+        ),
+        (
+            b"3 0 1 0\n3 0\n",
+            "1: 3 + | 1; line 2 is no step of a proof",
+        ),
     ];
     for (text, wanted) in table {
         expect(&rt, rt.alloc(), 1000, text, wanted)?;
@@ -226,7 +241,10 @@ fn a_read_fails(rt: HostRuntime) -> Result<(), Fail> {
         assert!(rt; matches!(reader.next(&mut source), Err(StepError::ReadFault)));
         let reads = source.reads;
         assert!(rt; matches!(reader.next(&mut source), Err(StepError::ReadFault)));
-        assert_eq!(rt; (source.faults, source.reads, reader.line()), (1, reads, line));
+        assert_eq!(rt;
+            (source.faults, source.reads, reader.line()),
+            (1, reads, line)
+        );
     }
     Ok(())
 }

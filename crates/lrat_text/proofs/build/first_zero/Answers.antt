@@ -1,5 +1,5 @@
 -- The first zero parts the numbers.
-use Rattle.std.proofs.Common.{length, take, ◌∙◌, ap, sym, arith, add-one}
+use Rattle.std.proofs.Common.{◌∙◌, sym, arith, add-one}
 use Rattle.lrat_text.proofs.Zero.{zero_here, no_zero, all_before}
 use Rattle.lrat_text.proofs.build.first_zero.Goals as goal
 

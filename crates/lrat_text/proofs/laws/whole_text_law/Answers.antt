@@ -1,5 +1,5 @@
 -- Its items are its tokens and its end, and they are the words of its lines.
-use Rattle.std.proofs.Common.{◌≡◌, true, length, arith, refl, ◌∙◌}
+use Rattle.std.proofs.Common.{◌≡◌, true, length, arith}
 use Rattle.std.specs.Prelude.{nat_le}
 use Rattle.cnf_base.specs.Text.{pieces, is_line_end, end_line}
 use Rattle.lrat_text.proofs.Lines.{lines_closed}

@@ -1,8 +1,8 @@
 -- The steps from here on are those from the start on.
-use Rattle.std.proofs.Common.{◌≡◌, ◌+◌, ◌≤◌, false}
+use Rattle.std.proofs.Common.{◌≡◌, ◌+◌, ◌≤◌}
 use Rattle.std.specs.Prelude.{IsTrue}
 use Rattle.text_scan.specs.Decides.{Decides, OnlyReads}
-use Rattle.text_scan.specs.Scan.{ahead, is_faulted, fuel}
+use Rattle.text_scan.specs.Scan.{ahead, fuel}
 use Rattle.lrat_text.specs.declared.reader.Status.TheVariants.{Reading}
 use Rattle.lrat_text.specs.Draft.{drafted}
 use Rattle.lrat_text.specs.Reader.{open_count}
