@@ -1,0 +1,12 @@
+-- What is ahead of a new reader are the steps of the text.
+use Rattle.std.proofs.Common.{◌∙◌, sym, ap}
+use Rattle.text_scan.specs.Items.{items}
+use Rattle.text_scan.specs.Scan.{ahead}
+use Rattle.lrat_text.specs.Draft.{drafted, no_draft}
+use Rattle.lrat_text.proofs.DraftLemmas.{drafted-start}
+use Rattle.lrat_text.proofs.reader.StepReader.new.Goals as goal
+
+pub returns-clause-steps : goal.returns-clause-steps
+returns-clause-steps c = λ bytes. ap (drafted (ahead c.new.result bytes)) c.new-2.ensures
+    ∙ ap (λ is. drafted is no_draft) (c.new.ensures.items bytes)
+    ∙ sym (drafted-start (items 99 c.args.limit bytes))

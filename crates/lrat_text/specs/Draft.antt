@@ -1,0 +1,80 @@
+-- A line as it is read: which kind of step it is, its first number, and the numbers behind, nothing where a token is
+-- none.
+use Rattle.std.specs.Prelude.{ℕ, Bool, true, false, ℤ, List, [], ◌∷◌, ◌++◌, Option, None, Some, nat_lt, ◌==◌, if◌then◌else◌}
+use Rattle.std.specs.Option.{option_map, option_and_then}
+use Rattle.cnf_base.specs.declared.step.Step.{Step}
+use Rattle.cnf_base.specs.Number.{plain_number}
+use Rattle.cnf_base.specs.Text.{Word}
+use Rattle.cnf_base.specs.ProofText.{is_delete_word}
+use Rattle.text_scan.specs.Items.{Items, the_end, too_long, next_word}
+use Rattle.lrat_text.specs.declared.draft.Kind.{Kind}
+use Rattle.lrat_text.specs.declared.draft.Kind.TheVariants.{Empty, Begun, Adds, Deletes}
+use Rattle.lrat_text.specs.Numbers.{capped, signed_word, plain_word, deletion_from, addition_by}
+use Rattle.lrat_text.specs.Steps.{Steps, no_more, overlong, step_then}
+
+pub record DraftLine : Type 0 where
+  pub line : ℕ
+  pub kind : Kind
+  pub id : Option ℕ
+  pub numbers : Option (List ℤ)
+
+abbrev pub no_draft : DraftLine
+no_draft = record { line = 0; kind = Empty; id = None; numbers = Some [] }
+
+abbrev pub draft_of_word : Word → DraftLine
+draft_of_word word = record { line = word.line; kind = Begun; id = option_map capped (plain_number word.bytes); numbers = Some [] }
+
+-- one more number behind
+abbrev pub with_given : Option (List ℤ) → Option ℤ → Option (List ℤ)
+with_given None number = None
+with_given (Some numbers) None = None
+with_given (Some numbers) (Some number) = Some (numbers ++ number ∷ [])
+
+abbrev pub draft_as : DraftLine → Kind → Option (List ℤ) → DraftLine
+draft_as draft kind numbers = record { line = draft.line; kind = kind; id = draft.id; numbers = numbers }
+
+-- one more token behind the first
+abbrev pub draft_with_in : Kind → DraftLine → Word → DraftLine
+draft_with_in Empty draft word = draft
+draft_with_in Begun draft word =
+    if is_delete_word word.bytes then draft_as draft Deletes draft.numbers else draft_as draft Adds (with_given draft.numbers (signed_word word.bytes))
+draft_with_in Adds draft word = draft_as draft Adds (with_given draft.numbers (signed_word word.bytes))
+draft_with_in Deletes draft word = draft_as draft Deletes (with_given draft.numbers (plain_word word.bytes))
+
+abbrev pub draft_with : DraftLine → Word → DraftLine
+draft_with draft word = draft_with_in draft.kind draft word
+
+-- the step that the line spells, if it spells one
+abbrev pub judged_in : Kind → ℕ → List ℤ → Option Step
+judged_in Empty id numbers = None
+judged_in Begun id numbers = None
+judged_in Adds id numbers = addition_by id numbers
+judged_in Deletes id numbers = deletion_from id numbers
+
+abbrev pub judged : DraftLine → Option Step
+judged draft = option_and_then (λ id. option_and_then (judged_in draft.kind id) draft.numbers) draft.id
+
+abbrev pub is_open_kind : Kind → Bool
+is_open_kind Empty = false
+is_open_kind Begun = true
+is_open_kind Adds = true
+is_open_kind Deletes = true
+
+abbrev pub is_open : DraftLine → Bool
+is_open draft = is_open_kind draft.kind
+
+abbrev pub draft_then : DraftLine → Steps → Steps
+draft_then draft steps = if is_open draft then step_then (judged draft) draft.line steps else steps
+
+-- a token of the line, or the first of one
+abbrev pub with_token : DraftLine → Word → DraftLine
+with_token draft word = if is_open draft then draft_with draft word else draft_of_word word
+
+-- the steps that these tokens go on with
+abbrev pub drafted : Items → DraftLine → Steps
+drafted (the_end line) draft = draft_then draft (no_more line)
+drafted (too_long line) draft = if nat_lt draft.line line then draft_then draft overlong else overlong
+drafted (next_word word items) draft =
+    if is_open draft
+    then if draft.line == word.line then drafted items (draft_with draft word) else step_then (judged draft) draft.line (drafted items (draft_of_word word))
+    else drafted items (draft_of_word word)

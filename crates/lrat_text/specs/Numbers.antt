@@ -1,0 +1,40 @@
+-- The numbers of a line as they are kept: cut at a bound above every identifier, so that numerals of any length are
+-- judged by it.
+use Rattle.std.specs.Prelude.{ℕ, suc, min, ℤ, pos, negsuc, neg_ℤ, nat_abs, ◌&&◌, List, map, Option, nat_le}
+use Rattle.std.specs.List.{list_all}
+use Rattle.std.specs.Option.{option_map, option_and_then}
+use Rattle.cnf_base.specs.declared.step.Step.{Step}
+use Rattle.cnf_base.specs.declared.step.Step.TheVariants.{Delete}
+use Rattle.cnf_base.specs.Number.{plain_number, signed_number}
+use Rattle.cnf_base.specs.ProofText.{max_id, is_hint, is_zero, is_empty, given_if, split_at, addition_from}
+
+abbrev pub cap : ℕ
+cap = 1000000000000000000
+
+abbrev pub capped : ℕ → ℕ
+capped n = min n cap
+
+-- the same of a magnitude
+abbrev pub capped_ℤ : ℤ → ℤ
+capped_ℤ (pos n) = pos (capped n)
+capped_ℤ (negsuc n) = neg_ℤ (pos (capped (suc n)))
+
+-- a plain number as a number with a sign
+abbrev pub positive : ℕ → ℤ
+positive n = pos (capped n)
+
+abbrev pub signed_word : List ℕ → Option ℤ
+signed_word bytes = option_map capped_ℤ (signed_number bytes)
+
+abbrev pub plain_word : List ℕ → Option ℤ
+plain_word bytes = option_map positive (plain_number bytes)
+
+-- the deletion of these identifiers
+abbrev pub deletion_with : ℕ → List ℤ × List ℤ → Option Step
+deletion_with id (ids, rest) = given_if (nat_le id max_id && list_all is_hint ids && is_empty rest) (Delete id (map nat_abs ids))
+
+abbrev pub deletion_from : ℕ → List ℤ → Option Step
+deletion_from id numbers = option_and_then (deletion_with id) (split_at is_zero numbers)
+
+abbrev pub addition_by : ℕ → List ℤ → Option Step
+addition_by id numbers = option_and_then (addition_from id) (split_at is_zero numbers)

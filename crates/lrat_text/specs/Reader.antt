@@ -1,0 +1,94 @@
+-- A reader of steps as its callers see it, and what a call gives.
+use Rattle.std.specs.Prelude.{◌≡◌, ℕ, ◌+◌, ◌<◌, Bool, true, false, List, Option, None, Some, Result, Ok, Err, ⊤, ◌&&◌, nat_lt, if◌then◌else◌}
+use Rattle.cnf_base.specs.declared.step.Step.{Step}
+use Rattle.text_scan.specs.Scan.{Scan, ahead, fuel as scan_fuel}
+use Rattle.lrat_text.specs.declared.error.StepError.{StepError}
+use Rattle.lrat_text.specs.declared.error.StepError.TheVariants.{Syntax, ReadFault, TooLong, OutOfMemory}
+use Rattle.lrat_text.specs.declared.reader.Status.{Status}
+use Rattle.lrat_text.specs.declared.reader.Status.TheVariants.{Reading, Ended, Failed}
+use Rattle.lrat_text.specs.Steps.{Steps, no_more, overlong, no_step, next_step}
+use Rattle.lrat_text.specs.Draft.{DraftLine, is_open, judged, drafted}
+
+-- The scanner, the line that isn't ended, whether it still reads, and the line that it answers.
+pub record Reader : Type 0 where
+  pub scan : Scan
+  pub draft : DraftLine
+  pub status : Status
+  pub line : ℕ
+
+-- the steps that are still to be given, where these bytes follow those taken
+abbrev pub steps_in : Status → Reader → List ℕ → Steps
+steps_in Reading reader more = drafted (ahead reader.scan more) reader.draft
+steps_in Ended reader more = no_more reader.line
+steps_in (Failed (Syntax line)) reader more = no_step line
+steps_in (Failed TooLong) reader more = overlong
+steps_in (Failed ReadFault) reader more = drafted (ahead reader.scan more) reader.draft
+steps_in (Failed OutOfMemory) reader more = drafted (ahead reader.scan more) reader.draft
+
+abbrev pub steps_ahead : Reader → List ℕ → Steps
+steps_ahead reader more = steps_in reader.status reader more
+
+abbrev pub is_reading : Status → Bool
+is_reading Reading = true
+is_reading Ended = false
+is_reading (Failed error) = false
+
+-- how many more steps can be given at most, so that a loop over them ends whatever the source does
+abbrev pub open_count : DraftLine → ℕ
+open_count draft = if is_open draft then 1 else 0
+
+abbrev pub fuel_in : Status → Reader → ℕ
+fuel_in Reading reader = scan_fuel reader.scan + open_count reader.draft
+fuel_in Ended reader = 0
+fuel_in (Failed error) reader = 0
+
+abbrev pub fuel : Reader → ℕ
+fuel reader = fuel_in reader.status reader
+
+-- An answer, and the line that the reader then answers, are the first of the steps ahead; those after it are ahead
+-- now. A failed read and want of memory say nothing of the text.
+abbrev pub Gives : Result (Option (Step × ℕ)) StepError → ℕ → Steps → Steps → Type 0
+Gives (Ok (Some (step, at))) line before after = before ≡ next_step step at after
+Gives (Ok None) line before after = (before ≡ no_more line) × (after ≡ no_more line)
+Gives (Err (Syntax at)) line before after = (before ≡ no_step at) × (after ≡ no_step at)
+Gives (Err TooLong) line before after = (before ≡ overlong) × (after ≡ overlong)
+Gives (Err ReadFault) line before after = ⊤
+Gives (Err OutOfMemory) line before after = ⊤
+
+-- A step was given: its line is answered, and fewer can come.
+pub record GaveStep (at : ℕ) (old new : Reader) : Type 0 where
+  pub line : new.line ≡ at
+  pub less : fuel new < fuel old
+
+-- What a call makes of the reader, whatever the source does: after the end or an error it has stopped.
+abbrev pub Moves : Result (Option (Step × ℕ)) StepError → Reader → Reader → Type 0
+Moves (Ok (Some (step, at))) old new = GaveStep at old new
+Moves (Ok None) old new = new.status ≡ Ended
+Moves (Err error) old new = (new.status ≡ Failed error) × (new.line ≡ old.line)
+
+-- the answer of a reader that has stopped
+abbrev pub last_answer : Status → Result (Option (Step × ℕ)) StepError
+last_answer Reading = Ok None
+last_answer Ended = Ok None
+last_answer (Failed error) = Err error
+
+-- Within a call. The line that is begun has its end under the limit, where the scanner has stopped at it.
+abbrev pub is_under : Reader → Bool
+is_under reader = is_open reader.draft && nat_lt reader.draft.line reader.scan.line
+
+-- the line that is begun was judged
+abbrev pub Judges : Result Step StepError → Reader → Reader → Type 0
+Judges (Ok step) old new = (judged old.draft ≡ Some step) × (new ≡ record old { line = old.draft.line })
+Judges (Err (Syntax at)) old new = (judged old.draft ≡ None) × (at ≡ old.draft.line) × (new ≡ record old { status = Failed (Syntax at) })
+Judges (Err TooLong) old new = ⊥
+Judges (Err ReadFault) old new = ⊥
+Judges (Err OutOfMemory) old new = new ≡ record old { status = Failed OutOfMemory }
+
+-- it was judged and is given, and this line is begun now
+abbrev pub Settles : Result (Option (Step × ℕ)) StepError → DraftLine → Reader → Reader → Type 0
+Settles (Ok (Some (step, at))) next old new = (judged old.draft ≡ Some step) × (at ≡ old.draft.line) × (new ≡ record { scan = old.scan; draft = next; status = Reading; line = at })
+Settles (Ok None) next old new = ⊥
+Settles (Err (Syntax at)) next old new = (judged old.draft ≡ None) × (at ≡ old.draft.line) × (new ≡ record old { status = Failed (Syntax at) })
+Settles (Err TooLong) next old new = ⊥
+Settles (Err ReadFault) next old new = ⊥
+Settles (Err OutOfMemory) next old new = new ≡ record old { status = Failed OutOfMemory }

@@ -1,0 +1,147 @@
+// One line as it is read, token by token.
+ghost use Rattle.std.specs.Prelude.{◌≡◌, ◌≤◌, [], None, Some, Ok, OnOk, OnErr, Option};
+ghost use Rattle.std.specs.Option.{option_map};
+ghost use Rattle.cnf_base.specs.ProofText.{is_delete_word};
+ghost use Rattle.lrat_text.specs.declared.draft.Kind.TheVariants.{Empty};
+ghost use Rattle.lrat_text.specs.Draft.{no_draft, draft_of_word, draft_with, with_given, draft_as, judged, is_open};
+
+use crate::build::{addition, deletion};
+use crate::number::{plain_number, signed_number};
+use cnf_base::{OutOfMemory, Step};
+use std::alloc::Global;
+use std::marker::Model;
+use text_scan::Token;
+
+/// What was read of a line: nothing, its first token, or that it is an addition or a deletion.
+#[derive(Clone, Copy, Debug, PartialEq, Eq)]
+pub enum Kind {
+    Empty,
+    Begun,
+    Adds,
+    Deletes,
+}
+
+/// The numbers of a line.
+#[derive(Debug, Drop)]
+pub struct Draft {
+    line: u64,
+    kind: Kind,
+    id: Option<u64>,
+    // whether a token behind the first is no number
+    broken: bool,
+    numbers: Vec<i64>,
+}
+
+impl Model for Draft {
+    ghost use Rattle.std.specs.Prelude.{None, Some, if◌then◌else◌};
+    ghost use Rattle.lrat_text.specs.Draft.{DraftLine};
+
+    ghost Value = { DraftLine };
+
+    ghost view = { λ d. record { line = d.line; kind = d.kind; id = d.id; numbers = if d.broken then None else Some d.numbers.items } };
+}
+
+#[inline(always)]
+fn is_delete_word(token: &Token) -> bool
+    ensures { result ≡ is_delete_word token.now.bytes }
+{
+    token.bytes() == b"d".as_slice()
+}
+
+impl Draft {
+    pub fn new(alloc: Global) -> Draft
+        ensures { result ≡ no_draft }
+    {
+        Draft {
+            line: 0,
+            kind: Kind::Empty,
+            id: None,
+            broken: false,
+            numbers: Vec::new(alloc),
+        }
+    }
+
+    #[inline(always)]
+    pub fn line(&self) -> u64
+        ensures { result ≡ self.now.line }
+    {
+        self.line
+    }
+
+    #[inline(always)]
+    pub fn is_open(&self) -> bool
+        ensures { result ≡ is_open self.now }
+    {
+        self.kind != Kind::Empty
+    }
+
+    /// Lets the line go.
+    pub fn clear(&mut self)
+        ensures { self.new ≡ no_draft }
+    {
+        self.line = 0;
+        self.kind = Kind::Empty;
+        self.id = None;
+        self.broken = false;
+        self.numbers.clear();
+    }
+
+    /// Lets the line go and begins the one of this token.
+    pub fn begin(&mut self, token: &Token)
+        ensures { self.new ≡ draft_of_word token.now }
+    {
+        self.line = token.line();
+        self.kind = Kind::Begun;
+        self.id = plain_number(token);
+        self.broken = false;
+        self.numbers.clear();
+    }
+
+    /// Takes one more token of the line.
+    #[inline(always)]
+    pub fn take(&mut self, token: &Token) -> Result<(), OutOfMemory>
+        ensures { OnOk result (self.new ≡ draft_with self.old token.now) }
+    {
+        match self.kind {
+            Kind::Empty => Ok(()),
+            Kind::Begun => {
+                if is_delete_word(token) {
+                    self.kind = Kind::Deletes;
+                    return Ok(());
+                }
+                self.kind = Kind::Adds;
+                self.put(signed_number(token))
+            }
+            Kind::Adds => self.put(signed_number(token)),
+            Kind::Deletes => self.put(plain_number(token).map(|number| number as i64)),
+        }
+    }
+
+    #[inline(always)]
+    fn put(&mut self, number: Option<i64>) -> Result<(), OutOfMemory>
+        ensures { OnOk result (self.new ≡ draft_as self.old self.old.kind (with_given self.old.numbers number)) }
+    {
+        match number {
+            None => self.broken = true,
+            Some(number) => self.numbers.push(number)?,
+        }
+        Ok(())
+    }
+
+    /// The step that the line spells, if it spells one.
+    pub fn step(&self, alloc: Global) -> Result<Option<Step>, OutOfMemory>
+        ensures { OnOk result (result ≡ Ok (judged self.now)) }
+    {
+        let Some(id) = self.id else {
+            return Ok(None);
+        };
+        if self.broken {
+            return Ok(None);
+        }
+        match self.kind {
+            Kind::Empty | Kind::Begun => Ok(None),
+            Kind::Adds => addition(alloc, id, self.numbers.as_slice()),
+            Kind::Deletes => deletion(alloc, id, self.numbers.as_slice()),
+        }
+    }
+}

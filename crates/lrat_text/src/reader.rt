@@ -1,0 +1,209 @@
+// The reader: tokens from a scanner, gathered line by line.
+ghost use Rattle.std.specs.Prelude.{◌≡◌, ℕ, ◌+◌, ◌^◌, ◌<◌, true, false, List, None, Ok, Err, IsTrue, OnOk, OnErr};
+ghost use Rattle.host_io.specs.Channel.{Rose};
+ghost use Rattle.text_scan.specs.Decides.{Decides, OnlyReads};
+ghost use Rattle.lrat_text.specs.declared.error.StepError.TheVariants.{ReadFault, TooLong, OutOfMemory};
+ghost use Rattle.lrat_text.specs.declared.reader.Status.TheVariants.{Reading, Ended, Failed};
+ghost use Rattle.lrat_text.specs.Steps.{steps};
+ghost use Rattle.lrat_text.specs.Draft.{no_draft, draft_of_word, is_open, with_token};
+ghost use Rattle.lrat_text.specs.Reader.{Gives, Moves, steps_ahead, is_reading, last_answer, is_under, Judges, Settles};
+
+use crate::draft::Draft;
+use crate::error::StepError;
+use cnf_base::Step;
+use host_io::Source;
+use std::alloc::Global;
+use std::marker::Model;
+use text_scan::{ScanError, Scanner, Token};
+
+/// Whether a reader still reads, and else what it answers from now on.
+#[derive(Clone, Copy, Debug, PartialEq, Eq)]
+enum Status {
+    Reading,
+    Ended,
+    Failed(StepError),
+}
+
+/// Reads the lines of a textual LRAT proof as steps.
+#[derive(Debug, Drop)]
+pub struct StepReader {
+    alloc: Global,
+    scanner: Scanner,
+    draft: Draft,
+    status: Status,
+    line: u64,
+}
+
+impl Model for StepReader {
+    ghost use Rattle.std.specs.Prelude.{◌≡◌, false};
+    ghost use Rattle.text_scan.specs.Scan.{is_faulted};
+    ghost use Rattle.lrat_text.specs.declared.reader.Status.TheVariants.{Reading};
+    ghost use Rattle.lrat_text.specs.Reader.{Reader};
+
+    ghost Value = { Reader };
+
+    ghost view = { λ r. record { scan = r.scanner; draft = r.draft; status = r.status; line = r.line } };
+
+    ghost invariant = { λ r. r.status ≡ Reading → is_faulted r.scanner.status ≡ false };
+}
+
+impl StepReader {
+    /// A reader of a proof that may have as many bytes as the limit says.
+    pub fn new(alloc: Global, limit: u64) -> StepReader
+        requires { limit + 1 < 2 ^ 64 }
+        ensures steps { (bytes : List ℕ) → steps_ahead result bytes ≡ steps limit bytes }
+        ensures reading { result.status ≡ Reading }
+        ensures line { result.line ≡ 1 }
+    {
+        StepReader {
+            alloc,
+            scanner: Scanner::new(b'c', limit),
+            draft: Draft::new(alloc),
+            status: Status::Reading,
+            line: 1,
+        }
+    }
+
+    /// The line of the step that was given last, 1 before the first; after None that of the end.
+    pub fn line(&self) -> u64
+        ensures { result ≡ self.now.line }
+    {
+        self.line
+    }
+
+    /// The next step with its line; None is the end. A step is given once its line's end or the text's was seen. After
+    /// None or an error it gives the same again and reads nothing.
+    pub fn next<S: Source>(&mut self, source: &mut S) -> Result<Option<(Step, u64)>, StepError>
+        // The answer is the next of the steps of the bytes that were taken and whatever may follow them.
+        ensures gives { IsTrue S.tells → Decides (S.channel source.old) (S.channel source.new)
+            (λ bytes more. Gives result self.new.line (steps_ahead self.old bytes) (steps_ahead self.new more)) }
+        ensures moves { Moves result self.old self.new }
+        ensures fault { result ≡ Err ReadFault → is_reading self.old.status ≡ true →
+            Rose (S.channel source.old).faults (S.channel source.new).faults }
+        // Once it has stopped, nothing changes.
+        ensures stopped_answer { is_reading self.old.status ≡ false → result ≡ last_answer self.old.status }
+        ensures stopped_reader { is_reading self.old.status ≡ false → self.new ≡ self.old }
+        ensures stopped_source { is_reading self.old.status ≡ false → S.channel source.new ≡ S.channel source.old }
+
+        ensures reads { OnlyReads (S.channel source.old) (S.channel source.new) }
+        ensures beside { S.beside source.new ≡ S.beside source.old }
+    {
+        match self.status {
+            Status::Reading => self.read_on(source),
+            Status::Ended => Ok(None),
+            Status::Failed(error) => Err(error),
+        }
+    }
+
+    fn read_on<S: Source>(&mut self, source: &mut S) -> Result<Option<(Step, u64)>, StepError>
+        requires { self.old.status ≡ Reading }
+        ensures gives { IsTrue S.tells → Decides (S.channel source.old) (S.channel source.new)
+            (λ bytes more. Gives result self.new.line (steps_ahead self.old bytes) (steps_ahead self.new more)) }
+        ensures moves { Moves result self.old self.new }
+        ensures fault { result ≡ Err ReadFault → Rose (S.channel source.old).faults (S.channel source.new).faults }
+        ensures reads { OnlyReads (S.channel source.old) (S.channel source.new) }
+        ensures beside { S.beside source.new ≡ S.beside source.old }
+    {
+        'tokens: loop {
+            match self.scanner.next(source) {
+                Ok(Some(token)) => {
+                    if self.draft.is_open() && self.draft.line() != token.line() {
+                        return self.give_before(&token);
+                    }
+                    self.take(&token)?;
+                }
+                Ok(None) => return self.give_at_end(),
+                Err(ScanError::TooLong) => return self.give_at_limit(),
+                Err(ScanError::ReadFault) => {
+                    self.status = Status::Failed(StepError::ReadFault);
+                    return Err(StepError::ReadFault);
+                }
+            }
+        }
+    }
+
+    // A token of the line that is begun, or the first of one.
+    #[inline(always)]
+    fn take(&mut self, token: &Token) -> Result<(), StepError>
+        ensures ok { OnOk result (self.new ≡ record self.old { draft = with_token self.old.draft token.now }) }
+        ensures err { OnErr result (result ≡ Err OutOfMemory) }
+        ensures stopped { OnErr result (self.new.status ≡ Failed OutOfMemory) }
+        ensures line { self.new.line ≡ self.old.line }
+    {
+        if !self.draft.is_open() {
+            self.draft.begin(token);
+            return Ok(());
+        }
+        match self.draft.take(token) {
+            Ok(()) => Ok(()),
+            Err(_) => Err(self.fail(StepError::OutOfMemory)),
+        }
+    }
+
+    // The line that a token of another line has ended. That token begins the next.
+    fn give_before(&mut self, token: &Token) -> Result<Option<(Step, u64)>, StepError>
+        requires { self.old.status ≡ Reading }
+        ensures { Settles result (draft_of_word token.now) self.old self.new }
+    {
+        let step = self.judge()?;
+        self.draft.begin(token);
+        Ok(Some((step, self.line)))
+    }
+
+    // The last line, if one is begun, or the end.
+    fn give_at_end(&mut self) -> Result<Option<(Step, u64)>, StepError>
+        requires { self.old.status ≡ Reading }
+        ensures last { is_open self.old.draft ≡ true → Settles result no_draft self.old self.new }
+        ensures ended { is_open self.old.draft ≡ false → result ≡ Ok None }
+        ensures stopped { is_open self.old.draft ≡ false → self.new ≡ record self.old { status = Ended; line = self.old.scan.line } }
+    {
+        if !self.draft.is_open() {
+            self.status = Status::Ended;
+            self.line = self.scanner.line();
+            return Ok(None);
+        }
+        let step = self.judge()?;
+        self.draft.clear();
+        Ok(Some((step, self.line)))
+    }
+
+    // The last line whose end stands under the limit, if it isn't given yet; else that the text is too long.
+    fn give_at_limit(&mut self) -> Result<Option<(Step, u64)>, StepError>
+        requires { self.old.status ≡ Reading }
+        ensures last { is_under self.old ≡ true → Settles result no_draft self.old self.new }
+        ensures over { is_under self.old ≡ false → result ≡ Err TooLong }
+        ensures stopped { is_under self.old ≡ false → self.new ≡ record self.old { status = Failed TooLong } }
+    {
+        if !(self.draft.is_open() && self.draft.line() < self.scanner.line()) {
+            return Err(self.fail(StepError::TooLong));
+        }
+        let step = self.judge()?;
+        self.draft.clear();
+        Ok(Some((step, self.line)))
+    }
+
+    // Judges the line and takes it as the one that is given.
+    fn judge(&mut self) -> Result<Step, StepError>
+        requires { self.old.status ≡ Reading }
+        ensures { Judges result self.old self.new }
+    {
+        let line = self.draft.line();
+        match self.draft.step(self.alloc) {
+            Err(_) => Err(self.fail(StepError::OutOfMemory)),
+            Ok(None) => Err(self.fail(StepError::Syntax(line))),
+            Ok(Some(step)) => {
+                self.line = line;
+                Ok(step)
+            }
+        }
+    }
+
+    // Stops with this error.
+    fn fail(&mut self, error: StepError) -> StepError
+        ensures same { result ≡ error }
+        ensures stopped { self.new ≡ record self.old { status = Failed error } }
+    {
+        self.status = Status::Failed(error);
+        error
+    }
+}
