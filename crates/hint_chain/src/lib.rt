@@ -21,3 +21,6 @@ pub use laws::{
 };
 pub use part::Part;
 pub use unit::{UnitPart, unit_hints};
+
+#[cfg(test)]
+mod tests;
