@@ -1,6 +1,7 @@
-//! Hint lists that are strict refutations: for the defining clauses of a node, the unit of a clause's diagram, and the
-//! two additions of a conjunction or an implication. A list is chosen greedily among the clauses that may serve, and
-//! laws say that the choice closes, whatever constants occur. It stands on the rules of `lrat_rules`.
+//! The hints of additions over diagrams: of the unit of a clause's diagram, and of the two additions of a conjunction or
+//! an implication. Clauses over nodes are lists of atoms. A list is chosen greedily among the clauses that may serve;
+//! laws say that the choice closes, whatever constants occur, and that it is a strict refutation. It stands on the
+//! rules of `lrat_rules`.
 #![tactic(auto)]
 
 mod atom;
