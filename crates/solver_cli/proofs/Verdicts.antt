@@ -31,7 +31,7 @@ use Rattle.solver_cli.proofs.Printed.{Law}
 -- the laws of the rules and of the check
 pub record Laws : Type 0 where
   pub sound : Law
-  pub verified : (clauses : List (List ℤ)) (bytes : List ℕ) → length bytes ≤ max_bytes → text_verdict clauses bytes ≡ Some judgement.Verified → Refutes clauses bytes
+  pub verified : (clauses : List (List ℤ)) (bytes : List ℕ) → text_verdict clauses bytes ≡ Some judgement.Verified → Refutes clauses bytes
   pub refused : (clauses : List (List ℤ)) (bytes : List ℕ) (line : ℕ) (reason : Reason) → length bytes ≤ max_bytes
       → text_verdict clauses bytes ≡ Some (judgement.Refused line reason) → verdict clauses bytes ≡ Some (line, reason)
   pub overlong : (clauses : List (List ℤ)) (bytes : List ℕ) → text_verdict clauses bytes ≡ None → max_bytes < length bytes
@@ -235,12 +235,13 @@ judged laws run file proof asked j = go j.printed j.puts j.ends where
           verified = λ e t.
               let is : j.verdict ≡ judgement.Verified = is_verified j.verdict (sym ends ∙ e) in
               let verified : HasVerdict run j.problem (judged_text t).bytes judgement.Verified = has_as t judgement.Verified is in
+              let refutes : Refutes j.problem.clauses (judged_text t).bytes = laws.verified j.problem.clauses (judged_text t).bytes verified.judged in
               record {
                 problem = j.problem;
                 bytes = (judged_text t).bytes;
                 has = verified;
-                refuted = λ fits. laws.verified j.problem.clauses (judged_text t).bytes fits verified.judged;
-                unsatisfiable = λ fits. laws.sound j.problem.vars j.problem.clauses (judged_text t).bytes j.takes.statuses.literals (laws.verified j.problem.clauses (judged_text t).bytes fits verified.judged);
+                refuted = refutes;
+                unsatisfiable = laws.sound j.problem.vars j.problem.clauses (judged_text t).bytes j.takes.statuses.literals refutes;
                 printed = all t ∙ ap verdict_text is;
               };
           not_verified = λ line reason e t.

@@ -110,8 +110,8 @@ pub record IsVerified (run : Run) : Type 0 where
   pub problem : Formula
   pub bytes : List ℕ
   pub has : HasVerdict run problem bytes judgement.Verified
-  pub refuted : length bytes ≤ max_bytes → Refutes problem.clauses bytes
-  pub unsatisfiable : length bytes ≤ max_bytes → (a : Assignment) → Satisfies a problem.clauses → ⊥
+  pub refuted : Refutes problem.clauses bytes
+  pub unsatisfiable : (a : Assignment) → Satisfies a problem.clauses → ⊥
   pub printed : written_in run Out ≡ verified_line
 
 -- Not verified: this is the first bad line of the proof, and why it is bad.
