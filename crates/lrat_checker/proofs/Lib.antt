@@ -3,3 +3,4 @@ pub mod Walks
 pub mod GroupFaults
 pub mod Verdicts
 pub mod Turns
+pub mod Overlong

@@ -1,4 +1,4 @@
-// What the verdict on a text within the limit is, as clauses of a function without work.
+// What the verdict on a text says by the rules, as clauses of a function without work.
 ghost use Rattle.std.specs.Prelude.{◌≡◌, ℕ, ◌<◌, ◌≤◌, ℤ, List, length, None, Some};
 ghost use Rattle.lrat_rules.specs.declared.outcome.Reason.{Reason};
 ghost use Rattle.lrat_rules.specs.Run.{verdict, Refutes};
@@ -7,10 +7,10 @@ ghost use Rattle.lrat_checker.specs.TextVerdict.{max_bytes, text_verdict, verdic
 
 use lrat_text::whole_text_law;
 
-/// The verdict on a text within the limit is that of the rules.
+/// The verdict on a text within the limit is that of the rules. A longer text is never verified.
 pub fn check_law()
     ensures same { (clauses : List (List ℤ)) (bytes : List ℕ) → length bytes ≤ max_bytes → text_verdict clauses bytes ≡ Some (verdict_as (verdict clauses bytes)) }
-    ensures verified { (clauses : List (List ℤ)) (bytes : List ℕ) → length bytes ≤ max_bytes → text_verdict clauses bytes ≡ Some Verified → Refutes clauses bytes }
+    ensures verified { (clauses : List (List ℤ)) (bytes : List ℕ) → text_verdict clauses bytes ≡ Some Verified → Refutes clauses bytes }
     ensures refutes { (clauses : List (List ℤ)) (bytes : List ℕ) → length bytes ≤ max_bytes → Refutes clauses bytes → text_verdict clauses bytes ≡ Some Verified }
     ensures refused { (clauses : List (List ℤ)) (bytes : List ℕ) (line : ℕ) (reason : Reason) → length bytes ≤ max_bytes
         → text_verdict clauses bytes ≡ Some (Refused line reason) → verdict clauses bytes ≡ Some (line, reason) }

@@ -3,7 +3,7 @@ use Rattle.std.proofs.Common.{◌≡◌, ℕ, ℤ, false, List, [], refl, sym, a
 use Rattle.std.specs.Prelude.{Result, ◌⊎◌}
 use Rattle.cnf_base.specs.Formula.{Formula}
 use Rattle.host_io.specs.declared.role.Role.{Role}
-use Rattle.host_io.specs.declared.role.Role.TheVariants.{Cnf, ProofOut}
+use Rattle.host_io.specs.declared.role.Role.TheVariants.{Cnf, ProofOut, Out}
 use Rattle.dimacs_reader.specs.declared.error.CnfKind.{CnfKind}
 use Rattle.dimacs_reader.specs.Cnf.{formula, refusal, overlong, cnf}
 use Rattle.solver_cli.specs.declared.status.Status.{Status}
@@ -11,42 +11,50 @@ use Rattle.solver_cli.specs.declared.status.Status.TheVariants.{Help, Usage, Cnf
 use Rattle.solver_cli.specs.declared.answer.Answer.{Answer}
 use Rattle.solver_cli.specs.declared.answer.Answer.TheVariants.{Satisfiable, Unsatisfiable, NodesUsed}
 use Rattle.solver_cli.specs.Answer.{IsProof, IsProofSoFar, status_of}
-use Rattle.solver_cli.specs.Command.{Solve, command}
+use Rattle.solver_cli.specs.Command.{Command, Solve, formula_file, command}
 use Rattle.solver_cli.specs.ErrorText.{is_answer}
 use Rattle.solver_cli.specs.Phases.{TakesFormula}
 use Rattle.solver_cli.specs.Stages.{streams_of, Uncreated, Undecided}
-use Rattle.solver_cli.specs.Headline.{Run, written_in, HasFault, Asks, AsksFor, RefusalsAreDue, ProofStands}
-use Rattle.solver_cli.proofs.Facts.{whole_of, no_answer, write_ends, one_text, only_misuse, only_help, formula_refusal, formula_overlong}
+use Rattle.solver_cli.specs.Headline.{Run, written_in, HasFault, Asks, AsksFor, IsComplete, RefusalsAreDue, ProofStands}
+use Rattle.solver_cli.proofs.Facts.{whole_of, no_answer, write_ends, one_text, only_misuse, only_help, two_commands, formula_refusal, formula_overlong}
 use Rattle.solver_cli.proofs.Reading.{rose_since}
-use Rattle.solver_cli.proofs.Promised.{Core, quiet_output, no_proof, same_written}
+use Rattle.solver_cli.proofs.Promised.{Core, quiet_output, no_proof, no_verdict, same_written}
 
 -- the formula that is asked for was read
-pub record Took (run : Run) (file proof : List ℕ) (problem : Formula) : Type 0 where
-  pub asked : command run.words ≡ Some (Solve file proof)
-  pub bytes : List ℕ
-  pub stands : run.files file ≡ Some bytes
-  pub says : cnf bytes ≡ formula problem
-
-pub took : (run : Run) (file proof : List ℕ) (problem : Formula) → command run.words ≡ Some (Solve file proof) → TakesFormula run.tells (run.before Cnf) (run.after Cnf) run.files file (Ok problem) → IsTrue run.tells
-    → Took run file proof problem
-took run file proof problem asked takes t = elim (takes.read t) [
+pub took : (run : Run) (asked : Command) (problem : Formula) → command run.words ≡ Some asked → TakesFormula run.tells (run.before Cnf) (run.after Cnf) run.files (formula_file asked) (Ok problem) → IsTrue run.tells
+    → Asks run asked (formula problem)
+took run asked problem gives takes t = elim (takes.read t) [
   | inl e ↦ absurd (ok_err problem ReadFault e)
-  | inr text ↦ record { asked = asked; bytes = text.0; stands = text.1; says = text.2 }
+  | inr text ↦ record { command = gives; bytes = text.0; stands = text.1; says = text.2 }
 ] where
   ok_err : (problem : Formula) (status : Status) → ◌≡◌ {A = Result Formula Status} (Ok problem) (Err status) → ⊥
   ok_err problem status e = cc
 
-pub asks_for : (run : Run) (file proof : List ℕ) (problem : Formula) → Took run file proof problem → AsksFor run problem
-asks_for run file proof problem t = record { file = file; proof = proof; asks = record { command = t.asked; bytes = t.bytes; stands = t.stands; says = t.says } }
+pub asks_for : (run : Run) (file proof : List ℕ) (problem : Formula) → Asks run (Solve file proof) (formula problem) → AsksFor run problem
+asks_for run file proof problem asks = record { file = file; proof = proof; asks = asks }
 
 -- for a text that was accepted no refusal is due
-pub accepted_refuses : (run : Run) (file proof : List ℕ) (problem : Formula) → Took run file proof problem → (other other_proof : List ℕ) (kind : CnfKind) (line : ℕ) → Asks run other other_proof (refusal kind line) → ⊥
-accepted_refuses run file proof problem t other other_proof kind line asks =
-    formula_refusal t.says (ap cnf (one_text run.files t.asked asks.command t.stands asks.stands) ∙ asks.says)
+pub accepted_refuses : (run : Run) (asked : Command) (problem : Formula) → Asks run asked (formula problem) → (other : Command) (kind : CnfKind) (line : ℕ) → Asks run other (refusal kind line) → ⊥
+accepted_refuses run asked problem t other kind line asks =
+    formula_refusal t.says (ap cnf (one_text run.files t.command asks.command t.stands asks.stands) ∙ asks.says)
 
-pub accepted_long : (run : Run) (file proof : List ℕ) (problem : Formula) → Took run file proof problem → (other other_proof : List ℕ) → Asks run other other_proof overlong → ⊥
-accepted_long run file proof problem t other other_proof asks =
-    formula_overlong t.says (ap cnf (one_text run.files t.asked asks.command t.stands asks.stands) ∙ asks.says)
+pub accepted_long : (run : Run) (asked : Command) (problem : Formula) → Asks run asked (formula problem) → (other : Command) → Asks run other overlong → ⊥
+accepted_long run asked problem t other asks =
+    formula_overlong t.says (ap cnf (one_text run.files t.command asks.command t.stands asks.stands) ∙ asks.says)
+
+-- a formula that was taken to be decided: no refusal is due, and no verdict
+pub solve_complete : (run : Run) (file proof : List ℕ) (problem : Formula) → command run.words ≡ Some (Solve file proof) → (IsTrue run.tells → Asks run (Solve file proof) (formula problem))
+    → ((other : Formula) → AsksFor run other → IsTrue run.tells → (HasFault run Cnf → ⊥) → (HasFault run ProofOut → ⊥) → (HasFault run Out → ⊥) → IsTrue (is_answer run.status) ⊎ (run.status ≡ OutOfMemory))
+    → IsComplete run
+solve_complete run file proof problem gives read answers = record {
+  misused = λ only. absurd (only_misuse run.words gives only);
+  helped = λ only _. absurd (only_help run.words gives only);
+  answers = answers;
+  judges = λ other bytes judged has. absurd (two_commands gives has.asked.asks.command);
+  refuses = λ other kind line asks t a. absurd (accepted_refuses run (Solve file proof) problem (read t) other kind line asks);
+  overlong = λ other asks t a. absurd (accepted_long run (Solve file proof) problem (read t) other asks);
+  long_proof = λ other bytes asks. absurd (two_commands gives asks.asks.command);
+}
 
 -- statuses that no accepted text leads to
 pub record Accepts (status : Status) : Type 0 where
@@ -80,23 +88,18 @@ pub uncreated : (run : Run) (file proof : List ℕ) → command run.words ≡ So
 uncreated run file proof asked u =
     let unanswered : is_answer run.status ≡ false = ap is_answer u.ends in
     let rose : HasFault run ProofOut = u.opens.faults.cause u.failed in
-    let read : IsTrue run.tells → Took run file proof u.problem = took run file proof u.problem asked u.takes in
+    let read : IsTrue run.tells → Asks run (Solve file proof) (formula u.problem) = took run (Solve file proof) u.problem asked u.takes in
     let accepts : Accepts run.status = accepts_write run.status u.ends in
     record {
       unsatisfiable = λ e. absurd (no_answer unanswered refl e);
       satisfiable = λ e. absurd (no_answer unanswered refl e);
       undecided = λ e. absurd (no_answer unanswered refl e);
+      verdict = no_verdict run unanswered;
       refusals = accepted_refusals run accepts;
-      faults = record { read = λ e. absurd (accepts.read e); write = λ e. inl rose; accepted = λ e. inr (λ t. (u.problem, asks_for run file proof u.problem (read t))) };
+      faults = record { read = λ e. absurd (accepts.read e); write = λ e. inl rose; accepted = λ e. inr (λ t. inl (u.problem, asks_for run file proof u.problem (read t))) };
       output = quiet_output run unanswered accepts.help (same_written u.out);
       proof = no_proof run (whole_of (run.before ProofOut) (run.after ProofOut) u.opens.was_idle.written ∙ u.opens.idle.written);
-      complete = record {
-        misused = λ only. absurd (only_misuse run.words asked only);
-        helped = λ only _. absurd (only_help run.words asked only);
-        answers = λ problem asks t a faultless b. absurd (faultless rose);
-        refuses = λ other other_proof kind line asks t a. absurd (accepted_refuses run file proof u.problem (read t) other other_proof kind line asks);
-        overlong = λ other other_proof asks t a. absurd (accepted_long run file proof u.problem (read t) other other_proof asks);
-      };
+      complete = solve_complete run file proof u.problem asked read (λ problem asks t a faultless b. absurd (faultless rose));
     }
 
 -- the proof so far, told of the bytes that the run wrote
@@ -109,8 +112,8 @@ proof_whole run clauses idle p = subst (λ (bytes : List ℕ). IsProof clauses b
 -- the formula was not decided
 pub undecided : (run : Run) (file proof : List ℕ) → command run.words ≡ Some (Solve file proof) → Undecided run.tells (streams_of run.before) (streams_of run.after) run.files file proof run.status → Core run
 undecided run file proof asked u = both (write_ends Answer run.status u.writes.statuses) where
-  read : IsTrue run.tells → Took run file proof u.problem
-  read = took run file proof u.problem asked u.takes
+  read : IsTrue run.tells → Asks run (Solve file proof) (formula u.problem)
+  read = took run (Solve file proof) u.problem asked u.takes
 
   rose : run.status ≡ WriteFault → HasFault run ProofOut
   rose e = rose_since u.opens.faults.no_less (u.writes.proof.fault (ap (λ (s : Status). the_err s) e)) where
@@ -130,17 +133,12 @@ undecided run file proof asked u = both (write_ends Answer run.status u.writes.s
     unsatisfiable = λ e. absurd (no_answer unanswered refl e);
     satisfiable = λ e. absurd (no_answer unanswered refl e);
     undecided = λ e. absurd (no_answer unanswered refl e);
+    verdict = no_verdict run unanswered;
     refusals = accepted_refusals run accepts;
-    faults = record { read = λ e. absurd (accepts.read e); write = λ e. inl (rose e); accepted = λ e. inr (λ t. (u.problem, asks_for run file proof u.problem (read t))) };
+    faults = record { read = λ e. absurd (accepts.read e); write = λ e. inl (rose e); accepted = λ e. inr (λ t. inl (u.problem, asks_for run file proof u.problem (read t))) };
     output = quiet_output run unanswered accepts.help (same_written u.out);
     proof = stands;
-    complete = record {
-      misused = λ only. absurd (only_misuse run.words asked only);
-      helped = λ only _. absurd (only_help run.words asked only);
-      answers = λ problem asks t a faultless b. inr (memory faultless);
-      refuses = λ other other_proof kind line asks t a. absurd (accepted_refuses run file proof u.problem (read t) other other_proof kind line asks);
-      overlong = λ other other_proof asks t a. absurd (accepted_long run file proof u.problem (read t) other other_proof asks);
-    };
+    complete = solve_complete run file proof u.problem asked read (λ problem asks t a faultless b. inr (memory faultless));
   }
 
   both : (run.status ≡ WriteFault) ⊎ (run.status ≡ OutOfMemory) → Core run

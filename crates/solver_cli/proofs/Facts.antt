@@ -9,9 +9,9 @@ use Rattle.host_io.specs.declared.role.Role.TheVariants.{Cnf}
 use Rattle.dimacs_reader.specs.declared.error.CnfKind.{CnfKind}
 use Rattle.dimacs_reader.specs.Cnf.{CnfText, formula, refusal, overlong}
 use Rattle.solver_cli.specs.declared.status.Status.{Status}
-use Rattle.solver_cli.specs.declared.status.Status.TheVariants.{Sat, Unsat, Unknown, Help, Usage, CnfRefused, TooLong, ReadFault, WriteFault, OutOfMemory}
+use Rattle.solver_cli.specs.declared.status.Status.TheVariants.{Sat, Unsat, Unknown, Verified, NotVerified, Help, Usage, CnfRefused, TooLong, ReadFault, WriteFault, OutOfMemory}
 use Rattle.solver_cli.specs.ErrorText.{is_answer}
-use Rattle.solver_cli.specs.Command.{Command, Solve, Meaning, Asks, AsksHelp, Misuse, IsOneOf, MayMean, CanOnlyMean, meanings, only_command, command}
+use Rattle.solver_cli.specs.Command.{Command, Solve, Check, formula_file, Meaning, Asks, AsksHelp, Misuse, IsOneOf, MayMean, CanOnlyMean, meanings, only_command, command}
 use Rattle.solver_cli.specs.Phases.{IsRead, IsReadStatus, IsProofStatus}
 
 -- what was written behind what stood there
@@ -47,6 +47,8 @@ pub read_statuses : (status : Status) → IsReadStatus status → (is_answer sta
 read_statuses Sat p = absurd p
 read_statuses Unsat p = absurd p
 read_statuses (Unknown why) p = absurd p
+read_statuses Verified p = absurd p
+read_statuses (NotVerified line reason) p = absurd p
 read_statuses Help p = absurd p
 read_statuses Usage p = absurd p
 read_statuses (CnfRefused kind line) p = (refl, (λ e. cc), (λ e. cc), λ e. cc)
@@ -61,6 +63,8 @@ pub read_ends : (status : Status) (whole taken : CnfText) → IsRead (Err status
 read_ends Sat whole taken is p = absurd p
 read_ends Unsat whole taken is p = absurd p
 read_ends (Unknown why) whole taken is p = absurd p
+read_ends Verified whole taken is p = absurd p
+read_ends (NotVerified line reason) whole taken is p = absurd p
 read_ends Help whole taken is p = absurd p
 read_ends Usage whole taken is p = absurd p
 read_ends (CnfRefused kind line) whole taken is p = inr (inr (is.1 ∙ sym is.0, inl (record { kind = kind; line = line; ends = refl; says = is.0 })))
@@ -74,6 +78,8 @@ pub write_ends : (T : Type 0) (status : Status) → IsProofStatus {T = T} (Err s
 write_ends T Sat p = absurd p
 write_ends T Unsat p = absurd p
 write_ends T (Unknown why) p = absurd p
+write_ends T Verified p = absurd p
+write_ends T (NotVerified line reason) p = absurd p
 write_ends T Help p = absurd p
 write_ends T Usage p = absurd p
 write_ends T (CnfRefused kind line) p = absurd p
@@ -83,14 +89,25 @@ write_ends T WriteFault p = inl refl
 write_ends T OutOfMemory p = inr refl
 
 -- the words give one command, and a file has one text
-pub one_text : (files : List ℕ → Option (List ℕ)) {words : Option Command} {file other proof other_proof bytes text : List ℕ}
-    → words ≡ Some (Solve file proof) → words ≡ Some (Solve other other_proof) → files file ≡ Some bytes → files other ≡ Some text → bytes ≡ text
-one_text files here there stands stands_there = same_some (sym stands ∙ ap files (same_file (sym here ∙ there)) ∙ stands_there) where
-  same_some : {a b : List ℕ} → ◌≡◌ {A = Option (List ℕ)} (Some a) (Some b) → a ≡ b
-  same_some e = cc
+same_some : {a b : List ℕ} → ◌≡◌ {A = Option (List ℕ)} (Some a) (Some b) → a ≡ b
+same_some e = cc
 
-  same_file : {a b c d : List ℕ} → ◌≡◌ {A = Option Command} (Some (Solve a b)) (Some (Solve c d)) → a ≡ c
-  same_file e = cc
+pub one_text : (files : List ℕ → Option (List ℕ)) {words : Option Command} {asked other : Command} {bytes text : List ℕ}
+    → words ≡ Some asked → words ≡ Some other → files (formula_file asked) ≡ Some bytes → files (formula_file other) ≡ Some text → bytes ≡ text
+one_text files here there stands stands_there = same_some (sym stands ∙ ap (λ (c : Command). files (formula_file c)) (same_command _ _ (sym here ∙ there)) ∙ stands_there) where
+  same_command : (a b : Command) → ◌≡◌ {A = Option Command} (Some a) (Some b) → a ≡ b
+  same_command a b e = cc
+
+pub one_proof : (files : List ℕ → Option (List ℕ)) {words : Option Command} {file other proof other_proof bytes text : List ℕ}
+    → words ≡ Some (Check file proof) → words ≡ Some (Check other other_proof) → files proof ≡ Some bytes → files other_proof ≡ Some text → bytes ≡ text
+one_proof files here there stands stands_there = same_some (sym stands ∙ ap files (same_proof (sym here ∙ there)) ∙ stands_there) where
+  same_proof : {a b c d : List ℕ} → ◌≡◌ {A = Option Command} (Some (Check a b)) (Some (Check c d)) → b ≡ d
+  same_proof e = cc
+
+pub two_commands : {words : Option Command} {file other proof other_proof : List ℕ} → words ≡ Some (Solve file proof) → words ≡ Some (Check other other_proof) → ⊥
+two_commands {file = file} {other = other} {proof = proof} {other_proof = other_proof} here there = apart (sym here ∙ there) where
+  apart : ◌≡◌ {A = Option Command} (Some (Solve file proof)) (Some (Check other other_proof)) → ⊥
+  apart e = cc
 
 -- words that give a command can mean nothing else
 only_this : (meanings : List Meaning) (asked : Command) (meaning : Meaning) → only_command meanings ≡ Some asked → IsOneOf meaning meanings → meaning ≡ Asks asked

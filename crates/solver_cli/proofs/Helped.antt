@@ -12,7 +12,7 @@ use Rattle.solver_cli.specs.Phases.{PutsText}
 use Rattle.solver_cli.specs.Stages.{streams_of, Helped, status_of_help}
 use Rattle.solver_cli.specs.Headline.{Run, written_in, HasFault, IsHelp}
 use Rattle.solver_cli.proofs.Facts.{behind, grown_by, nothing_more, no_answer, write_ends, no_help}
-use Rattle.solver_cli.proofs.Promised.{Core, no_proof, none_written}
+use Rattle.solver_cli.proofs.Promised.{Core, no_proof, no_verdict, none_written}
 
 -- statuses that showing help ends with: help itself, a failed write, or want of memory
 record Shown (status : Status) : Type 0 where
@@ -57,6 +57,7 @@ helped run h = go h.shows.printed h.shows.puts h.shows.ends where
     unsatisfiable = λ e. absurd (no_answer shown.unanswered refl e);
     satisfiable = λ e. absurd (no_answer shown.unanswered refl e);
     undecided = λ e. absurd (no_answer shown.unanswered refl e);
+    verdict = no_verdict run shown.unanswered;
     refusals = record {
       usage = λ e. absurd (shown.usage e);
       help = λ e. h.due;
@@ -77,8 +78,10 @@ helped run h = go h.shows.printed h.shows.puts h.shows.ends where
       misused = λ only. absurd (no_wish (only AsksHelp h.due));
       helped = λ only faultless. complete faultless;
       answers = λ problem asked. absurd (no_help run.words asked.asks.command h.due);
-      refuses = λ file proof kind line asks. absurd (no_help run.words asks.command h.due);
-      overlong = λ file proof asks. absurd (no_help run.words asks.command h.due);
+      judges = λ problem bytes judged has. absurd (no_help run.words has.asked.asks.command h.due);
+      refuses = λ asked kind line asks. absurd (no_help run.words asks.command h.due);
+      overlong = λ asked asks. absurd (no_help run.words asks.command h.due);
+      long_proof = λ problem bytes asked. absurd (no_help run.words asked.asks.command h.due);
     };
   }
 

@@ -1,7 +1,9 @@
 pub mod Ends
 pub mod Tautologies
 pub mod Reading
+pub mod Judging
 pub mod Staged
+pub mod StagedCheck
 pub mod Complaints
 pub mod Meant
 pub mod Facts
@@ -9,6 +11,7 @@ pub mod Promised
 pub mod Helped
 pub mod Accepted
 pub mod Printed
+pub mod Verdicts
 pub mod Named
 pub mod Whole
 pub mod FirstEmpty

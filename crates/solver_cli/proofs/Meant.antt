@@ -12,7 +12,7 @@ use Rattle.solver_cli.specs.Reading.{IsRefusal, IsRefusalOf}
 use Rattle.clap.proofs.OnLiterals.{clap_on_literals}
 use Rattle.clap.proofs.WalkLemmas.{first_value-rows}
 use Rattle.solver_cli.specs.Parser.{the_app}
-use Rattle.solver_cli.specs.Command.{Command, Meaning, Asks, Misuse, IsOneOf, MayMean, command, command_means, means, meanings, only_command, refusal_means, solve_means, taken_means}
+use Rattle.solver_cli.specs.Command.{Command, Solve, Check, Meaning, Asks, Misuse, IsOneOf, MayMean, command, command_means, means, meanings, only_command, refusal_means, over, two_names, taken_means}
 
 -- the parser is one whose meaning is known
 simple : is_simple the_app ≡ true
@@ -85,15 +85,27 @@ by_some m name rows named same = ap taken_means (two_parts {B = Text × List Row
 pub by_none : (m : ArgMatches) → ◌≡◌ {A = Option Text} None (subcommand_name_of m) → ◌≡◌ {A = Option (List Row)} None (option_map (λ p. p.1) (subcommand_rows_of m)) → taken_means (subcommand_rows_of m) ≡ Misuse
 by_none m named same = ap taken_means (two_parts {B = Text × List Row} (subcommand_rows_of m) None (λ p. p.0) (λ p. p.1) (named ∙ names m) same)
 
--- the values of `solve`
-pub solve_values : (values : ArgMatches) (name : Text) → bytes_eq name (codes "solve") ≡ true
-    → command_means name (rows_of (found_of values)) ≡ solve_means (first_value (found_of values) (codes "FILE")) (first_value (found_of values) (codes "proof"))
-solve_values values name is =
-    ap (λ (b : Bool). if b then solve_means (first_of (codes "FILE") (rows_of (found_of values))) (first_of (codes "proof") (rows_of (found_of values))) else Misuse) is
-    ∙ ap₂ solve_means (sym (first_value-rows (found_of values) (codes "FILE"))) (sym (first_value-rows (found_of values) (codes "proof")))
+-- what a command means, by its name
+abbrev command_by : Bool → Bool → List Row → Meaning
+command_by is_solve is_check rows =
+    if is_solve
+    then over Solve (two_names (first_of (codes "FILE") rows) (first_of (codes "proof") rows))
+    else if is_check then over Check (two_names (first_of (codes "FILE") rows) (first_of (codes "PROOF") rows)) else Misuse
 
-pub other_name : (name : Text) (rows : List Row) → bytes_eq name (codes "solve") ≡ false → command_means name rows ≡ Misuse
-other_name name rows is = ap (λ (b : Bool). if b then solve_means (first_of (codes "FILE") rows) (first_of (codes "proof") rows) else Misuse) is
+pub solve_values : (values : ArgMatches) (name : Text) → bytes_eq name (codes "solve") ≡ true
+    → command_means name (rows_of (found_of values)) ≡ over Solve (two_names (first_value (found_of values) (codes "FILE")) (first_value (found_of values) (codes "proof")))
+solve_values values name is =
+    ap (λ (b : Bool). command_by b (bytes_eq name (codes "check")) (rows_of (found_of values))) is
+    ∙ ap (over Solve) (ap₂ two_names (sym (first_value-rows (found_of values) (codes "FILE"))) (sym (first_value-rows (found_of values) (codes "proof"))))
+
+pub check_values : (values : ArgMatches) (name : Text) → bytes_eq name (codes "solve") ≡ false → bytes_eq name (codes "check") ≡ true
+    → command_means name (rows_of (found_of values)) ≡ over Check (two_names (first_value (found_of values) (codes "FILE")) (first_value (found_of values) (codes "PROOF")))
+check_values values name other is =
+    ap₂ (λ (b c : Bool). command_by b c (rows_of (found_of values))) other is
+    ∙ ap (over Check) (ap₂ two_names (sym (first_value-rows (found_of values) (codes "FILE"))) (sym (first_value-rows (found_of values) (codes "PROOF"))))
+
+pub other_name : (name : Text) (rows : List Row) → bytes_eq name (codes "solve") ≡ false → bytes_eq name (codes "check") ≡ false → command_means name rows ≡ Misuse
+other_name name rows is and = ap₂ (λ (b c : Bool). command_by b c rows) is and
 
 -- what a refusal of the parser comes to is what the words may mean
 pub refusal_due : (words : List Text) (k : ErrorKind) (r : Refusal) → ((k ≡ kind.OutOfMemory → ⊥) → MayMean words (refusal_means k)) → IsRefusalOf k r → IsRefusal words r

@@ -8,9 +8,9 @@ use Rattle.host_io.specs.declared.role.Role.TheVariants.{Cnf, Order, Schedule, P
 use Rattle.solver_cli.specs.declared.status.Status.{Status}
 use Rattle.solver_cli.specs.declared.answer.Answer.{Answer}
 use Rattle.solver_cli.specs.declared.answer.Answer.TheVariants.{Satisfiable, Unsatisfiable, NodesUsed}
-use Rattle.solver_cli.specs.Command.{Command, Solve, command}
+use Rattle.solver_cli.specs.Command.{Command, Solve, Check, formula_file, command}
 use Rattle.solver_cli.specs.Phases.{Complains, IsProofStatus}
-use Rattle.solver_cli.specs.Stages.{Streams, streams_of, Came, Stages, status_after}
+use Rattle.solver_cli.specs.Stages.{Streams, streams_of, Came, CameToCheck, Stages, status_after}
 use Rattle.solver_cli.specs.Headline.{Run, ErrorStands, NamesAreGiven, name_given, ends_before_proof}
 use Rattle.solver_cli.proofs.Facts.{behind, grown_by, write_ends}
 
@@ -20,6 +20,7 @@ IsNamed run role = ((run.after role).name ≡ None) ⊎ ((asked : Command) × (c
 
 pub record StreamNames (run : Run) : Type 0 where
   pub cnf : IsNamed run Cnf
+  pub judged : IsNamed run ProofIn
   pub proof : IsNamed run ProofOut
   pub out : IsNamed run Out
   pub read_first : IsTrue (ends_before_proof run.status) → (run.after ProofOut).name ≡ None
@@ -27,9 +28,13 @@ pub record StreamNames (run : Run) : Type 0 where
 name_of : {old new : Channel} → new ≡ old → old.name ≡ None → new.name ≡ None
 name_of same none = ap (λ (c : Channel). c.name) same ∙ none
 
-given : (run : Run) (file proof : List ℕ) → command run.words ≡ Some (Solve file proof) → ((run.after Cnf).name ≡ Some file) ⊎ ((run.after Cnf).name ≡ None) → IsNamed run Cnf
-given run file proof asked (inl some) = inr (Solve file proof, asked, some)
-given run file proof asked (inr none) = inl none
+given : (run : Run) (asked : Command) → command run.words ≡ Some asked → ((run.after Cnf).name ≡ Some (formula_file asked)) ⊎ ((run.after Cnf).name ≡ None) → IsNamed run Cnf
+given run asked gives (inl some) = inr (asked, gives, some)
+given run asked gives (inr none) = inl none
+
+given_judged : (run : Run) (file proof : List ℕ) → command run.words ≡ Some (Check file proof) → ((run.after ProofIn).name ≡ Some proof) ⊎ ((run.after ProofIn).name ≡ None) → IsNamed run ProofIn
+given_judged run file proof asked (inl some) = inr (Check file proof, asked, some)
+given_judged run file proof asked (inr none) = inl none
 
 given_proof : (run : Run) (file proof : List ℕ) → command run.words ≡ Some (Solve file proof) → ((run.after ProofOut).name ≡ Some proof) ⊎ ((run.after ProofOut).name ≡ None) → IsNamed run ProofOut
 given_proof run file proof asked (inl some) = inr (Solve file proof, asked, some)
@@ -47,45 +52,74 @@ answer_later answer (Err status) p = elim (write_ends ⊤ status p) [ inl fault 
 pub stream_names : (run : Run) → ((role : Role) → (run.before role).name ≡ None) → Stages run.tells run.words (streams_of run.before) (streams_of run.after) run.files run.status → StreamNames run
 stream_names run unnamed (inl m) = record {
   cnf = inl (name_of (ap (λ (s : Streams). s.cnf) m.same) (unnamed Cnf));
+  judged = inl (name_of (ap (λ (s : Streams). s.judged) m.same) (unnamed ProofIn));
   proof = inl (name_of (ap (λ (s : Streams). s.proof) m.same) (unnamed ProofOut));
   out = inl (name_of (ap (λ (s : Streams). s.out) m.same) (unnamed Out));
   read_first = λ _. name_of (ap (λ (s : Streams). s.proof) m.same) (unnamed ProofOut);
 }
 stream_names run unnamed (inr (inl h)) = record {
   cnf = inl (name_of h.cnf (unnamed Cnf));
+  judged = inl (name_of h.judged (unnamed ProofIn));
   proof = inl (name_of h.proof (unnamed ProofOut));
   out = inl (h.shows.puts.only.name ∙ unnamed Out);
   read_first = λ _. name_of h.proof (unnamed ProofOut);
 }
-stream_names run unnamed (inr (inr t)) = came t.came where
+stream_names run unnamed (inr (inr (inl t))) = came t.came where
   came : Came run.tells (streams_of run.before) (streams_of run.after) run.files t.file t.proof run.status → StreamNames run
   came (inl u) = record {
-    cnf = given run t.file t.proof t.asked u.takes.name;
+    cnf = given run (Solve t.file t.proof) t.asked u.takes.name;
+    judged = inl (name_of u.judged (unnamed ProofIn));
     proof = inl (name_of u.proof (unnamed ProofOut));
     out = inl (name_of u.out (unnamed Out));
     read_first = λ _. name_of u.proof (unnamed ProofOut);
   }
   came (inr (inl u)) = record {
-    cnf = given run t.file t.proof t.asked u.takes.name;
+    cnf = given run (Solve t.file t.proof) t.asked u.takes.name;
+    judged = inl (name_of u.judged (unnamed ProofIn));
     proof = given_proof run t.file t.proof t.asked (u.opens.failed u.failed);
     out = inl (name_of u.out (unnamed Out));
     read_first = later run.status (ap ends_before_proof u.ends);
   }
   came (inr (inr (inl u))) = record {
-    cnf = given run t.file t.proof t.asked u.takes.name;
+    cnf = given run (Solve t.file t.proof) t.asked u.takes.name;
+    judged = inl (name_of u.judged (unnamed ProofIn));
     proof = given_proof run t.file t.proof t.asked (inl (u.writes.only.name ∙ u.opens.named u.done));
     out = inl (name_of u.out (unnamed Out));
     read_first = later run.status (elim (write_ends Answer run.status u.writes.statuses) [ inl fault ↦ ap ends_before_proof fault | inr memory ↦ ap ends_before_proof memory ]);
   }
   came (inr (inr (inr a))) = record {
-    cnf = given run t.file t.proof t.asked a.takes.name;
+    cnf = given run (Solve t.file t.proof) t.asked a.takes.name;
+    judged = inl (name_of a.judged (unnamed ProofIn));
     proof = given_proof run t.file t.proof t.asked (inl (a.writes.only.name ∙ a.opens.named a.done));
     out = inl (a.puts.only.name ∙ unnamed Out);
     read_first = later run.status (ap ends_before_proof a.ends ∙ answer_later a.answer a.printed a.puts.statuses);
   }
+stream_names run unnamed (inr (inr (inr c))) = came c.came where
+  came : CameToCheck run.tells (streams_of run.before) (streams_of run.after) run.files c.file c.proof run.status → StreamNames run
+  came (inl u) = record {
+    cnf = given run (Check c.file c.proof) c.asked u.takes.name;
+    judged = inl (name_of u.judged (unnamed ProofIn));
+    proof = inl (name_of u.proof (unnamed ProofOut));
+    out = inl (name_of u.out (unnamed Out));
+    read_first = λ _. name_of u.proof (unnamed ProofOut);
+  }
+  came (inr (inl u)) = record {
+    cnf = given run (Check c.file c.proof) c.asked u.takes.name;
+    judged = given_judged run c.file c.proof c.asked u.judges.name;
+    proof = inl (name_of u.proof (unnamed ProofOut));
+    out = inl (name_of u.out (unnamed Out));
+    read_first = λ _. name_of u.proof (unnamed ProofOut);
+  }
+  came (inr (inr j)) = record {
+    cnf = given run (Check c.file c.proof) c.asked j.takes.name;
+    judged = given_judged run c.file c.proof c.asked j.judges.name;
+    proof = inl (name_of j.proof (unnamed ProofOut));
+    out = inl (j.puts.only.name ∙ unnamed Out);
+    read_first = λ _. name_of j.proof (unnamed ProofOut);
+  }
 
 -- the names of all roles
-pub names : (run : Run) → StreamNames run → ((role : Role) → IsFalse (same_role role Cnf) → IsFalse (same_role role ProofOut) → IsFalse (same_role role Out) → (run.after role).name ≡ None)
+pub names : (run : Run) → StreamNames run → ((role : Role) → IsFalse (same_role role Cnf) → IsFalse (same_role role ProofIn) → IsFalse (same_role role ProofOut) → IsFalse (same_role role Out) → (run.after role).name ≡ None)
     → FilesBut (run.after ProofOut).name run.files run.files_after → NamesAreGiven run
 names run streams others files = record {
   names = each;
@@ -94,13 +128,13 @@ names run streams others files = record {
 } where
   each : (role : Role) → IsNamed run role
   each Cnf = streams.cnf
-  each Order = inl (others Order refl refl refl)
-  each Schedule = inl (others Schedule refl refl refl)
-  each ProofIn = inl (others ProofIn refl refl refl)
+  each Order = inl (others Order refl refl refl refl)
+  each Schedule = inl (others Schedule refl refl refl refl)
+  each ProofIn = streams.judged
   each ProofOut = streams.proof
-  each Made = inl (others Made refl refl refl)
+  each Made = inl (others Made refl refl refl refl)
   each Out = streams.out
-  each ErrRole = inl (others ErrRole refl refl refl)
+  each ErrRole = inl (others ErrRole refl refl refl refl)
 
 pub error_stands : (run : Run) → Complains run.tells (run.before ErrRole) (run.after ErrRole) run.status → ErrorStands run
 error_stands run complains = record {

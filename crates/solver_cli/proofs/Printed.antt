@@ -4,8 +4,10 @@ use Rattle.std.specs.Prelude.{Result, ⊤, ◌⊎◌, ◌≢◌}
 use Rattle.cnf_base.specs.Truth.{Assignment, Satisfies, AreClausesOf}
 use Rattle.host_io.specs.declared.role.Role.TheVariants.{ProofOut, Out}
 use Rattle.lrat_rules.specs.Run.{Refutes}
+use Rattle.lrat_rules.specs.declared.outcome.Reason.{Reason}
+use Rattle.dimacs_reader.specs.Cnf.{formula}
 use Rattle.solver_cli.specs.declared.status.Status.{Status}
-use Rattle.solver_cli.specs.declared.status.Status.TheVariants.{Sat, Unsat, Unknown, WriteFault, OutOfMemory}
+use Rattle.solver_cli.specs.declared.status.Status.TheVariants.{Sat, Unsat, Unknown, Verified, NotVerified, WriteFault, OutOfMemory}
 use Rattle.solver_cli.specs.declared.status.Why.TheVariants.{NodeLimit}
 use Rattle.solver_cli.specs.declared.answer.Answer.{Answer}
 use Rattle.solver_cli.specs.declared.answer.Answer.TheVariants.{Satisfiable, Unsatisfiable, NodesUsed}
@@ -14,10 +16,10 @@ use Rattle.solver_cli.specs.Command.{Solve, command}
 use Rattle.solver_cli.specs.ErrorText.{is_answer}
 use Rattle.solver_cli.specs.Phases.{PutsText}
 use Rattle.solver_cli.specs.Stages.{streams_of, Answered, status_after}
-use Rattle.solver_cli.specs.Headline.{Run, written_in, HasFault, IsTrueAnswer, ProofStands}
-use Rattle.solver_cli.proofs.Facts.{behind, grown_by, nothing_more, whole_of, no_answer, write_ends, only_misuse, only_help}
-use Rattle.solver_cli.proofs.Promised.{Core}
-use Rattle.solver_cli.proofs.Accepted.{Took, took, asks_for, accepted_refuses, accepted_long, accepted_refusals, Accepts, accepts_write, accepts_memory, accepts_answer, proof_whole}
+use Rattle.solver_cli.specs.Headline.{Run, written_in, HasFault, Asks, AnswerTo, IsTrueAnswer, ProofStands}
+use Rattle.solver_cli.proofs.Facts.{behind, grown_by, nothing_more, whole_of, no_answer, write_ends}
+use Rattle.solver_cli.proofs.Promised.{Core, no_verdict}
+use Rattle.solver_cli.proofs.Accepted.{took, asks_for, solve_complete, accepted_refusals, Accepts, accepts_write, accepts_memory, accepts_answer, proof_whole}
 
 is_unsat : (answer : Answer) → status_of answer ≡ Unsat → answer ≡ Unsatisfiable
 is_unsat Satisfiable e = cc
@@ -39,6 +41,11 @@ answers Satisfiable = refl
 answers Unsatisfiable = refl
 answers NodesUsed = refl
 
+no_verdict_of : (answer : Answer) → (status_of answer ≡ Verified → ⊥) × ((line : ℕ) (reason : Reason) → status_of answer ≡ NotVerified line reason → ⊥)
+no_verdict_of Satisfiable = ((λ e. cc), λ line reason e. cc)
+no_verdict_of Unsatisfiable = ((λ e. cc), λ line reason e. cc)
+no_verdict_of NodesUsed = ((λ e. cc), λ line reason e. cc)
+
 no_write : (answer : Answer) → status_of answer ≡ WriteFault → ⊥
 no_write Satisfiable e = cc
 no_write Unsatisfiable e = cc
@@ -57,8 +64,8 @@ answered law run file proof asked a = go a.printed a.puts a.ends where
   text : List ℕ
   text = answer_text a.problem.vars a.answer
 
-  read : IsTrue run.tells → Took run file proof a.problem
-  read = took run file proof a.problem asked a.takes
+  read : IsTrue run.tells → Asks run (Solve file proof) (formula a.problem)
+  read = took run (Solve file proof) a.problem asked a.takes
 
   same_bytes : written_in run ProofOut ≡ (run.after ProofOut).written
   same_bytes = whole_of (run.before ProofOut) (run.after ProofOut) a.opens.was_idle.written
@@ -78,13 +85,14 @@ answered law run file proof asked a = go a.printed a.puts a.ends where
     whole = λ unfaulted t. inr (a.problem, asks_for run file proof a.problem (read t), whole t);
   }
 
-  true_answer : IsTrue run.tells → (rest : List ℕ) → text ≡ written_in run Out ++ rest → IsTrueAnswer run a.answer
+  true_answer : IsTrue run.tells → (rest : List ℕ) → text ≡ written_in run Out ++ rest → IsTrueAnswer run (AnswerTo a.problem a.answer)
   true_answer t rest front = record {
-    problem = a.problem;
-    asked = asks_for run file proof a.problem (read t);
-    holds = holds t;
-    proof = whole t;
-    flushed = a.writes.proof.flushed refl t;
+    found = record {
+      asked = asks_for run file proof a.problem (read t);
+      holds = holds t;
+      proof = whole t;
+      flushed = a.writes.proof.flushed refl t;
+    };
     rest = rest;
     front = front;
   }
@@ -92,7 +100,7 @@ answered law run file proof asked a = go a.printed a.puts a.ends where
   grows : (printed : Result ⊤ Status) → PutsText run.tells (run.before Out) (run.after Out) text printed → IsTrue run.tells → (run.after Out).written ≡ (run.before Out).written ++ written_in run Out
   grows printed puts t = let front = puts.front t in grown_by (run.before Out) (run.after Out) front.0 front.2
 
-  fronts : (printed : Result ⊤ Status) → PutsText run.tells (run.before Out) (run.after Out) text printed → IsTrue run.tells → IsTrueAnswer run a.answer
+  fronts : (printed : Result ⊤ Status) → PutsText run.tells (run.before Out) (run.after Out) text printed → IsTrue run.tells → IsTrueAnswer run (AnswerTo a.problem a.answer)
   fronts printed puts t = let front = puts.front t in true_answer t front.1 (front.3 ∙ ap (λ (l : List ℕ). l ++ front.1) (sym (behind (run.before Out) (run.after Out) front.0 front.2)))
 
   fine : (x : ⊤) → PutsText run.tells (run.before Out) (run.after Out) text (Ok x) → run.status ≡ status_of a.answer → Core run
@@ -128,6 +136,10 @@ answered law run file proof asked a = go a.printed a.puts a.ends where
           asked = asks_for run file proof a.problem (read t);
           used = subst (λ (x : Answer). Holds a.problem (written_in run ProofOut) x) (is_unknown a.answer (sym ends ∙ e)) (holds t);
         };
+        verdict = record {
+          verified = λ e. absurd ((no_verdict_of a.answer).0 (sym ends ∙ e));
+          not_verified = λ line reason e. absurd ((no_verdict_of a.answer).1 line reason (sym ends ∙ e));
+        };
         refusals = accepted_refusals run accepts;
         faults = record {
           read = λ e. absurd (accepts.read e);
@@ -136,20 +148,14 @@ answered law run file proof asked a = go a.printed a.puts a.ends where
         };
         output = record {
           grows = grows (Ok x) puts;
-          front = λ t. inr (inl (a.answer, fronts (Ok x) puts t));
-          answered = λ _ t. (a.answer, true_answer t [] (sym (all t) ∙ sym (append-nil (written_in run Out))), ends, refl);
+          front = λ t. inr (inl (AnswerTo a.problem a.answer, fronts (Ok x) puts t));
+          answered = λ _ t. (AnswerTo a.problem a.answer, true_answer t [] (sym (all t) ∙ sym (append-nil (written_in run Out))), ends, refl);
           helped = λ e. absurd (accepts.help e);
           flushed = λ _ t. puts.flushed t refl;
           silent = λ unanswered. absurd (true≢false (sym yes_answer ∙ unanswered));
         };
         proof = stands;
-        complete = record {
-          misused = λ only. absurd (only_misuse run.words asked only);
-          helped = λ only _. absurd (only_help run.words asked only);
-          answers = λ problem asks t c p o. inl yes_answer;
-          refuses = λ other other_proof kind line asks t c. absurd (accepted_refuses run file proof a.problem (read t) other other_proof kind line asks);
-          overlong = λ other other_proof asks t c. absurd (accepted_long run file proof a.problem (read t) other other_proof asks);
-        };
+        complete = solve_complete run file proof a.problem asked read (λ problem asks t c p o. inl yes_answer);
       }
 
   failed : (status : Status) → PutsText run.tells (run.before Out) (run.after Out) text (Err status) → run.status ≡ status → is_answer run.status ≡ false → Accepts run.status
@@ -159,28 +165,23 @@ answered law run file proof asked a = go a.printed a.puts a.ends where
         unsatisfiable = λ e. absurd (no_answer unanswered refl e);
         satisfiable = λ e. absurd (no_answer unanswered refl e);
         undecided = λ e. absurd (no_answer unanswered refl e);
+        verdict = no_verdict run unanswered;
         refusals = accepted_refusals run accepts;
         faults = record {
           read = λ e. absurd (accepts.read e);
           write = λ e. inr (puts.fault (ap (λ (s : Status). the_err s) (sym ends ∙ e)));
-          accepted = λ e. inr (λ t. (a.problem, asks_for run file proof a.problem (read t)));
+          accepted = λ e. inr (λ t. inl (a.problem, asks_for run file proof a.problem (read t)));
         };
         output = record {
           grows = grows (Err status) puts;
-          front = λ t. inr (inl (a.answer, fronts (Err status) puts t));
+          front = λ t. inr (inl (AnswerTo a.problem a.answer, fronts (Err status) puts t));
           answered = λ yes_answer. absurd (true≢false (sym yes_answer ∙ unanswered));
           helped = λ e. absurd (accepts.help e);
           flushed = λ either. elim either [ inl yes_answer ↦ absurd (true≢false (sym yes_answer ∙ unanswered)) | inr e ↦ absurd (accepts.help e) ];
           silent = λ _ _ unfaulted t. behind (run.before Out) (run.after Out) [] (nothing_more (run.before Out) (run.after Out) (puts.silent (ap (λ (s : Status). the_err s) (memory unfaulted)) t));
         };
         proof = stands;
-        complete = record {
-          misused = λ only. absurd (only_misuse run.words asked only);
-          helped = λ only _. absurd (only_help run.words asked only);
-          answers = λ problem asks t c p o. inr (faultless o);
-          refuses = λ other other_proof kind line asks t c. absurd (accepted_refuses run file proof a.problem (read t) other other_proof kind line asks);
-          overlong = λ other other_proof asks t c. absurd (accepted_long run file proof a.problem (read t) other other_proof asks);
-        };
+        complete = solve_complete run file proof a.problem asked read (λ problem asks t c p o. inr (faultless o));
       } where
         the_err : Status → Result ⊤ Status
         the_err s = Err s

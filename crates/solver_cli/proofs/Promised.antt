@@ -9,11 +9,11 @@ use Rattle.dimacs_reader.specs.declared.error.CnfKind.{CnfKind}
 use Rattle.dimacs_reader.specs.Cnf.{CnfText, formula, refusal, overlong, cnf}
 use Rattle.solver_cli.specs.declared.status.Status.{Status}
 use Rattle.solver_cli.specs.declared.status.Status.TheVariants.{Help, Usage, CnfRefused, TooLong, ReadFault, WriteFault, OutOfMemory}
-use Rattle.solver_cli.specs.Command.{Solve, AsksHelp, Misuse, command}
+use Rattle.solver_cli.specs.Command.{Command, formula_file, AsksHelp, Misuse, command}
 use Rattle.solver_cli.specs.ErrorText.{is_answer}
 use Rattle.solver_cli.specs.Phases.{IsReadStatus}
 use Rattle.solver_cli.specs.Stages.{Streams, streams_of, Misused, Untaken}
-use Rattle.solver_cli.specs.Headline.{Run, written_in, taken_in, UnsatisfiableIsProved, SatisfiableIsTrue, LimitsAreReached, RefusalsAreDue, FaultsAreCounted, OutputStands, ProofStands, IsComplete, IsRefusedBy}
+use Rattle.solver_cli.specs.Headline.{Run, written_in, taken_in, HasFault, UnsatisfiableIsProved, SatisfiableIsTrue, LimitsAreReached, VerdictIsTrue, RefusalsAreDue, FaultsAreCounted, OutputStands, ProofStands, IsComplete, IsRefusedBy, Asks}
 use Rattle.solver_cli.proofs.Facts.{behind, grown_by, nothing_more, no_answer, Refuses, Exceeds, read_statuses, read_ends, one_text, no_misuse, only_misuse, only_help, formula_refusal, formula_overlong, refusal_overlong, same_refusal}
 
 -- The promises on streams and statuses, without names, files and standard error.
@@ -21,6 +21,7 @@ pub record Core (run : Run) : Type 0 where
   pub unsatisfiable : UnsatisfiableIsProved run
   pub satisfiable : SatisfiableIsTrue run
   pub undecided : LimitsAreReached run
+  pub verdict : VerdictIsTrue run
   pub refusals : RefusalsAreDue run
   pub faults : FaultsAreCounted run
   pub output : OutputStands run
@@ -38,6 +39,9 @@ quiet_output run unanswered unhelped same =
       flushed = λ either. elim either [ inl answers ↦ absurd (true≢false (sym answers ∙ unanswered)) | inr e ↦ absurd (unhelped e) ];
       silent = λ _ _ _ t. none;
     }
+
+pub no_verdict : (run : Run) → is_answer run.status ≡ false → VerdictIsTrue run
+no_verdict run unanswered = record { verified = λ e. absurd (no_answer unanswered refl e); not_verified = λ line reason e. absurd (no_answer unanswered refl e) }
 
 pub no_proof : (run : Run) → written_in run ProofOut ≡ [] → ProofStands run
 no_proof run none = record { so_far = λ t. inl none; whole = λ _ t. inl none }
@@ -77,6 +81,7 @@ misused run m =
       unsatisfiable = λ e. absurd (no_answer undone.unanswered refl e);
       satisfiable = λ e. absurd (no_answer undone.unanswered refl e);
       undecided = λ e. absurd (no_answer undone.unanswered refl e);
+      verdict = no_verdict run undone.unanswered;
       refusals = record {
         usage = λ e. elim m.ends [ inl faulty ↦ faulty.1 | inr memory ↦ absurd (apart memory e) ];
         help = λ e. absurd (undone.help e);
@@ -90,8 +95,10 @@ misused run m =
         misused = λ only. elim m.ends [ inl faulty ↦ inl faulty.0 | inr memory ↦ inr memory ];
         helped = λ only _. elim m.ends [ inl faulty ↦ absurd (no_wish (only Misuse faulty.1)) | inr memory ↦ inr memory ];
         answers = λ problem asked t a b c. elim m.ends [ inl faulty ↦ absurd (no_misuse run.words asked.asks.command faulty.1) | inr memory ↦ inr memory ];
-        refuses = λ file proof kind line asks t a. elim m.ends [ inl faulty ↦ absurd (no_misuse run.words asks.command faulty.1) | inr memory ↦ inr memory ];
-        overlong = λ file proof asks t a. elim m.ends [ inl faulty ↦ absurd (no_misuse run.words asks.command faulty.1) | inr memory ↦ inr memory ];
+        judges = λ problem bytes judged has t a b c. elim m.ends [ inl faulty ↦ absurd (no_misuse run.words has.asked.asks.command faulty.1) | inr memory ↦ inr memory ];
+        refuses = λ asked kind line asks t a. elim m.ends [ inl faulty ↦ absurd (no_misuse run.words asks.command faulty.1) | inr memory ↦ inr memory ];
+        overlong = λ asked asks t a. elim m.ends [ inl faulty ↦ absurd (no_misuse run.words asks.command faulty.1) | inr memory ↦ inr memory ];
+        long_proof = λ problem bytes asked long t a b. elim m.ends [ inl faulty ↦ absurd (no_misuse run.words asked.asks.command faulty.1) | inr memory ↦ inr memory ];
       };
     } where
       apart : {status : Status} → status ≡ OutOfMemory → status ≡ Usage → ⊥
@@ -101,15 +108,15 @@ misused run m =
       no_wish e = cc
 
 -- The formula was not taken: a refusal of its text, a read fault, or want of memory.
-record TextSays (run : Run) (file proof : List ℕ) : Type 0 where
+record TextSays (run : Run) (asked : Command) : Type 0 where
   pub bytes : List ℕ
-  pub stands : run.files file ≡ Some bytes
+  pub stands : run.files (formula_file asked) ≡ Some bytes
   pub decided : cnf (taken_in run Cnf) ≡ cnf bytes
   pub how : Refuses run.status (cnf bytes) ⊎ Exceeds run.status (cnf bytes)
 
-untaken_says : (run : Run) (file proof : List ℕ) → Untaken run.tells (streams_of run.before) (streams_of run.after) run.files file run.status → IsTrue run.tells
-    → (run.status ≡ ReadFault) ⊎ ((run.status ≡ OutOfMemory) ⊎ TextSays run file proof)
-untaken_says run file proof u t = elim (u.takes.read t) [
+untaken_says : (run : Run) (asked : Command) → Untaken run.tells (streams_of run.before) (streams_of run.after) run.files (formula_file asked) run.status → IsTrue run.tells
+    → (run.status ≡ ReadFault) ⊎ ((run.status ≡ OutOfMemory) ⊎ TextSays run asked)
+untaken_says run asked u t = elim (u.takes.read t) [
   | inl e ↦ inl (same_err run.status ReadFault e)
   | inr text ↦ elim (read_ends run.status (cnf text.0) (cnf (taken_in run Cnf)) text.2 u.takes.statuses) [
     | inl fault ↦ inl fault
@@ -122,24 +129,23 @@ untaken_says run file proof u t = elim (u.takes.read t) [
   same_err : (a b : Status) → ◌≡◌ {A = Result Formula Status} (Err a) (Err b) → a ≡ b
   same_err a b e = cc
 
-refused_by : (run : Run) (file proof : List ℕ) (text : CnfText) → command run.words ≡ Some (Solve file proof) → (says : TextSays run file proof) → cnf says.bytes ≡ text → IsRefusedBy run text
-refused_by run file proof text asked says is = record {
-  file = file;
-  proof = proof;
-  asks = record { command = asked; bytes = says.bytes; stands = says.stands; says = is };
+refused_by : (run : Run) (asked : Command) (text : CnfText) → command run.words ≡ Some asked → (says : TextSays run asked) → cnf says.bytes ≡ text → IsRefusedBy run text
+refused_by run asked text gives says is = record {
+  asked = asked;
+  asks = record { command = gives; bytes = says.bytes; stands = says.stands; says = is };
   decided = says.decided ∙ is;
 }
 
-untaken_refused : (run : Run) (file proof : List ℕ) → command run.words ≡ Some (Solve file proof) → (kind : CnfKind) (line : ℕ) → run.status ≡ CnfRefused kind line
-    → (run.status ≡ ReadFault) ⊎ ((run.status ≡ OutOfMemory) ⊎ TextSays run file proof) → IsRefusedBy run (refusal kind line)
-untaken_refused run file proof asked kind line e (inl fault) = absurd (apart _ fault e) where
+untaken_refused : (run : Run) (asked : Command) → command run.words ≡ Some asked → (kind : CnfKind) (line : ℕ) → run.status ≡ CnfRefused kind line
+    → (run.status ≡ ReadFault) ⊎ ((run.status ≡ OutOfMemory) ⊎ TextSays run asked) → IsRefusedBy run (refusal kind line)
+untaken_refused run asked gives kind line e (inl fault) = absurd (apart _ fault e) where
   apart : (status : Status) → status ≡ ReadFault → status ≡ CnfRefused kind line → ⊥
   apart status d e = cc
-untaken_refused run file proof asked kind line e (inr (inl memory)) = absurd (apart _ memory e) where
+untaken_refused run asked gives kind line e (inr (inl memory)) = absurd (apart _ memory e) where
   apart : (status : Status) → status ≡ OutOfMemory → status ≡ CnfRefused kind line → ⊥
   apart status d e = cc
-untaken_refused run file proof asked kind line e (inr (inr says)) = elim says.how [
-  | inl r ↦ refused_by run file proof (refusal kind line) asked says (r.says ∙ same r.kind r.line (sym r.ends ∙ e))
+untaken_refused run asked gives kind line e (inr (inr says)) = elim says.how [
+  | inl r ↦ refused_by run asked (refusal kind line) gives says (r.says ∙ same r.kind r.line (sym r.ends ∙ e))
   | inr x ↦ absurd (apart _ x.ends e)
 ] where
   same : (other : CnfKind) (number : ℕ) → CnfRefused other number ≡ CnfRefused kind line → refusal other number ≡ refusal kind line
@@ -148,17 +154,17 @@ untaken_refused run file proof asked kind line e (inr (inr says)) = elim says.ho
   apart : (status : Status) → status ≡ TooLong Cnf → status ≡ CnfRefused kind line → ⊥
   apart status d e = cc
 
-untaken_long : (run : Run) (file proof : List ℕ) → command run.words ≡ Some (Solve file proof) → (role : Role) → run.status ≡ TooLong role
-    → (run.status ≡ ReadFault) ⊎ ((run.status ≡ OutOfMemory) ⊎ TextSays run file proof) → IsRefusedBy run overlong
-untaken_long run file proof asked role e (inl fault) = absurd (apart _ fault e) where
+untaken_long : (run : Run) (asked : Command) → command run.words ≡ Some asked → (role : Role) → run.status ≡ TooLong role
+    → (run.status ≡ ReadFault) ⊎ ((run.status ≡ OutOfMemory) ⊎ TextSays run asked) → IsRefusedBy run overlong
+untaken_long run asked gives role e (inl fault) = absurd (apart _ fault e) where
   apart : (status : Status) → status ≡ ReadFault → status ≡ TooLong role → ⊥
   apart status d e = cc
-untaken_long run file proof asked role e (inr (inl memory)) = absurd (apart _ memory e) where
+untaken_long run asked gives role e (inr (inl memory)) = absurd (apart _ memory e) where
   apart : (status : Status) → status ≡ OutOfMemory → status ≡ TooLong role → ⊥
   apart status d e = cc
-untaken_long run file proof asked role e (inr (inr says)) = elim says.how [
+untaken_long run asked gives role e (inr (inr says)) = elim says.how [
   | inl r ↦ absurd (apart _ r.kind r.line r.ends e)
-  | inr x ↦ refused_by run file proof overlong asked says x.says
+  | inr x ↦ refused_by run asked overlong gives says x.says
 ] where
   apart : (status : Status) (kind : CnfKind) (line : ℕ) → status ≡ CnfRefused kind line → status ≡ TooLong role → ⊥
   apart status kind line d e = cc
@@ -168,56 +174,66 @@ long_is_cnf status role p e = inner role (subst (λ (s : Status). IsReadStatus s
   inner : (role : Role) → IsReadStatus (TooLong role) → role ≡ Cnf
   inner role p = p
 
-untaken_complete : (run : Run) (file proof : List ℕ) → command run.words ≡ Some (Solve file proof) → Untaken run.tells (streams_of run.before) (streams_of run.after) run.files file run.status → IsComplete run
-untaken_complete run file proof asked u = record {
-  misused = λ only. absurd (only_misuse run.words asked only);
-  helped = λ only _. absurd (only_help run.words asked only);
-  answers = λ problem asks t faultless _ _. elim (untaken_says run file proof u t) [
+-- a text that is accepted leaves only faults and want of memory
+untaken_accepted : (run : Run) (asked : Command) → command run.words ≡ Some asked → Untaken run.tells (streams_of run.before) (streams_of run.after) run.files (formula_file asked) run.status
+    → (other : Command) (problem : Formula) → Asks run other (formula problem) → IsTrue run.tells → (HasFault run Cnf → ⊥) → run.status ≡ OutOfMemory
+untaken_accepted run asked gives u other problem asks t faultless = elim (untaken_says run asked u t) [
+  | inl fault ↦ absurd (faultless (u.takes.fault (ap (λ (s : Status). the_err s) fault)))
+  | inr more ↦ elim more [
+    | inl memory ↦ memory
+    | inr says ↦ let text : cnf says.bytes ≡ formula problem = ap cnf (one_text run.files gives asks.command says.stands asks.stands) ∙ asks.says in
+        elim says.how [ inl r ↦ absurd (formula_refusal text r.says) | inr x ↦ absurd (formula_overlong text x.says) ]
+  ]
+] where
+  the_err : Status → Result Formula Status
+  the_err s = Err s
+
+untaken_complete : (run : Run) (asked : Command) → command run.words ≡ Some asked → Untaken run.tells (streams_of run.before) (streams_of run.after) run.files (formula_file asked) run.status → IsComplete run
+untaken_complete run asked gives u = record {
+  misused = λ only. absurd (only_misuse run.words gives only);
+  helped = λ only _. absurd (only_help run.words gives only);
+  answers = λ problem asks t faultless _ _. inr (untaken_accepted run asked gives u _ problem asks.asks t faultless);
+  judges = λ problem bytes judged has t faultless _ _. inr (untaken_accepted run asked gives u _ problem has.asked.asks t faultless);
+  refuses = λ other kind line asks t faultless. elim (untaken_says run asked u t) [
     | inl fault ↦ absurd (faultless (u.takes.fault (ap (λ (s : Status). the_err s) fault)))
     | inr more ↦ elim more [
       | inl memory ↦ inr memory
-      | inr says ↦ let text : cnf says.bytes ≡ formula problem = ap cnf (one_text run.files asked asks.asks.command says.stands asks.asks.stands) ∙ asks.asks.says in
-          elim says.how [ inl r ↦ absurd (formula_refusal text r.says) | inr x ↦ absurd (formula_overlong text x.says) ]
-    ]
-  ];
-  refuses = λ other other_proof kind line asks t faultless. elim (untaken_says run file proof u t) [
-    | inl fault ↦ absurd (faultless (u.takes.fault (ap (λ (s : Status). the_err s) fault)))
-    | inr more ↦ elim more [
-      | inl memory ↦ inr memory
-      | inr says ↦ let text : cnf says.bytes ≡ refusal kind line = ap cnf (one_text run.files asked asks.command says.stands asks.stands) ∙ asks.says in
+      | inr says ↦ let text : cnf says.bytes ≡ refusal kind line = ap cnf (one_text run.files gives asks.command says.stands asks.stands) ∙ asks.says in
           elim says.how [ inl r ↦ inl (same_refusal r.says text r.ends) | inr x ↦ absurd (refusal_overlong text x.says) ]
     ]
   ];
-  overlong = λ other other_proof asks t faultless. elim (untaken_says run file proof u t) [
+  overlong = λ other asks t faultless. elim (untaken_says run asked u t) [
     | inl fault ↦ absurd (faultless (u.takes.fault (ap (λ (s : Status). the_err s) fault)))
     | inr more ↦ elim more [
       | inl memory ↦ inr memory
-      | inr says ↦ let text : cnf says.bytes ≡ overlong = ap cnf (one_text run.files asked asks.command says.stands asks.stands) ∙ asks.says in
+      | inr says ↦ let text : cnf says.bytes ≡ overlong = ap cnf (one_text run.files gives asks.command says.stands asks.stands) ∙ asks.says in
           elim says.how [ inl r ↦ absurd (refusal_overlong r.says text) | inr x ↦ inl x.ends ]
     ]
   ];
+  long_proof = λ problem bytes asks _ t faultless _. inr (untaken_accepted run asked gives u _ problem asks.asks t faultless);
 } where
   the_err : Status → Result Formula Status
   the_err s = Err s
 
-pub untaken : (run : Run) (file proof : List ℕ) → command run.words ≡ Some (Solve file proof) → Untaken run.tells (streams_of run.before) (streams_of run.after) run.files file run.status → Core run
-untaken run file proof asked u =
+pub untaken : (run : Run) (asked : Command) → command run.words ≡ Some asked → Untaken run.tells (streams_of run.before) (streams_of run.after) run.files (formula_file asked) run.status → Core run
+untaken run asked gives u =
     let statuses = read_statuses run.status u.takes.statuses in
     let unanswered : is_answer run.status ≡ false = statuses.0 in
     record {
       unsatisfiable = λ e. absurd (no_answer unanswered refl e);
       satisfiable = λ e. absurd (no_answer unanswered refl e);
       undecided = λ e. absurd (no_answer unanswered refl e);
+      verdict = no_verdict run unanswered;
       refusals = record {
         usage = λ e. absurd (statuses.2 e);
         help = λ e. absurd (statuses.3 e);
-        refused = λ kind line e t. untaken_refused run file proof asked kind line e (untaken_says run file proof u t);
-        too_long = λ role e. (long_is_cnf run.status role u.takes.statuses e, λ t. untaken_long run file proof asked role e (untaken_says run file proof u t));
+        refused = λ kind line e t. untaken_refused run asked gives kind line e (untaken_says run asked u t);
+        too_long = λ role e. inl (long_is_cnf run.status role u.takes.statuses e, λ t. untaken_long run asked gives role e (untaken_says run asked u t));
       };
-      faults = record { read = λ e. u.takes.fault (ap (λ (s : Status). the_err s) e); write = λ e. absurd (statuses.1 e); accepted = λ e. absurd (statuses.1 e) };
+      faults = record { read = λ e. inl (u.takes.fault (ap (λ (s : Status). the_err s) e)); write = λ e. absurd (statuses.1 e); accepted = λ e. absurd (statuses.1 e) };
       output = quiet_output run unanswered statuses.3 (same_written u.out);
       proof = no_proof run (none_written run ProofOut u.proof);
-      complete = untaken_complete run file proof asked u;
+      complete = untaken_complete run asked gives u;
     } where
       the_err : Status → Result Formula Status
       the_err s = Err s

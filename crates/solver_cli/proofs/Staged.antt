@@ -3,7 +3,7 @@ use Rattle.std.proofs.Common.{◌≡◌, ℕ, Bool, List, refl, sym, ◌∙◌, 
 use Rattle.std.specs.Prelude.{Result, ⊤, IsErr}
 use Rattle.cnf_base.specs.Formula.{Formula}
 use Rattle.host_io.specs.declared.role.Role.{Role}
-use Rattle.host_io.specs.declared.role.Role.TheVariants.{Cnf, ProofOut, Out}
+use Rattle.host_io.specs.declared.role.Role.TheVariants.{Cnf, ProofIn, ProofOut, Out}
 use Rattle.host_io.specs.declared.source.Failed.{Failed}
 use Rattle.host_io.specs.Channel.{Channel}
 use Rattle.host_io.specs.Files.{Files, Opens, Others}
@@ -15,7 +15,7 @@ use Rattle.solver_cli.specs.Phases.{TakesFormula, WritesProof, PutsText}
 use Rattle.solver_cli.specs.Stages.{streams_of, Came, status_after}
 
 -- what was told of a stream that later calls left alone
-still_taken : {tells : Bool} {old new now : Channel} {files : Files} {file : List ℕ} {result : Result Formula Status} → now ≡ new → TakesFormula tells old new files file result → TakesFormula tells old now files file result
+pub still_taken : {tells : Bool} {old new now : Channel} {files : Files} {file : List ℕ} {result : Result Formula Status} → now ≡ new → TakesFormula tells old new files file result → TakesFormula tells old now files file result
 still_taken {tells = tells} {old = old} {files = files} {file = file} {result = result} same takes = subst (λ (c : Channel). TakesFormula tells old c files file result) (sym same) takes
 
 opened_from : {start old new : Channel} {file : List ℕ} {answer : Result ⊤ Failed} → old ≡ start → Opens old new file answer → Opens start new file answer
@@ -24,7 +24,7 @@ opened_from {new = new} {file = file} {answer = answer} same opens = subst (λ (
 still_written : {tells : Bool} {old new now : Channel} {problem : Formula} {result : Result Answer Status} → now ≡ new → WritesProof tells old new problem result → WritesProof tells old now problem result
 still_written {tells = tells} {old = old} {problem = problem} {result = result} same writes = subst (λ (c : Channel). WritesProof tells old c problem result) (sym same) writes
 
-printed_from : {tells : Bool} {start old new : Channel} {text : List ℕ} {result : Result ⊤ Status} → old ≡ start → PutsText tells old new text result → PutsText tells start new text result
+pub printed_from : {tells : Bool} {start old new : Channel} {text : List ℕ} {result : Result ⊤ Status} → old ≡ start → PutsText tells old new text result → PutsText tells start new text result
 printed_from {tells = tells} {new = new} {text = text} {result = result} same puts = subst (λ (c : Channel). PutsText tells c new text result) same puts
 
 pub uncreated : {tells : Bool} {file proof : List ℕ} {problem : Formula} {answer : Result ⊤ Failed} (old taken new : Role → Channel) (files : Files)
@@ -37,6 +37,7 @@ uncreated {file = file} {proof = proof} {problem = problem} {answer = answer} ol
       answer = answer;
       failed = failed;
       opens = opened_from (beside_taken ProofOut refl) opens;
+      judged = beside_new ProofIn refl ∙ beside_taken ProofIn refl;
       out = beside_new Out refl ∙ beside_taken Out refl;
       ends = refl;
     }))
@@ -54,6 +55,7 @@ undecided {file = file} {proof = proof} {problem = problem} {answer = answer} ol
       done = done;
       opens = opened_from (beside_taken ProofOut refl) opens;
       writes = writes;
+      judged = beside_new ProofIn refl ∙ beside_made ProofIn refl ∙ beside_taken ProofIn refl;
       out = beside_new Out refl ∙ beside_made Out refl ∙ beside_taken Out refl;
     })))
 
@@ -74,6 +76,7 @@ answered {file = file} {proof = proof} {problem = problem} {answer = answer} {fo
       opens = opened_from (beside_taken ProofOut refl) opens;
       answer = found;
       writes = still_written (beside_new ProofOut refl) writes;
+      judged = beside_new ProofIn refl ∙ beside_proved ProofIn refl ∙ beside_made ProofIn refl ∙ beside_taken ProofIn refl;
       printed = printed;
       puts = printed_from (beside_proved Out refl ∙ beside_made Out refl ∙ beside_taken Out refl) puts;
       ends = ends;

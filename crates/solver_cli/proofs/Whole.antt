@@ -6,26 +6,33 @@ use Rattle.host_io.specs.Files.{Files, FilesBut, same_role, Others, Kept}
 use Rattle.host_io.specs.declared.role.Role.{Role}
 use Rattle.host_io.specs.declared.role.Role.TheVariants.{Cnf, Order, Schedule, ProofIn, ProofOut, Made, Out, Err as ErrRole}
 use Rattle.solver_cli.specs.Phases.{Complains}
-use Rattle.solver_cli.specs.Stages.{Streams, streams_of, Came, Stages}
+use Rattle.solver_cli.specs.Command.{Solve, Check}
+use Rattle.solver_cli.specs.Stages.{Streams, streams_of, Came, CameToCheck, Stages}
 use Rattle.solver_cli.specs.Headline.{Run, Promises}
 use Rattle.solver_cli.proofs.Promised.{Core, misused, untaken}
 use Rattle.solver_cli.proofs.Helped.{helped}
 use Rattle.solver_cli.proofs.Accepted.{uncreated, undecided}
-use Rattle.solver_cli.proofs.Printed.{Law, answered}
+use Rattle.solver_cli.proofs.Printed.{answered}
+use Rattle.solver_cli.proofs.Verdicts.{Laws, unjudged, judged}
 use Rattle.solver_cli.proofs.Named.{stream_names, names, error_stands}
 
-core : Law → (run : Run) → Stages run.tells run.words (streams_of run.before) (streams_of run.after) run.files run.status → Core run
+core : Laws → (run : Run) → Stages run.tells run.words (streams_of run.before) (streams_of run.after) run.files run.status → Core run
 core law run (inl m) = misused run m
 core law run (inr (inl h)) = helped run h
-core law run (inr (inr t)) = came t.came where
+core law run (inr (inr (inl t))) = came t.came where
   came : Came run.tells (streams_of run.before) (streams_of run.after) run.files t.file t.proof run.status → Core run
-  came (inl u) = untaken run t.file t.proof t.asked u
+  came (inl u) = untaken run (Solve t.file t.proof) t.asked u
   came (inr (inl u)) = uncreated run t.file t.proof t.asked u
   came (inr (inr (inl u))) = undecided run t.file t.proof t.asked u
-  came (inr (inr (inr a))) = answered law run t.file t.proof t.asked a
+  came (inr (inr (inr a))) = answered law.sound run t.file t.proof t.asked a
+core law run (inr (inr (inr c))) = came c.came where
+  came : CameToCheck run.tells (streams_of run.before) (streams_of run.after) run.files c.file c.proof run.status → Core run
+  came (inl u) = untaken run (Check c.file c.proof) c.asked u
+  came (inr (inl u)) = unjudged law run c.file c.proof c.asked u
+  came (inr (inr j)) = judged law run c.file c.proof c.asked j
 
-whole : Law → (run : Run) → ((role : Role) → (run.before role).name ≡ None) → Stages run.tells run.words (streams_of run.before) (streams_of run.after) run.files run.status
-    → ((role : Role) → IsFalse (same_role role Cnf) → IsFalse (same_role role ProofOut) → IsFalse (same_role role Out) → (run.after role).name ≡ None)
+whole : Laws → (run : Run) → ((role : Role) → (run.before role).name ≡ None) → Stages run.tells run.words (streams_of run.before) (streams_of run.after) run.files run.status
+    → ((role : Role) → IsFalse (same_role role Cnf) → IsFalse (same_role role ProofIn) → IsFalse (same_role role ProofOut) → IsFalse (same_role role Out) → (run.after role).name ≡ None)
     → FilesBut (run.after ProofOut).name run.files run.files_after → Complains run.tells (run.before ErrRole) (run.after ErrRole) run.status → Promises run
 whole law run unnamed stages others files complains =
     let c : Core run = core law run stages in
@@ -33,6 +40,7 @@ whole law run unnamed stages others files complains =
       unsatisfiable = c.unsatisfiable;
       satisfiable = c.satisfiable;
       undecided = c.undecided;
+      verdict = c.verdict;
       refusals = c.refusals;
       faults = c.faults;
       output = c.output;
@@ -44,20 +52,20 @@ whole law run unnamed stages others files complains =
 
 -- the streams stay where only standard error was written
 streams_kept : (old new : Role → Channel) → Others ErrRole old new → streams_of new ≡ streams_of old
-streams_kept old new beside = λ i. record { cnf = beside Cnf refl i; proof = beside ProofOut refl i; out = beside Out refl i }
+streams_kept old new beside = λ i. record { cnf = beside Cnf refl i; judged = beside ProofIn refl i; proof = beside ProofOut refl i; out = beside Out refl i }
 
-pub promises : Law → (run : Run) (middle : Role → Channel) (files : Files) → ((role : Role) → (run.before role).name ≡ None)
+pub promises : Laws → (run : Run) (middle : Role → Channel) (files : Files) → ((role : Role) → (run.before role).name ≡ None)
     → Stages run.tells run.words (streams_of run.before) (streams_of middle) run.files run.status
-    → ((role : Role) → IsFalse (same_role role Cnf) → IsFalse (same_role role ProofOut) → IsFalse (same_role role Out) → middle role ≡ run.before role)
+    → ((role : Role) → IsFalse (same_role role Cnf) → IsFalse (same_role role ProofIn) → IsFalse (same_role role ProofOut) → IsFalse (same_role role Out) → middle role ≡ run.before role)
     → FilesBut (middle ProofOut).name run.files files → Complains run.tells (middle ErrRole) (run.after ErrRole) run.status
     → Kept ErrRole (middle ErrRole).name middle run.after files run.files_after → Promises run
 promises law run middle files unnamed stages others beside complains kept = whole law run unnamed
     (subst (λ (s : Streams). Stages run.tells run.words (streams_of run.before) s run.files run.status) (sym (streams_kept middle run.after kept.others)) stages)
     named
     (λ file own. kept.files file (λ same. none_some (sym err_none ∙ same)) ∙ beside file (λ same. own (ap (λ (c : Channel). c.name) (kept.others ProofOut refl) ∙ same)))
-    (subst (λ (c : Channel). Complains run.tells c (run.after ErrRole) run.status) (others ErrRole refl refl refl) complains) where
+    (subst (λ (c : Channel). Complains run.tells c (run.after ErrRole) run.status) (others ErrRole refl refl refl refl) complains) where
       err_none : (middle ErrRole).name ≡ None
-      err_none = ap (λ (c : Channel). c.name) (others ErrRole refl refl refl) ∙ unnamed ErrRole
+      err_none = ap (λ (c : Channel). c.name) (others ErrRole refl refl refl refl) ∙ unnamed ErrRole
 
       none_some : {file : List ℕ} → ◌≡◌ {A = Option (List ℕ)} None (Some file) → ⊥
       none_some e = cc
@@ -65,17 +73,17 @@ promises law run middle files unnamed stages others beside complains kept = whol
       after_err : (run.after ErrRole).name ≡ None
       after_err = complains.only.name ∙ err_none
 
-      still : (role : Role) → IsFalse (same_role role ErrRole) → IsFalse (same_role role Cnf) → IsFalse (same_role role ProofOut) → IsFalse (same_role role Out) → (run.after role).name ≡ None
-      still role e a b c = ap (λ (x : Channel). x.name) (kept.others role e ∙ others role a b c) ∙ unnamed role
+      still : (role : Role) → IsFalse (same_role role ErrRole) → IsFalse (same_role role Cnf) → IsFalse (same_role role ProofIn) → IsFalse (same_role role ProofOut) → IsFalse (same_role role Out) → (run.after role).name ≡ None
+      still role e a b c d = ap (λ (x : Channel). x.name) (kept.others role e ∙ others role a b c d) ∙ unnamed role
 
-      named : (role : Role) → IsFalse (same_role role Cnf) → IsFalse (same_role role ProofOut) → IsFalse (same_role role Out) → (run.after role).name ≡ None
-      named role a b c = by role a b c where
-        by : (role : Role) → IsFalse (same_role role Cnf) → IsFalse (same_role role ProofOut) → IsFalse (same_role role Out) → (run.after role).name ≡ None
-        by ErrRole a b c = after_err
-        by Cnf a b c = absurd (true≢false a)
-        by ProofOut a b c = absurd (true≢false b)
-        by Out a b c = absurd (true≢false c)
-        by Order a b c = still Order refl refl refl refl
-        by Schedule a b c = still Schedule refl refl refl refl
-        by ProofIn a b c = still ProofIn refl refl refl refl
-        by Made a b c = still Made refl refl refl refl
+      named : (role : Role) → IsFalse (same_role role Cnf) → IsFalse (same_role role ProofIn) → IsFalse (same_role role ProofOut) → IsFalse (same_role role Out) → (run.after role).name ≡ None
+      named role a b c d = by role a b c d where
+        by : (role : Role) → IsFalse (same_role role Cnf) → IsFalse (same_role role ProofIn) → IsFalse (same_role role ProofOut) → IsFalse (same_role role Out) → (run.after role).name ≡ None
+        by ErrRole a b c d = after_err
+        by Cnf a b c d = absurd (true≢false a)
+        by ProofIn a b c d = absurd (true≢false b)
+        by ProofOut a b c d = absurd (true≢false c)
+        by Out a b c d = absurd (true≢false d)
+        by Order a b c d = still Order refl refl refl refl refl
+        by Schedule a b c d = still Schedule refl refl refl refl refl
+        by Made a b c d = still Made refl refl refl refl refl

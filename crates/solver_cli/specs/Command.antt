@@ -7,9 +7,15 @@ use Rattle.clap.specs.declared.error.ErrorKind.{ErrorKind}
 use Rattle.clap.specs.declared.error.ErrorKind.TheVariants as kind
 use Rattle.solver_cli.specs.Parser.{the_app}
 
--- decide this file, and write the proof to that one
+-- decide this formula's file and write the proof to that one, or judge the proof in that one over it
 pub data Command : Type 0 where
   Solve : Text → Text → Command
+  Check : Text → Text → Command
+
+-- the formula's file
+abbrev pub formula_file : Command → Text
+formula_file (Solve file proof) = file
+formula_file (Check file proof) = file
 
 -- what words may mean: a command, the wish for help, or nothing that the program does
 pub data Meaning : Type 0 where
@@ -23,13 +29,21 @@ refusal_means kind.DisplayHelp = AsksHelp
 refusal_means _ = Misuse
 
 -- two files have two names
-abbrev pub solve_means : Option Text → Option Text → Meaning
-solve_means (Some file) (Some proof) = if bytes_eq file proof then Misuse else Asks (Solve file proof)
-solve_means _ _ = Misuse
+abbrev pub two_names : Option Text → Option Text → Option (Text × Text)
+two_names (Some file) (Some proof) = if bytes_eq file proof then None else Some (file, proof)
+two_names _ _ = None
+
+-- a command over two files
+abbrev pub over : (Text → Text → Command) → Option (Text × Text) → Meaning
+over ask None = Misuse
+over ask (Some names) = Asks (ask names.0 names.1)
 
 -- what the values of a command mean
 abbrev pub command_means : Text → List Row → Meaning
-command_means name rows = if bytes_eq name (codes "solve") then solve_means (first_of (codes "FILE") rows) (first_of (codes "proof") rows) else Misuse
+command_means name rows =
+    if bytes_eq name (codes "solve")
+    then over Solve (two_names (first_of (codes "FILE") rows) (first_of (codes "proof") rows))
+    else if bytes_eq name (codes "check") then over Check (two_names (first_of (codes "FILE") rows) (first_of (codes "PROOF") rows)) else Misuse
 
 -- what words mean that the parser takes; a command must be among them
 abbrev pub taken_means : Option (Text × List Row) → Meaning

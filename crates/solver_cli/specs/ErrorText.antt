@@ -5,7 +5,7 @@ use Rattle.host_io.specs.declared.role.Role.TheVariants.{Cnf, Order, Schedule, P
 use Rattle.dimacs_reader.specs.declared.error.CnfKind.{CnfKind}
 use Rattle.dimacs_reader.specs.declared.error.CnfKind.TheVariants.{NoHeader, BadHeader, BadToken, LiteralRange, TooManyClauses, ClauseMissing, NoEndingZero, Limit}
 use Rattle.solver_cli.specs.declared.status.Status.{Status}
-use Rattle.solver_cli.specs.declared.status.Status.TheVariants.{Sat, Unsat, Unknown, Help, Usage, CnfRefused, TooLong, ReadFault, WriteFault, OutOfMemory}
+use Rattle.solver_cli.specs.declared.status.Status.TheVariants.{Sat, Unsat, Unknown, Verified, NotVerified, Help, Usage, CnfRefused, TooLong, ReadFault, WriteFault, OutOfMemory}
 
 abbrev pub kind_name : CnfKind → List ℕ
 kind_name NoHeader = codes "NoHeader"
@@ -33,6 +33,8 @@ abbrev pub error_text : Status → List ℕ
 error_text Sat = []
 error_text Unsat = []
 error_text (Unknown why) = []
+error_text Verified = []
+error_text (NotVerified line reason) = []
 error_text Help = []
 error_text Usage = codes "error: bad usage\n"
 error_text (CnfRefused kind line) = codes "error: cnf line " ++ decimal line ++ codes ": " ++ kind_name kind ++ codes "\n"
@@ -41,11 +43,13 @@ error_text ReadFault = codes "error: read failed\n"
 error_text WriteFault = codes "error: write failed\n"
 error_text OutOfMemory = codes "error: out of memory\n"
 
--- a status that answers the question about a formula
+-- a status that answers the question about a formula, or about a proof
 abbrev pub is_answer : Status → Bool
 is_answer Sat = true
 is_answer Unsat = true
 is_answer (Unknown why) = true
+is_answer Verified = true
+is_answer (NotVerified line reason) = true
 is_answer Help = false
 is_answer Usage = false
 is_answer (CnfRefused kind line) = false

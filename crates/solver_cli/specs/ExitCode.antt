@@ -1,15 +1,19 @@
--- The exit codes, and the status for what a reader answers.
+-- The exit codes, and the status for what a reader or the checker answers.
 use Rattle.std.specs.Prelude.{ℕ}
 use Rattle.dimacs_reader.specs.declared.error.CnfError.{CnfError}
 use Rattle.dimacs_reader.specs.declared.error.CnfError.TheVariants.{Refused, ReadFault as CnfReadFault, TooLong as CnfTooLong, OutOfMemory as CnfOutOfMemory}
-use Rattle.host_io.specs.declared.role.Role.TheVariants.{Cnf}
+use Rattle.host_io.specs.declared.role.Role.TheVariants.{Cnf, ProofIn}
+use Rattle.lrat_checker.specs.declared.verdict.CheckError.{CheckError}
+use Rattle.lrat_checker.specs.declared.verdict.CheckError.TheVariants.{ReadFault as CheckReadFault, TooLong as CheckTooLong, OutOfMemory as CheckOutOfMemory}
 use Rattle.solver_cli.specs.declared.status.Status.{Status}
-use Rattle.solver_cli.specs.declared.status.Status.TheVariants.{Sat, Unsat, Unknown, Help, Usage, CnfRefused, TooLong, ReadFault, WriteFault, OutOfMemory}
+use Rattle.solver_cli.specs.declared.status.Status.TheVariants.{Sat, Unsat, Unknown, Verified, NotVerified, Help, Usage, CnfRefused, TooLong, ReadFault, WriteFault, OutOfMemory}
 
 abbrev pub exit_code : Status → ℕ
 exit_code Sat = 10
 exit_code Unsat = 20
 exit_code (Unknown why) = 0
+exit_code Verified = 0
+exit_code (NotVerified line reason) = 1
 exit_code Help = 0
 exit_code Usage = 6
 exit_code (CnfRefused kind line) = 2
@@ -23,3 +27,8 @@ status_of_error (Refused kind line) = CnfRefused kind line
 status_of_error CnfReadFault = ReadFault
 status_of_error CnfTooLong = TooLong Cnf
 status_of_error CnfOutOfMemory = OutOfMemory
+
+abbrev pub status_of_check : CheckError → Status
+status_of_check CheckReadFault = ReadFault
+status_of_check CheckTooLong = TooLong ProofIn
+status_of_check CheckOutOfMemory = OutOfMemory

@@ -1,6 +1,6 @@
 -- What the program promises, over one run of it: its words, the host before and after, and how it ended. What it
 -- says of bytes is said of hosts that tell their bytes.
-use Rattle.std.specs.Prelude.{◌≡◌, ◌≢◌, ◌⊎◌, ◌++◌, ℕ, Bool, true, false, List, [], Option, None, Some, length, drop, IsTrue, IsFalse}
+use Rattle.std.specs.Prelude.{◌≡◌, ◌≢◌, ◌⊎◌, ◌++◌, ◌<◌, ◌≤◌, ℕ, Bool, true, false, List, [], Option, None, Some, length, drop, IsTrue, IsFalse}
 use Rattle.cnf_base.specs.Truth.{Assignment, Satisfies, assignment_of}
 use Rattle.cnf_base.specs.Formula.{Formula}
 use Rattle.host_io.specs.declared.role.Role.{Role}
@@ -9,15 +9,20 @@ use Rattle.host_io.specs.Channel.{Channel, Rose}
 use Rattle.host_io.specs.Files.{Files, FilesBut}
 use Rattle.dimacs_reader.specs.declared.error.CnfKind.{CnfKind}
 use Rattle.dimacs_reader.specs.Cnf.{CnfText, formula, refusal, overlong, cnf}
-use Rattle.lrat_rules.specs.Run.{Refutes}
-use Rattle.answer_text.specs.Status.{sat_text, unsat_line}
+use Rattle.lrat_rules.specs.Run.{Refutes, verdict}
+use Rattle.lrat_rules.specs.declared.outcome.Reason.{Reason}
+use Rattle.lrat_checker.specs.TextVerdict.{max_bytes, text_verdict}
+use Rattle.lrat_checker.specs.declared.verdict.Verdict.{Verdict}
+use Rattle.lrat_checker.specs.declared.verdict.Verdict.TheVariants as judgement
+use Rattle.answer_text.specs.Status.{sat_text, unsat_line, verified_line, refused_text}
 use Rattle.solver_cli.specs.declared.status.Why.TheVariants.{NodeLimit}
 use Rattle.solver_cli.specs.declared.status.Status.{Status}
-use Rattle.solver_cli.specs.declared.status.Status.TheVariants.{Sat, Unsat, Unknown, Help, Usage, CnfRefused, TooLong, ReadFault, WriteFault, OutOfMemory}
+use Rattle.solver_cli.specs.declared.status.Status.TheVariants.{Sat, Unsat, Unknown, Verified, NotVerified, Help, Usage, CnfRefused, TooLong, ReadFault, WriteFault, OutOfMemory}
 use Rattle.solver_cli.specs.declared.answer.Answer.{Answer}
-use Rattle.solver_cli.specs.Command.{Command, Solve, AsksHelp, Misuse, MayMean, CanOnlyMean, command}
+use Rattle.solver_cli.specs.Command.{Command, Solve, Check, formula_file, AsksHelp, Misuse, MayMean, CanOnlyMean, command}
 use Rattle.solver_cli.specs.ErrorText.{error_text, is_answer}
 use Rattle.solver_cli.specs.Answer.{Holds, IsProof, IsProofSoFar, NodesAreUsed, has_empty_clause, one_line, answer_text, status_of}
+use Rattle.solver_cli.specs.Verdict.{verdict_text, status_of_verdict}
 
 -- One run of the program: whether the host tells its bytes, the words, the roles and the files before, the roles
 -- and the files after, and how it ended.
@@ -41,18 +46,30 @@ taken_in run role = drop (length (run.before role).taken) (run.after role).taken
 abbrev pub HasFault : Run → Role → Type 0
 HasFault run role = Rose (run.before role).faults (run.after role).faults
 
--- the words ask to decide this file, whose text says this, and to write the proof to that one
-pub record Asks (run : Run) (file proof : List ℕ) (text : CnfText) : Type 0 where
-  pub command : command run.words ≡ Some (Solve file proof)
+-- the words ask for this command, and the text of its formula's file says this
+pub record Asks (run : Run) (asked : Command) (text : CnfText) : Type 0 where
+  pub command : command run.words ≡ Some asked
   pub bytes : List ℕ
-  pub stands : run.files file ≡ Some bytes
+  pub stands : run.files (formula_file asked) ≡ Some bytes
   pub says : cnf bytes ≡ text
 
 -- they ask to decide this formula
 pub record AsksFor (run : Run) (problem : Formula) : Type 0 where
   pub file : List ℕ
   pub proof : List ℕ
-  pub asks : Asks run file proof (formula problem)
+  pub asks : Asks run (Solve file proof) (formula problem)
+
+-- they ask to judge this proof over this formula
+pub record AsksToJudge (run : Run) (problem : Formula) (bytes : List ℕ) : Type 0 where
+  pub file : List ℕ
+  pub proof : List ℕ
+  pub asks : Asks run (Check file proof) (formula problem)
+  pub stands : run.files proof ≡ Some bytes
+
+-- and this is the verdict on it
+pub record HasVerdict (run : Run) (problem : Formula) (bytes : List ℕ) (verdict : Verdict) : Type 0 where
+  pub asked : AsksToJudge run problem bytes
+  pub judged : text_verdict problem.clauses bytes ≡ Some verdict
 
 -- Unsatisfiable: the very bytes of the proof refute the formula's clauses, so that no assignment satisfies them. Where
 -- a clause is empty they are one line.
@@ -88,36 +105,92 @@ pub record IsUndecided (run : Run) : Type 0 where
 abbrev pub LimitsAreReached : Run → Type 0
 LimitsAreReached run = run.status ≡ Unknown NodeLimit → IsTrue run.tells → IsUndecided run
 
+-- Verified: the very bytes of the proof's file refute the formula's clauses, so that no assignment satisfies them.
+pub record IsVerified (run : Run) : Type 0 where
+  pub problem : Formula
+  pub bytes : List ℕ
+  pub has : HasVerdict run problem bytes judgement.Verified
+  pub refuted : Refutes problem.clauses bytes
+  pub unsatisfiable : (a : Assignment) → Satisfies a problem.clauses → ⊥
+  pub printed : written_in run Out ≡ verified_line
+
+-- Not verified: this is the first bad line of the proof, and why it is bad.
+pub record IsNotVerified (run : Run) (line : ℕ) (reason : Reason) : Type 0 where
+  pub problem : Formula
+  pub bytes : List ℕ
+  pub has : HasVerdict run problem bytes (judgement.Refused line reason)
+  pub refused : length bytes ≤ max_bytes → verdict problem.clauses bytes ≡ Some (line, reason)
+  pub printed : written_in run Out ≡ refused_text line reason
+
+pub record VerdictIsTrue (run : Run) : Type 0 where
+  pub verified : run.status ≡ Verified → IsTrue run.tells → IsVerified run
+  pub not_verified : (line : ℕ) (reason : Reason) → run.status ≡ NotVerified line reason → IsTrue run.tells → IsNotVerified run line reason
+
 -- a refusal is that of the named file's whole text, and already that of the bytes taken
 pub record IsRefusedBy (run : Run) (text : CnfText) : Type 0 where
-  pub file : List ℕ
-  pub proof : List ℕ
-  pub asks : Asks run file proof text
+  pub asked : Command
+  pub asks : Asks run asked text
   pub decided : cnf (taken_in run Cnf) ≡ text
+
+-- More bytes of the proof were taken than are looked at, and no line that ends among these is bad.
+pub record IsLongProof (run : Run) : Type 0 where
+  pub problem : Formula
+  pub bytes : List ℕ
+  pub asked : AsksToJudge run problem bytes
+  pub judged : text_verdict problem.clauses bytes ≡ None
+  pub decided : text_verdict problem.clauses (taken_in run ProofIn) ≡ None
+  pub long : max_bytes < length (taken_in run ProofIn)
 
 -- Refusals: of words, or by help, only where they may mean that; of a text only where the format refuses it.
 pub record RefusalsAreDue (run : Run) : Type 0 where
   pub usage : run.status ≡ Usage → MayMean run.words Misuse
   pub help : run.status ≡ Help → MayMean run.words AsksHelp
   pub refused : (kind : CnfKind) (line : ℕ) → run.status ≡ CnfRefused kind line → IsTrue run.tells → IsRefusedBy run (refusal kind line)
-  pub too_long : (role : Role) → run.status ≡ TooLong role → (role ≡ Cnf) × (IsTrue run.tells → IsRefusedBy run overlong)
+  pub too_long : (role : Role) → run.status ≡ TooLong role
+      → ((role ≡ Cnf) × (IsTrue run.tells → IsRefusedBy run overlong)) ⊎ ((role ≡ ProofIn) × (IsTrue run.tells → IsLongProof run))
 
--- Faults: a read fault comes only where a read of the formula's file failed, a write fault only where the text was
--- accepted, or the words may ask for help, and a write or a flush of the proof or of standard output failed.
+-- the formula that is to be decided was accepted, or the proof was judged
+abbrev pub TextsAreRead : Run → Type 0
+TextsAreRead run = ((problem : Formula) × AsksFor run problem) ⊎ ((problem : Formula) × (bytes : List ℕ) × (judged : Verdict) × HasVerdict run problem bytes judged)
+
+-- Faults: a read fault comes only where a read of the formula's or the proof's file failed, a write fault only where
+-- all texts were read and accepted, or the words may ask for help, and a write or a flush of the proof or of standard
+-- output failed.
 pub record FaultsAreCounted (run : Run) : Type 0 where
-  pub read : run.status ≡ ReadFault → HasFault run Cnf
+  pub read : run.status ≡ ReadFault → HasFault run Cnf ⊎ HasFault run ProofIn
   pub write : run.status ≡ WriteFault → HasFault run ProofOut ⊎ HasFault run Out
-  pub accepted : run.status ≡ WriteFault → MayMean run.words AsksHelp ⊎ (IsTrue run.tells → (problem : Formula) × AsksFor run problem)
+  pub accepted : run.status ≡ WriteFault → MayMean run.words AsksHelp ⊎ (IsTrue run.tells → TextsAreRead run)
 
--- a true answer to the question that the words ask, after a flushed proof of whole lines
-pub record IsTrueAnswer (run : Run) (answer : Answer) : Type 0 where
-  pub problem : Formula
+-- what was found: the answer to a formula, or the verdict on a proof over one
+pub data Finding : Type 0 where
+  AnswerTo : Formula → Answer → Finding
+  VerdictOn : Formula → List ℕ → Verdict → Finding
+
+-- a true answer to the formula that the words ask for, after a flushed proof of whole lines
+pub record IsAnswerTo (run : Run) (problem : Formula) (answer : Answer) : Type 0 where
   pub asked : AsksFor run problem
   pub holds : Holds problem (written_in run ProofOut) answer
   pub proof : IsProof problem.clauses (written_in run ProofOut)
   pub flushed : (run.after ProofOut).flushed ≡ length (run.after ProofOut).written
+
+-- it is true, and is what the words ask for
+abbrev pub IsFound : Run → Finding → Type 0
+IsFound run (AnswerTo problem answer) = IsAnswerTo run problem answer
+IsFound run (VerdictOn problem bytes judged) = HasVerdict run problem bytes judged
+
+abbrev pub text_found : Finding → List ℕ
+text_found (AnswerTo problem answer) = answer_text problem.vars answer
+text_found (VerdictOn problem bytes judged) = verdict_text judged
+
+abbrev pub status_found : Finding → Status
+status_found (AnswerTo problem answer) = status_of answer
+status_found (VerdictOn problem bytes judged) = status_of_verdict judged
+
+-- a true answer to the question that the words ask, as far as it was written
+pub record IsTrueAnswer (run : Run) (finding : Finding) : Type 0 where
+  pub found : IsFound run finding
   pub rest : List ℕ
-  pub front : answer_text problem.vars answer ≡ written_in run Out ++ rest
+  pub front : text_found finding ≡ written_in run Out ++ rest
 
 -- a text of help, as far as it was written, for words that may ask for it
 pub record IsHelp (run : Run) : Type 0 where
@@ -131,8 +204,8 @@ pub record IsHelp (run : Run) : Type 0 where
 -- failed write.
 pub record OutputStands (run : Run) : Type 0 where
   pub grows : IsTrue run.tells → (run.after Out).written ≡ (run.before Out).written ++ written_in run Out
-  pub front : IsTrue run.tells → (written_in run Out ≡ []) ⊎ (((answer : Answer) × IsTrueAnswer run answer) ⊎ IsHelp run)
-  pub answered : IsTrue (is_answer run.status) → IsTrue run.tells → (answer : Answer) × (true_answer : IsTrueAnswer run answer) × (run.status ≡ status_of answer) × (true_answer.rest ≡ [])
+  pub front : IsTrue run.tells → (written_in run Out ≡ []) ⊎ (((finding : Finding) × IsTrueAnswer run finding) ⊎ IsHelp run)
+  pub answered : IsTrue (is_answer run.status) → IsTrue run.tells → (finding : Finding) × (true_answer : IsTrueAnswer run finding) × (run.status ≡ status_found finding) × (true_answer.rest ≡ [])
   pub helped : run.status ≡ Help → IsTrue run.tells → (help : IsHelp run) × (help.rest ≡ [])
   pub flushed : IsTrue (is_answer run.status) ⊎ (run.status ≡ Help) → IsTrue run.tells → (run.after Out).flushed ≡ length (run.after Out).written
   pub silent : IsFalse (is_answer run.status) → run.status ≢ Help → run.status ≢ WriteFault → IsTrue run.tells → written_in run Out ≡ []
@@ -149,11 +222,13 @@ pub record ProofStands (run : Run) : Type 0 where
   pub so_far : IsTrue run.tells → (written_in run ProofOut ≡ []) ⊎ ((problem : Formula) × AsksFor run problem × IsProofSoFar problem.clauses (written_in run ProofOut))
   pub whole : run.status ≢ WriteFault → IsTrue run.tells → (written_in run ProofOut ≡ []) ⊎ ((problem : Formula) × AsksFor run problem × IsProof problem.clauses (written_in run ProofOut))
 
--- a status with which a run ends before it creates a file
+-- a status with which a run ends that creates no file, or before it does
 abbrev pub ends_before_proof : Status → Bool
 ends_before_proof Sat = false
 ends_before_proof Unsat = false
 ends_before_proof (Unknown why) = false
+ends_before_proof Verified = true
+ends_before_proof (NotVerified line reason) = true
 ends_before_proof Help = true
 ends_before_proof Usage = true
 ends_before_proof (CnfRefused kind line) = true
@@ -164,14 +239,16 @@ ends_before_proof OutOfMemory = false
 
 -- the roles that have a name only where the words give it
 abbrev pub name_given : Role → Command → Option (List ℕ)
-name_given Cnf (Solve file proof) = Some file
-name_given Order (Solve file proof) = None
-name_given Schedule (Solve file proof) = None
+name_given Cnf asked = Some (formula_file asked)
+name_given Order asked = None
+name_given Schedule asked = None
 name_given ProofIn (Solve file proof) = None
+name_given ProofIn (Check file proof) = Some proof
 name_given ProofOut (Solve file proof) = Some proof
-name_given Made (Solve file proof) = None
-name_given Out (Solve file proof) = None
-name_given Err (Solve file proof) = None
+name_given ProofOut (Check file proof) = None
+name_given Made asked = None
+name_given Out asked = None
+name_given Err asked = None
 
 -- Names: a role has none, or the one that the words give it. Files: none changed but the proof's, which is created
 -- only once the formula was read.
@@ -187,15 +264,20 @@ pub record IsComplete (run : Run) : Type 0 where
   pub helped : CanOnlyMean run.words AsksHelp → (HasFault run Out → ⊥) → (run.status ≡ Help) ⊎ (run.status ≡ OutOfMemory)
   pub answers : (problem : Formula) → AsksFor run problem → IsTrue run.tells → (HasFault run Cnf → ⊥) → (HasFault run ProofOut → ⊥) → (HasFault run Out → ⊥)
       → IsTrue (is_answer run.status) ⊎ (run.status ≡ OutOfMemory)
-  pub refuses : (file proof : List ℕ) (kind : CnfKind) (line : ℕ) → Asks run file proof (refusal kind line) → IsTrue run.tells → (HasFault run Cnf → ⊥)
+  pub judges : (problem : Formula) (bytes : List ℕ) (judged : Verdict) → HasVerdict run problem bytes judged → IsTrue run.tells → (HasFault run Cnf → ⊥) → (HasFault run ProofIn → ⊥) → (HasFault run Out → ⊥)
+      → (run.status ≡ status_of_verdict judged) ⊎ (run.status ≡ OutOfMemory)
+  pub refuses : (asked : Command) (kind : CnfKind) (line : ℕ) → Asks run asked (refusal kind line) → IsTrue run.tells → (HasFault run Cnf → ⊥)
       → (run.status ≡ CnfRefused kind line) ⊎ (run.status ≡ OutOfMemory)
-  pub overlong : (file proof : List ℕ) → Asks run file proof overlong → IsTrue run.tells → (HasFault run Cnf → ⊥) → (run.status ≡ TooLong Cnf) ⊎ (run.status ≡ OutOfMemory)
+  pub overlong : (asked : Command) → Asks run asked overlong → IsTrue run.tells → (HasFault run Cnf → ⊥) → (run.status ≡ TooLong Cnf) ⊎ (run.status ≡ OutOfMemory)
+  pub long_proof : (problem : Formula) (bytes : List ℕ) → AsksToJudge run problem bytes → text_verdict problem.clauses bytes ≡ None → IsTrue run.tells → (HasFault run Cnf → ⊥) → (HasFault run ProofIn → ⊥)
+      → (run.status ≡ TooLong ProofIn) ⊎ (run.status ≡ OutOfMemory)
 
 -- All that the program promises of a run.
 pub record Promises (run : Run) : Type 0 where
   pub unsatisfiable : UnsatisfiableIsProved run
   pub satisfiable : SatisfiableIsTrue run
   pub undecided : LimitsAreReached run
+  pub verdict : VerdictIsTrue run
   pub refusals : RefusalsAreDue run
   pub faults : FaultsAreCounted run
   pub output : OutputStands run

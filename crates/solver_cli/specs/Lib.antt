@@ -4,6 +4,7 @@ pub mod Reading
 pub mod ErrorText
 pub mod ExitCode
 pub mod Answer
+pub mod Verdict
 pub mod Headline
 pub mod Phases
 pub mod Stages

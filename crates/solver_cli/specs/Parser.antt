@@ -14,6 +14,14 @@ proof_rule = record (new_rule (codes "proof")) { long = Some (codes "proof"); va
 abbrev pub solve_app : App
 solve_app = with_rule (with_rule (new_app (codes "solve")) file_rule) proof_rule
 
--- the program: one command after its name
+-- a proof's file, behind the formula's
+abbrev pub proof_file_rule : Rule
+proof_file_rule = record (new_rule (codes "PROOF")) { required = true }
+
+-- `check FILE PROOF`
+abbrev pub check_app : App
+check_app = with_rule (with_rule (new_app (codes "check")) file_rule) proof_file_rule
+
+-- the program: one of two commands after its name
 abbrev pub the_app : App
-the_app = with_subcommand (new_app (codes "bddsat")) solve_app.top
+the_app = with_subcommand (with_subcommand (new_app (codes "bddsat")) solve_app.top) check_app.top

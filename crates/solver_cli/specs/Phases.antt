@@ -6,11 +6,15 @@ use Rattle.host_io.specs.Channel.{Channel, Rose}
 use Rattle.host_io.specs.Files.{Files}
 use Rattle.text_scan.specs.Decides.{gained}
 use Rattle.dimacs_reader.specs.Cnf.{CnfText, formula, refusal, overlong, cnf}
+use Rattle.lrat_checker.specs.TextVerdict.{text_verdict, Answers}
+use Rattle.lrat_checker.specs.declared.verdict.Verdict.{Verdict}
+use Rattle.lrat_checker.specs.declared.verdict.CheckError.{CheckError}
+use Rattle.lrat_checker.specs.declared.verdict.CheckError.TheVariants.{ReadFault as CheckReadFault}
 use Rattle.solver_cli.specs.Answer.{Holds, IsProof, IsProofSoFar}
 use Rattle.solver_cli.specs.ErrorText.{error_text}
 use Rattle.solver_cli.specs.declared.answer.Answer.{Answer}
 use Rattle.solver_cli.specs.declared.status.Status.{Status}
-use Rattle.solver_cli.specs.declared.status.Status.TheVariants.{Sat, Unsat, Unknown, Help, Usage, CnfRefused, TooLong, ReadFault, WriteFault, OutOfMemory}
+use Rattle.solver_cli.specs.declared.status.Status.TheVariants.{Sat, Unsat, Unknown, Verified, NotVerified, Help, Usage, CnfRefused, TooLong, ReadFault, WriteFault, OutOfMemory}
 
 -- the answer of reading is what the text says; where it refuses, so do the bytes taken
 abbrev pub IsRead : Result Formula Status → CnfText → CnfText → Type 0
@@ -18,6 +22,8 @@ IsRead (Ok problem) whole taken = whole ≡ formula problem
 IsRead (Err Sat) whole taken = ⊥
 IsRead (Err Unsat) whole taken = ⊥
 IsRead (Err (Unknown why)) whole taken = ⊥
+IsRead (Err Verified) whole taken = ⊥
+IsRead (Err (NotVerified line reason)) whole taken = ⊥
 IsRead (Err Help) whole taken = ⊥
 IsRead (Err Usage) whole taken = ⊥
 IsRead (Err (CnfRefused kind line)) whole taken = (whole ≡ refusal kind line) × (taken ≡ refusal kind line)
@@ -31,6 +37,8 @@ abbrev pub IsReadStatus : Status → Type 0
 IsReadStatus Sat = ⊥
 IsReadStatus Unsat = ⊥
 IsReadStatus (Unknown why) = ⊥
+IsReadStatus Verified = ⊥
+IsReadStatus (NotVerified line reason) = ⊥
 IsReadStatus Help = ⊥
 IsReadStatus Usage = ⊥
 IsReadStatus (CnfRefused kind line) = ⊤
@@ -61,6 +69,28 @@ pub record TakesFormula (tells : Bool) (old new : Channel) (files : Files) (file
   pub name : (new.name ≡ Some file) ⊎ (new.name ≡ None)
   pub faults : old.faults ≤ new.faults
 
+-- The answer of the check is the verdict of the text in the opened proof's file, and already of the bytes taken.
+pub record ChecksProof (tells : Bool) (old new : Channel) (clauses : List (List ℤ)) (result : Result Verdict CheckError) : Type 0 where
+  pub judged : IsTrue tells → Answers result (text_verdict clauses old.left)
+  pub decided : IsTrue tells → Answers result (text_verdict clauses (gained old new))
+  pub fault : result ≡ Err CheckReadFault → Rose old.faults new.faults
+  pub name : new.name ≡ old.name
+  pub faults : old.faults ≤ new.faults
+
+-- what the file of this name holds was judged
+pub record JudgesText (files : Files) (file : List ℕ) (clauses : List (List ℤ)) (taken : List ℕ) (result : Result Verdict CheckError) : Type 0 where
+  pub bytes : List ℕ
+  pub stands : files file ≡ Some bytes
+  pub judged : Answers result (text_verdict clauses bytes)
+  pub decided : Answers result (text_verdict clauses taken)
+
+-- the proof's file was opened, and its text judged
+pub record JudgesProof (tells : Bool) (old new : Channel) (files : Files) (file : List ℕ) (clauses : List (List ℤ)) (result : Result Verdict CheckError) : Type 0 where
+  pub read : IsTrue tells → (result ≡ Err CheckReadFault) ⊎ JudgesText files file clauses (gained old new) result
+  pub fault : result ≡ Err CheckReadFault → Rose old.faults new.faults
+  pub name : (new.name ≡ Some file) ⊎ (new.name ≡ None)
+  pub faults : old.faults ≤ new.faults
+
 -- The proof so far, whatever formula it is of, once a call ended: whole lines, flushed where the call succeeded; a
 -- line that is cut short only after a failed write.
 pub record EndsProof (clauses : List (List ℤ)) (tells : Bool) (old new : Channel) (done faulted : Type 0) : Type 0 where
@@ -80,6 +110,8 @@ IsProofStatus (Ok x) = ⊤
 IsProofStatus (Err Sat) = ⊥
 IsProofStatus (Err Unsat) = ⊥
 IsProofStatus (Err (Unknown why)) = ⊥
+IsProofStatus (Err Verified) = ⊥
+IsProofStatus (Err (NotVerified line reason)) = ⊥
 IsProofStatus (Err Help) = ⊥
 IsProofStatus (Err Usage) = ⊥
 IsProofStatus (Err (CnfRefused kind line)) = ⊥

@@ -5,21 +5,18 @@ use Rattle.clap.specs.declared.error.ErrorKind.{ErrorKind}
 use Rattle.clap.specs.declared.error.ErrorKind.TheVariants as kind
 use Rattle.solver_cli.specs.declared.words.Asked.{Asked}
 use Rattle.solver_cli.specs.declared.words.Asked.TheVariants as asked
-use Rattle.solver_cli.specs.declared.words.SolveWords.{SolveWords}
 use Rattle.solver_cli.specs.declared.words.Refusal.{Refusal}
 use Rattle.solver_cli.specs.declared.words.Refusal.TheVariants as refusal
-use Rattle.solver_cli.specs.Command.{Command, Solve, AsksHelp, Misuse, MayMean, refusal_means}
+use Rattle.solver_cli.specs.Command.{Command, Solve, Check, AsksHelp, Misuse, MayMean, refusal_means}
 
 -- the text behind a reference that may be there
 abbrev pub text_of : Option (Bor (List ℕ)) → Option (List ℕ)
 text_of = option_map (λ s. s.now)
 
 -- the command with its values
-abbrev pub solve_of : SolveWords → Command
-solve_of files = Solve files.formula.now files.proof.now
-
 abbrev pub command_of : Asked → Command
-command_of (asked.Solve files) = solve_of files
+command_of (asked.Solve files) = Solve files.formula.now files.proof.now
+command_of (asked.Check files) = Check files.formula.now files.proof.now
 
 -- what a refusal of the parser is, by its kind
 abbrev pub IsRefusalOf : ErrorKind → Refusal → Type 0

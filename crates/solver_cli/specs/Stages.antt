@@ -1,26 +1,31 @@
--- How far a run came, over the three streams that it serves.
+-- How far a run came, over the four streams that it serves.
 use Rattle.std.specs.Prelude.{◌≡◌, ◌⊎◌, ℕ, Bool, List, Some, Result, Ok, Err, IsOk, IsErr, ⊤}
 use Rattle.cnf_base.specs.Formula.{Formula}
 use Rattle.host_io.specs.declared.role.Role.{Role}
-use Rattle.host_io.specs.declared.role.Role.TheVariants.{Cnf, ProofOut, Out}
+use Rattle.host_io.specs.declared.role.Role.TheVariants.{Cnf, ProofIn, ProofOut, Out}
 use Rattle.host_io.specs.declared.source.Failed.{Failed}
 use Rattle.host_io.specs.Channel.{Channel}
 use Rattle.host_io.specs.Files.{Files, Opens}
+use Rattle.lrat_checker.specs.declared.verdict.Verdict.{Verdict}
+use Rattle.lrat_checker.specs.declared.verdict.CheckError.{CheckError}
 use Rattle.solver_cli.specs.declared.answer.Answer.{Answer}
 use Rattle.solver_cli.specs.declared.status.Status.{Status}
 use Rattle.solver_cli.specs.declared.status.Status.TheVariants.{Help, Usage, WriteFault, OutOfMemory}
 use Rattle.solver_cli.specs.Answer.{answer_text, status_of}
-use Rattle.solver_cli.specs.Command.{Solve, AsksHelp, Misuse, MayMean, command}
-use Rattle.solver_cli.specs.Phases.{TakesFormula, WritesProof, PutsText}
+use Rattle.solver_cli.specs.Verdict.{verdict_text, status_of_verdict}
+use Rattle.solver_cli.specs.ExitCode.{status_of_check}
+use Rattle.solver_cli.specs.Command.{Solve, Check, AsksHelp, Misuse, MayMean, command}
+use Rattle.solver_cli.specs.Phases.{TakesFormula, JudgesProof, WritesProof, PutsText}
 
--- the formula's file, the proof and standard output
+-- the formula's file, the proof that is judged, the proof that is written, and standard output
 pub record Streams : Type 0 where
   pub cnf : Channel
+  pub judged : Channel
   pub proof : Channel
   pub out : Channel
 
 abbrev pub streams_of : (Role → Channel) → Streams
-streams_of channel = record { cnf = channel Cnf; proof = channel ProofOut; out = channel Out }
+streams_of channel = record { cnf = channel Cnf; judged = channel ProofIn; proof = channel ProofOut; out = channel Out }
 
 -- nothing was done for the words: they may be faulty, or memory ran out
 pub record Misused (words : List (List ℕ)) (old new : Streams) (status : Status) : Type 0 where
@@ -44,11 +49,13 @@ pub record Helped (tells : Bool) (words : List (List ℕ)) (old new : Streams) (
   pub due : MayMean words AsksHelp
   pub shows : ShowsHelp tells old.out new.out status
   pub cnf : new.cnf ≡ old.cnf
+  pub judged : new.judged ≡ old.judged
   pub proof : new.proof ≡ old.proof
 
 -- the formula was not taken
 pub record Untaken (tells : Bool) (old new : Streams) (files : Files) (file : List ℕ) (status : Status) : Type 0 where
   pub takes : TakesFormula tells old.cnf new.cnf files file (Err status)
+  pub judged : new.judged ≡ old.judged
   pub proof : new.proof ≡ old.proof
   pub out : new.out ≡ old.out
 
@@ -59,6 +66,7 @@ pub record Uncreated (tells : Bool) (old new : Streams) (files : Files) (file pr
   pub answer : Result ⊤ Failed
   pub failed : IsErr answer
   pub opens : Opens old.proof new.proof proof_file answer
+  pub judged : new.judged ≡ old.judged
   pub out : new.out ≡ old.out
   pub ends : status ≡ WriteFault
 
@@ -71,6 +79,7 @@ pub record Undecided (tells : Bool) (old new : Streams) (files : Files) (file pr
   pub done : IsOk created_answer
   pub opens : Opens old.proof created proof_file created_answer
   pub writes : WritesProof tells created new.proof problem (Err status)
+  pub judged : new.judged ≡ old.judged
   pub out : new.out ≡ old.out
 
 -- how printing an answer ends the run
@@ -88,6 +97,7 @@ pub record Answered (tells : Bool) (old new : Streams) (files : Files) (file pro
   pub opens : Opens old.proof created proof_file created_answer
   pub answer : Answer
   pub writes : WritesProof tells created new.proof problem (Ok answer)
+  pub judged : new.judged ≡ old.judged
   pub printed : Result ⊤ Status
   pub puts : PutsText tells old.out new.out (answer_text problem.vars answer) printed
   pub ends : status ≡ status_after answer printed
@@ -96,12 +106,49 @@ pub record Answered (tells : Bool) (old new : Streams) (files : Files) (file pro
 abbrev pub Came : Bool → Streams → Streams → Files → List ℕ → List ℕ → Status → Type 0
 Came tells old new files file proof status = Untaken tells old new files file status ⊎ (Uncreated tells old new files file proof status ⊎ (Undecided tells old new files file proof status ⊎ Answered tells old new files file proof status))
 
--- a command was tried
+-- the proof was not judged
+pub record Unjudged (tells : Bool) (old new : Streams) (files : Files) (file proof_file : List ℕ) (status : Status) : Type 0 where
+  pub problem : Formula
+  pub takes : TakesFormula tells old.cnf new.cnf files file (Ok problem)
+  pub error : CheckError
+  pub judges : JudgesProof tells old.judged new.judged files proof_file problem.clauses (Err error)
+  pub proof : new.proof ≡ old.proof
+  pub out : new.out ≡ old.out
+  pub ends : status ≡ status_of_check error
+
+-- how printing a verdict ends the run
+abbrev pub status_of_printed : Verdict → Result ⊤ Status → Status
+status_of_printed verdict (Ok x) = status_of_verdict verdict
+status_of_printed verdict (Err status) = status
+
+-- it was judged, and the verdict was printed or not
+pub record Judged (tells : Bool) (old new : Streams) (files : Files) (file proof_file : List ℕ) (status : Status) : Type 0 where
+  pub problem : Formula
+  pub takes : TakesFormula tells old.cnf new.cnf files file (Ok problem)
+  pub verdict : Verdict
+  pub judges : JudgesProof tells old.judged new.judged files proof_file problem.clauses (Ok verdict)
+  pub proof : new.proof ≡ old.proof
+  pub printed : Result ⊤ Status
+  pub puts : PutsText tells old.out new.out (verdict_text verdict) printed
+  pub ends : status ≡ status_of_printed verdict printed
+
+-- how far `check` came
+abbrev pub CameToCheck : Bool → Streams → Streams → Files → List ℕ → List ℕ → Status → Type 0
+CameToCheck tells old new files file proof status = Untaken tells old new files file status ⊎ (Unjudged tells old new files file proof status ⊎ Judged tells old new files file proof status)
+
+-- `solve` was tried
 pub record Tried (tells : Bool) (words : List (List ℕ)) (old new : Streams) (files : Files) (status : Status) : Type 0 where
   pub file : List ℕ
   pub proof : List ℕ
   pub asked : command words ≡ Some (Solve file proof)
   pub came : Came tells old new files file proof status
 
+-- `check` was tried
+pub record Checked (tells : Bool) (words : List (List ℕ)) (old new : Streams) (files : Files) (status : Status) : Type 0 where
+  pub file : List ℕ
+  pub proof : List ℕ
+  pub asked : command words ≡ Some (Check file proof)
+  pub came : CameToCheck tells old new files file proof status
+
 abbrev pub Stages : Bool → List (List ℕ) → Streams → Streams → Files → Status → Type 0
-Stages tells words old new files status = Misused words old new status ⊎ (Helped tells words old new status ⊎ Tried tells words old new files status)
+Stages tells words old new files status = Misused words old new status ⊎ (Helped tells words old new status ⊎ (Tried tells words old new files status ⊎ Checked tells words old new files status))

@@ -29,7 +29,12 @@ fn write_status<S: Sink>(sink: &mut S, status: Status) -> Result<(), Failed>
     ensures beside { S.beside sink.new ≡ S.beside sink.old }
 {
     match status {
-        Status::Sat | Status::Unsat | Status::Unknown(_) | Status::Help => Ok(()),
+        Status::Sat
+        | Status::Unsat
+        | Status::Unknown(_)
+        | Status::Verified
+        | Status::NotVerified(..)
+        | Status::Help => Ok(()),
         Status::Usage => write_all(sink, b"error: bad usage\n"),
         Status::CnfRefused(kind, line) => write_refused(sink, kind, line),
         Status::TooLong(role) => write_all(sink, too_long(role).as_bytes()),

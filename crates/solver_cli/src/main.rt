@@ -1,9 +1,12 @@
-//! `bddsat`: decides a CNF file and writes the proof of its answer.
+//! `bddsat`: decides a CNF file and writes the proof of its answer, and checks proofs.
 #![tactic(auto)]
 
 mod answer;
+#[cfg(test)]
+mod check_tests;
 mod complaint;
 mod formula;
+mod judgement;
 mod output;
 mod parser;
 mod proof;
@@ -11,6 +14,7 @@ mod run;
 mod status;
 #[cfg(test)]
 mod tests;
+mod verdict;
 #[cfg(test)]
 mod word_tests;
 mod words;

@@ -2,30 +2,34 @@
 ghost use Rattle.std.specs.Prelude.{◌≡◌, None, map, IsFalse, true};
 ghost use Rattle.std.specs.String.{string_bytes};
 ghost use Rattle.host_io.specs.declared.role.Role.{Role};
-ghost use Rattle.host_io.specs.declared.role.Role.TheVariants.{Cnf as CnfRole, ProofOut, Out};
+ghost use Rattle.host_io.specs.declared.role.Role.TheVariants.{Cnf as CnfRole, ProofIn, ProofOut, Out};
 ghost use Rattle.host_io.specs.Files.{FilesBut, Kept, same_role};
 ghost use Rattle.host_io.specs.Memory.{channel_of, files_of};
 ghost use Rattle.solver_cli.specs.Headline.{Promises};
-ghost use Rattle.solver_cli.specs.Stages.{Came, ShowsHelp, Stages, streams_of};
+ghost use Rattle.solver_cli.specs.Stages.{Came, CameToCheck, ShowsHelp, Stages, streams_of};
 
 use crate::complaint::complain;
 use crate::formula::take_formula;
+use crate::judgement::judge;
 use crate::output::{put_answer, put_text};
 use crate::proof::prove;
 use crate::status::Status;
-use crate::words::{Asked, Refusal, SolveWords, read_words};
+use crate::verdict::{put_verdict, verdict_status};
+use crate::words::{Asked, FileNames, Refusal, read_words};
 use host_io::{Host, MemoryHost, Role as HostRole};
+use lrat_checker::check_law;
 use lrat_rules::soundness_law;
 use std::alloc::Global;
 
 fn work<H: Host>(alloc: Global, words: &[String], host: &mut H) -> Status
     requires unnamed { (role : Role) → (H.channel host.old role).name ≡ None }
     ensures stages { Stages H.tells (map string_bytes words.now) (streams_of (H.channel host.old)) (streams_of (H.channel host.new)) (H.files host.old) result }
-    ensures others { (role : Role) → IsFalse (same_role role CnfRole) → IsFalse (same_role role ProofOut) → IsFalse (same_role role Out) → H.channel host.new role ≡ H.channel host.old role }
+    ensures others { (role : Role) → IsFalse (same_role role CnfRole) → IsFalse (same_role role ProofIn) → IsFalse (same_role role ProofOut) → IsFalse (same_role role Out) → H.channel host.new role ≡ H.channel host.old role }
     ensures files { FilesBut (H.channel host.new ProofOut).name (H.files host.old) (H.files host.new) }
 {
     match read_words(alloc, words) {
         Ok(Asked::Solve(files)) => solve(alloc, &files, host),
+        Ok(Asked::Check(files)) => check(alloc, &files, host),
         Err(Refusal::Help(text)) => show_help(&text, host),
         Err(Refusal::Usage) => Status::Usage,
         Err(Refusal::OutOfMemory) => Status::OutOfMemory,
@@ -44,7 +48,7 @@ fn show_help<H: Host>(text: &str, host: &mut H) -> Status
 }
 
 // Reads the formula, decides it, writes the proof and prints the answer.
-fn solve<H: Host>(alloc: Global, asked: &SolveWords<'_>, host: &mut H) -> Status
+fn solve<H: Host>(alloc: Global, asked: &FileNames<'_>, host: &mut H) -> Status
     requires unnamed { (role : Role) → (H.channel host.old role).name ≡ None }
     ensures came { Came H.tells (streams_of (H.channel host.old)) (streams_of (H.channel host.new)) (H.files host.old) asked.now.formula.now asked.now.proof.now result }
     ensures others { (role : Role) → IsFalse (same_role role CnfRole) → IsFalse (same_role role ProofOut) → IsFalse (same_role role Out) → H.channel host.new role ≡ H.channel host.old role }
@@ -67,8 +71,29 @@ fn solve<H: Host>(alloc: Global, asked: &SolveWords<'_>, host: &mut H) -> Status
     }
 }
 
-/// Does all that the program does: reads the words (the program's own name first), decides the formula, writes the
-/// proof, prints the answer or what went wrong, and says how the run ends.
+// Reads the formula, judges the proof over it and prints the verdict.
+fn check<H: Host>(alloc: Global, asked: &FileNames<'_>, host: &mut H) -> Status
+    requires unnamed { (role : Role) → (H.channel host.old role).name ≡ None }
+    ensures came { CameToCheck H.tells (streams_of (H.channel host.old)) (streams_of (H.channel host.new)) (H.files host.old) asked.now.formula.now asked.now.proof.now result }
+    ensures others { (role : Role) → IsFalse (same_role role CnfRole) → IsFalse (same_role role ProofIn) → IsFalse (same_role role Out) → H.channel host.new role ≡ H.channel host.old role }
+    ensures files { FilesBut None (H.files host.old) (H.files host.new) }
+{
+    let problem = match take_formula(alloc, host, asked.formula) {
+        Ok(problem) => problem,
+        Err(status) => return status,
+    };
+    let verdict = match judge(alloc, host, &problem, asked.proof) {
+        Ok(verdict) => verdict,
+        Err(error) => return Status::from(error),
+    };
+    match put_verdict(host, verdict) {
+        Ok(()) => verdict_status(verdict),
+        Err(unprinted) => unprinted,
+    }
+}
+
+/// Does all that the program does: reads the words (the program's own name first), decides the formula and writes the
+/// proof, or judges a proof, prints the answer or what went wrong, and says how the run ends.
 pub fn run<H: Host>(alloc: Global, words: &[String], host: &mut H) -> Status
     requires unnamed { (role : Role) → (H.channel host.old role).name ≡ None }
     ensures promises { Promises (record {
@@ -82,6 +107,7 @@ pub fn run<H: Host>(alloc: Global, words: &[String], host: &mut H) -> Status
     }) }
 {
     soundness_law();
+    check_law();
     let status = work(alloc, words, host);
     complain(host, status);
     status

@@ -4,6 +4,8 @@ ghost use Rattle.solver_cli.specs.ExitCode.{exit_code};
 
 use dimacs_reader::{CnfError, CnfKind};
 use host_io::Role;
+use lrat_checker::CheckError;
+use lrat_rules::Reason;
 
 /// Why a formula was left undecided.
 #[derive(Clone, Copy, Debug, PartialEq, Eq)]
@@ -21,6 +23,10 @@ pub enum Status {
     Unsat,
     /// The formula was left undecided.
     Unknown(Why),
+    /// The proof refutes the formula.
+    Verified,
+    /// It doesn't: the line that was refused, and why.
+    NotVerified(u64, Reason),
     /// The words ask for help, which was shown.
     Help,
     /// The words ask for nothing that the program does.
@@ -37,15 +43,16 @@ pub enum Status {
 }
 
 impl Status {
-    /// The exit code: 10, 20 and 0 as at SAT competitions, 0 for help too, 2 for a refused text, 3 to 6 for what
-    /// went wrong.
+    /// The exit code: 10, 20 and 0 as at SAT competitions, 0 for a verified proof and for help too, 1 for a proof
+    /// that isn't, 2 for a refused text, 3 to 6 for what went wrong.
     pub fn code(self) -> u8
         ensures { result ≡ exit_code self }
     {
         match self {
             Status::Sat => 10,
             Status::Unsat => 20,
-            Status::Unknown(_) | Status::Help => 0,
+            Status::Unknown(_) | Status::Verified | Status::Help => 0,
+            Status::NotVerified(..) => 1,
             Status::CnfRefused(..) | Status::TooLong(_) => 2,
             Status::ReadFault => 3,
             Status::WriteFault => 4,
@@ -66,6 +73,20 @@ impl From<CnfError> for Status {
             CnfError::ReadFault => Status::ReadFault,
             CnfError::TooLong => Status::TooLong(Role::Cnf),
             CnfError::OutOfMemory => Status::OutOfMemory,
+        }
+    }
+}
+
+impl From<CheckError> for Status {
+    ghost use Rattle.solver_cli.specs.ExitCode.{status_of_check};
+
+    ghost from_gives = { λ e status. status ≡ status_of_check e };
+
+    fn from(e: CheckError) -> Status {
+        match e {
+            CheckError::ReadFault => Status::ReadFault,
+            CheckError::TooLong => Status::TooLong(Role::ProofIn),
+            CheckError::OutOfMemory => Status::OutOfMemory,
         }
     }
 }

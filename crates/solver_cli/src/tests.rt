@@ -3,10 +3,12 @@ ghost use Rattle.std.specs.Prelude.{◌≡◌, IfOk};
 ghost use Rattle.host_io.specs.declared.role.Role.{Role};
 ghost use Rattle.host_io.specs.Memory.{channel_of, fresh};
 
+use crate::complaint::complain;
 use crate::run::run;
 use crate::status::{Status, Why};
 use dimacs_reader::CnfKind;
 use host_io::{FailingHost, MemoryHost, OutOfMemory, Role};
+use lrat_rules::Reason;
 use std::alloc::{AllocError, Global};
 use std::test::Fail;
 
@@ -267,15 +269,33 @@ fn exit_codes(rt: HostRuntime) -> Result<(), Fail> {
         (Status::Sat, 10),
         (Status::Unsat, 20),
         (Status::Unknown(Why::NodeLimit), 0),
+        (Status::Verified, 0),
+        (Status::NotVerified(7, Reason::Syntax), 1),
         (Status::Help, 0),
         (Status::CnfRefused(CnfKind::BadToken, 7), 2),
         (Status::TooLong(Role::Cnf), 2),
+        (Status::TooLong(Role::ProofIn), 2),
         (Status::ReadFault, 3),
         (Status::WriteFault, 4),
         (Status::OutOfMemory, 5),
         (Status::Usage, 6),
     ] {
         assert_eq!(rt; status.code(), code, "{status:?}");
+    }
+    Ok(())
+}
+
+/// Which text is too long.
+#[test]
+fn too_long(rt: HostRuntime) -> Result<(), Fail> {
+    let table: [(Role, &[u8]); 2] = [
+        (Role::Cnf, b"error: cnf too long\n"),
+        (Role::ProofIn, b"error: proof too long\n"),
+    ];
+    for (role, text) in table {
+        let mut host = MemoryHost::new(rt.alloc());
+        complain(&mut host, Status::TooLong(role));
+        assert_eq!(rt; host.output(Role::Err), text, "{role:?}");
     }
     Ok(())
 }

@@ -7,16 +7,19 @@ use crate::run::run;
 use crate::status::Status;
 use crate::words::gather;
 use host_io::{FailingHost, MemoryHost, OutOfMemory, Role};
+use lrat_rules::Reason;
 use std::alloc::{AllocError, Global};
 use std::test::Fail;
 
 const HELP: &str = "\
-Decides a CNF formula, and proves the answer.
+Decides a CNF formula and proves the answer, or checks a proof.
 
 Usage: bddsat solve FILE --proof P
+       bddsat check FILE PROOF
 
 Commands:
   solve  Decides FILE, and writes the proof to P where it is unsatisfiable
+  check  Judges the proof in PROOF that FILE is unsatisfiable
   help   Print this message or the help of the given subcommand(s)
 
 Options:
@@ -25,8 +28,11 @@ Options:
 Exit codes:
   10  solve: satisfiable; the values are on standard output
   20  solve: unsatisfiable; the proof is in P
-   0  solve: undecided, since a limit was reached; or help was shown
-   2  the formula's file is no CNF formula, or too large
+   0  solve: undecided, since a limit was reached
+   0  check: the proof is verified
+   1  check: the proof is not verified; the line and the reason are on standard output
+   0  help was shown
+   2  the formula's file is no CNF formula, or a file is too large
    3  a file couldn't be opened or read
    4  a file or standard output couldn't be written
    5  out of memory
@@ -34,6 +40,7 @@ Exit codes:
 
 Example:
   bddsat solve formula.cnf --proof formula.lrat
+  bddsat check formula.cnf formula.lrat
 ";
 
 const SOLVE_HELP: &str = "\
@@ -52,7 +59,23 @@ Example:
   bddsat solve formula.cnf --proof formula.lrat
 ";
 
-// A host that has a formula in `in.cnf`, in `-f` and under the empty name.
+const CHECK_HELP: &str = "\
+Judges the proof in PROOF that FILE is unsatisfiable
+
+Usage: bddsat check FILE PROOF
+
+Arguments:
+  <FILE>   The formula, in DIMACS CNF
+  <PROOF>  The proof, in LRAT
+
+Options:
+  -h, --help  Print help
+
+Example:
+  bddsat check formula.cnf formula.lrat
+";
+
+// A host that has a formula in `in.cnf`, in `-f` and under the empty name, and an empty file.
 fn host_of(alloc: Global) -> Result<MemoryHost, OutOfMemory>
     ensures { IfOk result (λ host. (role : Role) → channel_of host role ≡ fresh) }
 {
@@ -60,6 +83,7 @@ fn host_of(alloc: Global) -> Result<MemoryHost, OutOfMemory>
     host.add_file("in.cnf", b"p cnf 0 0\n")?;
     host.add_file("-f", b"p cnf 0 0\n")?;
     host.add_file("", b"p cnf 0 0\n")?;
+    host.add_file("empty", b"")?;
     Ok(host)
 }
 
@@ -103,10 +127,31 @@ fn taken(rt: HostRuntime) -> Result<(), Fail> {
     Ok(())
 }
 
+/// Commands that judge a proof.
+#[test]
+fn taken_to_check(rt: HostRuntime) -> Result<(), Fail> {
+    let table: [&[&str]; 4] = [
+        &["bddsat", "check", "in.cnf", "empty"],
+        &["bddsat", "check", "--", "in.cnf", "empty"],
+        &["bddsat", "check", "--", "-f", "empty"],
+        &["bddsat", "check", "", "empty"],
+    ];
+    for list in table {
+        let words = words_of(rt.alloc(), list)?;
+        let mut host = host_of(rt.alloc())?;
+        assert_eq!(rt;
+            run(rt.alloc(), &words, &mut host),
+            Status::NotVerified(1, Reason::NoEmptyClause),
+            "{list:?}"
+        );
+    }
+    Ok(())
+}
+
 /// Faulty words.
 #[test]
 fn misused(rt: HostRuntime) -> Result<(), Fail> {
-    let table: [&[&str]; 26] = [
+    let table: [&[&str]; 33] = [
         &[],
         &["bddsat"],
         &["bddsat", ""],
@@ -141,6 +186,13 @@ fn misused(rt: HostRuntime) -> Result<(), Fail> {
         &["bddsat", "--proof", "out", "solve", "in.cnf"],
         &["bddsat", "decide", "in.cnf", "--proof", "out"],
         &["bddsat", "solv", "in.cnf", "--proof", "out"],
+        &["bddsat", "check"],
+        &["bddsat", "check", "in.cnf"],
+        &["bddsat", "check", "in.cnf", "in.cnf"],
+        &["bddsat", "check", "in.cnf", "out", "more"],
+        &["bddsat", "check", "in.cnf", "--proof", "out"],
+        &["bddsat", "check", "in.cnf", "-f"],
+        &["bddsat", "in.cnf", "check", "out"],
         &["bddsat", "help", "decide"],
         &["bddsat", "--version"],
         &["bddsat", "-V"],
@@ -167,7 +219,7 @@ fn misused(rt: HostRuntime) -> Result<(), Fail> {
 /// Words that ask for help, wherever they do. No file is touched.
 #[test]
 fn helped(rt: HostRuntime) -> Result<(), Fail> {
-    let table: [(&[&str], &str); 11] = [
+    let table: [(&[&str], &str); 14] = [
         (&["bddsat", "--help"], HELP),
         (&["bddsat", "-h"], HELP),
         (&["bddsat", "-hx"], HELP),
@@ -182,6 +234,9 @@ fn helped(rt: HostRuntime) -> Result<(), Fail> {
             SOLVE_HELP,
         ),
         (&["bddsat", "solve", "--help", "in.cnf", "more"], SOLVE_HELP),
+        (&["bddsat", "check", "--help"], CHECK_HELP),
+        (&["bddsat", "check", "in.cnf", "-h"], CHECK_HELP),
+        (&["bddsat", "help", "check"], CHECK_HELP),
     ];
     for (list, text) in table {
         let words = words_of(rt.alloc(), list)?;

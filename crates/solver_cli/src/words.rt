@@ -1,12 +1,12 @@
 // The words of the command line: what the parser takes, and this program's own test of the names.
-ghost use Rattle.std.specs.Prelude.{◌≡◌, MatchOption, MatchResult, IfOk, IfErr, Some, map};
+ghost use Rattle.std.specs.Prelude.{◌≡◌, MatchOption, MatchResult, IfOk, IfErr, None, Some, map};
 ghost use Rattle.std.specs.String.{string_bytes};
 ghost use Rattle.std.specs.Iterator.{IsFinite};
 ghost use Rattle.std.specs.Iterator.Runs.{WholeRun};
 ghost use Rattle.clap.specs.Words.{found_of, kind_of, rows_of, subcommand_rows_of};
-ghost use Rattle.solver_cli.specs.Command.{Asks, Misuse, command, command_means, solve_means, taken_means};
+ghost use Rattle.solver_cli.specs.Command.{Asks, Misuse, command, command_means, taken_means, two_names};
 ghost use Rattle.solver_cli.specs.declared.status.Status.TheVariants.{OutOfMemory};
-ghost use Rattle.solver_cli.specs.Reading.{IsRefusal, IsRefusalOf, command_of, solve_of, text_of};
+ghost use Rattle.solver_cli.specs.Reading.{IsRefusal, IsRefusalOf, command_of, text_of};
 
 use crate::parser::parser;
 use crate::status::Status;
@@ -17,12 +17,15 @@ use std::alloc::Global;
 /// What the words ask for.
 #[derive(Drop)]
 pub enum Asked<'a> {
-    Solve(SolveWords<'a>),
+    /// To decide the formula, and to write the proof.
+    Solve(FileNames<'a>),
+    /// To judge the proof over the formula.
+    Check(FileNames<'a>),
 }
 
-/// The files that `solve` is given: the formula's, and the proof's.
+/// The files that a command is given: the formula's, and the proof's.
 #[derive(Drop)]
-pub struct SolveWords<'a> {
+pub struct FileNames<'a> {
     pub formula: &'a str,
     pub proof: &'a str,
 }
@@ -71,8 +74,13 @@ fn command_named<'a>(name: &str, values: &ArgMatches<'a>) -> Option<Asked<'a>>
         (λ asked. command_means name.now (rows_of (found_of values.now)) ≡ Asks (command_of asked)) }
 {
     if name == "solve" {
-        match solve_words(values.get_str("FILE"), values.get_str("proof")) {
+        match two_names(values.get_str("FILE"), values.get_str("proof")) {
             Some(files) => Some(Asked::Solve(files)),
+            None => None,
+        }
+    } else if name == "check" {
+        match two_names(values.get_str("FILE"), values.get_str("PROOF")) {
+            Some(files) => Some(Asked::Check(files)),
             None => None,
         }
     } else {
@@ -81,9 +89,9 @@ fn command_named<'a>(name: &str, values: &ArgMatches<'a>) -> Option<Asked<'a>>
 }
 
 // The two names, which have to differ.
-fn solve_words<'a>(formula: Option<&'a str>, proof: Option<&'a str>) -> Option<SolveWords<'a>>
-    ensures { MatchOption result (solve_means (text_of formula.entry) (text_of proof.entry) ≡ Misuse)
-        (λ files. solve_means (text_of formula.entry) (text_of proof.entry) ≡ Asks (solve_of files)) }
+fn two_names<'a>(formula: Option<&'a str>, proof: Option<&'a str>) -> Option<FileNames<'a>>
+    ensures { MatchOption result (two_names (text_of formula.entry) (text_of proof.entry) ≡ None)
+        (λ files. two_names (text_of formula.entry) (text_of proof.entry) ≡ Some (files.formula.now, files.proof.now)) }
 {
     let Some(formula) = formula else {
         return None;
@@ -94,7 +102,7 @@ fn solve_words<'a>(formula: Option<&'a str>, proof: Option<&'a str>) -> Option<S
     if formula == proof {
         None
     } else {
-        Some(SolveWords { formula, proof })
+        Some(FileNames { formula, proof })
     }
 }
 

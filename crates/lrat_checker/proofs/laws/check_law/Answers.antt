@@ -8,6 +8,7 @@ use Rattle.lrat_rules.specs.State.{start}
 use Rattle.lrat_rules.specs.Run.{verdict}
 use Rattle.lrat_checker.specs.TextVerdict.{max_bytes, steps_verdict, text_verdict, verdict_as}
 use Rattle.lrat_checker.proofs.Verdicts.{some_none, lines_verdict, verified_none, refused_some}
+use Rattle.lrat_checker.proofs.Overlong.{verified_fits}
 use Rattle.lrat_checker.proofs.laws.check_law.Goals as goal
 
 whole : ((limit : ℕ) (bytes : List ℕ) → length bytes ≤ limit → steps limit bytes ≡ lines_then (proof_lines bytes) (no_more (end_line bytes)))
@@ -25,7 +26,7 @@ pub returns-clause-same : goal.returns-clause-same
 returns-clause-same c = whole c.whole_text_law.ensures
 
 pub returns-clause-verified : goal.returns-clause-verified
-returns-clause-verified c = λ clauses bytes fits e. record { verified = verified_none (verdict clauses bytes) (sym (whole c.whole_text_law.ensures clauses bytes fits) ∙ e) }
+returns-clause-verified c = λ clauses bytes e. record { verified = verified_none (verdict clauses bytes) (sym (whole c.whole_text_law.ensures clauses bytes (verified_fits clauses bytes e)) ∙ e) }
 
 pub returns-clause-refutes : goal.returns-clause-refutes
 returns-clause-refutes c = λ clauses bytes fits refutes. whole c.whole_text_law.ensures clauses bytes fits ∙ ap (λ given. Some (verdict_as given)) refutes.verified

@@ -1,0 +1,69 @@
+-- How the calls of `check` make its stages.
+use Rattle.std.proofs.Common.{◌≡◌, ℕ, Bool, List, ℤ, refl, sym, ◌∙◌, subst, Some, None, Ok, Err, inl, inr}
+use Rattle.std.specs.Prelude.{Result, ⊤, Option}
+use Rattle.cnf_base.specs.Formula.{Formula}
+use Rattle.host_io.specs.declared.role.Role.{Role}
+use Rattle.host_io.specs.declared.role.Role.TheVariants.{Cnf, ProofIn, ProofOut, Out}
+use Rattle.host_io.specs.Channel.{Channel}
+use Rattle.host_io.specs.Files.{Files, FilesBut, Others}
+use Rattle.lrat_checker.specs.declared.verdict.Verdict.{Verdict}
+use Rattle.lrat_checker.specs.declared.verdict.CheckError.{CheckError}
+use Rattle.solver_cli.specs.declared.status.Status.{Status}
+use Rattle.solver_cli.specs.ExitCode.{status_of_check}
+use Rattle.solver_cli.specs.Verdict.{verdict_text}
+use Rattle.solver_cli.specs.Phases.{TakesFormula, JudgesProof, PutsText}
+use Rattle.solver_cli.specs.Stages.{streams_of, CameToCheck, status_of_printed}
+use Rattle.solver_cli.proofs.Staged.{still_taken, printed_from}
+
+-- the files are those before the formula was read
+judged_in : {tells : Bool} {old new : Channel} {file : List ℕ} {clauses : List (List ℤ)} {result : Result Verdict CheckError} (files before : Files) → FilesBut None before files
+    → JudgesProof tells old new files file clauses result → JudgesProof tells old new before file clauses result
+judged_in {file = file} files before same judges = record {
+  read = λ t. elim (judges.read t) [
+    | inl fault ↦ inl fault
+    | inr text ↦ inr (record { bytes = text.bytes; stands = sym (same file none_some) ∙ text.stands; judged = text.judged; decided = text.decided })
+  ];
+  fault = judges.fault;
+  name = judges.name;
+  faults = judges.faults;
+} where
+  none_some : {name : List ℕ} → ◌≡◌ {A = Option (List ℕ)} None (Some name) → ⊥
+  none_some e = cc
+
+-- and so are the channels
+judged_from : {tells : Bool} {start old new now : Channel} {files : Files} {file : List ℕ} {clauses : List (List ℤ)} {result : Result Verdict CheckError} → old ≡ start → now ≡ new
+    → JudgesProof tells old new files file clauses result → JudgesProof tells start now files file clauses result
+judged_from {tells = tells} {start = start} {new = new} {files = files} {file = file} {clauses = clauses} {result = result} from to judges =
+    subst (λ (c : Channel). JudgesProof tells start c files file clauses result) (sym to) (subst (λ (c : Channel). JudgesProof tells c new files file clauses result) from judges)
+
+pub unjudged : {tells : Bool} {file proof : List ℕ} {problem : Formula} {error : CheckError} {status : Status} (old taken new : Role → Channel) (before files : Files)
+    → TakesFormula tells (old Cnf) (taken Cnf) before file (Ok problem) → Others Cnf old taken → FilesBut None before files
+    → JudgesProof tells (taken ProofIn) (new ProofIn) files proof problem.clauses (Err error) → Others ProofIn taken new → status ≡ status_of_check error
+    → CameToCheck tells (streams_of old) (streams_of new) before file proof status
+unjudged {problem = problem} {error = error} old taken new before files takes beside_taken same judges beside_new ends =
+    inr (inl (record {
+      problem = problem;
+      takes = still_taken (beside_new Cnf refl) takes;
+      error = error;
+      judges = judged_from (beside_taken ProofIn refl) refl (judged_in files before same judges);
+      proof = beside_new ProofOut refl ∙ beside_taken ProofOut refl;
+      out = beside_new Out refl ∙ beside_taken Out refl;
+      ends = ends;
+    }))
+
+pub judged : {tells : Bool} {file proof : List ℕ} {problem : Formula} {verdict : Verdict} {printed : Result ⊤ Status} {status : Status} (old taken checked new : Role → Channel) (before files : Files)
+    → TakesFormula tells (old Cnf) (taken Cnf) before file (Ok problem) → Others Cnf old taken → FilesBut None before files
+    → JudgesProof tells (taken ProofIn) (checked ProofIn) files proof problem.clauses (Ok verdict) → Others ProofIn taken checked
+    → PutsText tells (checked Out) (new Out) (verdict_text verdict) printed → Others Out checked new → status ≡ status_of_printed verdict printed
+    → CameToCheck tells (streams_of old) (streams_of new) before file proof status
+judged {problem = problem} {verdict = verdict} {printed = printed} old taken checked new before files takes beside_taken same judges beside_checked puts beside_new ends =
+    inr (inr (record {
+      problem = problem;
+      takes = still_taken (beside_new Cnf refl ∙ beside_checked Cnf refl) takes;
+      verdict = verdict;
+      judges = judged_from (beside_taken ProofIn refl) (beside_new ProofIn refl) (judged_in files before same judges);
+      proof = beside_new ProofOut refl ∙ beside_checked ProofOut refl ∙ beside_taken ProofOut refl;
+      printed = printed;
+      puts = printed_from (beside_checked Out refl ∙ beside_taken Out refl) puts;
+      ends = ends;
+    }))
