@@ -1,0 +1,5 @@
+pub mod Keyed
+pub mod Looked
+pub mod Values
+pub mod Grown
+pub mod Pushed

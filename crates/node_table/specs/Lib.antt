@@ -1,0 +1,3 @@
+pub mod Diagram
+pub mod Value
+pub mod Stored

@@ -1,0 +1,8 @@
+//! Nodes of reduced ordered binary decision diagrams, hash-consed.
+#![tactic(auto)]
+
+mod diagram;
+mod node;
+
+pub use diagram::Diagram;
+pub use node::{Branch, Node, NodeKey};
