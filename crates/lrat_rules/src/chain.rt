@@ -116,8 +116,9 @@ impl Chain {
     }
 }
 
-// One pass: the first literal that isn't false is forced, unless another one follows.
-fn effect_on(literals: &[Lit], clause: &[Lit]) -> Effect
+/// The effect of a hint's clause where these literals are false. One pass: the first literal that isn't false is
+/// forced, unless another one follows.
+pub fn effect_on(literals: &[Lit], clause: &[Lit]) -> Effect
     ensures { result ≡ effect (literals_of literals.now) clause.now }
 {
     let mut forced: Option<Lit> = None;

@@ -9,7 +9,7 @@ mod laws;
 mod outcome;
 mod soundness;
 
-pub use chain::Chain;
+pub use chain::{Chain, effect_on};
 pub use examples::{refutation_example, resolvent_example};
 pub use laws::{
     conflict_law, definition_law, live_law, marks_law, one_more_step_law, refuted_law, start_law,

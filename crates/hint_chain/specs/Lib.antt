@@ -1,0 +1,6 @@
+pub mod Inline
+pub mod Atoms
+pub mod Greedy
+pub mod Closing
+pub mod Additions
+pub mod Units

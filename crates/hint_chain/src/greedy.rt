@@ -1,0 +1,82 @@
+// The greedy choice of hints for an addition that a few clauses refute: a clause that adds nothing is left out, and
+// the first conflict ends the list.
+ghost use Rattle.std.specs.Prelude.{◌≡◌, ◌≤◌, Some, length};
+ghost use Rattle.lrat_rules.specs.Chain.{literals_of};
+ghost use Rattle.hint_chain.specs.Greedy.{greedy, PartsClose};
+
+use crate::hints::Hints;
+use crate::inline::InlineLiterals;
+use crate::part::Part;
+use cnf_base::Lit;
+use lrat_rules::{Effect, effect_on};
+use std::alloc::Global;
+
+/// The hints for the addition of a conjunction on the variable's high side. Its parts are the clause from w's high
+/// child up to w, those from u and v down to their high children, and the children's own conjunction.
+pub fn and_high(alloc: Global, clause: &[Lit], parts: [Option<Part>; 4]) -> Hints
+    requires short { length clause.now ≤ 4 }
+    requires close { PartsClose (literals_of clause.now) parts }
+    ensures { greedy (literals_of clause.now) parts ≡ Some result }
+{
+    chosen(alloc, clause, &parts)
+}
+
+/// The hints for the addition of a conjunction: the high addition, and then the same parts of the low side.
+pub fn and_low(alloc: Global, clause: &[Lit], parts: [Option<Part>; 5]) -> Hints
+    requires short { length clause.now ≤ 4 }
+    requires close { PartsClose (literals_of clause.now) parts }
+    ensures { greedy (literals_of clause.now) parts ≡ Some result }
+{
+    chosen(alloc, clause, &parts)
+}
+
+/// The hints for the addition of an implication on the variable's high side. Its parts are the clause from u down to
+/// its high child, the one from v's high child up to v, and the children's own implication.
+pub fn imply_high(alloc: Global, clause: &[Lit], parts: [Option<Part>; 3]) -> Hints
+    requires short { length clause.now ≤ 4 }
+    requires close { PartsClose (literals_of clause.now) parts }
+    ensures { greedy (literals_of clause.now) parts ≡ Some result }
+{
+    chosen(alloc, clause, &parts)
+}
+
+/// The hints for the addition of an implication: the high addition, and then the same parts of the low side.
+pub fn imply_low(alloc: Global, clause: &[Lit], parts: [Option<Part>; 4]) -> Hints
+    requires short { length clause.now ≤ 4 }
+    requires close { PartsClose (literals_of clause.now) parts }
+    ensures { greedy (literals_of clause.now) parts ≡ Some result }
+{
+    chosen(alloc, clause, &parts)
+}
+
+// The greedy choice among the parts. That they close makes the two last answers impossible.
+fn chosen(alloc: Global, clause: &[Lit], parts: &[Option<Part>]) -> Hints
+    requires short { length clause.now ≤ 4 }
+    requires few { length parts.now ≤ 5 }
+    requires close { PartsClose (literals_of clause.now) parts.now }
+    ensures { greedy (literals_of clause.now) parts.now ≡ Some result }
+{
+    let mut hints = Hints::new(alloc);
+    let mut falses = InlineLiterals::<9>::from_slice(clause);
+    for place in parts {
+        let Some(part) = place else {
+            continue;
+        };
+        match effect_on(falses.as_slice(), part.clause()) {
+            Effect::Conflict => {
+                hints.push(part.id());
+                return hints;
+            }
+            Effect::Unit(literal) => {
+                let negated = literal.negated();
+                if falses.as_slice().contains(&negated) {
+                    continue;
+                }
+                hints.push(part.id());
+                falses.push(negated);
+            }
+            Effect::NotUnit => return hints,
+        }
+    }
+    hints
+}

@@ -1,0 +1,18 @@
+//! Hint lists that are strict refutations: for the defining clauses of a node, the unit of a clause's diagram, and the
+//! two additions of a conjunction or an implication. A list is chosen greedily among the clauses that may serve, and
+//! laws say that the choice closes, whatever constants occur. It stands on the rules of `lrat_rules`.
+#![tactic(auto)]
+
+mod atom;
+mod greedy;
+mod hints;
+mod inline;
+mod part;
+mod unit;
+
+pub use atom::{Atom, clause_of};
+pub use greedy::{and_high, and_low, imply_high, imply_low};
+pub use hints::Hints;
+pub use inline::{InlineLiterals, ShortClause};
+pub use part::Part;
+pub use unit::{UnitPart, unit_hints};
