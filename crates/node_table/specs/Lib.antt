@@ -1,3 +1,5 @@
 pub mod Diagram
 pub mod Value
 pub mod Stored
+pub mod Defined
+pub mod Tied

@@ -1,4 +1,5 @@
 // Nodes of diagrams, named by keys. (Bryant: Graph-Based Algorithms for Boolean Function Manipulation, 1986.)
+use cnf_base::Id;
 
 /// Names an inner node of a table.
 #[derive(Clone, Copy, Debug, PartialEq, Eq)]
@@ -13,6 +14,16 @@ pub enum Node {
     True,
     /// Decides by a variable.
     Inner(NodeKey),
+}
+
+/// The numbers of a node's defining clauses, where they exist: from the high and the low child up to the node, and from
+/// the node down to them.
+#[derive(Clone, Copy, Debug)]
+pub struct Defs {
+    pub hu: Option<Id>,
+    pub lu: Option<Id>,
+    pub hd: Option<Id>,
+    pub ld: Option<Id>,
 }
 
 /// What an inner node is: the place of its variable in the order, its children where that is true and where it is
