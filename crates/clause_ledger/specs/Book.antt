@@ -8,18 +8,20 @@ use Rattle.lrat_rules.specs.State.{State, state_code, clause_at, with_clause}
 use Rattle.lrat_rules.specs.Run.{Spells}
 use Rattle.lrat_write.specs.Emitted.{bare_groups}
 
--- its sink, its live clauses with the greatest number, the greatest number allowed, and whether no write failed yet
+-- its sink, its live clauses with the greatest number, the greatest number allowed, whether no write failed yet, and
+-- for how many more clauses of at most four literals it has room
 pub record Book (S : Type 0) : Type 0 where
   pub sink : S
   pub state : State
   pub limit : ℕ
   pub in_step : Bool
+  pub spare : ℕ
 
 -- a book can be a model's value: it is stored as its fields
 abbrev pub book_code : {S : Type 0} → Coded S → Coded (Book S)
 book_code {S} code =
-    code_by (S × (State × (ℕ × Bool))) (coded× code (coded× state_code (coded× coded_ℕ coded_bool))) (λ b. (b.sink, (b.state, (b.limit, b.in_step))))
-    (λ p. record { sink = p.0; state = p.1.0; limit = p.1.1.0; in_step = p.1.1.1 }) (λ _. refl)
+    code_by (S × (State × (ℕ × (Bool × ℕ)))) (coded× code (coded× state_code (coded× coded_ℕ (coded× coded_bool coded_ℕ)))) (λ b. (b.sink, (b.state, (b.limit, (b.in_step, b.spare)))))
+    (λ p. record { sink = p.0; state = p.1.0; limit = p.1.1.0; in_step = p.1.1.1.0; spare = p.1.1.1.1 }) (λ _. refl)
 
 -- The sink's bytes spell good steps from the formula's clauses to this state, in which these clauses stand under
 -- 1, 2, .. and no number is above the greatest.

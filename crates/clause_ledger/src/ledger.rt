@@ -35,9 +35,9 @@ impl<S: Sink + Drop> Model for Ledger<S> {
 
     ghost coded = { book_code S.code };
 
-    ghost view = { λ l. record { sink = l.sink; state = l.live; limit = l.max_ids; in_step = l.in_step } };
+    ghost view = { λ l. record { sink = l.sink; state = l.live.state; limit = l.max_ids; in_step = l.in_step; spare = l.live.spare } };
 
-    ghost invariant = { λ l. (l.max_ids ≤ max_id) × (l.live.top ≤ max_id) };
+    ghost invariant = { λ l. (l.max_ids ≤ max_id) × (l.live.state.top ≤ max_id) };
 }
 
 impl<S: Sink + Drop> Ledger<S> {
@@ -51,7 +51,7 @@ impl<S: Sink + Drop> Ledger<S> {
     ) -> Result<Ledger<S>, (S, OutOfMemory)>
         requires limit { max_ids ≤ max_id }
         requires fresh { IsTrue S.tells → (S.channel sink).written ≡ [] }
-        ensures opened { IfOk result (λ ledger. ledger ≡ record { sink = sink; state = start formula.now.clauses; limit = max_ids; in_step = true }) }
+        ensures opened { IfOk result (λ ledger. ledger ≡ record { sink = sink; state = start formula.now.clauses; limit = max_ids; in_step = true; spare = ledger.spare }) }
         ensures proof { IfOk result (λ ledger. IsProofOf formula.now.clauses S.tells (S.channel ledger.sink) ledger.state) }
         ensures refused { IfErr result (λ back. back.0 ≡ sink) }
     {
@@ -66,8 +66,8 @@ impl<S: Sink + Drop> Ledger<S> {
     /// A ledger over clauses that stand already, as `start_clauses` makes them.
     pub fn new(live: LiveClauses, sink: S, max_ids: u64) -> Self
         requires limit { max_ids ≤ max_id }
-        requires top { live.top ≤ max_id }
-        ensures { result ≡ record { sink = sink; state = live; limit = max_ids; in_step = true } }
+        requires top { live.state.top ≤ max_id }
+        ensures { result ≡ record { sink = sink; state = live.state; limit = max_ids; in_step = true; spare = live.spare } }
     {
         Ledger {
             sink,
@@ -92,6 +92,10 @@ impl<S: Sink + Drop> Ledger<S> {
         ensures id_limit { IsErrOf result LedgerError.IdLimit ↔ (self.old.limit ≤ self.old.state.top) }
         ensures limit_unchanged { IsErrOf result LedgerError.IdLimit → self.new ≡ self.old }
         ensures memory_unchanged { IsErrOf result LedgerError.OutOfMemory → self.new ≡ self.old }
+
+        // Short clauses use up the room that `reserve` made one by one, and find memory while there is some.
+        ensures memory { IsErrOf result LedgerError.OutOfMemory → length clause.now ≤ 4 → self.old.spare ≡ 0 }
+        ensures spare { length clause.now ≤ 4 → self.old.spare ≤ self.new.spare + 1 }
 
         // A failed write leaves the ledger out of step, behind its proof a front of one good line.
         ensures write_fault { IsErrOf result LedgerError.WriteFault
@@ -129,6 +133,8 @@ impl<S: Sink + Drop> Ledger<S> {
         ensures id_limit { IsErrOf result LedgerError.IdLimit ↔ (self.old.limit ≤ self.old.state.top) }
         ensures limit_unchanged { IsErrOf result LedgerError.IdLimit → self.new ≡ self.old }
         ensures memory_unchanged { IsErrOf result LedgerError.OutOfMemory → self.new ≡ self.old }
+        ensures memory { IsErrOf result LedgerError.OutOfMemory → length clause.now ≤ 4 → self.old.spare ≡ 0 }
+        ensures spare { length clause.now ≤ 4 → self.old.spare ≤ self.new.spare + 1 }
 
         ensures write_fault { IsErrOf result LedgerError.WriteFault
             → IsTorn S.tells (S.channel self.old.sink) (S.channel self.new.sink) (definition_line self.old.state clause.now candidates.now) }
@@ -150,6 +156,16 @@ impl<S: Sink + Drop> Ledger<S> {
         }
     }
 
+    /// Makes room for so many more clauses of at most four literals each: as many calls of `add` or `define` with such
+    /// clauses don't answer `OutOfMemory`. Room grows in steps, so that it may be asked for before every few clauses.
+    pub fn reserve(&mut self, n: usize) -> Result<(), OutOfMemory>
+        ensures room { OnOk result (n ≤ self.new.spare) }
+        ensures not_less { self.old.spare ≤ self.new.spare }
+        ensures unchanged { self.new ≡ record self.old { spare = self.new.spare } }
+    {
+        self.live.reserve(n)
+    }
+
     /// The clause of a number, where it is live.
     pub fn clause(&self, id: Id) -> Option<&[Lit]>
         ensures { option_copied result ≡ clause_at self.now.state.live id }
@@ -157,9 +173,10 @@ impl<S: Sink + Drop> Ledger<S> {
         self.live.get(id)
     }
 
-    /// The greatest number so far.
+    /// The greatest number so far; live clauses have the numbers from 1 up to it.
     pub fn last_id(&self) -> u64
-        ensures { result ≡ self.now.state.top }
+        ensures value { result ≡ self.now.state.top }
+        ensures numbers { (id : ℕ) (clause : List ℤ) → clause_at self.now.state.live id ≡ Some clause → (0 < id) × (id ≤ self.now.state.top) }
     {
         self.live.top()
     }
@@ -183,6 +200,7 @@ impl<S: Sink + Drop> Ledger<S> {
         requires { IsTrue self.old.in_step }
         ensures state { self.new.state ≡ self.old.state }
         ensures limit { self.new.limit ≡ self.old.limit }
+        ensures spare { self.new.spare ≡ self.old.spare }
         ensures in_step { self.new.in_step ≡ is_ok result }
         ensures written { (S.channel self.new.sink).written ≡ (S.channel self.old.sink).written }
         ensures flushed { IsTrue S.tells → OnOk result ((S.channel self.new.sink).flushed ≡ length (S.channel self.new.sink).written) }
@@ -202,10 +220,12 @@ impl<S: Sink + Drop> Ledger<S> {
 
     // Keeps a clause under the next number, before its line is written.
     fn keep(&mut self, clause: &[Lit]) -> Result<Id, LedgerError>
-        ensures kept { IfOk result (λ id. (id ≡ self.old.state.top + 1) × (self.new ≡ record self.old { state = with_next self.old.state clause.now })) }
+        ensures kept { IfOk result (λ id. (id ≡ self.old.state.top + 1) × (self.new ≡ record self.old { state = with_next self.old.state clause.now; spare = self.new.spare })) }
+        ensures spare { OnOk result (length clause.now ≤ 4 → self.old.spare ≤ self.new.spare + 1) }
         ensures id_limit { IsErrOf result LedgerError.IdLimit ↔ (self.old.limit ≤ self.old.state.top) }
         ensures refused { IfErr result (λ e. e ≢ LedgerError.WriteFault) }
         ensures unchanged { OnErr result (self.new ≡ self.old) }
+        ensures memory { IsErrOf result LedgerError.OutOfMemory → length clause.now ≤ 4 → self.old.spare ≡ 0 }
         ensures next { OnOk result (self.old.state.top + 1 ≤ max_id) }
         ensures numbers { (id : ℕ) (clause : List ℤ) → clause_at self.old.state.live id ≡ Some clause → (0 < id) × (id ≤ self.old.state.top) }
     {
@@ -242,7 +262,7 @@ impl<S: Sink + Drop> Ledger<S> {
 
 /// The clauses of a formula under 1, 2, ..
 pub fn start_clauses(alloc: Global, formula: &Cnf) -> Result<LiveClauses, OutOfMemory>
-    ensures { IfOk result (λ live. live ≡ start formula.now.clauses) }
+    ensures { IfOk result (λ live. live.state ≡ start formula.now.clauses) }
 {
     start_law();
     let mut live = LiveClauses::new(alloc);

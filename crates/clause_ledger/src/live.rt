@@ -3,8 +3,9 @@
 ghost use Rattle.std.specs.Prelude.{◌≡◌, ◌+◌, ◌-◌, ◌<◌, ◌≤◌, ℕ, ℤ, List, [], None, Some, OnOk, OnErr, ◌++◌, ◌∷◌, length, slice_range, slice_index};
 ghost use Rattle.std.specs.Option.{option_copied};
 ghost use Rattle.cnf_base.specs.Formula.{start_at};
-ghost use Rattle.clause_ledger.specs.Rows.{AreRows};
-ghost use Rattle.lrat_rules.specs.State.{State, start, clause_at, with_clause};
+ghost use Rattle.clause_ledger.specs.Book.{with_next};
+ghost use Rattle.clause_ledger.specs.Rows.{AreRows, Stored, spare_of};
+ghost use Rattle.lrat_rules.specs.State.{start, clause_at};
 
 use cnf_base::{Id, Lit, OutOfMemory};
 use lrat_rules::start_law;
@@ -21,21 +22,21 @@ pub struct LiveClauses {
 impl Model for LiveClauses {
     ghost use Rattle.std.specs.Prelude.{length};
     ghost use Rattle.cnf_base.specs.Formula.{cut_at};
-    ghost use Rattle.clause_ledger.specs.Rows.{AreRows};
-    ghost use Rattle.lrat_rules.specs.State.{State, state_code, start};
+    ghost use Rattle.clause_ledger.specs.Rows.{AreRows, Stored, stored_code, spare_of};
+    ghost use Rattle.lrat_rules.specs.State.{start};
 
-    ghost Value = { State };
+    ghost Value = { Stored };
 
-    ghost coded = { state_code };
+    ghost coded = { stored_code };
 
-    ghost view = { λ l. start (cut_at l.literals.items 0 l.ends.items) };
+    ghost view = { λ l. record { state = start (cut_at l.literals.items 0 l.ends.items); spare = spare_of l.literals l.ends } };
 
     ghost invariant = { λ l. AreRows (length l.literals.items) l.ends.items };
 }
 
 impl LiveClauses {
     pub fn new(alloc: Global) -> Self
-        ensures { result ≡ start [] }
+        ensures { result.state ≡ start [] }
     {
         LiveClauses {
             literals: Vec::new(alloc),
@@ -45,8 +46,8 @@ impl LiveClauses {
 
     /// The greatest number; live ones are from 1 up to it.
     pub fn top(&self) -> u64
-        ensures value { result ≡ self.now.top }
-        ensures numbers { (id : ℕ) (clause : List ℤ) → clause_at self.now.live id ≡ Some clause → (0 < id) × (id ≤ self.now.top) }
+        ensures value { result ≡ self.now.state.top }
+        ensures numbers { (id : ℕ) (clause : List ℤ) → clause_at self.now.state.live id ≡ Some clause → (0 < id) × (id ≤ self.now.state.top) }
     {
         start_law();
         self.ends.as_slice().len() as u64
@@ -54,17 +55,33 @@ impl LiveClauses {
 
     /// Adds a clause under the next number. A refusal changes nothing.
     pub fn push(&mut self, clause: &[Lit]) -> Result<(), OutOfMemory>
-        ensures ok { OnOk result (self.new ≡ record { live = with_clause self.old.live (self.old.top + 1) clause.now; top = self.old.top + 1 }) }
+        ensures ok { OnOk result (self.new.state ≡ with_next self.old.state clause.now) }
+        ensures spare { OnOk result (length clause.now ≤ 4 → self.old.spare ≤ self.new.spare + 1) }
         ensures err { OnErr result (self.new ≡ self.old) }
+        ensures full { OnErr result (length clause.now ≤ 4 → self.old.spare ≡ 0) }
     {
         start_law();
         push_row(&mut self.literals, &mut self.ends, clause)?;
         Ok(())
     }
 
+    /// Makes room for so many more clauses of at most four literals.
+    pub fn reserve(&mut self, clauses: usize) -> Result<(), OutOfMemory>
+        ensures state { self.new.state ≡ self.old.state }
+        ensures ok { OnOk result (clauses ≤ self.new.spare) }
+        ensures spare { self.old.spare ≤ self.new.spare }
+    {
+        let Some(literals) = clauses.checked_mul(4) else {
+            return Err(OutOfMemory);
+        };
+        self.literals.reserve(literals)?;
+        self.ends.reserve(clauses)?;
+        Ok(())
+    }
+
     /// The clause of a number, where it is live.
     pub fn get(&self, id: Id) -> Option<&[Lit]>
-        ensures { option_copied result ≡ clause_at self.now.live id }
+        ensures { option_copied result ≡ clause_at self.now.state.live id }
     {
         start_law();
         let ends = self.ends.as_slice();
@@ -76,17 +93,18 @@ impl LiveClauses {
     }
 }
 
+// The room is made before the first change, so that a refusal leaves all as it was, the room for short clauses too.
 fn push_row(literals: &mut Vec<Lit>, ends: &mut Vec<u64>, clause: &[Lit]) -> Result<(), OutOfMemory>
     ensures ok { OnOk result ((literals.new.items ≡ literals.old.items ++ clause.now) × (ends.new.items ≡ ends.old.items ++ length (literals.old.items ++ clause.now) ∷ [])) }
+    ensures spare { OnOk result (length clause.now ≤ 4 → spare_of literals.old ends.old ≤ spare_of literals.new ends.new + 1) }
     ensures err { OnErr result ((literals.new.items ≡ literals.old.items) × (ends.new.items ≡ ends.old.items)) }
+    ensures err_spare { OnErr result (spare_of literals.new ends.new ≡ spare_of literals.old ends.old) }
+    ensures full { OnErr result (length clause.now ≤ 4 → spare_of literals.old ends.old ≡ 0) }
 {
-    let count = literals.as_slice().len();
+    literals.reserve(clause.len())?;
+    ends.reserve(1)?;
     literals.extend_from_slice(clause)?;
-    let end = literals.as_slice().len() as u64;
-    if ends.push(end).is_err() {
-        literals.truncate(count);
-        return Err(OutOfMemory);
-    }
+    ends.push_reserved(literals.as_slice().len() as u64);
     Ok(())
 }
 

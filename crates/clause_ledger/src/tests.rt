@@ -1,7 +1,7 @@
 // What no clause shows: that calls succeed where there is memory, and the bytes of a proof.
-ghost use Rattle.std.specs.Prelude.{◌≡◌, ◌≤◌, pos, negsuc, [], ◌∷◌, true, None, IfOk, IsTrue};
+ghost use Rattle.std.specs.Prelude.{◌≡◌, ◌≢◌, ◌<◌, ◌≤◌, ◌+◌, pos, negsuc, [], ◌∷◌, length, true, None, Some, IfOk, IfErr, OnOk, IsTrue};
 ghost use Rattle.cnf_base.specs.ProofText.{max_id};
-ghost use Rattle.lrat_rules.specs.State.{start};
+ghost use Rattle.lrat_rules.specs.State.{start, clause_at};
 
 use crate::{Ledger, LedgerError};
 use cnf_base::{Cnf, CnfBuilder, Id, Lit, OutOfMemory};
@@ -90,7 +90,7 @@ fn open<S: Sink + Drop>(
 ) -> Result<Ledger<S>, OutOfMemory>
     requires limit { max_ids ≤ max_id }
     requires fresh { IsTrue S.tells → (S.channel sink).written ≡ [] }
-    ensures { IfOk result (λ ledger. ledger ≡ record { sink = sink; state = start formula.now.clauses; limit = max_ids; in_step = true }) }
+    ensures { IfOk result (λ ledger. ledger ≡ record { sink = sink; state = start formula.now.clauses; limit = max_ids; in_step = true; spare = ledger.spare }) }
 {
     match Ledger::open(alloc, formula, sink, max_ids) {
         Ok(ledger) => Ok(ledger),
@@ -235,6 +235,68 @@ fn definitions(rt: HostRuntime) -> Result<(), Fail> {
     assert_eq!(rt;
         sink.bytes.as_slice(),
         b"2 3 -2 0 0\n3 -3 2 0 -2 0\n".as_slice()
+    );
+    Ok(())
+}
+
+// Adds a short clause for which there is room, with the empty clause 1 as its hint: memory isn't wanting.
+fn add_short<S: Sink + Drop>(ledger: &mut Ledger<S>, clause: &[Lit]) -> Result<Id, LedgerError>
+    requires in_step { IsTrue ledger.old.in_step }
+    requires one { clause_at ledger.old.state.live 1 ≡ Some [] }
+    requires top { 1 ≤ ledger.old.state.top }
+    requires short { length clause.now ≤ 4 }
+    requires room { 0 < ledger.old.spare }
+    ensures memory { IfErr result (λ e. e ≢ LedgerError.OutOfMemory) }
+    ensures in_step { OnOk result (IsTrue ledger.new.in_step) }
+    ensures one { OnOk result (clause_at ledger.new.state.live 1 ≡ Some []) }
+    ensures top { OnOk result (1 ≤ ledger.new.state.top) }
+    ensures spare { ledger.old.spare ≤ ledger.new.spare + 1 }
+{
+    conflict_law();
+    live_law();
+    ledger.add(clause, &[Id(1)])
+}
+
+// Adds four short clauses for which there is room.
+fn add_four<S: Sink + Drop>(ledger: &mut Ledger<S>, literals: &[Lit]) -> Result<(), LedgerError>
+    requires in_step { IsTrue ledger.old.in_step }
+    requires one { clause_at ledger.old.state.live 1 ≡ Some [] }
+    requires top { 1 ≤ ledger.old.state.top }
+    requires four { length literals.now ≡ 4 }
+    requires room { 4 ≤ ledger.old.spare }
+    ensures memory { IfErr result (λ e. e ≢ LedgerError.OutOfMemory) }
+{
+    add_short(ledger, literals)?;
+    add_short(ledger, &literals[1..])?;
+    add_short(ledger, literals)?;
+    add_short(ledger, &[])?;
+    Ok(())
+}
+
+/// Room for four clauses, and four of at most four literals.
+#[test]
+fn reserved_room(rt: HostRuntime) -> Result<(), Fail> {
+    start_law();
+    let literals = [literal(1)?, literal(-2)?, literal(3)?, literal(-4)?];
+    let formula = empty_clause(rt.alloc())?;
+    let sink = FailingSink::new(rt.alloc(), 4);
+    let mut ledger = open(rt.alloc(), &formula, sink, 5)?;
+    ledger.reserve(4)?;
+    assert_eq!(rt;
+        (ledger.last_id(), ledger.ids_left(), ledger.is_in_step()),
+        (1, 4, true)
+    );
+    add_four(&mut ledger, &literals)?;
+    assert_eq!(rt; ledger.clause(Id(2)), Some(&literals[..]));
+    assert_eq!(rt; ledger.reserve(usize::MAX), Err(OutOfMemory));
+    assert_eq!(rt;
+        (ledger.last_id(), ledger.clause(Id(5))),
+        (5, Some(&[][..]))
+    );
+    let sink = ledger.close();
+    assert_eq!(rt;
+        sink.bytes.as_slice(),
+        b"2 1 -2 3 -4 0 1 0\n3 -2 3 -4 0 1 0\n4 1 -2 3 -4 0 1 0\n5 0 1 0\n".as_slice()
     );
     Ok(())
 }

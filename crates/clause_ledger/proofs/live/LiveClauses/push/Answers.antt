@@ -1,6 +1,8 @@
-use Rattle.std.proofs.Common.{◌+◌, ◌∙◌, ap}
+use Rattle.std.proofs.Common.{◌∙◌, ap}
 use Rattle.cnf_base.specs.Formula.{cut_at}
-use Rattle.lrat_rules.specs.State.{State, start, with_clause}
+use Rattle.lrat_rules.specs.State.{start}
+use Rattle.clause_ledger.specs.Book.{with_next}
+use Rattle.clause_ledger.specs.Rows.{Stored}
 use Rattle.clause_ledger.proofs.Rows.{AreRows-push, cut_at-push}
 use Rattle.clause_ledger.proofs.live.LiveClauses.push.Goals as goal
 
@@ -14,4 +16,4 @@ returns-clause-ok c =
     (λ i. start (cut_at (c.in_ok-push_row.ensures.ok.0 i) 0 (c.in_ok-push_row.ensures.ok.1 i)))
     ∙ ap start (cut_at-push c.self.inside.literals.items c.args.clause.now c.self.inside.ends.items c.self.invariant)
     ∙ c.start_law.ensures.appended clauses c.args.clause.now
-    ∙ ap (λ (s : State). record { live = with_clause s.live (s.top + 1) c.args.clause.now; top = s.top + 1 }) c.self.view_is
+    ∙ ap (λ (s : Stored). with_next s.state c.args.clause.now) c.self.view_is
