@@ -3,3 +3,5 @@ pub mod Looked
 pub mod Values
 pub mod Grown
 pub mod Pushed
+pub mod Canonical
+pub mod Kept

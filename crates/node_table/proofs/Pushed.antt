@@ -12,7 +12,7 @@ use Rattle.node_table.proofs.Grown.{IsReduced-joined, joined_cases}
 pub unused_next : (order : List ℕ) (branches : List Branch) → branch_at (graph_of order branches) (length branches) ≡ None
 unused_next order branches = branch_at-graph_of order branches (length branches) ∙ slice_get_past branches (length branches) (omega arith)
 
-stored_within : (order : List ℕ) (branches : List Branch) (key : ℕ) (b : Branch) → branch_at (graph_of order branches) key ≡ Some b → key < length branches
+pub stored_within : (order : List ℕ) (branches : List Branch) (key : ℕ) (b : Branch) → branch_at (graph_of order branches) key ≡ Some b → key < length branches
 stored_within order branches key b is = slice_get_within branches key b (sym (branch_at-graph_of order branches key) ∙ is)
 
 pub IsStored-push : (order places : List ℕ) (branches : List Branch) (branch : Branch) → IsStored order places branches → map.len (graph_of order branches).nodes < 100000000

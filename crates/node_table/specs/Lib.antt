@@ -3,3 +3,5 @@ pub mod Value
 pub mod Stored
 pub mod Defined
 pub mod Tied
+pub mod Errors
+pub mod Table

@@ -45,12 +45,10 @@ pub fn write_definitions<S: Sink + Drop>(
 {
     let not_u = u.negated();
     let not_x = x.negated();
-    let hu = write_one(ledger, &[Atom::Of(u), Atom::Of(not_x), high.negated()], &[])?;
-    let lu = write_one(ledger, &[Atom::Of(u), Atom::Of(x), low.negated()], &[])?;
-    let (ids, count) = candidates(hu, lu);
-    let ups = &ids[..count];
-    write_one(ledger, &[Atom::Of(not_u), Atom::Of(not_x), *high], ups)?;
-    write_one(ledger, &[Atom::Of(not_u), Atom::Of(x), *low], ups)?;
+    write_one(ledger, &[Atom::Of(u), Atom::Of(not_x), high.negated()], &[])?;
+    write_one(ledger, &[Atom::Of(u), Atom::Of(x), low.negated()], &[])?;
+    write_one(ledger, &[Atom::Of(not_u), Atom::Of(not_x), *high], &[])?;
+    write_one(ledger, &[Atom::Of(not_u), Atom::Of(x), *low], &[])?;
     Ok(())
 }
 

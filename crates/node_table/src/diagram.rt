@@ -1,16 +1,18 @@
 // The nodes of a table, in the order in which they were made; a node is found by a search from the front. A slab with
 // an index from triples to keys may take their place under the same contracts.
-ghost use Rattle.std.specs.Prelude.{◌≡◌, ◌≢◌, ◌↔◌, ◌+◌, ◌<◌, ◌≤◌, ℕ, None, Some, IfOk, OnOk, OnErr, MatchOption, length, IsTrue, IsFalse, is_some, slice_index_or};
+ghost use Rattle.std.specs.Prelude.{◌≡◌, ◌≢◌, ◌↔◌, ◌+◌, ◌<◌, ◌≤◌, ℕ, pos, None, Some, IfOk, OnOk, OnErr, MatchOption, length, IsTrue, IsFalse, is_some, slice_index_or};
 ghost use Rattle.std.specs.Option.{option_copied};
 ghost use Rattle.std.specs.FinMap as map;
 ghost use Rattle.cnf_base.specs.Truth.{assignment_of};
 ghost use Rattle.node_table.specs.Diagram.{Graph, IsOrder, IsReduced, IsBelow, FitsIn, IsNew, next_variable, branch_at, branch_of, is_node, levels, variable_at, with_branch};
 ghost use Rattle.node_table.specs.Value.{value_of, by_level, IsChosen};
 ghost use Rattle.node_table.specs.Stored.{graph_of, ArePlaces};
+ghost use Rattle.node_table.specs.Defined.{atom_of, atom_in};
 ghost use Rattle.node_table.specs.declared.node.Branch.{Branch as BranchValue};
 
 use crate::node::{Branch, Node, NodeKey};
-use cnf_base::OutOfMemory;
+use cnf_base::{Lit, OutOfMemory};
+use hint_chain::Atom;
 use std::alloc::Global;
 use std::marker::Model;
 
@@ -78,6 +80,47 @@ impl Diagram {
             return None;
         }
         places.get(variable as usize - 1).copied()
+    }
+
+    /// The variable of a level.
+    pub fn variable(&self, level: u32) -> u32
+        requires { level < levels self.now }
+        ensures value { result ≡ variable_at self.now level }
+        ensures range { (0 < result) × (result ≤ levels self.now) × (levels self.now ≤ 1000000) }
+    {
+        self.order.as_slice()[level as usize]
+    }
+
+    /// The extension variable of the next node.
+    pub fn next_variable(&self) -> u32
+        ensures value { result ≡ next_variable self.now }
+        ensures range { (levels self.now < result) × (result ≤ 101000001) }
+        ensures own { (key : ℕ) (branch : BranchValue) → branch_at self.now key ≡ Some branch → branch.variable < result }
+    {
+        let levels = self.order.as_slice().len() as u32;
+        levels + 1 + self.branches.as_slice().len() as u32
+    }
+
+    /// What a node puts into a clause.
+    pub fn atom(&self, node: Node) -> Atom
+        ensures { result ≡ atom_of self.now node }
+    {
+        match node {
+            Node::False => Atom::Never,
+            Node::True => Atom::Always,
+            Node::Inner(_) => self.inner_atom(node),
+        }
+    }
+
+    // The literal of an inner node, and nothing for a name that isn't in use.
+    fn inner_atom(&self, node: Node) -> Atom
+        ensures { result ≡ atom_in (branch_of self.now node) }
+    {
+        let _ = &self.order;
+        match self.branch(node) {
+            None => Atom::Never,
+            Some(branch) => Atom::Of(positive(branch.variable)),
+        }
     }
 
     /// How many inner nodes there are.
@@ -152,6 +195,20 @@ impl Diagram {
             Some(branch.low)
         }
     }
+}
+
+/// The literal of a variable.
+pub fn positive(variable: u32) -> Lit
+    requires { (0 < variable) × (variable ≤ 2147483647) }
+    ensures { result ≡ pos variable }
+{
+    Lit::new(variable as i32).unwrap()
+}
+
+pub fn same_node(one: Node, other: Node) -> bool
+    ensures { IsTrue result ↔ (one ≡ other) }
+{
+    one == other
 }
 
 fn is_alike(branch: &Branch, level: u32, high: Node, low: Node) -> bool

@@ -3,7 +3,13 @@
 
 mod define;
 mod diagram;
+mod error;
+mod laws;
 mod node;
+mod table;
 
 pub use diagram::Diagram;
+pub use error::TableError;
+pub use laws::{canonical_law, cofactor_law, growth_law};
 pub use node::{Branch, Defs, Node, NodeKey};
+pub use table::Table;
