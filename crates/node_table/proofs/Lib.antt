@@ -5,3 +5,5 @@ pub mod Grown
 pub mod Pushed
 pub mod Canonical
 pub mod Kept
+pub mod Stands
+pub mod Made
