@@ -21,6 +21,9 @@ abbrev pub atom_in : Option Branch → Atom
 atom_in None = Never
 atom_in (Some branch) = Of (pos branch.variable)
 
+abbrev pub literal_of_branch : Branch → ℤ
+literal_of_branch branch = pos branch.variable
+
 abbrev pub atom_of : Graph → Node → Atom
 atom_of graph False = Never
 atom_of graph True = Always

@@ -13,7 +13,8 @@ ghost use Rattle.node_table.specs.declared.node.Node.TheVariants.{Inner};
 ghost use Rattle.node_table.specs.declared.error.TableError.TheVariants.{NodeLimit, IdLimit, WriteFault};
 ghost use Rattle.node_table.specs.Diagram.{Graph, IsOrder, IsBelow, branch_at, branch_of, is_node, levels, variable_at};
 ghost use Rattle.node_table.specs.Value.{value_of, by_level};
-ghost use Rattle.node_table.specs.Defined.{IsDefined, atom_of, defs_of, definition_count, definition_lines};
+ghost use Rattle.node_table.specs.Defined.{IsDefined, atom_of, defs_of, definition_count, definition_lines, is_false_node, is_true_node, literal_of_branch};
+ghost use Rattle.cnf_base.specs.ProofText.{given_if};
 ghost use Rattle.node_table.specs.Tied.{IsTied, IsOverNodes, Extends};
 ghost use Rattle.node_table.specs.Table.{TableState, HasChildren, IsMissing, IsWanted, IsMade, IsSame, UnlessTorn, live_nodes, node_definitions};
 
@@ -116,6 +117,117 @@ impl<S: Sink + Drop> Table<S> {
         self.make(level, high, low)
     }
 
+    /// Adds a clause over the formula's variables and those of live nodes, with a strict refutation as its hints.
+    pub fn justify(&mut self, clause: &[Lit], hints: &[Id]) -> Result<Id, TableError>
+        requires in_step { IsTrue self.old.book.in_step }
+        requires tied { IsTied self.old.graph self.old.book.state }
+        requires strict { RefutesStrictly self.old.book.state.live clause.now hints.now }
+        requires over_nodes { IsOverNodes self.old.graph clause.now }
+        ensures added { IfOk result (λ id. (id ≡ self.old.book.state.top + 1) × (self.new.book.state ≡ with_next self.old.book.state clause.now)) }
+        ensures nodes { self.new.graph ≡ self.old.graph }
+        ensures tied { UnlessTorn result (IsTied self.new.graph self.new.book.state) }
+        ensures extends { UnlessTorn result (Extends self.old.graph self.new.graph self.old.book.state self.new.book.state) }
+        // The number limit comes first; it and want of memory change nothing.
+        ensures id_limit { (result ≡ Err IdLimit) ↔ (self.old.book.limit ≤ self.old.book.state.top) }
+        ensures no_node_limit { result ≢ Err NodeLimit }
+        ensures refused { IfErr result (λ e. e ≢ WriteFault → IsSame self.old self.new) }
+        // The proof.
+        ensures line { IsTrue S.tells → OnOk result ((S.channel self.new.book.sink).written ≡ (S.channel self.old.book.sink).written ++ next_line self.old.book.state clause.now hints.now) }
+        ensures kept { (clauses : List (List ℤ)) → IsProofOf clauses S.tells (S.channel self.old.book.sink) self.old.book.state
+            → UnlessTorn result (IsProofOf clauses S.tells (S.channel self.new.book.sink) self.new.book.state) }
+        ensures write_fault { result ≡ Err WriteFault → IsTorn S.tells (S.channel self.old.book.sink) (S.channel self.new.book.sink)
+            (next_line self.old.book.state clause.now hints.now) }
+        ensures cut { (clauses : List (List ℤ)) → IsProofOf clauses S.tells (S.channel self.old.book.sink) self.old.book.state → IsTrue S.tells
+            → result ≡ Err WriteFault → IsCutProof clauses (S.channel self.new.book.sink).written }
+        ensures in_step { UnlessTorn result (IsTrue self.new.book.in_step) }
+        ensures limits { (self.new.max_nodes ≡ self.old.max_nodes) × (self.new.book.limit ≡ self.old.book.limit) }
+        ensures only_writes { OnlyWrites (S.channel self.old.book.sink) (S.channel self.new.book.sink) }
+        ensures beside { S.beside self.new.book.sink ≡ S.beside self.old.book.sink }
+    {
+        match self.ledger.add(clause, hints) {
+            Ok(id) => Ok(id),
+            Err(e) => Err(TableError::from(e)),
+        }
+    }
+
+    /// The level of an inner node and its children; None for a constant.
+    pub fn parts(&self, node: Node) -> Option<(u32, Node, Node)>
+        ensures { MatchOption result (branch_of self.now.graph node ≡ None)
+            (λ parts. (branch : BranchValue) × (branch_of self.now.graph node ≡ Some branch) × (parts.0 ≡ branch.level) × (parts.1 ≡ branch.high) × (parts.2 ≡ branch.low)) }
+    {
+        match self.diagram.branch(node) {
+            None => None,
+            Some(branch) => Some((branch.level, branch.high, branch.low)),
+        }
+    }
+
+    /// What a node puts into a clause.
+    pub fn atom(&self, node: Node) -> Atom
+        ensures { result ≡ atom_of self.now.graph node }
+    {
+        self.diagram.atom(node)
+    }
+
+    /// The literal of an inner node's extension variable; None for a constant.
+    pub fn literal(&self, node: Node) -> Option<Lit>
+        ensures { result ≡ option_map literal_of_branch (branch_of self.now.graph node) }
+    {
+        match self.diagram.atom(node) {
+            Atom::Of(literal) => Some(literal),
+            Atom::Always | Atom::Never => None,
+        }
+    }
+
+    /// The numbers of a node's defining clauses; None for a constant.
+    pub fn definitions(&self, node: Node) -> Option<Defs>
+        ensures { result ≡ option_map defs_of (branch_of self.now.graph node) }
+    {
+        match self.diagram.branch(node) {
+            None => None,
+            Some(branch) => Some(defs_of(branch)),
+        }
+    }
+
+    /// The function of a node under an assignment of all variables, the first being that of variable 1.
+    pub fn value(&self, node: Node, values: &[bool]) -> bool
+        requires { IsTrue (is_node self.now.graph node) }
+        ensures { result ≡ value_of self.now.graph (by_level self.now.graph.order (assignment_of values.now)) node }
+    {
+        self.diagram.value(node, values)
+    }
+
+    /// The place of a variable in the order, from 0; None where it is none of the variables.
+    pub fn level(&self, variable: u32) -> Option<u32>
+        ensures { MatchOption result ((level : ℕ) → level < levels self.now.graph → variable_at self.now.graph level ≢ variable)
+            (λ level. (level < levels self.now.graph) × (variable_at self.now.graph level ≡ variable)) }
+    {
+        self.diagram.level(variable)
+    }
+
+    /// The variables, the top one first.
+    pub fn order(&self) -> &[u32]
+        ensures { result.now ≡ self.now.graph.order }
+    {
+        self.diagram.order()
+    }
+
+    pub fn ledger(&self) -> &Ledger<S>
+        ensures { result.now ≡ self.now.book }
+    {
+        &self.ledger
+    }
+
+    pub fn into_ledger(self) -> Ledger<S>
+        ensures { result ≡ self.book }
+    {
+        let Table {
+            diagram: _,
+            ledger,
+            max_nodes: _,
+        } = self;
+        ledger
+    }
+
     // Makes a node that is wanted.
     fn make(&mut self, level: u32, high: Node, low: Node) -> Result<Node, TableError>
         requires in_step { IsTrue self.old.book.in_step }
@@ -174,4 +286,42 @@ fn definition_count(high: Node, low: Node) -> u64
         (Node::Inner(_), _) | (_, Node::Inner(_)) => 3,
         _ => 2,
     }
+}
+
+// The numbers of a node's clauses, which are consecutive.
+fn defs_of(branch: &Branch) -> Defs
+    requires { branch.now.first ≤ 2000000000000000000 }
+    ensures { result ≡ defs_of branch.now }
+{
+    let up_high = !is_false(branch.high);
+    let up_low = !is_false(branch.low);
+    let down_high = !is_true(branch.high);
+    let down_low = !is_true(branch.low);
+    let lu = branch.first + u64::from(up_high);
+    let hd = lu + u64::from(up_low);
+    let ld = hd + u64::from(down_high);
+    Defs {
+        hu: id_if(up_high, branch.first),
+        lu: id_if(up_low, lu),
+        hd: id_if(down_high, hd),
+        ld: id_if(down_low, ld),
+    }
+}
+
+fn id_if(given: bool, number: u64) -> Option<Id>
+    ensures { result ≡ given_if given number }
+{
+    if given { Some(Id(number)) } else { None }
+}
+
+fn is_false(node: Node) -> bool
+    ensures { result ≡ is_false_node node }
+{
+    matches!(node, Node::False)
+}
+
+fn is_true(node: Node) -> bool
+    ensures { result ≡ is_true_node node }
+{
+    matches!(node, Node::True)
 }
