@@ -7,3 +7,8 @@ pub mod Canonical
 pub mod Kept
 pub mod Stands
 pub mod Made
+pub mod DefineClauses
+pub mod DefineHolders
+pub mod DefineGood
+pub mod DefineSteps
+pub mod DefineStands
