@@ -176,8 +176,10 @@ impl<S: Sink + Drop> Ledger<S> {
     /// The greatest number so far; live clauses have the numbers from 1 up to it.
     pub fn last_id(&self) -> u64
         ensures value { result ≡ self.now.state.top }
+        ensures range { result ≤ max_id }
         ensures numbers { (id : ℕ) (clause : List ℤ) → clause_at self.now.state.live id ≡ Some clause → (0 < id) × (id ≤ self.now.state.top) }
     {
+        let _ = self.max_ids;
         self.live.top()
     }
 

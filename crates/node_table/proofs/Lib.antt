@@ -11,4 +11,7 @@ pub mod DefineClauses
 pub mod DefineHolders
 pub mod DefineGood
 pub mod DefineSteps
-pub mod DefineStands
+pub mod Justified
+pub mod Fresh
+pub mod HasChildren
+pub mod Outcome

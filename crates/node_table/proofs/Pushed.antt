@@ -3,9 +3,10 @@ use Rattle.std.proofs.Common.{◌≡◌, ℕ, ◌+◌, ◌<◌, ◌≤◌, List,
 use Rattle.std.specs.FinMap as map
 use Rattle.std.specs.List.{slice_get}
 use Rattle.std.proofs.lemmas.Option.{slice_get_past, slice_get_within}
+use Rattle.cnf_base.specs.ProofText.{max_id}
 use Rattle.node_table.specs.declared.node.Branch.{Branch}
 use Rattle.node_table.specs.Diagram.{Graph, IsReduced, FitsIn, IsNew, branch_at, levels, with_branch, next_variable}
-use Rattle.node_table.specs.Stored.{graph_of, IsStored, AreNumbered}
+use Rattle.node_table.specs.Stored.{graph_of, IsStored, AreNumbered, HaveFirsts}
 use Rattle.node_table.proofs.Keyed.{branch_at-graph_of, len-keyed, graph_of-push}
 use Rattle.node_table.proofs.Grown.{IsReduced-joined, joined_cases}
 
@@ -16,8 +17,8 @@ pub stored_within : (order : List ℕ) (branches : List Branch) (key : ℕ) (b :
 stored_within order branches key b is = slice_get_within branches key b (sym (branch_at-graph_of order branches key) ∙ is)
 
 pub IsStored-push : (order places : List ℕ) (branches : List Branch) (branch : Branch) → IsStored order places branches → map.len (graph_of order branches).nodes < 100000000
-    → FitsIn (graph_of order branches) branch → branch.variable ≡ next_variable (graph_of order branches) → IsStored order places (branches ++ branch ∷ [])
-IsStored-push order places branches branch stored few fits next =
+    → FitsIn (graph_of order branches) branch → branch.variable ≡ next_variable (graph_of order branches) → branch.first ≤ max_id + 1 → IsStored order places (branches ++ branch ∷ [])
+IsStored-push order places branches branch stored few fits next first =
     let graph = graph_of order branches in
     let key = length branches in
     let count : map.len graph.nodes ≡ length branches = len-keyed 0 branches in
@@ -36,6 +37,12 @@ IsStored-push order places branches branch stored few fits next =
         variable = λ other b is. elim (joined_cases graph key branch other b is) [
           | inl here ↦ ap (λ (x : Branch). x.variable) here.1 ∙ variable ∙ ap (λ (n : ℕ). levels graph + 1 + n) (sym here.0)
           | inr there ↦ stored.numbered.variable other b there
+        ];
+      });
+      firsts = subst HaveFirsts (sym grown) (record {
+        within = λ other b is. elim (joined_cases graph key branch other b is) [
+          | inl here ↦ subst (λ (x : Branch). x.first ≤ max_id + 1) (sym here.1) first
+          | inr there ↦ stored.firsts.within other b there
         ];
       });
     }

@@ -39,7 +39,7 @@ at_other : (state : State) (clause : List ℤ) (id : ℕ) → (id ≡ state.top 
 at_other state clause id differ = clause_at-next state clause id ∙ ap (λ b. cond b (Some clause) (clause_at state.live id)) (ne_eqb id (state.top + 1) differ)
 
 -- a live clause is the new one, or was live before
-next_cases : (state : State) (clause : List ℤ) (id : ℕ) (found : List ℤ) → clause_at (with_next state clause).live id ≡ Some found
+pub next_cases : (state : State) (clause : List ℤ) (id : ℕ) (found : List ℤ) → clause_at (with_next state clause).live id ≡ Some found
     → ((id ≡ state.top + 1) × (found ≡ clause)) ⊎ (clause_at state.live id ≡ Some found)
 next_cases state clause id found is =
     elim (cases_eq id (state.top + 1)) [
@@ -51,14 +51,14 @@ is_some-of : (o : Option (List ℤ)) → is_some o ≡ true → (clause : List �
 is_some-of None is = absurd (let e : false ≡ true = is in cc)
 is_some-of (Some clause) is = (clause, refl)
 
-Grows-none : (state : State) → AreNumbers state → Grows state state
+pub Grows-none : (state : State) → AreNumbers state → Grows state state
 Grows-none state numbers = record {
   clauses = λ id clause is. is;
   gives = record { no_less = omega arith; next = λ id is. inl is; each = λ id above within. absurd (omega (arith, above, within)) };
   numbers = numbers;
 }
 
-Grows-next : (state : State) (clause : List ℤ) → AreNumbers state → Grows state (with_next state clause)
+pub Grows-next : (state : State) (clause : List ℤ) → AreNumbers state → Grows state (with_next state clause)
 Grows-next state clause numbers = record {
   clauses = λ id found is. at_other state clause id (λ same. omega (arith, same, (numbers id found is).1)) ∙ is;
   gives = record {

@@ -1,6 +1,7 @@
 -- How the nodes of a table are stored: in the order in which they were made.
 use Rattle.std.specs.Prelude.{◌≡◌, ◌<◌, ◌≤◌, ◌+◌, ◌-◌, ℕ, List, [], ◌∷◌, length, slice_index_or, Option, Some}
 use Rattle.std.specs.FinMap as map
+use Rattle.cnf_base.specs.ProofText.{max_id}
 use Rattle.node_table.specs.declared.node.Branch.{Branch}
 use Rattle.node_table.specs.Diagram.{Graph, IsOrder, IsReduced, branch_at, levels}
 
@@ -21,6 +22,10 @@ pub record ArePlaces (order places : List ℕ) : Type 0 where
 pub record AreNumbered (graph : Graph) : Type 0 where
   pub variable : (key : ℕ) (branch : Branch) → branch_at graph key ≡ Some branch → branch.variable ≡ levels graph + 1 + key
 
+-- the numbers of defining clauses are within those of proofs
+pub record HaveFirsts (graph : Graph) : Type 0 where
+  pub within : (key : ℕ) (branch : Branch) → branch_at graph key ≡ Some branch → branch.first ≤ max_id + 1
+
 -- The stored nodes are a reduced graph over an order, within the limits of variables and nodes.
 pub record IsStored (order places : List ℕ) (branches : List Branch) : Type 0 where
   pub ordered : IsOrder order
@@ -29,3 +34,4 @@ pub record IsStored (order places : List ℕ) (branches : List Branch) : Type 0 
   pub inverse : ArePlaces order places
   pub reduced : IsReduced (graph_of order branches)
   pub numbered : AreNumbered (graph_of order branches)
+  pub firsts : HaveFirsts (graph_of order branches)

@@ -1,9 +1,10 @@
 // The nodes of a table, in the order in which they were made; a node is found by a search from the front. A slab with
 // an index from triples to keys may take their place under the same contracts.
-ghost use Rattle.std.specs.Prelude.{◌≡◌, ◌≢◌, ◌↔◌, ◌+◌, ◌<◌, ◌≤◌, ℕ, pos, None, Some, IfOk, OnOk, OnErr, MatchOption, length, IsTrue, IsFalse, is_some, slice_index_or};
+ghost use Rattle.std.specs.Prelude.{◌≡◌, ◌≢◌, ◌↔◌, ◌+◌, ◌<◌, ◌≤◌, ℕ, pos, None, Some, IfOk, IfSome, OnOk, OnErr, MatchOption, length, IsTrue, IsFalse, is_some, slice_index_or};
 ghost use Rattle.std.specs.Option.{option_copied};
 ghost use Rattle.std.specs.FinMap as map;
 ghost use Rattle.cnf_base.specs.Truth.{assignment_of};
+ghost use Rattle.cnf_base.specs.ProofText.{max_id};
 ghost use Rattle.node_table.specs.Diagram.{Graph, IsOrder, IsReduced, IsBelow, FitsIn, IsNew, next_variable, branch_at, branch_of, is_node, levels, variable_at, with_branch};
 ghost use Rattle.node_table.specs.Value.{value_of, by_level, IsChosen};
 ghost use Rattle.node_table.specs.Stored.{graph_of, ArePlaces};
@@ -59,6 +60,7 @@ impl Diagram {
         ensures reduced { IsReduced self.now }
         ensures ordered { IsOrder self.now.order }
         ensures few_levels { levels self.now ≤ 1000000 }
+        ensures next { (key : ℕ) (branch : BranchValue) → branch_at self.now key ≡ Some branch → branch.variable < next_variable self.now }
     {
         let _ = &self.order;
     }
@@ -132,7 +134,8 @@ impl Diagram {
 
     /// The inner node of this name; None for a constant.
     pub fn branch(&self, node: Node) -> Option<&Branch>
-        ensures { option_copied result ≡ branch_of self.now node }
+        ensures branch { option_copied result ≡ branch_of self.now node }
+        ensures first { IfSome result (λ branch. branch.now.first ≤ max_id + 1) }
     {
         match node {
             Node::False | Node::True => None,
@@ -160,6 +163,7 @@ impl Diagram {
         requires few { map.len self.old.nodes < 100000000 }
         requires fits { FitsIn self.old branch }
         requires next { branch.variable ≡ next_variable self.old }
+        requires first { branch.first ≤ max_id + 1 }
         ensures ok { IfOk result (λ key. IsNew self.old self.new key.index branch) }
         ensures err { OnErr result (self.new ≡ self.old) }
     {

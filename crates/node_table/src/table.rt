@@ -14,7 +14,7 @@ ghost use Rattle.node_table.specs.declared.error.TableError.TheVariants.{NodeLim
 ghost use Rattle.node_table.specs.Diagram.{Graph, IsOrder, IsBelow, branch_at, branch_of, is_node, levels, variable_at};
 ghost use Rattle.node_table.specs.Value.{value_of, by_level};
 ghost use Rattle.node_table.specs.Defined.{IsDefined, atom_of, defs_of, definition_count, definition_lines, is_false_node, is_true_node, literal_of_branch};
-ghost use Rattle.cnf_base.specs.ProofText.{given_if};
+ghost use Rattle.cnf_base.specs.ProofText.{given_if, max_id};
 ghost use Rattle.node_table.specs.Tied.{IsTied, IsOverNodes, Extends};
 ghost use Rattle.node_table.specs.Table.{TableState, HasChildren, IsMissing, IsWanted, IsMade, IsSame, UnlessTorn, live_nodes, node_definitions};
 
@@ -108,6 +108,7 @@ impl<S: Sink + Drop> Table<S> {
         ensures only_writes { OnlyWrites (S.channel self.old.book.sink) (S.channel self.new.book.sink) }
         ensures beside { S.beside self.new.book.sink ≡ S.beside self.old.book.sink }
     {
+        self.diagram.is_reduced();
         if same_node(high, low) {
             return Ok(high);
         }
@@ -290,7 +291,7 @@ fn definition_count(high: Node, low: Node) -> u64
 
 // The numbers of a node's clauses, which are consecutive.
 fn defs_of(branch: &Branch) -> Defs
-    requires { branch.now.first ≤ 2000000000000000000 }
+    requires { branch.now.first ≤ max_id + 1 }
     ensures { result ≡ defs_of branch.now }
 {
     let up_high = !is_false(branch.high);

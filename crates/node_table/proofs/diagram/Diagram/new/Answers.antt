@@ -25,6 +25,7 @@ empty_is_stored order places is_order few are_places = record {
     apart = λ key other one two is also same. absurd (nothing_at order key one is);
   };
   numbered = record { variable = λ key branch is. absurd (nothing_at order key branch is) };
+  firsts = record { within = λ key branch is. absurd (nothing_at order key branch is) };
 }
 
 pub invariant_of-result : goal.invariant_of-result

@@ -15,7 +15,7 @@ invariant_of-self-2 c =
     (IsStored-push inside.order.items inside.places.items inside.branches.items c.args.branch c.self.invariant
     (subst (λ (g : Graph). map.len g.nodes < 100000000) old c.requires.few)
     (subst (λ (g : Graph). FitsIn g c.args.branch) old c.requires.fits)
-    (subst (λ (g : Graph). c.args.branch.variable ≡ next_variable g) old c.requires.next))
+    (subst (λ (g : Graph). c.args.branch.variable ≡ next_variable g) old c.requires.next) c.requires.first)
 
 pub returns-clause-ok : goal.returns-clause-ok
 returns-clause-ok c =
