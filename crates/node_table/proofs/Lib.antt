@@ -15,3 +15,4 @@ pub mod Justified
 pub mod Fresh
 pub mod HasChildren
 pub mod Outcome
+pub mod Opened

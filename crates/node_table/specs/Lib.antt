@@ -5,3 +5,4 @@ pub mod Defined
 pub mod Tied
 pub mod Errors
 pub mod Table
+pub mod Just

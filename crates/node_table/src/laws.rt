@@ -1,8 +1,14 @@
 // Laws of diagrams, over everything: functions without work, whose clauses the crates above cite by a call.
-ghost use Rattle.std.specs.Prelude.{◌≡◌, ◌≤◌, ◌<◌, ℕ, IsTrue, if◌then◌else◌};
+ghost use Rattle.std.specs.Prelude.{◌≡◌, ◌≤◌, ◌<◌, ℕ, ℤ, List, length, IsTrue, if◌then◌else◌};
+ghost use Rattle.std.specs.FinMap as map;
+ghost use Rattle.cnf_base.specs.Truth.{AreClausesOf};
+ghost use Rattle.lrat_rules.specs.State.{start};
+ghost use Rattle.node_table.specs.Tied.{IsTied};
 ghost use Rattle.node_table.specs.declared.node.Node.{Node as NodeValue};
-ghost use Rattle.node_table.specs.Diagram.{Graph, IsReduced, IsBelow, KeepsNodes, is_node, levels, level_of, high_at, low_at};
+ghost use Rattle.node_table.specs.Diagram.{Graph, IsReduced, IsBelow, KeepsNodes, IsOrder, is_node, levels, level_of, high_at, low_at};
 ghost use Rattle.node_table.specs.Value.{Levels, value_of};
+
+use lrat_rules::start_law;
 
 /// Two nodes of equal value under every assignment are the same node. (Bryant 1986, theorem 1.)
 pub fn canonical_law()
@@ -31,3 +37,11 @@ pub fn cofactor_law()
     ensures below { (graph : Graph) → IsReduced graph → (a b : Levels) (node : NodeValue) → IsTrue (is_node graph node) → ((i : ℕ) → level_of graph node ≤ i → a i ≡ b i)
         → value_of graph a node ≡ value_of graph b node }
 {}
+
+/// A table without nodes is tied to the formula's clauses.
+pub fn opening_law()
+    ensures { (order : List ℕ) (clauses : List (List ℤ)) → IsOrder order → AreClausesOf (length order) clauses
+        → IsTied (record { order = order; nodes = map.empty }) (start clauses) }
+{
+    start_law();
+}

@@ -36,3 +36,11 @@ pub struct Branch {
     pub low: Node,
     pub first: u64,
 }
+
+/// Why a clause over nodes holds: it is true by itself, since it has both signs of a variable or a true constant, or
+/// it is the live clause of this number.
+#[derive(Clone, Copy, Debug)]
+pub enum Just {
+    Trivial,
+    Clause(Id),
+}

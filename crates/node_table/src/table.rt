@@ -51,6 +51,26 @@ impl<S: Sink + Drop> Model for Table<S> {
 }
 
 impl<S: Sink + Drop> Table<S> {
+    /// Opens a table without nodes over a ledger and the variables 1, 2, .. in this order. A refusal for want of memory
+    /// hands the ledger back.
+    pub fn open(
+        alloc: Global,
+        ledger: Ledger<S>,
+        order: &[u32],
+        max_nodes: u32,
+    ) -> Result<Table<S>, (Ledger<S>, OutOfMemory)>
+        requires order { IsOrder order.now }
+        requires few_levels { length order.now ≤ 1000000 }
+        requires few_nodes { max_nodes ≤ 100000000 }
+        ensures opened { IfOk result (λ table. table ≡ record { graph = record { order = order.now; nodes = map.empty }; book = ledger; max_nodes = max_nodes }) }
+        ensures refused { IfErr result (λ back. back.0 ≡ ledger) }
+    {
+        match Diagram::new(alloc, order) {
+            Ok(diagram) => Ok(Table::new(ledger, diagram, max_nodes)),
+            Err(e) => Err((ledger, e)),
+        }
+    }
+
     /// A table without nodes. `max_nodes` is the greatest number of inner nodes that may be live at once.
     pub fn new(ledger: Ledger<S>, diagram: Diagram, max_nodes: u32) -> Self
         requires few { max_nodes ≤ 100000000 }
