@@ -1,12 +1,12 @@
 -- Canonicity: nodes of equal value under every assignment are the same node. (Bryant 1986, theorem 1.)
-use Rattle.std.proofs.Common.{◌≡◌, ◌≢◌, ℕ, zero, suc, ◌+◌, ◌-◌, ◌<◌, ◌≤◌, Bool, true, false, List, length, Option, None, Some, is_some, cond, refl, sym, ap, ◌∙◌, subst, arith, inl, inr, eq-eqb, ne_eqb}
-use Rattle.std.specs.Prelude.{IsTrue, nat_lt, if◌then◌else◌, ◌==◌}
-use Rattle.std.proofs.lemmas.Bool.{cases_eq, cases_lt}
+use Rattle.std.proofs.Common.{◌≡◌, ℕ, zero, suc, ◌-◌, ◌≤◌, Bool, true, false, Some, refl, sym, ap, ◌∙◌, arith, inl, inr, eq-eqb, ne_eqb}
+use Rattle.std.specs.Prelude.{if◌then◌else◌, ◌==◌}
+use Rattle.std.proofs.lemmas.Bool.{cases_lt}
 use Rattle.node_table.specs.declared.node.Node.{Node}
 use Rattle.node_table.specs.declared.node.Node.TheVariants.{False, True, Inner}
 use Rattle.node_table.specs.declared.node.NodeKey.{NodeKey}
 use Rattle.node_table.specs.declared.node.Branch.{Branch}
-use Rattle.node_table.specs.Diagram.{Graph, IsReduced, IsBelow, branch_at, branch_of, is_node, levels, level_of, level_in}
+use Rattle.node_table.specs.Diagram.{Graph, IsReduced, IsBelow, branch_at, is_node, levels, level_of}
 use Rattle.node_table.specs.Value.{Levels, branch_value, value_within, value_of}
 use Rattle.node_table.proofs.Values.{branch_of_node, level_of-inner, value_of-inner}
 
@@ -97,9 +97,9 @@ module _ (graph : Graph) (reduced : IsReduced graph) where
   same_level steps canonical one other a b at_one at_other level near equal =
       let small = reduced.level one.index a at_one in
       let highs : HaveEqualValues graph a.high b.high = λ x. sym (value-high graph reduced x one a at_one) ∙ equal (with_level x a.level true)
-        ∙ ap (λ (l : ℕ). value_of graph (with_level x l true) (Inner other)) level ∙ value-high graph reduced x other b at_other in
+      ∙ ap (λ (l : ℕ). value_of graph (with_level x l true) (Inner other)) level ∙ value-high graph reduced x other b at_other in
       let lows : HaveEqualValues graph a.low b.low = λ x. sym (value-low graph reduced x one a at_one) ∙ equal (with_level x a.level false)
-        ∙ ap (λ (l : ℕ). value_of graph (with_level x l false) (Inner other)) level ∙ value-low graph reduced x other b at_other in
+      ∙ ap (λ (l : ℕ). value_of graph (with_level x l false) (Inner other)) level ∙ value-low graph reduced x other b at_other in
       let ah = reduced.high one.index a at_one in
       let al = reduced.low one.index a at_one in
       let bh = reduced.high other.index b at_other in

@@ -1,13 +1,10 @@
 -- What stays of a graph that grows, and that a node that fits in leaves it reduced.
-use Rattle.std.proofs.Common.{◌≡◌, ◌≢◌, ℕ, zero, suc, ◌+◌, ◌-◌, ◌<◌, ◌≤◌, Bool, true, false, List, length, Option, None, Some, is_some, cond, refl, sym, ap, ◌∙◌, subst, arith, inl, inr, ◌⊎◌, eq-eqb, ne_eqb}
-use Rattle.std.specs.Prelude.{IsTrue, ◌==◌}
-use Rattle.std.specs.FinMap as map
+use Rattle.std.proofs.Common.{◌≡◌, ◌≢◌, ℕ, ◌<◌, true, length, None, Some, is_some, cond, refl, sym, ap, ◌∙◌, subst, arith, inl, inr, ◌⊎◌, eq-eqb, ne_eqb}
 use Rattle.std.proofs.lemmas.Bool.{cases_eq}
 use Rattle.node_table.specs.declared.node.Node.{Node}
 use Rattle.node_table.specs.declared.node.Node.TheVariants.{False, True, Inner}
-use Rattle.node_table.specs.declared.node.NodeKey.{NodeKey}
 use Rattle.node_table.specs.declared.node.Branch.{Branch}
-use Rattle.node_table.specs.Diagram.{Graph, IsReduced, IsBelow, IsAlike, FitsIn, KeepsNodes, branch_at, branch_of, is_node, levels, level_of, level_in, with_branch}
+use Rattle.node_table.specs.Diagram.{Graph, IsReduced, IsBelow, FitsIn, KeepsNodes, branch_at, is_node, levels, level_of, with_branch}
 use Rattle.node_table.proofs.Keyed.{branch_at-with_branch}
 use Rattle.node_table.proofs.Values.{branch_of_node, level_of-inner}
 

@@ -1,11 +1,11 @@
 -- The cofactors of a node at the level that was asked for.
-use Rattle.std.proofs.Common.{◌≡◌, ℕ, ◌+◌, ◌<◌, ◌≤◌, Bool, true, List, Option, None, Some, is_some, refl, sym, ap, ◌∙◌, subst, arith, eq-eqb, ne_eqb, inl, inr}
-use Rattle.std.specs.Prelude.{if◌then◌else◌, ◌==◌}
+use Rattle.std.proofs.Common.{◌≡◌, ℕ, Some, is_some, refl, ap, ◌∙◌, arith, eq-eqb, ne_eqb}
+use Rattle.std.specs.Prelude.{if◌then◌else◌}
 use Rattle.node_table.specs.declared.node.Node.{Node}
 use Rattle.node_table.specs.declared.node.Node.TheVariants.{False, True, Inner}
 use Rattle.node_table.specs.declared.node.NodeKey.{NodeKey}
 use Rattle.node_table.specs.declared.node.Branch.{Branch}
-use Rattle.node_table.specs.Diagram.{Graph, IsBelow, branch_at, is_node, levels, level_of, level_in, child_in, high_at, low_at}
+use Rattle.node_table.specs.Diagram.{Graph, IsBelow, branch_at, child_in}
 use Rattle.node_table.specs.Table.{HasChildren}
 use Rattle.node_table.proofs.Values.{branch_of_node, level_of-inner}
 

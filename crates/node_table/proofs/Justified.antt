@@ -1,10 +1,9 @@
 -- A clause over the variables of live nodes leaves the table tied.
-use Rattle.std.proofs.Common.{◌≡◌, ◌≢◌, ℕ, ◌+◌, ◌<◌, ◌≤◌, ℤ, List, Result, Ok, Err, refl, sym, ap, ◌∙◌, subst, arith, inl, inr, Some}
-use Rattle.lrat_rules.specs.State.{State, clause_at}
+use Rattle.std.proofs.Common.{◌≡◌, ◌≢◌, ℤ, List, refl, sym, subst, inl, inr}
+use Rattle.lrat_rules.specs.State.{State}
 use Rattle.clause_ledger.specs.Book.{with_next}
 use Rattle.clause_ledger.specs.declared.error.LedgerError.{LedgerError}
 use Rattle.clause_ledger.specs.declared.error.LedgerError.TheVariants.{IdLimit as LedgerIdLimit, OutOfMemory as LedgerOutOfMemory, WriteFault as LedgerWriteFault}
-use Rattle.node_table.specs.declared.error.TableError.{TableError}
 use Rattle.node_table.specs.declared.error.TableError.TheVariants.{WriteFault}
 use Rattle.node_table.specs.Diagram.{Graph, KeepsNodes}
 use Rattle.node_table.specs.Tied.{IsTied, IsOverNodes, Extends}

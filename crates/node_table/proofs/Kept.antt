@@ -1,15 +1,12 @@
 -- What a graph that keeps the nodes of another says of them, and the value of a node by its cofactors at a level.
-use Rattle.std.proofs.Common.{◌≡◌, ℕ, zero, suc, ◌+◌, ◌-◌, ◌<◌, ◌≤◌, Bool, true, false, List, length, Option, None, Some, is_some, cond, refl, sym, ap, ◌∙◌, subst, arith, inl, inr, eq-eqb, ne_eqb}
-use Rattle.std.specs.Prelude.{IsTrue, if◌then◌else◌, ◌==◌}
+use Rattle.std.proofs.Common.{◌≡◌, ℕ, zero, suc, ◌<◌, ◌≤◌, Bool, true, false, List, length, refl, sym, ap, ◌∙◌, subst, arith, inl, inr, eq-eqb, ne_eqb}
+use Rattle.std.specs.Prelude.{if◌then◌else◌, ◌==◌}
 use Rattle.std.proofs.lemmas.Bool.{cases_eq}
 use Rattle.node_table.specs.declared.node.Node.{Node}
 use Rattle.node_table.specs.declared.node.Node.TheVariants.{False, True, Inner}
-use Rattle.node_table.specs.declared.node.NodeKey.{NodeKey}
-use Rattle.node_table.specs.declared.node.Branch.{Branch}
-use Rattle.node_table.specs.Diagram.{Graph, IsReduced, IsBelow, KeepsNodes, branch_at, branch_of, is_node, levels, level_of, high_at, low_at, child_in}
+use Rattle.node_table.specs.Diagram.{Graph, IsReduced, IsBelow, KeepsNodes, branch_of, is_node, levels, level_of, high_at, low_at, child_in}
 use Rattle.node_table.specs.Value.{Levels, branch_value, value_within, value_of}
 use Rattle.node_table.proofs.Values.{branch_of_node, level_of-inner, value_of-inner}
-use Rattle.node_table.proofs.Grown.{is_node-kept, level_of-kept}
 
 same_within : (old new : Graph) → IsReduced old → KeepsNodes old new → (steps : ℕ) (a : Levels) (node : Node) → is_node old node ≡ true → value_within steps new a node ≡ value_within steps old a node
 same_within old new reduced keeps steps a False is = refl
@@ -83,9 +80,10 @@ cofactors-below graph reduced level (Inner key) is not_above small =
     elim (cases_eq b.level level) [
       | inl same ↦
           let high_is : high_at graph level (Inner key) ≡ b.high = high ∙ ap (λ t. if t then b.high else Inner key) (eq-eqb b.level level same) in
-          let low_is : low_at graph level (Inner key) ≡ b.low = low ∙ ap (λ t. if t then b.low else Inner key) (eq-eqb b.level level same) in
-          (subst (IsBelow graph level) (sym high_is) (subst (λ l. IsBelow graph l b.high) same (reduced.high key.index b branch.1)),
-           subst (IsBelow graph level) (sym low_is) (subst (λ l. IsBelow graph l b.low) same (reduced.low key.index b branch.1)))
+          let low_is : low_at graph level (Inner key) ≡ b.low = low ∙ ap (λ t. if t then b.low else Inner key) (eq-eqb b.level level same) in (
+            subst (IsBelow graph level) (sym high_is) (subst (λ l. IsBelow graph l b.high) same (reduced.high key.index b branch.1)),
+            subst (IsBelow graph level) (sym low_is) (subst (λ l. IsBelow graph l b.low) same (reduced.low key.index b branch.1)),
+          )
       | inr differ ↦
           let high_is : high_at graph level (Inner key) ≡ Inner key = high ∙ ap (λ t. if t then b.high else Inner key) (ne_eqb b.level level differ) in
           let low_is : low_at graph level (Inner key) ≡ Inner key = low ∙ ap (λ t. if t then b.low else Inner key) (ne_eqb b.level level differ) in

@@ -16,3 +16,4 @@ pub mod Fresh
 pub mod HasChildren
 pub mod Outcome
 pub mod Opened
+pub mod TwoVariables

@@ -1,5 +1,5 @@
 -- A look-up in a row, as std's slices answer it.
-use Rattle.std.proofs.Common.{◌≡◌, ℕ, ◌<◌, Bool, List, length, get_or, Option, None, Some, is_some, ltb, refl, sym, ◌∙◌, Bor}
+use Rattle.std.proofs.Common.{◌≡◌, ℕ, List, length, get_or, Option, None, Some, is_some, ltb, refl, sym, Bor}
 use Rattle.std.specs.List.{slice_get}
 use Rattle.std.specs.Option.{option_copied, IfSome}
 use Rattle.std.proofs.lemmas.Bool.{ltb-true, ltb-false}

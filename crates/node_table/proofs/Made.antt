@@ -1,6 +1,6 @@
 -- A node that was made leaves the table tied and extended: the node is reduced and defined, and no other variable came.
-use Rattle.std.proofs.Common.{◌≡◌, ◌≢◌, ℕ, zero, suc, ◌+◌, ◌<◌, ◌≤◌, Bool, true, false, ℤ, pos, negsuc, List, [], ◌∷◌, length, Option, None, Some, is_some, cond, refl, sym, ap, ◌∙◌, subst, arith, inl, inr, ◌⊎◌}
-use Rattle.std.specs.Prelude.{IsTrue, nat_abs, neg_ℤ, not, slice_index_or, if◌then◌else◌}
+use Rattle.std.proofs.Common.{◌≡◌, ℕ, zero, suc, ◌+◌, ◌<◌, ◌≤◌, Bool, true, false, ℤ, pos, negsuc, List, [], ◌∷◌, length, Option, None, Some, is_some, refl, sym, ap, ◌∙◌, subst, arith, inl, inr}
+use Rattle.std.specs.Prelude.{nat_abs, neg_ℤ, not, slice_index_or}
 use Rattle.cnf_base.specs.ProofText.{given_if}
 use Rattle.lrat_rules.specs.State.{State, Live, clause_at}
 use Rattle.hint_chain.specs.declared.atom.Atom.{Atom}
@@ -8,15 +8,14 @@ use Rattle.hint_chain.specs.declared.atom.Atom.TheVariants.{Always, Never, Of}
 use Rattle.hint_chain.specs.Atoms.{neg_atom, clause_of, high_up, low_up, high_down, low_down}
 use Rattle.node_table.specs.declared.node.Node.{Node}
 use Rattle.node_table.specs.declared.node.Node.TheVariants.{False, True, Inner}
-use Rattle.node_table.specs.declared.node.NodeKey.{NodeKey}
 use Rattle.node_table.specs.declared.node.Branch.{Branch}
-use Rattle.node_table.specs.Diagram.{Graph, IsReduced, IsOrder, IsBelow, KeepsNodes, FitsIn, IsNew, branch_at, is_node, levels, level_of, high_at, low_at, child_in, variable_at, with_branch, next_variable}
-use Rattle.node_table.specs.Defined.{IsDefined, atom_of, atom_in, clause_named, definitions, defs_of, is_false_node, is_true_node, one_if, with_definitions}
+use Rattle.node_table.specs.Diagram.{Graph, IsBelow, KeepsNodes, FitsIn, branch_at, is_node, levels, variable_at, with_branch, next_variable}
+use Rattle.node_table.specs.Defined.{IsDefined, atom_of, atom_in, clause_named, is_false_node, is_true_node, one_if, with_definitions}
 use Rattle.node_table.specs.Tied.{IsTied, IsOwned, IsOverNodes, Extends}
-use Rattle.node_table.specs.Table.{IsWanted, HasChildren, new_branch, node_definitions}
-use Rattle.node_table.proofs.Values.{branch_of_node, level_of-inner}
-use Rattle.node_table.proofs.Grown.{IsBelow-kept, is_node-kept, IsReduced-joined, KeepsNodes-joined, joined_at, joined_cases}
-use Rattle.node_table.proofs.Stands.{AreNumbers, AreOver, IsOverAtom, FourStand, each_some, four_stand, over_clause}
+use Rattle.node_table.specs.Table.{IsWanted, new_branch, node_definitions}
+use Rattle.node_table.proofs.Values.{branch_of_node}
+use Rattle.node_table.proofs.Grown.{is_node-kept, IsReduced-joined, KeepsNodes-joined, joined_at, joined_cases}
+use Rattle.node_table.proofs.Stands.{IsOverAtom, FourStand, each_some, four_stand, over_clause}
 
 -- Which of the clauses there are. The atom of a node is Never for False alone, and Always for True alone.
 some_up : (graph : Graph) (u x : ℤ) (node : Node) → is_node graph node ≡ true → is_some (clause_of (Of u ∷ Of x ∷ neg_atom (atom_of graph node) ∷ [])) ≡ not (is_false_node node)
@@ -54,13 +53,13 @@ IsDefined-kept old new keeps live later stays b high_stands low_stands defined =
     let y = pos (variable_at old b.level) in
     record {
       hu = stays_named live later stays (not (is_false_node b.high)) b.first (clause_of (high_up u y (atom_of old b.high))) (some_up old u (neg_ℤ y) b.high high_stands) defined.hu
-        ∙ (λ i. clause_of (high_up u (pos (x i)) (high i)));
+          ∙ (λ i. clause_of (high_up u (pos (x i)) (high i)));
       lu = stays_named live later stays (not (is_false_node b.low)) _ (clause_of (low_up u y (atom_of old b.low))) (some_up old u y b.low low_stands) defined.lu
-        ∙ (λ i. clause_of (low_up u (pos (x i)) (low i)));
+          ∙ (λ i. clause_of (low_up u (pos (x i)) (low i)));
       hd = stays_named live later stays (not (is_true_node b.high)) _ (clause_of (high_down u y (atom_of old b.high))) (some_down old (neg_ℤ u) (neg_ℤ y) b.high high_stands) defined.hd
-        ∙ (λ i. clause_of (high_down u (pos (x i)) (high i)));
+          ∙ (λ i. clause_of (high_down u (pos (x i)) (high i)));
       ld = stays_named live later stays (not (is_true_node b.low)) _ (clause_of (low_down u y (atom_of old b.low))) (some_down old (neg_ℤ u) y b.low low_stands) defined.ld
-        ∙ (λ i. clause_of (low_down u (pos (x i)) (low i)));
+          ∙ (λ i. clause_of (low_down u (pos (x i)) (low i)));
     }
 
 -- an owned variable stays owned
@@ -101,9 +100,9 @@ over_neg graph (Of own) over literal is above =
 -- the four clauses of a new node stand under its numbers
 new_is_defined : (graph : Graph) (state after : State) (level : ℕ) (high low : Node) → is_node graph high ≡ true → is_node graph low ≡ true
     → FourStand state (clause_of (high_up (pos (next_variable graph)) (pos (variable_at graph level)) (atom_of graph high)))
-        (clause_of (low_up (pos (next_variable graph)) (pos (variable_at graph level)) (atom_of graph low)))
-        (clause_of (high_down (pos (next_variable graph)) (pos (variable_at graph level)) (atom_of graph high)))
-        (clause_of (low_down (pos (next_variable graph)) (pos (variable_at graph level)) (atom_of graph low))) after
+    (clause_of (low_up (pos (next_variable graph)) (pos (variable_at graph level)) (atom_of graph low)))
+    (clause_of (high_down (pos (next_variable graph)) (pos (variable_at graph level)) (atom_of graph high)))
+    (clause_of (low_down (pos (next_variable graph)) (pos (variable_at graph level)) (atom_of graph low))) after
     → IsDefined after.live graph (new_branch graph state level high low)
 new_is_defined graph state after level high low high_stands low_stands four =
     let u = pos (next_variable graph) in
@@ -142,7 +141,7 @@ made_is_tied old state tied level high low small high_below low_below wanted own
       alone = λ other b is alike. wanted.missing other b is alike.level alike.high alike.low;
     } in
     let four = four_stand state tied.numbers (clause_of (high_up u y (atom_of old high))) (clause_of (low_up u y (atom_of old low)))
-      (clause_of (high_down u y (atom_of old high))) (clause_of (low_down u y (atom_of old low))) in
+    (clause_of (high_down u y (atom_of old high))) (clause_of (low_down u y (atom_of old low))) in
     let owned : IsOwned new (next_variable old) = record { key = key; branch = branch; stands = joined_at old key branch; own = refl } in
     let over_u : IsOverAtom new (Of u) = over_own new u owned in
     let variable_small : variable_at old level ≤ levels old = (tied.ordered.within level small).1 in
@@ -150,21 +149,22 @@ made_is_tied old state tied level high low small high_below low_below wanted own
     let over_not_y : IsOverAtom new (Of (neg_ℤ y)) = over_neg new (Of y) over_y in
     let over_not_u : IsOverAtom new (Of (neg_ℤ u)) = over_neg new (Of u) over_u in
     let over_high : IsOverAtom new (atom_of old high) = subst (IsOverAtom new) (atom_of-kept old new keeps high high_below.stands) (over_node new high (is_node-kept old new keeps high high_below.stands)) in
-    let over_low : IsOverAtom new (atom_of old low) = subst (IsOverAtom new) (atom_of-kept old new keeps low low_below.stands) (over_node new low (is_node-kept old new keeps low low_below.stands)) in
-    (record {
-      reduced = IsReduced-joined old tied.reduced key branch unused fits (omega arith) (λ other b is same. omega (arith, own other b is, same));
-      ordered = tied.ordered;
-      defined = λ other b is. elim (joined_cases old key branch other b is) [
-        | inl here ↦ subst (IsDefined after.live new) (sym here.1)
-            (IsDefined-kept old new keeps after.live after.live (λ id clause at. at) branch high_below.stands low_below.stands (new_is_defined old state after level high low high_below.stands low_below.stands four))
-        | inr there ↦ IsDefined-kept old new keeps state.live after.live four.grows.clauses b (tied.reduced.high other b there).stands (tied.reduced.low other b there).stands (tied.defined other b there)
-      ];
-      over_nodes =
-        each_some (IsOverNodes new) _ (clause_of (low_down u y (atom_of old low))) (over_clause new (low_down u y (atom_of old low)) (over_not_u, (over_y, (over_low, tt))))
-        (each_some (IsOverNodes new) _ (clause_of (high_down u y (atom_of old high))) (over_clause new (high_down u y (atom_of old high)) (over_not_u, (over_not_y, (over_high, tt))))
-        (each_some (IsOverNodes new) _ (clause_of (low_up u y (atom_of old low))) (over_clause new (low_up u y (atom_of old low)) (over_u, (over_y, (over_neg new (atom_of old low) over_low, tt))))
-        (each_some (IsOverNodes new) state (clause_of (high_up u y (atom_of old high))) (over_clause new (high_up u y (atom_of old high)) (over_u, (over_not_y, (over_neg new (atom_of old high) over_high, tt))))
-        (λ id clause at. IsOverNodes-kept old new keeps clause (tied.over_nodes id clause at)))));
-      numbers = four.grows.numbers;
-    },
-    record { nodes = keeps; clauses = four.grows.clauses; numbers = four.grows.gives })
+    let over_low : IsOverAtom new (atom_of old low) = subst (IsOverAtom new) (atom_of-kept old new keeps low low_below.stands) (over_node new low (is_node-kept old new keeps low low_below.stands)) in (
+      record {
+        reduced = IsReduced-joined old tied.reduced key branch unused fits (omega arith) (λ other b is same. omega (arith, own other b is, same));
+        ordered = tied.ordered;
+        defined = λ other b is. elim (joined_cases old key branch other b is) [
+          | inl here ↦ subst (IsDefined after.live new) (sym here.1)
+              (IsDefined-kept old new keeps after.live after.live (λ id clause at. at) branch high_below.stands low_below.stands (new_is_defined old state after level high low high_below.stands low_below.stands four))
+          | inr there ↦ IsDefined-kept old new keeps state.live after.live four.grows.clauses b (tied.reduced.high other b there).stands (tied.reduced.low other b there).stands (tied.defined other b there)
+        ];
+        over_nodes =
+            each_some (IsOverNodes new) _ (clause_of (low_down u y (atom_of old low))) (over_clause new (low_down u y (atom_of old low)) (over_not_u, (over_y, (over_low, tt))))
+            (each_some (IsOverNodes new) _ (clause_of (high_down u y (atom_of old high))) (over_clause new (high_down u y (atom_of old high)) (over_not_u, (over_not_y, (over_high, tt))))
+            (each_some (IsOverNodes new) _ (clause_of (low_up u y (atom_of old low))) (over_clause new (low_up u y (atom_of old low)) (over_u, (over_y, (over_neg new (atom_of old low) over_low, tt))))
+            (each_some (IsOverNodes new) state (clause_of (high_up u y (atom_of old high))) (over_clause new (high_up u y (atom_of old high)) (over_u, (over_not_y, (over_neg new (atom_of old high) over_high, tt))))
+            (λ id clause at. IsOverNodes-kept old new keeps clause (tied.over_nodes id clause at)))));
+        numbers = four.grows.numbers;
+      },
+      record { nodes = keeps; clauses = four.grows.clauses; numbers = four.grows.gives },
+    )

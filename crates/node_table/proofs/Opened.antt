@@ -1,5 +1,5 @@
 -- A table without nodes is tied to the formula's clauses.
-use Rattle.std.proofs.Common.{◌≡◌, ℕ, zero, suc, ◌+◌, ◌-◌, ◌<◌, ◌≤◌, Bool, true, false, ◌&&◌, ℤ, List, [], ◌∷◌, length, Option, None, Some, nat_cmp, refl, sym, ap, ◌∙◌, subst, arith, inl, inr}
+use Rattle.std.proofs.Common.{◌≡◌, ℕ, zero, suc, ◌+◌, ◌-◌, ◌<◌, ◌≤◌, true, false, ℤ, List, [], ◌∷◌, length, None, Some, nat_cmp, sym, ap, ◌∙◌, subst, arith, inl, inr}
 use Rattle.std.specs.Prelude.{slice_index_or, nat_abs, nat_lt, nat_le}
 use Rattle.std.specs.List.{list_any, list_all}
 use Rattle.std.specs.Ordering.{int_eq}
@@ -7,15 +7,14 @@ use Rattle.std.specs.FinMap as map
 use Rattle.std.proofs.lemmas.Bool.{cases_eq, cases_lt, and_parts, or_cases, leb-true}
 use Rattle.std.proofs.lemmas.Bool.Decides.{Decides-int_eq}
 use Rattle.cnf_base.specs.Truth.{AreClausesOf, is_literal_of}
-use Rattle.lrat_rules.specs.State.{State, start, clause_at}
+use Rattle.lrat_rules.specs.State.{start, clause_at}
 use Rattle.node_table.specs.declared.node.Branch.{Branch}
-use Rattle.node_table.specs.Diagram.{Graph, IsOrder, branch_at}
+use Rattle.node_table.specs.Diagram.{IsOrder, branch_at}
 use Rattle.node_table.specs.Tied.{IsTied}
 
 module _ (within : (clauses : List (List ℤ)) (i : ℕ) → i < length clauses → clause_at (start clauses).live (i + 1) ≡ Some (slice_index_or clauses i []))
-  (at_zero : (clauses : List (List ℤ)) → clause_at (start clauses).live 0 ≡ None)
-  (above : (clauses : List (List ℤ)) (id : ℕ) → length clauses < id → clause_at (start clauses).live id ≡ None) where
-
+    (at_zero : (clauses : List (List ℤ)) → clause_at (start clauses).live 0 ≡ None)
+    (above : (clauses : List (List ℤ)) (id : ℕ) → length clauses < id → clause_at (start clauses).live id ≡ None) where
   numbers : (clauses : List (List ℤ)) (id : ℕ) (clause : List ℤ) → clause_at (start clauses).live id ≡ Some clause → (0 < id) × (id ≤ length clauses)
   numbers clauses id clause is =
       let positive : 0 < id = elim (cases_eq id 0) [
@@ -70,8 +69,8 @@ module _ (within : (clauses : List (List ℤ)) (i : ℕ) → i < length clauses 
     ordered = is_order;
     defined = λ key b is. absurd (nothing_at order key b is);
     over_nodes = λ id clause is literal among late.
-      let one = is_one clauses id clause is in
-      let small = small_literal (length order) clause (subst (λ (c : List ℤ). list_all (is_literal_of (length order)) c ≡ true) one.2 (each_at (length order) clauses all one.0 one.1)) literal among in
-      absurd (omega (arith, small, late));
+        let one = is_one clauses id clause is in
+        let small = small_literal (length order) clause (subst (λ (c : List ℤ). list_all (is_literal_of (length order)) c ≡ true) one.2 (each_at (length order) clauses all one.0 one.1)) literal among in
+        absurd (omega (arith, small, late));
     numbers = λ id clause is. numbers clauses id clause is;
   }

@@ -1,16 +1,14 @@
 -- What a call that makes a node leaves, as it succeeds or is refused.
-use Rattle.std.proofs.Common.{◌≡◌, ◌≢◌, ℕ, ◌<◌, ◌≤◌, Result, Ok, Err, Some, refl, sym, ap, ◌∙◌, subst}
+use Rattle.std.proofs.Common.{◌≡◌, ◌≢◌, ℕ, ◌<◌, Result, Ok, Err, Some, refl, sym, ap, ◌∙◌, subst}
 use Rattle.std.specs.Prelude.{IfOk, IfErr}
 use Rattle.lrat_rules.specs.State.{State}
 use Rattle.node_table.specs.declared.node.Node.{Node}
-use Rattle.node_table.specs.declared.node.Node.TheVariants.{Inner}
 use Rattle.node_table.specs.declared.node.Branch.{Branch}
 use Rattle.node_table.specs.declared.error.TableError.{TableError}
 use Rattle.node_table.specs.declared.error.TableError.TheVariants.{WriteFault}
 use Rattle.node_table.specs.Diagram.{Graph, IsBelow, branch_at, levels, next_variable, with_branch}
-use Rattle.node_table.specs.Defined.{with_definitions}
-use Rattle.node_table.specs.Tied.{IsTied, Extends}
-use Rattle.node_table.specs.Table.{TableState, HasChildren, IsWanted, IsMade, IsSame, new_branch, node_definitions}
+use Rattle.node_table.specs.Tied.{IsTied}
+use Rattle.node_table.specs.Table.{TableState, HasChildren, IsWanted, IsMade, IsSame, new_branch}
 use Rattle.node_table.proofs.Grown.{joined_at}
 use Rattle.node_table.proofs.Made.{IsTiedAndExtends, made_is_tied}
 use Rattle.node_table.proofs.Justified.{same_extends}
@@ -28,8 +26,7 @@ module _ {S : Type 0} (old new : TableState S) (level : ℕ) (high low : Node) w
   outcome_children (Err e) made = made
 
   module _ (tied : IsTied old.graph old.book.state) (small : level < levels old.graph) (high_below : IsBelow old.graph level high) (low_below : IsBelow old.graph level low)
-    (wanted : IsWanted old.graph level high low) (own : (key : ℕ) (b : Branch) → branch_at old.graph key ≡ Some b → b.variable < next_variable old.graph) where
-
+      (wanted : IsWanted old.graph level high low) (own : (key : ℕ) (b : Branch) → branch_at old.graph key ≡ Some b → b.variable < next_variable old.graph) where
     both_made : (node : Node) → IsMade old new level high low node → IsTiedAndExtends old.graph new.graph old.book.state new.book.state
     both_made node made =
         subst (λ (g : Graph). IsTiedAndExtends old.graph g old.book.state new.book.state) (sym made.joined.joined)

@@ -1,11 +1,10 @@
 -- A node more in the row of stored nodes.
-use Rattle.std.proofs.Common.{◌≡◌, ℕ, ◌+◌, ◌<◌, ◌≤◌, List, [], ◌∷◌, ◌++◌, length, Option, None, Some, nat_cmp, refl, sym, ap, ◌∙◌, subst, arith, length-append, inl, inr}
+use Rattle.std.proofs.Common.{◌≡◌, ℕ, ◌+◌, ◌<◌, ◌≤◌, List, [], ◌∷◌, ◌++◌, length, None, Some, sym, ap, ◌∙◌, subst, arith, length-append, inl, inr}
 use Rattle.std.specs.FinMap as map
-use Rattle.std.specs.List.{slice_get}
 use Rattle.std.proofs.lemmas.Option.{slice_get_past, slice_get_within}
 use Rattle.cnf_base.specs.ProofText.{max_id}
 use Rattle.node_table.specs.declared.node.Branch.{Branch}
-use Rattle.node_table.specs.Diagram.{Graph, IsReduced, FitsIn, IsNew, branch_at, levels, with_branch, next_variable}
+use Rattle.node_table.specs.Diagram.{IsReduced, FitsIn, branch_at, levels, with_branch, next_variable}
 use Rattle.node_table.specs.Stored.{graph_of, IsStored, AreNumbered, HaveFirsts}
 use Rattle.node_table.proofs.Keyed.{branch_at-graph_of, len-keyed, graph_of-push}
 use Rattle.node_table.proofs.Grown.{IsReduced-joined, joined_cases}

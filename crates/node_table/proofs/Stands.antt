@@ -1,7 +1,7 @@
 -- What is live once the clauses that define a new node were written: what was live before, and each of them under its
 -- number.
-use Rattle.std.proofs.Common.{◌≡◌, ℕ, zero, suc, ◌+◌, ◌<◌, ◌≤◌, Bool, true, false, ◌||◌, ℤ, pos, List, [], ◌∷◌, Option, None, Some, is_some, nat_cmp, cond, refl, sym, ap, ◌∙◌, subst, arith, inl, inr, ◌⊎◌, eq-eqb, ne_eqb}
-use Rattle.std.specs.Prelude.{IsTrue, ◌==◌, nat_abs, neg_ℤ, not, if◌then◌else◌}
+use Rattle.std.proofs.Common.{◌≡◌, ℕ, ◌+◌, ◌<◌, ◌≤◌, true, false, ◌||◌, ℤ, List, [], ◌∷◌, Option, None, Some, is_some, cond, refl, sym, ap, ◌∙◌, subst, arith, inl, inr, ◌⊎◌, eq-eqb, ne_eqb}
+use Rattle.std.specs.Prelude.{◌==◌, nat_abs}
 use Rattle.std.specs.Option.{option_map}
 use Rattle.std.specs.List.{list_any}
 use Rattle.std.specs.Ordering.{int_eq}
@@ -15,9 +15,9 @@ use Rattle.lrat_rules.specs.State.{State, Live, clause_at}
 use Rattle.clause_ledger.specs.Book.{with_next}
 use Rattle.hint_chain.specs.declared.atom.Atom.{Atom}
 use Rattle.hint_chain.specs.declared.atom.Atom.TheVariants.{Always, Never, Of}
-use Rattle.hint_chain.specs.Atoms.{neg_atom, clause_of, high_up, low_up, high_down, low_down}
+use Rattle.hint_chain.specs.Atoms.{clause_of}
 use Rattle.node_table.specs.Diagram.{Graph, levels}
-use Rattle.node_table.specs.Defined.{Definition, clause_named, definitions, is_always, is_never, one_if, with_some, with_definitions}
+use Rattle.node_table.specs.Defined.{clause_named, one_if, with_some}
 use Rattle.node_table.specs.Tied.{IsOwned, IsOverNodes, KeepsClauses, GivesNumbers}
 
 abbrev pub AreNumbers : State → Type 0
@@ -64,14 +64,14 @@ Grows-next state clause numbers = record {
   gives = record {
     no_less = omega arith;
     next = λ id is.
-      let found = is_some-of (clause_at (with_next state clause).live id) is in
-      elim (next_cases state clause id found.0 found.1) [
-        | inl here ↦ inr (omega (arith, here.0))
-        | inr there ↦ inl (ap is_some there)
-      ];
+        let found = is_some-of (clause_at (with_next state clause).live id) is in
+        elim (next_cases state clause id found.0 found.1) [
+          | inl here ↦ inr (omega (arith, here.0))
+          | inr there ↦ inl (ap is_some there)
+        ];
     each = λ id above within.
-      let same : id ≡ state.top + 1 = omega (arith, above, within) in
-      ap is_some (ap (clause_at (with_next state clause).live) same ∙ at_next state clause);
+        let same : id ≡ state.top + 1 = omega (arith, above, within) in
+        ap is_some (ap (clause_at (with_next state clause).live) same ∙ at_next state clause);
   };
   numbers = λ id found is. elim (next_cases state clause id found is) [
     | inl here ↦ (omega (arith, here.0), omega (arith, here.0))

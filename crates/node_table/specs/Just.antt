@@ -1,5 +1,5 @@
 -- A clause over nodes is justified: it is true by itself, or it is live.
-use Rattle.std.specs.Prelude.{◌≡◌, ℕ, List, Option, Some, IsTrue, IsFalse}
+use Rattle.std.specs.Prelude.{◌≡◌, List, IsTrue, IsFalse}
 use Rattle.lrat_rules.specs.State.{Live, clause_at}
 use Rattle.hint_chain.specs.declared.atom.Atom.{Atom}
 use Rattle.hint_chain.specs.Atoms.{clause_of, is_trivial}

@@ -1,5 +1,5 @@
 -- How the nodes of a table are stored: in the order in which they were made.
-use Rattle.std.specs.Prelude.{◌≡◌, ◌<◌, ◌≤◌, ◌+◌, ◌-◌, ℕ, List, [], ◌∷◌, length, slice_index_or, Option, Some}
+use Rattle.std.specs.Prelude.{◌≡◌, ◌<◌, ◌≤◌, ◌+◌, ◌-◌, ℕ, List, [], ◌∷◌, length, slice_index_or, Some}
 use Rattle.std.specs.FinMap as map
 use Rattle.cnf_base.specs.ProofText.{max_id}
 use Rattle.node_table.specs.declared.node.Branch.{Branch}

@@ -1,17 +1,17 @@
 -- A table as its callers see it, and what its calls do.
-use Rattle.std.specs.Prelude.{◌≡◌, ◌≢◌, ◌⊎◌, ℕ, ◌<◌, ◌≤◌, ◌+◌, ◌-◌, Bool, ℤ, pos, List, [], length, Option, None, Some, Result, Ok, Err, IsTrue, refl}
+use Rattle.std.specs.Prelude.{◌≡◌, ◌≢◌, ℕ, ◌≤◌, ◌+◌, pos, List, Some, Result, Err, IsTrue, refl}
 use Rattle.std.specs.Coded.{Coded, code_by, coded×, coded_ℕ}
 use Rattle.std.specs.FinMap as map
 use Rattle.lrat_rules.specs.State.{State}
 use Rattle.clause_ledger.specs.Book.{Book, book_code}
 use Rattle.node_table.specs.declared.node.Node.{Node}
-use Rattle.node_table.specs.declared.node.Node.TheVariants.{False, True, Inner}
+use Rattle.node_table.specs.declared.node.Node.TheVariants.{Inner}
 use Rattle.node_table.specs.declared.node.NodeKey.{NodeKey}
 use Rattle.node_table.specs.declared.node.Branch.{Branch}
 use Rattle.node_table.specs.declared.error.TableError.{TableError}
 use Rattle.node_table.specs.declared.error.TableError.TheVariants.{WriteFault}
-use Rattle.node_table.specs.Diagram.{Graph, graph_code, IsNew, branch_at, is_node, levels, level_of, high_at, low_at, variable_at, with_branch, next_variable}
-use Rattle.node_table.specs.Defined.{Definition, atom_of, definitions, with_definitions, definition_count}
+use Rattle.node_table.specs.Diagram.{Graph, graph_code, IsNew, branch_at, is_node, level_of, high_at, low_at, variable_at, next_variable}
+use Rattle.node_table.specs.Defined.{Definition, atom_of, definitions, with_definitions}
 
 -- its nodes, its ledger, and the greatest number of inner nodes
 pub record TableState (S : Type 0) : Type 0 where

@@ -1,5 +1,5 @@
 -- What nodes and live clauses have to do with each other.
-use Rattle.std.specs.Prelude.{◌≡◌, ◌⊎◌, ℕ, ◌<◌, ◌≤◌, ◌+◌, ℤ, nat_abs, List, [], ◌∷◌, Option, None, Some, IsTrue, is_some}
+use Rattle.std.specs.Prelude.{◌≡◌, ◌⊎◌, ℕ, ◌<◌, ◌≤◌, ℤ, nat_abs, List, Some, IsTrue, is_some}
 use Rattle.std.specs.List.{list_any}
 use Rattle.std.specs.Ordering.{int_eq}
 use Rattle.lrat_rules.specs.State.{State, Live, clause_at}

@@ -67,7 +67,8 @@ impl Diagram {
 
     /// The variables, the top one first.
     pub fn order(&self) -> &[u32]
-        ensures { result.now ≡ self.now.order }
+        ensures value { result.now ≡ self.now.order }
+        ensures few { levels self.now ≤ 1000000 }
     {
         self.order.as_slice()
     }

@@ -227,7 +227,8 @@ impl<S: Sink + Drop> Table<S> {
 
     /// The variables, the top one first.
     pub fn order(&self) -> &[u32]
-        ensures { result.now ≡ self.now.graph.order }
+        ensures value { result.now ≡ self.now.graph.order }
+        ensures few { levels self.now.graph ≤ 1000000 }
     {
         self.diagram.order()
     }

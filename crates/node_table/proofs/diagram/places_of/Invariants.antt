@@ -1,4 +1,4 @@
-use Rattle.std.proofs.Common.{◌≡◌, ◌<◌, ◌-◌, ℕ, length, get_or}
+use Rattle.std.proofs.Common.{◌≡◌, ◌<◌, ◌-◌, ℕ, length}
 use Rattle.std.specs.Prelude.{slice_index_or}
 use Rattle.node_table.proofs.diagram.places_of.Given as goal
 

@@ -1,4 +1,4 @@
-use Rattle.std.proofs.Common.{◌≡◌, ◌≤◌, ◌+◌, ℕ, List, Option, None, Some, refl, sym, ◌∙◌, ap, Bor}
+use Rattle.std.proofs.Common.{◌≡◌, ◌≤◌, ◌+◌, List, Option, None, Some, refl, sym, ◌∙◌, ap, Bor}
 use Rattle.std.specs.Option.{option_copied, IfSome}
 use Rattle.cnf_base.specs.ProofText.{max_id}
 use Rattle.node_table.specs.Stored.{graph_of}

@@ -1,7 +1,7 @@
-use Rattle.std.proofs.Common.{rules, ◌≡◌, ℕ, Bool, true, false, List, Some, refl, sym, ◌∙◌, ap, subst}
+use Rattle.std.proofs.Common.{rules, ◌≡◌, ℕ, true, false, List, sym, ◌∙◌, ap, subst}
 use Rattle.std.specs.Prelude.{slice_index_or}
 use Rattle.cnf_base.specs.Truth.{assignment_of}
-use Rattle.node_table.specs.Diagram.{Graph, IsReduced, branch_of}
+use Rattle.node_table.specs.Diagram.{Graph, IsReduced}
 use Rattle.node_table.specs.Value.{by_level}
 use Rattle.node_table.proofs.Values.{high_chosen, low_chosen}
 use Rattle.node_table.proofs.diagram.Diagram.chosen.Goals as goal

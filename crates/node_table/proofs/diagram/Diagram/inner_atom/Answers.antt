@@ -1,8 +1,8 @@
-use Rattle.std.proofs.Common.{rules, ◌≡◌, ℕ, ◌+◌, ◌<◌, ◌≤◌, List, length, None, Some, sym, ◌∙◌, ap, arith}
+use Rattle.std.proofs.Common.{rules, ◌≡◌, ℕ, ◌<◌, ◌≤◌, List, None, Some, ◌∙◌, ap, arith}
 use Rattle.node_table.specs.declared.node.Branch.{Branch}
 use Rattle.node_table.specs.declared.node.Node.{Node}
 use Rattle.node_table.specs.declared.node.Node.TheVariants.{False, True, Inner}
-use Rattle.node_table.specs.Diagram.{Graph, branch_at, branch_of, levels}
+use Rattle.node_table.specs.Diagram.{Graph, branch_of}
 use Rattle.node_table.specs.Stored.{graph_of, IsStored}
 use Rattle.node_table.proofs.Pushed.{stored_within}
 use Rattle.node_table.proofs.diagram.Diagram.inner_atom.Goals as goal

@@ -1,4 +1,4 @@
-use Rattle.std.proofs.Common.{◌≡◌, ℕ, length, sym, ◌∙◌, ap}
+use Rattle.std.proofs.Common.{length, sym, ◌∙◌, ap}
 use Rattle.std.specs.FinMap as map
 use Rattle.node_table.specs.Diagram.{Graph}
 use Rattle.node_table.proofs.Keyed.{len-keyed}

@@ -1,9 +1,9 @@
-use Rattle.std.proofs.Common.{◌≡◌, ℕ, ◌-◌, ◌<◌, ◌≤◌, List, length, get_or, Option, None, Some, refl, sym, ◌∙◌, ap, arith, subst}
+use Rattle.std.proofs.Common.{◌≡◌, ℕ, ◌-◌, ◌<◌, ◌≤◌, List, length, get_or, Option, None, Some, sym, ◌∙◌, ap, arith, subst}
 use Rattle.std.specs.Prelude.{MatchOption, slice_index_or, ◌≢◌}
 use Rattle.std.specs.List.{slice_get}
-use Rattle.std.proofs.lemmas.Option.{slice_get-get_or, slice_get_within, slice_get_past, get_or_from_slice_get}
+use Rattle.std.proofs.lemmas.Option.{slice_get-get_or, slice_get_within, get_or_from_slice_get}
 use Rattle.node_table.specs.Diagram.{Graph, levels, variable_at, IsOrder}
-use Rattle.node_table.specs.Stored.{IsStored, graph_of}
+use Rattle.node_table.specs.Stored.{graph_of}
 use Rattle.node_table.proofs.Looked.{looked_up}
 use Rattle.node_table.proofs.diagram.Diagram.level.Goals as goal
 

@@ -1,7 +1,5 @@
-use Rattle.std.proofs.Common.{◌≡◌, ℕ, ◌+◌, ◌<◌, List, length, Some, sym, ◌∙◌, ap, arith}
-use Rattle.std.specs.FinMap as map
-use Rattle.node_table.specs.declared.node.Branch.{Branch}
-use Rattle.node_table.specs.Diagram.{Graph, branch_at, levels, next_variable}
+use Rattle.std.proofs.Common.{◌≡◌, length, Some, ◌∙◌, ap, arith}
+use Rattle.node_table.specs.Diagram.{Graph, branch_at, next_variable}
 use Rattle.node_table.specs.Stored.{graph_of}
 use Rattle.node_table.proofs.Keyed.{len-keyed}
 use Rattle.node_table.proofs.Pushed.{stored_within}
@@ -15,5 +13,10 @@ returns-clause-value c =
 pub returns-clause-own : goal.returns-clause-own
 returns-clause-own c key branch is =
     let at : branch_at (graph_of c.self.inside.order.items c.self.inside.branches.items) key ≡ Some branch = ap (λ (g : Graph). branch_at g key) c.self.view_is ∙ is in
-    omega (arith, c.self.invariant.numbered.variable key branch at, stored_within c.self.inside.order.items c.self.inside.branches.items key branch at,
-    ap length c.as_slice.ensures.value, ap length c.as_slice-2.ensures.value)
+    omega (
+      arith,
+      c.self.invariant.numbered.variable key branch at,
+      stored_within c.self.inside.order.items c.self.inside.branches.items key branch at,
+      ap length c.as_slice.ensures.value,
+      ap length c.as_slice-2.ensures.value,
+    )

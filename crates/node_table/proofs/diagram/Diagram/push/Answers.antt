@@ -1,7 +1,7 @@
-use Rattle.std.proofs.Common.{◌≡◌, ℕ, ◌+◌, ◌<◌, List, [], ◌∷◌, ◌++◌, length, None, sym, ◌∙◌, ap, subst}
+use Rattle.std.proofs.Common.{◌≡◌, ◌<◌, List, [], ◌∷◌, ◌++◌, length, sym, ◌∙◌, ap, subst}
 use Rattle.std.specs.FinMap as map
 use Rattle.node_table.specs.declared.node.Branch.{Branch}
-use Rattle.node_table.specs.Diagram.{Graph, FitsIn, IsNew, branch_at, next_variable, with_branch}
+use Rattle.node_table.specs.Diagram.{Graph, FitsIn, branch_at, next_variable, with_branch}
 use Rattle.node_table.specs.Stored.{graph_of, IsStored}
 use Rattle.node_table.proofs.Keyed.{graph_of-push}
 use Rattle.node_table.proofs.Pushed.{IsStored-push, unused_next}
@@ -24,7 +24,7 @@ returns-clause-ok c =
     let items : c.push.new.self.items ≡ inside.branches.items ++ c.args.branch ∷ [] = c.in_ok-push.ensures.items in
     record {
       unused = ap (λ (g : Graph). branch_at g (length c.as_slice.result.now)) (sym c.self.view_is)
-        ∙ ap (branch_at (graph_of inside.order.items inside.branches.items)) place ∙ unused_next inside.order.items inside.branches.items;
+          ∙ ap (branch_at (graph_of inside.order.items inside.branches.items)) place ∙ unused_next inside.order.items inside.branches.items;
       joined = ap (graph_of inside.order.items) items ∙ graph_of-push inside.order.items inside.branches.items c.args.branch
-        ∙ (λ i. with_branch (c.self.view_is i) (sym place i) c.args.branch);
+          ∙ (λ i. with_branch (c.self.view_is i) (sym place i) c.args.branch);
     }

@@ -1,8 +1,7 @@
-use Rattle.std.proofs.Common.{◌≡◌, ◌-◌, ℕ, true}
+use Rattle.std.proofs.Common.{◌≡◌, ◌-◌, true}
 use Rattle.cnf_base.specs.Truth.{assignment_of}
 use Rattle.node_table.specs.Diagram.{is_node, levels, level_of}
 use Rattle.node_table.specs.Value.{value_of, by_level}
-use Rattle.node_table.proofs.Values
 use Rattle.node_table.proofs.diagram.Diagram.value.Given as goal
 
 abbrev pub invariant-down : goal.invariant-down

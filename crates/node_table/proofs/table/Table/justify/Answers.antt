@@ -1,10 +1,6 @@
 use Rattle.std.proofs.Common.{rules, ◌≡◌, ◌≢◌, Err, sym, ap, ◌∙◌, subst}
-use Rattle.lrat_rules.specs.State.{State}
-use Rattle.clause_ledger.specs.Book.{Book, with_next}
-use Rattle.clause_ledger.specs.declared.error.LedgerError.TheVariants.{IdLimit as LedgerIdLimit, OutOfMemory as LedgerOutOfMemory}
-use Rattle.node_table.specs.declared.error.TableError.{TableError}
+use Rattle.clause_ledger.specs.Book.{Book}
 use Rattle.node_table.specs.declared.error.TableError.TheVariants.{WriteFault}
-use Rattle.node_table.specs.Diagram.{Graph}
 use Rattle.node_table.specs.Tied.{IsTied, IsOverNodes, Extends}
 use Rattle.node_table.specs.Table.{TableState}
 use Rattle.node_table.proofs.Justified.{justified_tied, justified_extends, same_extends, not_torn}

@@ -1,10 +1,10 @@
-use Rattle.std.proofs.Common.{rules, ◌≡◌, true, ◌+◌, ◌<◌, ◌≤◌, sym, ap, ◌∙◌, subst, arith}
-use Rattle.lrat_rules.specs.State.{State, Live}
+use Rattle.std.proofs.Common.{rules, ◌≡◌, true, sym, ap, subst, arith}
+use Rattle.lrat_rules.specs.State.{State}
 use Rattle.clause_ledger.specs.Book.{Book}
-use Rattle.node_table.specs.Diagram.{Graph, levels, is_node}
+use Rattle.node_table.specs.Diagram.{is_node}
 use Rattle.node_table.specs.Tied.{IsTied}
 use Rattle.node_table.specs.Defined.{IsNewVariable}
-use Rattle.node_table.specs.Table.{TableState, live_nodes}
+use Rattle.node_table.specs.Table.{TableState}
 use Rattle.node_table.proofs.Fresh.{new_variable, live_more}
 use Rattle.node_table.proofs.table.Table.make.Goals as goal
 

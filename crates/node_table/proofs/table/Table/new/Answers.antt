@@ -1,7 +1,6 @@
-use Rattle.std.proofs.Common.{◌≡◌, ◌≤◌, ℕ, nat_cmp, ap, arith}
+use Rattle.std.proofs.Common.{nat_cmp, ap, arith}
 use Rattle.std.specs.FinMap as map
 use Rattle.node_table.specs.declared.node.Branch.{Branch}
-use Rattle.node_table.specs.Table.{live_nodes}
 use Rattle.node_table.proofs.table.Table.new.Goals as goal
 
 pub invariant_of-result : goal.invariant_of-result
