@@ -1,0 +1,170 @@
+-- A node that was made leaves the table tied and extended: the node is reduced and defined, and no other variable came.
+use Rattle.std.proofs.Common.{◌≡◌, ℕ, zero, suc, ◌+◌, ◌<◌, ◌≤◌, Bool, true, false, ℤ, pos, negsuc, List, [], ◌∷◌, length, Option, None, Some, is_some, refl, sym, ap, ◌∙◌, subst, arith, inl, inr}
+use Rattle.std.specs.Prelude.{nat_abs, neg_ℤ, not, slice_index_or}
+use Rattle.cnf_base.specs.ProofText.{given_if}
+use Rattle.lrat_rules.specs.State.{State, Live, clause_at}
+use Rattle.hint_chain.specs.declared.atom.Atom.{Atom}
+use Rattle.hint_chain.specs.declared.atom.Atom.TheVariants.{Always, Never, Of}
+use Rattle.hint_chain.specs.Atoms.{neg_atom, clause_of, high_up, low_up, high_down, low_down}
+use Rattle.node_table.specs.declared.node.Node.{Node}
+use Rattle.node_table.specs.declared.node.Node.TheVariants.{False, True, Inner}
+use Rattle.node_table.specs.declared.node.Branch.{Branch}
+use Rattle.node_table.specs.Diagram.{Graph, IsBelow, KeepsNodes, FitsIn, branch_at, is_node, levels, variable_at, with_branch, next_variable}
+use Rattle.node_table.specs.Defined.{IsDefined, atom_of, atom_in, clause_named, is_false_node, is_true_node, one_if, with_definitions}
+use Rattle.node_table.specs.Tied.{IsTied, IsOwned, IsOverNodes, Extends}
+use Rattle.node_table.specs.Table.{IsWanted, new_branch, node_definitions}
+use Rattle.node_table.proofs.Values.{branch_of_node}
+use Rattle.node_table.proofs.Grown.{is_node-kept, IsReduced-joined, KeepsNodes-joined, joined_at, joined_cases}
+use Rattle.node_table.proofs.Stands.{IsOverAtom, FourStand, each_some, four_stand, over_clause}
+
+-- Which of the clauses there are. The atom of a node is Never for False alone, and Always for True alone.
+some_up : (graph : Graph) (u x : ℤ) (node : Node) → is_node graph node ≡ true → is_some (clause_of (Of u ∷ Of x ∷ neg_atom (atom_of graph node) ∷ [])) ≡ not (is_false_node node)
+some_up graph u x False is = refl
+some_up graph u x True is = refl
+some_up graph u x (Inner key) is = let branch = branch_of_node graph key is in ap (λ o. is_some (clause_of (Of u ∷ Of x ∷ neg_atom (atom_in o) ∷ []))) branch.1
+
+some_down : (graph : Graph) (u x : ℤ) (node : Node) → is_node graph node ≡ true → is_some (clause_of (Of u ∷ Of x ∷ atom_of graph node ∷ [])) ≡ not (is_true_node node)
+some_down graph u x False is = refl
+some_down graph u x True is = refl
+some_down graph u x (Inner key) is = let branch = branch_of_node graph key is in ap (λ o. is_some (clause_of (Of u ∷ Of x ∷ atom_in o ∷ []))) branch.1
+
+-- atoms of nodes stay
+atom_of-kept : (old new : Graph) → KeepsNodes old new → (node : Node) → is_node old node ≡ true → atom_of new node ≡ atom_of old node
+atom_of-kept old new keeps False is = refl
+atom_of-kept old new keeps True is = refl
+atom_of-kept old new keeps (Inner key) is =
+    let branch = branch_of_node old key is in
+    ap atom_in (keeps.nodes key.index branch.0 branch.1) ∙ sym (ap atom_in branch.1)
+
+-- Defined clauses that stay: each is none under no number, or stays under its own.
+stays_named : (live later : Live) → ((id : ℕ) (clause : List ℤ) → clause_at live id ≡ Some clause → clause_at later id ≡ Some clause)
+    → (b : Bool) (id : ℕ) (o : Option (List ℤ)) → is_some o ≡ b → clause_named live (given_if b id) ≡ o → clause_named later (given_if b id) ≡ o
+stays_named live later stays true id None some is = absurd (let e : false ≡ true = some in cc)
+stays_named live later stays true id (Some clause) some is = stays id clause is
+stays_named live later stays false id o some is = is
+
+pub IsDefined-kept : (old new : Graph) → KeepsNodes old new → (live later : Live) → ((id : ℕ) (clause : List ℤ) → clause_at live id ≡ Some clause → clause_at later id ≡ Some clause)
+    → (b : Branch) → is_node old b.high ≡ true → is_node old b.low ≡ true → IsDefined live old b → IsDefined later new b
+IsDefined-kept old new keeps live later stays b high_stands low_stands defined =
+    let x : variable_at old b.level ≡ variable_at new b.level = ap (λ (order : List ℕ). slice_index_or order b.level 0) (sym keeps.order) in
+    let high : atom_of old b.high ≡ atom_of new b.high = sym (atom_of-kept old new keeps b.high high_stands) in
+    let low : atom_of old b.low ≡ atom_of new b.low = sym (atom_of-kept old new keeps b.low low_stands) in
+    let u = pos b.variable in
+    let y = pos (variable_at old b.level) in
+    record {
+      hu = stays_named live later stays (not (is_false_node b.high)) b.first (clause_of (high_up u y (atom_of old b.high))) (some_up old u (neg_ℤ y) b.high high_stands) defined.hu
+          ∙ (λ i. clause_of (high_up u (pos (x i)) (high i)));
+      lu = stays_named live later stays (not (is_false_node b.low)) _ (clause_of (low_up u y (atom_of old b.low))) (some_up old u y b.low low_stands) defined.lu
+          ∙ (λ i. clause_of (low_up u (pos (x i)) (low i)));
+      hd = stays_named live later stays (not (is_true_node b.high)) _ (clause_of (high_down u y (atom_of old b.high))) (some_down old (neg_ℤ u) (neg_ℤ y) b.high high_stands) defined.hd
+          ∙ (λ i. clause_of (high_down u (pos (x i)) (high i)));
+      ld = stays_named live later stays (not (is_true_node b.low)) _ (clause_of (low_down u y (atom_of old b.low))) (some_down old (neg_ℤ u) y b.low low_stands) defined.ld
+          ∙ (λ i. clause_of (low_down u (pos (x i)) (low i)));
+    }
+
+-- an owned variable stays owned
+IsOwned-kept : (old new : Graph) → KeepsNodes old new → (variable : ℕ) → IsOwned old variable → IsOwned new variable
+IsOwned-kept old new keeps variable owned = record { key = owned.key; branch = owned.branch; stands = keeps.nodes owned.key owned.branch owned.stands; own = owned.own }
+
+pub IsOverNodes-kept : (old new : Graph) → KeepsNodes old new → (clause : List ℤ) → IsOverNodes old clause → IsOverNodes new clause
+IsOverNodes-kept old new keeps clause over literal among above =
+    IsOwned-kept old new keeps (nat_abs literal) (over literal among (subst (λ (order : List ℕ). length order < nat_abs literal) keeps.order above))
+
+-- the atoms of a node's clauses are over the graph that has it
+abs-neg : (x : ℤ) → nat_abs (neg_ℤ x) ≡ nat_abs x
+abs-neg (pos zero) = refl
+abs-neg (pos (suc n)) = refl
+abs-neg (negsuc n) = refl
+
+over_own : (graph : Graph) (own : ℤ) → IsOwned graph (nat_abs own) → IsOverAtom graph (Of own)
+over_own graph own owned literal is above = let same : own ≡ literal = (let e : Of own ≡ Of literal = is in cc) in subst (λ (n : ℤ). IsOwned graph (nat_abs n)) same owned
+
+over_input : (graph : Graph) (own : ℤ) → nat_abs own ≤ levels graph → IsOverAtom graph (Of own)
+over_input graph own small literal is above = let same : own ≡ literal = (let e : Of own ≡ Of literal = is in cc) in absurd (omega (arith, above, small, ap nat_abs same))
+
+over_node : (graph : Graph) (node : Node) → is_node graph node ≡ true → IsOverAtom graph (atom_of graph node)
+over_node graph False stands literal is above = absurd (let e : Never ≡ Of literal = is in cc)
+over_node graph True stands literal is above = absurd (let e : Always ≡ Of literal = is in cc)
+over_node graph (Inner key) stands literal is above =
+    let branch = branch_of_node graph key stands in
+    over_own graph (pos branch.0.variable) (record { key = key.index; branch = branch.0; stands = branch.1; own = refl }) literal (sym (ap atom_in branch.1) ∙ is) above
+
+over_neg : (graph : Graph) (atom : Atom) → IsOverAtom graph atom → IsOverAtom graph (neg_atom atom)
+over_neg graph Always over literal is above = absurd (let e : Never ≡ Of literal = is in cc)
+over_neg graph Never over literal is above = absurd (let e : Always ≡ Of literal = is in cc)
+over_neg graph (Of own) over literal is above =
+    let same : neg_ℤ own ≡ literal = (let e : Of (neg_ℤ own) ≡ Of literal = is in cc) in
+    let size : nat_abs own ≡ nat_abs literal = sym (abs-neg own) ∙ ap nat_abs same in
+    subst (IsOwned graph) size (over own refl (omega (arith, above, size)))
+
+-- the four clauses of a new node stand under its numbers
+new_is_defined : (graph : Graph) (state after : State) (level : ℕ) (high low : Node) → is_node graph high ≡ true → is_node graph low ≡ true
+    → FourStand state (clause_of (high_up (pos (next_variable graph)) (pos (variable_at graph level)) (atom_of graph high)))
+    (clause_of (low_up (pos (next_variable graph)) (pos (variable_at graph level)) (atom_of graph low)))
+    (clause_of (high_down (pos (next_variable graph)) (pos (variable_at graph level)) (atom_of graph high)))
+    (clause_of (low_down (pos (next_variable graph)) (pos (variable_at graph level)) (atom_of graph low))) after
+    → IsDefined after.live graph (new_branch graph state level high low)
+new_is_defined graph state after level high low high_stands low_stands four =
+    let u = pos (next_variable graph) in
+    let y = pos (variable_at graph level) in
+    let first = state.top + 1 in
+    let p1 = some_up graph u (neg_ℤ y) high high_stands in
+    let p2 = some_up graph u y low low_stands in
+    let p3 = some_down graph (neg_ℤ u) (neg_ℤ y) high high_stands in
+    let p4 = some_down graph (neg_ℤ u) y low low_stands in
+    record {
+      hu = (λ i. clause_named after.live (given_if (sym p1 i) first)) ∙ four.one;
+      lu = (λ i. clause_named after.live (given_if (sym p2 i) (first + one_if (sym p1 i)))) ∙ four.two;
+      hd = (λ i. clause_named after.live (given_if (sym p3 i) (first + one_if (sym p1 i) + one_if (sym p2 i)))) ∙ four.three;
+      ld = (λ i. clause_named after.live (given_if (sym p4 i) (first + one_if (sym p1 i) + one_if (sym p2 i) + one_if (sym p3 i)))) ∙ four.four;
+    }
+
+abbrev pub IsTiedAndExtends : Graph → Graph → State → State → Type 0
+IsTiedAndExtends old new state after = IsTied new after × Extends old new state after
+
+pub made_is_tied : (old : Graph) (state : State) → IsTied old state → (level : ℕ) (high low : Node) → level < levels old → IsBelow old level high → IsBelow old level low → IsWanted old level high low
+    → ((key : ℕ) (b : Branch) → branch_at old key ≡ Some b → b.variable < next_variable old)
+    → (key : ℕ) → branch_at old key ≡ None
+    → IsTiedAndExtends old (with_branch old key (new_branch old state level high low)) state (with_definitions state (node_definitions old state level high low))
+made_is_tied old state tied level high low small high_below low_below wanted own key unused =
+    let branch = new_branch old state level high low in
+    let new = with_branch old key branch in
+    let after = with_definitions state (node_definitions old state level high low) in
+    let keeps = KeepsNodes-joined old key branch unused in
+    let u = pos (next_variable old) in
+    let y = pos (variable_at old level) in
+    let fits : FitsIn old branch = record {
+      level = small;
+      high = high_below;
+      low = low_below;
+      differ = wanted.differ;
+      alone = λ other b is alike. wanted.missing other b is alike.level alike.high alike.low;
+    } in
+    let four = four_stand state tied.numbers (clause_of (high_up u y (atom_of old high))) (clause_of (low_up u y (atom_of old low)))
+    (clause_of (high_down u y (atom_of old high))) (clause_of (low_down u y (atom_of old low))) in
+    let owned : IsOwned new (next_variable old) = record { key = key; branch = branch; stands = joined_at old key branch; own = refl } in
+    let over_u : IsOverAtom new (Of u) = over_own new u owned in
+    let variable_small : variable_at old level ≤ levels old = (tied.ordered.within level small).1 in
+    let over_y : IsOverAtom new (Of y) = over_input new y variable_small in
+    let over_not_y : IsOverAtom new (Of (neg_ℤ y)) = over_neg new (Of y) over_y in
+    let over_not_u : IsOverAtom new (Of (neg_ℤ u)) = over_neg new (Of u) over_u in
+    let over_high : IsOverAtom new (atom_of old high) = subst (IsOverAtom new) (atom_of-kept old new keeps high high_below.stands) (over_node new high (is_node-kept old new keeps high high_below.stands)) in
+    let over_low : IsOverAtom new (atom_of old low) = subst (IsOverAtom new) (atom_of-kept old new keeps low low_below.stands) (over_node new low (is_node-kept old new keeps low low_below.stands)) in (
+      record {
+        reduced = IsReduced-joined old tied.reduced key branch unused fits (omega arith) (λ other b is same. omega (arith, own other b is, same));
+        ordered = tied.ordered;
+        defined = λ other b is. elim (joined_cases old key branch other b is) [
+          | inl here ↦ subst (IsDefined after.live new) (sym here.1)
+              (IsDefined-kept old new keeps after.live after.live (λ id clause at. at) branch high_below.stands low_below.stands (new_is_defined old state after level high low high_below.stands low_below.stands four))
+          | inr there ↦ IsDefined-kept old new keeps state.live after.live four.grows.clauses b (tied.reduced.high other b there).stands (tied.reduced.low other b there).stands (tied.defined other b there)
+        ];
+        over_nodes =
+            each_some (IsOverNodes new) _ (clause_of (low_down u y (atom_of old low))) (over_clause new (low_down u y (atom_of old low)) (over_not_u, (over_y, (over_low, tt))))
+            (each_some (IsOverNodes new) _ (clause_of (high_down u y (atom_of old high))) (over_clause new (high_down u y (atom_of old high)) (over_not_u, (over_not_y, (over_high, tt))))
+            (each_some (IsOverNodes new) _ (clause_of (low_up u y (atom_of old low))) (over_clause new (low_up u y (atom_of old low)) (over_u, (over_y, (over_neg new (atom_of old low) over_low, tt))))
+            (each_some (IsOverNodes new) state (clause_of (high_up u y (atom_of old high))) (over_clause new (high_up u y (atom_of old high)) (over_u, (over_not_y, (over_neg new (atom_of old high) over_high, tt))))
+            (λ id clause at. IsOverNodes-kept old new keeps clause (tied.over_nodes id clause at)))));
+        numbers = four.grows.numbers;
+      },
+      record { nodes = keeps; clauses = four.grows.clauses; numbers = four.grows.gives },
+    )

@@ -1,0 +1,43 @@
+use Rattle.std.proofs.Common.{rules, ◌≡◌, ◌≢◌, Err, sym, ap, ◌∙◌, subst}
+use Rattle.clause_ledger.specs.Book.{Book}
+use Rattle.node_table.specs.declared.error.TableError.TheVariants.{WriteFault}
+use Rattle.node_table.specs.Tied.{IsTied, IsOverNodes, Extends}
+use Rattle.node_table.specs.Table.{TableState}
+use Rattle.node_table.proofs.Justified.{justified_tied, justified_extends, same_extends, not_torn}
+use Rattle.node_table.proofs.table.Table.justify.Goals as goal
+use Rattle.node_table.proofs.table.Table.justify.Goals.{in-Ok, in-Err}
+
+pub returns-clause-tied : goal.returns-clause-tied
+returns-clause-tied g c =
+    let state = c.self.inside.ledger.state in
+    let graph = c.self.inside.diagram in
+    let tied : IsTied graph state = search (rules, c.self.view_is) in
+    let over : IsOverNodes graph c.args.clause.now = subst (λ (t : TableState g.row.S.Denot). IsOverNodes t.graph c.args.clause.now) (sym c.self.view_is) c.requires.over_nodes in
+    elim c.match-add.branch [
+      | in-Ok w ↦ λ _. subst (IsTied graph) (sym w.in-Ok.ensures.added.1) (justified_tied graph state c.args.clause.now tied over)
+      | in-Err w ↦ λ differ.
+          let unchanged : c.add.new.self.state ≡ state =
+          not_torn w.in-Err.e
+          (λ is. ap (λ (b : Book g.row.S.Denot). b.state) (c.add.ensures.limit_unchanged (w.in-Err.is ∙ ap Err is)))
+          (λ is. ap (λ (b : Book g.row.S.Denot). b.state) (c.add.ensures.memory_unchanged (w.in-Err.is ∙ ap Err is)))
+          (λ is. differ (w.result-is ∙ ap Err (w.from.ensures ∙ is))) in
+          subst (IsTied graph) (sym unchanged) tied
+    ]
+
+pub returns-clause-extends : goal.returns-clause-extends
+returns-clause-extends g c =
+    let state = c.self.inside.ledger.state in
+    let graph = c.self.inside.diagram in
+    let tied : IsTied graph state = search (rules, c.self.view_is) in
+    let extends : c.match-add.result ≢ Err WriteFault → Extends graph graph state c.add.new.self.state =
+    elim c.match-add.branch [
+      | in-Ok w ↦ λ _. subst (Extends graph graph state) (sym w.in-Ok.ensures.added.1) (justified_extends graph state c.args.clause.now tied)
+      | in-Err w ↦ λ differ.
+          let unchanged : c.add.new.self.state ≡ state =
+          not_torn w.in-Err.e
+          (λ is. ap (λ (b : Book g.row.S.Denot). b.state) (c.add.ensures.limit_unchanged (w.in-Err.is ∙ ap Err is)))
+          (λ is. ap (λ (b : Book g.row.S.Denot). b.state) (c.add.ensures.memory_unchanged (w.in-Err.is ∙ ap Err is)))
+          (λ is. differ (w.result-is ∙ ap Err (w.from.ensures ∙ is))) in
+          subst (Extends graph graph state) (sym unchanged) (same_extends graph state tied)
+    ] in
+    subst (λ (t : TableState g.row.S.Denot). c.match-add.result ≢ Err WriteFault → Extends t.graph graph t.book.state c.add.new.self.state) c.self.view_is extends

@@ -1,0 +1,44 @@
+-- What nodes and live clauses have to do with each other.
+use Rattle.std.specs.Prelude.{◌≡◌, ◌⊎◌, ℕ, ◌<◌, ◌≤◌, ℤ, nat_abs, List, Some, IsTrue, is_some}
+use Rattle.std.specs.List.{list_any}
+use Rattle.std.specs.Ordering.{int_eq}
+use Rattle.lrat_rules.specs.State.{State, Live, clause_at}
+use Rattle.node_table.specs.declared.node.Branch.{Branch}
+use Rattle.node_table.specs.Diagram.{Graph, IsReduced, IsOrder, KeepsNodes, branch_at, levels}
+use Rattle.node_table.specs.Defined.{IsDefined}
+
+-- an extension variable is that of a node
+pub record IsOwned (graph : Graph) (variable : ℕ) : Type 0 where
+  pub key : ℕ
+  pub branch : Branch
+  pub stands : branch_at graph key ≡ Some branch
+  pub own : branch.variable ≡ variable
+
+-- each extension variable of a clause is that of a node
+abbrev pub IsOverNodes : Graph → List ℤ → Type 0
+IsOverNodes graph clause = (literal : ℤ) → IsTrue (list_any (int_eq literal) clause) → levels graph < nat_abs literal → IsOwned graph (nat_abs literal)
+
+-- The nodes are reduced and ordered, the clauses that define each are live, and no live clause holds an extension
+-- variable that isn't a node's. Live clauses are numbered from 1 to the greatest number.
+pub record IsTied (graph : Graph) (state : State) : Type 0 where
+  pub reduced : IsReduced graph
+  pub ordered : IsOrder graph.order
+  pub defined : (key : ℕ) (branch : Branch) → branch_at graph key ≡ Some branch → IsDefined state.live graph branch
+  pub over_nodes : (id : ℕ) (clause : List ℤ) → clause_at state.live id ≡ Some clause → IsOverNodes graph clause
+  pub numbers : (id : ℕ) (clause : List ℤ) → clause_at state.live id ≡ Some clause → (0 < id) × (id ≤ state.top)
+
+-- live clauses stay as they are
+abbrev pub KeepsClauses : Live → Live → Type 0
+KeepsClauses old new = (id : ℕ) (clause : List ℤ) → clause_at old id ≡ Some clause → clause_at new id ≡ Some clause
+
+-- the numbers from the greatest before on are those of new clauses, each once
+pub record GivesNumbers (old new : State) : Type 0 where
+  pub no_less : old.top ≤ new.top
+  pub next : (id : ℕ) → IsTrue (is_some (clause_at new.live id)) → IsTrue (is_some (clause_at old.live id)) ⊎ (old.top < id)
+  pub each : (id : ℕ) → old.top < id → id ≤ new.top → IsTrue (is_some (clause_at new.live id))
+
+-- Nodes and live clauses stay, and new clauses come under the next numbers.
+pub record Extends (old_graph new_graph : Graph) (old new : State) : Type 0 where
+  pub nodes : KeepsNodes old_graph new_graph
+  pub clauses : KeepsClauses old.live new.live
+  pub numbers : GivesNumbers old new

@@ -1,0 +1,248 @@
+// The nodes of a table, in the order in which they were made; a node is found by a search from the front. A slab with
+// an index from triples to keys may take their place under the same contracts.
+ghost use Rattle.std.specs.Prelude.{◌≡◌, ◌≢◌, ◌↔◌, ◌+◌, ◌<◌, ◌≤◌, ℕ, pos, None, Some, IfOk, IfSome, OnOk, OnErr, MatchOption, length, IsTrue, IsFalse, is_some, slice_index_or};
+ghost use Rattle.std.specs.Option.{option_copied};
+ghost use Rattle.std.specs.FinMap as map;
+ghost use Rattle.cnf_base.specs.Truth.{assignment_of};
+ghost use Rattle.cnf_base.specs.ProofText.{max_id};
+ghost use Rattle.node_table.specs.Diagram.{Graph, IsOrder, IsReduced, IsBelow, FitsIn, IsNew, next_variable, branch_at, branch_of, is_node, levels, variable_at, with_branch};
+ghost use Rattle.node_table.specs.Value.{value_of, by_level, IsChosen};
+ghost use Rattle.node_table.specs.Stored.{graph_of, ArePlaces};
+ghost use Rattle.node_table.specs.Defined.{atom_of, atom_in};
+ghost use Rattle.node_table.specs.declared.node.Branch.{Branch as BranchValue};
+
+use crate::node::{Branch, Node, NodeKey};
+use cnf_base::{Lit, OutOfMemory};
+use hint_chain::Atom;
+use std::alloc::Global;
+use std::marker::Model;
+
+/// The nodes over an order of the variables.
+#[derive(Debug, Drop)]
+pub struct Diagram {
+    order: Vec<u32>,
+    places: Vec<u32>,
+    branches: Vec<Branch>,
+}
+
+impl Model for Diagram {
+    ghost use Rattle.node_table.specs.Diagram.{Graph, graph_code};
+    ghost use Rattle.node_table.specs.Stored.{graph_of, IsStored};
+
+    ghost Value = { Graph };
+
+    ghost coded = { graph_code };
+
+    ghost view = { λ d. graph_of d.order.items d.branches.items };
+
+    ghost invariant = { λ d. IsStored d.order.items d.places.items d.branches.items };
+}
+
+impl Diagram {
+    /// No node, over the variables 1, 2, .. in this order.
+    pub fn new(alloc: Global, order: &[u32]) -> Result<Diagram, OutOfMemory>
+        requires order { IsOrder order.now }
+        requires few { length order.now ≤ 1000000 }
+        ensures { IfOk result (λ diagram. diagram ≡ record { order = order.now; nodes = map.empty }) }
+    {
+        let places = places_of(alloc, order)?;
+        let mut own_order = Vec::new(alloc);
+        own_order.extend_from_slice(order)?;
+        Ok(Diagram {
+            order: own_order,
+            places,
+            branches: Vec::new(alloc),
+        })
+    }
+
+    /// Its nodes are reduced and ordered.
+    pub fn is_reduced(&self)
+        ensures reduced { IsReduced self.now }
+        ensures ordered { IsOrder self.now.order }
+        ensures few_levels { levels self.now ≤ 1000000 }
+        ensures next { (key : ℕ) (branch : BranchValue) → branch_at self.now key ≡ Some branch → branch.variable < next_variable self.now }
+    {
+        let _ = &self.order;
+    }
+
+    /// The variables, the top one first.
+    pub fn order(&self) -> &[u32]
+        ensures value { result.now ≡ self.now.order }
+        ensures few { levels self.now ≤ 1000000 }
+    {
+        self.order.as_slice()
+    }
+
+    /// The place of a variable in the order, from 0; None where it is none of the variables.
+    pub fn level(&self, variable: u32) -> Option<u32>
+        ensures { MatchOption result ((level : ℕ) → level < levels self.now → variable_at self.now level ≢ variable)
+            (λ level. (level < levels self.now) × (variable_at self.now level ≡ variable)) }
+    {
+        let places = self.places.as_slice();
+        if variable == 0 {
+            return None;
+        }
+        places.get(variable as usize - 1).copied()
+    }
+
+    /// The variable of a level.
+    pub fn variable(&self, level: u32) -> u32
+        requires { level < levels self.now }
+        ensures value { result ≡ variable_at self.now level }
+        ensures range { (0 < result) × (result ≤ levels self.now) × (levels self.now ≤ 1000000) }
+    {
+        self.order.as_slice()[level as usize]
+    }
+
+    /// The extension variable of the next node.
+    pub fn next_variable(&self) -> u32
+        ensures value { result ≡ next_variable self.now }
+        ensures range { (levels self.now < result) × (result ≤ 101000001) }
+        ensures own { (key : ℕ) (branch : BranchValue) → branch_at self.now key ≡ Some branch → branch.variable < result }
+    {
+        let levels = self.order.as_slice().len() as u32;
+        levels + 1 + self.branches.as_slice().len() as u32
+    }
+
+    /// What a node puts into a clause.
+    pub fn atom(&self, node: Node) -> Atom
+        ensures { result ≡ atom_of self.now node }
+    {
+        match node {
+            Node::False => Atom::Never,
+            Node::True => Atom::Always,
+            Node::Inner(_) => self.inner_atom(node),
+        }
+    }
+
+    // The literal of an inner node, and nothing for a name that isn't in use.
+    fn inner_atom(&self, node: Node) -> Atom
+        ensures { result ≡ atom_in (branch_of self.now node) }
+    {
+        let _ = &self.order;
+        match self.branch(node) {
+            None => Atom::Never,
+            Some(branch) => Atom::Of(positive(branch.variable)),
+        }
+    }
+
+    /// How many inner nodes there are.
+    pub fn len(&self) -> u32
+        ensures { result ≡ map.len self.now.nodes }
+    {
+        self.branches.as_slice().len() as u32
+    }
+
+    /// The inner node of this name; None for a constant.
+    pub fn branch(&self, node: Node) -> Option<&Branch>
+        ensures branch { option_copied result ≡ branch_of self.now node }
+        ensures first { IfSome result (λ branch. branch.now.first ≤ max_id + 1) }
+    {
+        match node {
+            Node::False | Node::True => None,
+            Node::Inner(key) => self.branches.as_slice().get(key.index as usize),
+        }
+    }
+
+    /// The node of this level and these children, if there is one.
+    pub fn find(&self, level: u32, high: Node, low: Node) -> Option<NodeKey>
+        ensures { MatchOption result
+            ((key : ℕ) (branch : BranchValue) → branch_at self.now key ≡ Some branch → branch.level ≡ level → branch.high ≡ high → branch.low ≡ low → ⊥)
+            (λ key. (branch : BranchValue) × (branch_at self.now key.index ≡ Some branch) × (branch.level ≡ level) × (branch.high ≡ high) × (branch.low ≡ low)) }
+    {
+        let branches = self.branches.as_slice();
+        for i in 0..branches.len() {
+            if is_alike(&branches[i], level, high, low) {
+                return Some(NodeKey { index: i as u32 });
+            }
+        }
+        None
+    }
+
+    /// One node more, which no other is alike. A refusal changes nothing.
+    pub fn push(&mut self, branch: Branch) -> Result<NodeKey, OutOfMemory>
+        requires few { map.len self.old.nodes < 100000000 }
+        requires fits { FitsIn self.old branch }
+        requires next { branch.variable ≡ next_variable self.old }
+        requires first { branch.first ≤ max_id + 1 }
+        ensures ok { IfOk result (λ key. IsNew self.old self.new key.index branch) }
+        ensures err { OnErr result (self.new ≡ self.old) }
+    {
+        let index = self.branches.as_slice().len() as u32;
+        self.branches.push(branch)?;
+        Ok(NodeKey { index })
+    }
+
+    /// The function of a node under an assignment of all variables.
+    pub fn value(&self, node: Node, values: &[bool]) -> bool
+        requires { IsTrue (is_node self.now node) }
+        ensures { result ≡ value_of self.now (by_level self.now.order (assignment_of values.now)) node }
+    {
+        let mut node = node;
+        'down: loop {
+            match self.chosen(node, values) {
+                Some(child) => node = child,
+                None => return matches!(node, Node::True),
+            }
+        }
+    }
+
+    // The child of an inner node that its variable chooses.
+    fn chosen(&self, node: Node, values: &[bool]) -> Option<Node>
+        requires { IsTrue (is_node self.now node) }
+        ensures { MatchOption result (branch_of self.now node ≡ None) (λ child. IsChosen self.now (by_level self.now.order (assignment_of values.now)) node child) }
+    {
+        let branch = self.branch(node)?;
+        let variable = self.order.as_slice()[branch.level as usize];
+        if is_true(values, variable) {
+            Some(branch.high)
+        } else {
+            Some(branch.low)
+        }
+    }
+}
+
+/// The literal of a variable.
+pub fn positive(variable: u32) -> Lit
+    requires { (0 < variable) × (variable ≤ 2147483647) }
+    ensures { result ≡ pos variable }
+{
+    Lit::new(variable as i32).unwrap()
+}
+
+pub fn same_node(one: Node, other: Node) -> bool
+    ensures { IsTrue result ↔ (one ≡ other) }
+{
+    one == other
+}
+
+fn is_alike(branch: &Branch, level: u32, high: Node, low: Node) -> bool
+    ensures { IsTrue result ↔ ((branch.now.level ≡ level) × (branch.now.high ≡ high) × (branch.now.low ≡ low)) }
+{
+    branch.level == level && branch.high == high && branch.low == low
+}
+
+// The value of a variable, false where there is none.
+fn is_true(values: &[bool], variable: u32) -> bool
+    requires { 0 < variable }
+    ensures { result ≡ assignment_of values.now variable }
+{
+    match values.get(variable as usize - 1) {
+        Some(value) => *value,
+        None => false,
+    }
+}
+
+// The place of each variable in the order.
+fn places_of(alloc: Global, order: &[u32]) -> Result<Vec<u32>, OutOfMemory>
+    requires order { IsOrder order.now }
+    requires few { length order.now ≤ 1000000 }
+    ensures { IfOk result (λ places. ArePlaces order.now places.items) }
+{
+    let mut places = Vec::new(alloc);
+    places.resize(order.len(), 0)?;
+    for i in 0..order.len() {
+        places[order[i] as usize - 1] = i as u32;
+    }
+    Ok(places)
+}

@@ -1,0 +1,47 @@
+// Laws of diagrams, over everything: functions without work, whose clauses the crates above cite by a call.
+ghost use Rattle.std.specs.Prelude.{◌≡◌, ◌≤◌, ◌<◌, ℕ, ℤ, List, length, IsTrue, if◌then◌else◌};
+ghost use Rattle.std.specs.FinMap as map;
+ghost use Rattle.cnf_base.specs.Truth.{AreClausesOf};
+ghost use Rattle.lrat_rules.specs.State.{start};
+ghost use Rattle.node_table.specs.Tied.{IsTied};
+ghost use Rattle.node_table.specs.declared.node.Node.{Node as NodeValue};
+ghost use Rattle.node_table.specs.Diagram.{Graph, IsReduced, IsBelow, KeepsNodes, IsOrder, is_node, levels, level_of, high_at, low_at};
+ghost use Rattle.node_table.specs.Value.{Levels, value_of};
+
+use lrat_rules::start_law;
+
+/// Two nodes of equal value under every assignment are the same node. (Bryant 1986, theorem 1.)
+pub fn canonical_law()
+    ensures { (graph : Graph) → IsReduced graph → (u v : NodeValue) → IsTrue (is_node graph u) → IsTrue (is_node graph v)
+        → ((a : Levels) → value_of graph a u ≡ value_of graph a v) → u ≡ v }
+{}
+
+/// What a graph that grows says of the nodes that it had.
+pub fn growth_law()
+    ensures stands { (old new : Graph) → KeepsNodes old new → (node : NodeValue) → IsTrue (is_node old node) → IsTrue (is_node new node) }
+    ensures level { (old new : Graph) → KeepsNodes old new → (node : NodeValue) → IsTrue (is_node old node) → level_of new node ≡ level_of old node }
+    ensures high { (old new : Graph) → KeepsNodes old new → (level : ℕ) (node : NodeValue) → IsTrue (is_node old node) → high_at new level node ≡ high_at old level node }
+    ensures low { (old new : Graph) → KeepsNodes old new → (level : ℕ) (node : NodeValue) → IsTrue (is_node old node) → low_at new level node ≡ low_at old level node }
+    ensures value { (old new : Graph) → IsReduced old → KeepsNodes old new → (a : Levels) (node : NodeValue) → IsTrue (is_node old node) → value_of new a node ≡ value_of old a node }
+{}
+
+/// A node by its cofactors at a level, whether or not it is of it.
+pub fn cofactor_law()
+    ensures value { (graph : Graph) → IsReduced graph → (a : Levels) (level : ℕ) (node : NodeValue) → IsTrue (is_node graph node)
+        → value_of graph a node ≡ (if a level then value_of graph a (high_at graph level node) else value_of graph a (low_at graph level node)) }
+    ensures high { (graph : Graph) → IsReduced graph → (level : ℕ) (node : NodeValue) → IsTrue (is_node graph node) → level ≤ level_of graph node → level < levels graph
+        → IsBelow graph level (high_at graph level node) }
+    ensures low { (graph : Graph) → IsReduced graph → (level : ℕ) (node : NodeValue) → IsTrue (is_node graph node) → level ≤ level_of graph node → level < levels graph
+        → IsBelow graph level (low_at graph level node) }
+    // A value doesn't depend on the levels above the node.
+    ensures below { (graph : Graph) → IsReduced graph → (a b : Levels) (node : NodeValue) → IsTrue (is_node graph node) → ((i : ℕ) → level_of graph node ≤ i → a i ≡ b i)
+        → value_of graph a node ≡ value_of graph b node }
+{}
+
+/// A table without nodes is tied to the formula's clauses.
+pub fn opening_law()
+    ensures { (order : List ℕ) (clauses : List (List ℤ)) → IsOrder order → AreClausesOf (length order) clauses
+        → IsTied (record { order = order; nodes = map.empty }) (start clauses) }
+{
+    start_law();
+}

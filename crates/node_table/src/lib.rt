@@ -1,0 +1,21 @@
+//! Nodes of reduced ordered binary decision diagrams, together with the proof that defines them. A table gives the node
+//! of a level and two children: a known one, or a new one under an extension variable of its own, whose defining
+//! clauses are then live. After each call that isn't a write fault the nodes are reduced and ordered, each is defined by
+//! live clauses, and nodes and clauses that were there stay. Two nodes of equal value are the same node. It stands on
+//! `clause_ledger` for the proof and on `hint_chain` for clauses over nodes.
+#![tactic(auto)]
+
+mod define;
+mod diagram;
+mod error;
+mod laws;
+mod node;
+mod table;
+#[cfg(test)]
+mod tests;
+
+pub use diagram::Diagram;
+pub use error::TableError;
+pub use laws::{canonical_law, cofactor_law, growth_law, opening_law};
+pub use node::{Branch, Defs, Just, Node, NodeKey};
+pub use table::Table;

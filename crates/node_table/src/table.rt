@@ -1,0 +1,349 @@
+// The unique table: nodes with their extension variables and defining clauses on the proof. (Bryant, 1986; Bryant,
+// Heule: Generating Extended Resolution Proofs with a BDD-Based SAT Solver, 2021.)
+ghost use Rattle.std.specs.Prelude.{◌≡◌, ◌≢◌, ◌↔◌, ◌⊎◌, ◌≤◌, ◌<◌, ◌+◌, ◌-◌, ◌++◌, ℕ, ℤ, pos, List, [], None, Some, Ok, Err, IsTrue, IsFalse, IsOk, IsErr, OnOk, OnErr, IfOk, IfErr, IsErrOf, MatchOption, true, false, is_some, length};
+ghost use Rattle.std.specs.Option.{option_copied, option_map};
+ghost use Rattle.std.specs.FinMap as map;
+ghost use Rattle.cnf_base.specs.Truth.{assignment_of, AreClausesOf};
+ghost use Rattle.lrat_rules.specs.State.{start};
+ghost use Rattle.lrat_rules.specs.Run.{IsCutProof};
+ghost use Rattle.lrat_rules.specs.Strict.{RefutesStrictly};
+ghost use Rattle.clause_ledger.specs.Book.{IsProofOf, IsTorn, OnlyWrites, next_line, with_next};
+ghost use Rattle.node_table.specs.declared.node.Branch.{Branch as BranchValue};
+ghost use Rattle.node_table.specs.declared.node.Node.TheVariants.{Inner};
+ghost use Rattle.node_table.specs.declared.error.TableError.TheVariants.{NodeLimit, IdLimit, WriteFault};
+ghost use Rattle.node_table.specs.Diagram.{Graph, IsOrder, IsBelow, branch_at, branch_of, is_node, levels, variable_at};
+ghost use Rattle.node_table.specs.Value.{value_of, by_level};
+ghost use Rattle.node_table.specs.Defined.{IsDefined, atom_of, defs_of, definition_count, definition_lines, is_false_node, is_true_node, literal_of_branch};
+ghost use Rattle.cnf_base.specs.ProofText.{given_if, max_id};
+ghost use Rattle.node_table.specs.Tied.{IsTied, IsOverNodes, Extends};
+ghost use Rattle.node_table.specs.Table.{TableState, HasChildren, IsMissing, IsWanted, IsMade, IsSame, UnlessTorn, live_nodes, node_definitions};
+
+use crate::define::write_definitions;
+use crate::diagram::{Diagram, positive, same_node};
+use crate::error::TableError;
+use crate::node::{Branch, Defs, Node, NodeKey};
+use clause_ledger::Ledger;
+use cnf_base::{Id, Lit, OutOfMemory};
+use hint_chain::Atom;
+use host_io::Sink;
+use std::alloc::Global;
+use std::marker::Model;
+
+/// Nodes over an order of the variables, with a ledger that holds their defining clauses.
+#[derive(Drop)]
+pub struct Table<S: Sink + Drop> {
+    diagram: Diagram,
+    ledger: Ledger<S>,
+    max_nodes: u32,
+}
+
+impl<S: Sink + Drop> Model for Table<S> {
+    ghost use Rattle.std.specs.Prelude.{◌≤◌};
+    ghost use Rattle.node_table.specs.Table.{TableState, table_code, live_nodes};
+
+    ghost Value = { TableState S };
+
+    ghost coded = { table_code S.code };
+
+    ghost view = { λ t. record { graph = t.diagram; book = t.ledger; max_nodes = t.max_nodes } };
+
+    ghost invariant = { λ t. (t.max_nodes ≤ 100000000) × (live_nodes t.diagram ≤ t.max_nodes) };
+}
+
+impl<S: Sink + Drop> Table<S> {
+    /// Opens a table without nodes over a ledger and the variables 1, 2, .. in this order. A refusal for want of memory
+    /// hands the ledger back.
+    pub fn open(
+        alloc: Global,
+        ledger: Ledger<S>,
+        order: &[u32],
+        max_nodes: u32,
+    ) -> Result<Table<S>, (Ledger<S>, OutOfMemory)>
+        requires order { IsOrder order.now }
+        requires few_levels { length order.now ≤ 1000000 }
+        requires few_nodes { max_nodes ≤ 100000000 }
+        ensures opened { IfOk result (λ table. table ≡ record { graph = record { order = order.now; nodes = map.empty }; book = ledger; max_nodes = max_nodes }) }
+        ensures refused { IfErr result (λ back. back.0 ≡ ledger) }
+    {
+        match Diagram::new(alloc, order) {
+            Ok(diagram) => Ok(Table::new(ledger, diagram, max_nodes)),
+            Err(e) => Err((ledger, e)),
+        }
+    }
+
+    /// A table without nodes. `max_nodes` is the greatest number of inner nodes that may be live at once.
+    pub fn new(ledger: Ledger<S>, diagram: Diagram, max_nodes: u32) -> Self
+        requires few { max_nodes ≤ 100000000 }
+        requires empty { diagram.nodes ≡ map.empty }
+        ensures { result ≡ record { graph = diagram; book = ledger; max_nodes = max_nodes } }
+    {
+        Table {
+            diagram,
+            ledger,
+            max_nodes,
+        }
+    }
+
+    /// How many inner nodes are live, at most as many as are allowed.
+    pub fn live(&self) -> u32
+        ensures value { result ≡ live_nodes self.now.graph }
+        ensures few { live_nodes self.now.graph ≤ self.now.max_nodes }
+    {
+        let _ = self.max_nodes;
+        self.diagram.len()
+    }
+
+    /// The node whose cofactors at this level are these children: the child where they are equal, else the node that
+    /// is there already, or a new one with its defining clauses.
+    pub fn node(&mut self, level: u32, high: Node, low: Node) -> Result<Node, TableError>
+        requires in_step { IsTrue self.old.book.in_step }
+        requires tied { IsTied self.old.graph self.old.book.state }
+        requires level { level < levels self.old.graph }
+        requires high { IsBelow self.old.graph level high }
+        requires low { IsBelow self.old.graph level low }
+        ensures children { IfOk result (λ node. HasChildren self.new.graph level high low node) }
+        ensures tied { UnlessTorn result (IsTied self.new.graph self.new.book.state) }
+        ensures extends { UnlessTorn result (Extends self.old.graph self.new.graph self.old.book.state self.new.book.state) }
+        // Equal children give the child and a known node itself, and nothing is written.
+        ensures equal { high ≡ low → (result ≡ Ok high) × (self.new ≡ self.old) }
+        ensures known { (key : ℕ) (branch : BranchValue) → branch_at self.old.graph key ≡ Some branch → branch.level ≡ level → branch.high ≡ high → branch.low ≡ low
+            → (result ≡ Ok (Inner (record { index = key }))) × (self.new ≡ self.old) }
+        ensures made { IsWanted self.old.graph level high low → IfOk result (λ node. IsMade self.old self.new level high low node) }
+        // The limits, tried in this order. A node that is refused changes nothing.
+        ensures node_limit { (result ≡ Err NodeLimit) ↔ (IsWanted self.old.graph level high low × (self.old.max_nodes ≤ live_nodes self.old.graph)) }
+        ensures id_limit { (result ≡ Err IdLimit) ↔ (IsWanted self.old.graph level high low × (live_nodes self.old.graph < self.old.max_nodes)
+            × (self.old.book.limit < self.old.book.state.top + definition_count high low)) }
+        ensures refused { IfErr result (λ e. e ≢ WriteFault → IsSame self.old self.new) }
+        // The proof.
+        ensures lines { IsTrue S.tells → IsWanted self.old.graph level high low → OnOk result ((S.channel self.new.book.sink).written
+            ≡ (S.channel self.old.book.sink).written ++ definition_lines self.old.book.state (node_definitions self.old.graph self.old.book.state level high low)) }
+        ensures kept { (clauses : List (List ℤ)) → IsProofOf clauses S.tells (S.channel self.old.book.sink) self.old.book.state
+            → UnlessTorn result (IsProofOf clauses S.tells (S.channel self.new.book.sink) self.new.book.state) }
+        ensures write_fault { result ≡ Err WriteFault → IsTorn S.tells (S.channel self.old.book.sink) (S.channel self.new.book.sink)
+            (definition_lines self.old.book.state (node_definitions self.old.graph self.old.book.state level high low)) }
+        ensures cut { (clauses : List (List ℤ)) → IsProofOf clauses S.tells (S.channel self.old.book.sink) self.old.book.state → IsTrue S.tells
+            → result ≡ Err WriteFault → IsCutProof clauses (S.channel self.new.book.sink).written }
+        ensures in_step { UnlessTorn result (IsTrue self.new.book.in_step) }
+        ensures limits { (self.new.max_nodes ≡ self.old.max_nodes) × (self.new.book.limit ≡ self.old.book.limit) }
+        ensures only_writes { OnlyWrites (S.channel self.old.book.sink) (S.channel self.new.book.sink) }
+        ensures beside { S.beside self.new.book.sink ≡ S.beside self.old.book.sink }
+    {
+        self.diagram.is_reduced();
+        if same_node(high, low) {
+            return Ok(high);
+        }
+        if let Some(key) = self.diagram.find(level, high, low) {
+            return Ok(Node::Inner(key));
+        }
+        self.make(level, high, low)
+    }
+
+    /// Adds a clause over the formula's variables and those of live nodes, with a strict refutation as its hints.
+    pub fn justify(&mut self, clause: &[Lit], hints: &[Id]) -> Result<Id, TableError>
+        requires in_step { IsTrue self.old.book.in_step }
+        requires tied { IsTied self.old.graph self.old.book.state }
+        requires strict { RefutesStrictly self.old.book.state.live clause.now hints.now }
+        requires over_nodes { IsOverNodes self.old.graph clause.now }
+        ensures added { IfOk result (λ id. (id ≡ self.old.book.state.top + 1) × (self.new.book.state ≡ with_next self.old.book.state clause.now)) }
+        ensures nodes { self.new.graph ≡ self.old.graph }
+        ensures tied { UnlessTorn result (IsTied self.new.graph self.new.book.state) }
+        ensures extends { UnlessTorn result (Extends self.old.graph self.new.graph self.old.book.state self.new.book.state) }
+        // The number limit comes first; it and want of memory change nothing.
+        ensures id_limit { (result ≡ Err IdLimit) ↔ (self.old.book.limit ≤ self.old.book.state.top) }
+        ensures no_node_limit { result ≢ Err NodeLimit }
+        ensures refused { IfErr result (λ e. e ≢ WriteFault → IsSame self.old self.new) }
+        // The proof.
+        ensures line { IsTrue S.tells → OnOk result ((S.channel self.new.book.sink).written ≡ (S.channel self.old.book.sink).written ++ next_line self.old.book.state clause.now hints.now) }
+        ensures kept { (clauses : List (List ℤ)) → IsProofOf clauses S.tells (S.channel self.old.book.sink) self.old.book.state
+            → UnlessTorn result (IsProofOf clauses S.tells (S.channel self.new.book.sink) self.new.book.state) }
+        ensures write_fault { result ≡ Err WriteFault → IsTorn S.tells (S.channel self.old.book.sink) (S.channel self.new.book.sink)
+            (next_line self.old.book.state clause.now hints.now) }
+        ensures cut { (clauses : List (List ℤ)) → IsProofOf clauses S.tells (S.channel self.old.book.sink) self.old.book.state → IsTrue S.tells
+            → result ≡ Err WriteFault → IsCutProof clauses (S.channel self.new.book.sink).written }
+        ensures in_step { UnlessTorn result (IsTrue self.new.book.in_step) }
+        ensures limits { (self.new.max_nodes ≡ self.old.max_nodes) × (self.new.book.limit ≡ self.old.book.limit) }
+        ensures only_writes { OnlyWrites (S.channel self.old.book.sink) (S.channel self.new.book.sink) }
+        ensures beside { S.beside self.new.book.sink ≡ S.beside self.old.book.sink }
+    {
+        match self.ledger.add(clause, hints) {
+            Ok(id) => Ok(id),
+            Err(e) => Err(TableError::from(e)),
+        }
+    }
+
+    /// The level of an inner node and its children; None for a constant.
+    pub fn parts(&self, node: Node) -> Option<(u32, Node, Node)>
+        ensures { MatchOption result (branch_of self.now.graph node ≡ None)
+            (λ parts. (branch : BranchValue) × (branch_of self.now.graph node ≡ Some branch) × (parts.0 ≡ branch.level) × (parts.1 ≡ branch.high) × (parts.2 ≡ branch.low)) }
+    {
+        match self.diagram.branch(node) {
+            None => None,
+            Some(branch) => Some((branch.level, branch.high, branch.low)),
+        }
+    }
+
+    /// What a node puts into a clause.
+    pub fn atom(&self, node: Node) -> Atom
+        ensures { result ≡ atom_of self.now.graph node }
+    {
+        self.diagram.atom(node)
+    }
+
+    /// The literal of an inner node's extension variable; None for a constant.
+    pub fn literal(&self, node: Node) -> Option<Lit>
+        ensures { result ≡ option_map literal_of_branch (branch_of self.now.graph node) }
+    {
+        match self.diagram.atom(node) {
+            Atom::Of(literal) => Some(literal),
+            Atom::Always | Atom::Never => None,
+        }
+    }
+
+    /// The numbers of a node's defining clauses; None for a constant.
+    pub fn definitions(&self, node: Node) -> Option<Defs>
+        ensures { result ≡ option_map defs_of (branch_of self.now.graph node) }
+    {
+        match self.diagram.branch(node) {
+            None => None,
+            Some(branch) => Some(defs_of(branch)),
+        }
+    }
+
+    /// The function of a node under an assignment of all variables, the first being that of variable 1.
+    pub fn value(&self, node: Node, values: &[bool]) -> bool
+        requires { IsTrue (is_node self.now.graph node) }
+        ensures { result ≡ value_of self.now.graph (by_level self.now.graph.order (assignment_of values.now)) node }
+    {
+        self.diagram.value(node, values)
+    }
+
+    /// The place of a variable in the order, from 0; None where it is none of the variables.
+    pub fn level(&self, variable: u32) -> Option<u32>
+        ensures { MatchOption result ((level : ℕ) → level < levels self.now.graph → variable_at self.now.graph level ≢ variable)
+            (λ level. (level < levels self.now.graph) × (variable_at self.now.graph level ≡ variable)) }
+    {
+        self.diagram.level(variable)
+    }
+
+    /// The variables, the top one first.
+    pub fn order(&self) -> &[u32]
+        ensures value { result.now ≡ self.now.graph.order }
+        ensures few { levels self.now.graph ≤ 1000000 }
+    {
+        self.diagram.order()
+    }
+
+    pub fn ledger(&self) -> &Ledger<S>
+        ensures { result.now ≡ self.now.book }
+    {
+        &self.ledger
+    }
+
+    pub fn into_ledger(self) -> Ledger<S>
+        ensures { result ≡ self.book }
+    {
+        let Table {
+            diagram: _,
+            ledger,
+            max_nodes: _,
+        } = self;
+        ledger
+    }
+
+    // Makes a node that is wanted.
+    fn make(&mut self, level: u32, high: Node, low: Node) -> Result<Node, TableError>
+        requires in_step { IsTrue self.old.book.in_step }
+        requires tied { IsTied self.old.graph self.old.book.state }
+        requires level { level < levels self.old.graph }
+        requires high { IsBelow self.old.graph level high }
+        requires low { IsBelow self.old.graph level low }
+        requires wanted { IsWanted self.old.graph level high low }
+        ensures made { IfOk result (λ node. IsMade self.old self.new level high low node) }
+        ensures node_limit { (result ≡ Err NodeLimit) ↔ (self.old.max_nodes ≤ live_nodes self.old.graph) }
+        ensures id_limit { (result ≡ Err IdLimit) ↔ ((live_nodes self.old.graph < self.old.max_nodes) × (self.old.book.limit < self.old.book.state.top + definition_count high low)) }
+        ensures refused { IfErr result (λ e. e ≢ WriteFault → IsSame self.old self.new) }
+        ensures lines { IsTrue S.tells → OnOk result ((S.channel self.new.book.sink).written
+            ≡ (S.channel self.old.book.sink).written ++ definition_lines self.old.book.state (node_definitions self.old.graph self.old.book.state level high low)) }
+        ensures kept { (clauses : List (List ℤ)) → IsProofOf clauses S.tells (S.channel self.old.book.sink) self.old.book.state
+            → UnlessTorn result (IsProofOf clauses S.tells (S.channel self.new.book.sink) self.new.book.state) }
+        ensures write_fault { result ≡ Err WriteFault → IsTorn S.tells (S.channel self.old.book.sink) (S.channel self.new.book.sink)
+            (definition_lines self.old.book.state (node_definitions self.old.graph self.old.book.state level high low)) }
+        ensures cut { (clauses : List (List ℤ)) → IsProofOf clauses S.tells (S.channel self.old.book.sink) self.old.book.state → IsTrue S.tells
+            → result ≡ Err WriteFault → IsCutProof clauses (S.channel self.new.book.sink).written }
+        ensures in_step { UnlessTorn result (IsTrue self.new.book.in_step) }
+        ensures limits { (self.new.max_nodes ≡ self.old.max_nodes) × (self.new.book.limit ≡ self.old.book.limit) }
+        ensures only_writes { OnlyWrites (S.channel self.old.book.sink) (S.channel self.new.book.sink) }
+        ensures beside { S.beside self.new.book.sink ≡ S.beside self.old.book.sink }
+    {
+        if self.diagram.len() >= self.max_nodes {
+            return Err(TableError::NodeLimit);
+        }
+        if self.ledger.ids_left() < definition_count(high, low) {
+            return Err(TableError::IdLimit);
+        }
+        self.ledger.reserve(4)?;
+        let u = positive(self.diagram.next_variable());
+        let x = positive(self.diagram.variable(level));
+        let high_atom = self.diagram.atom(high);
+        let low_atom = self.diagram.atom(low);
+        let branch = Branch {
+            level,
+            variable: u.var(),
+            high,
+            low,
+            first: self.ledger.last_id() + 1,
+        };
+        let key = self.diagram.push(branch)?;
+        write_definitions(&mut self.ledger, u, x, &high_atom, &low_atom)?;
+        Ok(Node::Inner(key))
+    }
+}
+
+// How many clauses define a node of these children.
+fn definition_count(high: Node, low: Node) -> u64
+    ensures { result ≡ definition_count high low }
+{
+    match (high, low) {
+        (Node::Inner(_), Node::Inner(_)) => 4,
+        (Node::Inner(_), _) | (_, Node::Inner(_)) => 3,
+        _ => 2,
+    }
+}
+
+// The numbers of a node's clauses, which are consecutive.
+fn defs_of(branch: &Branch) -> Defs
+    requires { branch.now.first ≤ max_id + 1 }
+    ensures { result ≡ defs_of branch.now }
+{
+    let up_high = !is_false(branch.high);
+    let up_low = !is_false(branch.low);
+    let down_high = !is_true(branch.high);
+    let down_low = !is_true(branch.low);
+    let lu = branch.first + u64::from(up_high);
+    let hd = lu + u64::from(up_low);
+    let ld = hd + u64::from(down_high);
+    Defs {
+        hu: id_if(up_high, branch.first),
+        lu: id_if(up_low, lu),
+        hd: id_if(down_high, hd),
+        ld: id_if(down_low, ld),
+    }
+}
+
+fn id_if(given: bool, number: u64) -> Option<Id>
+    ensures { result ≡ given_if given number }
+{
+    if given { Some(Id(number)) } else { None }
+}
+
+fn is_false(node: Node) -> bool
+    ensures { result ≡ is_false_node node }
+{
+    matches!(node, Node::False)
+}
+
+fn is_true(node: Node) -> bool
+    ensures { result ≡ is_true_node node }
+{
+    matches!(node, Node::True)
+}
