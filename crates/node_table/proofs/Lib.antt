@@ -3,3 +3,7 @@ pub mod Looked
 pub mod Values
 pub mod Grown
 pub mod Pushed
+pub mod DefineClauses
+pub mod DefineHolders
+pub mod DefineGood
+pub mod DefineSteps

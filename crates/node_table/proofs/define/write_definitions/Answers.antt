@@ -1,0 +1,170 @@
+-- What each call of `write_one` asks, and what was written where one of them fails.
+use Rattle.std.proofs.Common.{◌≡◌, ◌+◌, ◌≤◌, not, ℤ, [], ◌∷◌, is_some, refl, sym, ap, ◌∙◌, subst, arith, take}
+use Rattle.lrat_rules.specs.State.{State}
+use Rattle.lrat_rules.specs.Strict.{IsDefinition}
+use Rattle.hint_chain.specs.declared.atom.Atom.{Atom}
+use Rattle.hint_chain.specs.declared.atom.Atom.TheVariants.{Of}
+use Rattle.hint_chain.specs.Atoms.{clause_of}
+use Rattle.node_table.specs.Defined.{one_if, is_always, ups_from}
+use Rattle.node_table.proofs.DefineClauses.{is_some-clause_of}
+use Rattle.node_table.proofs.DefineGood.{IsStart, lu_definition, hd_definition, ld_definition, ups_are, top_after_hd}
+use Rattle.node_table.proofs.DefineSteps.{AreWritten-none, AreWritten-more, IsTorn-next, IsCallOf, hu_of, lu_of, hd_of, ld_of}
+use Rattle.node_table.proofs.define.write_definitions.Goals as goal
+
+-- equal atoms give one clause
+clauses_alike : {a b d e : ℤ} {c f : Atom} → a ≡ d → b ≡ e → c ≡ f → clause_of (Of a ∷ Of b ∷ c ∷ []) ≡ clause_of (Of d ∷ Of e ∷ f ∷ [])
+clauses_alike first second third i = clause_of (Of (first i) ∷ Of (second i) ∷ third i ∷ [])
+
+pub write_one-requires-2-clause-definition : goal.write_one-requires-2-clause-definition
+write_one-requires-2-clause-definition g c clause is =
+    let state = c.args.ledger.now.state in
+    let u = c.args.u in
+    let x = c.args.x in
+    let high = c.args.high.now in
+    let low = c.args.low.now in
+    let start : IsStart state u x high low = record { law = c.live_law.ensures; numbers = c.last_id.ensures.numbers; new = c.requires.new_variable } in
+    let hu : IsCallOf (clause_of (Of u ∷ Of c.negated-not_x.result ∷ c.negated.result ∷ [])) [] (hu_of u x high) = record { clause = clauses_alike refl c.negated-not_x.ensures c.negated.ensures; candidates = refl } in
+    let none = AreWritten-none g.S.Sink.tells (g.S.Sink.channel c.args.ledger.now.sink) state in
+    let one = AreWritten-more none hu c.in_ok-hu.ensures.written c.in_ok-hu.ensures.lines c.in_ok-hu.ensures.only_writes in
+    let lu : IsCallOf (clause_of (Of u ∷ Of x ∷ c.negated-2.result ∷ [])) [] (lu_of u x low) = record { clause = clauses_alike refl refl c.negated-2.ensures; candidates = refl } in
+    subst (λ (s : State). IsDefinition s.live clause []) (sym one.reached) (lu_definition state u x high low start clause (sym lu.clause ∙ is))
+
+pub write_one-requires-3-clause-definition : goal.write_one-requires-3-clause-definition
+write_one-requires-3-clause-definition g c clause is =
+    let state = c.args.ledger.now.state in
+    let u = c.args.u in
+    let x = c.args.x in
+    let high = c.args.high.now in
+    let low = c.args.low.now in
+    let start : IsStart state u x high low = record { law = c.live_law.ensures; numbers = c.last_id.ensures.numbers; new = c.requires.new_variable } in
+    let hu : IsCallOf (clause_of (Of u ∷ Of c.negated-not_x.result ∷ c.negated.result ∷ [])) [] (hu_of u x high) = record { clause = clauses_alike refl c.negated-not_x.ensures c.negated.ensures; candidates = refl } in
+    let none = AreWritten-none g.S.Sink.tells (g.S.Sink.channel c.args.ledger.now.sink) state in
+    let one = AreWritten-more none hu c.in_ok-hu.ensures.written c.in_ok-hu.ensures.lines c.in_ok-hu.ensures.only_writes in
+    let lu : IsCallOf (clause_of (Of u ∷ Of x ∷ c.negated-2.result ∷ [])) [] (lu_of u x low) = record { clause = clauses_alike refl refl c.negated-2.ensures; candidates = refl } in
+    let two = AreWritten-more one lu c.in_ok-lu.ensures.written c.in_ok-lu.ensures.lines c.in_ok-lu.ensures.only_writes in
+    let ups = ups_are state u x high low start c.in_row-ids.ensures.ids c.in_ok-hu.ensures.id c.in_ok-lu.ensures.id hu.clause lu.clause one.reached in
+    let hd : IsCallOf (clause_of (Of c.negated-not_u.result ∷ Of c.negated-not_x.result ∷ high ∷ [])) (take c.in_row-ids.result.1 c.in_row-ids.result.0) (hd_of u x high low (state.top + 1)) = record { clause = clauses_alike c.negated-not_u.ensures c.negated-not_x.ensures refl; candidates = ups } in
+    subst (λ candidates. IsDefinition c.write_one-2.new.ledger.state.live clause candidates) (sym ups)
+    (subst (λ (s : State). IsDefinition s.live clause (ups_from high low (state.top + 1))) (sym two.reached) (hd_definition state u x high low start clause (sym hd.clause ∙ is)))
+
+pub write_one-requires-4-clause-definition : goal.write_one-requires-4-clause-definition
+write_one-requires-4-clause-definition g c clause is =
+    let state = c.args.ledger.now.state in
+    let u = c.args.u in
+    let x = c.args.x in
+    let high = c.args.high.now in
+    let low = c.args.low.now in
+    let start : IsStart state u x high low = record { law = c.live_law.ensures; numbers = c.last_id.ensures.numbers; new = c.requires.new_variable } in
+    let hu : IsCallOf (clause_of (Of u ∷ Of c.negated-not_x.result ∷ c.negated.result ∷ [])) [] (hu_of u x high) = record { clause = clauses_alike refl c.negated-not_x.ensures c.negated.ensures; candidates = refl } in
+    let none = AreWritten-none g.S.Sink.tells (g.S.Sink.channel c.args.ledger.now.sink) state in
+    let one = AreWritten-more none hu c.in_ok-hu.ensures.written c.in_ok-hu.ensures.lines c.in_ok-hu.ensures.only_writes in
+    let lu : IsCallOf (clause_of (Of u ∷ Of x ∷ c.negated-2.result ∷ [])) [] (lu_of u x low) = record { clause = clauses_alike refl refl c.negated-2.ensures; candidates = refl } in
+    let two = AreWritten-more one lu c.in_ok-lu.ensures.written c.in_ok-lu.ensures.lines c.in_ok-lu.ensures.only_writes in
+    let ups = ups_are state u x high low start c.in_row-ids.ensures.ids c.in_ok-hu.ensures.id c.in_ok-lu.ensures.id hu.clause lu.clause one.reached in
+    let hd : IsCallOf (clause_of (Of c.negated-not_u.result ∷ Of c.negated-not_x.result ∷ high ∷ [])) (take c.in_row-ids.result.1 c.in_row-ids.result.0) (hd_of u x high low (state.top + 1)) = record { clause = clauses_alike c.negated-not_u.ensures c.negated-not_x.ensures refl; candidates = ups } in
+    let three = AreWritten-more two hd c.in_ok-write_one.ensures.written c.in_ok-write_one.ensures.lines c.in_ok-write_one.ensures.only_writes in
+    let ld : IsCallOf (clause_of (Of c.negated-not_u.result ∷ Of x ∷ low ∷ [])) (take c.in_row-ids.result.1 c.in_row-ids.result.0) (ld_of u x high low (state.top + 1)) = record { clause = clauses_alike c.negated-not_u.ensures refl refl; candidates = ups } in
+    subst (λ candidates. IsDefinition c.write_one-3.new.ledger.state.live clause candidates) (sym ups)
+    (subst (λ (s : State). IsDefinition s.live clause (ups_from high low (state.top + 1))) (sym three.reached) (ld_definition state u x high low start clause (sym ld.clause ∙ is)))
+
+pub write_one-requires-4-clause-room : goal.write_one-requires-4-clause-room
+write_one-requires-4-clause-room g c =
+    let state = c.args.ledger.now.state in
+    let u = c.args.u in
+    let x = c.args.x in
+    let high = c.args.high.now in
+    let low = c.args.low.now in
+    let start : IsStart state u x high low = record { law = c.live_law.ensures; numbers = c.last_id.ensures.numbers; new = c.requires.new_variable } in
+    let hu : IsCallOf (clause_of (Of u ∷ Of c.negated-not_x.result ∷ c.negated.result ∷ [])) [] (hu_of u x high) = record { clause = clauses_alike refl c.negated-not_x.ensures c.negated.ensures; candidates = refl } in
+    let none = AreWritten-none g.S.Sink.tells (g.S.Sink.channel c.args.ledger.now.sink) state in
+    let one = AreWritten-more none hu c.in_ok-hu.ensures.written c.in_ok-hu.ensures.lines c.in_ok-hu.ensures.only_writes in
+    let lu : IsCallOf (clause_of (Of u ∷ Of x ∷ c.negated-2.result ∷ [])) [] (lu_of u x low) = record { clause = clauses_alike refl refl c.negated-2.ensures; candidates = refl } in
+    let two = AreWritten-more one lu c.in_ok-lu.ensures.written c.in_ok-lu.ensures.lines c.in_ok-lu.ensures.only_writes in
+    let ups = ups_are state u x high low start c.in_row-ids.ensures.ids c.in_ok-hu.ensures.id c.in_ok-lu.ensures.id hu.clause lu.clause one.reached in
+    let hd : IsCallOf (clause_of (Of c.negated-not_u.result ∷ Of c.negated-not_x.result ∷ high ∷ [])) (take c.in_row-ids.result.1 c.in_row-ids.result.0) (hd_of u x high low (state.top + 1)) = record { clause = clauses_alike c.negated-not_u.ensures c.negated-not_x.ensures refl; candidates = ups } in
+    let three = AreWritten-more two hd c.in_ok-write_one.ensures.written c.in_ok-write_one.ensures.lines c.in_ok-write_one.ensures.only_writes in
+    let top = ap (λ (s : State). s.top) three.reached in
+    let last : one_if (is_some (clause_of (Of c.negated-not_u.result ∷ Of x ∷ low ∷ []))) ≡ one_if (not (is_always low)) = ap one_if (is_some-clause_of c.negated-not_u.result x low) in
+    let enough : c.write_one-3.new.ledger.state.top + one_if (is_some (clause_of (Of c.negated-not_u.result ∷ Of x ∷ low ∷ []))) ≤ c.write_one-3.new.ledger.limit =
+    omega (arith, c.requires.room, top, top_after_hd state u x high low start, last, c.in_ok-hu.ensures.limit, c.in_ok-lu.ensures.limit, c.in_ok-write_one.ensures.limit) in
+    enough
+
+pub returns-in_err-hu-clause-write_fault : goal.returns-in_err-hu-clause-write_fault
+returns-in_err-hu-clause-write_fault g c failed =
+    let state = c.args.ledger.now.state in
+    let u = c.args.u in
+    let x = c.args.x in
+    let high = c.args.high.now in
+    let low = c.args.low.now in
+    let hu : IsCallOf (clause_of (Of u ∷ Of c.negated-not_x.result ∷ c.negated.result ∷ [])) [] (hu_of u x high) = record { clause = clauses_alike refl c.negated-not_x.ensures c.negated.ensures; candidates = refl } in
+    let none = AreWritten-none g.S.Sink.tells (g.S.Sink.channel c.args.ledger.now.sink) state in
+    IsTorn-next none hu (lu_of u x low ∷ hd_of u x high low (state.top + 1) ∷ ld_of u x high low (state.top + 1) ∷ []) (c.in_err-hu.ensures.write_fault refl)
+
+pub returns-in_err-lu-clause-write_fault : goal.returns-in_err-lu-clause-write_fault
+returns-in_err-lu-clause-write_fault g c failed =
+    let state = c.args.ledger.now.state in
+    let u = c.args.u in
+    let x = c.args.x in
+    let high = c.args.high.now in
+    let low = c.args.low.now in
+    let hu : IsCallOf (clause_of (Of u ∷ Of c.negated-not_x.result ∷ c.negated.result ∷ [])) [] (hu_of u x high) = record { clause = clauses_alike refl c.negated-not_x.ensures c.negated.ensures; candidates = refl } in
+    let none = AreWritten-none g.S.Sink.tells (g.S.Sink.channel c.args.ledger.now.sink) state in
+    let one = AreWritten-more none hu c.in_ok-hu.ensures.written c.in_ok-hu.ensures.lines c.in_ok-hu.ensures.only_writes in
+    let lu : IsCallOf (clause_of (Of u ∷ Of x ∷ c.negated-2.result ∷ [])) [] (lu_of u x low) = record { clause = clauses_alike refl refl c.negated-2.ensures; candidates = refl } in
+    IsTorn-next one lu (hd_of u x high low (state.top + 1) ∷ ld_of u x high low (state.top + 1) ∷ []) (c.in_err-lu.ensures.write_fault refl)
+
+pub returns-in_err-write_one-clause-write_fault : goal.returns-in_err-write_one-clause-write_fault
+returns-in_err-write_one-clause-write_fault g c failed =
+    let state = c.args.ledger.now.state in
+    let u = c.args.u in
+    let x = c.args.x in
+    let high = c.args.high.now in
+    let low = c.args.low.now in
+    let start : IsStart state u x high low = record { law = c.live_law.ensures; numbers = c.last_id.ensures.numbers; new = c.requires.new_variable } in
+    let hu : IsCallOf (clause_of (Of u ∷ Of c.negated-not_x.result ∷ c.negated.result ∷ [])) [] (hu_of u x high) = record { clause = clauses_alike refl c.negated-not_x.ensures c.negated.ensures; candidates = refl } in
+    let none = AreWritten-none g.S.Sink.tells (g.S.Sink.channel c.args.ledger.now.sink) state in
+    let one = AreWritten-more none hu c.in_ok-hu.ensures.written c.in_ok-hu.ensures.lines c.in_ok-hu.ensures.only_writes in
+    let lu : IsCallOf (clause_of (Of u ∷ Of x ∷ c.negated-2.result ∷ [])) [] (lu_of u x low) = record { clause = clauses_alike refl refl c.negated-2.ensures; candidates = refl } in
+    let two = AreWritten-more one lu c.in_ok-lu.ensures.written c.in_ok-lu.ensures.lines c.in_ok-lu.ensures.only_writes in
+    let ups = ups_are state u x high low start c.in_row-ids.ensures.ids c.in_ok-hu.ensures.id c.in_ok-lu.ensures.id hu.clause lu.clause one.reached in
+    let hd : IsCallOf (clause_of (Of c.negated-not_u.result ∷ Of c.negated-not_x.result ∷ high ∷ [])) (take c.in_row-ids.result.1 c.in_row-ids.result.0) (hd_of u x high low (state.top + 1)) = record { clause = clauses_alike c.negated-not_u.ensures c.negated-not_x.ensures refl; candidates = ups } in
+    IsTorn-next two hd (ld_of u x high low (state.top + 1) ∷ []) (c.in_err-write_one.ensures.write_fault refl)
+
+pub returns-in_err-write_one-2-clause-write_fault : goal.returns-in_err-write_one-2-clause-write_fault
+returns-in_err-write_one-2-clause-write_fault g c failed =
+    let state = c.args.ledger.now.state in
+    let u = c.args.u in
+    let x = c.args.x in
+    let high = c.args.high.now in
+    let low = c.args.low.now in
+    let start : IsStart state u x high low = record { law = c.live_law.ensures; numbers = c.last_id.ensures.numbers; new = c.requires.new_variable } in
+    let hu : IsCallOf (clause_of (Of u ∷ Of c.negated-not_x.result ∷ c.negated.result ∷ [])) [] (hu_of u x high) = record { clause = clauses_alike refl c.negated-not_x.ensures c.negated.ensures; candidates = refl } in
+    let none = AreWritten-none g.S.Sink.tells (g.S.Sink.channel c.args.ledger.now.sink) state in
+    let one = AreWritten-more none hu c.in_ok-hu.ensures.written c.in_ok-hu.ensures.lines c.in_ok-hu.ensures.only_writes in
+    let lu : IsCallOf (clause_of (Of u ∷ Of x ∷ c.negated-2.result ∷ [])) [] (lu_of u x low) = record { clause = clauses_alike refl refl c.negated-2.ensures; candidates = refl } in
+    let two = AreWritten-more one lu c.in_ok-lu.ensures.written c.in_ok-lu.ensures.lines c.in_ok-lu.ensures.only_writes in
+    let ups = ups_are state u x high low start c.in_row-ids.ensures.ids c.in_ok-hu.ensures.id c.in_ok-lu.ensures.id hu.clause lu.clause one.reached in
+    let hd : IsCallOf (clause_of (Of c.negated-not_u.result ∷ Of c.negated-not_x.result ∷ high ∷ [])) (take c.in_row-ids.result.1 c.in_row-ids.result.0) (hd_of u x high low (state.top + 1)) = record { clause = clauses_alike c.negated-not_u.ensures c.negated-not_x.ensures refl; candidates = ups } in
+    let three = AreWritten-more two hd c.in_ok-write_one.ensures.written c.in_ok-write_one.ensures.lines c.in_ok-write_one.ensures.only_writes in
+    let ld : IsCallOf (clause_of (Of c.negated-not_u.result ∷ Of x ∷ low ∷ [])) (take c.in_row-ids.result.1 c.in_row-ids.result.0) (ld_of u x high low (state.top + 1)) = record { clause = clauses_alike c.negated-not_u.ensures refl refl; candidates = ups } in
+    IsTorn-next three ld [] (c.in_err-write_one-2.ensures.write_fault refl)
+
+pub returns-clause-lines : goal.returns-clause-lines
+returns-clause-lines g c tells =
+    let state = c.args.ledger.now.state in
+    let u = c.args.u in
+    let x = c.args.x in
+    let high = c.args.high.now in
+    let low = c.args.low.now in
+    let start : IsStart state u x high low = record { law = c.live_law.ensures; numbers = c.last_id.ensures.numbers; new = c.requires.new_variable } in
+    let hu : IsCallOf (clause_of (Of u ∷ Of c.negated-not_x.result ∷ c.negated.result ∷ [])) [] (hu_of u x high) = record { clause = clauses_alike refl c.negated-not_x.ensures c.negated.ensures; candidates = refl } in
+    let none = AreWritten-none g.S.Sink.tells (g.S.Sink.channel c.args.ledger.now.sink) state in
+    let one = AreWritten-more none hu c.in_ok-hu.ensures.written c.in_ok-hu.ensures.lines c.in_ok-hu.ensures.only_writes in
+    let lu : IsCallOf (clause_of (Of u ∷ Of x ∷ c.negated-2.result ∷ [])) [] (lu_of u x low) = record { clause = clauses_alike refl refl c.negated-2.ensures; candidates = refl } in
+    let two = AreWritten-more one lu c.in_ok-lu.ensures.written c.in_ok-lu.ensures.lines c.in_ok-lu.ensures.only_writes in
+    let ups = ups_are state u x high low start c.in_row-ids.ensures.ids c.in_ok-hu.ensures.id c.in_ok-lu.ensures.id hu.clause lu.clause one.reached in
+    let hd : IsCallOf (clause_of (Of c.negated-not_u.result ∷ Of c.negated-not_x.result ∷ high ∷ [])) (take c.in_row-ids.result.1 c.in_row-ids.result.0) (hd_of u x high low (state.top + 1)) = record { clause = clauses_alike c.negated-not_u.ensures c.negated-not_x.ensures refl; candidates = ups } in
+    let three = AreWritten-more two hd c.in_ok-write_one.ensures.written c.in_ok-write_one.ensures.lines c.in_ok-write_one.ensures.only_writes in
+    let ld : IsCallOf (clause_of (Of c.negated-not_u.result ∷ Of x ∷ low ∷ [])) (take c.in_row-ids.result.1 c.in_row-ids.result.0) (ld_of u x high low (state.top + 1)) = record { clause = clauses_alike c.negated-not_u.ensures refl refl; candidates = ups } in
+    let four = AreWritten-more three ld c.in_ok-write_one-2.ensures.written c.in_ok-write_one-2.ensures.lines c.in_ok-write_one-2.ensures.only_writes in
+    four.lines tells
