@@ -7,3 +7,4 @@ pub mod DefineClauses
 pub mod DefineHolders
 pub mod DefineGood
 pub mod DefineSteps
+pub mod DefineStands
