@@ -3,7 +3,7 @@ use Rattle.std.proofs.Common.{◌≡◌, ℕ, ◌+◌, ◌<◌, ◌≤◌, ◌�
 use Rattle.std.specs.Prelude.{decimal, codes}
 use Rattle.std.proofs.lemmas.List.{drop_all}
 use Rattle.answer_text.specs.Model.{literal, words_from, has_room, separator, width_behind, wrapped}
-use Rattle.answer_text.specs.Status.{unknown_line}
+use Rattle.answer_text.specs.Status.{unknown_line, not_verified_line}
 
 -- whether the line has room
 room : (width : ℕ) (word : List ℕ) → width + 1 + length word ≤ 78 → has_room width word ≡ true
@@ -38,3 +38,8 @@ last_word width i values past = ap (λ (l : List Bool). wrapped width (words_fro
 -- the line of a limit, and the line behind it
 pub limit_lines : (limit : List ℕ) (n : ℕ) → limit ++ (decimal n ++ codes " reached\ns UNKNOWN\n") ≡ limit ++ decimal n ++ codes " reached\n" ++ unknown_line
 limit_lines limit n = simp append_assoc
+
+-- the line of a refusal, and the line behind it
+pub refused_lines : (line : ℕ) (name : List ℕ) → codes "c line " ++ decimal line ++ codes " " ++ name ++ codes "\n" ++ not_verified_line
+    ≡ codes "c line " ++ (decimal line ++ (codes " " ++ (name ++ codes "\ns NOT VERIFIED\n")))
+refused_lines line name = simp append_assoc

@@ -1,5 +1,7 @@
 -- The lines that tell an outcome, and the whole texts that they begin or end.
 use Rattle.std.specs.Prelude.{ℕ, Bool, List, ◌++◌, decimal, codes}
+use Rattle.lrat_rules.specs.declared.outcome.Reason.{Reason}
+use Rattle.lrat_rules.specs.declared.outcome.Reason.TheVariants.{Syntax, IdNotGreater, HintNotLive, HintNotUnit, NoConflict, CandidateOpen, GroupStray, NoEmptyClause}
 use Rattle.answer_text.specs.Model.{model_text}
 
 abbrev pub sat_line : List ℕ
@@ -33,3 +35,20 @@ node_limit_text n = node_limit_line n ++ unknown_line
 
 abbrev pub id_limit_text : ℕ → List ℕ
 id_limit_text n = id_limit_line n ++ unknown_line
+
+abbrev pub reason_name : Reason → List ℕ
+reason_name Syntax = codes "Syntax"
+reason_name IdNotGreater = codes "IdNotGreater"
+reason_name HintNotLive = codes "HintNotLive"
+reason_name HintNotUnit = codes "HintNotUnit"
+reason_name NoConflict = codes "NoConflict"
+reason_name CandidateOpen = codes "CandidateOpen"
+reason_name GroupStray = codes "GroupStray"
+reason_name NoEmptyClause = codes "NoEmptyClause"
+
+abbrev pub reason_line : ℕ → Reason → List ℕ
+reason_line line reason = codes "c line " ++ decimal line ++ codes " " ++ reason_name reason ++ codes "\n"
+
+-- not verified, since this line was refused
+abbrev pub refused_text : ℕ → Reason → List ℕ
+refused_text line reason = reason_line line reason ++ not_verified_line

@@ -9,5 +9,5 @@ mod tests;
 
 pub use model::write_model;
 pub use status::{
-    write_id_limit, write_node_limit, write_not_verified, write_sat, write_unsat, write_verified,
+    write_id_limit, write_node_limit, write_refused, write_sat, write_unsat, write_verified,
 };

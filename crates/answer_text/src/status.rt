@@ -1,11 +1,12 @@
 // The lines of an outcome.
 ghost use Rattle.std.specs.Prelude.{◌≡◌, ◌++◌, decimal, codes};
 ghost use Rattle.host_io.specs.Channel.{WritesAll};
-ghost use Rattle.answer_text.specs.Status.{unsat_line, verified_line, not_verified_line, sat_text, node_limit_text, id_limit_text};
+ghost use Rattle.answer_text.specs.Status.{unsat_line, verified_line, sat_text, node_limit_text, id_limit_text, refused_text, reason_name};
 
 use crate::model::write_model;
 use host_io::{Failed, Sink, write_all};
 use itoa::Buffer;
+use lrat_rules::Reason;
 
 /// Writes that the formula is satisfiable, and its model.
 pub fn write_sat<S: Sink>(sink: &mut S, values: &[bool]) -> Result<(), Failed>
@@ -48,12 +49,31 @@ pub fn write_verified<S: Sink>(sink: &mut S) -> Result<(), Failed>
     write_all(sink, b"s VERIFIED\n")
 }
 
-/// Writes that a proof was not verified.
-pub fn write_not_verified<S: Sink>(sink: &mut S) -> Result<(), Failed>
-    ensures writes { WritesAll S.tells (S.channel sink.old) (S.channel sink.new) not_verified_line result }
+/// Writes that a proof was not verified, behind the line that was refused and why.
+pub fn write_refused<S: Sink>(sink: &mut S, line: u64, reason: Reason) -> Result<(), Failed>
+    ensures writes { WritesAll S.tells (S.channel sink.old) (S.channel sink.new) (refused_text line reason) result }
     ensures beside { S.beside sink.new ≡ S.beside sink.old }
 {
-    write_all(sink, b"s NOT VERIFIED\n")
+    write_all(sink, b"c line ")?;
+    write_all(sink, Buffer::new().format(line).as_bytes())?;
+    write_all(sink, b" ")?;
+    write_all(sink, reason_name(reason))?;
+    write_all(sink, b"\ns NOT VERIFIED\n")
+}
+
+fn reason_name(reason: Reason) -> &'static [u8]
+    ensures { result.now ≡ reason_name reason }
+{
+    match reason {
+        Reason::Syntax => b"Syntax",
+        Reason::IdNotGreater => b"IdNotGreater",
+        Reason::HintNotLive => b"HintNotLive",
+        Reason::HintNotUnit => b"HintNotUnit",
+        Reason::NoConflict => b"NoConflict",
+        Reason::CandidateOpen => b"CandidateOpen",
+        Reason::GroupStray => b"GroupStray",
+        Reason::NoEmptyClause => b"NoEmptyClause",
+    }
 }
 
 // Writes which limit was reached, and that the answer is unknown.

@@ -1,9 +1,10 @@
 // Texts typed out, in one piece, byte by byte, and cut short by a failing write.
 use crate::{
-    write_id_limit, write_model, write_node_limit, write_not_verified, write_sat, write_unsat,
+    write_id_limit, write_model, write_node_limit, write_refused, write_sat, write_unsat,
     write_verified,
 };
 use host_io::{Failed, FailingHost, HostSink, MemoryHost, Role};
+use lrat_rules::Reason;
 use std::test::Fail;
 
 #[test]
@@ -48,10 +49,57 @@ fn outcomes(rt: HostRuntime) -> Result<(), Fail> {
     write_node_limit(&mut HostSink::new(&mut host, Role::Out), 0)?;
     write_id_limit(&mut HostSink::new(&mut host, Role::Out), u64::MAX)?;
     write_verified(&mut HostSink::new(&mut host, Role::Out))?;
-    write_not_verified(&mut HostSink::new(&mut host, Role::Out))?;
     let text =
-        b"s SATISFIABLE\nv 1 -2 0\ns UNSATISFIABLE\nc node limit 0 reached\ns UNKNOWN\nc identifier limit 18446744073709551615 reached\ns UNKNOWN\ns VERIFIED\ns NOT VERIFIED\n";
+        b"s SATISFIABLE\nv 1 -2 0\ns UNSATISFIABLE\nc node limit 0 reached\ns UNKNOWN\nc identifier limit 18446744073709551615 reached\ns UNKNOWN\ns VERIFIED\n";
     assert_eq!(rt; host.output(Role::Out), text.as_slice());
+    Ok(())
+}
+
+#[test]
+fn refusals(rt: HostRuntime) -> Result<(), Fail> {
+    let table: [(u64, Reason, &[u8]); 8] = [
+        (7, Reason::Syntax, b"c line 7 Syntax\ns NOT VERIFIED\n"),
+        (
+            1,
+            Reason::IdNotGreater,
+            b"c line 1 IdNotGreater\ns NOT VERIFIED\n",
+        ),
+        (
+            10,
+            Reason::HintNotLive,
+            b"c line 10 HintNotLive\ns NOT VERIFIED\n",
+        ),
+        (
+            2,
+            Reason::HintNotUnit,
+            b"c line 2 HintNotUnit\ns NOT VERIFIED\n",
+        ),
+        (
+            3,
+            Reason::NoConflict,
+            b"c line 3 NoConflict\ns NOT VERIFIED\n",
+        ),
+        (
+            4,
+            Reason::CandidateOpen,
+            b"c line 4 CandidateOpen\ns NOT VERIFIED\n",
+        ),
+        (
+            5,
+            Reason::GroupStray,
+            b"c line 5 GroupStray\ns NOT VERIFIED\n",
+        ),
+        (
+            18446744073709551615,
+            Reason::NoEmptyClause,
+            b"c line 18446744073709551615 NoEmptyClause\ns NOT VERIFIED\n",
+        ),
+    ];
+    for (line, reason, text) in table {
+        let mut host = MemoryHost::new(rt.alloc());
+        write_refused(&mut HostSink::new(&mut host, Role::Out), line, reason)?;
+        assert_eq!(rt; host.output(Role::Out), text);
+    }
     Ok(())
 }
 

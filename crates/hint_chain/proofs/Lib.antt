@@ -1,2 +1,9 @@
 pub mod Padding
 pub mod GreedyPasses
+pub mod Sets
+pub mod StrictHints
+pub mod ChildSteps
+pub mod AtomClauses
+pub mod AdditionsClose
+pub mod UnitsRefute
+pub mod UnitPaths

@@ -1,5 +1,5 @@
 -- Arrays whose places behind the last literal are blank.
-use Rattle.std.proofs.Common.{◌≡◌, ℕ, ◌+◌, ◌-◌, ◌<◌, ℤ, pos, List, length, drop, set, sym, ap, ◌∙◌, arith, length-set}
+use Rattle.std.proofs.Common.{◌≡◌, ℕ, ◌+◌, ◌-◌, ◌<◌, ℤ, pos, List, drop, set, sym, ap, ◌∙◌, arith, length-set}
 use Rattle.std.specs.Prelude.{replicate}
 use Rattle.std.proofs.lemmas.List.{drop-set-lt, drop-replicate, drop-drop}
 use Rattle.hint_chain.specs.Inline.{IsPadded}

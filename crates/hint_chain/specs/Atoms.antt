@@ -1,7 +1,7 @@
 -- What a node puts into a clause: True always holds, False never does, and an inner node holds where the literal of
 -- its extension variable does. Clauses over nodes are lists of atoms, so that no rule needs a case for constants.
 -- (Bryant, Heule: Generating Extended Resolution Proofs with a BDD-Based SAT Solver, 2021, section 4.)
-use Rattle.std.specs.Prelude.{ℕ, Bool, true, false, ◌||◌, ℤ, neg_ℤ, List, [], ◌∷◌, Option, None, Some}
+use Rattle.std.specs.Prelude.{Bool, true, false, ◌||◌, ℤ, neg_ℤ, List, [], ◌∷◌, Option, None, Some}
 use Rattle.std.specs.List.{list_any}
 use Rattle.std.specs.Option.{option_map}
 use Rattle.std.specs.Ordering.{int_eq}

@@ -1,11 +1,9 @@
 -- The unit of a clause's diagram. The diagram of a clause has one node for each literal, from the top down: the
 -- literal's child is True, the other child the next node, and the last one's other child is False. The unit of the
 -- top node follows from the clause: with the top node false, each literal is false, and each next node.
-use Rattle.std.specs.Prelude.{◌≡◌, ℕ, Bool, ℤ, neg_ℤ, List, [], ◌∷◌, ◌++◌, map, Option, None, Some, IsTrue, if◌then◌else◌}
+use Rattle.std.specs.Prelude.{◌≡◌, ℕ, ℤ, neg_ℤ, List, [], ◌∷◌, ◌++◌, map, Option, None, Some, IsTrue, if◌then◌else◌}
 use Rattle.std.specs.Int.{is_negative}
-use Rattle.std.specs.List.{list_any}
 use Rattle.std.specs.Option.{option_to_list}
-use Rattle.std.specs.Ordering.{int_eq}
 use Rattle.lrat_rules.specs.State.{Live, clause_at}
 use Rattle.lrat_rules.specs.Chain.{literals_of}
 use Rattle.hint_chain.specs.declared.unit.UnitPart.{UnitPart}

@@ -18,7 +18,7 @@ pub fn and_high(alloc: Global, clause: &[Lit], parts: [Option<Part>; 4]) -> Hint
     requires close { PartsClose (literals_of clause.now) parts }
     ensures { greedy (literals_of clause.now) parts ≡ Some result }
 {
-    chosen(alloc, clause, &parts)
+    greedy_hints(alloc, clause, &parts).unwrap()
 }
 
 /// The hints for the addition of a conjunction: the high addition, and then the same parts of the low side.
@@ -27,7 +27,7 @@ pub fn and_low(alloc: Global, clause: &[Lit], parts: [Option<Part>; 5]) -> Hints
     requires close { PartsClose (literals_of clause.now) parts }
     ensures { greedy (literals_of clause.now) parts ≡ Some result }
 {
-    chosen(alloc, clause, &parts)
+    greedy_hints(alloc, clause, &parts).unwrap()
 }
 
 /// The hints for the addition of an implication on the variable's high side. Its parts are the clause from u down to
@@ -37,7 +37,7 @@ pub fn imply_high(alloc: Global, clause: &[Lit], parts: [Option<Part>; 3]) -> Hi
     requires close { PartsClose (literals_of clause.now) parts }
     ensures { greedy (literals_of clause.now) parts ≡ Some result }
 {
-    chosen(alloc, clause, &parts)
+    greedy_hints(alloc, clause, &parts).unwrap()
 }
 
 /// The hints for the addition of an implication: the high addition, and then the same parts of the low side.
@@ -46,15 +46,14 @@ pub fn imply_low(alloc: Global, clause: &[Lit], parts: [Option<Part>; 4]) -> Hin
     requires close { PartsClose (literals_of clause.now) parts }
     ensures { greedy (literals_of clause.now) parts ≡ Some result }
 {
-    chosen(alloc, clause, &parts)
+    greedy_hints(alloc, clause, &parts).unwrap()
 }
 
-// The greedy choice among the parts. That they close makes the two last answers impossible.
-fn chosen(alloc: Global, clause: &[Lit], parts: &[Option<Part>]) -> Hints
+// The greedy choice among the parts; None where no part is a conflict.
+pub(crate) fn greedy_hints(alloc: Global, clause: &[Lit], parts: &[Option<Part>]) -> Option<Hints>
     requires short { length clause.now ≤ 4 }
     requires few { length parts.now ≤ 5 }
-    requires close { PartsClose (literals_of clause.now) parts.now }
-    ensures { greedy (literals_of clause.now) parts.now ≡ Some result }
+    ensures { result ≡ greedy (literals_of clause.now) parts.now }
 {
     let mut hints = Hints::new(alloc);
     let mut falses = InlineLiterals::<9>::from_slice(clause);
@@ -65,7 +64,7 @@ fn chosen(alloc: Global, clause: &[Lit], parts: &[Option<Part>]) -> Hints
         match effect_on(falses.as_slice(), part.clause()) {
             Effect::Conflict => {
                 hints.push(part.id());
-                return hints;
+                return Some(hints);
             }
             Effect::Unit(literal) => {
                 let negated = literal.negated();
@@ -75,8 +74,8 @@ fn chosen(alloc: Global, clause: &[Lit], parts: &[Option<Part>]) -> Hints
                 hints.push(part.id());
                 falses.push(negated);
             }
-            Effect::NotUnit => return hints,
+            Effect::NotUnit => return None,
         }
     }
-    hints
+    None
 }

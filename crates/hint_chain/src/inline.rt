@@ -61,7 +61,8 @@ impl<const N: usize> InlineLiterals<N> {
     }
 
     pub fn as_slice(&self) -> &[Lit]
-        ensures { result.now ≡ self.now }
+        ensures literals { result.now ≡ self.now }
+        ensures short { length result.now ≤ N }
     {
         &self.literals[..self.count]
     }

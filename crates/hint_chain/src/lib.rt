@@ -1,12 +1,14 @@
-//! Hint lists that are strict refutations: for the defining clauses of a node, the unit of a clause's diagram, and the
-//! two additions of a conjunction or an implication. A list is chosen greedily among the clauses that may serve, and
-//! laws say that the choice closes, whatever constants occur. It stands on the rules of `lrat_rules`.
+//! The hints of additions over diagrams: of the unit of a clause's diagram, and of the two additions of a conjunction or
+//! an implication. Clauses over nodes are lists of atoms. A list is chosen greedily among the clauses that may serve;
+//! laws say that the choice closes, whatever constants occur, and that it is a strict refutation. It stands on the
+//! rules of `lrat_rules`.
 #![tactic(auto)]
 
 mod atom;
 mod greedy;
 mod hints;
 mod inline;
+mod laws;
 mod part;
 mod unit;
 
@@ -14,5 +16,12 @@ pub use atom::{Atom, clause_of};
 pub use greedy::{and_high, and_low, imply_high, imply_low};
 pub use hints::Hints;
 pub use inline::{InlineLiterals, ShortClause};
+pub use laws::{
+    closing_law, conjunction_law, following_unit_law, greedy_law, implication_law, unit_law,
+    unit_path_law,
+};
 pub use part::Part;
 pub use unit::{UnitPart, unit_hints};
+
+#[cfg(test)]
+mod tests;

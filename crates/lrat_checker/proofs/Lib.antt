@@ -1,3 +1,5 @@
 pub mod TreeMaps
 pub mod Walks
 pub mod GroupFaults
+pub mod Verdicts
+pub mod Turns

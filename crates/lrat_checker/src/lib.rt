@@ -1,6 +1,7 @@
-//! The checker of LRAT proofs, step by step: a `Judge` keeps the live clauses of a proof, and says of each step why
-//! it isn't good, or takes it. Its answers are exactly those of the rules' definitions, for good steps and for bad
-//! ones; a bad step and a refusal of memory change nothing. It stands on the chain of hints of `lrat_rules`.
+//! The checker of LRAT proofs. `check` reads a proof text and answers the verdict of the rules on it. It is over a
+//! `Judge`, which keeps the live clauses of a proof, and says of each step why it isn't good, or takes it. Its answers
+//! are exactly those of the rules' definitions, for good steps and for bad ones; a bad step and a refusal of memory
+//! change nothing. Stands on the chain of hints of lrat_rules, and on lrat_text, whose reader gives the steps.
 #![tactic(auto)]
 
 mod addition;
@@ -8,9 +9,15 @@ mod clause;
 mod groups;
 mod hints;
 mod judge;
+mod laws;
 mod live;
+mod text;
+mod verdict;
 
 pub use judge::Judge;
+pub use laws::check_law;
+pub use text::check;
+pub use verdict::{CheckError, Verdict};
 
 #[cfg(test)]
 mod tests;

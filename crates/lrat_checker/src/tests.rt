@@ -1,102 +1,70 @@
-// Small proofs in the textual format, with the answers that the rules give for their lines.
+// Proof texts with the verdict that the rules give. Each text is read in pieces of one byte, of three, and whole.
 ghost use Rattle.std.specs.Prelude.{◌≡◌, ◌+◌, ◌<◌, [], length, OnOk};
 
-use crate::Judge;
-use cnf_base::{Cnf, CnfBuilder, Group, GroupList, Id, IdList, Lit, LitList, Step};
+use crate::{CheckError, Judge, Verdict, check};
+use cnf_base::{Cnf, CnfBuilder, Id, Lit};
+use host_io::{Failed, Source};
 use lrat_rules::Reason;
+use lrat_rules::Reason::{
+    CandidateOpen, GroupStray, HintNotLive, HintNotUnit, IdNotGreater, NoConflict, NoEmptyClause,
+    Syntax,
+};
+use lrat_text::StepReader;
 use std::alloc::Global;
 use std::process::Abort;
 use std::test::Fail;
 
-fn literal_of(number: i64) -> Result<Lit, Fail> {
-    let value = i32::try_from(number)?;
-    Ok(Lit::new(value).ok_or("no literal")?)
+/// A text in memory that gives at most `piece` bytes a read. With so many bytes left each read fails.
+#[derive(Drop)]
+struct SliceSource<'a> {
+    rest: &'a [u8],
+    piece: usize,
+    fails_at: Option<usize>,
+    faults: u64,
 }
 
-fn numbers_of(alloc: Global, text: &str) -> Result<Vec<i64>, Fail> {
-    let mut numbers = Vec::new(alloc);
-    for word in text.split_whitespace() {
-        numbers.push(word.parse::<i64>()?)?;
-    }
-    Ok(numbers)
-}
+impl Source for SliceSource<'_> {
+    ghost use Rattle.std.specs.Prelude.{false, None, []};
 
-// The numbers up to the first zero, and those after it.
-fn cut_at_zero(numbers: &[i64]) -> (&[i64], &[i64]) {
-    match numbers.iter().position(|number| *number == 0) {
-        None => (numbers, &[]),
-        Some(place) => (&numbers[..place], &numbers[place + 1..]),
-    }
-}
+    ghost tells = { false };
 
-fn addition_of(alloc: Global, id: i64, numbers: &[i64]) -> Result<Step, Fail> {
-    let (literals, rest) = cut_at_zero(numbers);
-    let mut lits = LitList::new(alloc);
-    for number in literals {
-        lits.push(literal_of(*number)?)?;
-    }
-    let mut pos = IdList::new(alloc);
-    let mut groups = GroupList::new(alloc);
-    let mut group: Option<Group> = None;
-    for hint in cut_at_zero(rest).0 {
-        let named = Id(hint.unsigned_abs());
-        if *hint < 0 {
-            let hints = IdList::new(alloc);
-            if let Some(ended) = group.replace(Group { id: named, hints }) {
-                groups.push(ended)?;
-            }
-        } else if let Some(open) = &mut group {
-            open.hints.push(named)?;
-        } else {
-            pos.push(named)?;
+    ghost channel = { λ s. record { name = None; faults = s.faults; taken = []; left = []; written = []; flushed = 0 } };
+
+    ghost beside = { λ _. record { lenders = []; rest = None } };
+
+    fn read(&mut self, buf: &mut [u8]) -> Result<usize, Failed> {
+        if self.fails_at == Some(self.rest.len()) {
+            self.faults = self.faults.saturating_add(1);
+            return Err(Failed);
         }
+        let len = self.rest.len().min(self.piece).min(buf.len());
+        let (front, rest) = self.rest.split_at(len);
+        buf[..len].copy_from_slice(front);
+        self.rest = rest;
+        Ok(len)
     }
-    if let Some(ended) = group {
-        groups.push(ended)?;
-    }
-    Ok(Step::Add {
-        id: Id(id.unsigned_abs()),
-        lits,
-        pos,
-        groups,
-    })
 }
 
-fn deletion_of(alloc: Global, text: &str) -> Result<Step, Fail> {
-    let mut ids = IdList::new(alloc);
-    for number in cut_at_zero(&numbers_of(alloc, text)?).0 {
-        ids.push(Id(number.unsigned_abs()))?;
-    }
-    Ok(Step::Delete { id: Id(0), ids })
-}
-
-// A line as the format has it. That of a deletion is written without its own number.
-fn step_of(alloc: Global, line: &str) -> Result<Step, Fail> {
-    if let Some(ids) = line.trim().strip_prefix("d ") {
-        return deletion_of(alloc, ids);
-    }
-    match numbers_of(alloc, line)?.as_slice() {
-        [] => Err("no step")?,
-        [id, rest @ ..] => addition_of(alloc, *id, rest),
+fn source(text: &[u8], piece: usize, fails_at: Option<usize>) -> SliceSource<'_> {
+    SliceSource {
+        rest: text,
+        piece,
+        fails_at,
+        faults: 0,
     }
 }
 
 const VARS: u32 = 4;
 
-fn add_clause(
-    rt: &impl Abort,
-    alloc: Global,
-    formula: &mut CnfBuilder,
-    text: &str,
-) -> Result<(), Fail>
+fn add_clause(rt: &impl Abort, formula: &mut CnfBuilder, text: &str) -> Result<(), Fail>
     requires vars { formula.old.vars ≡ VARS }
     requires few { length formula.old.clauses < 10000000 }
     ensures vars_stay { OnOk result (formula.new.vars ≡ VARS) }
     ensures one_more { OnOk result (length formula.new.clauses ≡ length formula.old.clauses + 1) }
     ensures ended { OnOk result (formula.new.begun ≡ []) }
 {
-    for number in &numbers_of(alloc, text)? {
-        let literal = literal_of(*number)?;
+    for word in text.split_whitespace() {
+        let literal = Lit::new(word.parse::<i32>()?).ok_or("no literal")?;
         assert!(rt; literal.var() <= VARS);
         formula.push_lit(literal)?;
     }
@@ -110,65 +78,224 @@ fn formula_of(rt: &impl Abort, alloc: Global, text: &str) -> Result<Cnf, Fail> {
     assert!(rt; clauses.len() < 10);
     let mut formula = CnfBuilder::new(alloc, VARS);
     for clause in &clauses {
-        add_clause(rt, alloc, &mut formula, clause)?;
+        add_clause(rt, &mut formula, clause)?;
     }
     Ok(formula.finish())
 }
 
-// The answer for the last line. All lines before it are good.
-fn answer_of(
+// The line and the reason of the refusal, or nothing.
+fn refusal(verdict: Verdict) -> Option<(u64, Reason)> {
+    match verdict {
+        Verdict::Verified => None,
+        Verdict::Refused { line, reason } => Some((line, reason)),
+    }
+}
+
+fn expect(
     rt: &impl Abort,
     alloc: Global,
     clauses: &str,
-    lines: &str,
-) -> Result<Option<Reason>, Fail> {
+    proof: &[u8],
+    wanted: Option<(u64, Reason)>,
+) -> Result<(), Fail> {
     let formula = formula_of(rt, alloc, clauses)?;
-    let mut judge = Judge::open(alloc, &formula)?;
-    let mut answer = None;
-    for line in lines.split('/') {
-        assert_eq!(rt; answer, None, "before {line}");
-        let step = step_of(alloc, line)?;
-        answer = judge.step(&step)?;
+    for piece in [1, 3, usize::MAX] {
+        let verdict = check(alloc, &formula, &mut source(proof, piece, None))?;
+        assert_eq!(rt; refusal(verdict), wanted, "{proof:?} in pieces of {piece}");
     }
-    Ok(answer)
+    Ok(())
+}
+
+// Over x1 and its negation.
+#[test]
+fn one_file(rt: HostRuntime) -> Result<(), Fail> {
+    let table: [(&[u8], Option<(u64, Reason)>); 44] = [
+        (b"3 0 1 2 0\n", None),
+        (b"3 0 1 0\n", Some((1, NoConflict))),
+        (b"", Some((1, NoEmptyClause))),
+        // Lines behind the empty clause are judged too.
+        (b"3 0 1 2 0\n4 1 0 9 0\n", Some((2, HintNotLive))),
+        (b"3 0 1 2 0\n4 0 1 2 0\nx\n", Some((3, Syntax))),
+        // A tautology is added first.
+        (b"3 1 -1 0 1 0\n4 0 1 2 0\n", None),
+        (b"3 1 0 1 0\n3 0 3 2 0\n", Some((2, IdNotGreater))),
+        (b"2 0 1 2 0\n", Some((1, IdNotGreater))),
+        (b"5 1 0 1 0\n4 0 1 2 0\n", Some((2, IdNotGreater))),
+        // Only one of them is at fault: the others are judged later.
+        (b"1 0 9 0\n", Some((1, IdNotGreater))),
+        (b"3 0 1 9 2 0\n", Some((1, HintNotLive))),
+        (b"3 0 1 2 9 0\n", None),
+        // Deletions: clauses that aren't live are passed over, and the number in front may be any.
+        (b"3 0 1 2 0\n3 d 1 7 1 0\n", None),
+        (b"0 d 1 0\n3 0 1 2 0\n", Some((2, HintNotLive))),
+        (b"1 d 0\n3 0 1 2 0\n", None),
+        (b"3 1 0 1 0\n0 d 1 0\n4 0 3 2 0\n", None),
+        (b"3 1 0 1 0\n3 d 3 0\n4 0 3 2 0\n", Some((3, HintNotLive))),
+        (b"999999999999999999 d 9 0\n3 0 1 2 0\n", None),
+        // A number isn't free again once its clause is deleted.
+        (b"3 1 0 1 0\n3 d 3 0\n3 0 1 2 0\n", Some((3, IdNotGreater))),
+        (b"3 0 1 2 0 5\n", Some((1, Syntax))),
+        (b"0 0 1 0\n", Some((1, Syntax))),
+        (b"3 0 1 2\n", Some((1, Syntax))),
+        (b"3 2147483648 0 0\n", Some((1, Syntax))),
+        (b"3 2147483647 0 0\n", Some((2, NoEmptyClause))),
+        (b"3 0 1000000000000000000 0\n", Some((1, Syntax))),
+        (b"3 0 999999999999999999 0\n", Some((1, HintNotLive))),
+        (b"999999999999999999 0 1 2 0\n", None),
+        (b"1000000000000000000 0 1 2 0\n", Some((1, Syntax))),
+        (
+            b"999999999999999999 1 0 1 0\n999999999999999999 0 1 2 0\n",
+            Some((2, IdNotGreater)),
+        ),
+        (b"c 3 x\n", Some((2, NoEmptyClause))),
+        (b"3 0 -1 0\n", Some((1, NoConflict))),
+        (b"3 0 1 1 0\n", Some((1, NoConflict))),
+        (b"3 1 0 2 0\n", Some((1, CandidateOpen))),
+        (b"3 1 0 -2 1 9 0\n", Some((2, NoEmptyClause))),
+        (b"3 1 1 0 1 0\n4 0 3 2 0\n", None),
+        // Lines: comments, empty lines, CR LF, no line end, two steps on one line.
+        (b"c x\n\n 3 0 1 2 0\n c 4\n", None),
+        (b"\nc x\n3 0 1 0\n", Some((3, NoConflict))),
+        (b"3 1 0 1 0\r\n4 0 3 2 0\r\n", None),
+        (b"3 1 0 1 0\r\n\r\n4 0 3 0\r\n", Some((3, NoConflict))),
+        (b"3 0 1 2 0", None),
+        (b"3 1 0 1 0", Some((1, NoEmptyClause))),
+        (b"3 1 0 1 0\n4 0 3", Some((2, Syntax))),
+        (b"3 1 0 1 0 4 0 3 2 0\n", Some((1, Syntax))),
+        (b"3 0 1\n2 0\n", Some((1, Syntax))),
+    ];
+    for (proof, wanted) in table {
+        expect(&rt, rt.alloc(), "1 / -1", proof, wanted)?;
+    }
+    Ok(())
 }
 
 #[test]
-fn small_proofs(rt: HostRuntime) -> Result<(), Fail> {
-    let six_lines =
-        "2 3 -2 0 0 / 3 -3 2 0 -2 0 / 4 4 -1 0 0 / 5 4 1 -3 0 0 / 6 -4 1 3 0 -4 -5 0 / 7 4 0 4 5 2 1 0";
-    let proofs = [
-        ("1 / -1", "3 0 1 2 0", None),
-        ("1 / -1", "3 0 1 0", Some(Reason::NoConflict)),
-        ("1 / -1", "3 1 -1 0 1 0 / 4 0 1 2 0", None),
+fn other_files(rt: HostRuntime) -> Result<(), Fail> {
+    let six_lines: &[u8] =
+        b"2 3 -2 0 0\n3 -3 2 0 -2 0\n4 4 -1 0 0\n5 4 1 -3 0 0\n6 -4 1 3 0 -4 -5 0\n7 4 0 4 5 2 1 0\n";
+    let table: [(&str, &[u8], Option<(u64, Reason)>); 24] = [
+        // An empty clause of the file counts once an addition repeats it.
+        ("", b"", Some((1, NoEmptyClause))),
+        ("", b"2 0 1 0\n", None),
+        ("-1 2", b"2 1 0 0\n", Some((1, CandidateOpen))),
+        ("-1 2", b"2 1 0 -5 0\n", Some((1, GroupStray))),
+        ("-1 2 / 2", b"3 1 0 -2 0\n", Some((1, GroupStray))),
+        ("-1 2 / 2", b"3 1 0 -1 2 0\n", Some((2, NoEmptyClause))),
+        ("1 2 / -1", b"3 0 1 0\n", Some((1, HintNotUnit))),
+        ("1 2", six_lines, Some((7, NoEmptyClause))),
+        // Several candidates, each under a set of its own.
         (
-            "1 / -1",
-            "3 1 0 1 0 / 3 0 3 2 0",
-            Some(Reason::IdNotGreater),
+            "-1 2 / -1 3 / 2 / 3",
+            b"5 1 0 -1 3 -2 4 0\n",
+            Some((2, NoEmptyClause)),
         ),
-        ("1 / -1", "d 1 7 0 / 3 0 1 2 0", Some(Reason::HintNotLive)),
-        ("-1 2", "2 1 0 0", Some(Reason::CandidateOpen)),
-        ("-1 2", "2 1 0 -5 0", Some(Reason::GroupStray)),
-        ("-1 2 / 2", "3 1 0 -2 0", Some(Reason::GroupStray)),
-        ("-1 2 / 2", "3 1 0 -1 2 0", None),
-        ("1 2 / -1", "3 0 1 0", Some(Reason::HintNotUnit)),
-        ("1 2", six_lines, None),
-        // A group is judged again by itself, and its hints after the conflict are ignored.
-        ("-1 2 / 2", "3 1 0 -1 2 9 -1 2 0", None),
-        ("-1 2 / 2", "3 1 0 -1 2 -1 0", Some(Reason::CandidateOpen)),
+        (
+            "-1 2 / -1 3 / 2 / 3",
+            b"5 1 0 -2 4 -1 3 0\n",
+            Some((2, NoEmptyClause)),
+        ),
+        (
+            "-1 2 / -1 3 / 2 / 3",
+            b"5 1 0 -1 3 0\n",
+            Some((1, CandidateOpen)),
+        ),
+        (
+            "-1 2 / -1 3 / 2 / 3",
+            b"5 1 0 -2 4 0\n",
+            Some((1, CandidateOpen)),
+        ),
+        (
+            "-1 2 / -1 3 / 2 / 3",
+            b"5 1 0 -1 3 -2 3 0\n",
+            Some((1, CandidateOpen)),
+        ),
+        (
+            "-1 2 / -1 3 / 2 / 3",
+            b"4 d 2 0\n5 1 0 -1 3 0\n",
+            Some((3, NoEmptyClause)),
+        ),
+        // A group is judged again by itself, and its hints behind the conflict are ignored.
+        (
+            "-1 2 / 2",
+            b"3 1 0 -1 2 9 -1 2 0\n",
+            Some((2, NoEmptyClause)),
+        ),
+        ("-1 2 / 2", b"3 1 0 -1 2 -1 0\n", Some((1, CandidateOpen))),
+        ("-1 2 / 2", b"3 1 0 -1 9 2 0\n", Some((1, HintNotLive))),
         // The hints of a blocked candidate are ignored.
-        ("-1 2", "2 1 -2 0 -1 9 8 0", None),
+        ("-1 2", b"2 1 -2 0 -1 9 8 0\n", Some((2, NoEmptyClause))),
+        ("-1 2", b"2 1 -2 0 0\n", Some((2, NoEmptyClause))),
         // Repeated literals count once.
-        ("1 1 1 / -1 -1", "3 0 1 2 0", None),
-        ("1 2 1 / -1", "3 0 1 0", Some(Reason::HintNotUnit)),
+        ("1 1 1 / -1 -1", b"3 0 1 2 0\n", None),
+        ("1 2 1 / -1", b"3 0 1 0\n", Some((1, HintNotUnit))),
+        // As drat-trim writes proofs: hints without groups, deletions under the last number.
+        (
+            "1 2 / -1 2 / 1 -2 / -1 -2",
+            b"5 2 0 1 2 0\n5 d 1 2 0\n6 0 5 3 4 0\n",
+            None,
+        ),
+        (
+            "1 2 / -1 2 / 1 -2 / -1 -2",
+            b"5 2 0 1 2 0\n5 d 1 2 5 0\n6 0 5 3 4 0\n",
+            Some((3, HintNotLive)),
+        ),
+        (
+            "1 2 / -1 2 / 1 -2 / -1 -2",
+            b"5 2 0 1 2 0\n5 d 1 2 0\n6 0 3 4 0\n",
+            Some((3, HintNotUnit)),
+        ),
     ];
-    for (clauses, lines, answer) in proofs {
-        assert_eq!(rt;
-            answer_of(&rt, rt.alloc(), clauses, lines)?,
-            answer,
-            "{lines}"
-        );
+    for (clauses, proof, wanted) in table {
+        expect(&rt, rt.alloc(), clauses, proof, wanted)?;
     }
+    Ok(())
+}
+
+// A line of 1 MB, behind a short one and in front of a bad one.
+#[test]
+fn long_line(rt: HostRuntime) -> Result<(), Fail> {
+    let alloc = rt.alloc();
+    let mut proof = Vec::from_slice(alloc, b"3 1 0 1 0\n4 0 3 2")?;
+    for _ in 0..250_000 {
+        proof.extend_from_slice(b" 999")?;
+    }
+    proof.extend_from_slice(b" 0\n")?;
+    let formula = formula_of(&rt, alloc, "1 / -1")?;
+    let verdict = check(
+        alloc,
+        &formula,
+        &mut source(proof.as_slice(), usize::MAX, None),
+    )?;
+    assert_eq!(rt; refusal(verdict), None);
+    proof.extend_from_slice(b"5 0\n")?;
+    let verdict = check(
+        alloc,
+        &formula,
+        &mut source(proof.as_slice(), usize::MAX, None),
+    )?;
+    assert_eq!(rt; refusal(verdict), Some((3, Syntax)));
+    Ok(())
+}
+
+// A read that fails at each place, the end too. A bad line before it is refused first.
+#[test]
+fn failing_reads(rt: HostRuntime) -> Result<(), Fail> {
+    let alloc = rt.alloc();
+    let formula = formula_of(&rt, alloc, "1 / -1")?;
+    let proof: &[u8] = b"3 1 0 1 0\n4 0 3 2 0\n";
+    for left in 0..=proof.len() {
+        let mut failing = source(proof, 1, Some(left));
+        let answer = check(alloc, &formula, &mut failing);
+        assert_eq!(rt; answer, Err(CheckError::ReadFault), "{left} bytes left");
+        assert_eq!(rt; failing.faults, 1, "{left} bytes left");
+    }
+    let mut failing = source(b"3 0 1 0\n4 0 3 2 0\n", 1, Some(0));
+    let verdict = check(alloc, &formula, &mut failing)?;
+    assert_eq!(rt;
+        (refusal(verdict), failing.faults),
+        (Some((1, NoConflict)), 0)
+    );
     Ok(())
 }
 
@@ -177,18 +304,20 @@ fn live_clauses(rt: HostRuntime) -> Result<(), Fail> {
     let alloc = rt.alloc();
     let formula = formula_of(&rt, alloc, "1 2 / -1")?;
     let mut judge = Judge::open(alloc, &formula)?;
-    for (line, literals) in [("3 2 0 2 1 0", Some(1)), ("d 3 0", None)] {
-        let step = step_of(alloc, line)?;
-        assert_eq!(rt; judge.step(&step)?, None, "{line}");
+    let mut reader = StepReader::new(alloc, 100);
+    let mut proof = source(b"3 2 0 2 1 0\n3 d 3 0\n", 1, None);
+    for literals in [Some(1), None] {
+        let (step, line) = reader.next(&mut proof)?.ok_or("no step")?;
+        assert_eq!(rt; judge.step(&step)?, None, "line {line}");
         assert_eq!(rt;
             judge.clause(Id(3)).map(|clause| clause.len()),
             literals,
-            "{line}"
+            "line {line}"
         );
         assert_eq!(rt;
             judge.clause(Id(1)).map(|clause| clause.len()),
             Some(2),
-            "{line}"
+            "line {line}"
         );
     }
     Ok(())

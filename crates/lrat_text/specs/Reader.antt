@@ -55,9 +55,10 @@ Gives (Err TooLong) line before after = (before ≡ overlong) × (after ≡ over
 Gives (Err ReadFault) line before after = ⊤
 Gives (Err OutOfMemory) line before after = ⊤
 
--- A step was given: its line is answered, and fewer can come.
+-- A step was given: its line is answered, the reader reads on, and fewer can come.
 pub record GaveStep (at : ℕ) (old new : Reader) : Type 0 where
   pub line : new.line ≡ at
+  pub reading : new.status ≡ Reading
   pub less : fuel new < fuel old
 
 -- What a call makes of the reader, whatever the source does: after the end or an error it has stopped.

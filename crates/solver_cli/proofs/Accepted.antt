@@ -7,7 +7,7 @@ use Rattle.host_io.specs.declared.role.Role.TheVariants.{Cnf, ProofOut}
 use Rattle.dimacs_reader.specs.declared.error.CnfKind.{CnfKind}
 use Rattle.dimacs_reader.specs.Cnf.{formula, refusal, overlong, cnf}
 use Rattle.solver_cli.specs.declared.status.Status.{Status}
-use Rattle.solver_cli.specs.declared.status.Status.TheVariants.{Usage, CnfRefused, TooLong, ReadFault, WriteFault, OutOfMemory}
+use Rattle.solver_cli.specs.declared.status.Status.TheVariants.{Help, Usage, CnfRefused, TooLong, ReadFault, WriteFault, OutOfMemory}
 use Rattle.solver_cli.specs.declared.answer.Answer.{Answer}
 use Rattle.solver_cli.specs.declared.answer.Answer.TheVariants.{Satisfiable, Unsatisfiable, NodesUsed}
 use Rattle.solver_cli.specs.Answer.{IsProof, IsProofSoFar, status_of}
@@ -16,7 +16,7 @@ use Rattle.solver_cli.specs.ErrorText.{is_answer}
 use Rattle.solver_cli.specs.Phases.{TakesFormula}
 use Rattle.solver_cli.specs.Stages.{streams_of, Uncreated, Undecided}
 use Rattle.solver_cli.specs.Headline.{Run, written_in, HasFault, Asks, AsksFor, RefusalsAreDue, ProofStands}
-use Rattle.solver_cli.proofs.Facts.{whole_of, no_answer, write_ends, one_text, not_usage, formula_refusal, formula_overlong}
+use Rattle.solver_cli.proofs.Facts.{whole_of, no_answer, write_ends, one_text, only_misuse, only_help, formula_refusal, formula_overlong}
 use Rattle.solver_cli.proofs.Reading.{rose_since}
 use Rattle.solver_cli.proofs.Promised.{Core, quiet_output, no_proof, same_written}
 
@@ -51,24 +51,26 @@ accepted_long run file proof problem t other other_proof asks =
 -- statuses that no accepted text leads to
 pub record Accepts (status : Status) : Type 0 where
   pub usage : status ≡ Usage → ⊥
+  pub help : status ≡ Help → ⊥
   pub refused : (kind : CnfKind) (line : ℕ) → status ≡ CnfRefused kind line → ⊥
   pub too_long : (role : Role) → status ≡ TooLong role → ⊥
   pub read : status ≡ ReadFault → ⊥
 
 pub accepts_write : (status : Status) → status ≡ WriteFault → Accepts status
-accepts_write status is = record { usage = λ e. cc; refused = λ kind line e. cc; too_long = λ role e. cc; read = λ e. cc }
+accepts_write status is = record { usage = λ e. cc; help = λ e. cc; refused = λ kind line e. cc; too_long = λ role e. cc; read = λ e. cc }
 
 pub accepts_memory : (status : Status) → status ≡ OutOfMemory → Accepts status
-accepts_memory status is = record { usage = λ e. cc; refused = λ kind line e. cc; too_long = λ role e. cc; read = λ e. cc }
+accepts_memory status is = record { usage = λ e. cc; help = λ e. cc; refused = λ kind line e. cc; too_long = λ role e. cc; read = λ e. cc }
 
 pub accepts_answer : (status : Status) (answer : Answer) → status ≡ status_of answer → Accepts status
-accepts_answer status Satisfiable is = record { usage = λ e. cc; refused = λ kind line e. cc; too_long = λ role e. cc; read = λ e. cc }
-accepts_answer status Unsatisfiable is = record { usage = λ e. cc; refused = λ kind line e. cc; too_long = λ role e. cc; read = λ e. cc }
-accepts_answer status NodesUsed is = record { usage = λ e. cc; refused = λ kind line e. cc; too_long = λ role e. cc; read = λ e. cc }
+accepts_answer status Satisfiable is = record { usage = λ e. cc; help = λ e. cc; refused = λ kind line e. cc; too_long = λ role e. cc; read = λ e. cc }
+accepts_answer status Unsatisfiable is = record { usage = λ e. cc; help = λ e. cc; refused = λ kind line e. cc; too_long = λ role e. cc; read = λ e. cc }
+accepts_answer status NodesUsed is = record { usage = λ e. cc; help = λ e. cc; refused = λ kind line e. cc; too_long = λ role e. cc; read = λ e. cc }
 
-pub accepted_refusals : (run : Run) (file proof : List ℕ) → command run.words ≡ Some (Solve file proof) → Accepts run.status → RefusalsAreDue run
-accepted_refusals run file proof asked accepts = record {
-  usage = ((λ e. absurd (accepts.usage e)), (λ e. absurd (not_usage asked e)));
+pub accepted_refusals : (run : Run) → Accepts run.status → RefusalsAreDue run
+accepted_refusals run accepts = record {
+  usage = λ e. absurd (accepts.usage e);
+  help = λ e. absurd (accepts.help e);
   refused = λ kind line e. absurd (accepts.refused kind line e);
   too_long = λ role e. absurd (accepts.too_long role e);
 }
@@ -84,11 +86,13 @@ uncreated run file proof asked u =
       unsatisfiable = λ e. absurd (no_answer unanswered refl e);
       satisfiable = λ e. absurd (no_answer unanswered refl e);
       undecided = λ e. absurd (no_answer unanswered refl e);
-      refusals = accepted_refusals run file proof asked accepts;
-      faults = record { read = λ e. absurd (accepts.read e); write = λ e. inl rose; accepted = λ e t. (u.problem, asks_for run file proof u.problem (read t)) };
-      output = quiet_output run unanswered (same_written u.out);
+      refusals = accepted_refusals run accepts;
+      faults = record { read = λ e. absurd (accepts.read e); write = λ e. inl rose; accepted = λ e. inr (λ t. (u.problem, asks_for run file proof u.problem (read t))) };
+      output = quiet_output run unanswered accepts.help (same_written u.out);
       proof = no_proof run (whole_of (run.before ProofOut) (run.after ProofOut) u.opens.was_idle.written ∙ u.opens.idle.written);
       complete = record {
+        misused = λ only. absurd (only_misuse run.words asked only);
+        helped = λ only _. absurd (only_help run.words asked only);
         answers = λ problem asks t a faultless b. absurd (faultless rose);
         refuses = λ other other_proof kind line asks t a. absurd (accepted_refuses run file proof u.problem (read t) other other_proof kind line asks);
         overlong = λ other other_proof asks t a. absurd (accepted_long run file proof u.problem (read t) other other_proof asks);
@@ -126,11 +130,13 @@ undecided run file proof asked u = both (write_ends Answer run.status u.writes.s
     unsatisfiable = λ e. absurd (no_answer unanswered refl e);
     satisfiable = λ e. absurd (no_answer unanswered refl e);
     undecided = λ e. absurd (no_answer unanswered refl e);
-    refusals = accepted_refusals run file proof asked accepts;
-    faults = record { read = λ e. absurd (accepts.read e); write = λ e. inl (rose e); accepted = λ e t. (u.problem, asks_for run file proof u.problem (read t)) };
-    output = quiet_output run unanswered (same_written u.out);
+    refusals = accepted_refusals run accepts;
+    faults = record { read = λ e. absurd (accepts.read e); write = λ e. inl (rose e); accepted = λ e. inr (λ t. (u.problem, asks_for run file proof u.problem (read t))) };
+    output = quiet_output run unanswered accepts.help (same_written u.out);
     proof = stands;
     complete = record {
+      misused = λ only. absurd (only_misuse run.words asked only);
+      helped = λ only _. absurd (only_help run.words asked only);
       answers = λ problem asks t a faultless b. inr (memory faultless);
       refuses = λ other other_proof kind line asks t a. absurd (accepted_refuses run file proof u.problem (read t) other other_proof kind line asks);
       overlong = λ other other_proof asks t a. absurd (accepted_long run file proof u.problem (read t) other other_proof asks);

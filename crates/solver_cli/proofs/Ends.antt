@@ -11,7 +11,7 @@ use Rattle.lrat_rules.specs.Run.{Spells, IsCutProof}
 use Rattle.clause_ledger.specs.Book.{IsProofOf}
 use Rattle.solver_cli.specs.Answer.{IsProof}
 use Rattle.solver_cli.specs.declared.status.Status.{Status}
-use Rattle.solver_cli.specs.declared.status.Status.TheVariants.{Sat, Unsat, Unknown, Usage, CnfRefused, TooLong, ReadFault, WriteFault, OutOfMemory}
+use Rattle.solver_cli.specs.declared.status.Status.TheVariants.{Sat, Unsat, Unknown, Help, Usage, CnfRefused, TooLong, ReadFault, WriteFault, OutOfMemory}
 use Rattle.solver_cli.specs.Phases.{EndsProof, IsProofStatus}
 
 -- nothing more was written, whatever else came
@@ -59,6 +59,7 @@ pub err_status : (A B : Type 0) (status : Status) → IsProofStatus {T = A} (Err
 err_status A B Sat p = absurd p
 err_status A B Unsat p = absurd p
 err_status A B (Unknown why) p = absurd p
+err_status A B Help p = absurd p
 err_status A B Usage p = absurd p
 err_status A B (CnfRefused kind line) p = absurd p
 err_status A B (TooLong role) p = absurd p

@@ -1,5 +1,5 @@
 -- What the stages of a run say of its streams, for the promises.
-use Rattle.std.proofs.Common.{◌≡◌, ℕ, true, false, List, [], ◌++◌, length, append-nil, refl, sym, ap, ◌∙◌, Some, None, Err, inl, inr, true≢false}
+use Rattle.std.proofs.Common.{◌≡◌, ℕ, true, false, List, [], ◌∷◌, ◌++◌, length, append-nil, refl, sym, ap, ◌∙◌, Some, Err, inl, inr, true≢false}
 use Rattle.std.specs.Prelude.{Option, drop, ◌⊎◌}
 use Rattle.std.proofs.Math.Seq.{drop-append_seam}
 use Rattle.cnf_base.specs.Formula.{Formula}
@@ -9,9 +9,9 @@ use Rattle.host_io.specs.declared.role.Role.TheVariants.{Cnf}
 use Rattle.dimacs_reader.specs.declared.error.CnfKind.{CnfKind}
 use Rattle.dimacs_reader.specs.Cnf.{CnfText, formula, refusal, overlong}
 use Rattle.solver_cli.specs.declared.status.Status.{Status}
-use Rattle.solver_cli.specs.declared.status.Status.TheVariants.{Sat, Unsat, Unknown, Usage, CnfRefused, TooLong, ReadFault, WriteFault, OutOfMemory}
+use Rattle.solver_cli.specs.declared.status.Status.TheVariants.{Sat, Unsat, Unknown, Help, Usage, CnfRefused, TooLong, ReadFault, WriteFault, OutOfMemory}
 use Rattle.solver_cli.specs.ErrorText.{is_answer}
-use Rattle.solver_cli.specs.Command.{Command, Solve}
+use Rattle.solver_cli.specs.Command.{Command, Solve, Meaning, Asks, AsksHelp, Misuse, IsOneOf, MayMean, CanOnlyMean, meanings, only_command, command}
 use Rattle.solver_cli.specs.Phases.{IsRead, IsReadStatus, IsProofStatus}
 
 -- what was written behind what stood there
@@ -43,16 +43,17 @@ pub record Exceeds (status : Status) (text : CnfText) : Type 0 where
   pub ends : status ≡ TooLong Cnf
   pub says : text ≡ overlong
 
-pub read_statuses : (status : Status) → IsReadStatus status → (is_answer status ≡ false) × ((status ≡ WriteFault) → ⊥) × ((status ≡ Usage) → ⊥)
+pub read_statuses : (status : Status) → IsReadStatus status → (is_answer status ≡ false) × ((status ≡ WriteFault) → ⊥) × ((status ≡ Usage) → ⊥) × ((status ≡ Help) → ⊥)
 read_statuses Sat p = absurd p
 read_statuses Unsat p = absurd p
 read_statuses (Unknown why) p = absurd p
+read_statuses Help p = absurd p
 read_statuses Usage p = absurd p
-read_statuses (CnfRefused kind line) p = (refl, (λ e. cc), λ e. cc)
-read_statuses (TooLong role) p = (refl, (λ e. cc), λ e. cc)
-read_statuses ReadFault p = (refl, (λ e. cc), λ e. cc)
+read_statuses (CnfRefused kind line) p = (refl, (λ e. cc), (λ e. cc), λ e. cc)
+read_statuses (TooLong role) p = (refl, (λ e. cc), (λ e. cc), λ e. cc)
+read_statuses ReadFault p = (refl, (λ e. cc), (λ e. cc), λ e. cc)
 read_statuses WriteFault p = absurd p
-read_statuses OutOfMemory p = (refl, (λ e. cc), λ e. cc)
+read_statuses OutOfMemory p = (refl, (λ e. cc), (λ e. cc), λ e. cc)
 
 -- the refusal of a text, or a fault or want of memory
 pub read_ends : (status : Status) (whole taken : CnfText) → IsRead (Err status) whole taken → IsReadStatus status
@@ -60,6 +61,7 @@ pub read_ends : (status : Status) (whole taken : CnfText) → IsRead (Err status
 read_ends Sat whole taken is p = absurd p
 read_ends Unsat whole taken is p = absurd p
 read_ends (Unknown why) whole taken is p = absurd p
+read_ends Help whole taken is p = absurd p
 read_ends Usage whole taken is p = absurd p
 read_ends (CnfRefused kind line) whole taken is p = inr (inr (is.1 ∙ sym is.0, inl (record { kind = kind; line = line; ends = refl; says = is.0 })))
 read_ends (TooLong role) whole taken is p = inr (inr (is.2 ∙ sym is.1, inr (record { ends = ap (λ (r : Role). TooLong r) is.0; says = is.1 })))
@@ -72,6 +74,7 @@ pub write_ends : (T : Type 0) (status : Status) → IsProofStatus {T = T} (Err s
 write_ends T Sat p = absurd p
 write_ends T Unsat p = absurd p
 write_ends T (Unknown why) p = absurd p
+write_ends T Help p = absurd p
 write_ends T Usage p = absurd p
 write_ends T (CnfRefused kind line) p = absurd p
 write_ends T (TooLong role) p = absurd p
@@ -89,8 +92,43 @@ one_text files here there stands stands_there = same_some (sym stands ∙ ap fil
   same_file : {a b c d : List ℕ} → ◌≡◌ {A = Option Command} (Some (Solve a b)) (Some (Solve c d)) → a ≡ c
   same_file e = cc
 
-pub not_usage : {words : Option Command} {asked : Command} → words ≡ Some asked → words ≡ None → ⊥
-not_usage e d = cc
+-- words that give a command can mean nothing else
+only_this : (meanings : List Meaning) (asked : Command) (meaning : Meaning) → only_command meanings ≡ Some asked → IsOneOf meaning meanings → meaning ≡ Asks asked
+only_this [] asked meaning e is = absurd is
+only_this (Asks one ∷ []) asked meaning e (inl same) = same ∙ inner e where
+  inner : {a b : Command} → ◌≡◌ {A = Option Command} (Some a) (Some b) → Asks a ≡ Asks b
+  inner e = cc
+only_this (Asks one ∷ []) asked meaning e (inr none) = absurd none
+only_this (Asks one ∷ more ∷ others) asked meaning e is = cc
+only_this (AsksHelp ∷ more) asked meaning e is = cc
+only_this (Misuse ∷ more) asked meaning e is = cc
+
+this_one : (meanings : List Meaning) (asked : Command) → only_command meanings ≡ Some asked → IsOneOf (Asks asked) meanings
+this_one [] asked e = cc
+this_one (Asks one ∷ []) asked e = inl (inner e) where
+  inner : {a b : Command} → ◌≡◌ {A = Option Command} (Some a) (Some b) → Asks b ≡ Asks a
+  inner e = cc
+this_one (Asks one ∷ more ∷ others) asked e = cc
+this_one (AsksHelp ∷ more) asked e = cc
+this_one (Misuse ∷ more) asked e = cc
+
+misuse_apart : {asked : Command} → Misuse ≡ Asks asked → ⊥
+misuse_apart e = cc
+
+help_apart : {asked : Command} → AsksHelp ≡ Asks asked → ⊥
+help_apart e = cc
+
+pub no_misuse : (words : List (List ℕ)) {asked : Command} → command words ≡ Some asked → MayMean words Misuse → ⊥
+no_misuse words {asked = asked} e is = misuse_apart (only_this (meanings words) asked Misuse e is)
+
+pub no_help : (words : List (List ℕ)) {asked : Command} → command words ≡ Some asked → MayMean words AsksHelp → ⊥
+no_help words {asked = asked} e is = help_apart (only_this (meanings words) asked AsksHelp e is)
+
+pub only_misuse : (words : List (List ℕ)) {asked : Command} → command words ≡ Some asked → CanOnlyMean words Misuse → ⊥
+only_misuse words {asked = asked} e only = misuse_apart (sym (only (Asks asked) (this_one (meanings words) asked e)))
+
+pub only_help : (words : List (List ℕ)) {asked : Command} → command words ≡ Some asked → CanOnlyMean words AsksHelp → ⊥
+only_help words {asked = asked} e only = help_apart (sym (only (Asks asked) (this_one (meanings words) asked e)))
 
 pub formula_refusal : {text : CnfText} {problem : Formula} {kind : CnfKind} {line : ℕ} → text ≡ formula problem → text ≡ refusal kind line → ⊥
 formula_refusal e d = cc

@@ -3,8 +3,10 @@ pub mod Tautologies
 pub mod Reading
 pub mod Staged
 pub mod Complaints
+pub mod Meant
 pub mod Facts
 pub mod Promised
+pub mod Helped
 pub mod Accepted
 pub mod Printed
 pub mod Named

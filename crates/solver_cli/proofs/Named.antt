@@ -10,7 +10,7 @@ use Rattle.solver_cli.specs.declared.answer.Answer.{Answer}
 use Rattle.solver_cli.specs.declared.answer.Answer.TheVariants.{Satisfiable, Unsatisfiable, NodesUsed}
 use Rattle.solver_cli.specs.Command.{Command, Solve, command}
 use Rattle.solver_cli.specs.Phases.{Complains, IsProofStatus}
-use Rattle.solver_cli.specs.Stages.{Streams, streams_of, Untaken, Uncreated, Undecided, Answered, Stages, status_after}
+use Rattle.solver_cli.specs.Stages.{Streams, streams_of, Came, Stages, status_after}
 use Rattle.solver_cli.specs.Headline.{Run, ErrorStands, NamesAreGiven, name_given, ends_before_proof}
 use Rattle.solver_cli.proofs.Facts.{behind, grown_by, write_ends}
 
@@ -51,9 +51,14 @@ stream_names run unnamed (inl m) = record {
   out = inl (name_of (ap (λ (s : Streams). s.out) m.same) (unnamed Out));
   read_first = λ _. name_of (ap (λ (s : Streams). s.proof) m.same) (unnamed ProofOut);
 }
-stream_names run unnamed (inr t) = came t.came where
-  came : Untaken run.tells (streams_of run.before) (streams_of run.after) run.files t.file run.status ⊎ (Uncreated run.tells (streams_of run.before) (streams_of run.after) run.files t.file t.proof run.status
-      ⊎ (Undecided run.tells (streams_of run.before) (streams_of run.after) run.files t.file t.proof run.status ⊎ Answered run.tells (streams_of run.before) (streams_of run.after) run.files t.file t.proof run.status)) → StreamNames run
+stream_names run unnamed (inr (inl h)) = record {
+  cnf = inl (name_of h.cnf (unnamed Cnf));
+  proof = inl (name_of h.proof (unnamed ProofOut));
+  out = inl (h.shows.puts.only.name ∙ unnamed Out);
+  read_first = λ _. name_of h.proof (unnamed ProofOut);
+}
+stream_names run unnamed (inr (inr t)) = came t.came where
+  came : Came run.tells (streams_of run.before) (streams_of run.after) run.files t.file t.proof run.status → StreamNames run
   came (inl u) = record {
     cnf = given run t.file t.proof t.asked u.takes.name;
     proof = inl (name_of u.proof (unnamed ProofOut));

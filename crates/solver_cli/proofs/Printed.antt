@@ -12,10 +12,10 @@ use Rattle.solver_cli.specs.declared.answer.Answer.TheVariants.{Satisfiable, Uns
 use Rattle.solver_cli.specs.Answer.{Refutation, Holds, IsProof, answer_text, status_of}
 use Rattle.solver_cli.specs.Command.{Solve, command}
 use Rattle.solver_cli.specs.ErrorText.{is_answer}
-use Rattle.solver_cli.specs.Phases.{PutsAnswer}
+use Rattle.solver_cli.specs.Phases.{PutsText}
 use Rattle.solver_cli.specs.Stages.{streams_of, Answered, status_after}
 use Rattle.solver_cli.specs.Headline.{Run, written_in, HasFault, IsTrueAnswer, ProofStands}
-use Rattle.solver_cli.proofs.Facts.{behind, grown_by, nothing_more, whole_of, no_answer, write_ends}
+use Rattle.solver_cli.proofs.Facts.{behind, grown_by, nothing_more, whole_of, no_answer, write_ends, only_misuse, only_help}
 use Rattle.solver_cli.proofs.Promised.{Core}
 use Rattle.solver_cli.proofs.Accepted.{Took, took, asks_for, accepted_refuses, accepted_long, accepted_refusals, Accepts, accepts_write, accepts_memory, accepts_answer, proof_whole}
 
@@ -89,13 +89,13 @@ answered law run file proof asked a = go a.printed a.puts a.ends where
     front = front;
   }
 
-  grows : (printed : Result ⊤ Status) → PutsAnswer run.tells (run.before Out) (run.after Out) text printed → IsTrue run.tells → (run.after Out).written ≡ (run.before Out).written ++ written_in run Out
+  grows : (printed : Result ⊤ Status) → PutsText run.tells (run.before Out) (run.after Out) text printed → IsTrue run.tells → (run.after Out).written ≡ (run.before Out).written ++ written_in run Out
   grows printed puts t = let front = puts.front t in grown_by (run.before Out) (run.after Out) front.0 front.2
 
-  fronts : (printed : Result ⊤ Status) → PutsAnswer run.tells (run.before Out) (run.after Out) text printed → IsTrue run.tells → IsTrueAnswer run a.answer
+  fronts : (printed : Result ⊤ Status) → PutsText run.tells (run.before Out) (run.after Out) text printed → IsTrue run.tells → IsTrueAnswer run a.answer
   fronts printed puts t = let front = puts.front t in true_answer t front.1 (front.3 ∙ ap (λ (l : List ℕ). l ++ front.1) (sym (behind (run.before Out) (run.after Out) front.0 front.2)))
 
-  fine : (x : ⊤) → PutsAnswer run.tells (run.before Out) (run.after Out) text (Ok x) → run.status ≡ status_of a.answer → Core run
+  fine : (x : ⊤) → PutsText run.tells (run.before Out) (run.after Out) text (Ok x) → run.status ≡ status_of a.answer → Core run
   fine x puts ends =
       let accepts : Accepts run.status = accepts_answer run.status a.answer ends in
       let yes_answer : is_answer run.status ≡ true = ap is_answer ends ∙ answers a.answer in
@@ -128,7 +128,7 @@ answered law run file proof asked a = go a.printed a.puts a.ends where
           asked = asks_for run file proof a.problem (read t);
           used = subst (λ (x : Answer). Holds a.problem (written_in run ProofOut) x) (is_unknown a.answer (sym ends ∙ e)) (holds t);
         };
-        refusals = accepted_refusals run file proof asked accepts;
+        refusals = accepted_refusals run accepts;
         faults = record {
           read = λ e. absurd (accepts.read e);
           write = λ e. absurd (no_write a.answer (sym ends ∙ e));
@@ -136,41 +136,47 @@ answered law run file proof asked a = go a.printed a.puts a.ends where
         };
         output = record {
           grows = grows (Ok x) puts;
-          front = λ t. inr (a.answer, fronts (Ok x) puts t);
+          front = λ t. inr (inl (a.answer, fronts (Ok x) puts t));
           answered = λ _ t. (a.answer, true_answer t [] (sym (all t) ∙ sym (append-nil (written_in run Out))), ends, refl);
+          helped = λ e. absurd (accepts.help e);
           flushed = λ _ t. puts.flushed t refl;
           silent = λ unanswered. absurd (true≢false (sym yes_answer ∙ unanswered));
         };
         proof = stands;
         complete = record {
+          misused = λ only. absurd (only_misuse run.words asked only);
+          helped = λ only _. absurd (only_help run.words asked only);
           answers = λ problem asks t c p o. inl yes_answer;
           refuses = λ other other_proof kind line asks t c. absurd (accepted_refuses run file proof a.problem (read t) other other_proof kind line asks);
           overlong = λ other other_proof asks t c. absurd (accepted_long run file proof a.problem (read t) other other_proof asks);
         };
       }
 
-  failed : (status : Status) → PutsAnswer run.tells (run.before Out) (run.after Out) text (Err status) → run.status ≡ status → is_answer run.status ≡ false → Accepts run.status
+  failed : (status : Status) → PutsText run.tells (run.before Out) (run.after Out) text (Err status) → run.status ≡ status → is_answer run.status ≡ false → Accepts run.status
       → (run.status ≢ WriteFault → status ≡ OutOfMemory) → ((HasFault run Out → ⊥) → run.status ≡ OutOfMemory) → Core run
   failed status puts ends unanswered accepts memory faultless =
       record {
         unsatisfiable = λ e. absurd (no_answer unanswered refl e);
         satisfiable = λ e. absurd (no_answer unanswered refl e);
         undecided = λ e. absurd (no_answer unanswered refl e);
-        refusals = accepted_refusals run file proof asked accepts;
+        refusals = accepted_refusals run accepts;
         faults = record {
           read = λ e. absurd (accepts.read e);
           write = λ e. inr (puts.fault (ap (λ (s : Status). the_err s) (sym ends ∙ e)));
-          accepted = λ e t. (a.problem, asks_for run file proof a.problem (read t));
+          accepted = λ e. inr (λ t. (a.problem, asks_for run file proof a.problem (read t)));
         };
         output = record {
           grows = grows (Err status) puts;
-          front = λ t. inr (a.answer, fronts (Err status) puts t);
+          front = λ t. inr (inl (a.answer, fronts (Err status) puts t));
           answered = λ yes_answer. absurd (true≢false (sym yes_answer ∙ unanswered));
-          flushed = λ yes_answer. absurd (true≢false (sym yes_answer ∙ unanswered));
-          silent = λ _ unfaulted t. behind (run.before Out) (run.after Out) [] (nothing_more (run.before Out) (run.after Out) (puts.silent (ap (λ (s : Status). the_err s) (memory unfaulted)) t));
+          helped = λ e. absurd (accepts.help e);
+          flushed = λ either. elim either [ inl yes_answer ↦ absurd (true≢false (sym yes_answer ∙ unanswered)) | inr e ↦ absurd (accepts.help e) ];
+          silent = λ _ _ unfaulted t. behind (run.before Out) (run.after Out) [] (nothing_more (run.before Out) (run.after Out) (puts.silent (ap (λ (s : Status). the_err s) (memory unfaulted)) t));
         };
         proof = stands;
         complete = record {
+          misused = λ only. absurd (only_misuse run.words asked only);
+          helped = λ only _. absurd (only_help run.words asked only);
           answers = λ problem asks t c p o. inr (faultless o);
           refuses = λ other other_proof kind line asks t c. absurd (accepted_refuses run file proof a.problem (read t) other other_proof kind line asks);
           overlong = λ other other_proof asks t c. absurd (accepted_long run file proof a.problem (read t) other other_proof asks);
@@ -179,7 +185,7 @@ answered law run file proof asked a = go a.printed a.puts a.ends where
         the_err : Status → Result ⊤ Status
         the_err s = Err s
 
-  go : (printed : Result ⊤ Status) → PutsAnswer run.tells (run.before Out) (run.after Out) text printed → run.status ≡ status_after a.answer printed → Core run
+  go : (printed : Result ⊤ Status) → PutsText run.tells (run.before Out) (run.after Out) text printed → run.status ≡ status_after a.answer printed → Core run
   go (Ok x) puts ends = fine x puts ends
   go (Err status) puts ends = by (write_ends ⊤ status puts.statuses) where
     the_err : Status → Result ⊤ Status

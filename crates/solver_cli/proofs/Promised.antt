@@ -1,6 +1,6 @@
 -- From how far a run came to what is promised of it.
-use Rattle.std.proofs.Common.{◌≡◌, ℕ, false, List, [], refl, sym, ap, ◌∙◌, subst, Some, None, Err, IsTrue, inl, inr, true≢false}
-use Rattle.std.specs.Prelude.{Result, Option, ◌⊎◌}
+use Rattle.std.proofs.Common.{◌≡◌, ℕ, false, List, [], refl, sym, ap, ◌∙◌, subst, Some, Err, IsTrue, inl, inr, true≢false}
+use Rattle.std.specs.Prelude.{Result, ◌⊎◌}
 use Rattle.cnf_base.specs.Formula.{Formula}
 use Rattle.host_io.specs.Channel.{Channel}
 use Rattle.host_io.specs.declared.role.Role.{Role}
@@ -8,13 +8,13 @@ use Rattle.host_io.specs.declared.role.Role.TheVariants.{Cnf, ProofOut, Out}
 use Rattle.dimacs_reader.specs.declared.error.CnfKind.{CnfKind}
 use Rattle.dimacs_reader.specs.Cnf.{CnfText, formula, refusal, overlong, cnf}
 use Rattle.solver_cli.specs.declared.status.Status.{Status}
-use Rattle.solver_cli.specs.declared.status.Status.TheVariants.{Usage, CnfRefused, TooLong, ReadFault, WriteFault, OutOfMemory}
-use Rattle.solver_cli.specs.Command.{Command, Solve, command}
+use Rattle.solver_cli.specs.declared.status.Status.TheVariants.{Help, Usage, CnfRefused, TooLong, ReadFault, WriteFault, OutOfMemory}
+use Rattle.solver_cli.specs.Command.{Solve, AsksHelp, Misuse, command}
 use Rattle.solver_cli.specs.ErrorText.{is_answer}
 use Rattle.solver_cli.specs.Phases.{IsReadStatus}
 use Rattle.solver_cli.specs.Stages.{Streams, streams_of, Misused, Untaken}
 use Rattle.solver_cli.specs.Headline.{Run, written_in, taken_in, UnsatisfiableIsProved, SatisfiableIsTrue, LimitsAreReached, RefusalsAreDue, FaultsAreCounted, OutputStands, ProofStands, IsComplete, IsRefusedBy}
-use Rattle.solver_cli.proofs.Facts.{behind, grown_by, nothing_more, no_answer, Refuses, Exceeds, read_statuses, read_ends, one_text, not_usage, formula_refusal, formula_overlong, refusal_overlong, same_refusal}
+use Rattle.solver_cli.proofs.Facts.{behind, grown_by, nothing_more, no_answer, Refuses, Exceeds, read_statuses, read_ends, one_text, no_misuse, only_misuse, only_help, formula_refusal, formula_overlong, refusal_overlong, same_refusal}
 
 -- The promises on streams and statuses, without names, files and standard error.
 pub record Core (run : Run) : Type 0 where
@@ -27,15 +27,16 @@ pub record Core (run : Run) : Type 0 where
   pub proof : ProofStands run
   pub complete : IsComplete run
 
-pub quiet_output : (run : Run) → is_answer run.status ≡ false → (run.after Out).written ≡ (run.before Out).written → OutputStands run
-quiet_output run unanswered same =
+pub quiet_output : (run : Run) → is_answer run.status ≡ false → (run.status ≡ Help → ⊥) → (run.after Out).written ≡ (run.before Out).written → OutputStands run
+quiet_output run unanswered unhelped same =
     let none : written_in run Out ≡ [] = behind (run.before Out) (run.after Out) [] (nothing_more (run.before Out) (run.after Out) same) in
     record {
       grows = λ t. grown_by (run.before Out) (run.after Out) [] (nothing_more (run.before Out) (run.after Out) same);
       front = λ t. inl none;
       answered = λ answers. absurd (true≢false (sym answers ∙ unanswered));
-      flushed = λ answers. absurd (true≢false (sym answers ∙ unanswered));
-      silent = λ _ _ t. none;
+      helped = λ e. absurd (unhelped e);
+      flushed = λ either. elim either [ inl answers ↦ absurd (true≢false (sym answers ∙ unanswered)) | inr e ↦ absurd (unhelped e) ];
+      silent = λ _ _ _ t. none;
     }
 
 pub no_proof : (run : Run) → written_in run ProofOut ≡ [] → ProofStands run
@@ -50,51 +51,54 @@ proof_of same = ap (λ (s : Streams). s.proof) same
 pub same_written : {old new : Channel} → new ≡ old → new.written ≡ old.written
 same_written same = ap (λ (c : Channel). c.written) same
 
-none_written : (run : Run) (role : Role) → run.after role ≡ run.before role → written_in run role ≡ []
+pub none_written : (run : Run) (role : Role) → run.after role ≡ run.before role → written_in run role ≡ []
 none_written run role same = behind (run.before role) (run.after role) [] (nothing_more (run.before role) (run.after role) (same_written same))
 
--- the words were no command
+-- statuses of a run that did nothing for its words
+record Undone (status : Status) : Type 0 where
+  pub unanswered : is_answer status ≡ false
+  pub help : status ≡ Help → ⊥
+  pub refused : (kind : CnfKind) (line : ℕ) → status ≡ CnfRefused kind line → ⊥
+  pub too_long : (role : Role) → status ≡ TooLong role → ⊥
+  pub read : status ≡ ReadFault → ⊥
+  pub write : status ≡ WriteFault → ⊥
+
+undone_usage : (status : Status) → status ≡ Usage → Undone status
+undone_usage status is = record { unanswered = ap is_answer is; help = λ e. cc; refused = λ kind line e. cc; too_long = λ role e. cc; read = λ e. cc; write = λ e. cc }
+
+undone_memory : (status : Status) → status ≡ OutOfMemory → Undone status
+undone_memory status is = record { unanswered = ap is_answer is; help = λ e. cc; refused = λ kind line e. cc; too_long = λ role e. cc; read = λ e. cc; write = λ e. cc }
+
+-- the words may be faulty, or memory ran out
 pub misused : (run : Run) → Misused run.words (streams_of run.before) (streams_of run.after) run.status → Core run
 misused run m =
-    let unanswered : is_answer run.status ≡ false = ap is_answer m.ends in
+    let undone : Undone run.status = elim m.ends [ inl faulty ↦ undone_usage run.status faulty.0 | inr memory ↦ undone_memory run.status memory ] in
     record {
-      unsatisfiable = λ e. absurd (no_answer unanswered refl e);
-      satisfiable = λ e. absurd (no_answer unanswered refl e);
-      undecided = λ e. absurd (no_answer unanswered refl e);
+      unsatisfiable = λ e. absurd (no_answer undone.unanswered refl e);
+      satisfiable = λ e. absurd (no_answer undone.unanswered refl e);
+      undecided = λ e. absurd (no_answer undone.unanswered refl e);
       refusals = record {
-        usage = ((λ e. m.none), (λ e. m.ends));
-        refused = λ kind line e. absurd (differs_refused m.ends e);
-        too_long = λ role e. absurd (differs_long m.ends e);
+        usage = λ e. elim m.ends [ inl faulty ↦ faulty.1 | inr memory ↦ absurd (apart memory e) ];
+        help = λ e. absurd (undone.help e);
+        refused = λ kind line e. absurd (undone.refused kind line e);
+        too_long = λ role e. absurd (undone.too_long role e);
       };
-      faults = record { read = λ e. absurd (differs_read m.ends e); write = λ e. absurd (differs_write m.ends e); accepted = λ e. absurd (differs_write m.ends e) };
-      output = quiet_output run unanswered (same_written (out_of m.same));
+      faults = record { read = λ e. absurd (undone.read e); write = λ e. absurd (undone.write e); accepted = λ e. absurd (undone.write e) };
+      output = quiet_output run undone.unanswered undone.help (same_written (out_of m.same));
       proof = no_proof run (none_written run ProofOut (proof_of m.same));
       complete = record {
-        answers = λ problem asked. absurd (uncommanded asked.asks.command);
-        refuses = λ file proof kind line asks. absurd (uncommanded asks.command);
-        overlong = λ file proof asks. absurd (uncommanded asks.command);
+        misused = λ only. elim m.ends [ inl faulty ↦ inl faulty.0 | inr memory ↦ inr memory ];
+        helped = λ only _. elim m.ends [ inl faulty ↦ absurd (no_wish (only Misuse faulty.1)) | inr memory ↦ inr memory ];
+        answers = λ problem asked t a b c. elim m.ends [ inl faulty ↦ absurd (no_misuse run.words asked.asks.command faulty.1) | inr memory ↦ inr memory ];
+        refuses = λ file proof kind line asks t a. elim m.ends [ inl faulty ↦ absurd (no_misuse run.words asks.command faulty.1) | inr memory ↦ inr memory ];
+        overlong = λ file proof asks t a. elim m.ends [ inl faulty ↦ absurd (no_misuse run.words asks.command faulty.1) | inr memory ↦ inr memory ];
       };
     } where
-      differs_refused : {status : Status} {kind : CnfKind} {line : ℕ} → status ≡ Usage → status ≡ CnfRefused kind line → ⊥
-      differs_refused d e = cc
+      apart : {status : Status} → status ≡ OutOfMemory → status ≡ Usage → ⊥
+      apart d e = cc
 
-      differs_long : {status : Status} {role : Role} → status ≡ Usage → status ≡ TooLong role → ⊥
-      differs_long d e = cc
-
-      differs_read : {status : Status} → status ≡ Usage → status ≡ ReadFault → ⊥
-      differs_read d e = cc
-
-      differs_write : {status : Status} → status ≡ Usage → status ≡ WriteFault → ⊥
-      differs_write d e = cc
-
-      uncommanded : {asked : Command} → command run.words ≡ Some asked → ⊥
-      uncommanded e = some_none (m.none) e where
-        some_none : {o : Option Command} {asked : Command} → o ≡ None → o ≡ Some asked → ⊥
-        some_none d e = cc
-
--- two statuses that differ
-refused_apart : {status other : Status} {kind : CnfKind} {line : ℕ} → status ≡ other → status ≡ CnfRefused kind line → other ≡ CnfRefused kind line
-refused_apart d e = sym d ∙ e
+      no_wish : Misuse ≡ AsksHelp → ⊥
+      no_wish e = cc
 
 -- The formula was not taken: a refusal of its text, a read fault, or want of memory.
 record TextSays (run : Run) (file proof : List ℕ) : Type 0 where
@@ -166,6 +170,8 @@ long_is_cnf status role p e = inner role (subst (λ (s : Status). IsReadStatus s
 
 untaken_complete : (run : Run) (file proof : List ℕ) → command run.words ≡ Some (Solve file proof) → Untaken run.tells (streams_of run.before) (streams_of run.after) run.files file run.status → IsComplete run
 untaken_complete run file proof asked u = record {
+  misused = λ only. absurd (only_misuse run.words asked only);
+  helped = λ only _. absurd (only_help run.words asked only);
   answers = λ problem asks t faultless _ _. elim (untaken_says run file proof u t) [
     | inl fault ↦ absurd (faultless (u.takes.fault (ap (λ (s : Status). the_err s) fault)))
     | inr more ↦ elim more [
@@ -203,12 +209,13 @@ untaken run file proof asked u =
       satisfiable = λ e. absurd (no_answer unanswered refl e);
       undecided = λ e. absurd (no_answer unanswered refl e);
       refusals = record {
-        usage = ((λ e. absurd (statuses.2 e)), (λ e. absurd (not_usage asked e)));
+        usage = λ e. absurd (statuses.2 e);
+        help = λ e. absurd (statuses.3 e);
         refused = λ kind line e t. untaken_refused run file proof asked kind line e (untaken_says run file proof u t);
         too_long = λ role e. (long_is_cnf run.status role u.takes.statuses e, λ t. untaken_long run file proof asked role e (untaken_says run file proof u t));
       };
       faults = record { read = λ e. u.takes.fault (ap (λ (s : Status). the_err s) e); write = λ e. absurd (statuses.1 e); accepted = λ e. absurd (statuses.1 e) };
-      output = quiet_output run unanswered (same_written u.out);
+      output = quiet_output run unanswered statuses.3 (same_written u.out);
       proof = no_proof run (none_written run ProofOut u.proof);
       complete = untaken_complete run file proof asked u;
     } where

@@ -1,5 +1,5 @@
--- How the calls of a run make its stages.
-use Rattle.std.proofs.Common.{◌≡◌, ℕ, Bool, List, refl, sym, ◌∙◌, subst, Some, Ok, Err, IsOk, inl, inr}
+-- How the calls of `solve` make its stages.
+use Rattle.std.proofs.Common.{◌≡◌, ℕ, Bool, List, refl, sym, ◌∙◌, subst, Ok, Err, IsOk, inl, inr}
 use Rattle.std.specs.Prelude.{Result, ⊤, IsErr}
 use Rattle.cnf_base.specs.Formula.{Formula}
 use Rattle.host_io.specs.declared.role.Role.{Role}
@@ -11,9 +11,8 @@ use Rattle.solver_cli.specs.declared.answer.Answer.{Answer}
 use Rattle.solver_cli.specs.declared.status.Status.{Status}
 use Rattle.solver_cli.specs.declared.status.Status.TheVariants.{WriteFault}
 use Rattle.solver_cli.specs.Answer.{answer_text}
-use Rattle.solver_cli.specs.Command.{Solve, command}
-use Rattle.solver_cli.specs.Phases.{TakesFormula, WritesProof, PutsAnswer}
-use Rattle.solver_cli.specs.Stages.{streams_of, Stages, status_after}
+use Rattle.solver_cli.specs.Phases.{TakesFormula, WritesProof, PutsText}
+use Rattle.solver_cli.specs.Stages.{streams_of, Came, status_after}
 
 -- what was told of a stream that later calls left alone
 still_taken : {tells : Bool} {old new now : Channel} {files : Files} {file : List ℕ} {result : Result Formula Status} → now ≡ new → TakesFormula tells old new files file result → TakesFormula tells old now files file result
@@ -25,72 +24,57 @@ opened_from {new = new} {file = file} {answer = answer} same opens = subst (λ (
 still_written : {tells : Bool} {old new now : Channel} {problem : Formula} {result : Result Answer Status} → now ≡ new → WritesProof tells old new problem result → WritesProof tells old now problem result
 still_written {tells = tells} {old = old} {problem = problem} {result = result} same writes = subst (λ (c : Channel). WritesProof tells old c problem result) (sym same) writes
 
-printed_from : {tells : Bool} {start old new : Channel} {text : List ℕ} {result : Result ⊤ Status} → old ≡ start → PutsAnswer tells old new text result → PutsAnswer tells start new text result
-printed_from {tells = tells} {new = new} {text = text} {result = result} same puts = subst (λ (c : Channel). PutsAnswer tells c new text result) same puts
+printed_from : {tells : Bool} {start old new : Channel} {text : List ℕ} {result : Result ⊤ Status} → old ≡ start → PutsText tells old new text result → PutsText tells start new text result
+printed_from {tells = tells} {new = new} {text = text} {result = result} same puts = subst (λ (c : Channel). PutsText tells c new text result) same puts
 
-pub uncreated : {tells : Bool} {words : List (List ℕ)} {file proof : List ℕ} {problem : Formula} {answer : Result ⊤ Failed} (old taken new : Role → Channel) (files : Files)
-    → command words ≡ Some (Solve file proof) → TakesFormula tells (old Cnf) (taken Cnf) files file (Ok problem) → Others Cnf old taken
-    → Opens (taken ProofOut) (new ProofOut) proof answer → IsErr answer → Others ProofOut taken new → Stages tells words (streams_of old) (streams_of new) files WriteFault
-uncreated {file = file} {proof = proof} {problem = problem} {answer = answer} old taken new files asked takes beside_taken opens failed beside_new =
-    inr (record {
-      file = file;
-      proof = proof;
-      asked = asked;
-      came = inr (inl (record {
-        problem = problem;
-        takes = still_taken (beside_new Cnf refl) takes;
-        answer = answer;
-        failed = failed;
-        opens = opened_from (beside_taken ProofOut refl) opens;
-        out = beside_new Out refl ∙ beside_taken Out refl;
-        ends = refl;
-      }));
-    })
+pub uncreated : {tells : Bool} {file proof : List ℕ} {problem : Formula} {answer : Result ⊤ Failed} (old taken new : Role → Channel) (files : Files)
+    → TakesFormula tells (old Cnf) (taken Cnf) files file (Ok problem) → Others Cnf old taken
+    → Opens (taken ProofOut) (new ProofOut) proof answer → IsErr answer → Others ProofOut taken new → Came tells (streams_of old) (streams_of new) files file proof WriteFault
+uncreated {file = file} {proof = proof} {problem = problem} {answer = answer} old taken new files takes beside_taken opens failed beside_new =
+    inr (inl (record {
+      problem = problem;
+      takes = still_taken (beside_new Cnf refl) takes;
+      answer = answer;
+      failed = failed;
+      opens = opened_from (beside_taken ProofOut refl) opens;
+      out = beside_new Out refl ∙ beside_taken Out refl;
+      ends = refl;
+    }))
 
-pub undecided : {tells : Bool} {words : List (List ℕ)} {file proof : List ℕ} {problem : Formula} {answer : Result ⊤ Failed} {status : Status} (old taken made new : Role → Channel) (files : Files)
-    → command words ≡ Some (Solve file proof) → TakesFormula tells (old Cnf) (taken Cnf) files file (Ok problem) → Others Cnf old taken
+pub undecided : {tells : Bool} {file proof : List ℕ} {problem : Formula} {answer : Result ⊤ Failed} {status : Status} (old taken made new : Role → Channel) (files : Files)
+    → TakesFormula tells (old Cnf) (taken Cnf) files file (Ok problem) → Others Cnf old taken
     → Opens (taken ProofOut) (made ProofOut) proof answer → IsOk answer → Others ProofOut taken made
-    → WritesProof tells (made ProofOut) (new ProofOut) problem (Err status) → Others ProofOut made new → Stages tells words (streams_of old) (streams_of new) files status
-undecided {file = file} {proof = proof} {problem = problem} {answer = answer} old taken made new files asked takes beside_taken opens done beside_made writes beside_new =
-    inr (record {
-      file = file;
-      proof = proof;
-      asked = asked;
-      came = inr (inr (inl (record {
-        problem = problem;
-        takes = still_taken (beside_new Cnf refl ∙ beside_made Cnf refl) takes;
-        created = made ProofOut;
-        created_answer = answer;
-        done = done;
-        opens = opened_from (beside_taken ProofOut refl) opens;
-        writes = writes;
-        out = beside_new Out refl ∙ beside_made Out refl ∙ beside_taken Out refl;
-      })));
-    })
+    → WritesProof tells (made ProofOut) (new ProofOut) problem (Err status) → Others ProofOut made new → Came tells (streams_of old) (streams_of new) files file proof status
+undecided {file = file} {proof = proof} {problem = problem} {answer = answer} old taken made new files takes beside_taken opens done beside_made writes beside_new =
+    inr (inr (inl (record {
+      problem = problem;
+      takes = still_taken (beside_new Cnf refl ∙ beside_made Cnf refl) takes;
+      created = made ProofOut;
+      created_answer = answer;
+      done = done;
+      opens = opened_from (beside_taken ProofOut refl) opens;
+      writes = writes;
+      out = beside_new Out refl ∙ beside_made Out refl ∙ beside_taken Out refl;
+    })))
 
-pub answered : {tells : Bool} {words : List (List ℕ)} {file proof : List ℕ} {problem : Formula} {answer : Result ⊤ Failed} {found : Answer} {printed : Result ⊤ Status} {status : Status}
+pub answered : {tells : Bool} {file proof : List ℕ} {problem : Formula} {answer : Result ⊤ Failed} {found : Answer} {printed : Result ⊤ Status} {status : Status}
     (old taken made proved new : Role → Channel) (files : Files)
-    → command words ≡ Some (Solve file proof) → TakesFormula tells (old Cnf) (taken Cnf) files file (Ok problem) → Others Cnf old taken
+    → TakesFormula tells (old Cnf) (taken Cnf) files file (Ok problem) → Others Cnf old taken
     → Opens (taken ProofOut) (made ProofOut) proof answer → IsOk answer → Others ProofOut taken made
     → WritesProof tells (made ProofOut) (proved ProofOut) problem (Ok found) → Others ProofOut made proved
-    → PutsAnswer tells (proved Out) (new Out) (answer_text problem.vars found) printed → Others Out proved new → status ≡ status_after found printed
-    → Stages tells words (streams_of old) (streams_of new) files status
-answered {file = file} {proof = proof} {problem = problem} {answer = answer} {found = found} {printed = printed} old taken made proved new files asked takes beside_taken opens done beside_made writes beside_proved puts beside_new ends =
-    inr (record {
-      file = file;
-      proof = proof;
-      asked = asked;
-      came = inr (inr (inr (record {
-        problem = problem;
-        takes = still_taken (beside_new Cnf refl ∙ beside_proved Cnf refl ∙ beside_made Cnf refl) takes;
-        created = made ProofOut;
-        created_answer = answer;
-        done = done;
-        opens = opened_from (beside_taken ProofOut refl) opens;
-        answer = found;
-        writes = still_written (beside_new ProofOut refl) writes;
-        printed = printed;
-        puts = printed_from (beside_proved Out refl ∙ beside_made Out refl ∙ beside_taken Out refl) puts;
-        ends = ends;
-      })));
-    })
+    → PutsText tells (proved Out) (new Out) (answer_text problem.vars found) printed → Others Out proved new → status ≡ status_after found printed
+    → Came tells (streams_of old) (streams_of new) files file proof status
+answered {file = file} {proof = proof} {problem = problem} {answer = answer} {found = found} {printed = printed} old taken made proved new files takes beside_taken opens done beside_made writes beside_proved puts beside_new ends =
+    inr (inr (inr (record {
+      problem = problem;
+      takes = still_taken (beside_new Cnf refl ∙ beside_proved Cnf refl ∙ beside_made Cnf refl) takes;
+      created = made ProofOut;
+      created_answer = answer;
+      done = done;
+      opens = opened_from (beside_taken ProofOut refl) opens;
+      answer = found;
+      writes = still_written (beside_new ProofOut refl) writes;
+      printed = printed;
+      puts = printed_from (beside_proved Out refl ∙ beside_made Out refl ∙ beside_taken Out refl) puts;
+      ends = ends;
+    })))

@@ -1,23 +1,24 @@
 -- The promises of a whole run, from those of its work and of the line on standard error.
 use Rattle.std.proofs.Common.{◌≡◌, ℕ, true≢false, List, refl, sym, ap, ◌∙◌, subst, Some, None, inl, inr}
-use Rattle.std.specs.Prelude.{◌⊎◌, IsFalse, Option}
+use Rattle.std.specs.Prelude.{IsFalse, Option}
 use Rattle.host_io.specs.Channel.{Channel}
 use Rattle.host_io.specs.Files.{Files, FilesBut, same_role, Others, Kept}
 use Rattle.host_io.specs.declared.role.Role.{Role}
 use Rattle.host_io.specs.declared.role.Role.TheVariants.{Cnf, Order, Schedule, ProofIn, ProofOut, Made, Out, Err as ErrRole}
 use Rattle.solver_cli.specs.Phases.{Complains}
-use Rattle.solver_cli.specs.Stages.{Streams, streams_of, Untaken, Uncreated, Undecided, Answered, Stages}
+use Rattle.solver_cli.specs.Stages.{Streams, streams_of, Came, Stages}
 use Rattle.solver_cli.specs.Headline.{Run, Promises}
 use Rattle.solver_cli.proofs.Promised.{Core, misused, untaken}
+use Rattle.solver_cli.proofs.Helped.{helped}
 use Rattle.solver_cli.proofs.Accepted.{uncreated, undecided}
 use Rattle.solver_cli.proofs.Printed.{Law, answered}
 use Rattle.solver_cli.proofs.Named.{stream_names, names, error_stands}
 
 core : Law → (run : Run) → Stages run.tells run.words (streams_of run.before) (streams_of run.after) run.files run.status → Core run
 core law run (inl m) = misused run m
-core law run (inr t) = came t.came where
-  came : Untaken run.tells (streams_of run.before) (streams_of run.after) run.files t.file run.status ⊎ (Uncreated run.tells (streams_of run.before) (streams_of run.after) run.files t.file t.proof run.status
-      ⊎ (Undecided run.tells (streams_of run.before) (streams_of run.after) run.files t.file t.proof run.status ⊎ Answered run.tells (streams_of run.before) (streams_of run.after) run.files t.file t.proof run.status)) → Core run
+core law run (inr (inl h)) = helped run h
+core law run (inr (inr t)) = came t.came where
+  came : Came run.tells (streams_of run.before) (streams_of run.after) run.files t.file t.proof run.status → Core run
   came (inl u) = untaken run t.file t.proof t.asked u
   came (inr (inl u)) = uncreated run t.file t.proof t.asked u
   came (inr (inr (inl u))) = undecided run t.file t.proof t.asked u

@@ -5,7 +5,7 @@ use Rattle.host_io.specs.declared.role.Role.TheVariants.{Cnf, Order, Schedule, P
 use Rattle.dimacs_reader.specs.declared.error.CnfKind.{CnfKind}
 use Rattle.dimacs_reader.specs.declared.error.CnfKind.TheVariants.{NoHeader, BadHeader, BadToken, LiteralRange, TooManyClauses, ClauseMissing, NoEndingZero, Limit}
 use Rattle.solver_cli.specs.declared.status.Status.{Status}
-use Rattle.solver_cli.specs.declared.status.Status.TheVariants.{Sat, Unsat, Unknown, Usage, CnfRefused, TooLong, ReadFault, WriteFault, OutOfMemory}
+use Rattle.solver_cli.specs.declared.status.Status.TheVariants.{Sat, Unsat, Unknown, Help, Usage, CnfRefused, TooLong, ReadFault, WriteFault, OutOfMemory}
 
 abbrev pub kind_name : CnfKind → List ℕ
 kind_name NoHeader = codes "NoHeader"
@@ -28,11 +28,12 @@ role_word Made = codes "made"
 role_word Out = codes "out"
 role_word Err = codes "err"
 
--- the text that a status other than an answer puts there, and nothing for an answer
+-- the text that a status puts there: nothing for an answer and for help
 abbrev pub error_text : Status → List ℕ
 error_text Sat = []
 error_text Unsat = []
 error_text (Unknown why) = []
+error_text Help = []
 error_text Usage = codes "error: bad usage\n"
 error_text (CnfRefused kind line) = codes "error: cnf line " ++ decimal line ++ codes ": " ++ kind_name kind ++ codes "\n"
 error_text (TooLong role) = codes "error: " ++ role_word role ++ codes " too long\n"
@@ -40,11 +41,12 @@ error_text ReadFault = codes "error: read failed\n"
 error_text WriteFault = codes "error: write failed\n"
 error_text OutOfMemory = codes "error: out of memory\n"
 
--- a status that answers the question
+-- a status that answers the question about a formula
 abbrev pub is_answer : Status → Bool
 is_answer Sat = true
 is_answer Unsat = true
 is_answer (Unknown why) = true
+is_answer Help = false
 is_answer Usage = false
 is_answer (CnfRefused kind line) = false
 is_answer (TooLong role) = false

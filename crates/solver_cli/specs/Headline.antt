@@ -1,6 +1,6 @@
 -- What the program promises, over one run of it: its words, the host before and after, and how it ended. What it
 -- says of bytes is said of hosts that tell their bytes.
-use Rattle.std.specs.Prelude.{◌≡◌, ◌≢◌, ◌⊎◌, ◌++◌, ◌↔◌, ℕ, Bool, true, false, List, [], Option, None, Some, length, drop, IsTrue, IsFalse}
+use Rattle.std.specs.Prelude.{◌≡◌, ◌≢◌, ◌⊎◌, ◌++◌, ℕ, Bool, true, false, List, [], Option, None, Some, length, drop, IsTrue, IsFalse}
 use Rattle.cnf_base.specs.Truth.{Assignment, Satisfies, assignment_of}
 use Rattle.cnf_base.specs.Formula.{Formula}
 use Rattle.host_io.specs.declared.role.Role.{Role}
@@ -13,9 +13,9 @@ use Rattle.lrat_rules.specs.Run.{Refutes}
 use Rattle.answer_text.specs.Status.{sat_text, unsat_line}
 use Rattle.solver_cli.specs.declared.status.Why.TheVariants.{NodeLimit}
 use Rattle.solver_cli.specs.declared.status.Status.{Status}
-use Rattle.solver_cli.specs.declared.status.Status.TheVariants.{Sat, Unsat, Unknown, Usage, CnfRefused, TooLong, ReadFault, WriteFault, OutOfMemory}
+use Rattle.solver_cli.specs.declared.status.Status.TheVariants.{Sat, Unsat, Unknown, Help, Usage, CnfRefused, TooLong, ReadFault, WriteFault, OutOfMemory}
 use Rattle.solver_cli.specs.declared.answer.Answer.{Answer}
-use Rattle.solver_cli.specs.Command.{Command, Solve, command}
+use Rattle.solver_cli.specs.Command.{Command, Solve, AsksHelp, Misuse, MayMean, CanOnlyMean, command}
 use Rattle.solver_cli.specs.ErrorText.{error_text, is_answer}
 use Rattle.solver_cli.specs.Answer.{Holds, IsProof, IsProofSoFar, NodesAreUsed, has_empty_clause, one_line, answer_text, status_of}
 
@@ -95,18 +95,19 @@ pub record IsRefusedBy (run : Run) (text : CnfText) : Type 0 where
   pub asks : Asks run file proof text
   pub decided : cnf (taken_in run Cnf) ≡ text
 
--- Refusals: of words exactly where they are no command; of a text only where the format refuses it.
+-- Refusals: of words, or by help, only where they may mean that; of a text only where the format refuses it.
 pub record RefusalsAreDue (run : Run) : Type 0 where
-  pub usage : (run.status ≡ Usage) ↔ (command run.words ≡ None)
+  pub usage : run.status ≡ Usage → MayMean run.words Misuse
+  pub help : run.status ≡ Help → MayMean run.words AsksHelp
   pub refused : (kind : CnfKind) (line : ℕ) → run.status ≡ CnfRefused kind line → IsTrue run.tells → IsRefusedBy run (refusal kind line)
   pub too_long : (role : Role) → run.status ≡ TooLong role → (role ≡ Cnf) × (IsTrue run.tells → IsRefusedBy run overlong)
 
 -- Faults: a read fault comes only where a read of the formula's file failed, a write fault only where the text was
--- accepted and a write or a flush of the proof or of standard output failed.
+-- accepted, or the words may ask for help, and a write or a flush of the proof or of standard output failed.
 pub record FaultsAreCounted (run : Run) : Type 0 where
   pub read : run.status ≡ ReadFault → HasFault run Cnf
   pub write : run.status ≡ WriteFault → HasFault run ProofOut ⊎ HasFault run Out
-  pub accepted : run.status ≡ WriteFault → IsTrue run.tells → (problem : Formula) × AsksFor run problem
+  pub accepted : run.status ≡ WriteFault → MayMean run.words AsksHelp ⊎ (IsTrue run.tells → (problem : Formula) × AsksFor run problem)
 
 -- a true answer to the question that the words ask, after a flushed proof of whole lines
 pub record IsTrueAnswer (run : Run) (answer : Answer) : Type 0 where
@@ -118,16 +119,26 @@ pub record IsTrueAnswer (run : Run) (answer : Answer) : Type 0 where
   pub rest : List ℕ
   pub front : answer_text problem.vars answer ≡ written_in run Out ++ rest
 
--- Standard output: nothing, or a front of a true answer's text; the whole of it and flushed, where the run ends
--- with that answer, and nothing, where it ends otherwise but for a failed write.
+-- a text of help, as far as it was written, for words that may ask for it
+pub record IsHelp (run : Run) : Type 0 where
+  pub due : MayMean run.words AsksHelp
+  pub text : List ℕ
+  pub rest : List ℕ
+  pub front : text ≡ written_in run Out ++ rest
+
+-- Standard output: nothing, or a front of a true answer's text, or, where help is asked for, of its text; the whole of
+-- it and flushed, where the run ends with that answer or with help, and nothing, where it ends otherwise but for a
+-- failed write.
 pub record OutputStands (run : Run) : Type 0 where
   pub grows : IsTrue run.tells → (run.after Out).written ≡ (run.before Out).written ++ written_in run Out
-  pub front : IsTrue run.tells → (written_in run Out ≡ []) ⊎ ((answer : Answer) × IsTrueAnswer run answer)
+  pub front : IsTrue run.tells → (written_in run Out ≡ []) ⊎ (((answer : Answer) × IsTrueAnswer run answer) ⊎ IsHelp run)
   pub answered : IsTrue (is_answer run.status) → IsTrue run.tells → (answer : Answer) × (true_answer : IsTrueAnswer run answer) × (run.status ≡ status_of answer) × (true_answer.rest ≡ [])
-  pub flushed : IsTrue (is_answer run.status) → IsTrue run.tells → (run.after Out).flushed ≡ length (run.after Out).written
-  pub silent : IsFalse (is_answer run.status) → run.status ≢ WriteFault → IsTrue run.tells → written_in run Out ≡ []
+  pub helped : run.status ≡ Help → IsTrue run.tells → (help : IsHelp run) × (help.rest ≡ [])
+  pub flushed : IsTrue (is_answer run.status) ⊎ (run.status ≡ Help) → IsTrue run.tells → (run.after Out).flushed ≡ length (run.after Out).written
+  pub silent : IsFalse (is_answer run.status) → run.status ≢ Help → run.status ≢ WriteFault → IsTrue run.tells → written_in run Out ≡ []
 
--- Standard error: a front of the status's text, the whole of it where no write to it failed; nothing for an answer.
+-- Standard error: a front of the status's text, the whole of it where no write to it failed; nothing for an answer and
+-- for help.
 pub record ErrorStands (run : Run) : Type 0 where
   pub grows : IsTrue run.tells → (run.after Err).written ≡ (run.before Err).written ++ written_in run Err
   pub front : IsTrue run.tells → (rest : List ℕ) × (error_text run.status ≡ written_in run Err ++ rest) × ((HasFault run Err → ⊥) → rest ≡ [])
@@ -143,6 +154,7 @@ abbrev pub ends_before_proof : Status → Bool
 ends_before_proof Sat = false
 ends_before_proof Unsat = false
 ends_before_proof (Unknown why) = false
+ends_before_proof Help = true
 ends_before_proof Usage = true
 ends_before_proof (CnfRefused kind line) = true
 ends_before_proof (TooLong role) = true
@@ -168,8 +180,11 @@ pub record NamesAreGiven (run : Run) : Type 0 where
   pub files : FilesBut (run.after ProofOut).name run.files run.files_after
   pub read_first : IsTrue (ends_before_proof run.status) → (run.after ProofOut).name ≡ None
 
--- Complete: what is asked for is answered, unless a call of the host failed or memory ran out.
+-- Complete: what is asked for is answered, unless a call of the host failed or memory ran out; words that can mean
+-- nothing else are refused, or answered by help.
 pub record IsComplete (run : Run) : Type 0 where
+  pub misused : CanOnlyMean run.words Misuse → (run.status ≡ Usage) ⊎ (run.status ≡ OutOfMemory)
+  pub helped : CanOnlyMean run.words AsksHelp → (HasFault run Out → ⊥) → (run.status ≡ Help) ⊎ (run.status ≡ OutOfMemory)
   pub answers : (problem : Formula) → AsksFor run problem → IsTrue run.tells → (HasFault run Cnf → ⊥) → (HasFault run ProofOut → ⊥) → (HasFault run Out → ⊥)
       → IsTrue (is_answer run.status) ⊎ (run.status ≡ OutOfMemory)
   pub refuses : (file proof : List ℕ) (kind : CnfKind) (line : ℕ) → Asks run file proof (refusal kind line) → IsTrue run.tells → (HasFault run Cnf → ⊥)

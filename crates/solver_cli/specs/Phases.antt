@@ -10,7 +10,7 @@ use Rattle.solver_cli.specs.Answer.{Holds, IsProof, IsProofSoFar}
 use Rattle.solver_cli.specs.ErrorText.{error_text}
 use Rattle.solver_cli.specs.declared.answer.Answer.{Answer}
 use Rattle.solver_cli.specs.declared.status.Status.{Status}
-use Rattle.solver_cli.specs.declared.status.Status.TheVariants.{Sat, Unsat, Unknown, Usage, CnfRefused, TooLong, ReadFault, WriteFault, OutOfMemory}
+use Rattle.solver_cli.specs.declared.status.Status.TheVariants.{Sat, Unsat, Unknown, Help, Usage, CnfRefused, TooLong, ReadFault, WriteFault, OutOfMemory}
 
 -- the answer of reading is what the text says; where it refuses, so do the bytes taken
 abbrev pub IsRead : Result Formula Status → CnfText → CnfText → Type 0
@@ -18,6 +18,7 @@ IsRead (Ok problem) whole taken = whole ≡ formula problem
 IsRead (Err Sat) whole taken = ⊥
 IsRead (Err Unsat) whole taken = ⊥
 IsRead (Err (Unknown why)) whole taken = ⊥
+IsRead (Err Help) whole taken = ⊥
 IsRead (Err Usage) whole taken = ⊥
 IsRead (Err (CnfRefused kind line)) whole taken = (whole ≡ refusal kind line) × (taken ≡ refusal kind line)
 IsRead (Err (TooLong role)) whole taken = (role ≡ Cnf) × (whole ≡ overlong) × (taken ≡ overlong)
@@ -30,6 +31,7 @@ abbrev pub IsReadStatus : Status → Type 0
 IsReadStatus Sat = ⊥
 IsReadStatus Unsat = ⊥
 IsReadStatus (Unknown why) = ⊥
+IsReadStatus Help = ⊥
 IsReadStatus Usage = ⊥
 IsReadStatus (CnfRefused kind line) = ⊤
 IsReadStatus (TooLong role) = role ≡ Cnf
@@ -78,6 +80,7 @@ IsProofStatus (Ok x) = ⊤
 IsProofStatus (Err Sat) = ⊥
 IsProofStatus (Err Unsat) = ⊥
 IsProofStatus (Err (Unknown why)) = ⊥
+IsProofStatus (Err Help) = ⊥
 IsProofStatus (Err Usage) = ⊥
 IsProofStatus (Err (CnfRefused kind line)) = ⊥
 IsProofStatus (Err (TooLong role)) = ⊥
@@ -99,7 +102,7 @@ pub record Complains (tells : Bool) (old new : Channel) (status : Status) : Type
 
 -- The text was written on standard output and flushed, or a front of it where a write or the flush failed; nothing
 -- where memory ran out.
-pub record PutsAnswer (tells : Bool) (old new : Channel) (text : List ℕ) (result : Result ⊤ Status) : Type 0 where
+pub record PutsText (tells : Bool) (old new : Channel) (text : List ℕ) (result : Result ⊤ Status) : Type 0 where
   pub done : IsTrue tells → IsOk result → new.written ≡ old.written ++ text
   pub flushed : IsTrue tells → IsOk result → new.flushed ≡ length new.written
   pub front : IsTrue tells → (part : List ℕ) × (rest : List ℕ) × (new.written ≡ old.written ++ part) × (text ≡ part ++ rest)

@@ -12,7 +12,7 @@ use dimacs_reader::CnfKind;
 use host_io::{Failed, Host, HostSink, Role, Sink, beside_kept, write_all};
 use itoa::Buffer;
 
-/// Writes the status's line on standard error, and nothing for an answer. That the line could not be written ends
+/// Writes the status's line on standard error, and nothing for an answer or for help. That the line could not be written ends
 /// no run otherwise.
 pub fn complain<H: Host>(host: &mut H, status: Status)
     ensures complains { Complains H.tells (H.channel host.old ErrRole) (H.channel host.new ErrRole) status }
@@ -29,7 +29,7 @@ fn write_status<S: Sink>(sink: &mut S, status: Status) -> Result<(), Failed>
     ensures beside { S.beside sink.new ≡ S.beside sink.old }
 {
     match status {
-        Status::Sat | Status::Unsat | Status::Unknown(_) => Ok(()),
+        Status::Sat | Status::Unsat | Status::Unknown(_) | Status::Help => Ok(()),
         Status::Usage => write_all(sink, b"error: bad usage\n"),
         Status::CnfRefused(kind, line) => write_refused(sink, kind, line),
         Status::TooLong(role) => write_all(sink, too_long(role).as_bytes()),

@@ -1,17 +1,17 @@
-// The answer on standard output.
+// The answer, or the help, on standard output.
 ghost use Rattle.std.specs.Prelude.{◌≡◌, MatchResult, false, length, replicate};
 ghost use Rattle.host_io.specs.declared.role.Role.TheVariants.{Out};
 ghost use Rattle.host_io.specs.Channel.{WritesAll};
 ghost use Rattle.host_io.specs.Files.{Kept};
 ghost use Rattle.solver_cli.specs.declared.status.Status.TheVariants.{OutOfMemory};
 ghost use Rattle.solver_cli.specs.Answer.{answer_text};
-ghost use Rattle.solver_cli.specs.Phases.{PutsAnswer};
+ghost use Rattle.solver_cli.specs.Phases.{PutsText};
 
 use crate::answer::Answer;
 use crate::status::Status;
 use answer_text::{write_node_limit, write_sat, write_unsat};
 use cnf_base::Cnf;
-use host_io::{Failed, Host, HostSink, Role, Sink, beside_kept};
+use host_io::{Failed, Host, HostSink, Role, Sink, beside_kept, write_all};
 use std::alloc::Global;
 
 // The node limit in force.
@@ -24,7 +24,7 @@ pub fn put_answer<H: Host>(
     formula: &Cnf,
     answer: Answer,
 ) -> Result<(), Status>
-    ensures puts { PutsAnswer H.tells (H.channel host.old Out) (H.channel host.new Out) (answer_text formula.now.vars answer) result }
+    ensures puts { PutsText H.tells (H.channel host.old Out) (H.channel host.new Out) (answer_text formula.now.vars answer) result }
     ensures kept { Kept Out (H.channel host.old Out).name (H.channel host.old) (H.channel host.new) (H.files host.old) (H.files host.new) }
 {
     // First the memory, so that nothing is written where it runs out.
@@ -32,6 +32,30 @@ pub fn put_answer<H: Host>(
     beside_kept::<H>();
     let mut sink = HostSink::new(host, Role::Out);
     print_answer(&mut sink, &values, answer)
+}
+
+/// Prints this text and flushes standard output.
+pub fn put_text<H: Host>(host: &mut H, text: &str) -> Result<(), Status>
+    ensures puts { PutsText H.tells (H.channel host.old Out) (H.channel host.new Out) text.now result }
+    ensures kept { Kept Out (H.channel host.old Out).name (H.channel host.old) (H.channel host.new) (H.files host.old) (H.files host.new) }
+{
+    beside_kept::<H>();
+    let mut sink = HostSink::new(host, Role::Out);
+    print_text(&mut sink, text)
+}
+
+fn print_text<S: Sink>(sink: &mut S, text: &str) -> Result<(), Status>
+    ensures puts { PutsText S.tells (S.channel sink.old) (S.channel sink.new) text.now result }
+    ensures beside { S.beside sink.new ≡ S.beside sink.old }
+{
+    if write_all(sink, text.as_bytes()).is_err() {
+        return Err(Status::WriteFault);
+    }
+    let flushed = sink.flush();
+    if flushed.is_err() {
+        return Err(Status::WriteFault);
+    }
+    Ok(())
 }
 
 // How many values are printed with the answer.
@@ -56,7 +80,7 @@ fn all_false(alloc: Global, count: usize) -> Result<Vec<bool>, Status>
 
 fn print_answer<S: Sink>(sink: &mut S, values: &[bool], answer: Answer) -> Result<(), Status>
     requires { values.now ≡ replicate (length values.now) false }
-    ensures puts { PutsAnswer S.tells (S.channel sink.old) (S.channel sink.new) (answer_text (length values.now) answer) result }
+    ensures puts { PutsText S.tells (S.channel sink.old) (S.channel sink.new) (answer_text (length values.now) answer) result }
     ensures beside { S.beside sink.new ≡ S.beside sink.old }
 {
     if write_answer(sink, values, answer).is_err() {

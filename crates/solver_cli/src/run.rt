@@ -3,17 +3,17 @@ ghost use Rattle.std.specs.Prelude.{◌≡◌, None, map, IsFalse, true};
 ghost use Rattle.std.specs.String.{string_bytes};
 ghost use Rattle.host_io.specs.declared.role.Role.{Role};
 ghost use Rattle.host_io.specs.declared.role.Role.TheVariants.{Cnf as CnfRole, ProofOut, Out};
-ghost use Rattle.host_io.specs.Files.{FilesBut, same_role};
+ghost use Rattle.host_io.specs.Files.{FilesBut, Kept, same_role};
 ghost use Rattle.host_io.specs.Memory.{channel_of, files_of};
 ghost use Rattle.solver_cli.specs.Headline.{Promises};
-ghost use Rattle.solver_cli.specs.Stages.{Stages, streams_of};
+ghost use Rattle.solver_cli.specs.Stages.{Came, ShowsHelp, Stages, streams_of};
 
 use crate::complaint::complain;
 use crate::formula::take_formula;
-use crate::output::put_answer;
+use crate::output::{put_answer, put_text};
 use crate::proof::prove;
 use crate::status::Status;
-use crate::words::read_words;
+use crate::words::{Asked, Refusal, SolveWords, read_words};
 use host_io::{Host, MemoryHost, Role as HostRole};
 use lrat_rules::soundness_law;
 use std::alloc::Global;
@@ -24,9 +24,32 @@ fn work<H: Host>(alloc: Global, words: &[String], host: &mut H) -> Status
     ensures others { (role : Role) → IsFalse (same_role role CnfRole) → IsFalse (same_role role ProofOut) → IsFalse (same_role role Out) → H.channel host.new role ≡ H.channel host.old role }
     ensures files { FilesBut (H.channel host.new ProofOut).name (H.files host.old) (H.files host.new) }
 {
-    let Some(asked) = read_words(words) else {
-        return Status::Usage;
-    };
+    match read_words(alloc, words) {
+        Ok(Asked::Solve(files)) => solve(alloc, &files, host),
+        Err(Refusal::Help(text)) => show_help(&text, host),
+        Err(Refusal::Usage) => Status::Usage,
+        Err(Refusal::OutOfMemory) => Status::OutOfMemory,
+    }
+}
+
+// Shows the help on standard output.
+fn show_help<H: Host>(text: &str, host: &mut H) -> Status
+    ensures helped { ShowsHelp H.tells (H.channel host.old Out) (H.channel host.new Out) result }
+    ensures kept { Kept Out (H.channel host.old Out).name (H.channel host.old) (H.channel host.new) (H.files host.old) (H.files host.new) }
+{
+    match put_text(host, text) {
+        Ok(()) => Status::Help,
+        Err(fault) => fault,
+    }
+}
+
+// Reads the formula, decides it, writes the proof and prints the answer.
+fn solve<H: Host>(alloc: Global, asked: &SolveWords<'_>, host: &mut H) -> Status
+    requires unnamed { (role : Role) → (H.channel host.old role).name ≡ None }
+    ensures came { Came H.tells (streams_of (H.channel host.old)) (streams_of (H.channel host.new)) (H.files host.old) asked.now.formula.now asked.now.proof.now result }
+    ensures others { (role : Role) → IsFalse (same_role role CnfRole) → IsFalse (same_role role ProofOut) → IsFalse (same_role role Out) → H.channel host.new role ≡ H.channel host.old role }
+    ensures files { FilesBut (H.channel host.new ProofOut).name (H.files host.old) (H.files host.new) }
+{
     let formula = match take_formula(alloc, host, asked.formula) {
         Ok(formula) => formula,
         Err(status) => return status,

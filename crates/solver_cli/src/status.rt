@@ -21,6 +21,8 @@ pub enum Status {
     Unsat,
     /// The formula was left undecided.
     Unknown(Why),
+    /// The words ask for help, which was shown.
+    Help,
     /// The words ask for nothing that the program does.
     Usage,
     /// The formula's text is none; the line is where that shows.
@@ -35,14 +37,15 @@ pub enum Status {
 }
 
 impl Status {
-    /// The exit code: 10, 20 and 0 as at SAT competitions, 2 for a refused text, 3 to 6 for what went wrong.
+    /// The exit code: 10, 20 and 0 as at SAT competitions, 0 for help too, 2 for a refused text, 3 to 6 for what
+    /// went wrong.
     pub fn code(self) -> u8
         ensures { result ≡ exit_code self }
     {
         match self {
             Status::Sat => 10,
             Status::Unsat => 20,
-            Status::Unknown(_) => 0,
+            Status::Unknown(_) | Status::Help => 0,
             Status::CnfRefused(..) | Status::TooLong(_) => 2,
             Status::ReadFault => 3,
             Status::WriteFault => 4,

@@ -267,6 +267,7 @@ fn exit_codes(rt: HostRuntime) -> Result<(), Fail> {
         (Status::Sat, 10),
         (Status::Unsat, 20),
         (Status::Unknown(Why::NodeLimit), 0),
+        (Status::Help, 0),
         (Status::CnfRefused(CnfKind::BadToken, 7), 2),
         (Status::TooLong(Role::Cnf), 2),
         (Status::ReadFault, 3),

@@ -1,11 +1,24 @@
-// The words of the command line, read by hand.
-ghost use Rattle.std.specs.Prelude.{◌≡◌, None, Some, map, MatchOption, [], ◌∷◌};
+// The words of the command line: what the parser takes, and this program's own test of the names.
+ghost use Rattle.std.specs.Prelude.{◌≡◌, MatchOption, MatchResult, IfOk, IfErr, Some, map};
 ghost use Rattle.std.specs.String.{string_bytes};
 ghost use Rattle.std.specs.Iterator.{IsFinite};
-ghost use Rattle.solver_cli.specs.Command.{Solve, command, is_file_name};
+ghost use Rattle.std.specs.Iterator.Runs.{WholeRun};
+ghost use Rattle.clap.specs.Words.{found_of, kind_of, rows_of, subcommand_rows_of};
+ghost use Rattle.solver_cli.specs.Command.{Asks, Misuse, command, command_means, solve_means, taken_means};
+ghost use Rattle.solver_cli.specs.declared.status.Status.TheVariants.{OutOfMemory};
+ghost use Rattle.solver_cli.specs.Reading.{IsRefusal, IsRefusalOf, command_of, solve_of, text_of};
 
+use crate::parser::parser;
 use crate::status::Status;
+use clap::ArgMatches;
+use clap::error::ErrorKind;
 use std::alloc::Global;
+
+/// What the words ask for.
+#[derive(Drop)]
+pub enum Asked<'a> {
+    Solve(SolveWords<'a>),
+}
 
 /// The files that `solve` is given: the formula's, and the proof's.
 #[derive(Drop)]
@@ -14,66 +27,102 @@ pub struct SolveWords<'a> {
     pub proof: &'a str,
 }
 
-/// What the words ask for; None where they are no command.
-pub fn read_words(words: &[String]) -> Option<SolveWords<'_>>
-    ensures { MatchOption result (command (map string_bytes words.now) ≡ None)
-        (λ asked. command (map string_bytes words.now) ≡ Some (Solve asked.formula.now asked.proof.now)) }
+/// Why the words ask for nothing that is to be done.
+#[derive(Drop)]
+pub enum Refusal {
+    /// They ask for help, which is this text.
+    Help(String),
+    /// They are faulty.
+    Usage,
+    OutOfMemory,
+}
+
+/// What the words ask for, the program's own name first.
+pub fn read_words(alloc: Global, words: &[String]) -> Result<Asked<'_>, Refusal>
+    ensures { MatchResult result (λ asked. command (map string_bytes words.now) ≡ Some (command_of asked))
+        (IsRefusal (map string_bytes words.now)) }
 {
-    match words {
-        [_, verb, formula, option, proof] => {
-            solve_words(
-                verb.as_str(),
-                formula.as_str(),
-                option.as_str(),
-                proof.as_str(),
-            )
-        }
-        _ => None,
+    let Ok(parser) = parser(alloc) else {
+        return Err(Refusal::OutOfMemory);
+    };
+    match parser.try_get_matches_from(words) {
+        Ok(matches) => match asked_of(&matches) {
+            Some(asked) => Ok(asked),
+            None => Err(Refusal::Usage),
+        },
+        Err(error) => Err(refusal_of(alloc, &error)),
     }
 }
 
-fn solve_words<'a>(
-    verb: &str,
-    formula: &'a str,
-    option: &str,
-    proof: &'a str,
-) -> Option<SolveWords<'a>>
-    ensures { MatchOption result (command ([] ∷ verb.now ∷ formula.now ∷ option.now ∷ proof.now ∷ []) ≡ None)
-        (λ asked. command ([] ∷ verb.now ∷ formula.now ∷ option.now ∷ proof.now ∷ []) ≡ Some (Solve asked.formula.now asked.proof.now)) }
+// What the words that the parser took ask for.
+fn asked_of<'a>(matches: &ArgMatches<'a>) -> Option<Asked<'a>>
+    ensures { MatchOption result (taken_means (subcommand_rows_of matches.now) ≡ Misuse)
+        (λ asked. taken_means (subcommand_rows_of matches.now) ≡ Asks (command_of asked)) }
 {
-    if verb == "solve"
-        && option == "--proof"
-        && is_file_name(formula)
-        && is_file_name(proof)
-        && formula != proof
-    {
-        Some(SolveWords { formula, proof })
+    match matches.subcommand() {
+        Some((name, values)) => command_named(name, values),
+        None => None,
+    }
+}
+
+// The command of this name, with its values.
+fn command_named<'a>(name: &str, values: &ArgMatches<'a>) -> Option<Asked<'a>>
+    ensures { MatchOption result (command_means name.now (rows_of (found_of values.now)) ≡ Misuse)
+        (λ asked. command_means name.now (rows_of (found_of values.now)) ≡ Asks (command_of asked)) }
+{
+    if name == "solve" {
+        match solve_words(values.get_str("FILE"), values.get_str("proof")) {
+            Some(files) => Some(Asked::Solve(files)),
+            None => None,
+        }
     } else {
         None
     }
 }
 
-fn is_file_name(name: &str) -> bool
-    ensures { result ≡ is_file_name name.now }
+// The two names, which have to differ.
+fn solve_words<'a>(formula: Option<&'a str>, proof: Option<&'a str>) -> Option<SolveWords<'a>>
+    ensures { MatchOption result (solve_means (text_of formula.entry) (text_of proof.entry) ≡ Misuse)
+        (λ files. solve_means (text_of formula.entry) (text_of proof.entry) ≡ Asks (solve_of files)) }
 {
-    match name.as_bytes() {
-        [] => false,
-        [first, ..] => *first != b'-',
+    let Some(formula) = formula else {
+        return None;
+    };
+    let Some(proof) = proof else {
+        return None;
+    };
+    if formula == proof {
+        None
+    } else {
+        Some(SolveWords { formula, proof })
     }
 }
 
-/// The words of the command line, in a list.
+// What a refusal of the parser is; the text of help is made whole.
+fn refusal_of(alloc: Global, error: &clap::Error) -> Refusal
+    ensures { IsRefusalOf (kind_of error.now) result }
+{
+    match error.kind() {
+        ErrorKind::DisplayHelp => match error.to_string(alloc) {
+            Ok(text) => Refusal::Help(text),
+            Err(_) => Refusal::OutOfMemory,
+        },
+        ErrorKind::OutOfMemory => Refusal::OutOfMemory,
+        _ => Refusal::Usage,
+    }
+}
+
+/// The words of the command line, in a list: all that come, in turn.
 pub fn gather<I: Iterator<Item = String> + Drop>(
     alloc: Global,
     words: I,
 ) -> Result<Vec<String>, Status>
     requires { I.can_next words × IsFinite (I.remaining words) }
+    ensures all { IfOk result (λ list. WholeRun I.next_gives words (λ run. list.items ≡ run.items)) }
+    ensures memory { IfErr result (λ status. status ≡ OutOfMemory) }
 {
-    let mut list = Vec::new(alloc);
-    for word in words {
-        if list.push(word).is_err() {
-            return Err(Status::OutOfMemory);
-        }
+    match words.collect(alloc) {
+        Ok(list) => Ok(list),
+        Err(_) => Err(Status::OutOfMemory),
     }
-    Ok(list)
 }

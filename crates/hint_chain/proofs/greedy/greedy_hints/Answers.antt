@@ -1,8 +1,8 @@
-use Rattle.std.proofs.Common.{◌≡◌, true, false, neg_ℤ, Some, ◌∷◌, [], ◌++◌, ◌+◌, sym, ap, ◌∙◌, subst, rules, arith, length}
+use Rattle.std.proofs.Common.{◌≡◌, true, false, neg_ℤ, ◌∷◌, [], ◌++◌, ◌+◌, sym, ap, ◌∙◌, rules, arith, length}
 use Rattle.lrat_rules.specs.declared.outcome.Effect.TheVariants.{Unit as Forced}
 use Rattle.lrat_rules.specs.Chain.{literals_of, with_literal, effect}
 use Rattle.hint_chain.proofs.GreedyPasses.{greedy_at, step_known, step_forced, literals_of-push, length_pushed}
-use Rattle.hint_chain.proofs.greedy.chosen.Goals as goal
+use Rattle.hint_chain.proofs.greedy.greedy_hints.Goals as goal
 
 pub loop-place-preserved-then-contains : goal.loop-place-preserved-then-contains
 loop-place-preserved-then-contains c =

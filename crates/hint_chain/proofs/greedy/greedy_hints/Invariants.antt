@@ -2,7 +2,7 @@ use Rattle.std.proofs.Common.{◌≡◌, ◌≤◌, ◌+◌, length}
 use Rattle.lrat_rules.specs.Chain.{literals_of}
 use Rattle.hint_chain.specs.Greedy.{greedy}
 use Rattle.hint_chain.proofs.GreedyPasses.{greedy_at}
-use Rattle.hint_chain.proofs.greedy.chosen.Given as goal
+use Rattle.hint_chain.proofs.greedy.greedy_hints.Given as goal
 
 -- what the rest adds to the hints so far is what the whole gives
 abbrev pub invariant-loop-place : goal.invariant-loop-place

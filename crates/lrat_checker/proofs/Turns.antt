@@ -1,0 +1,38 @@
+-- What the reader's next answer says to the verdict on the steps ahead.
+use Rattle.std.proofs.Common.{◌≡◌, ℕ, Bool, ◌||◌, Option, None, Some, Ok, Err, sym, ◌∙◌, ap, subst}
+use Rattle.std.specs.Prelude.{Result}
+use Rattle.cnf_base.specs.declared.step.Step.{Step}
+use Rattle.lrat_text.specs.declared.error.StepError.{StepError}
+use Rattle.lrat_text.specs.declared.error.StepError.TheVariants.{Syntax, TooLong}
+use Rattle.lrat_text.specs.Steps.{Steps, no_more, overlong, no_step, next_step}
+use Rattle.lrat_text.specs.Reader.{Gives}
+use Rattle.lrat_rules.specs.declared.outcome.Reason.TheVariants.{Syntax as NoStep}
+use Rattle.lrat_rules.specs.State.{State}
+use Rattle.lrat_rules.specs.Run.{step_fault, after_step, step_adds_empty}
+use Rattle.lrat_checker.specs.declared.verdict.Verdict.TheVariants.{Refused}
+use Rattle.lrat_checker.specs.TextVerdict.{end_verdict, judged, steps_verdict}
+
+module _ (state : State) (has_empty : Bool) (line : ℕ) (before after : Steps) (answer : Result (Option (Step × ℕ)) StepError) (gives : Gives answer line before after) where
+  pub at_end : answer ≡ Ok None → steps_verdict state has_empty before ≡ Some (end_verdict has_empty line)
+  at_end e =
+      let both : (before ≡ no_more line) × (after ≡ no_more line) = subst (λ r. Gives r line before after) e gives in
+      ap (steps_verdict state has_empty) both.0
+
+  pub at_no_step : (at : ℕ) → answer ≡ Err (Syntax at) → steps_verdict state has_empty before ≡ Some (Refused at NoStep)
+  at_no_step at e =
+      let both : (before ≡ no_step at) × (after ≡ no_step at) = subst (λ r. Gives r line before after) e gives in
+      ap (steps_verdict state has_empty) both.0
+
+  pub at_limit : answer ≡ Err TooLong → steps_verdict state has_empty before ≡ None
+  at_limit e =
+      let both : (before ≡ overlong) × (after ≡ overlong) = subst (λ r. Gives r line before after) e gives in
+      ap (steps_verdict state has_empty) both.0
+
+  pub at_good_step : (step : Step) (at : ℕ) (next : State) (behind : Bool) → answer ≡ Ok (Some (step, at)) → step_fault state step ≡ None → next ≡ after_step state step
+      → behind ≡ (has_empty || step_adds_empty step) → steps_verdict state has_empty before ≡ steps_verdict next behind after
+  at_good_step step at next behind e good moved told =
+      let given : before ≡ next_step step at after = subst (λ r. Gives r line before after) e gives in
+      ap (steps_verdict state has_empty) given
+      ∙ ap (λ f. judged f at (steps_verdict (after_step state step) (has_empty || step_adds_empty step) after)) good
+      ∙ ap (λ s. steps_verdict s (has_empty || step_adds_empty step) after) (sym moved)
+      ∙ ap (λ b. steps_verdict next b after) (sym told)

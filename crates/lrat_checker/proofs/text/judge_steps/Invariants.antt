@@ -1,0 +1,20 @@
+-- The verdict from here on is that from the start on.
+use Rattle.std.proofs.Common.{◌≡◌, false}
+use Rattle.std.specs.Prelude.{IsTrue}
+use Rattle.text_scan.specs.Decides.{Decides, OnlyReads}
+use Rattle.lrat_text.specs.declared.reader.Status.TheVariants.{Reading}
+use Rattle.lrat_text.specs.Reader.{steps_ahead, fuel}
+use Rattle.lrat_checker.specs.TextVerdict.{steps_verdict}
+use Rattle.lrat_checker.proofs.text.judge_steps.Given as goal
+
+abbrev pub invariant-steps : goal.invariant-steps
+invariant-steps g l = record {
+  same : IsTrue g.S.Source.tells → Decides (g.S.Source.channel l.fn.source) (g.S.Source.channel l.source)
+      (λ bytes more. steps_verdict l.fn.judge false (steps_ahead l.fn.reader bytes) ≡ steps_verdict l.judge l.has_empty (steps_ahead l.reader more));
+  reading : l.reader.status ≡ Reading;
+  reads : OnlyReads (g.S.Source.channel l.fn.source) (g.S.Source.channel l.source);
+  beside : g.S.Source.beside l.source ≡ g.S.Source.beside l.fn.source;
+}
+
+abbrev pub decreases-steps : goal.decreases-steps
+decreases-steps g l = fuel l.reader

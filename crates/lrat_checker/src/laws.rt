@@ -1,0 +1,20 @@
+// What the verdict on a text within the limit is, as clauses of a function without work.
+ghost use Rattle.std.specs.Prelude.{◌≡◌, ℕ, ◌<◌, ◌≤◌, ℤ, List, length, None, Some};
+ghost use Rattle.lrat_rules.specs.declared.outcome.Reason.{Reason};
+ghost use Rattle.lrat_rules.specs.Run.{verdict, Refutes};
+ghost use Rattle.lrat_checker.specs.declared.verdict.Verdict.TheVariants.{Verified, Refused};
+ghost use Rattle.lrat_checker.specs.TextVerdict.{max_bytes, text_verdict, verdict_as};
+
+use lrat_text::whole_text_law;
+
+/// The verdict on a text within the limit is that of the rules.
+pub fn check_law()
+    ensures same { (clauses : List (List ℤ)) (bytes : List ℕ) → length bytes ≤ max_bytes → text_verdict clauses bytes ≡ Some (verdict_as (verdict clauses bytes)) }
+    ensures verified { (clauses : List (List ℤ)) (bytes : List ℕ) → length bytes ≤ max_bytes → text_verdict clauses bytes ≡ Some Verified → Refutes clauses bytes }
+    ensures refutes { (clauses : List (List ℤ)) (bytes : List ℕ) → length bytes ≤ max_bytes → Refutes clauses bytes → text_verdict clauses bytes ≡ Some Verified }
+    ensures refused { (clauses : List (List ℤ)) (bytes : List ℕ) (line : ℕ) (reason : Reason) → length bytes ≤ max_bytes
+        → text_verdict clauses bytes ≡ Some (Refused line reason) → verdict clauses bytes ≡ Some (line, reason) }
+    ensures overlong { (clauses : List (List ℤ)) (bytes : List ℕ) → text_verdict clauses bytes ≡ None → max_bytes < length bytes }
+{
+    whole_text_law();
+}

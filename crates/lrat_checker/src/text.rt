@@ -1,0 +1,93 @@
+// The check of a proof text: a reader gives its steps in turn, and a judge takes them.
+ghost use Rattle.std.specs.Prelude.{◌≡◌, ◌||◌, false, Err, IsTrue};
+ghost use Rattle.host_io.specs.Channel.{Rose};
+ghost use Rattle.text_scan.specs.Decides.{Decides, OnlyReads};
+ghost use Rattle.lrat_text.specs.declared.reader.Status.TheVariants.{Reading};
+ghost use Rattle.lrat_text.specs.Reader.{steps_ahead};
+ghost use Rattle.lrat_rules.specs.Run.{step_adds_empty};
+ghost use Rattle.lrat_checker.specs.declared.verdict.CheckError.TheVariants.{ReadFault};
+ghost use Rattle.lrat_checker.specs.TextVerdict.{end_verdict, steps_verdict, text_verdict, Answers};
+
+use crate::judge::Judge;
+use crate::verdict::{CheckError, Verdict};
+use cnf_base::{Cnf, Step};
+use host_io::Source;
+use lrat_rules::Reason;
+use lrat_text::{StepError, StepReader};
+use std::alloc::Global;
+
+/// How many bytes of a proof are looked at.
+const MAX_BYTES: u64 = 4_000_000_000;
+
+/// Judges a textual LRAT proof over a formula, line by line. The first bad line decides, and no read follows then;
+/// lines behind the empty clause are judged too. Memory may be refused instead, or a read may fail.
+pub fn check<S: Source>(alloc: Global, formula: &Cnf, source: &mut S) -> Result<Verdict, CheckError>
+    // The answer is that of the bytes that were taken and whatever may follow them, so of the whole text.
+    ensures decides { IsTrue S.tells → Decides (S.channel source.old) (S.channel source.new)
+        (λ bytes more. Answers result (text_verdict formula.now.clauses bytes)) }
+    ensures fault { result ≡ Err ReadFault → Rose (S.channel source.old).faults (S.channel source.new).faults }
+
+    ensures reads { OnlyReads (S.channel source.old) (S.channel source.new) }
+    ensures beside { S.beside source.new ≡ S.beside source.old }
+{
+    let judge = Judge::open(alloc, formula)?;
+    judge_steps(judge, StepReader::new(alloc, MAX_BYTES), source)
+}
+
+// Judges the steps that the reader still gives.
+fn judge_steps<S: Source>(
+    mut judge: Judge,
+    mut reader: StepReader,
+    source: &mut S,
+) -> Result<Verdict, CheckError>
+    requires { reader.status ≡ Reading }
+    ensures decides { IsTrue S.tells → Decides (S.channel source.old) (S.channel source.new)
+        (λ bytes more. Answers result (steps_verdict judge false (steps_ahead reader bytes))) }
+    ensures fault { result ≡ Err ReadFault → Rose (S.channel source.old).faults (S.channel source.new).faults }
+    ensures reads { OnlyReads (S.channel source.old) (S.channel source.new) }
+    ensures beside { S.beside source.new ≡ S.beside source.old }
+{
+    let mut has_empty = false;
+    'steps: loop {
+        match reader.next(source) {
+            Ok(Some((step, line))) => match judge.step(&step)? {
+                Some(reason) => return Ok(Verdict::Refused { line, reason }),
+                None => has_empty = or_adds_empty(has_empty, &step),
+            },
+            Ok(None) => return Ok(verdict_at_end(has_empty, reader.line())),
+            Err(StepError::Syntax(line)) => {
+                return Ok(Verdict::Refused {
+                    line,
+                    reason: Reason::Syntax,
+                });
+            }
+            Err(StepError::TooLong) => return Err(CheckError::TooLong),
+            Err(StepError::ReadFault) => return Err(CheckError::ReadFault),
+            Err(StepError::OutOfMemory) => return Err(CheckError::OutOfMemory),
+        }
+    }
+}
+
+// Whether an earlier step or this one adds the empty clause.
+fn or_adds_empty(has_empty: bool, step: &Step) -> bool
+    ensures { result ≡ (has_empty || step_adds_empty step.now) }
+{
+    has_empty
+        || match step {
+            Step::Add { lits, .. } => lits.as_slice().is_empty(),
+            Step::Delete { .. } => false,
+        }
+}
+
+fn verdict_at_end(has_empty: bool, line: u64) -> Verdict
+    ensures { result ≡ end_verdict has_empty line }
+{
+    if has_empty {
+        Verdict::Verified
+    } else {
+        Verdict::Refused {
+            line,
+            reason: Reason::NoEmptyClause,
+        }
+    }
+}

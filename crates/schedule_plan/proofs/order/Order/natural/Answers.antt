@@ -1,0 +1,7 @@
+use Rattle.std.proofs.Common.{sym, subst, ◌∙◌, ◌≡◌, ℕ, List, arith, ap}
+use Rattle.schedule_plan.specs.Order.{IsOrder, natural}
+use Rattle.schedule_plan.proofs.Naturals.{natural_is_order}
+use Rattle.schedule_plan.proofs.order.Order.natural.Goals as goal
+
+pub invariant_of-result : goal.invariant_of-result
+invariant_of-result c = subst IsOrder (sym c.loop-i.invariant) (natural_is_order c.loop-i.i)

@@ -1,0 +1,34 @@
+-- What reading the words answers.
+use Rattle.std.specs.Prelude.{◌≡◌, ◌≢◌, ℕ, List, ⊤, Option, option_map}
+use Rattle.std.specs.Borrow.{Bor}
+use Rattle.clap.specs.declared.error.ErrorKind.{ErrorKind}
+use Rattle.clap.specs.declared.error.ErrorKind.TheVariants as kind
+use Rattle.solver_cli.specs.declared.words.Asked.{Asked}
+use Rattle.solver_cli.specs.declared.words.Asked.TheVariants as asked
+use Rattle.solver_cli.specs.declared.words.SolveWords.{SolveWords}
+use Rattle.solver_cli.specs.declared.words.Refusal.{Refusal}
+use Rattle.solver_cli.specs.declared.words.Refusal.TheVariants as refusal
+use Rattle.solver_cli.specs.Command.{Command, Solve, AsksHelp, Misuse, MayMean, refusal_means}
+
+-- the text behind a reference that may be there
+abbrev pub text_of : Option (Bor (List ℕ)) → Option (List ℕ)
+text_of = option_map (λ s. s.now)
+
+-- the command with its values
+abbrev pub solve_of : SolveWords → Command
+solve_of files = Solve files.formula.now files.proof.now
+
+abbrev pub command_of : Asked → Command
+command_of (asked.Solve files) = solve_of files
+
+-- what a refusal of the parser is, by its kind
+abbrev pub IsRefusalOf : ErrorKind → Refusal → Type 0
+IsRefusalOf k (refusal.Help text) = k ≡ kind.DisplayHelp
+IsRefusalOf k refusal.Usage = (k ≢ kind.OutOfMemory) × (refusal_means k ≡ Misuse)
+IsRefusalOf k refusal.OutOfMemory = ⊤
+
+-- the words may mean this refusal; want of memory is free
+abbrev pub IsRefusal : List (List ℕ) → Refusal → Type 0
+IsRefusal words (refusal.Help text) = MayMean words AsksHelp
+IsRefusal words refusal.Usage = MayMean words Misuse
+IsRefusal words refusal.OutOfMemory = ⊤
