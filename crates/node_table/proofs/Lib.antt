@@ -16,3 +16,5 @@ pub mod Fresh
 pub mod HasChildren
 pub mod Outcome
 pub mod Opened
+pub mod InUse
+pub mod InUseSame

@@ -1,4 +1,3 @@
-use Rattle.node_table.proofs.Made
 use Rattle.node_table.proofs.Grown.{is_node-kept, level_of-kept}
 use Rattle.node_table.proofs.Kept.{high_at-kept, low_at-kept, value-kept}
 use Rattle.node_table.proofs.laws.growth_law.Goals as goal
