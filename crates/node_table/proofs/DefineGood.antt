@@ -88,8 +88,14 @@ EachHolder-none live literal test holders = record {
   each = λ id clause at holds. let none : list_any (int_eq literal) clause ≡ false = ap (if_live (list_any (int_eq literal))) (sym at) ∙ holders.named id in cc;
 }
 
+-- before the first of them
+pub record IsStart (state : State) (u x : ℤ) (high low : Atom) : Type 0 where
+  pub law : LiveLaw
+  pub numbers : AreNumbers state.live state.top
+  pub new : IsNewVariable state.live u x high low
+
 -- The states between the clauses of a new variable.
-module _ (law : LiveLaw) (state : State) (numbers : AreNumbers state.live state.top) (u x : ℤ) (high low : Atom) (new : IsNewVariable state.live u x high low) where
+module _ (state : State) (u x : ℤ) (high low : Atom) (start : IsStart state u x high low) where
   abbrev pub with_hu : State
   with_hu = with_some state (clause_of (high_up u x high))
 
@@ -100,13 +106,13 @@ module _ (law : LiveLaw) (state : State) (numbers : AreNumbers state.live state.
   with_hd = with_some with_lu (clause_of (high_down u x high))
 
   opposite : (int_eq u (neg_ℤ u) ≡ false) × (int_eq (neg_ℤ u) u ≡ false)
-  opposite = opposite_literals u new.positive.0 new.positive.1
+  opposite = opposite_literals u start.new.positive.0 start.new.positive.1
 
   numbers_hu : AreNumbers with_hu.live with_hu.top
-  numbers_hu = AreNumbers-some law state (clause_of (high_up u x high)) numbers
+  numbers_hu = AreNumbers-some start.law state (clause_of (high_up u x high)) start.numbers
 
   numbers_lu : AreNumbers with_lu.live with_lu.top
-  numbers_lu = AreNumbers-some law with_hu (clause_of (low_up u x low)) numbers_hu
+  numbers_lu = AreNumbers-some start.law with_hu (clause_of (low_up u x low)) numbers_hu
 
   -- a clause up to the node holds its literal, and not the negation; one down from it the other way round
   up_holds : (side : ℤ) (child : Atom) → if_live (list_any (int_eq u)) (clause_of (Of u ∷ Of side ∷ neg_atom child ∷ [])) ≡ not (is_never child)
@@ -121,22 +127,22 @@ module _ (law : LiveLaw) (state : State) (numbers : AreNumbers state.live state.
   without y first side child own differ of_x apart =
       if_live-each (clause_of (Of first ∷ Of side ∷ child ∷ [])) (list_any (int_eq y)) false
       (λ clause is. holds-clause_of y (Of first ∷ Of side ∷ child ∷ []) clause is
-      ∙ holds_none y first side child differ (apart_literals y side (λ same. new.apart (sym of_x ∙ sym same ∙ own))) (apart_atom (nat_abs u) child y apart own))
+      ∙ holds_none y first side child differ (apart_literals y side (λ same. start.new.apart (sym of_x ∙ sym same ∙ own))) (apart_atom (nat_abs u) child y apart own))
       ∙ and_false (is_some (clause_of (Of first ∷ Of side ∷ child ∷ [])))
 
   -- the two clauses up are the only ones that hold the variable's literal, and none holds its negation
   negated_at_first : AreHolders state.live (neg_ℤ u) []
-  negated_at_first = AreHolders-unused state.live (nat_abs u) new.unused (neg_ℤ u) (abs_neg u)
+  negated_at_first = AreHolders-unused state.live (nat_abs u) start.new.unused (neg_ℤ u) (abs_neg u)
 
   negated_after_hu : AreHolders with_hu.live (neg_ℤ u) []
   negated_after_hu =
-      AreHolders-without law state numbers (clause_of (high_up u x high)) (neg_ℤ u) []
-      (without (neg_ℤ u) u (neg_ℤ x) (neg_atom high) (abs_neg u) opposite.1 (abs_neg x) (apart_neg_atom (nat_abs u) high new.high_apart)) negated_at_first
+      AreHolders-without start.law state start.numbers (clause_of (high_up u x high)) (neg_ℤ u) []
+      (without (neg_ℤ u) u (neg_ℤ x) (neg_atom high) (abs_neg u) opposite.1 (abs_neg x) (apart_neg_atom (nat_abs u) high start.new.high_apart)) negated_at_first
 
   ups_after_hu : AreHolders with_hu.live u (option_to_list (given_if (not (is_never high)) (state.top + 1)))
   ups_after_hu =
-      AreHolders-some law state numbers (clause_of (high_up u x high)) u [] (not (is_never high)) (up_holds (neg_ℤ x) high)
-      (AreHolders-unused state.live (nat_abs u) new.unused u refl)
+      AreHolders-some start.law state start.numbers (clause_of (high_up u x high)) u [] (not (is_never high)) (up_holds (neg_ℤ x) high)
+      (AreHolders-unused state.live (nat_abs u) start.new.unused u refl)
 
   top_after_hu : with_hu.top ≡ state.top + one_if (not (is_never high))
   top_after_hu =
@@ -147,28 +153,28 @@ module _ (law : LiveLaw) (state : State) (numbers : AreNumbers state.live state.
   ups_after_lu =
       let first : with_hu.top + 1 ≡ state.top + 1 + one_if (not (is_never high)) = omega (arith, top_after_hu) in
       subst (λ n. AreHolders with_lu.live u (option_to_list (given_if (not (is_never high)) (state.top + 1)) ++ option_to_list (given_if (not (is_never low)) n))) first
-      (AreHolders-some law with_hu numbers_hu (clause_of (low_up u x low)) u (option_to_list (given_if (not (is_never high)) (state.top + 1))) (not (is_never low)) (up_holds x low) ups_after_hu)
+      (AreHolders-some start.law with_hu numbers_hu (clause_of (low_up u x low)) u (option_to_list (given_if (not (is_never high)) (state.top + 1))) (not (is_never low)) (up_holds x low) ups_after_hu)
 
   ups_after_hd : AreHolders with_hd.live u (ups_from high low (state.top + 1))
   ups_after_hd =
-      AreHolders-without law with_lu numbers_lu (clause_of (high_down u x high)) u (ups_from high low (state.top + 1))
-      (without u (neg_ℤ u) (neg_ℤ x) high refl opposite.0 (abs_neg x) new.high_apart) ups_after_lu
+      AreHolders-without start.law with_lu numbers_lu (clause_of (high_down u x high)) u (ups_from high low (state.top + 1))
+      (without u (neg_ℤ u) (neg_ℤ x) high refl opposite.0 (abs_neg x) start.new.high_apart) ups_after_lu
 
   -- what holds of both clauses up holds of each clause with the variable's literal
   each_after_lu : (test : List ℤ → Bool) → ((up : List ℤ) → clause_of (high_up u x high) ≡ Some up → test up ≡ true)
       → ((up : List ℤ) → clause_of (low_up u x low) ≡ Some up → test up ≡ true) → EachHolder with_lu.live u test
   each_after_lu test hu lu =
-      EachHolder-some law with_hu (clause_of (low_up u x low)) u test
-      (EachHolder-some law state (clause_of (high_up u x high)) u test (EachHolder-unused state.live (nat_abs u) new.unused u test refl) (λ up is _. hu up is))
+      EachHolder-some start.law with_hu (clause_of (low_up u x low)) u test
+      (EachHolder-some start.law state (clause_of (high_up u x high)) u test (EachHolder-unused state.live (nat_abs u) start.new.unused u test refl) (λ up is _. hu up is))
       (λ up is _. lu up is)
 
   each_after_hd : (test : List ℤ → Bool) → ((up : List ℤ) → clause_of (high_up u x high) ≡ Some up → test up ≡ true)
       → ((up : List ℤ) → clause_of (low_up u x low) ≡ Some up → test up ≡ true) → EachHolder with_hd.live u test
   each_after_hd test hu lu =
-      EachHolder-some law with_lu (clause_of (high_down u x high)) u test (each_after_lu test hu lu)
+      EachHolder-some start.law with_lu (clause_of (high_down u x high)) u test (each_after_lu test hu lu)
       (λ down is holds.
       let none : list_any (int_eq u) down ≡ false =
-      ap (if_live (list_any (int_eq u))) (sym is) ∙ without u (neg_ℤ u) (neg_ℤ x) high refl opposite.0 (abs_neg x) new.high_apart in
+      ap (if_live (list_any (int_eq u))) (sym is) ∙ without u (neg_ℤ u) (neg_ℤ x) high refl opposite.0 (abs_neg x) start.new.high_apart in
       cc)
 
   pub hu_definition : (clause : List ℤ) → clause_of (high_up u x high) ≡ Some clause → IsDefinition state.live clause []
@@ -187,8 +193,8 @@ module _ (law : LiveLaw) (state : State) (numbers : AreNumbers state.live state.
       let test = is_blocked_by (literals_of clause) (neg_ℤ u) in
       definition_of with_lu.live (neg_ℤ u) (Of (neg_ℤ x) ∷ high ∷ []) clause ids is (subst (λ v. AreHolders with_lu.live v ids) (sym (neg_neg u)) ups_after_lu)
       (subst (λ v. EachHolder with_lu.live v test) (sym (neg_neg u)) (each_after_lu test
-      (λ up at. blocked_by_child u (neg_ℤ x) (neg_ℤ x) high up clause new.high_apart at is)
-      (λ up at. blocked_by_side u x (neg_ℤ x) (neg_atom low) high up clause new.apart refl at is)))
+      (λ up at. blocked_by_child u (neg_ℤ x) (neg_ℤ x) high up clause start.new.high_apart at is)
+      (λ up at. blocked_by_side u x (neg_ℤ x) (neg_atom low) high up clause start.new.apart refl at is)))
 
   pub ld_definition : (clause : List ℤ) → clause_of (low_down u x low) ≡ Some clause → IsDefinition with_hd.live clause (ups_from high low (state.top + 1))
   ld_definition clause is =
@@ -196,14 +202,14 @@ module _ (law : LiveLaw) (state : State) (numbers : AreNumbers state.live state.
       let test = is_blocked_by (literals_of clause) (neg_ℤ u) in
       definition_of with_hd.live (neg_ℤ u) (Of x ∷ low ∷ []) clause ids is (subst (λ v. AreHolders with_hd.live v ids) (sym (neg_neg u)) ups_after_hd)
       (subst (λ v. EachHolder with_hd.live v test) (sym (neg_neg u)) (each_after_hd test
-      (λ up at. blocked_by_side u (neg_ℤ x) x (neg_atom high) low up clause (λ same. new.apart (sym (abs_neg x) ∙ same)) (neg_neg x) at is)
-      (λ up at. blocked_by_child u x x low up clause new.low_apart at is)))
+      (λ up at. blocked_by_side u (neg_ℤ x) x (neg_atom high) low up clause (λ same. start.new.apart (sym (abs_neg x) ∙ same)) (neg_neg x) at is)
+      (λ up at. blocked_by_child u x x low up clause start.new.low_apart at is)))
 
   -- the numbers of the clauses up, as the calls that write them answer
-  pub ups_are : (ids : List ℕ) (first second : Option ℕ) (hu lu : Option (List ℤ)) (after : State) → ids ≡ option_to_list first ++ option_to_list second
+  pub ups_are : {ids : List ℕ} {first second : Option ℕ} {hu lu : Option (List ℤ)} {after : State} → ids ≡ option_to_list first ++ option_to_list second
       → first ≡ given_if (is_some hu) (state.top + 1) → second ≡ given_if (is_some lu) (after.top + 1)
       → hu ≡ clause_of (high_up u x high) → lu ≡ clause_of (low_up u x low) → after ≡ with_hu → ids ≡ ups_from high low (state.top + 1)
-  ups_are ids first second hu lu after are first_is second_is hu_is lu_is after_is =
+  ups_are {hu = hu} {lu = lu} {after = after} are first_is second_is hu_is lu_is after_is =
       let some_hu : is_some hu ≡ not (is_never high) = ap is_some hu_is ∙ is_some-clause_of u (neg_ℤ x) (neg_atom high) ∙ ap not (is_always-neg_atom high) in
       let some_lu : is_some lu ≡ not (is_never low) = ap is_some lu_is ∙ is_some-clause_of u x (neg_atom low) ∙ ap not (is_always-neg_atom low) in
       let next : after.top + 1 ≡ state.top + 1 + one_if (not (is_never high)) = omega (arith, ap (λ (s : State). s.top) after_is, top_after_hu) in

@@ -1,9 +1,11 @@
 -- The live clauses that hold a literal, while clauses are added under the next numbers.
-use Rattle.std.proofs.Common.{◌≡◌, ℕ, ◌+◌, ◌<◌, ◌≤◌, Bool, true, false, ◌||◌, ◌&&◌, ℤ, nat_abs, List, [], ◌∷◌, ◌++◌, Option, None, Some, is_some, refl, sym, ap, ◌∙◌, subst, arith, inl, inr, eq-eqb, ne_eqb}
+use Rattle.std.proofs.Common.{◌≡◌, ℕ, ◌+◌, ◌<◌, ◌≤◌, Bool, true, false, ◌||◌, ◌&&◌, ℤ, nat_abs, List, [], ◌++◌, Option, None, Some, is_some, refl, sym, ap, ◌∙◌, subst, arith, inl, inr, eq-eqb, ne_eqb}
 use Rattle.std.specs.Prelude.{◌==◌, if◌then◌else◌}
 use Rattle.std.specs.List.{list_any}
 use Rattle.std.specs.Option.{option_to_list}
 use Rattle.std.specs.Ordering.{int_eq}
+use Rattle.std.proofs.lemmas.List.{append-nil}
+use Rattle.std.proofs.lemmas.List.Folds.{list_any-append}
 use Rattle.std.proofs.lemmas.Bool.{cases_eq, false_from_ne_true}
 use Rattle.cnf_base.specs.ProofText.{given_if}
 use Rattle.lrat_rules.specs.State.{State, Live, clause_at, with_clause}
@@ -57,14 +59,6 @@ or_false : (b : Bool) → (b || false) ≡ b
 or_false true = refl
 or_false false = refl
 
-or_assoc : (a b c : Bool) → (a || (b || c)) ≡ ((a || b) || c)
-or_assoc true b c = refl
-or_assoc false b c = refl
-
-any-append : (test : ℕ → Bool) (xs ys : List ℕ) → list_any test (xs ++ ys) ≡ (list_any test xs || list_any test ys)
-any-append test [] ys = refl
-any-append test (x ∷ xs) ys = ap (λ b. test x || b) (any-append test xs ys) ∙ or_assoc (test x) (list_any test xs) (list_any test ys)
-
 any-given : (b : Bool) (given id : ℕ) → list_any (λ holder. holder == id) (option_to_list (given_if b given)) ≡ (b && (given == id))
 any-given true given id = or_false (given == id)
 any-given false given id = refl
@@ -99,25 +93,21 @@ AreHolders-next law state numbers clause literal ids holders id =
 pub AreHolders-some : LiveLaw → (state : State) → AreNumbers state.live state.top → (o : Option (List ℤ)) (literal : ℤ) (ids : List ℕ) (holds : Bool) → if_live (list_any (int_eq literal)) o ≡ holds
     → AreHolders state.live literal ids → AreHolders (with_some state o).live literal (ids ++ option_to_list (given_if holds (state.top + 1)))
 AreHolders-some law state numbers None literal ids holds is holders = record {
-  named = λ id. holders.named id ∙ sym (any-append (λ holder. holder == id) ids (option_to_list (given_if holds (state.top + 1)))
+  named = λ id. holders.named id ∙ sym (list_any-append (λ holder. holder == id) ids (option_to_list (given_if holds (state.top + 1)))
       ∙ ap (λ b. list_any (λ holder. holder == id) ids || b) (any-given holds (state.top + 1) id ∙ ap (λ b. b && (state.top + 1 == id)) (sym is))
       ∙ or_false (list_any (λ holder. holder == id) ids));
 }
 AreHolders-some law state numbers (Some clause) literal ids holds is holders = record {
   named = λ id. AreHolders-next law state numbers clause literal ids holders id
-      ∙ sym (any-append (λ holder. holder == id) ids (option_to_list (given_if holds (state.top + 1)))
+      ∙ sym (list_any-append (λ holder. holder == id) ids (option_to_list (given_if holds (state.top + 1)))
       ∙ ap (λ b. list_any (λ holder. holder == id) ids || b) (any-given holds (state.top + 1) id ∙ ap (λ b. b && (state.top + 1 == id)) (sym is)));
 }
-
-append_nil : (ids : List ℕ) → ids ++ [] ≡ ids
-append_nil [] = refl
-append_nil (id ∷ ids) = ap (λ more. id ∷ more) (append_nil ids)
 
 -- a clause without the literal leaves its holders
 pub AreHolders-without : LiveLaw → (state : State) → AreNumbers state.live state.top → (o : Option (List ℤ)) (literal : ℤ) (ids : List ℕ) → if_live (list_any (int_eq literal)) o ≡ false
     → AreHolders state.live literal ids → AreHolders (with_some state o).live literal ids
 AreHolders-without law state numbers o literal ids is holders =
-    subst (AreHolders (with_some state o).live literal) (append_nil ids) (AreHolders-some law state numbers o literal ids false is holders)
+    subst (AreHolders (with_some state o).live literal) (append-nil ids) (AreHolders-some law state numbers o literal ids false is holders)
 
 pub EachHolder-some : LiveLaw → (state : State) (o : Option (List ℤ)) (literal : ℤ) (test : List ℤ → Bool) → EachHolder state.live literal test
     → ((clause : List ℤ) → o ≡ Some clause → list_any (int_eq literal) clause ≡ true → test clause ≡ true) → EachHolder (with_some state o).live literal test

@@ -1,15 +1,13 @@
 -- Definitions that are written one after the other: the lines add up, and a front of a later line is a front of all.
 use Rattle.std.proofs.Common.{◌≡◌, ℕ, zero, suc, ◌≤◌, Bool, ℤ, List, [], ◌∷◌, ◌++◌, take, Option, refl, sym, ap, ◌∙◌, arith}
 use Rattle.std.specs.Prelude.{IsTrue}
-use Rattle.std.proofs.lemmas.List.{append_assoc}
+use Rattle.std.proofs.lemmas.List.{append_assoc, append-nil}
 use Rattle.host_io.specs.Channel.{Channel}
 use Rattle.lrat_rules.specs.State.{State}
 use Rattle.clause_ledger.specs.Book.{IsTorn, OnlyWrites}
-use Rattle.node_table.specs.Defined.{Definition, with_some, line_of_some, with_definitions, definition_lines}
-
-append_nil : (bytes : List ℕ) → bytes ++ [] ≡ bytes
-append_nil [] = refl
-append_nil (byte ∷ bytes) = ap (λ more. byte ∷ more) (append_nil bytes)
+use Rattle.hint_chain.specs.declared.atom.Atom.{Atom}
+use Rattle.hint_chain.specs.Atoms.{clause_of, high_up, low_up, high_down, low_down}
+use Rattle.node_table.specs.Defined.{Definition, ups_from, with_some, line_of_some, with_definitions, definition_lines}
 
 -- these definitions were written
 pub record AreWritten (tells : Bool) (before after : Channel) (state later : State) (written : List Definition) : Type 0 where
@@ -30,21 +28,26 @@ lines-append state (definition ∷ some) more =
 
 -- nothing yet
 pub AreWritten-none : (tells : Bool) (channel : Channel) (state : State) → AreWritten tells channel channel state state []
-AreWritten-none tells channel state = record { reached = refl; lines = λ t. sym (append_nil channel.written); faults = omega arith }
+AreWritten-none tells channel state = record { reached = refl; lines = λ t. sym (append-nil channel.written); faults = omega arith }
 
--- one more, a clause that is known by an equation, as its candidates are
-pub AreWritten-more : {tells : Bool} {before between after : Channel} {state later last : State} {written : List Definition} → AreWritten tells before between state later written
-    → (o clause : Option (List ℤ)) (ids candidates : List ℕ) → o ≡ clause → ids ≡ candidates → last ≡ with_some later o
+-- what is handed to a call is the definition
+pub record IsCallOf (o : Option (List ℤ)) (ids : List ℕ) (definition : Definition) : Type 0 where
+  pub clause : o ≡ definition.clause
+  pub candidates : ids ≡ definition.candidates
+
+-- one more
+pub AreWritten-more : {tells : Bool} {before between after : Channel} {state later last : State} {written : List Definition} {o : Option (List ℤ)} {ids : List ℕ} {definition : Definition}
+    → AreWritten tells before between state later written → IsCallOf o ids definition → last ≡ with_some later o
     → (IsTrue tells → after.written ≡ between.written ++ line_of_some later o ids) → OnlyWrites between after
-    → AreWritten tells before after state last (written ++ record { clause = clause; candidates = candidates } ∷ [])
-AreWritten-more {before = before} {between = between} {state = state} {later = later} {written = written} so_far o clause ids candidates is are next line only =
-    let definition : Definition = record { clause = clause; candidates = candidates } in
+    → AreWritten tells before after state last (written ++ definition ∷ [])
+AreWritten-more {before = before} {state = state} {written = written} {definition = definition} so_far call next line only =
+    let own = line_of_some (with_definitions state written) definition.clause definition.candidates in
     record {
-      reached = next ∙ (λ i. with_some (so_far.reached i) (is i)) ∙ sym (with_definitions-append state written (definition ∷ []));
+      reached = next ∙ (λ i. with_some (so_far.reached i) (call.clause i)) ∙ sym (with_definitions-append state written (definition ∷ []));
       lines = λ t.
-          line t ∙ (λ i. so_far.lines t i ++ line_of_some (so_far.reached i) (is i) (are i))
-          ∙ append_assoc before.written (definition_lines state written) (line_of_some (with_definitions state written) clause candidates)
-          ∙ ap (λ bytes. before.written ++ (definition_lines state written ++ bytes)) (sym (append_nil (line_of_some (with_definitions state written) clause candidates)))
+          line t ∙ (λ i. so_far.lines t i ++ line_of_some (so_far.reached i) (call.clause i) (call.candidates i))
+          ∙ append_assoc before.written (definition_lines state written) own
+          ∙ ap (λ bytes. before.written ++ (definition_lines state written ++ bytes)) (sym (append-nil own))
           ∙ ap (λ bytes. before.written ++ bytes) (sym (lines-append state written (definition ∷ [])));
       faults = omega (arith, so_far.faults, only.faults);
     }
@@ -60,21 +63,33 @@ take_behind [] line more n = take_before line more n
 take_behind (byte ∷ front) line more n = let rest = take_behind front line more n in (suc rest.0, ap (λ bytes. byte ∷ bytes) rest.1)
 
 -- the next one is cut short
-pub IsTorn-next : {tells : Bool} {before between after : Channel} {state later : State} {written : List Definition} → AreWritten tells before between state later written
-    → (o clause : Option (List ℤ)) (ids candidates : List ℕ) → o ≡ clause → ids ≡ candidates → (more : List Definition) → IsTorn tells between after (line_of_some later o ids)
-    → IsTorn tells before after (definition_lines state (written ++ record { clause = clause; candidates = candidates } ∷ more))
-IsTorn-next {before = before} {state = state} {later = later} {written = written} so_far o clause ids candidates is are more torn = record {
+pub IsTorn-next : {tells : Bool} {before between after : Channel} {state later : State} {written : List Definition} {o : Option (List ℤ)} {ids : List ℕ} {definition : Definition}
+    → AreWritten tells before between state later written → IsCallOf o ids definition → (more : List Definition) → IsTorn tells between after (line_of_some later o ids)
+    → IsTorn tells before after (definition_lines state (written ++ definition ∷ more))
+IsTorn-next {before = before} {state = state} {written = written} {definition = definition} so_far call more torn = record {
   rose = omega (arith, so_far.faults, torn.rose);
   cut = λ t.
       let front = torn.cut t in
-      let reached = with_definitions state written in
       let lines = definition_lines state written in
-      let line = line_of_some reached clause candidates in
-      let rest = definition_lines (with_some reached clause) more in
+      let line = line_of_some (with_definitions state written) definition.clause definition.candidates in
+      let rest = definition_lines (with_some (with_definitions state written) definition.clause) more in
       let whole = take_behind lines line rest front.0 in (
         whole.0,
-        front.1 ∙ (λ i. so_far.lines t i ++ take front.0 (line_of_some (so_far.reached i) (is i) (are i)))
+        front.1 ∙ (λ i. so_far.lines t i ++ take front.0 (line_of_some (so_far.reached i) (call.clause i) (call.candidates i)))
             ∙ append_assoc before.written lines (take front.0 line)
-            ∙ ap (λ bytes. before.written ++ bytes) (sym (ap (take whole.0) (lines-append state written (record { clause = clause; candidates = candidates } ∷ more)) ∙ whole.1)),
+            ∙ ap (λ bytes. before.written ++ bytes) (sym (ap (take whole.0) (lines-append state written (definition ∷ more)) ∙ whole.1)),
       );
 }
+
+-- the four definitions of a new variable, one by one
+abbrev pub hu_of : ℤ → ℤ → Atom → Definition
+hu_of u x high = record { clause = clause_of (high_up u x high); candidates = [] }
+
+abbrev pub lu_of : ℤ → ℤ → Atom → Definition
+lu_of u x low = record { clause = clause_of (low_up u x low); candidates = [] }
+
+abbrev pub hd_of : ℤ → ℤ → Atom → Atom → ℕ → Definition
+hd_of u x high low first = record { clause = clause_of (high_down u x high); candidates = ups_from high low first }
+
+abbrev pub ld_of : ℤ → ℤ → Atom → Atom → ℕ → Definition
+ld_of u x high low first = record { clause = clause_of (low_down u x low); candidates = ups_from high low first }

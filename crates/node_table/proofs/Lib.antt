@@ -17,3 +17,5 @@ pub mod HasChildren
 pub mod Outcome
 pub mod Opened
 pub mod TwoVariables
+pub mod InUse
+pub mod InUseSame

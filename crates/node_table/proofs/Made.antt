@@ -18,7 +18,7 @@ use Rattle.node_table.proofs.Grown.{is_node-kept, IsReduced-joined, KeepsNodes-j
 use Rattle.node_table.proofs.Stands.{IsOverAtom, FourStand, each_some, four_stand, over_clause}
 
 -- Which of the clauses there are. The atom of a node is Never for False alone, and Always for True alone.
-some_up : (graph : Graph) (u x : ℤ) (node : Node) → is_node graph node ≡ true → is_some (clause_of (Of u ∷ Of x ∷ neg_atom (atom_of graph node) ∷ [])) ≡ not (is_false_node node)
+pub some_up : (graph : Graph) (u x : ℤ) (node : Node) → is_node graph node ≡ true → is_some (clause_of (Of u ∷ Of x ∷ neg_atom (atom_of graph node) ∷ [])) ≡ not (is_false_node node)
 some_up graph u x False is = refl
 some_up graph u x True is = refl
 some_up graph u x (Inner key) is = let branch = branch_of_node graph key is in ap (λ o. is_some (clause_of (Of u ∷ Of x ∷ neg_atom (atom_in o) ∷ []))) branch.1

@@ -4,6 +4,7 @@ use Rattle.std.specs.Prelude.{◌≡◌, ◌≢◌, ◌<◌, ◌≤◌, ◌+◌,
 use Rattle.std.specs.Coded.{Coded, code_by, coded×, coded_ℕ, coded_list}
 use Rattle.std.specs.Ordering.{nat_cmp}
 use Rattle.std.specs.FinMap as map
+pub use Rattle.schedule_plan.specs.Order.{IsOrder}
 use Rattle.node_table.specs.declared.node.Node.{Node}
 use Rattle.node_table.specs.declared.node.Node.TheVariants.{False, True, Inner}
 use Rattle.node_table.specs.declared.node.Branch.{Branch}
@@ -59,12 +60,6 @@ high_at graph level node = child_in (λ branch. branch.high) level node (branch_
 
 abbrev pub low_at : Graph → ℕ → Node → Node
 low_at graph level node = child_in (λ branch. branch.low) level node (branch_of graph node)
-
--- each of the variables 1, 2, .. up to their number stands once
-pub record IsOrder (order : List ℕ) : Type 0 where
-  pub within : (place : ℕ) → place < length order → (0 < slice_index_or order place 0) × (slice_index_or order place 0 ≤ length order)
-  pub apart : (place other : ℕ) → place < length order → other < length order → slice_index_or order place 0 ≡ slice_index_or order other 0 → place ≡ other
-  pub each : (variable : ℕ) → 0 < variable → variable ≤ length order → (place : ℕ) × (place < length order) × (slice_index_or order place 0 ≡ variable)
 
 -- the same variable and the same children
 pub record IsAlike (one other : Branch) : Type 0 where

@@ -47,6 +47,7 @@ pub fn write_definitions<S: Sink + Drop>(
     ensures only_writes { OnlyWrites (S.channel ledger.old.sink) (S.channel ledger.new.sink) }
     ensures beside { S.beside ledger.new.sink ≡ S.beside ledger.old.sink }
 {
+    // Cited: what is live under a new number, and that live numbers are none above the greatest.
     live_law();
     let _ = ledger.last_id();
     let not_u = u.negated();

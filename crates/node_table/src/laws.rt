@@ -2,8 +2,10 @@
 ghost use Rattle.std.specs.Prelude.{◌≡◌, ◌≤◌, ◌<◌, ℕ, ℤ, List, length, IsTrue, if◌then◌else◌};
 ghost use Rattle.std.specs.FinMap as map;
 ghost use Rattle.cnf_base.specs.Truth.{AreClausesOf};
-ghost use Rattle.lrat_rules.specs.State.{start};
+ghost use Rattle.lrat_rules.specs.State.{State, start};
+ghost use Rattle.lrat_rules.specs.Marks.{in_use};
 ghost use Rattle.node_table.specs.Tied.{IsTied};
+ghost use Rattle.node_table.specs.Table.{live_nodes};
 ghost use Rattle.node_table.specs.declared.node.Node.{Node as NodeValue};
 ghost use Rattle.node_table.specs.Diagram.{Graph, IsReduced, IsBelow, KeepsNodes, IsOrder, is_node, levels, level_of, high_at, low_at};
 ghost use Rattle.node_table.specs.Value.{Levels, value_of};
@@ -45,3 +47,8 @@ pub fn opening_law()
 {
     start_law();
 }
+
+/// The extension variables in use on the proof are as many as the nodes.
+pub fn in_use_law()
+    ensures { (graph : Graph) (state : State) → IsTied graph state → in_use (levels graph) state ≡ live_nodes graph }
+{}

@@ -11,7 +11,7 @@ ghost use Rattle.clause_ledger.specs.Book.{IsProofOf, IsTorn, OnlyWrites, next_l
 ghost use Rattle.node_table.specs.declared.node.Branch.{Branch as BranchValue};
 ghost use Rattle.node_table.specs.declared.node.Node.TheVariants.{Inner};
 ghost use Rattle.node_table.specs.declared.error.TableError.TheVariants.{NodeLimit, IdLimit, WriteFault};
-ghost use Rattle.node_table.specs.Diagram.{Graph, IsOrder, IsBelow, branch_at, branch_of, is_node, levels, variable_at};
+ghost use Rattle.node_table.specs.Diagram.{Graph, IsOrder, IsReduced, IsBelow, branch_at, branch_of, is_node, levels, variable_at};
 ghost use Rattle.node_table.specs.Value.{value_of, by_level};
 ghost use Rattle.node_table.specs.Defined.{IsDefined, atom_of, defs_of, definition_count, definition_lines, is_false_node, is_true_node, literal_of_branch};
 ghost use Rattle.cnf_base.specs.ProofText.{given_if, max_id};
@@ -82,6 +82,15 @@ impl<S: Sink + Drop> Table<S> {
             ledger,
             max_nodes,
         }
+    }
+
+    /// Its nodes are reduced, over an order of the variables.
+    pub fn is_reduced(&self)
+        ensures reduced { IsReduced self.now.graph }
+        ensures ordered { IsOrder self.now.graph.order }
+        ensures few_levels { levels self.now.graph ≤ 1000000 }
+    {
+        self.diagram.is_reduced();
     }
 
     /// How many inner nodes are live, at most as many as are allowed.
