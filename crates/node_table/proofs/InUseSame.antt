@@ -155,5 +155,5 @@ module _ (graph : Graph) (state : State) (tied : IsTied graph state) where
       let es = finmap.entries graph.nodes in
       let same : extension_variables (levels graph) state.live ≡ finset.from_list (variables_in es) = finset.same_set nat_cmp_total finset.nat_cmp-IsAntisymmetric _ _ members in
       let count = count_entries es (finmap.entries_sorted graph.nodes) (λ k q b c is also equal.
-        tied.reduced.apart k q b c (finmap.get-entries graph.nodes k ∙ is) (finmap.get-entries graph.nodes q ∙ also) equal) in
+      tied.reduced.apart k q b c (finmap.get-entries graph.nodes k ∙ is) (finmap.get-entries graph.nodes q ∙ also) equal) in
       ap finset.len same ∙ count ∙ sym (finmap.len-entries graph.nodes)
