@@ -1,14 +1,14 @@
 -- Clauses over atoms: their literals are the atoms', and with the clause each atom is false.
-use Rattle.std.proofs.Common.{◌≡◌, true, false, ◌||◌, ℤ, List, [], ◌∷◌, Option, None, Some, int_eq, refl, sym, ap, ◌∙◌, subst, inl, inr}
+use Rattle.std.proofs.Common.{◌≡◌, ◌≤◌, ◌+◌, length, is_some, arith, true, false, ◌||◌, ℤ, neg_ℤ, List, [], ◌∷◌, Option, None, Some, int_eq, refl, sym, ap, ◌∙◌, subst, inl, inr}
 use Rattle.std.specs.List.{list_any, list_all}
 use Rattle.std.specs.Option.{option_map}
 use Rattle.std.proofs.Math.IntN.{neg_ℤ-neg_ℤ}
-use Rattle.std.proofs.lemmas.Bool.{and_parts, and_from, or_cases, or_left, or_right}
+use Rattle.std.proofs.lemmas.Bool.{or_parts, and_parts, and_from, or_cases, or_left, or_right}
 use Rattle.lrat_rules.specs.Chain.{FalseSet, literals_of}
 use Rattle.hint_chain.specs.declared.atom.Atom.{Atom}
 use Rattle.hint_chain.specs.declared.atom.Atom.TheVariants.{Always, Never, Of}
 use Rattle.hint_chain.specs.declared.part.Part.{Part}
-use Rattle.hint_chain.specs.Atoms.{neg_atom, clause_of, is_false, is_literal, is_nonzero_atom}
+use Rattle.hint_chain.specs.Atoms.{neg_atom, clause_of, is_false, is_literal, is_nonzero_atom, is_trivial}
 use Rattle.hint_chain.specs.Closing.{are_among, are_false_but, leaves_child, IsChildPart}
 use Rattle.hint_chain.specs.Additions.{part_clause, IsUpPart, IsDownPart}
 use Rattle.hint_chain.proofs.Sets.{int_eq-true, int_eq-same, is_nonzero-neg_ℤ, Grows}
@@ -69,6 +69,27 @@ are_among-clause_of (Of literal ∷ atoms) clause e =
     subst (λ c. are_among (Of literal ∷ atoms) c ≡ true) begins.whole
     (and_from (int_eq literal literal || list_any (is_literal literal) atoms) (are_among (Of literal ∷ atoms) begins.rest)
     (or_left (int_eq literal literal) _ (int_eq-same literal)) (among_more (Of literal) atoms begins.rest (are_among-clause_of atoms begins.rest begins.found)))
+
+-- no clause has more literals than there are atoms
+pub length-clause_of : (atoms : List Atom) (clause : List ℤ) → clause_of atoms ≡ Some clause → length clause ≤ length atoms
+length-clause_of [] clause e = let none : [] ≡ clause = cc in subst (λ (c : List ℤ). length c ≤ 0) none (omega arith)
+length-clause_of (Always ∷ atoms) clause e = cc
+length-clause_of (Never ∷ atoms) clause e = omega (arith, length-clause_of atoms clause e)
+length-clause_of (Of literal ∷ atoms) clause e =
+    let begins : BeginsWith literal (clause_of atoms) clause = BeginsWith-from literal (clause_of atoms) clause e in
+    subst (λ (c : List ℤ). length c ≤ length (Of literal ∷ atoms)) begins.whole (omega (arith, length-clause_of atoms begins.rest begins.found))
+
+some_more : (literal : ℤ) (o : Option (List ℤ)) → is_some o ≡ true → is_some (option_map (λ literals. literal ∷ literals) o) ≡ true
+some_more literal None e = cc
+some_more literal (Some rest) e = refl
+
+-- a clause is given unless it is true by itself
+pub given-clause_of : (atoms : List Atom) → is_trivial atoms ≡ false → is_some (clause_of atoms) ≡ true
+given-clause_of [] e = refl
+given-clause_of (Always ∷ atoms) e = cc
+given-clause_of (Never ∷ atoms) e = given-clause_of atoms e
+given-clause_of (Of literal ∷ atoms) e =
+    some_more literal (clause_of atoms) (given-clause_of atoms (or_parts (list_any (is_literal (neg_ℤ literal)) atoms) (is_trivial atoms) e).1)
 
 -- the literal of a false atom is false
 false_literal : (n : FalseSet) (atom : Atom) (x : ℤ) → is_false n atom ≡ true → is_literal x atom ≡ true → n x ≡ true

@@ -1,5 +1,5 @@
 // Laws of the hint lists, over everything: functions without work, whose clauses the crates above cite by a call.
-ghost use Rattle.std.specs.Prelude.{◌≡◌, ◌++◌, ℕ, ℤ, neg_ℤ, List, [], ◌∷◌, map, Option, None, Some, IsTrue};
+ghost use Rattle.std.specs.Prelude.{◌≡◌, ◌≤◌, ◌++◌, ℕ, ℤ, neg_ℤ, List, [], ◌∷◌, map, length, Option, None, Some, IsTrue, IsFalse, is_some};
 ghost use Rattle.lrat_rules.specs.State.{Live, clause_at};
 ghost use Rattle.lrat_rules.specs.Chain.{FalseSet, literals_of, with_literal};
 ghost use Rattle.lrat_rules.specs.Strict.{RefutesStrictly, is_strict};
@@ -8,11 +8,18 @@ ghost use Rattle.hint_chain.specs.declared.atom.Atom.{Atom};
 ghost use Rattle.hint_chain.specs.declared.atom.Atom.TheVariants.{Of};
 ghost use Rattle.hint_chain.specs.declared.part.Part.{Part};
 ghost use Rattle.hint_chain.specs.declared.unit.UnitPart.{UnitPart};
-ghost use Rattle.hint_chain.specs.Atoms.{neg_atom, clause_of};
+ghost use Rattle.hint_chain.specs.Atoms.{neg_atom, clause_of, is_trivial};
 ghost use Rattle.hint_chain.specs.Greedy.{greedy, PartsClose, AreLiveParts};
 ghost use Rattle.hint_chain.specs.Closing.{IsConsistent, are_apart, are_among, IsChildPart, Child, AreChildParts, IsLastPart};
 ghost use Rattle.hint_chain.specs.Additions.{conjunction, implication, where_true, IsUpPart, IsDownPart, Justifies};
 ghost use Rattle.hint_chain.specs.Units.{next_id, unit_list, FalsifiesLiteral, FalsifiesNext, path_literals, IsUnitPath};
+
+/// The clause of a list of atoms has no literal but theirs, and there is one unless it is true by itself.
+pub fn clause_law()
+    ensures among { (atoms : List Atom) (clause : List ℤ) → clause_of atoms ≡ Some clause → IsTrue (are_among atoms clause) }
+    ensures short { (atoms : List Atom) (clause : List ℤ) → clause_of atoms ≡ Some clause → length clause ≤ length atoms }
+    ensures given { (atoms : List Atom) → IsFalse (is_trivial atoms) → IsTrue (is_some (clause_of atoms)) }
+{}
 
 /// The greedy choice among live parts is a strict refutation.
 pub fn greedy_law()

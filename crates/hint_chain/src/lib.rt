@@ -17,8 +17,8 @@ pub use greedy::{and_high, and_low, imply_high, imply_low};
 pub use hints::Hints;
 pub use inline::{InlineLiterals, ShortClause};
 pub use laws::{
-    closing_law, conjunction_law, following_unit_law, greedy_law, implication_law, unit_law,
-    unit_path_law,
+    clause_law, closing_law, conjunction_law, following_unit_law, greedy_law, implication_law,
+    unit_law, unit_path_law,
 };
 pub use part::Part;
 pub use unit::{UnitPart, unit_hints};

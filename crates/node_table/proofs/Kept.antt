@@ -1,11 +1,19 @@
 -- What a graph that keeps the nodes of another says of them, and the value of a node by its cofactors at a level.
-use Rattle.std.proofs.Common.{◌≡◌, ℕ, zero, suc, ◌<◌, ◌≤◌, Bool, true, false, List, length, refl, sym, ap, ◌∙◌, subst, arith, inl, inr, eq-eqb, ne_eqb}
-use Rattle.std.specs.Prelude.{if◌then◌else◌, ◌==◌}
+use Rattle.std.proofs.Common.{◌≡◌, ℕ, zero, suc, ◌+◌, ◌-◌, ◌<◌, ◌≤◌, ℤ, Bool, true, false, List, length, Option, None, Some, is_some, cond, refl, sym, ap, ◌∙◌, subst, arith, inl, inr, eq-eqb, ne_eqb}
+use Rattle.std.specs.Prelude.{IsTrue, if◌then◌else◌, ◌==◌}
 use Rattle.std.proofs.lemmas.Bool.{cases_eq}
 use Rattle.node_table.specs.declared.node.Node.{Node}
 use Rattle.node_table.specs.declared.node.Node.TheVariants.{False, True, Inner}
 use Rattle.node_table.specs.Diagram.{Graph, IsReduced, IsBelow, KeepsNodes, branch_of, is_node, levels, level_of, high_at, low_at, child_in}
 use Rattle.node_table.specs.Value.{Levels, branch_value, value_within, value_of}
+use Rattle.node_table.specs.Defined.{atom_of, atom_in}
+use Rattle.node_table.specs.Tied.{KeepsClauses}
+use Rattle.node_table.specs.Just.{IsJustified}
+use Rattle.node_table.specs.declared.node.Just.{Just}
+use Rattle.node_table.specs.declared.node.Just.TheVariants.{Trivial, Clause}
+use Rattle.lrat_rules.specs.State.{Live, clause_at}
+use Rattle.hint_chain.specs.declared.atom.Atom.{Atom}
+use Rattle.hint_chain.specs.Atoms.{clause_of, is_trivial}
 use Rattle.node_table.proofs.Values.{branch_of_node, level_of-inner, value_of-inner}
 
 same_within : (old new : Graph) → IsReduced old → KeepsNodes old new → (steps : ℕ) (a : Levels) (node : Node) → is_node old node ≡ true → value_within steps new a node ≡ value_within steps old a node
@@ -90,3 +98,19 @@ cofactors-below graph reduced level (Inner key) is not_above small =
           let under : IsBelow graph level (Inner key) = record { stands = is; below = omega (arith, not_above, here, differ) } in
           (subst (IsBelow graph level) (sym high_is) under, subst (IsBelow graph level) (sym low_is) under)
     ]
+
+-- what it puts into a clause stays
+pub atom_of-kept : (old new : Graph) → KeepsNodes old new → (node : Node) → is_node old node ≡ true → atom_of new node ≡ atom_of old node
+atom_of-kept old new keeps False is = refl
+atom_of-kept old new keeps True is = refl
+atom_of-kept old new keeps (Inner key) is = ap atom_in (branch_of-kept old new keeps (Inner key) is)
+
+same_clause : (old new : Live) → KeepsClauses old new → (id : ℕ) (o : Option (List ℤ)) → is_some o ≡ true → clause_at old id ≡ o → clause_at new id ≡ o
+same_clause old new keeps id None some is = cc
+same_clause old new keeps id (Some clause) some is = keeps id clause is
+
+-- a clause over nodes stays justified
+pub IsJustified-kept : ((atoms : List Atom) → is_trivial atoms ≡ false → is_some (clause_of atoms) ≡ true) → (old new : Live) → KeepsClauses old new
+    → (atoms : List Atom) (just : Just) → IsJustified old atoms just → IsJustified new atoms just
+IsJustified-kept given old new keeps atoms Trivial is = is
+IsJustified-kept given old new keeps atoms (Clause id) is = (is.0, same_clause old new keeps id (clause_of atoms) (given atoms is.0) is.1)

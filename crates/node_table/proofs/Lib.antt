@@ -19,3 +19,4 @@ pub mod Opened
 pub mod TwoVariables
 pub mod InUse
 pub mod InUseSame
+pub mod Progressed

@@ -6,3 +6,4 @@ pub mod Tied
 pub mod Errors
 pub mod Table
 pub mod Just
+pub mod Progress

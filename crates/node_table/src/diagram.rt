@@ -85,6 +85,13 @@ impl Diagram {
         places.get(variable as usize - 1).copied()
     }
 
+    /// How many levels there are.
+    pub fn levels(&self) -> u32
+        ensures { result ≡ levels self.now }
+    {
+        self.order.as_slice().len() as u32
+    }
+
     /// The variable of a level.
     pub fn variable(&self, level: u32) -> u32
         requires { level < levels self.now }

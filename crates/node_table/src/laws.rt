@@ -1,15 +1,23 @@
 // Laws of diagrams, over everything: functions without work, whose clauses the crates above cite by a call.
-ghost use Rattle.std.specs.Prelude.{◌≡◌, ◌≤◌, ◌<◌, ℕ, ℤ, List, length, IsTrue, if◌then◌else◌};
+ghost use Rattle.std.specs.Prelude.{◌≡◌, ◌≤◌, ◌<◌, ℕ, ℤ, Bool, List, length, IsTrue, if◌then◌else◌};
 ghost use Rattle.std.specs.FinMap as map;
 ghost use Rattle.cnf_base.specs.Truth.{AreClausesOf};
-ghost use Rattle.lrat_rules.specs.State.{State, start};
+ghost use Rattle.host_io.specs.Channel.{Channel};
+ghost use Rattle.lrat_rules.specs.State.{State, Live, start};
 ghost use Rattle.lrat_rules.specs.Marks.{in_use};
-ghost use Rattle.node_table.specs.Tied.{IsTied};
-ghost use Rattle.node_table.specs.Table.{live_nodes};
+ghost use Rattle.hint_chain.specs.declared.atom.Atom.{Atom};
+ghost use Rattle.node_table.specs.declared.node.Just.{Just as JustValue};
+ghost use Rattle.node_table.specs.Tied.{IsTied, KeepsClauses};
+ghost use Rattle.node_table.specs.Defined.{atom_of};
+ghost use Rattle.node_table.specs.Just.{IsJustified};
+ghost use Rattle.node_table.specs.Table.{TableState, live_nodes};
+ghost use Rattle.node_table.specs.Progress.{Continues, BreaksOff};
 ghost use Rattle.node_table.specs.declared.node.Node.{Node as NodeValue};
 ghost use Rattle.node_table.specs.Diagram.{Graph, IsReduced, IsBelow, KeepsNodes, IsOrder, is_node, levels, level_of, high_at, low_at};
 ghost use Rattle.node_table.specs.Value.{Levels, value_of};
 
+use hint_chain::clause_law;
+use host_io::Sink;
 use lrat_rules::start_law;
 
 /// Two nodes of equal value under every assignment are the same node. (Bryant 1986, theorem 1.)
@@ -18,13 +26,27 @@ pub fn canonical_law()
         → ((a : Levels) → value_of graph a u ≡ value_of graph a v) → u ≡ v }
 {}
 
-/// What a graph that grows says of the nodes that it had.
+/// What a graph that grows says of the nodes that it had, and more live clauses of what they justified.
 pub fn growth_law()
     ensures stands { (old new : Graph) → KeepsNodes old new → (node : NodeValue) → IsTrue (is_node old node) → IsTrue (is_node new node) }
     ensures level { (old new : Graph) → KeepsNodes old new → (node : NodeValue) → IsTrue (is_node old node) → level_of new node ≡ level_of old node }
     ensures high { (old new : Graph) → KeepsNodes old new → (level : ℕ) (node : NodeValue) → IsTrue (is_node old node) → high_at new level node ≡ high_at old level node }
     ensures low { (old new : Graph) → KeepsNodes old new → (level : ℕ) (node : NodeValue) → IsTrue (is_node old node) → low_at new level node ≡ low_at old level node }
     ensures value { (old new : Graph) → IsReduced old → KeepsNodes old new → (a : Levels) (node : NodeValue) → IsTrue (is_node old node) → value_of new a node ≡ value_of old a node }
+    ensures atom { (old new : Graph) → KeepsNodes old new → (node : NodeValue) → IsTrue (is_node old node) → atom_of new node ≡ atom_of old node }
+    ensures justified { (old new : Live) → KeepsClauses old new → (atoms : List Atom) (just : JustValue) → IsJustified old atoms just → IsJustified new atoms just }
+{
+    clause_law();
+}
+
+/// A call after another one, in step with the proof or broken off.
+pub fn progress_law<S: Sink + Drop>()
+    ensures same { (table : TableState S) → IsTied table.graph table.book.state → IsTrue table.book.in_step
+        → Continues S.tells (S.channel table.book.sink) (S.channel table.book.sink) table table }
+    ensures further { (first second third : Channel) (old mid new : TableState S) → Continues S.tells first second old mid
+        → Continues S.tells second third mid new → Continues S.tells first third old new }
+    ensures broken { (first second third : Channel) (old mid new : TableState S) → Continues S.tells first second old mid
+        → BreaksOff S.tells second third mid new → BreaksOff S.tells first third old new }
 {}
 
 /// A node by its cofactors at a level, whether or not it is of it.

@@ -11,7 +11,7 @@ ghost use Rattle.clause_ledger.specs.Book.{IsProofOf, IsTorn, OnlyWrites, next_l
 ghost use Rattle.node_table.specs.declared.node.Branch.{Branch as BranchValue};
 ghost use Rattle.node_table.specs.declared.node.Node.TheVariants.{Inner};
 ghost use Rattle.node_table.specs.declared.error.TableError.TheVariants.{NodeLimit, IdLimit, WriteFault};
-ghost use Rattle.node_table.specs.Diagram.{Graph, IsOrder, IsReduced, IsBelow, branch_at, branch_of, is_node, levels, variable_at};
+ghost use Rattle.node_table.specs.Diagram.{Graph, IsOrder, IsReduced, IsBelow, branch_at, branch_of, is_node, levels, level_of, high_at, low_at, variable_at};
 ghost use Rattle.node_table.specs.Value.{value_of, by_level};
 ghost use Rattle.node_table.specs.Defined.{IsDefined, atom_of, defs_of, definition_count, definition_lines, is_false_node, is_true_node, literal_of_branch};
 ghost use Rattle.cnf_base.specs.ProofText.{given_if, max_id};
@@ -189,6 +189,36 @@ impl<S: Sink + Drop> Table<S> {
             None => None,
             Some(branch) => Some((branch.level, branch.high, branch.low)),
         }
+    }
+
+    /// The level of a node, from 0; the constants stand below all levels.
+    pub fn level_of(&self, node: Node) -> u32
+        ensures { result ≡ level_of self.now.graph node }
+    {
+        match self.diagram.branch(node) {
+            None => self.diagram.levels(),
+            Some(branch) => branch.level,
+        }
+    }
+
+    /// The cofactors of a node at a level: its children where it is of this level, else the node itself.
+    pub fn cofactors(&self, level: u32, node: Node) -> (Node, Node)
+        ensures high { result.0 ≡ high_at self.now.graph level node }
+        ensures low { result.1 ≡ low_at self.now.graph level node }
+    {
+        match self.diagram.branch(node) {
+            None => (node, node),
+            Some(branch) if branch.level == level => (branch.high, branch.low),
+            Some(_) => (node, node),
+        }
+    }
+
+    /// The literal of the variable of a level.
+    pub fn variable(&self, level: u32) -> Lit
+        requires { level < levels self.now.graph }
+        ensures { result ≡ pos (variable_at self.now.graph level) }
+    {
+        positive(self.diagram.variable(level))
     }
 
     /// What a node puts into a clause.

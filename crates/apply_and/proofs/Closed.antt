@@ -1,0 +1,80 @@
+-- The two additions of a conjunction: their clauses are of different variables, and their hints close.
+use Rattle.std.proofs.Common.{◌≡◌, ◌≢◌, ◌<◌, ◌≤◌, ℕ, zero, suc, ℤ, pos, neg_ℤ, nat_abs, int_eq, true, false, List, [], ◌∷◌, length, Option, None, Some, is_some, refl, sym, ap, ◌∙◌, subst, arith, inl, inr, ◌⊎◌}
+use Rattle.std.specs.Prelude.{IsTrue}
+use Rattle.std.specs.List.{list_any}
+use Rattle.std.specs.Option.{option_map}
+use Rattle.lrat_rules.specs.State.{Live}
+use Rattle.hint_chain.specs.Atoms.{clause_of, is_trivial}
+use Rattle.hint_chain.specs.Closing.{are_apart, are_among}
+use Rattle.hint_chain.specs.Additions.{where_true}
+use Rattle.node_table.specs.declared.node.Node.{Node}
+use Rattle.node_table.specs.declared.node.Just.{Just}
+use Rattle.node_table.specs.Diagram.{Graph, IsReduced, IsOrder, levels, level_of, level_in, variable_at}
+use Rattle.node_table.specs.Defined.{atom_of}
+use Rattle.node_table.specs.Tied.{IsOverNodes, IsOwned}
+use Rattle.node_table.specs.Just.{IsJustified}
+use Rattle.apply_and.specs.declared.operands.Operands.{Operands}
+use Rattle.apply_and.specs.declared.parts.Side.{Side}
+use Rattle.apply_and.specs.Conjunction.{conjunction_atoms}
+use Rattle.apply_and.specs.Operands.{AreSplit, IsInner}
+use Rattle.apply_and.specs.Sides.{cofactor_at}
+use Rattle.apply_and.specs.Additions.{IsSide}
+use Rattle.apply_and.proofs.NodeParts.{IsAt, IsAt-from}
+use Rattle.apply_and.proofs.ConjunctionClauses.{conjunction_apart, conjunction_open, conjunction_owned, behind_apart, behind_owned}
+
+inner_level : (graph : Graph) → IsReduced graph → (node : Node) → IsInner graph node → level_of graph node < levels graph
+inner_level graph reduced node inner =
+    let at = IsAt-from graph node inner.branch inner.is in
+    omega (arith, ap (level_in (levels graph)) inner.is, inner_bound graph reduced node inner at)
+  where
+    inner_bound : (graph : Graph) → IsReduced graph → (node : Node) (inner : IsInner graph node) → IsAt graph node → level_of graph node < levels graph
+    inner_bound graph reduced node inner at =
+        subst (λ (n : Node). level_of graph n < levels graph) (sym at.named) (subst (λ (o : Option _). level_in (levels graph) o < levels graph) (sym at.at) (reduced.level at.key.index at.branch at.at))
+
+-- the level of the step is one of the order's
+pub split_level : (graph : Graph) → IsReduced graph → (o : Operands) → AreSplit graph o → o.level < levels graph
+split_level graph reduced o split = omega (arith, split.first_below, inner_level graph reduced o.u split.first)
+
+-- its variable is one of the formula's
+pub variable_within : (graph : Graph) → IsOrder graph.order → (level : ℕ) → level < levels graph → (0 < variable_at graph level) × (variable_at graph level ≤ levels graph)
+variable_within graph order level small = order.within level small
+
+abs_of_neg : (n : ℕ) → nat_abs (neg_ℤ (pos n)) ≡ n
+abs_of_neg zero = refl
+abs_of_neg (suc n) = refl
+
+module _ (graph : Graph) (reduced : IsReduced graph) (ordered : IsOrder graph.order) (live : Live) (o : Operands) (split : AreSplit graph o) (w : Node) (side : Side) (found : Node × Just)
+    (finished : IsSide graph live o w side found) (clause : List ℤ) (is : clause_of (conjunction_atoms graph o.u o.v w) ≡ Some clause) (among : are_among (conjunction_atoms graph o.u o.v w) clause ≡ true) where
+  first_at : IsAt graph o.u
+  first_at = IsAt-from graph o.u split.first.branch split.first.is
+
+  second_at : IsAt graph o.v
+  second_at = IsAt-from graph o.v split.second.branch split.second.is
+
+  pub low_apart : are_apart clause ≡ true
+  low_apart = conjunction_apart graph reduced o.u o.v w first_at second_at split.differ finished.first_differs finished.second_differs clause is
+
+  pub is_open : is_trivial (conjunction_atoms graph o.u o.v w) ≡ false
+  is_open = conjunction_open graph reduced o.u o.v w first_at second_at split.differ finished.first_differs finished.second_differs clause is
+
+  pub low_over : IsOverNodes graph clause
+  low_over y there above = conjunction_owned graph o.u o.v w clause among y there
+
+  variable : (0 < variable_at graph o.level) × (variable_at graph o.level ≤ levels graph)
+  variable = variable_within graph ordered o.level (split_level graph reduced o split)
+
+  pub high_apart : are_apart (neg_ℤ (pos (variable_at graph o.level)) ∷ clause) ≡ true
+  high_apart =
+      behind_apart graph reduced (neg_ℤ (pos (variable_at graph o.level))) clause (omega (arith, abs_of_neg (variable_at graph o.level), variable.0)) (omega (arith, abs_of_neg (variable_at graph o.level), variable.1))
+      (conjunction_owned graph o.u o.v w clause among) low_apart
+
+  pub high_over : IsOverNodes graph (neg_ℤ (pos (variable_at graph o.level)) ∷ clause)
+  high_over = behind_owned graph (neg_ℤ (pos (variable_at graph o.level))) clause (omega (arith, abs_of_neg (variable_at graph o.level), variable.1)) (conjunction_owned graph o.u o.v w clause among)
+
+  pub high_clause : clause_of (where_true (pos (variable_at graph o.level)) (conjunction_atoms graph o.u o.v w)) ≡ Some (neg_ℤ (pos (variable_at graph o.level)) ∷ clause)
+  high_clause = ap (λ c. option_map (λ literals. neg_ℤ (pos (variable_at graph o.level)) ∷ literals) c) is
+
+  -- the finished side's clause speaks of w's cofactor
+  pub side_justified : IsJustified live (conjunction_atoms graph (cofactor_at side graph o.level o.u) (cofactor_at side graph o.level o.v) (cofactor_at side graph o.level w)) found.1
+  side_justified =
+      subst (λ (n : Node). IsJustified live (conjunction_atoms graph (cofactor_at side graph o.level o.u) (cofactor_at side graph o.level o.v) n) found.1) (sym finished.cofactor) finished.justified

@@ -1,0 +1,7 @@
+pub mod Cached
+pub mod NodeParts
+pub mod ConjunctionClauses
+pub mod Closed
+pub mod HandedOn
+pub mod Laws
+pub mod Conjunctions

@@ -1,0 +1,128 @@
+use Rattle.std.proofs.Common.{rules, ◌≡◌, ◌≢◌, ◌∙◌, ap, sym, subst, true, arith, ℕ, List, inl, inr, ◌<◌, ◌-◌, length}
+use Rattle.std.specs.Prelude.{min}
+use Rattle.node_table.specs.declared.error.TableError.TheVariants.{WriteFault}
+use Rattle.node_table.specs.declared.node.Node.{Node}
+use Rattle.node_table.specs.Diagram.{is_node, levels, level_of}
+use Rattle.node_table.specs.Progress.{Continues}
+use Rattle.apply_and.specs.Conjunction.{Conjoined}
+use Rattle.apply_and.specs.Cache.{Entry, FitsEntry, Fits, entries}
+use Rattle.apply_and.proofs.Laws.{Cofactors, Growth}
+use Rattle.apply_and.proofs.Conjunctions.{u_high_below, v_high_below, u_low_below, v_low_below, split_kept, conjoined_kept, fits_kept, measure_falls}
+use Rattle.apply_and.proofs.Closed.{split_level}
+use Rattle.apply_and.proofs.HandedOn.{handed_on}
+use Rattle.apply_and.proofs.conjoin.+and.Goals as goal
+
+pub and-requires-2 : goal.and-requires-2
+and-requires-2 g t c κs outlives =
+    let laws : Cofactors = record { value = c.cofactor_law.ensures.value; high = c.cofactor_law.ensures.high; low = c.cofactor_law.ensures.low } in
+    let growth : Growth = record { stands = c.growth_law.ensures.stands; level = c.growth_law.ensures.level; high = c.growth_law.ensures.high; low = c.growth_law.ensures.low; value = c.growth_law.ensures.value; atom = c.growth_law.ensures.atom; justified = c.growth_law.ensures.justified } in
+    let o = c.split-operands.result in
+    let split = c.split-operands.ensures.split in
+    let old = c.args.table.now in
+    let one = c.and.new.table in
+    let reduced = c.requires.tied.reduced in
+    let first : Continues g.S.Sink.tells (g.S.Sink.channel old.book.sink) (g.S.Sink.channel one.book.sink) old one = c.in_ok-high.ensures.continues (λ is. cc) in
+    let u_low = u_low_below laws old.graph reduced o split in
+    let v_low = v_low_below laws old.graph reduced o split in
+    let falling : levels one.graph - min (level_of one.graph o.u_low) (level_of one.graph o.v_low) < levels old.graph - min (level_of old.graph o.u) (level_of old.graph o.v) =
+    measure_falls (levels old.graph) (levels one.graph) (level_of old.graph o.u) (level_of old.graph o.v) (level_of one.graph o.u_low) (level_of one.graph o.v_low) o.level
+    (ap length first.extends.nodes.order) (split_level old.graph reduced o split) split.first_below split.second_below split.earlier
+    (omega (arith, growth.level old.graph one.graph first.extends.nodes o.u_low u_low.stands, u_low.below)) (omega (arith, growth.level old.graph one.graph first.extends.nodes o.v_low v_low.stands, v_low.below)) in
+    let here : levels one.graph - min (level_of one.graph o.u_low) (level_of one.graph o.v_low) < levels old.graph - min (level_of old.graph c.args.u) (level_of old.graph c.args.v) =
+    subst (λ (u : Node). levels one.graph - min (level_of one.graph o.u_low) (level_of one.graph o.v_low) < levels old.graph - min (level_of old.graph u) (level_of old.graph c.args.v)) c.split-operands.ensures.operands.0
+    (subst (λ (v : Node). levels one.graph - min (level_of one.graph o.u_low) (level_of one.graph o.v_low) < levels old.graph - min (level_of old.graph o.u) (level_of old.graph v)) c.split-operands.ensures.operands.1 falling) in
+    (subst (λ (n : ℕ). levels one.graph - min (level_of one.graph o.u_low) (level_of one.graph o.v_low) < n) c.decreases here, (outlives, (first.in_step, (first.tied, (growth.stands old.graph one.graph first.extends.nodes o.u_low u_low.stands, (growth.stands old.graph one.graph first.extends.nodes o.v_low v_low.stands, c.in_ok-high.ensures.fits (λ is. cc)))))))
+
+pub returns-in_err-low-clause-continues : goal.returns-in_err-low-clause-continues
+returns-in_err-low-clause-continues g t c whole =
+    c.progress_law.ensures.further _ _ _ _ _ _ (c.in_ok-high.ensures.continues (λ is. cc))
+    (c.in_err-low.ensures.continues (λ is. whole (handed_on _ c.in_err-low.field-0.0 WriteFault c.from_residual-in_err-low.ensures.1 (let same : c.in_err-low.field-0.0 ≡ WriteFault = cc in same))))
+
+pub finish-requires-clause-split : goal.finish-requires-clause-split
+finish-requires-clause-split g t c =
+    let growth : Growth = record { stands = c.growth_law.ensures.stands; level = c.growth_law.ensures.level; high = c.growth_law.ensures.high; low = c.growth_law.ensures.low; value = c.growth_law.ensures.value; atom = c.growth_law.ensures.atom; justified = c.growth_law.ensures.justified } in
+    let old = c.args.table.now in
+    let one = c.and.new.table in
+    let two = c.and-2.new.table in
+    let first : Continues g.S.Sink.tells (g.S.Sink.channel old.book.sink) (g.S.Sink.channel one.book.sink) old one = c.in_ok-high.ensures.continues (λ is. cc) in
+    let second : Continues g.S.Sink.tells (g.S.Sink.channel one.book.sink) (g.S.Sink.channel two.book.sink) one two = c.in_ok-low.ensures.continues (λ is. cc) in
+    split_kept growth one.graph two.graph second.extends.nodes c.split-operands.result (split_kept growth old.graph one.graph first.extends.nodes c.split-operands.result c.split-operands.ensures.split)
+
+pub finish-requires-clause-high : goal.finish-requires-clause-high
+finish-requires-clause-high g t c =
+    let laws : Cofactors = record { value = c.cofactor_law.ensures.value; high = c.cofactor_law.ensures.high; low = c.cofactor_law.ensures.low } in
+    let growth : Growth = record { stands = c.growth_law.ensures.stands; level = c.growth_law.ensures.level; high = c.growth_law.ensures.high; low = c.growth_law.ensures.low; value = c.growth_law.ensures.value; atom = c.growth_law.ensures.atom; justified = c.growth_law.ensures.justified } in
+    let o = c.split-operands.result in
+    let old = c.args.table.now in
+    let one = c.and.new.table in
+    let two = c.and-2.new.table in
+    let first : Continues g.S.Sink.tells (g.S.Sink.channel old.book.sink) (g.S.Sink.channel one.book.sink) old one = c.in_ok-high.ensures.continues (λ is. cc) in
+    let second : Continues g.S.Sink.tells (g.S.Sink.channel one.book.sink) (g.S.Sink.channel two.book.sink) one two = c.in_ok-low.ensures.continues (λ is. cc) in
+    conjoined_kept growth one.graph two.graph second.extends.nodes first.tied.reduced one.book.state.live two.book.state.live second.extends.clauses o.u_high o.v_high c.in_ok-high.high.0 c.in_ok-high.high.1
+    (growth.stands old.graph one.graph first.extends.nodes o.u_high (u_high_below laws old.graph c.requires.tied.reduced o c.split-operands.ensures.split).stands)
+    (growth.stands old.graph one.graph first.extends.nodes o.v_high (v_high_below laws old.graph c.requires.tied.reduced o c.split-operands.ensures.split).stands)
+    c.in_ok-high.ensures.conjoined
+
+pub returns-in_err-found-clause-continues : goal.returns-in_err-found-clause-continues
+returns-in_err-found-clause-continues g t c whole =
+    c.progress_law.ensures.further _ _ _ _ _ _ (c.in_ok-high.ensures.continues (λ is. cc))
+    (c.progress_law.ensures.further _ _ _ _ _ _ (c.in_ok-low.ensures.continues (λ is. cc))
+    (c.in_err-found.ensures.continues (λ is. whole (handed_on _ c.in_err-found.field-0.0 WriteFault c.from_residual-in_err-found.ensures.1 (let same : c.in_err-found.field-0.0 ≡ WriteFault = cc in same)))))
+
+pub returns-in_err-found-clause-fits : goal.returns-in_err-found-clause-fits
+returns-in_err-found-clause-fits g t c whole =
+    let growth : Growth = record { stands = c.growth_law.ensures.stands; level = c.growth_law.ensures.level; high = c.growth_law.ensures.high; low = c.growth_law.ensures.low; value = c.growth_law.ensures.value; atom = c.growth_law.ensures.atom; justified = c.growth_law.ensures.justified } in
+    let two = c.and-2.new.table in
+    let three = c.finish.new.table in
+    let second = c.in_ok-low.ensures.continues (λ is. cc) in
+    let third : Continues g.S.Sink.tells (g.S.Sink.channel two.book.sink) (g.S.Sink.channel three.book.sink) two three =
+    c.in_err-found.ensures.continues (λ is. whole (handed_on _ c.in_err-found.field-0.0 WriteFault c.from_residual-in_err-found.ensures.1 (let same : c.in_err-found.field-0.0 ≡ WriteFault = cc in same))) in
+    fits_kept growth two.graph three.graph third.extends.nodes second.tied.reduced two.book.state.live three.book.state.live third.extends.clauses (entries c.and-2.new.cache) (c.in_ok-low.ensures.fits (λ is. cc))
+
+pub returns-in_err-keep-clause-continues : goal.returns-in_err-keep-clause-continues
+returns-in_err-keep-clause-continues g t c whole =
+    c.progress_law.ensures.further _ _ _ _ _ _ (c.in_ok-high.ensures.continues (λ is. cc))
+    (c.progress_law.ensures.further _ _ _ _ _ _ (c.in_ok-low.ensures.continues (λ is. cc)) (c.in_ok-found.ensures.continues (λ is. cc)))
+
+pub returns-in_err-keep-clause-fits : goal.returns-in_err-keep-clause-fits
+returns-in_err-keep-clause-fits g t c whole =
+    let growth : Growth = record { stands = c.growth_law.ensures.stands; level = c.growth_law.ensures.level; high = c.growth_law.ensures.high; low = c.growth_law.ensures.low; value = c.growth_law.ensures.value; atom = c.growth_law.ensures.atom; justified = c.growth_law.ensures.justified } in
+    let two = c.and-2.new.table in
+    let three = c.finish.new.table in
+    let second = c.in_ok-low.ensures.continues (λ is. cc) in
+    let third : Continues g.S.Sink.tells (g.S.Sink.channel two.book.sink) (g.S.Sink.channel three.book.sink) two three = c.in_ok-found.ensures.continues (λ is. cc) in
+    subst (λ (list : List Entry). Fits three.graph three.book.state.live list) (sym c.in_err-keep.ensures.refused)
+    (fits_kept growth two.graph three.graph third.extends.nodes second.tied.reduced two.book.state.live three.book.state.live third.extends.clauses (entries c.and-2.new.cache) (c.in_ok-low.ensures.fits (λ is. cc)))
+
+pub returns-clause-continues : goal.returns-clause-continues
+returns-clause-continues g t c whole =
+    c.progress_law.ensures.further _ _ _ _ _ _ (c.in_ok-high.ensures.continues (λ is. cc))
+    (c.progress_law.ensures.further _ _ _ _ _ _ (c.in_ok-low.ensures.continues (λ is. cc)) (c.in_ok-found.ensures.continues (λ is. cc)))
+
+pub returns-clause-fits : goal.returns-clause-fits
+returns-clause-fits g t c whole =
+    let growth : Growth = record { stands = c.growth_law.ensures.stands; level = c.growth_law.ensures.level; high = c.growth_law.ensures.high; low = c.growth_law.ensures.low; value = c.growth_law.ensures.value; atom = c.growth_law.ensures.atom; justified = c.growth_law.ensures.justified } in
+    let old = c.args.table.now in
+    let one = c.and.new.table in
+    let two = c.and-2.new.table in
+    let three = c.finish.new.table in
+    let first : Continues g.S.Sink.tells (g.S.Sink.channel old.book.sink) (g.S.Sink.channel one.book.sink) old one = c.in_ok-high.ensures.continues (λ is. cc) in
+    let second : Continues g.S.Sink.tells (g.S.Sink.channel one.book.sink) (g.S.Sink.channel two.book.sink) one two = c.in_ok-low.ensures.continues (λ is. cc) in
+    let third : Continues g.S.Sink.tells (g.S.Sink.channel two.book.sink) (g.S.Sink.channel three.book.sink) two three = c.in_ok-found.ensures.continues (λ is. cc) in
+    let kept = fits_kept growth two.graph three.graph third.extends.nodes second.tied.reduced two.book.state.live three.book.state.live third.extends.clauses (entries c.and-2.new.cache) (c.in_ok-low.ensures.fits (λ is. cc)) in
+    let still : (node : Node) → is_node old.graph node ≡ true → is_node three.graph node ≡ true = λ node stands. growth.stands two.graph three.graph third.extends.nodes node (growth.stands one.graph two.graph second.extends.nodes node (growth.stands old.graph one.graph first.extends.nodes node stands)) in
+    let u_is : c.split-operands.result.u ≡ c.args.u = c.split-operands.ensures.operands.0 in
+    let v_is : c.split-operands.result.v ≡ c.args.v = c.split-operands.ensures.operands.1 in
+    let found : Conjoined three.graph three.book.state.live c.args.u c.args.v c.in_ok-found.found.0 c.in_ok-found.found.1 =
+    subst (λ (u : Node). Conjoined three.graph three.book.state.live u c.args.v c.in_ok-found.found.0 c.in_ok-found.found.1) u_is
+    (subst (λ (v : Node). Conjoined three.graph three.book.state.live c.split-operands.result.u v c.in_ok-found.found.0 c.in_ok-found.found.1) v_is c.in_ok-found.ensures.conjoined) in
+    record {
+      each = λ entry there. elim (c.in_ok-keep.ensures.within entry there) [
+        | inl before ↦ kept.each entry before
+        | inr is ↦ subst (FitsEntry three.graph three.book.state.live) (sym is) (record {
+          first = still c.args.u c.requires.first;
+          second = still c.args.v c.requires.second;
+          conjoined = found;
+        })
+      ];
+    }

@@ -1,0 +1,168 @@
+// The clause -u, -v, w of a conjunction, by two additions over the variable x of the step. The high one is
+// -x, -u, -v, w: with x true the defining clauses lead from w, u and v to their high children, whose conjunction is
+// justified. The low one drops -x: the high clause makes x false, and the same holds on the low side. (Bryant, Heule:
+// Generating Extended Resolution Proofs with a BDD-Based SAT Solver, 2021, section 4.2.)
+ghost use Rattle.std.specs.Prelude.{◌≡◌, ◌≢◌, ◌≤◌, ◌<◌, ◌+◌, neg_ℤ, pos, ◌∷◌, Err, IsTrue, IfOk, Some, length};
+ghost use Rattle.lrat_rules.specs.State.{clause_at};
+ghost use Rattle.hint_chain.specs.Atoms.{clause_of};
+ghost use Rattle.hint_chain.specs.Additions.{where_true};
+ghost use Rattle.node_table.specs.declared.error.TableError.TheVariants.{NodeLimit, IdLimit, WriteFault};
+ghost use Rattle.node_table.specs.Diagram.{is_node, levels, variable_at, high_at, low_at};
+ghost use Rattle.node_table.specs.Tied.{IsTied};
+ghost use Rattle.node_table.specs.Table.{UnlessTorn};
+ghost use Rattle.node_table.specs.Just.{IsJustified};
+ghost use Rattle.node_table.specs.Progress.{Continues, BreaksOff};
+ghost use Rattle.apply_and.specs.Operands.{AreSplit};
+ghost use Rattle.apply_and.specs.Conjunction.{conjunction_atoms};
+ghost use Rattle.apply_and.specs.Additions.{AreSides, IsSide};
+ghost use Rattle.apply_and.specs.declared.parts.Side.TheVariants.{High, Low};
+
+use crate::operands::Operands;
+use crate::parts::{Side, down_part, just_part, up_part};
+use crate::steps::add;
+use cnf_base::{Id, Lit};
+use hint_chain::{
+    Part, ShortClause, and_high, and_low, clause_law, clause_of, closing_law, conjunction_law,
+    greedy_law,
+};
+use host_io::Sink;
+use node_table::{Just, Node, Table, TableError, growth_law, progress_law};
+use std::alloc::Global;
+
+/// Justifies that w is the conjunction of the operands, where it is neither of them.
+pub fn justify<S: Sink + Drop>(
+    alloc: Global,
+    table: &mut Table<S>,
+    operands: &Operands,
+    w: Node,
+    high: &(Node, Just),
+    low: &(Node, Just),
+) -> Result<Just, TableError>
+    requires in_step { IsTrue table.old.book.in_step }
+    requires tied { IsTied table.old.graph table.old.book.state }
+    requires split { AreSplit table.old.graph operands.now }
+    requires sides { AreSides table.old.graph table.old.book.state.live operands.now w high.now low.now }
+    ensures justified { IfOk result (λ just. IsJustified table.new.book.state.live (conjunction_atoms table.new.graph operands.now.u operands.now.v w) just) }
+    ensures nodes { table.new.graph ≡ table.old.graph }
+    ensures continues { UnlessTorn result (Continues S.tells (S.channel table.old.book.sink) (S.channel table.new.book.sink) table.old table.new) }
+    ensures no_node_limit { result ≢ Err NodeLimit }
+    ensures id_limit { result ≡ Err IdLimit → table.new.book.limit < table.new.book.state.top + 4 }
+    ensures broken { result ≡ Err WriteFault → BreaksOff S.tells (S.channel table.old.book.sink) (S.channel table.new.book.sink) table.old table.new }
+    ensures beside { S.beside table.new.book.sink ≡ S.beside table.old.book.sink }
+{
+    progress_law::<S>();
+    growth_law();
+    clause_law();
+    let Some(clause) = conjunction_clause(table, operands, w) else {
+        return Ok(Just::Trivial);
+    };
+    let first = add_high(alloc, table, operands, w, clause.as_slice(), high)?;
+    let id = add_low(alloc, table, operands, w, clause.as_slice(), first, low)?;
+    Ok(Just::Clause(id))
+}
+
+// The literals -u, -v, w; none where w is True, since the clause is true by itself.
+fn conjunction_clause<S: Sink + Drop>(
+    table: &Table<S>,
+    operands: &Operands,
+    w: Node,
+) -> Option<ShortClause>
+    ensures { result ≡ clause_of (conjunction_atoms table.now.graph operands.now.u operands.now.v w) }
+{
+    let u = table.atom(operands.u);
+    let v = table.atom(operands.v);
+    clause_of(&[u.negated(), v.negated(), table.atom(w)])
+}
+
+// The addition on the high side.
+fn add_high<S: Sink + Drop>(
+    alloc: Global,
+    table: &mut Table<S>,
+    operands: &Operands,
+    w: Node,
+    clause: &[Lit],
+    high: &(Node, Just),
+) -> Result<Part, TableError>
+    requires in_step { IsTrue table.old.book.in_step }
+    requires tied { IsTied table.old.graph table.old.book.state }
+    requires split { AreSplit table.old.graph operands.now }
+    requires side { IsSide table.old.graph table.old.book.state.live operands.now w High high.now }
+    requires clause { clause_of (conjunction_atoms table.old.graph operands.now.u operands.now.v w) ≡ Some clause.now }
+    ensures added { IfOk result (λ part. (part.clause ≡ neg_ℤ (pos (variable_at table.old.graph operands.now.level)) ∷ clause.now) × (clause_at table.new.book.state.live part.id ≡ Some part.clause)) }
+    ensures nodes { table.new.graph ≡ table.old.graph }
+    ensures continues { UnlessTorn result (Continues S.tells (S.channel table.old.book.sink) (S.channel table.new.book.sink) table.old table.new) }
+    ensures no_node_limit { result ≢ Err NodeLimit }
+    ensures id_limit { result ≡ Err IdLimit → table.new.book.limit < table.new.book.state.top + 4 }
+    ensures broken { result ≡ Err WriteFault → BreaksOff S.tells (S.channel table.old.book.sink) (S.channel table.new.book.sink) table.old table.new }
+    ensures beside { S.beside table.new.book.sink ≡ S.beside table.old.book.sink }
+{
+    closing_law();
+    conjunction_law();
+    greedy_law();
+    clause_law();
+    let level = operands.level;
+    let long = behind(table.variable(level).negated(), clause);
+    let parts = [
+        up_part(table, level, Side::High, w),
+        down_part(table, level, Side::High, operands.u),
+        down_part(table, level, Side::High, operands.v),
+        just_part(table, &high.1),
+    ];
+    let hints = and_high(alloc, long.as_slice(), parts);
+    let id = add(table, long.as_slice(), hints.as_slice())?;
+    Ok(Part::new(id, long.as_slice()))
+}
+
+// The addition on the low side, behind the high one.
+fn add_low<S: Sink + Drop>(
+    alloc: Global,
+    table: &mut Table<S>,
+    operands: &Operands,
+    w: Node,
+    clause: &[Lit],
+    first: Part,
+    low: &(Node, Just),
+) -> Result<Id, TableError>
+    requires in_step { IsTrue table.old.book.in_step }
+    requires tied { IsTied table.old.graph table.old.book.state }
+    requires split { AreSplit table.old.graph operands.now }
+    requires side { IsSide table.old.graph table.old.book.state.live operands.now w Low low.now }
+    requires clause { clause_of (conjunction_atoms table.old.graph operands.now.u operands.now.v w) ≡ Some clause.now }
+    requires first { first.clause ≡ neg_ℤ (pos (variable_at table.old.graph operands.now.level)) ∷ clause.now }
+    requires live { clause_at table.old.book.state.live first.id ≡ Some first.clause }
+    ensures added { IfOk result (λ id. clause_at table.new.book.state.live id ≡ Some clause.now) }
+    ensures nodes { table.new.graph ≡ table.old.graph }
+    ensures continues { UnlessTorn result (Continues S.tells (S.channel table.old.book.sink) (S.channel table.new.book.sink) table.old table.new) }
+    ensures no_node_limit { result ≢ Err NodeLimit }
+    ensures id_limit { result ≡ Err IdLimit → table.new.book.limit < table.new.book.state.top + 4 }
+    ensures broken { result ≡ Err WriteFault → BreaksOff S.tells (S.channel table.old.book.sink) (S.channel table.new.book.sink) table.old table.new }
+    ensures beside { S.beside table.new.book.sink ≡ S.beside table.old.book.sink }
+{
+    closing_law();
+    conjunction_law();
+    greedy_law();
+    clause_law();
+    let level = operands.level;
+    let parts = [
+        Some(first),
+        up_part(table, level, Side::Low, w),
+        down_part(table, level, Side::Low, operands.u),
+        down_part(table, level, Side::Low, operands.v),
+        just_part(table, &low.1),
+    ];
+    let hints = and_low(alloc, clause, parts);
+    add(table, clause, hints.as_slice())
+}
+
+// A clause with one literal before it.
+fn behind(literal: Lit, clause: &[Lit]) -> ShortClause
+    requires { length clause.now ≤ 3 }
+    ensures { result ≡ literal ∷ clause.now }
+{
+    let mut long = ShortClause::new();
+    long.push(literal);
+    for own in clause {
+        long.push(*own);
+    }
+    long
+}

@@ -1,0 +1,123 @@
+// The clauses that may serve as hints: the defining clauses of a node at a level, and the justification of a
+// conjunction of the children.
+ghost use Rattle.std.specs.Prelude.{◌≡◌, ◌≤◌, ℤ, List, Some, IsTrue, MatchOption, length};
+ghost use Rattle.hint_chain.specs.Greedy.{IsLivePart};
+ghost use Rattle.hint_chain.specs.Additions.{IsUpPart, IsDownPart, Justifies, part_clause};
+ghost use Rattle.node_table.specs.declared.node.Branch.{Branch};
+ghost use Rattle.hint_chain.specs.declared.atom.Atom.{Atom};
+ghost use Rattle.node_table.specs.Diagram.{branch_of, is_node, high_at, low_at};
+ghost use Rattle.node_table.specs.Defined.{atom_of, clause_named, defs_of};
+ghost use Rattle.node_table.specs.Tied.{IsTied};
+ghost use Rattle.node_table.specs.Just.{IsJustified};
+ghost use Rattle.apply_and.specs.Sides.{false_literal, cofactor_at, up_of, down_of};
+
+use cnf_base::Id;
+use hint_chain::{Part, clause_law};
+use host_io::Sink;
+use node_table::{Defs, Just, Node, Table};
+
+/// Where a variable is true, and where it is false.
+#[derive(Clone, Copy, Debug)]
+pub enum Side {
+    High,
+    Low,
+}
+
+/// The clause from a node's child on this side up to the node, where the node is of this level and there is one.
+pub fn up_part<S: Sink + Drop>(table: &Table<S>, level: u32, side: Side, node: Node) -> Option<Part>
+    requires tied { IsTied table.now.graph table.now.book.state }
+    requires stands { IsTrue (is_node table.now.graph node) }
+    ensures up { IsUpPart (false_literal side table.now.graph level) (atom_of table.now.graph node) (atom_of table.now.graph (cofactor_at side table.now.graph level node)) result }
+    ensures live { IsLivePart table.now.book.state.live result }
+{
+    clause_law();
+    match definitions_at(table, level, node) {
+        None => None,
+        Some(defs) => part_of(table, up_id(side, &defs)),
+    }
+}
+
+/// The clause from a node down to its child on this side, where the node is of this level and there is one.
+pub fn down_part<S: Sink + Drop>(
+    table: &Table<S>,
+    level: u32,
+    side: Side,
+    node: Node,
+) -> Option<Part>
+    requires tied { IsTied table.now.graph table.now.book.state }
+    requires stands { IsTrue (is_node table.now.graph node) }
+    ensures down { IsDownPart (false_literal side table.now.graph level) (atom_of table.now.graph node) (atom_of table.now.graph (cofactor_at side table.now.graph level node)) result }
+    ensures live { IsLivePart table.now.book.state.live result }
+{
+    clause_law();
+    match definitions_at(table, level, node) {
+        None => None,
+        Some(defs) => part_of(table, down_id(side, &defs)),
+    }
+}
+
+/// The clause that a justification names, where there is one.
+pub fn just_part<S: Sink + Drop>(table: &Table<S>, just: &Just) -> Option<Part>
+    requires { (atoms : List Atom) × (length atoms ≤ 4) × IsJustified table.now.book.state.live atoms just.now }
+    ensures justifies { (atoms : List Atom) → IsJustified table.now.book.state.live atoms just.now → Justifies atoms result }
+    ensures live { IsLivePart table.now.book.state.live result }
+{
+    clause_law();
+    match just {
+        Just::Trivial => None,
+        Just::Clause(id) => live_part(table, *id),
+    }
+}
+
+// The numbers of a node's defining clauses, where it is of this level.
+fn definitions_at<S: Sink + Drop>(table: &Table<S>, level: u32, node: Node) -> Option<Defs>
+    ensures { MatchOption result ((high_at table.now.graph level node ≡ node) × (low_at table.now.graph level node ≡ node))
+        (λ defs. (branch : Branch) × (branch_of table.now.graph node ≡ Some branch) × (branch.level ≡ level) × (defs ≡ defs_of branch)) }
+{
+    match table.parts(node) {
+        None => None,
+        Some((own, _, _)) if own == level => table.definitions(node),
+        Some(_) => None,
+    }
+}
+
+fn up_id(side: Side, defs: &Defs) -> Option<Id>
+    ensures { result ≡ up_of side defs.now }
+{
+    match side {
+        Side::High => defs.hu,
+        Side::Low => defs.lu,
+    }
+}
+
+fn down_id(side: Side, defs: &Defs) -> Option<Id>
+    ensures { result ≡ down_of side defs.now }
+{
+    match side {
+        Side::High => defs.hd,
+        Side::Low => defs.ld,
+    }
+}
+
+// The live clause of a number, where one is given.
+fn part_of<S: Sink + Drop>(table: &Table<S>, id: Option<Id>) -> Option<Part>
+    requires { (clause : List ℤ) → clause_named table.now.book.state.live id ≡ Some clause → length clause ≤ 4 }
+    ensures clause { part_clause result ≡ clause_named table.now.book.state.live id }
+    ensures live { IsLivePart table.now.book.state.live result }
+{
+    match id {
+        None => None,
+        Some(id) => live_part(table, id),
+    }
+}
+
+fn live_part<S: Sink + Drop>(table: &Table<S>, id: Id) -> Option<Part>
+    requires { (clause : List ℤ) → clause_named table.now.book.state.live (Some id) ≡ Some clause → length clause ≤ 4 }
+    ensures clause { part_clause result ≡ clause_named table.now.book.state.live (Some id) }
+    ensures live { IsLivePart table.now.book.state.live result }
+{
+    match table.ledger().clause(id) {
+        None => None,
+        Some(clause) => Some(Part::new(id, clause)),
+    }
+}

@@ -1,0 +1,11 @@
+use Rattle.hint_chain.proofs.AtomClauses.{are_among-clause_of, length-clause_of, given-clause_of}
+use Rattle.hint_chain.proofs.laws.clause_law.Goals as goal
+
+pub returns-clause-among : goal.returns-clause-among
+returns-clause-among c = are_among-clause_of
+
+pub returns-clause-short : goal.returns-clause-short
+returns-clause-short c = length-clause_of
+
+pub returns-clause-given : goal.returns-clause-given
+returns-clause-given c = given-clause_of
