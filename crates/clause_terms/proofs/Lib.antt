@@ -1,0 +1,9 @@
+pub mod Links
+pub mod Inner
+pub mod Apart
+pub mod TopStep
+pub mod StepValue
+pub mod AddedLiteral
+pub mod Taken
+pub mod Down
+pub mod Set

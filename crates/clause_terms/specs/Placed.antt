@@ -1,0 +1,22 @@
+-- The literals of a clause by the levels of their variables.
+use Rattle.std.specs.Prelude.{◌≡◌, ◌+◌, ◌<◌, ℕ, Bool, not, ℤ, pos, neg_ℤ, List, length, IsTrue, nat_lt, if◌then◌else◌, slice_index_or}
+use Rattle.std.specs.List.{list_all}
+use Rattle.node_table.specs.Diagram.{Graph, levels, variable_at}
+use Rattle.node_table.specs.Value.{Levels}
+use Rattle.clause_terms.specs.declared.placed.Placed.{Placed}
+
+-- the literal itself
+abbrev pub literal_at : Graph → Placed → ℤ
+literal_at graph placed = if placed.negative then neg_ℤ (pos (variable_at graph placed.level)) else pos (variable_at graph placed.level)
+
+abbrev pub placed_holds : Levels → Placed → Bool
+placed_holds a placed = if placed.negative then not (a placed.level) else a placed.level
+
+-- each is of one of the graph's levels
+abbrev pub are_of_levels : Graph → List Placed → Bool
+are_of_levels graph placed = list_all (λ p. nat_lt p.level (levels graph)) placed
+
+-- no two neighbours are of both signs of a variable
+abbrev pub HasNoOpposites : List Placed → Type 0
+HasNoOpposites placed = (i : ℕ) (d : Placed) → i + 1 < length placed → (slice_index_or placed i d).level ≡ (slice_index_or placed (i + 1) d).level
+    → (slice_index_or placed i d).negative ≡ (slice_index_or placed (i + 1) d).negative
