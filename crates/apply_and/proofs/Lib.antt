@@ -5,3 +5,4 @@ pub mod Closed
 pub mod HandedOn
 pub mod Laws
 pub mod Conjunctions
+pub mod Made
