@@ -6,3 +6,4 @@ pub mod HandedOn
 pub mod Laws
 pub mod Conjunctions
 pub mod Made
+pub mod Named

@@ -12,7 +12,7 @@ ghost use Rattle.node_table.specs.Progress.{Continues, BreaksOff};
 ghost use Rattle.lrat_rules.specs.State.{Live};
 ghost use Rattle.apply_and.specs.Operands.{AreSplit, IsNoConstant};
 ghost use Rattle.apply_and.specs.Conjunction.{Conjoined, IsPlain, conjunction_of};
-ghost use Rattle.apply_and.specs.Cache.{Fits, entries};
+ghost use Rattle.apply_and.specs.Cache.{Fits, IsNewJust, NamesOnly, entries};
 
 use crate::additions::justify;
 use crate::cache::AndCache;
@@ -41,6 +41,7 @@ pub fn and<S: Sink + Drop>(
     ensures conjoined { IfOk result (λ found. Conjoined table.new.graph table.new.book.state.live u v found.0 found.1) }
     ensures continues { UnlessTorn result (Continues S.tells (S.channel table.old.book.sink) (S.channel table.new.book.sink) table.old table.new) }
     ensures fits { UnlessTorn result (Fits table.new.graph table.new.book.state.live (entries cache.new)) }
+    ensures named { UnlessTorn result (NamesOnly (entries cache.old) (entries cache.new) table.old.book.state table.new.book.state) }
     // Each node that was made is a subfunction of the conjunction, and none is left over.
     ensures made { UnlessTorn result (MakesOnly table.old.graph table.new.graph (conjunction_of table.old.graph u v)) }
     ensures reachable { IfOk result (λ found. ReachesNew table.old.graph table.new.graph found.0) }
@@ -98,6 +99,7 @@ fn finish<S: Sink + Drop>(
     requires high { Conjoined table.old.graph table.old.book.state.live operands.now.u_high operands.now.v_high high.now.0 high.now.1 }
     requires low { Conjoined table.old.graph table.old.book.state.live operands.now.u_low operands.now.v_low low.now.0 low.now.1 }
     ensures conjoined { IfOk result (λ found. Conjoined table.new.graph table.new.book.state.live operands.now.u operands.now.v found.0 found.1) }
+    ensures named { IfOk result (λ found. IsNewJust table.old.book.state table.new.book.state found.1) }
     ensures children { IfOk result (λ found. HasChildren table.new.graph operands.now.level high.now.0 low.now.0 found.0) }
     ensures made { UnlessTorn result (MakesOnly table.old.graph table.new.graph (conjunction_of table.old.graph operands.now.u operands.now.v)) }
     ensures reachable { IfOk result (λ found. ReachesNew table.old.graph table.new.graph found.0) }

@@ -7,11 +7,12 @@ use Rattle.node_table.specs.Diagram.{is_node, levels, level_of}
 use Rattle.node_table.specs.Progress.{Continues}
 use Rattle.node_table.specs.Made.{MakesOnly}
 use Rattle.apply_and.specs.Conjunction.{Conjoined, conjunction_of}
-use Rattle.apply_and.specs.Cache.{Entry, FitsEntry, Fits, entries}
+use Rattle.apply_and.specs.Cache.{Entry, FitsEntry, Fits, HasOperands, NamesOnly, entries}
 use Rattle.apply_and.proofs.Laws.{Cofactors, Growth, Parts, Paths}
 use Rattle.apply_and.proofs.Conjunctions.{u_high_below, v_high_below, u_low_below, v_low_below, split_kept, conjoined_kept, fits_kept, measure_falls}
 use Rattle.apply_and.proofs.Closed.{split_level}
 use Rattle.apply_and.proofs.HandedOn.{handed_on}
+use Rattle.apply_and.proofs.Named.{IsNewJust-within, NamesOnly-same, NamesOnly-further, NamesOnly-kept}
 use Rattle.apply_and.proofs.Made.{made_high, made_low, made_all, reached_all}
 use Rattle.apply_and.proofs.conjoin.+and.Goals as goal
 
@@ -157,9 +158,9 @@ returns-clause-fits g t c whole =
     subst (λ (u : Node). Conjoined three.graph three.book.state.live u c.args.v c.in_ok-found.found.0 c.in_ok-found.found.1) u_is
     (subst (λ (v : Node). Conjoined three.graph three.book.state.live c.split-operands.result.u v c.in_ok-found.found.0 c.in_ok-found.found.1) v_is c.in_ok-found.ensures.conjoined) in
     record {
-      each = λ entry there. elim (c.in_ok-keep.ensures.within entry there) [
-        | inl before ↦ kept.each entry before
-        | inr is ↦ subst (FitsEntry three.graph three.book.state.live) (sym is) (record {
+      each = λ entry there. elim ((c.in_ok-keep.ensures.kept entry).0 there) [
+        | inr before ↦ kept.each entry before.0
+        | inl is ↦ subst (FitsEntry three.graph three.book.state.live) (sym is) (record {
           first = still c.args.u c.requires.first;
           second = still c.args.v c.requires.second;
           conjoined = found;
@@ -251,3 +252,55 @@ returns-clause-reachable g t c =
     let third : Continues g.S.Sink.tells (g.S.Sink.channel two.book.sink) (g.S.Sink.channel three.book.sink) two three = c.in_ok-found.ensures.continues (λ is. cc) in
     reached_all paths old.graph one.graph two.graph three.graph first.tied.reduced second.tied.reduced second.extends.nodes third.extends.nodes c.split-operands.result.level c.in_ok-high.high.0 c.in_ok-low.low.0 c.in_ok-found.found.0
     c.in_ok-high.ensures.conjoined.stands c.in_ok-low.ensures.conjoined.stands c.in_ok-high.ensures.reachable c.in_ok-low.ensures.reachable c.in_ok-found.ensures.reachable c.in_ok-found.ensures.children
+
+pub returns-in_err-low-clause-named : goal.returns-in_err-low-clause-named
+returns-in_err-low-clause-named g t c whole =
+    let old = c.args.table.now in
+    let one = c.and.new.table in
+    let two = c.and-2.new.table in
+    let first : Continues g.S.Sink.tells (g.S.Sink.channel old.book.sink) (g.S.Sink.channel one.book.sink) old one = c.in_ok-high.ensures.continues (λ is. cc) in
+    let second : Continues g.S.Sink.tells (g.S.Sink.channel one.book.sink) (g.S.Sink.channel two.book.sink) one two =
+    c.in_err-low.ensures.continues (λ is. whole (handed_on _ c.in_err-low.field-0.0 WriteFault c.from_residual-in_err-low.ensures.1 (let same : c.in_err-low.field-0.0 ≡ WriteFault = cc in same))) in
+    NamesOnly-further (entries c.args.cache.now) (entries c.and.new.cache) (entries c.and-2.new.cache) old.book.state one.book.state two.book.state first.extends.numbers.no_less second.extends.numbers.no_less (c.in_ok-high.ensures.named (λ is. cc))
+    (c.in_err-low.ensures.named (λ is. whole (handed_on _ c.in_err-low.field-0.0 WriteFault c.from_residual-in_err-low.ensures.1 (let same : c.in_err-low.field-0.0 ≡ WriteFault = cc in same))))
+
+pub returns-in_err-found-clause-named : goal.returns-in_err-found-clause-named
+returns-in_err-found-clause-named g t c whole =
+    let old = c.args.table.now in
+    let one = c.and.new.table in
+    let two = c.and-2.new.table in
+    let first : Continues g.S.Sink.tells (g.S.Sink.channel old.book.sink) (g.S.Sink.channel one.book.sink) old one = c.in_ok-high.ensures.continues (λ is. cc) in
+    let second : Continues g.S.Sink.tells (g.S.Sink.channel one.book.sink) (g.S.Sink.channel two.book.sink) one two = c.in_ok-low.ensures.continues (λ is. cc) in
+    let three = c.finish.new.table in
+    let third : Continues g.S.Sink.tells (g.S.Sink.channel two.book.sink) (g.S.Sink.channel three.book.sink) two three =
+    c.in_err-found.ensures.continues (λ is. whole (handed_on _ c.in_err-found.field-0.0 WriteFault c.from_residual-in_err-found.ensures.1 (let same : c.in_err-found.field-0.0 ≡ WriteFault = cc in same))) in
+    let both = NamesOnly-further (entries c.args.cache.now) (entries c.and.new.cache) (entries c.and-2.new.cache) old.book.state one.book.state two.book.state first.extends.numbers.no_less second.extends.numbers.no_less (c.in_ok-high.ensures.named (λ is. cc)) (c.in_ok-low.ensures.named (λ is. cc)) in
+    NamesOnly-further (entries c.args.cache.now) (entries c.and-2.new.cache) (entries c.and-2.new.cache) old.book.state two.book.state three.book.state (omega (arith, first.extends.numbers.no_less, second.extends.numbers.no_less)) third.extends.numbers.no_less
+    both (NamesOnly-same (entries c.and-2.new.cache) two.book.state three.book.state)
+
+pub returns-in_err-keep-clause-named : goal.returns-in_err-keep-clause-named
+returns-in_err-keep-clause-named g t c whole =
+    let old = c.args.table.now in
+    let one = c.and.new.table in
+    let two = c.and-2.new.table in
+    let first : Continues g.S.Sink.tells (g.S.Sink.channel old.book.sink) (g.S.Sink.channel one.book.sink) old one = c.in_ok-high.ensures.continues (λ is. cc) in
+    let second : Continues g.S.Sink.tells (g.S.Sink.channel one.book.sink) (g.S.Sink.channel two.book.sink) one two = c.in_ok-low.ensures.continues (λ is. cc) in
+    let three = c.finish.new.table in
+    let third : Continues g.S.Sink.tells (g.S.Sink.channel two.book.sink) (g.S.Sink.channel three.book.sink) two three = c.in_ok-found.ensures.continues (λ is. cc) in
+    let both = NamesOnly-further (entries c.args.cache.now) (entries c.and.new.cache) (entries c.and-2.new.cache) old.book.state one.book.state two.book.state first.extends.numbers.no_less second.extends.numbers.no_less (c.in_ok-high.ensures.named (λ is. cc)) (c.in_ok-low.ensures.named (λ is. cc)) in
+    subst (λ (list : List Entry). NamesOnly (entries c.args.cache.now) list old.book.state three.book.state) (sym c.in_err-keep.ensures.refused)
+    (NamesOnly-further (entries c.args.cache.now) (entries c.and-2.new.cache) (entries c.and-2.new.cache) old.book.state two.book.state three.book.state (omega (arith, first.extends.numbers.no_less, second.extends.numbers.no_less)) third.extends.numbers.no_less
+    both (NamesOnly-same (entries c.and-2.new.cache) two.book.state three.book.state))
+
+pub returns-clause-named : goal.returns-clause-named
+returns-clause-named g t c whole =
+    let old = c.args.table.now in
+    let one = c.and.new.table in
+    let two = c.and-2.new.table in
+    let first : Continues g.S.Sink.tells (g.S.Sink.channel old.book.sink) (g.S.Sink.channel one.book.sink) old one = c.in_ok-high.ensures.continues (λ is. cc) in
+    let second : Continues g.S.Sink.tells (g.S.Sink.channel one.book.sink) (g.S.Sink.channel two.book.sink) one two = c.in_ok-low.ensures.continues (λ is. cc) in
+    let three = c.finish.new.table in
+    let third : Continues g.S.Sink.tells (g.S.Sink.channel two.book.sink) (g.S.Sink.channel three.book.sink) two three = c.in_ok-found.ensures.continues (λ is. cc) in
+    let both = NamesOnly-further (entries c.args.cache.now) (entries c.and.new.cache) (entries c.and-2.new.cache) old.book.state one.book.state two.book.state first.extends.numbers.no_less second.extends.numbers.no_less (c.in_ok-high.ensures.named (λ is. cc)) (c.in_ok-low.ensures.named (λ is. cc)) in
+    NamesOnly-further (entries c.args.cache.now) (entries c.and-2.new.cache) (entries c.keep.new.self) old.book.state two.book.state three.book.state (omega (arith, first.extends.numbers.no_less, second.extends.numbers.no_less)) third.extends.numbers.no_less
+    both (NamesOnly-kept (entries c.and-2.new.cache) (entries c.keep.new.self) two.book.state three.book.state _ _ c.in_ok-found.ensures.named (λ entry. (c.in_ok-keep.ensures.kept entry).0))

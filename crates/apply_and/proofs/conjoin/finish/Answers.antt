@@ -1,4 +1,4 @@
-use Rattle.std.proofs.Common.{◌≡◌, ◌≢◌, ◌∙◌, ◌⊎◌, ◌&&◌, ap, sym, subst, true, Ok, Err, inl, inr}
+use Rattle.std.proofs.Common.{◌≡◌, ◌≢◌, ◌∙◌, ◌⊎◌, ◌&&◌, ap, sym, subst, true, arith, Ok, Err, inl, inr}
 use Rattle.hint_chain.specs.Atoms.{is_trivial}
 use Rattle.node_table.specs.declared.error.TableError.TheVariants.{WriteFault}
 use Rattle.node_table.specs.declared.node.Just.TheVariants.{Trivial}
@@ -15,6 +15,7 @@ use Rattle.apply_and.proofs.Closed.{split_level}
 use Rattle.apply_and.proofs.Conjunctions.{u_high_below, v_high_below, u_low_below, v_low_below, found_below, conjoined_from, trivial_operand, sides_from, split_kept, IsReady, ready_kept, conjoined_ready, value_ready, inner_stands}
 use Rattle.apply_and.proofs.Made.{made_one, made_none}
 use Rattle.apply_and.proofs.HandedOn.{handed_on}
+use Rattle.apply_and.proofs.Named.{IsNewJust-within}
 use Rattle.apply_and.proofs.conjoin.finish.Goals as goal
 
 pub join-requires-clause-level : goal.join-requires-clause-level
@@ -133,3 +134,11 @@ returns-clause-made g c whole =
     (made_one parts growth old.graph mid.graph c.requires.tied.reduced grown.extends.nodes o.u o.v c.in_ok-w.w
     (inner_stands old.graph o.u c.requires.split.first) (inner_stands old.graph o.v c.requires.split.second)
     (value_ready laws mid.graph grown.tied.reduced mid.book.state.live o c.args.high.now c.args.low.now ready c.in_ok-w.w c.in_ok-w.ensures.children) only)
+
+pub returns-then-is_operand-clause-named : goal.returns-then-is_operand-clause-named
+returns-then-is_operand-clause-named g c id is = cc
+
+pub returns-clause-named : goal.returns-clause-named
+returns-clause-named g c =
+    let grown : Continues g.S.Sink.tells (g.S.Sink.channel c.args.table.now.book.sink) (g.S.Sink.channel c.join.new.table.book.sink) c.args.table.now c.join.new.table = c.in_ok-w.ensures.continues (λ is. cc) in
+    IsNewJust-within c.args.table.now.book.state c.join.new.table.book.state c.justify.new.table.book.state c.justify.new.table.book.state grown.extends.numbers.no_less (omega arith) c.in_ok-just.just c.in_ok-just.ensures.named
