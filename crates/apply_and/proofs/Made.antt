@@ -1,18 +1,19 @@
 -- The nodes that a conjunction makes are subfunctions of it, and reachable from its result.
 use Rattle.std.proofs.Common.{◌≡◌, ◌≢◌, ◌+◌, ℕ, ◌&&◌, true, false, Bool, Ok, Result, refl, sym, ap, ◌∙◌, subst, inl, inr, ◌⊎◌}
-use Rattle.std.specs.Prelude.{IsTrue}
+use Rattle.std.specs.Prelude.{IsTrue, if◌then◌else◌}
 use Rattle.node_table.specs.declared.node.Node.{Node}
-use Rattle.node_table.specs.declared.node.Node.TheVariants.{False, True}
-use Rattle.node_table.specs.Diagram.{Graph, IsReduced, KeepsNodes, is_node, high_at, low_at}
+use Rattle.node_table.specs.declared.node.Just.{Just}
+use Rattle.lrat_rules.specs.State.{Live}
+use Rattle.node_table.specs.Diagram.{Graph, IsReduced, IsBelow, KeepsNodes, is_node, levels, high_at, low_at}
 use Rattle.node_table.specs.Value.{Levels, value_of, fixed_to, IsSubfunction}
-use Rattle.node_table.specs.Table.{HasChildren}
-use Rattle.node_table.specs.Made.{MakesOnly, Reaches, ReachesNew}
+use Rattle.node_table.specs.Table.{HasChildren, IsWanted}
+use Rattle.node_table.specs.Made.{LacksPart, MakesOnly, Reaches, ReachesNew}
 use Rattle.apply_and.specs.declared.operands.Operands.{Operands}
 use Rattle.apply_and.specs.Operands.{AreSplit, IsNoConstant}
-use Rattle.apply_and.specs.Conjunction.{conjunction_of, IsPlain}
-use Rattle.apply_and.proofs.Laws.{Growth, Parts, Paths}
+use Rattle.apply_and.specs.Conjunction.{conjunction_of, Conjoined, IsPlain}
+use Rattle.apply_and.proofs.Laws.{Cofactors, Growth, Missing, Parts, Paths}
 use Rattle.apply_and.proofs.Closed.{split_level}
-use Rattle.apply_and.proofs.Conjunctions.{inner_stands, split_kept}
+use Rattle.apply_and.proofs.Conjunctions.{inner_stands, split_kept, sides_value, u_high_below, v_high_below, u_low_below, v_low_below, found_below}
 
 -- no conjunction of two inner nodes that differ is plain
 pub not_plain : (u v w : Node) → u ≢ v → IsNoConstant u → IsNoConstant v → IsPlain u v w → ⊥
@@ -103,3 +104,37 @@ pub reached_all : Paths → (old one two new : Graph) → IsReduced one → IsRe
 reached_all paths old one two new reduced_one reduced_two second third level high low w high_stands low_stands by_high by_low by_both children =
     paths.joined old one two new reduced_one reduced_two second third high low w high_stands low_stands by_high by_low by_both
     (subst (Reaches new w) children.high_child (paths.high new level w)) (subst (Reaches new w) children.low_child (paths.low new level w))
+
+-- the node of both results that is refused
+pub lacks_one : Cofactors → Parts → Missing → (graph : Graph) → IsReduced graph → (live : Live) (o : Operands) → AreSplit graph o → (h l : Node) (high_just low_just : Just)
+    → Conjoined graph live o.u_high o.v_high h high_just → Conjoined graph live o.u_low o.v_low l low_just → IsWanted graph o.level h l → LacksPart graph (conjunction_of graph o.u o.v)
+lacks_one laws parts missing graph reduced live o split h l high_just low_just high low wanted = record {
+  part = conjunction_of graph o.u o.v;
+  is_part = parts.same (conjunction_of graph o.u o.v);
+  nowhere = λ node is same.
+      missing graph reduced o.level h l (split_level graph reduced o split)
+      (found_below graph live o.level o.u_high o.v_high h high_just (u_high_below laws graph reduced o split) (v_high_below laws graph reduced o split) high)
+      (found_below graph live o.level o.u_low o.v_low l low_just (u_low_below laws graph reduced o split) (v_low_below laws graph reduced o split) low)
+      wanted node is (λ a. same a ∙ sym (sides_value laws graph reduced live o split h l high_just low_just high low a));
+}
+
+lacks_for : Parts → (graph : Graph) (f g : Levels → Bool) → IsSubfunction f g → LacksPart graph g → LacksPart graph f
+lacks_for parts graph f g is lacks = record { part = lacks.part; is_part = parts.further f g lacks.part is lacks.is_part; nowhere = lacks.nowhere }
+
+-- the calls of a conjunction that lack a node
+module _ (parts : Parts) (growth : Growth) (old : Graph) (reduced : IsReduced old) (o : Operands) (split : AreSplit old o) where
+  pub lacks_high : (one : Graph) → LacksPart one (conjunction_of old o.u_high o.v_high) → LacksPart one (conjunction_of old o.u o.v)
+  lacks_high one lacks = lacks_for parts one (conjunction_of old o.u o.v) (conjunction_of old o.u_high o.v_high) (high_part parts old reduced o split) lacks
+
+  module _ (one : Graph) (reduced_one : IsReduced one) (first : KeepsNodes old one) where
+    pub lacks_low : (two : Graph) → LacksPart two (conjunction_of one o.u_low o.v_low) → LacksPart two (conjunction_of old o.u o.v)
+    lacks_low two lacks =
+        subst (LacksPart two) (conjunction_of-kept growth old one reduced first o.u o.v (inner_stands old o.u split.first) (inner_stands old o.v split.second))
+        (lacks_for parts two (conjunction_of one o.u o.v) (conjunction_of one o.u_low o.v_low) (low_part parts one reduced_one o (split_kept growth old one first o split)) lacks)
+
+    pub lacks_both : (two new : Graph) → KeepsNodes one two → LacksPart new (conjunction_of two o.u o.v) → LacksPart new (conjunction_of old o.u o.v)
+    lacks_both two new second lacks =
+        let split_one = split_kept growth old one first o split in
+        subst (LacksPart new)
+        (conjunction_of-kept growth one two reduced_one second o.u o.v (inner_stands one o.u split_one.first) (inner_stands one o.v split_one.second)
+        ∙ conjunction_of-kept growth old one reduced first o.u o.v (inner_stands old o.u split.first) (inner_stands old o.v split.second)) lacks

@@ -7,7 +7,7 @@ ghost use Rattle.node_table.specs.declared.node.Just.TheVariants.{Trivial};
 ghost use Rattle.node_table.specs.Diagram.{Graph, is_node};
 ghost use Rattle.node_table.specs.Tied.{IsTied};
 ghost use Rattle.node_table.specs.Table.{HasChildren, UnlessTorn, live_nodes};
-ghost use Rattle.node_table.specs.Made.{MakesOnly, ReachesNew};
+ghost use Rattle.node_table.specs.Made.{LacksPart, MakesOnly, ReachesNew};
 ghost use Rattle.node_table.specs.Progress.{Continues, BreaksOff};
 ghost use Rattle.lrat_rules.specs.State.{Live};
 ghost use Rattle.apply_and.specs.Operands.{AreSplit, IsNoConstant};
@@ -20,8 +20,8 @@ use crate::operands::{Operands, split};
 use crate::steps::join;
 use host_io::Sink;
 use node_table::{
-    Just, Node, Table, TableError, cofactor_law, growth_law, progress_law, reach_law,
-    subfunction_law,
+    Just, Node, Table, TableError, cofactor_law, growth_law, missing_law, progress_law,
+    reach_law, subfunction_law,
 };
 use std::alloc::Global;
 
@@ -47,8 +47,9 @@ pub fn and<S: Sink + Drop>(
     ensures reachable { IfOk result (λ found. ReachesNew table.old.graph table.new.graph found.0) }
     // A constant, and a node with itself: nothing changes.
     ensures plain { (w : NodeValue) → IsPlain u v w → (result ≡ Ok (w, Trivial)) × (table.new ≡ table.old) × (cache.new ≡ cache.old) }
-    // The limits, each where it is met, and a failed write.
+    // The limits, each where it is met, and a failed write. A node that was wanted is refused for want of room.
     ensures node_limit { result ≡ Err NodeLimit → table.new.max_nodes ≤ live_nodes table.new.graph }
+    ensures lacks { result ≡ Err NodeLimit → LacksPart table.new.graph (conjunction_of table.old.graph u v) }
     ensures id_limit { result ≡ Err IdLimit → table.new.book.limit < table.new.book.state.top + 4 }
     ensures broken { result ≡ Err WriteFault → BreaksOff S.tells (S.channel table.old.book.sink) (S.channel table.new.book.sink) table.old table.new }
     ensures beside { S.beside table.new.book.sink ≡ S.beside table.old.book.sink }
@@ -105,6 +106,7 @@ fn finish<S: Sink + Drop>(
     ensures reachable { IfOk result (λ found. ReachesNew table.old.graph table.new.graph found.0) }
     ensures continues { UnlessTorn result (Continues S.tells (S.channel table.old.book.sink) (S.channel table.new.book.sink) table.old table.new) }
     ensures node_limit { result ≡ Err NodeLimit → table.new.max_nodes ≤ live_nodes table.new.graph }
+    ensures lacks { result ≡ Err NodeLimit → LacksPart table.new.graph (conjunction_of table.old.graph operands.now.u operands.now.v) }
     ensures id_limit { result ≡ Err IdLimit → table.new.book.limit < table.new.book.state.top + 4 }
     ensures broken { result ≡ Err WriteFault → BreaksOff S.tells (S.channel table.old.book.sink) (S.channel table.new.book.sink) table.old table.new }
     ensures beside { S.beside table.new.book.sink ≡ S.beside table.old.book.sink }
@@ -114,6 +116,7 @@ fn finish<S: Sink + Drop>(
     growth_law();
     subfunction_law();
     reach_law();
+    missing_law();
     let w = join(table, operands.level, high.0, low.0)?;
     if is_operand(w, operands) {
         return Ok((w, Just::Trivial));

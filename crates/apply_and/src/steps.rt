@@ -6,7 +6,7 @@ ghost use Rattle.node_table.specs.declared.node.Node.{Node as NodeValue};
 ghost use Rattle.node_table.specs.declared.error.TableError.TheVariants.{NodeLimit, IdLimit, WriteFault};
 ghost use Rattle.node_table.specs.Diagram.{IsBelow, is_node, levels};
 ghost use Rattle.node_table.specs.Tied.{IsTied, IsOverNodes};
-ghost use Rattle.node_table.specs.Table.{HasChildren, UnlessTorn, live_nodes};
+ghost use Rattle.node_table.specs.Table.{HasChildren, IsWanted, UnlessTorn, live_nodes};
 ghost use Rattle.node_table.specs.Progress.{Continues, BreaksOff};
 
 use cnf_base::{Id, Lit};
@@ -29,6 +29,7 @@ pub fn join<S: Sink + Drop>(
     ensures children { IfOk result (λ node. HasChildren table.new.graph level high low node) }
     ensures only { UnlessTorn result ((other : NodeValue) → IsTrue (is_node table.new.graph other) → IsTrue (is_node table.old.graph other) ⊎ (result ≡ Ok other)) }
     ensures continues { UnlessTorn result (Continues S.tells (S.channel table.old.book.sink) (S.channel table.new.book.sink) table.old table.new) }
+    ensures missing { result ≡ Err NodeLimit → IsWanted table.old.graph level high low × (table.new.graph ≡ table.old.graph) }
     ensures node_limit { result ≡ Err NodeLimit → table.new.max_nodes ≤ live_nodes table.new.graph }
     ensures id_limit { result ≡ Err IdLimit → table.new.book.limit < table.new.book.state.top + 4 }
     ensures broken { result ≡ Err WriteFault → BreaksOff S.tells (S.channel table.old.book.sink) (S.channel table.new.book.sink) table.old table.new }

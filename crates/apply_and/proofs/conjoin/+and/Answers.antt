@@ -1,19 +1,19 @@
-use Rattle.std.proofs.Common.{rules, ◌≡◌, ◌≢◌, ◌∙◌, ap, refl, sym, subst, true, arith, ℕ, List, Ok, Some, inl, inr, ◌<◌, ◌-◌, length}
+use Rattle.std.proofs.Common.{rules, ◌≡◌, ◌≢◌, ◌∙◌, ap, refl, sym, subst, true, arith, ℕ, List, Ok, Err, Some, inl, inr, ◌<◌, ◌-◌, length}
 use Rattle.std.specs.Prelude.{min}
-use Rattle.node_table.specs.declared.error.TableError.TheVariants.{WriteFault}
+use Rattle.node_table.specs.declared.error.TableError.TheVariants.{NodeLimit, WriteFault}
 use Rattle.node_table.specs.declared.node.Node.{Node}
 use Rattle.node_table.specs.declared.node.Just.TheVariants.{Trivial}
 use Rattle.node_table.specs.Diagram.{is_node, levels, level_of}
 use Rattle.node_table.specs.Progress.{Continues}
-use Rattle.node_table.specs.Made.{MakesOnly}
+use Rattle.node_table.specs.Made.{LacksPart, MakesOnly}
 use Rattle.apply_and.specs.Conjunction.{Conjoined, conjunction_of}
 use Rattle.apply_and.specs.Cache.{Entry, FitsEntry, Fits, HasOperands, NamesOnly, entries}
 use Rattle.apply_and.proofs.Laws.{Cofactors, Growth, Parts, Paths}
 use Rattle.apply_and.proofs.Conjunctions.{u_high_below, v_high_below, u_low_below, v_low_below, split_kept, conjoined_kept, fits_kept, measure_falls}
 use Rattle.apply_and.proofs.Closed.{split_level}
-use Rattle.apply_and.proofs.HandedOn.{handed_on}
+use Rattle.apply_and.proofs.HandedOn.{handed_on, came_from}
 use Rattle.apply_and.proofs.Named.{IsNewJust-within, NamesOnly-same, NamesOnly-further, NamesOnly-kept}
-use Rattle.apply_and.proofs.Made.{made_high, made_low, made_all, reached_all}
+use Rattle.apply_and.proofs.Made.{made_high, made_low, made_all, reached_all, lacks_high, lacks_low, lacks_both}
 use Rattle.apply_and.proofs.conjoin.+and.Goals as goal
 
 pub returns-in-Some-clause-conjoined : goal.returns-in-Some-clause-conjoined
@@ -45,7 +45,7 @@ and-requires g t c κs outlives =
 pub returns-in_err-high-clause-made : goal.returns-in_err-high-clause-made
 returns-in_err-high-clause-made g t c whole =
     let growth : Growth = record { stands = c.growth_law.ensures.stands; level = c.growth_law.ensures.level; high = c.growth_law.ensures.high; low = c.growth_law.ensures.low; value = c.growth_law.ensures.value; atom = c.growth_law.ensures.atom; justified = c.growth_law.ensures.justified } in
-    let parts : Parts = record { same = c.subfunction_law.ensures.same; high_value = c.subfunction_law.ensures.high_value; low_value = c.subfunction_law.ensures.low_value; made_further = c.subfunction_law.ensures.made_further; made_for_part = c.subfunction_law.ensures.made_for_part } in
+    let parts : Parts = record { same = c.subfunction_law.ensures.same; further = c.subfunction_law.ensures.further; high_value = c.subfunction_law.ensures.high_value; low_value = c.subfunction_law.ensures.low_value; made_further = c.subfunction_law.ensures.made_further; made_for_part = c.subfunction_law.ensures.made_for_part } in
     let o = c.split-operands.result in
     let split = c.split-operands.ensures.split in
     let old = c.args.table.now in
@@ -171,7 +171,7 @@ returns-clause-fits g t c whole =
 pub returns-in_err-low-clause-made : goal.returns-in_err-low-clause-made
 returns-in_err-low-clause-made g t c whole =
     let growth : Growth = record { stands = c.growth_law.ensures.stands; level = c.growth_law.ensures.level; high = c.growth_law.ensures.high; low = c.growth_law.ensures.low; value = c.growth_law.ensures.value; atom = c.growth_law.ensures.atom; justified = c.growth_law.ensures.justified } in
-    let parts : Parts = record { same = c.subfunction_law.ensures.same; high_value = c.subfunction_law.ensures.high_value; low_value = c.subfunction_law.ensures.low_value; made_further = c.subfunction_law.ensures.made_further; made_for_part = c.subfunction_law.ensures.made_for_part } in
+    let parts : Parts = record { same = c.subfunction_law.ensures.same; further = c.subfunction_law.ensures.further; high_value = c.subfunction_law.ensures.high_value; low_value = c.subfunction_law.ensures.low_value; made_further = c.subfunction_law.ensures.made_further; made_for_part = c.subfunction_law.ensures.made_for_part } in
     let o = c.split-operands.result in
     let split = c.split-operands.ensures.split in
     let old = c.args.table.now in
@@ -188,7 +188,7 @@ returns-in_err-low-clause-made g t c whole =
 pub returns-in_err-found-clause-made : goal.returns-in_err-found-clause-made
 returns-in_err-found-clause-made g t c whole =
     let growth : Growth = record { stands = c.growth_law.ensures.stands; level = c.growth_law.ensures.level; high = c.growth_law.ensures.high; low = c.growth_law.ensures.low; value = c.growth_law.ensures.value; atom = c.growth_law.ensures.atom; justified = c.growth_law.ensures.justified } in
-    let parts : Parts = record { same = c.subfunction_law.ensures.same; high_value = c.subfunction_law.ensures.high_value; low_value = c.subfunction_law.ensures.low_value; made_further = c.subfunction_law.ensures.made_further; made_for_part = c.subfunction_law.ensures.made_for_part } in
+    let parts : Parts = record { same = c.subfunction_law.ensures.same; further = c.subfunction_law.ensures.further; high_value = c.subfunction_law.ensures.high_value; low_value = c.subfunction_law.ensures.low_value; made_further = c.subfunction_law.ensures.made_further; made_for_part = c.subfunction_law.ensures.made_for_part } in
     let o = c.split-operands.result in
     let split = c.split-operands.ensures.split in
     let old = c.args.table.now in
@@ -207,7 +207,7 @@ returns-in_err-found-clause-made g t c whole =
 pub returns-in_err-keep-clause-made : goal.returns-in_err-keep-clause-made
 returns-in_err-keep-clause-made g t c whole =
     let growth : Growth = record { stands = c.growth_law.ensures.stands; level = c.growth_law.ensures.level; high = c.growth_law.ensures.high; low = c.growth_law.ensures.low; value = c.growth_law.ensures.value; atom = c.growth_law.ensures.atom; justified = c.growth_law.ensures.justified } in
-    let parts : Parts = record { same = c.subfunction_law.ensures.same; high_value = c.subfunction_law.ensures.high_value; low_value = c.subfunction_law.ensures.low_value; made_further = c.subfunction_law.ensures.made_further; made_for_part = c.subfunction_law.ensures.made_for_part } in
+    let parts : Parts = record { same = c.subfunction_law.ensures.same; further = c.subfunction_law.ensures.further; high_value = c.subfunction_law.ensures.high_value; low_value = c.subfunction_law.ensures.low_value; made_further = c.subfunction_law.ensures.made_further; made_for_part = c.subfunction_law.ensures.made_for_part } in
     let o = c.split-operands.result in
     let split = c.split-operands.ensures.split in
     let old = c.args.table.now in
@@ -225,7 +225,7 @@ returns-in_err-keep-clause-made g t c whole =
 pub returns-clause-made : goal.returns-clause-made
 returns-clause-made g t c whole =
     let growth : Growth = record { stands = c.growth_law.ensures.stands; level = c.growth_law.ensures.level; high = c.growth_law.ensures.high; low = c.growth_law.ensures.low; value = c.growth_law.ensures.value; atom = c.growth_law.ensures.atom; justified = c.growth_law.ensures.justified } in
-    let parts : Parts = record { same = c.subfunction_law.ensures.same; high_value = c.subfunction_law.ensures.high_value; low_value = c.subfunction_law.ensures.low_value; made_further = c.subfunction_law.ensures.made_further; made_for_part = c.subfunction_law.ensures.made_for_part } in
+    let parts : Parts = record { same = c.subfunction_law.ensures.same; further = c.subfunction_law.ensures.further; high_value = c.subfunction_law.ensures.high_value; low_value = c.subfunction_law.ensures.low_value; made_further = c.subfunction_law.ensures.made_further; made_for_part = c.subfunction_law.ensures.made_for_part } in
     let o = c.split-operands.result in
     let split = c.split-operands.ensures.split in
     let old = c.args.table.now in
@@ -304,3 +304,42 @@ returns-clause-named g t c whole =
     let both = NamesOnly-further (entries c.args.cache.now) (entries c.and.new.cache) (entries c.and-2.new.cache) old.book.state one.book.state two.book.state first.extends.numbers.no_less second.extends.numbers.no_less (c.in_ok-high.ensures.named (λ is. cc)) (c.in_ok-low.ensures.named (λ is. cc)) in
     NamesOnly-further (entries c.args.cache.now) (entries c.and-2.new.cache) (entries c.keep.new.self) old.book.state two.book.state three.book.state (omega (arith, first.extends.numbers.no_less, second.extends.numbers.no_less)) third.extends.numbers.no_less
     both (NamesOnly-kept (entries c.and-2.new.cache) (entries c.keep.new.self) two.book.state three.book.state _ _ c.in_ok-found.ensures.named (λ entry. (c.in_ok-keep.ensures.kept entry).0))
+
+pub returns-in_err-high-clause-lacks : goal.returns-in_err-high-clause-lacks
+returns-in_err-high-clause-lacks g t c is =
+    let growth : Growth = record { stands = c.growth_law.ensures.stands; level = c.growth_law.ensures.level; high = c.growth_law.ensures.high; low = c.growth_law.ensures.low; value = c.growth_law.ensures.value; atom = c.growth_law.ensures.atom; justified = c.growth_law.ensures.justified } in
+    let parts : Parts = record { same = c.subfunction_law.ensures.same; further = c.subfunction_law.ensures.further; high_value = c.subfunction_law.ensures.high_value; low_value = c.subfunction_law.ensures.low_value; made_further = c.subfunction_law.ensures.made_further; made_for_part = c.subfunction_law.ensures.made_for_part } in
+    let o = c.split-operands.result in
+    let split = c.split-operands.ensures.split in
+    let old = c.args.table.now in
+    let one = c.and.new.table in
+    let asked : conjunction_of old.graph o.u o.v ≡ conjunction_of old.graph c.args.u c.args.v = (λ i. conjunction_of old.graph (c.split-operands.ensures.operands.0 i) (c.split-operands.ensures.operands.1 i)) in
+    subst (LacksPart one.graph) asked (lacks_high parts growth old.graph c.requires.tied.reduced o split one.graph (c.in_err-high.ensures.lacks (ap Err (came_from _ c.in_err-high.field-0.0 NodeLimit c.from_residual.ensures.1 is))))
+
+pub returns-in_err-low-clause-lacks : goal.returns-in_err-low-clause-lacks
+returns-in_err-low-clause-lacks g t c is =
+    let growth : Growth = record { stands = c.growth_law.ensures.stands; level = c.growth_law.ensures.level; high = c.growth_law.ensures.high; low = c.growth_law.ensures.low; value = c.growth_law.ensures.value; atom = c.growth_law.ensures.atom; justified = c.growth_law.ensures.justified } in
+    let parts : Parts = record { same = c.subfunction_law.ensures.same; further = c.subfunction_law.ensures.further; high_value = c.subfunction_law.ensures.high_value; low_value = c.subfunction_law.ensures.low_value; made_further = c.subfunction_law.ensures.made_further; made_for_part = c.subfunction_law.ensures.made_for_part } in
+    let o = c.split-operands.result in
+    let split = c.split-operands.ensures.split in
+    let old = c.args.table.now in
+    let one = c.and.new.table in
+    let first : Continues g.S.Sink.tells (g.S.Sink.channel old.book.sink) (g.S.Sink.channel one.book.sink) old one = c.in_ok-high.ensures.continues (λ is. cc) in
+    let asked : conjunction_of old.graph o.u o.v ≡ conjunction_of old.graph c.args.u c.args.v = (λ i. conjunction_of old.graph (c.split-operands.ensures.operands.0 i) (c.split-operands.ensures.operands.1 i)) in
+    let two = c.and-2.new.table in
+    subst (LacksPart two.graph) asked (lacks_low parts growth old.graph c.requires.tied.reduced o split one.graph first.tied.reduced first.extends.nodes two.graph (c.in_err-low.ensures.lacks (ap Err (came_from _ c.in_err-low.field-0.0 NodeLimit c.from_residual-in_err-low.ensures.1 is))))
+
+pub returns-in_err-found-clause-lacks : goal.returns-in_err-found-clause-lacks
+returns-in_err-found-clause-lacks g t c is =
+    let growth : Growth = record { stands = c.growth_law.ensures.stands; level = c.growth_law.ensures.level; high = c.growth_law.ensures.high; low = c.growth_law.ensures.low; value = c.growth_law.ensures.value; atom = c.growth_law.ensures.atom; justified = c.growth_law.ensures.justified } in
+    let parts : Parts = record { same = c.subfunction_law.ensures.same; further = c.subfunction_law.ensures.further; high_value = c.subfunction_law.ensures.high_value; low_value = c.subfunction_law.ensures.low_value; made_further = c.subfunction_law.ensures.made_further; made_for_part = c.subfunction_law.ensures.made_for_part } in
+    let o = c.split-operands.result in
+    let split = c.split-operands.ensures.split in
+    let old = c.args.table.now in
+    let one = c.and.new.table in
+    let first : Continues g.S.Sink.tells (g.S.Sink.channel old.book.sink) (g.S.Sink.channel one.book.sink) old one = c.in_ok-high.ensures.continues (λ is. cc) in
+    let asked : conjunction_of old.graph o.u o.v ≡ conjunction_of old.graph c.args.u c.args.v = (λ i. conjunction_of old.graph (c.split-operands.ensures.operands.0 i) (c.split-operands.ensures.operands.1 i)) in
+    let two = c.and-2.new.table in
+    let three = c.finish.new.table in
+    let second : Continues g.S.Sink.tells (g.S.Sink.channel one.book.sink) (g.S.Sink.channel two.book.sink) one two = c.in_ok-low.ensures.continues (λ is. cc) in
+    subst (LacksPart three.graph) asked (lacks_both parts growth old.graph c.requires.tied.reduced o split one.graph first.tied.reduced first.extends.nodes two.graph three.graph second.extends.nodes (c.in_err-found.ensures.lacks (ap Err (came_from _ c.in_err-found.field-0.0 NodeLimit c.from_residual-in_err-found.ensures.1 is))))
