@@ -13,7 +13,7 @@ use Rattle.apply_and.proofs.Conjunctions.{u_high_below, v_high_below, u_low_belo
 use Rattle.apply_and.proofs.Closed.{split_level}
 use Rattle.apply_and.proofs.HandedOn.{handed_on, came_from}
 use Rattle.apply_and.proofs.Named.{IsNewJust-within, NamesOnly-same, NamesOnly-further, NamesOnly-kept}
-use Rattle.apply_and.proofs.Made.{made_high, made_low, made_all, reached_all, lacks_high, lacks_low, lacks_both}
+use Rattle.apply_and.proofs.Made.{made_high, made_low, made_all, reached_all, lacks_high, lacks_low, lacks_both, not_plain}
 use Rattle.apply_and.proofs.conjoin.+and.Goals as goal
 
 pub returns-in-Some-clause-conjoined : goal.returns-in-Some-clause-conjoined
@@ -343,3 +343,21 @@ returns-in_err-found-clause-lacks g t c is =
     let three = c.finish.new.table in
     let second : Continues g.S.Sink.tells (g.S.Sink.channel one.book.sink) (g.S.Sink.channel two.book.sink) one two = c.in_ok-low.ensures.continues (λ is. cc) in
     subst (LacksPart three.graph) asked (lacks_both parts growth old.graph c.requires.tied.reduced o split one.graph first.tied.reduced first.extends.nodes two.graph three.graph second.extends.nodes (c.in_err-found.ensures.lacks (ap Err (came_from _ c.in_err-found.field-0.0 NodeLimit c.from_residual-in_err-found.ensures.1 is))))
+
+pub returns-in-Some-look-clause-plain : goal.returns-in-Some-look-clause-plain
+returns-in-Some-look-clause-plain g t c w plain = absurd (not_plain c.args.u c.args.v w c.in_default.ensures.conjoined.0 c.in_default.ensures.conjoined.1 c.in_default.ensures.conjoined.2 plain)
+
+pub returns-in_err-high-clause-plain : goal.returns-in_err-high-clause-plain
+returns-in_err-high-clause-plain g t c w plain = absurd (not_plain c.args.u c.args.v w c.in_default.ensures.conjoined.0 c.in_default.ensures.conjoined.1 c.in_default.ensures.conjoined.2 plain)
+
+pub returns-in_err-low-clause-plain : goal.returns-in_err-low-clause-plain
+returns-in_err-low-clause-plain g t c w plain = absurd (not_plain c.args.u c.args.v w c.in_default.ensures.conjoined.0 c.in_default.ensures.conjoined.1 c.in_default.ensures.conjoined.2 plain)
+
+pub returns-in_err-found-clause-plain : goal.returns-in_err-found-clause-plain
+returns-in_err-found-clause-plain g t c w plain = absurd (not_plain c.args.u c.args.v w c.in_default.ensures.conjoined.0 c.in_default.ensures.conjoined.1 c.in_default.ensures.conjoined.2 plain)
+
+pub returns-in_err-keep-clause-plain : goal.returns-in_err-keep-clause-plain
+returns-in_err-keep-clause-plain g t c w plain = absurd (not_plain c.args.u c.args.v w c.in_default.ensures.conjoined.0 c.in_default.ensures.conjoined.1 c.in_default.ensures.conjoined.2 plain)
+
+pub returns-clause-plain : goal.returns-clause-plain
+returns-clause-plain g t c w plain = absurd (not_plain c.args.u c.args.v w c.in_default.ensures.conjoined.0 c.in_default.ensures.conjoined.1 c.in_default.ensures.conjoined.2 plain)
