@@ -1,5 +1,5 @@
 -- Entries of the computed cache, as they are looked up and kept.
-use Rattle.std.proofs.Common.{◌≡◌, ◌⊎◌, ◌↔◌, Bool, true, false, List, map, Contains, None, Some, is_some, cond, arith, refl, sym, ap, ◌∙◌, subst, inl, inr}
+use Rattle.std.proofs.Common.{◌≡◌, ◌⊎◌, ◌↔◌, true, false, List, map, Contains, None, Some, is_some, cond, arith, refl, sym, ap, ◌∙◌, subst, inl, inr}
 use Rattle.std.specs.declared.cmp.Ordering.{Ordering}
 use Rattle.std.specs.declared.cmp.Ordering.TheVariants.{Equal}
 use Rattle.std.specs.Ordering.{ordering_then}
@@ -100,6 +100,6 @@ module _ (total : IsTotalOrder pair_cmp) where
         back : (entry ≡ entry_of ((u, v), value)) ⊎ (Contains (map entry_of m.entries) entry × (HasOperands entry u v → ⊥)) → Contains (map entry_of n.entries) entry
         back (inl is) = subst (Contains (map entry_of n.entries)) (sym is) (looked_up n ordered (u, v) value updates.1)
         back (inr old) = elim (cases_Bool (is_at (pair_cmp (u, v)) (entry.u, entry.v))) [
-            | inl at ↦ absurd (old.1 (same_key entry at))
-            | inr other ↦ looked_up n ordered (entry.u, entry.v) (entry.w, entry.just) (updates.2 (entry.u, entry.v) other ∙ found_in m was_ordered entry old.0)
-          ]
+          | inl at ↦ absurd (old.1 (same_key entry at))
+          | inr other ↦ looked_up n ordered (entry.u, entry.v) (entry.w, entry.just) (updates.2 (entry.u, entry.v) other ∙ found_in m was_ordered entry old.0)
+        ]

@@ -1,33 +1,30 @@
 -- The conjunction by its cofactors, and that it stays one as nodes and clauses are added.
-use Rattle.std.proofs.Common.{◌≡◌, ◌≢◌, ◌<◌, ◌≤◌, ◌+◌, ◌-◌, ◌&&◌, ◌||◌, ℕ, length, ℤ, pos, neg_ℤ, int_eq, Bool, true, false, List, [], ◌∷◌, Option, None, Some, is_some, refl, sym, ap, ◌∙◌, subst, arith, inl, inr, ◌⊎◌}
-use Rattle.std.specs.Prelude.{IsTrue, if◌then◌else◌, Contains, min}
+use Rattle.std.proofs.Common.{◌≡◌, ◌<◌, ◌≤◌, ◌+◌, ◌-◌, ◌&&◌, ◌||◌, ℕ, pos, neg_ℤ, int_eq, Bool, true, false, List, [], ◌∷◌, is_some, sym, ap, ◌∙◌, subst, arith, inl, inr, ◌⊎◌}
+use Rattle.std.specs.Prelude.{if◌then◌else◌, min}
 use Rattle.std.specs.List.{list_any}
 use Rattle.std.proofs.Math.IntN.{neg_ℤ-neg_ℤ}
 use Rattle.std.proofs.lemmas.Bool.{or_left, or_right}
 use Rattle.std.proofs.lemmas.Bool.Decides.{Decides-int_eq}
 use Rattle.lrat_rules.specs.State.{Live}
 use Rattle.hint_chain.specs.declared.atom.Atom.{Atom}
-use Rattle.hint_chain.specs.declared.atom.Atom.TheVariants.{Always, Never, Of}
+use Rattle.hint_chain.specs.declared.atom.Atom.TheVariants.{Of}
 use Rattle.hint_chain.specs.Atoms.{neg_atom, is_literal, is_trivial}
 use Rattle.hint_chain.specs.Additions.{conjunction}
 use Rattle.node_table.specs.declared.node.Node.{Node}
-use Rattle.node_table.specs.declared.node.Node.TheVariants.{False, True, Inner}
 use Rattle.node_table.specs.declared.node.Just.{Just}
-use Rattle.node_table.specs.declared.node.Branch.{Branch}
-use Rattle.node_table.specs.Diagram.{Graph, IsReduced, IsBelow, KeepsNodes, branch_at, branch_of, is_node, levels, level_of, high_at, low_at}
+use Rattle.node_table.specs.Diagram.{Graph, IsReduced, IsBelow, KeepsNodes, branch_of, is_node, level_of}
 use Rattle.node_table.specs.Value.{Levels, value_of}
 use Rattle.node_table.specs.Defined.{atom_of, atom_in}
 use Rattle.node_table.specs.Tied.{KeepsClauses}
 use Rattle.node_table.specs.Just.{IsJustified}
 use Rattle.node_table.specs.Table.{HasChildren}
 use Rattle.apply_and.specs.declared.operands.Operands.{Operands}
-use Rattle.apply_and.specs.declared.parts.Side.TheVariants.{High, Low}
 use Rattle.apply_and.specs.Operands.{AreSplit, IsInner}
 use Rattle.apply_and.specs.Conjunction.{conjunction_atoms, Conjoined}
-use Rattle.apply_and.specs.Cache.{Entry, FitsEntry, Fits}
-use Rattle.apply_and.specs.Additions.{IsSide, AreSides}
+use Rattle.apply_and.specs.Cache.{Entry, Fits}
+use Rattle.apply_and.specs.Additions.{AreSides}
 use Rattle.apply_and.proofs.Laws.{Cofactors, Growth}
-use Rattle.apply_and.proofs.NodeParts.{IsAt, IsAt-from}
+use Rattle.apply_and.proofs.NodeParts.{IsAt-from}
 use Rattle.apply_and.proofs.Closed.{split_level}
 
 pub inner_stands : (graph : Graph) (node : Node) → IsInner graph node → is_node graph node ≡ true

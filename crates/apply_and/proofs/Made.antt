@@ -1,11 +1,10 @@
 -- The nodes that a conjunction makes are subfunctions of it, and reachable from its result.
-use Rattle.std.proofs.Common.{◌≡◌, ◌≢◌, ◌+◌, ℕ, ◌&&◌, true, false, Bool, Ok, Result, refl, sym, ap, ◌∙◌, subst, inl, inr, ◌⊎◌}
-use Rattle.std.specs.Prelude.{IsTrue, if◌then◌else◌}
+use Rattle.std.proofs.Common.{◌≡◌, ◌≢◌, ◌+◌, ℕ, ◌&&◌, true, false, Bool, sym, ◌∙◌, subst, inl, inr, ◌⊎◌}
 use Rattle.node_table.specs.declared.node.Node.{Node}
 use Rattle.node_table.specs.declared.node.Just.{Just}
 use Rattle.lrat_rules.specs.State.{Live}
-use Rattle.node_table.specs.Diagram.{Graph, IsReduced, IsBelow, KeepsNodes, is_node, levels, high_at, low_at}
-use Rattle.node_table.specs.Value.{Levels, value_of, fixed_to, IsSubfunction}
+use Rattle.node_table.specs.Diagram.{Graph, IsReduced, KeepsNodes, is_node}
+use Rattle.node_table.specs.Value.{Levels, value_of, IsSubfunction}
 use Rattle.node_table.specs.Table.{HasChildren, IsWanted}
 use Rattle.node_table.specs.Made.{LacksPart, MakesOnly, Reaches, ReachesNew}
 use Rattle.apply_and.specs.declared.operands.Operands.{Operands}
@@ -33,7 +32,7 @@ module _ (parts : Parts) (graph : Graph) (reduced : IsReduced graph) (o : Operan
         same = λ a.
             (λ i. value_of graph a (split.first_high i) && value_of graph a (split.second_high i))
             ∙ (λ i. parts.high_value graph reduced o.level o.u (inner_stands graph o.u split.first) split.first_below small a i
-                && parts.high_value graph reduced o.level o.v (inner_stands graph o.v split.second) split.second_below small a i);
+            && parts.high_value graph reduced o.level o.v (inner_stands graph o.v split.second) split.second_below small a i);
       }
 
   low_part : IsSubfunction (conjunction_of graph o.u o.v) (conjunction_of graph o.u_low o.v_low)
@@ -45,7 +44,7 @@ module _ (parts : Parts) (graph : Graph) (reduced : IsReduced graph) (o : Operan
         same = λ a.
             (λ i. value_of graph a (split.first_low i) && value_of graph a (split.second_low i))
             ∙ (λ i. parts.low_value graph reduced o.level o.u (inner_stands graph o.u split.first) split.first_below small a i
-                && parts.low_value graph reduced o.level o.v (inner_stands graph o.v split.second) split.second_below small a i);
+            && parts.low_value graph reduced o.level o.v (inner_stands graph o.v split.second) split.second_below small a i);
       }
 
 -- the function stays as the graph grows

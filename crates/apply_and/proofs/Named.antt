@@ -1,9 +1,9 @@
 -- Entries whose clauses came since, through one call after another.
-use Rattle.std.proofs.Common.{◌≡◌, ◌≤◌, ◌<◌, ◌⊎◌, ℕ, List, Contains, ap, ◌∙◌, sym, subst, arith, inl, inr}
+use Rattle.std.proofs.Common.{◌≡◌, ◌≤◌, ◌<◌, ◌⊎◌, ℕ, List, Contains, sym, subst, arith, inl, inr}
 use Rattle.lrat_rules.specs.State.{State}
 use Rattle.node_table.specs.declared.node.Just.{Just}
 use Rattle.node_table.specs.declared.node.Just.TheVariants.{Clause}
-use Rattle.apply_and.specs.Cache.{Entry, HasOperands, IsNewJust, NamesOnly}
+use Rattle.apply_and.specs.Cache.{Entry, IsNewJust, NamesOnly}
 
 -- a clause of this number
 pub IsNewJust-clause : (old new : State) (id : ℕ) → old.top < id → id ≤ new.top → IsNewJust old new (Clause id)

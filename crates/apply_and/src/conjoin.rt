@@ -20,8 +20,8 @@ use crate::operands::{Operands, split};
 use crate::steps::join;
 use host_io::Sink;
 use node_table::{
-    Just, Node, Table, TableError, cofactor_law, growth_law, missing_law, progress_law,
-    reach_law, subfunction_law,
+    Just, Node, Table, TableError, cofactor_law, growth_law, missing_law, progress_law, reach_law,
+    subfunction_law,
 };
 use std::alloc::Global;
 

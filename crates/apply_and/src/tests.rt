@@ -198,7 +198,11 @@ fn each_pair(rt: &impl Abort, alloc: Global, reversed: bool) -> Result<(), Fail>
             let u = *nodes.get(i).ok_or("no node")?;
             let v = *nodes.get(j).ok_or("no node")?;
             let (w, _) = conjoin(&mut table, &mut cache, u, v)?;
-            assert_eq!(rt; w, *nodes.get(i & j).ok_or("no node")?, "{reversed} {i} {j}");
+            assert_eq!(rt;
+                w,
+                *nodes.get(i & j).ok_or("no node")?,
+                "{reversed} {i} {j}"
+            );
             assert!(rt; is_conjunction(&table, u, v, w), "{reversed} {i} {j}");
         }
     }
@@ -318,7 +322,13 @@ fn refusal(
 ) -> Result<Option<TableError>, Fail>
     requires few { max_nodes ≤ 100000000 }
 {
-    let mut table = open(alloc, false, ProofText::new(alloc, writes), max_nodes, max_ids)?;
+    let mut table = open(
+        alloc,
+        false,
+        ProofText::new(alloc, writes),
+        max_nodes,
+        max_ids,
+    )?;
     let n = five_nodes(&mut table)?;
     let mut cache = AndCache::new(alloc, 1)?;
     if !is_known(&table, n.u) || !is_known(&table, n.v) {

@@ -1,18 +1,15 @@
-use Rattle.std.proofs.Common.{◌≡◌, ◌≢◌, ◌∙◌, ◌⊎◌, ◌&&◌, ap, sym, subst, true, arith, Ok, Err, inl, inr}
-use Rattle.hint_chain.specs.Atoms.{is_trivial}
+use Rattle.std.proofs.Common.{◌≡◌, ◌⊎◌, ap, sym, subst, true, arith, Err, inl, inr}
 use Rattle.node_table.specs.declared.error.TableError.TheVariants.{NodeLimit, WriteFault}
 use Rattle.node_table.specs.declared.node.Just.TheVariants.{Trivial}
 use Rattle.node_table.specs.declared.node.Node.{Node}
-use Rattle.node_table.specs.Diagram.{Graph, IsReduced, is_node}
+use Rattle.node_table.specs.Diagram.{Graph, is_node}
 use Rattle.node_table.specs.Made.{LacksPart, MakesOnly}
-use Rattle.node_table.specs.Value.{Levels, value_of}
 use Rattle.node_table.specs.Just.{IsJustified}
 use Rattle.node_table.specs.Progress.{Continues}
 use Rattle.apply_and.specs.Conjunction.{conjunction_atoms, conjunction_of, Conjoined}
-use Rattle.apply_and.specs.Operands.{AreSplit}
 use Rattle.apply_and.proofs.Laws.{Cofactors, Growth, Parts}
 use Rattle.apply_and.proofs.Closed.{split_level}
-use Rattle.apply_and.proofs.Conjunctions.{u_high_below, v_high_below, u_low_below, v_low_below, found_below, conjoined_from, trivial_operand, sides_from, split_kept, IsReady, ready_kept, conjoined_ready, value_ready, inner_stands}
+use Rattle.apply_and.proofs.Conjunctions.{u_high_below, v_high_below, u_low_below, v_low_below, found_below, trivial_operand, sides_from, split_kept, ready_kept, conjoined_ready, value_ready, inner_stands}
 use Rattle.apply_and.proofs.Made.{made_one, made_none, lacks_one}
 use Rattle.apply_and.proofs.HandedOn.{handed_on, came_from}
 use Rattle.apply_and.proofs.Named.{IsNewJust-within}
