@@ -1,23 +1,22 @@
 // One literal more on top of a clause's diagram: its node, and the part of it in the unit's path. (Bryant, Heule:
 // Generating Extended Resolution Proofs with a BDD-Based SAT Solver, 2021, section 5.)
-ghost use Rattle.std.specs.Prelude.{◌≡◌, ◌≢◌, ◌<◌, ◌+◌, ◌++◌, List, [], ◌∷◌, Err, IsTrue, OnOk, IfOk, false, length, reverse, drop, slice_index_or};
+ghost use Rattle.std.specs.Prelude.{◌≡◌, ◌≢◌, ◌<◌, ◌≤◌, ◌+◌, ◌++◌, List, [], ◌∷◌, Err, IsTrue, OnOk, IfOk, false, length, reverse, drop, slice_index_or};
 ghost use Rattle.std.specs.List.Sorted.{IsNonDecreasingBy};
-ghost use Rattle.clause_ledger.specs.Book.{OnlyWrites};
 ghost use Rattle.node_table.specs.declared.node.Node.TheVariants.{True};
 ghost use Rattle.node_table.specs.declared.error.TableError.TheVariants.{NodeLimit, IdLimit, WriteFault};
 ghost use Rattle.node_table.specs.Diagram.{IsBelow, branch_of, levels};
 ghost use Rattle.node_table.specs.Table.{UnlessTorn, live_nodes};
 ghost use Rattle.node_table.specs.Tied.{IsTied};
+ghost use Rattle.node_table.specs.Progress.{Continues, BreaksOff};
 ghost use Rattle.clause_terms.specs.declared.placed.Placed.{Placed as PlacedValue};
 ghost use Rattle.clause_terms.specs.Placed.{literal_at, HasNoOpposites, are_of_levels};
 ghost use Rattle.clause_terms.specs.ClauseDiagram.{IsDiagramOf, IsBefore, high_of, low_of, part_of};
-ghost use Rattle.clause_terms.specs.Progress.{GoesOn, IsCutOff};
 
 use crate::placed::Placed;
 use cnf_base::{Id, Lit, OutOfMemory};
 use hint_chain::{UnitPart, unit_path_law};
 use host_io::Sink;
-use node_table::{Node, Table, TableError, cofactor_law, growth_law};
+use node_table::{Node, Table, TableError, cofactor_law, growth_law, progress_law};
 
 // The node of a literal over the node of the later ones.
 fn add_literal<S: Sink + Drop>(
@@ -33,18 +32,15 @@ fn add_literal<S: Sink + Drop>(
     requires not_true { below ≢ True }
     ensures diagram { (more : List PlacedValue) → IsBefore placed.now.level more → IsDiagramOf table.old.graph table.old.book.state.live more below (reverse path.old.items)
         → IfOk result (λ node. IsDiagramOf table.new.graph table.new.book.state.live (placed.now ∷ more) node (reverse path.new.items)) }
-    ensures goes_on { UnlessTorn result (GoesOn S.tells S.channel table.old table.new) }
-    ensures node_limit { result ≡ Err NodeLimit → live_nodes table.new.graph ≡ table.new.max_nodes }
+    ensures continues { UnlessTorn result (Continues S.tells (S.channel table.old.book.sink) (S.channel table.new.book.sink) table.old table.new) }
+    ensures node_limit { result ≡ Err NodeLimit → table.new.max_nodes ≤ live_nodes table.new.graph }
     ensures id_limit { result ≡ Err IdLimit → table.new.book.limit < table.new.book.state.top + 4 }
-    ensures write_fault { result ≡ Err WriteFault → IsCutOff S.tells S.channel table.old table.new }
-    ensures limits { (table.new.max_nodes ≡ table.old.max_nodes) × (table.new.book.limit ≡ table.old.book.limit) }
-    ensures only_writes { OnlyWrites (S.channel table.old.book.sink) (S.channel table.new.book.sink) }
+    ensures broken { result ≡ Err WriteFault → BreaksOff S.tells (S.channel table.old.book.sink) (S.channel table.new.book.sink) table.old table.new }
     ensures beside { S.beside table.new.book.sink ≡ S.beside table.old.book.sink }
 {
     growth_law();
     cofactor_law();
     unit_path_law();
-    let _ = table.live();
     let (high, low) = children(placed, below);
     let node = table.node(placed.level, high, low)?;
     let part = part_of(table, placed, node);
@@ -139,14 +135,13 @@ pub fn take_literal<S: Sink + Drop>(
     requires signs { HasNoOpposites placed.now }
     requires diagram { IsDiagramOf table.old.graph table.old.book.state.live (drop (i + 1) placed.now) below (reverse path.old.items) }
     ensures diagram { IfOk result (λ node. IsDiagramOf table.new.graph table.new.book.state.live (drop i placed.now) node (reverse path.new.items)) }
-    ensures goes_on { UnlessTorn result (GoesOn S.tells S.channel table.old table.new) }
-    ensures node_limit { result ≡ Err NodeLimit → live_nodes table.new.graph ≡ table.new.max_nodes }
+    ensures continues { UnlessTorn result (Continues S.tells (S.channel table.old.book.sink) (S.channel table.new.book.sink) table.old table.new) }
+    ensures node_limit { result ≡ Err NodeLimit → table.new.max_nodes ≤ live_nodes table.new.graph }
     ensures id_limit { result ≡ Err IdLimit → table.new.book.limit < table.new.book.state.top + 4 }
-    ensures write_fault { result ≡ Err WriteFault → IsCutOff S.tells S.channel table.old table.new }
-    ensures limits { (table.new.max_nodes ≡ table.old.max_nodes) × (table.new.book.limit ≡ table.old.book.limit) }
-    ensures only_writes { OnlyWrites (S.channel table.old.book.sink) (S.channel table.new.book.sink) }
+    ensures broken { result ≡ Err WriteFault → BreaksOff S.tells (S.channel table.old.book.sink) (S.channel table.new.book.sink) table.old table.new }
     ensures beside { S.beside table.new.book.sink ≡ S.beside table.old.book.sink }
 {
+    progress_law::<S>();
     unit_path_law();
     if is_repeated(placed, i) {
         return Ok(below);
