@@ -7,3 +7,4 @@ pub mod AddedLiteral
 pub mod Taken
 pub mod Down
 pub mod Set
+pub mod Ordered

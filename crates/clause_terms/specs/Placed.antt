@@ -2,7 +2,7 @@
 use Rattle.std.specs.Prelude.{◌≡◌, ◌+◌, ◌<◌, ◌==◌, ◌&&◌, ℕ, Bool, not, ℤ, pos, neg_ℤ, List, length, map, IsPermutation, IsTrue, nat_lt, if◌then◌else◌, slice_index_or}
 use Rattle.std.specs.List.{list_all}
 use Rattle.std.specs.List.Sorted.{IsNonDecreasingBy}
-use Rattle.std.specs.Bool.{xor}
+use Rattle.std.specs.Bool.{beq}
 use Rattle.node_table.specs.Diagram.{Graph, levels, variable_at}
 use Rattle.node_table.specs.Value.{Levels}
 use Rattle.clause_terms.specs.declared.placed.Placed.{Placed}
@@ -20,7 +20,7 @@ are_of_levels graph placed = list_all (λ p. nat_lt p.level (levels graph)) plac
 
 -- both signs of a variable
 abbrev pub are_opposites : Placed → Placed → Bool
-are_opposites one other = one.level == other.level && xor one.negative other.negative
+are_opposites one other = one.level == other.level && not (beq one.negative other.negative)
 
 -- no two neighbours are of both signs of a variable
 abbrev pub HasNoOpposites : List Placed → Type 0

@@ -1,5 +1,6 @@
 -- A node as a term: its function, and the live clause that proves it.
-use Rattle.std.specs.Prelude.{◌≡◌, Bool, true, ℤ, pos, ℕ, List, [], ◌∷◌, Some, IsTrue}
+use Rattle.std.specs.Prelude.{◌≡◌, ◌==◌, Bool, true, ℤ, pos, ℕ, List, [], ◌∷◌, Some, IsTrue}
+use Rattle.std.specs.List.{position_or_len}
 use Rattle.cnf_base.specs.Truth.{Assignment, clause_holds}
 use Rattle.lrat_rules.specs.State.{Live, clause_at}
 use Rattle.hint_chain.specs.declared.unit.UnitPart.{UnitPart}
@@ -10,7 +11,7 @@ use Rattle.node_table.specs.declared.node.Branch.{Branch}
 use Rattle.node_table.specs.Diagram.{Graph, branch_of, is_node}
 use Rattle.node_table.specs.Defined.{atom_of}
 use Rattle.node_table.specs.Just.{IsJustified}
-use Rattle.node_table.specs.Value.{by_level, value_of}
+use Rattle.node_table.specs.Value.{Levels, by_level, value_of}
 
 -- A node that holds exactly where a function of the assignment does, and the live clause of its literal: none where the node is True, the empty
 -- clause where it is False.
@@ -18,6 +19,14 @@ pub record IsTerm (graph : Graph) (live : Live) (holds : Assignment → Bool) (n
   pub stands : IsTrue (is_node graph node)
   pub value : (a : Assignment) → value_of graph (by_level graph.order a) node ≡ holds a
   pub proved : IsJustified live (atom_of graph node ∷ []) unit
+
+-- the assignment with these values by levels
+abbrev pub by_variable : List ℕ → Levels → Assignment
+by_variable order a variable = a (position_or_len (λ x. x == variable) order)
+
+-- the function of a clause, by levels
+abbrev pub clause_function : List ℕ → List ℤ → Levels → Bool
+clause_function order clause a = clause_holds (by_variable order a) clause
 
 -- the clause holds under each assignment
 abbrev pub IsTautology : List ℤ → Type 0

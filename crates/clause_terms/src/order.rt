@@ -6,7 +6,7 @@ ghost use Rattle.cnf_base.specs.Truth.{is_literal_of};
 ghost use Rattle.node_table.specs.Diagram.{levels};
 ghost use Rattle.node_table.specs.Value.{Levels};
 ghost use Rattle.clause_terms.specs.declared.placed.Placed.{Placed as PlacedValue};
-ghost use Rattle.clause_terms.specs.Placed.{literal_at, placed_holds, are_of_levels, HasNoOpposites, AreInOrder};
+ghost use Rattle.clause_terms.specs.Placed.{literal_at, placed_holds, are_of_levels, HasNoOpposites, AreInOrder, are_opposites};
 
 use crate::placed::Placed;
 use cnf_base::{Lit, OutOfMemory};
