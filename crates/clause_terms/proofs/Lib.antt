@@ -8,3 +8,5 @@ pub mod Taken
 pub mod Down
 pub mod Set
 pub mod Ordered
+pub mod HandedOn
+pub mod ClauseTerm
