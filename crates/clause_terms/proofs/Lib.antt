@@ -10,3 +10,5 @@ pub mod Set
 pub mod Ordered
 pub mod HandedOn
 pub mod ClauseTerm
+pub mod ClauseParts
+pub mod MadeNodes

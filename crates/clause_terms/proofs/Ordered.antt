@@ -108,7 +108,7 @@ pub same_function : (graph : Graph) → IsOrder graph.order → (clause : List �
 same_function graph ordered clause placed in_order a = same_values graph ordered (by_variable graph.order a) a (value_there graph ordered a) clause placed in_order
 
 -- without opposites all literals are false where each level has the sign of its literals
-not_held : (a : Levels) (p : Placed) → a p.level ≡ p.negative → placed_holds a p ≡ false
+pub not_held : (a : Levels) (p : Placed) → a p.level ≡ p.negative → placed_holds a p ≡ false
 not_held a p is = ap (λ t. if p.negative then not t else t) is ∙ by_sign p.negative where
   by_sign : (m : Bool) → (if m then not m else m) ≡ false
   by_sign true = refl
@@ -118,7 +118,7 @@ not_held a p is = ap (λ t. if p.negative then not t else t) is ∙ by_sign p.ne
 abbrev Falsifies : ℕ → List Placed → Levels → Type 0
 Falsifies level placed a = (other : Levels) → ((l : ℕ) → level ≤ l → other l ≡ a l) → list_any (placed_holds other) placed ≡ false
 
-later_signs : (p : Placed) (rest : List Placed) → HasNoOpposites (p ∷ rest) → HasNoOpposites rest
+pub later_signs : (p : Placed) (rest : List Placed) → HasNoOpposites (p ∷ rest) → HasNoOpposites rest
 later_signs p rest none i d small level =
     let shift : suc i + 1 ≡ suc (i + 1) = omega arith in
     none (suc i) d (omega (arith, small)) (level ∙ ap (λ k. (slice_index_or (p ∷ rest) k d).level) (sym shift)) ∙ ap (λ k. (slice_index_or (p ∷ rest) k d).negative) shift

@@ -19,7 +19,7 @@ abbrev pub SameSetLaw : Type 0
 SameSetLaw = (live : Live) (path : List UnitPart) (nodes clause other : List ℤ)
     → ((x : ℤ) → literals_of other x ≡ literals_of clause x) → IsUnitPath live path nodes clause → IsUnitPath live path nodes other
 
-or_again : (t r : Bool) → (t || r) ≡ (t || (t || r))
+pub or_again : (t r : Bool) → (t || r) ≡ (t || (t || r))
 or_again true r = refl
 or_again false r = refl
 

@@ -1,6 +1,6 @@
 -- The literals of a clause by the levels of their variables.
 use Rattle.std.specs.Prelude.{◌≡◌, ◌+◌, ◌<◌, ◌==◌, ◌&&◌, ℕ, Bool, not, ℤ, pos, neg_ℤ, List, length, map, IsPermutation, IsTrue, nat_lt, if◌then◌else◌, slice_index_or}
-use Rattle.std.specs.List.{list_all}
+use Rattle.std.specs.List.{list_all, list_any}
 use Rattle.std.specs.List.Sorted.{IsNonDecreasingBy}
 use Rattle.std.specs.Bool.{beq}
 use Rattle.node_table.specs.Diagram.{Graph, levels, variable_at}
@@ -13,6 +13,10 @@ literal_at graph placed = if placed.negative then neg_ℤ (pos (variable_at grap
 
 abbrev pub placed_holds : Levels → Placed → Bool
 placed_holds a placed = if placed.negative then not (a placed.level) else a placed.level
+
+-- the function of literals, by levels: it holds where one of them does
+abbrev pub placed_function : List Placed → Levels → Bool
+placed_function placed a = list_any (placed_holds a) placed
 
 -- each is of one of the graph's levels
 abbrev pub are_of_levels : Graph → List Placed → Bool

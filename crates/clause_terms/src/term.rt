@@ -1,7 +1,7 @@
 // A clause of the formula as a term: its diagram from the last literal up, and the unit of the top node. (Bryant, Heule:
 // Generating Extended Resolution Proofs with a BDD-Based SAT Solver, 2021, section 5.)
 ghost use Rattle.std.specs.Prelude.{◌≡◌, ◌≢◌, ◌<◌, ◌≤◌, ◌+◌, [], ◌∷◌, Err, IsTrue, IfOk, IfErr, Some};
-ghost use Rattle.std.specs.List.{list_all};
+ghost use Rattle.std.specs.List.{list_all, list_any};
 ghost use Rattle.std.specs.List.Sorted.{IsNonDecreasingBy};
 ghost use Rattle.cnf_base.specs.Truth.{clause_holds, is_literal_of};
 ghost use Rattle.lrat_rules.specs.State.{clause_at};
@@ -11,13 +11,14 @@ ghost use Rattle.node_table.specs.declared.node.Just.TheVariants.{Trivial, Claus
 ghost use Rattle.node_table.specs.Defined.{atom_of};
 ghost use Rattle.node_table.specs.Diagram.{levels};
 ghost use Rattle.node_table.specs.Just.{IsJustified};
+ghost use Rattle.node_table.specs.Made.{MakesOnly};
 ghost use Rattle.node_table.specs.Progress.{Continues, BreaksOff};
 ghost use Rattle.node_table.specs.Table.{UnlessTorn, live_nodes};
 ghost use Rattle.node_table.specs.Tied.{IsTied};
 ghost use Rattle.clause_terms.specs.declared.placed.Placed.{Placed as PlacedValue};
 ghost use Rattle.clause_terms.specs.ClauseDiagram.{IsDiagramOf};
-ghost use Rattle.clause_terms.specs.Placed.{are_of_levels, HasNoOpposites};
-ghost use Rattle.clause_terms.specs.Term.{IsTerm, IsTautology, HasUnitPath};
+ghost use Rattle.clause_terms.specs.Placed.{placed_holds, placed_function, are_of_levels, HasNoOpposites};
+ghost use Rattle.clause_terms.specs.Term.{clause_function, IsTerm, IsTautology, HasUnitPath};
 
 use crate::order::{has_opposites, in_order};
 use crate::placed::Placed;
@@ -26,7 +27,7 @@ use cnf_base::{Id, Lit};
 use hint_chain::{UnitPart, unit_hints, unit_law, unit_path_law};
 use host_io::Sink;
 use lrat_rules::live_law;
-use node_table::{Just, Node, Table, TableError, growth_law, progress_law};
+use node_table::{Just, Node, Table, TableError, progress_law, subfunction_law};
 use std::alloc::Global;
 
 /// The term of a clause of the formula, which is live under the number `input`. A clause with both signs of a variable
@@ -43,6 +44,7 @@ pub fn push_clause<S: Sink + Drop>(
     requires variables { IsTrue (list_all (is_literal_of (levels table.old.graph)) clause.now) }
     requires some { clause.now ≢ [] }
     ensures term { IfOk result (λ found. IsTerm table.new.graph table.new.book.state.live (λ a. clause_holds a clause.now) found.0 found.1) }
+    ensures made { UnlessTorn result (MakesOnly table.old.graph table.new.graph (clause_function table.old.graph.order clause.now)) }
     ensures continues { UnlessTorn result (Continues S.tells (S.channel table.old.book.sink) (S.channel table.new.book.sink) table.old table.new) }
     ensures tautology { IsTautology clause.now → (table.new ≡ table.old) × IfOk result (λ found. (found.0 ≡ True) × (found.1 ≡ Trivial)) × IfErr result (λ e. e ≡ OutOfMemory) }
     // The limits, each where it is met, and a failed write.
@@ -52,6 +54,7 @@ pub fn push_clause<S: Sink + Drop>(
     ensures beside { S.beside table.new.book.sink ≡ S.beside table.old.book.sink }
 {
     progress_law::<S>();
+    subfunction_law();
     unit_path_law();
     table.is_reduced();
     let placed = in_order(alloc, table, clause)?;
@@ -75,6 +78,7 @@ fn build<S: Sink + Drop>(
     requires sorted { IsNonDecreasingBy (λ (p : PlacedValue). p.level) placed.now }
     requires signs { HasNoOpposites placed.now }
     ensures diagram { IfOk result (λ found. IsDiagramOf table.new.graph table.new.book.state.live placed.now found.0 found.1.items) }
+    ensures made { UnlessTorn result (MakesOnly table.old.graph table.new.graph (placed_function placed.now)) }
     ensures continues { UnlessTorn result (Continues S.tells (S.channel table.old.book.sink) (S.channel table.new.book.sink) table.old table.new) }
     ensures node_limit { result ≡ Err NodeLimit → table.new.max_nodes ≤ live_nodes table.new.graph }
     ensures id_limit { result ≡ Err IdLimit → table.new.book.limit < table.new.book.state.top + 4 }
@@ -82,6 +86,7 @@ fn build<S: Sink + Drop>(
     ensures beside { S.beside table.new.book.sink ≡ S.beside table.old.book.sink }
 {
     progress_law::<S>();
+    subfunction_law();
     let mut node = Node::False;
     let mut path = Vec::new(alloc);
     let mut i = placed.len();

@@ -1,5 +1,8 @@
 use Rattle.std.proofs.Common.{◌≡◌, ◌≤◌, drop, length, reverse}
+use Rattle.std.specs.List.{list_any}
+use Rattle.node_table.specs.Made.{MakesOnly}
 use Rattle.node_table.specs.Progress.{Continues}
+use Rattle.clause_terms.specs.Placed.{placed_holds, placed_function}
 use Rattle.clause_terms.specs.ClauseDiagram.{IsDiagramOf}
 use Rattle.clause_terms.proofs.term.build.Given as goal
 
@@ -7,6 +10,7 @@ abbrev pub invariant-literals : goal.invariant-literals
 invariant-literals g l = record {
   within : l.i ≤ length l.placed;
   diagram : IsDiagramOf l.table.graph l.table.book.state.live (drop l.i l.placed) l.node (reverse l.path.items);
+  made : MakesOnly l.fn.table.graph l.table.graph (placed_function l.placed);
   continues : Continues g.S.Sink.tells (g.S.Sink.channel l.fn.table.book.sink) (g.S.Sink.channel l.table.book.sink) l.fn.table l.table;
   beside : g.S.Sink.beside l.table.book.sink ≡ g.S.Sink.beside l.fn.table.book.sink;
 }

@@ -5,13 +5,15 @@ use Rattle.node_table.specs.declared.node.Just.TheVariants.{Clause}
 use Rattle.node_table.specs.Defined.{atom_of}
 use Rattle.node_table.specs.Diagram.{Graph}
 use Rattle.node_table.specs.Just.{IsJustified}
+use Rattle.node_table.specs.Made.{MakesOnly}
 use Rattle.node_table.specs.Progress.{Continues}
 use Rattle.cnf_base.specs.Truth.{clause_holds}
 use Rattle.clause_terms.specs.declared.placed.Placed.{Placed}
 use Rattle.clause_terms.specs.ClauseDiagram.{IsDiagramOf}
-use Rattle.clause_terms.specs.Placed.{AreInOrder, HasNoOpposites}
-use Rattle.clause_terms.specs.Term.{IsTerm, HasUnitPath}
-use Rattle.clause_terms.proofs.Ordered.{no_tautology}
+use Rattle.clause_terms.specs.Placed.{placed_function, AreInOrder}
+use Rattle.clause_terms.specs.Term.{clause_function, IsTerm, HasUnitPath}
+use Rattle.clause_terms.proofs.Ordered.{no_tautology, same_function}
+use Rattle.clause_terms.proofs.MadeNodes.{by_values}
 use Rattle.clause_terms.proofs.ClauseTerm.{still_in_order, unit_path, clause_term, true_term}
 use Rattle.clause_terms.proofs.HandedOn.{handed_on}
 use Rattle.clause_terms.proofs.term.push_clause.Goals as goal
@@ -40,6 +42,35 @@ add_unit-requires-clause-path g c =
     (unit_path c.unit_path_law.ensures.same_set mid.graph mid.book.state.live clause placed c.in_ok-node.node c.in_ok-node.path.items c.args.input
     (still_in_order old.graph mid.graph grown.extends.nodes.order clause placed in_order) c.requires.some c.in_ok-node.ensures.diagram
     (grown.extends.clauses c.args.input clause c.requires.live))
+
+pub returns-in_err-node-clause-made : goal.returns-in_err-node-clause-made
+returns-in_err-node-clause-made g c whole =
+    let clause = c.args.clause.now in
+    let placed = c.as_slice-2.result.now in
+    let in_order : AreInOrder c.args.table.now.graph clause placed = subst (AreInOrder c.args.table.now.graph clause) (sym c.as_slice-2.ensures.value) c.in_ok-placed.ensures in
+    by_values c.args.table.now.graph c.build.new.table.graph (placed_function placed) (clause_function c.args.table.now.graph.order clause)
+    (λ a. sym (same_function c.args.table.now.graph c.is_reduced.ensures.ordered clause placed in_order a))
+    (c.in_err-node.ensures.made (λ is. whole (handed_on _ c.in_err-node.field-0.0 WriteFault c.from_residual-in_err-node.ensures.1 (let same : c.in_err-node.field-0.0 ≡ WriteFault = cc in same))))
+
+pub returns-in_err-id-clause-made : goal.returns-in_err-id-clause-made
+returns-in_err-id-clause-made g c whole =
+    let old = c.args.table.now.graph in
+    let clause = c.args.clause.now in
+    let placed = c.as_slice-2.result.now in
+    let in_order : AreInOrder old clause placed = subst (AreInOrder old clause) (sym c.as_slice-2.ensures.value) c.in_ok-placed.ensures in
+    subst (λ (new : Graph). MakesOnly old new (clause_function old.order clause)) (sym c.in_err-id.ensures.nodes)
+    (by_values old c.build.new.table.graph (placed_function placed) (clause_function old.order clause) (λ a. sym (same_function old c.is_reduced.ensures.ordered clause placed in_order a))
+    (c.in_ok-node.ensures.made (λ is. cc)))
+
+pub returns-clause-made : goal.returns-clause-made
+returns-clause-made g c whole =
+    let old = c.args.table.now.graph in
+    let clause = c.args.clause.now in
+    let placed = c.as_slice-2.result.now in
+    let in_order : AreInOrder old clause placed = subst (AreInOrder old clause) (sym c.as_slice-2.ensures.value) c.in_ok-placed.ensures in
+    subst (λ (new : Graph). MakesOnly old new (clause_function old.order clause)) (sym c.in_ok-id.ensures.nodes)
+    (by_values old c.build.new.table.graph (placed_function placed) (clause_function old.order clause) (λ a. sym (same_function old c.is_reduced.ensures.ordered clause placed in_order a))
+    (c.in_ok-node.ensures.made (λ is. cc)))
 
 pub returns-in_err-id-clause-continues : goal.returns-in_err-id-clause-continues
 returns-in_err-id-clause-continues g c whole =
