@@ -40,16 +40,16 @@ rest_part same p q rest sorted none =
     let up : p.level ≤ q.level = sorted 0 1 p (omega arith) (omega arith) in
     elim (cases_lt p.level q.level) [
       | inl less ↦ record {
-          level = p.level + 1;
-          fixed = λ l. p.negative;
-          same = λ a.
-              let b : Levels = fixed_to (p.level + 1) (λ l. p.negative) a in
-              let here : b p.level ≡ p.negative = cond-true (nat_lt p.level (p.level + 1)) p.negative (a p.level) (lt-ltb p.level (p.level + 1) (omega arith)) in
-              let rest_same = agree_from a b (p.level + 1)
-                  (λ l above. sym (cond-false (nat_lt l (p.level + 1)) p.negative (a l) (le-ltb l (p.level + 1) (omega (arith, above)))))
-                  q rest (later_sorted p (q ∷ rest) sorted) (omega (arith, less)) in
-              rest_same ∙ ap (λ t. t || list_any (placed_holds b) (q ∷ rest)) (sym (not_held b p here));
-        }
+        level = p.level + 1;
+        fixed = λ l. p.negative;
+        same = λ a.
+            let b : Levels = fixed_to (p.level + 1) (λ l. p.negative) a in
+            let here : b p.level ≡ p.negative = cond-true (nat_lt p.level (p.level + 1)) p.negative (a p.level) (lt-ltb p.level (p.level + 1) (omega arith)) in
+            let rest_same = agree_from a b (p.level + 1)
+            (λ l above. sym (cond-false (nat_lt l (p.level + 1)) p.negative (a l) (le-ltb l (p.level + 1) (omega (arith, above)))))
+            q rest (later_sorted p (q ∷ rest) sorted) (omega (arith, less)) in
+            rest_same ∙ ap (λ t. t || list_any (placed_holds b) (q ∷ rest)) (sym (not_held b p here));
+      }
       | inr no_less ↦
           let level : p.level ≡ q.level = omega (arith, up, no_less) in
           let negative : p.negative ≡ q.negative = none 0 p (omega arith) level in

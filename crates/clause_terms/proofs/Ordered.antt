@@ -23,15 +23,15 @@ one_holds : (one other : Placed) → are_opposites one other ≡ true → (a : L
 one_holds one other opposites a =
     let parts = and_parts (one.level == other.level) _ opposites in
     by_sign one.negative other.negative (a one.level) (a other.level) (ap a (eqb-true one.level other.level parts.0)) parts.1 where
-  by_sign : (m n s t : Bool) → s ≡ t → not (beq m n) ≡ true → ((if m then not s else s) || (if n then not t else t)) ≡ true
-  by_sign true true s t same differ = cc
-  by_sign false false s t same differ = cc
-  by_sign true false true true same differ = refl
-  by_sign true false true false same differ = cc
-  by_sign true false false t same differ = refl
-  by_sign false true true t same differ = refl
-  by_sign false true false false same differ = refl
-  by_sign false true false true same differ = cc
+      by_sign : (m n s t : Bool) → s ≡ t → not (beq m n) ≡ true → ((if m then not s else s) || (if n then not t else t)) ≡ true
+      by_sign true true s t same differ = cc
+      by_sign false false s t same differ = cc
+      by_sign true false true true same differ = refl
+      by_sign true false true false same differ = cc
+      by_sign true false false t same differ = refl
+      by_sign false true true t same differ = refl
+      by_sign false true false false same differ = refl
+      by_sign false true false true same differ = cc
 
 pub opposites_hold : (placed : List Placed) (i : ℕ) (d : Placed) → 0 < i → i < length placed → are_opposites (slice_index_or placed (i - 1) d) (slice_index_or placed i d) ≡ true
     → (a : Levels) → list_any (placed_holds a) placed ≡ true
@@ -44,11 +44,11 @@ opposites_hold placed i d some small opposites a = elim (cases_Bool (placed_hold
 same_sign : (one other : Placed) → are_opposites one other ≡ false → one.level ≡ other.level → one.negative ≡ other.negative
 same_sign one other none level =
     by_sign one.negative other.negative (ap (λ b. b && not (beq one.negative other.negative)) (sym (eq-eqb one.level other.level level)) ∙ none) where
-  by_sign : (m n : Bool) → not (beq m n) ≡ false → m ≡ n
-  by_sign true true e = refl
-  by_sign false false e = refl
-  by_sign true false e = cc
-  by_sign false true e = cc
+      by_sign : (m n : Bool) → not (beq m n) ≡ false → m ≡ n
+      by_sign true true e = refl
+      by_sign false false e = refl
+      by_sign true false e = cc
+      by_sign false true e = cc
 
 -- no opposites among the neighbours of the first literals
 abbrev pub NoneAmong : List Placed → ℕ → Type 0
@@ -133,17 +133,17 @@ falsified p (q ∷ rest) sorted none =
       | inl less ↦ (
         (λ l. if l == p.level then p.negative else more.0 l),
         λ other same. or_from (placed_holds other p) _
-        (not_held other p (same p.level (omega arith) ∙ cond-true _ _ _ (eq-eqb p.level p.level refl)))
-        (more.1 other (λ l above. same l (omega (arith, above, less)) ∙ cond-false _ _ _ (ne_eqb l p.level (λ e. omega (arith, e, above, less)))))
+            (not_held other p (same p.level (omega arith) ∙ cond-true _ _ _ (eq-eqb p.level p.level refl)))
+            (more.1 other (λ l above. same l (omega (arith, above, less)) ∙ cond-false _ _ _ (ne_eqb l p.level (λ e. omega (arith, e, above, less))))),
       )
       | inr no_less ↦ (
         more.0,
         λ other same.
-        let rest_false = more.1 other (λ l above. same l (omega (arith, above, up))) in
-        let level : p.level ≡ q.level = omega (arith, up, no_less) in
-        let negative : p.negative ≡ q.negative = none 0 p (omega arith) level in
-        let alike : placed_holds other p ≡ placed_holds other q = (λ i. if negative i then not (other (level i)) else other (level i)) in
-        or_from (placed_holds other p) _ (alike ∙ (or_parts (placed_holds other q) _ rest_false).0) rest_false
+            let rest_false = more.1 other (λ l above. same l (omega (arith, above, up))) in
+            let level : p.level ≡ q.level = omega (arith, up, no_less) in
+            let negative : p.negative ≡ q.negative = none 0 p (omega arith) level in
+            let alike : placed_holds other p ≡ placed_holds other q = (λ i. if negative i then not (other (level i)) else other (level i)) in
+            or_from (placed_holds other p) _ (alike ∙ (or_parts (placed_holds other q) _ rest_false).0) rest_false,
       )
     ]
 

@@ -14,3 +14,6 @@ pub use model::Model;
 pub use placed::Placed;
 pub use recovery::recover;
 pub use term::push_clause;
+
+#[cfg(test)]
+mod tests;

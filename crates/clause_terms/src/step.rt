@@ -8,10 +8,10 @@ ghost use Rattle.node_table.specs.declared.error.TableError.TheVariants.{NodeLim
 ghost use Rattle.node_table.specs.Diagram.{IsBelow, branch_of, levels};
 ghost use Rattle.node_table.specs.Made.{MakesOnly};
 ghost use Rattle.node_table.specs.Table.{HasChildren, UnlessTorn, live_nodes};
-ghost use Rattle.node_table.specs.Tied.{IsTied};
 ghost use Rattle.node_table.specs.Progress.{Continues, BreaksOff};
-ghost use Rattle.clause_terms.specs.declared.placed.Placed.{Placed as PlacedValue};
+ghost use Rattle.node_table.specs.Tied.{IsTied};
 ghost use Rattle.node_table.specs.Value.{Levels, value_of};
+ghost use Rattle.clause_terms.specs.declared.placed.Placed.{Placed as PlacedValue};
 ghost use Rattle.clause_terms.specs.Placed.{literal_at, placed_holds, placed_function, HasNoOpposites, are_of_levels};
 ghost use Rattle.clause_terms.specs.ClauseDiagram.{IsDiagramOf, IsBefore, high_of, low_of, part_of};
 
@@ -19,7 +19,53 @@ use crate::placed::Placed;
 use cnf_base::{Id, Lit, OutOfMemory};
 use hint_chain::{UnitPart, unit_path_law};
 use host_io::Sink;
-use node_table::{Node, Table, TableError, cofactor_law, growth_law, progress_law, subfunction_law};
+use node_table::{
+    Node, Table, TableError, cofactor_law, growth_law, progress_law, subfunction_law,
+};
+
+/// The diagram of the literals from this place on, over that of those behind it. A repetition adds nothing.
+pub fn take_literal<S: Sink + Drop>(
+    table: &mut Table<S>,
+    placed: &[Placed],
+    i: usize,
+    below: Node,
+    path: &mut Vec<UnitPart>,
+) -> Result<Node, TableError>
+    requires in_step { IsTrue table.old.book.in_step }
+    requires tied { IsTied table.old.graph table.old.book.state }
+    requires index { i < length placed.now }
+    requires levels { IsTrue (are_of_levels table.old.graph placed.now) }
+    requires sorted { IsNonDecreasingBy (λ (p : PlacedValue). p.level) placed.now }
+    requires signs { HasNoOpposites placed.now }
+    requires diagram { IsDiagramOf table.old.graph table.old.book.state.live (drop (i + 1) placed.now) below (reverse path.old.items) }
+    ensures diagram { IfOk result (λ node. IsDiagramOf table.new.graph table.new.book.state.live (drop i placed.now) node (reverse path.new.items)) }
+    ensures made { UnlessTorn result (MakesOnly table.old.graph table.new.graph (placed_function (drop i placed.now))) }
+    ensures continues { UnlessTorn result (Continues S.tells (S.channel table.old.book.sink) (S.channel table.new.book.sink) table.old table.new) }
+    ensures node_limit { result ≡ Err NodeLimit → table.new.max_nodes ≤ live_nodes table.new.graph }
+    ensures id_limit { result ≡ Err IdLimit → table.new.book.limit < table.new.book.state.top + 4 }
+    ensures broken { result ≡ Err WriteFault → BreaksOff S.tells (S.channel table.old.book.sink) (S.channel table.new.book.sink) table.old table.new }
+    ensures beside { S.beside table.new.book.sink ≡ S.beside table.old.book.sink }
+{
+    progress_law::<S>();
+    subfunction_law();
+    unit_path_law();
+    if is_repeated(placed, i) {
+        return Ok(below);
+    }
+    add_literal(table, &placed[i], below, path)
+}
+
+// Whether the next literal is of the same variable.
+fn is_repeated(placed: &[Placed], i: usize) -> bool
+    requires { i < length placed.now }
+    ensures same { IsTrue result → (d : PlacedValue) → (i + 1 < length placed.now) × ((slice_index_or placed.now i d).level ≡ (slice_index_or placed.now (i + 1) d).level) }
+    ensures other { result ≡ false → (d : PlacedValue) → i + 1 < length placed.now → (slice_index_or placed.now i d).level ≢ (slice_index_or placed.now (i + 1) d).level }
+{
+    match placed.get(i + 1) {
+        Some(next) => next.level == placed[i].level,
+        None => false,
+    }
+}
 
 // The node of a literal over the node of the later ones, with its part in the path.
 fn add_literal<S: Sink + Drop>(
@@ -135,48 +181,4 @@ fn literal<S: Sink + Drop>(table: &Table<S>, placed: &Placed) -> Lit
     } else {
         literal
     }
-}
-
-// Whether the next literal is of the same variable.
-fn is_repeated(placed: &[Placed], i: usize) -> bool
-    requires { i < length placed.now }
-    ensures same { IsTrue result → (d : PlacedValue) → (i + 1 < length placed.now) × ((slice_index_or placed.now i d).level ≡ (slice_index_or placed.now (i + 1) d).level) }
-    ensures other { result ≡ false → (d : PlacedValue) → i + 1 < length placed.now → (slice_index_or placed.now i d).level ≢ (slice_index_or placed.now (i + 1) d).level }
-{
-    match placed.get(i + 1) {
-        Some(next) => next.level == placed[i].level,
-        None => false,
-    }
-}
-
-/// The diagram of the literals from this place on, over that of those behind it. A repetition adds nothing.
-pub fn take_literal<S: Sink + Drop>(
-    table: &mut Table<S>,
-    placed: &[Placed],
-    i: usize,
-    below: Node,
-    path: &mut Vec<UnitPart>,
-) -> Result<Node, TableError>
-    requires in_step { IsTrue table.old.book.in_step }
-    requires tied { IsTied table.old.graph table.old.book.state }
-    requires index { i < length placed.now }
-    requires levels { IsTrue (are_of_levels table.old.graph placed.now) }
-    requires sorted { IsNonDecreasingBy (λ (p : PlacedValue). p.level) placed.now }
-    requires signs { HasNoOpposites placed.now }
-    requires diagram { IsDiagramOf table.old.graph table.old.book.state.live (drop (i + 1) placed.now) below (reverse path.old.items) }
-    ensures diagram { IfOk result (λ node. IsDiagramOf table.new.graph table.new.book.state.live (drop i placed.now) node (reverse path.new.items)) }
-    ensures made { UnlessTorn result (MakesOnly table.old.graph table.new.graph (placed_function (drop i placed.now))) }
-    ensures continues { UnlessTorn result (Continues S.tells (S.channel table.old.book.sink) (S.channel table.new.book.sink) table.old table.new) }
-    ensures node_limit { result ≡ Err NodeLimit → table.new.max_nodes ≤ live_nodes table.new.graph }
-    ensures id_limit { result ≡ Err IdLimit → table.new.book.limit < table.new.book.state.top + 4 }
-    ensures broken { result ≡ Err WriteFault → BreaksOff S.tells (S.channel table.old.book.sink) (S.channel table.new.book.sink) table.old table.new }
-    ensures beside { S.beside table.new.book.sink ≡ S.beside table.old.book.sink }
-{
-    progress_law::<S>();
-    subfunction_law();
-    unit_path_law();
-    if is_repeated(placed, i) {
-        return Ok(below);
-    }
-    add_literal(table, &placed[i], below, path)
 }

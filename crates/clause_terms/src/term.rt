@@ -1,7 +1,7 @@
 // A clause of the formula as a term: its diagram from the last literal up, and the unit of the top node. (Bryant, Heule:
 // Generating Extended Resolution Proofs with a BDD-Based SAT Solver, 2021, section 5.)
 ghost use Rattle.std.specs.Prelude.{◌≡◌, ◌≢◌, ◌<◌, ◌≤◌, ◌+◌, [], ◌∷◌, Err, IsTrue, IfOk, IfErr, Some};
-ghost use Rattle.std.specs.List.{list_all, list_any};
+ghost use Rattle.std.specs.List.{list_all};
 ghost use Rattle.std.specs.List.Sorted.{IsNonDecreasingBy};
 ghost use Rattle.cnf_base.specs.Truth.{clause_holds, is_literal_of};
 ghost use Rattle.lrat_rules.specs.State.{clause_at};
@@ -17,7 +17,7 @@ ghost use Rattle.node_table.specs.Table.{UnlessTorn, live_nodes};
 ghost use Rattle.node_table.specs.Tied.{IsTied};
 ghost use Rattle.clause_terms.specs.declared.placed.Placed.{Placed as PlacedValue};
 ghost use Rattle.clause_terms.specs.ClauseDiagram.{IsDiagramOf};
-ghost use Rattle.clause_terms.specs.Placed.{placed_holds, placed_function, are_of_levels, HasNoOpposites};
+ghost use Rattle.clause_terms.specs.Placed.{placed_function, are_of_levels, HasNoOpposites};
 ghost use Rattle.clause_terms.specs.Term.{clause_function, IsTerm, IsTautology, HasUnitPath};
 
 use crate::order::{has_opposites, in_order};
