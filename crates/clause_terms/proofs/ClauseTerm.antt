@@ -1,7 +1,7 @@
 -- The top node of a clause's diagram is the clause's term, and its unit follows from the clause, in whatever order the
 -- literals stand.
-use Rattle.std.proofs.Common.{◌≡◌, ◌≢◌, ℕ, ℤ, Bool, true, false, pos, neg_ℤ, List, [], ◌∷◌, length, map, Option, Some, is_some, refl, sym, ap, ◌∙◌, subst}
-use Rattle.std.specs.Prelude.{IsPermutation, IsTrue, nat_lt, slice_index_or, if◌then◌else◌}
+use Rattle.std.proofs.Common.{◌≡◌, ◌≢◌, ℕ, ℤ, true, pos, neg_ℤ, List, [], ◌∷◌, length, map, Some, is_some, refl, sym, ap, ◌∙◌, subst}
+use Rattle.std.specs.Prelude.{IsPermutation, nat_lt, slice_index_or, if◌then◌else◌}
 use Rattle.std.specs.List.{list_all, list_any}
 use Rattle.std.proofs.lemmas.List.{nil_from_length}
 use Rattle.std.proofs.lemmas.List.Sorted.{length_permutation}

@@ -1,9 +1,9 @@
 -- A clause's literals in the order of the variables: they hold where the clause does, and without opposites they can all
 -- be false.
-use Rattle.std.proofs.Common.{◌≡◌, ◌≢◌, ℕ, zero, suc, ◌<◌, ◌≤◌, ◌+◌, ◌-◌, Bool, true, false, not, ◌&&◌, ◌||◌, ℤ, pos, negsuc, neg_ℤ, List, [], ◌∷◌, length, map, int_eq, refl, sym, ap, ◌∙◌, arith, inl, inr}
-use Rattle.std.specs.Prelude.{IsPermutation, IsTrue, ◌==◌, nat_lt, slice_index_or, if◌then◌else◌}
+use Rattle.std.proofs.Common.{◌≡◌, ℕ, zero, suc, ◌<◌, ◌≤◌, ◌+◌, ◌-◌, Bool, true, false, not, ◌&&◌, ◌||◌, ℤ, pos, neg_ℤ, List, [], ◌∷◌, length, map, int_eq, refl, sym, ap, ◌∙◌, arith, inl, inr}
+use Rattle.std.specs.Prelude.{IsPermutation, ◌==◌, nat_lt, slice_index_or, if◌then◌else◌}
 use Rattle.std.specs.Bool.{beq}
-use Rattle.std.specs.List.{list_any, list_all}
+use Rattle.std.specs.List.{list_any}
 use Rattle.std.specs.List.Sorted.{IsNonDecreasingBy}
 use Rattle.std.proofs.lemmas.Bool.{and_parts, cases_Bool, cases_lt, or_from, or_parts, ltb-true, eq-eqb, ne_eqb, eqb-true, cond-true, cond-false}
 use Rattle.std.proofs.lemmas.List.{get_or_default}
@@ -13,7 +13,7 @@ use Rattle.std.proofs.lemmas.List.Sorted.{list_any-IsPermutation, All-permutatio
 use Rattle.cnf_base.specs.Truth.{Assignment, literal_holds, clause_holds}
 use Rattle.lrat_rules.specs.Chain.{literals_of}
 use Rattle.node_table.specs.Diagram.{Graph, IsOrder, levels, variable_at}
-use Rattle.node_table.specs.Value.{Levels, by_level}
+use Rattle.node_table.specs.Value.{Levels}
 use Rattle.clause_terms.specs.declared.placed.Placed.{Placed}
 use Rattle.clause_terms.specs.Placed.{literal_at, placed_holds, are_of_levels, are_opposites, HasNoOpposites, AreInOrder}
 use Rattle.clause_terms.specs.Term.{by_variable, clause_function, IsTautology}

@@ -1,10 +1,10 @@
 -- A literal's node holds where the literal does, or the next node.
-use Rattle.std.proofs.Common.{◌≡◌, ℕ, ◌<◌, ◌≤◌, Bool, true, false, not, ◌||◌, List, ◌∷◌, refl, sym, ap, ◌∙◌, subst}
+use Rattle.std.proofs.Common.{◌≡◌, ℕ, Bool, true, false, not, ◌||◌, List, ◌∷◌, refl, ap, ◌∙◌}
 use Rattle.std.specs.Prelude.{IsTrue, if◌then◌else◌}
 use Rattle.std.specs.List.{list_any}
 use Rattle.node_table.specs.declared.node.Node.{Node}
-use Rattle.node_table.specs.declared.node.Node.TheVariants.{False, True, Inner}
-use Rattle.node_table.specs.Diagram.{Graph, IsReduced, KeepsNodes, is_node, levels, high_at, low_at}
+use Rattle.node_table.specs.declared.node.Node.TheVariants.{True}
+use Rattle.node_table.specs.Diagram.{Graph, IsReduced, KeepsNodes, is_node, high_at, low_at}
 use Rattle.node_table.specs.Value.{Levels, value_of}
 use Rattle.node_table.specs.Table.{HasChildren}
 use Rattle.clause_terms.specs.declared.placed.Placed.{Placed}

@@ -13,8 +13,8 @@ use Rattle.node_table.specs.Defined.{atom_of}
 use Rattle.node_table.specs.Just.{IsJustified}
 use Rattle.node_table.specs.Value.{Levels, by_level, value_of}
 
--- A node that holds exactly where a function of the assignment does, and the live clause of its literal: none where the node is True, the empty
--- clause where it is False.
+-- A node that holds exactly where a function of the assignment does, and the live clause of its literal: none where the
+-- node is True, the empty clause where it is False.
 pub record IsTerm (graph : Graph) (live : Live) (holds : Assignment → Bool) (node : Node) (unit : Just) : Type 0 where
   pub stands : IsTrue (is_node graph node)
   pub value : (a : Assignment) → value_of graph (by_level graph.order a) node ≡ holds a

@@ -11,7 +11,6 @@ mod step;
 mod term;
 
 pub use model::Model;
-pub use placed::Placed;
 pub use recovery::recover;
 pub use term::push_clause;
 

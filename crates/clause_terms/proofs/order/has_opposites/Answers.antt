@@ -1,4 +1,4 @@
-use Rattle.std.proofs.Common.{◌≡◌, ◌<◌, true, false, arith, sym, ◌∙◌}
+use Rattle.std.proofs.Common.{false, sym, ◌∙◌}
 use Rattle.clause_terms.specs.declared.placed.Placed.{Placed}
 use Rattle.clause_terms.proofs.Ordered.{opposites_hold, one_more}
 use Rattle.clause_terms.proofs.order.has_opposites.Goals as goal

@@ -1,4 +1,4 @@
-use Rattle.std.proofs.Common.{◌≡◌, ◌∙◌, sym, nat_abs, true}
+use Rattle.std.proofs.Common.{◌∙◌, sym, nat_abs}
 use Rattle.std.specs.Prelude.{nat_lt, nat_le}
 use Rattle.std.proofs.lemmas.Bool.{and_parts, ltb-true, leb-true}
 use Rattle.node_table.specs.Diagram.{levels}

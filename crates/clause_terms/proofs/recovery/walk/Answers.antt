@@ -1,11 +1,11 @@
-use Rattle.std.proofs.Common.{◌≡◌, ◌≢◌, ℕ, ◌-◌, ◌<◌, Bool, true, false, List, length, sym, ap, ◌∙◌, subst, arith, refl}
-use Rattle.std.specs.Prelude.{slice_set, slice_index_or, IsTrue}
+use Rattle.std.proofs.Common.{◌≡◌, ◌≢◌, ℕ, ◌-◌, ◌<◌, true, false, sym, ◌∙◌, subst, arith}
+use Rattle.std.specs.Prelude.{slice_set, slice_index_or}
 use Rattle.std.proofs.lemmas.List.{length-set}
 use Rattle.node_table.specs.declared.node.Node.{Node}
 use Rattle.node_table.specs.declared.node.Node.TheVariants.{False}
 use Rattle.node_table.specs.Diagram.{levels, level_of, variable_at}
 use Rattle.clause_terms.specs.Walk.{IsDown, levels_of}
-use Rattle.clause_terms.proofs.Down.{HasBranch, has_branch, low_step, high_step}
+use Rattle.clause_terms.proofs.Down.{has_branch, low_step, high_step}
 use Rattle.clause_terms.proofs.Set.{set_on, set_others}
 use Rattle.clause_terms.proofs.recovery.walk.Goals as goal
 

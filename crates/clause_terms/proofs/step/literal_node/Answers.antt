@@ -1,9 +1,9 @@
-use Rattle.std.proofs.Common.{◌≡◌, sym, subst}
+use Rattle.std.proofs.Common.{subst}
 use Rattle.std.specs.Prelude.{IfOk}
 use Rattle.node_table.specs.declared.node.Node.{Node}
 use Rattle.node_table.specs.Table.{HasChildren}
 use Rattle.node_table.specs.Tied.{IsTied, Extends}
-use Rattle.clause_terms.specs.ClauseDiagram.{high_of, low_of}
+use Rattle.clause_terms.specs.ClauseDiagram.{low_of}
 use Rattle.clause_terms.proofs.MadeNodes.{made_literal}
 use Rattle.clause_terms.proofs.step.literal_node.Goals as goal
 

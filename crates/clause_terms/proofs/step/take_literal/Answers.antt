@@ -1,10 +1,9 @@
 use Rattle.std.proofs.Common.{◌≡◌, ◌+◌, List, ◌∷◌, drop, reverse, false, sym, subst}
 use Rattle.std.specs.Prelude.{IfOk, slice_index_or}
-use Rattle.std.specs.List.{list_any}
 use Rattle.std.proofs.lemmas.List.{drop_more}
 use Rattle.node_table.specs.Made.{MakesOnly}
 use Rattle.clause_terms.specs.declared.placed.Placed.{Placed}
-use Rattle.clause_terms.specs.Placed.{placed_holds, placed_function}
+use Rattle.clause_terms.specs.Placed.{placed_function}
 use Rattle.clause_terms.specs.ClauseDiagram.{IsDiagramOf}
 use Rattle.clause_terms.proofs.Taken.{skipped, before_rest}
 use Rattle.clause_terms.proofs.step.take_literal.Goals as goal

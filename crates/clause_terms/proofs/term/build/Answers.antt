@@ -1,4 +1,4 @@
-use Rattle.std.proofs.Common.{◌≡◌, ◌∙◌, ◌-◌, ◌<◌, ◌≤◌, length, drop, arith}
+use Rattle.std.proofs.Common.{◌≡◌, ◌∙◌, ◌-◌, drop, arith}
 use Rattle.node_table.specs.Made.{MakesOnly}
 use Rattle.node_table.specs.Progress.{Continues}
 use Rattle.node_table.specs.Value.{IsSubfunction}

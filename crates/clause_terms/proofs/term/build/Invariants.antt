@@ -1,8 +1,7 @@
 use Rattle.std.proofs.Common.{◌≡◌, ◌≤◌, drop, length, reverse}
-use Rattle.std.specs.List.{list_any}
 use Rattle.node_table.specs.Made.{MakesOnly}
 use Rattle.node_table.specs.Progress.{Continues}
-use Rattle.clause_terms.specs.Placed.{placed_holds, placed_function}
+use Rattle.clause_terms.specs.Placed.{placed_function}
 use Rattle.clause_terms.specs.ClauseDiagram.{IsDiagramOf}
 use Rattle.clause_terms.proofs.term.build.Given as goal
 

@@ -1,4 +1,4 @@
-use Rattle.std.proofs.Common.{◌≡◌, ◌∙◌, List, [], ◌∷◌, true, false, sym, subst}
+use Rattle.std.proofs.Common.{◌≡◌, List, [], ◌∷◌, sym, subst}
 use Rattle.hint_chain.specs.declared.unit.UnitPart.{UnitPart}
 use Rattle.node_table.specs.declared.error.TableError.TheVariants.{WriteFault}
 use Rattle.node_table.specs.declared.node.Just.TheVariants.{Clause}
@@ -8,8 +8,6 @@ use Rattle.node_table.specs.Just.{IsJustified}
 use Rattle.node_table.specs.Made.{MakesOnly}
 use Rattle.node_table.specs.Progress.{Continues}
 use Rattle.cnf_base.specs.Truth.{clause_holds}
-use Rattle.clause_terms.specs.declared.placed.Placed.{Placed}
-use Rattle.clause_terms.specs.ClauseDiagram.{IsDiagramOf}
 use Rattle.clause_terms.specs.Placed.{placed_function, AreInOrder}
 use Rattle.clause_terms.specs.Term.{clause_function, IsTerm, HasUnitPath}
 use Rattle.clause_terms.proofs.Ordered.{no_tautology, same_function}
