@@ -18,7 +18,7 @@ CofactorLaw = (graph : Graph) → IsReduced graph → (a : Levels) (level : ℕ)
 abbrev pub GrowthLaw : Type 0
 GrowthLaw = (old new : Graph) → IsReduced old → KeepsNodes old new → (a : Levels) (node : Node) → IsTrue (is_node old node) → value_of new a node ≡ value_of old a node
 
-chosen : (negative t v : Bool) (graph : Graph) (a : Levels) (below : Node) → value_of graph a below ≡ v
+pub chosen : (negative t v : Bool) (graph : Graph) (a : Levels) (below : Node) → value_of graph a below ≡ v
     → (if t then value_of graph a (if negative then below else True) else value_of graph a (if negative then True else below)) ≡ ((if negative then not t else t) || v)
 chosen false false v graph a below is = is
 chosen false true v graph a below is = refl

@@ -6,7 +6,7 @@ ghost use Rattle.std.specs.List.Sorted.{IsNonDecreasingBy};
 ghost use Rattle.node_table.specs.declared.node.Node.TheVariants.{True};
 ghost use Rattle.node_table.specs.declared.error.TableError.TheVariants.{NodeLimit, IdLimit, WriteFault};
 ghost use Rattle.node_table.specs.Diagram.{IsBelow, branch_of, levels};
-ghost use Rattle.node_table.specs.Made.{MakesOnly};
+ghost use Rattle.node_table.specs.Made.{LacksPart, MakesOnly};
 ghost use Rattle.node_table.specs.Table.{HasChildren, UnlessTorn, live_nodes};
 ghost use Rattle.node_table.specs.Progress.{Continues, BreaksOff};
 ghost use Rattle.node_table.specs.Tied.{IsTied};
@@ -20,7 +20,7 @@ use cnf_base::{Id, Lit, OutOfMemory};
 use hint_chain::{UnitPart, unit_path_law};
 use host_io::Sink;
 use node_table::{
-    Node, Table, TableError, cofactor_law, growth_law, progress_law, subfunction_law,
+    Node, Table, TableError, cofactor_law, growth_law, missing_law, progress_law, subfunction_law,
 };
 
 /// The diagram of the literals from this place on, over that of those behind it. A repetition adds nothing.
@@ -40,6 +40,7 @@ pub fn take_literal<S: Sink + Drop>(
     requires diagram { IsDiagramOf table.old.graph table.old.book.state.live (drop (i + 1) placed.now) below (reverse path.old.items) }
     ensures diagram { IfOk result (λ node. IsDiagramOf table.new.graph table.new.book.state.live (drop i placed.now) node (reverse path.new.items)) }
     ensures made { UnlessTorn result (MakesOnly table.old.graph table.new.graph (placed_function (drop i placed.now))) }
+    ensures lacks { result ≡ Err NodeLimit → LacksPart table.new.graph (placed_function (drop i placed.now)) }
     ensures continues { UnlessTorn result (Continues S.tells (S.channel table.old.book.sink) (S.channel table.new.book.sink) table.old table.new) }
     ensures node_limit { result ≡ Err NodeLimit → table.new.max_nodes ≤ live_nodes table.new.graph }
     ensures id_limit { result ≡ Err IdLimit → table.new.book.limit < table.new.book.state.top + 4 }
@@ -83,6 +84,8 @@ fn add_literal<S: Sink + Drop>(
         → IfOk result (λ node. IsDiagramOf table.new.graph table.new.book.state.live (placed.now ∷ more) node (reverse path.new.items)) }
     ensures made { (more : List PlacedValue) → ((a : Levels) → value_of table.old.graph a below ≡ list_any (placed_holds a) more)
         → UnlessTorn result (MakesOnly table.old.graph table.new.graph (placed_function (placed.now ∷ more))) }
+    ensures lacks { (more : List PlacedValue) → ((a : Levels) → value_of table.old.graph a below ≡ list_any (placed_holds a) more)
+        → result ≡ Err NodeLimit → LacksPart table.new.graph (placed_function (placed.now ∷ more)) }
     ensures continues { UnlessTorn result (Continues S.tells (S.channel table.old.book.sink) (S.channel table.new.book.sink) table.old table.new) }
     ensures node_limit { result ≡ Err NodeLimit → table.new.max_nodes ≤ live_nodes table.new.graph }
     ensures id_limit { result ≡ Err IdLimit → table.new.book.limit < table.new.book.state.top + 4 }
@@ -111,6 +114,8 @@ fn literal_node<S: Sink + Drop>(
     ensures children { IfOk result (λ node. HasChildren table.new.graph placed.now.level (high_of placed.now below) (low_of placed.now below) node) }
     ensures made { (more : List PlacedValue) → ((a : Levels) → value_of table.old.graph a below ≡ list_any (placed_holds a) more)
         → UnlessTorn result (MakesOnly table.old.graph table.new.graph (placed_function (placed.now ∷ more))) }
+    ensures lacks { (more : List PlacedValue) → ((a : Levels) → value_of table.old.graph a below ≡ list_any (placed_holds a) more)
+        → result ≡ Err NodeLimit → LacksPart table.new.graph (placed_function (placed.now ∷ more)) }
     ensures continues { UnlessTorn result (Continues S.tells (S.channel table.old.book.sink) (S.channel table.new.book.sink) table.old table.new) }
     ensures node_limit { result ≡ Err NodeLimit → table.new.max_nodes ≤ live_nodes table.new.graph }
     ensures id_limit { result ≡ Err IdLimit → table.new.book.limit < table.new.book.state.top + 4 }
@@ -120,6 +125,7 @@ fn literal_node<S: Sink + Drop>(
     growth_law();
     cofactor_law();
     subfunction_law();
+    missing_law();
     let (high, low) = children(placed, below);
     table.node(placed.level, high, low)
 }

@@ -11,7 +11,7 @@ ghost use Rattle.node_table.specs.declared.node.Just.TheVariants.{Trivial, Claus
 ghost use Rattle.node_table.specs.Defined.{atom_of};
 ghost use Rattle.node_table.specs.Diagram.{levels};
 ghost use Rattle.node_table.specs.Just.{IsJustified};
-ghost use Rattle.node_table.specs.Made.{MakesOnly};
+ghost use Rattle.node_table.specs.Made.{LacksPart, MakesOnly};
 ghost use Rattle.node_table.specs.Progress.{Continues, BreaksOff};
 ghost use Rattle.node_table.specs.Table.{UnlessTorn, live_nodes};
 ghost use Rattle.node_table.specs.Tied.{IsTied};
@@ -47,8 +47,9 @@ pub fn push_clause<S: Sink + Drop>(
     ensures made { UnlessTorn result (MakesOnly table.old.graph table.new.graph (clause_function table.old.graph.order clause.now)) }
     ensures continues { UnlessTorn result (Continues S.tells (S.channel table.old.book.sink) (S.channel table.new.book.sink) table.old table.new) }
     ensures tautology { IsTautology clause.now → (table.new ≡ table.old) × IfOk result (λ found. (found.0 ≡ True) × (found.1 ≡ Trivial)) × IfErr result (λ e. e ≡ OutOfMemory) }
-    // The limits, each where it is met, and a failed write.
+    // The limits, each where it is met, and a failed write. A node of a part of the clause is refused for want of room.
     ensures node_limit { result ≡ Err NodeLimit → table.new.max_nodes ≤ live_nodes table.new.graph }
+    ensures lacks { result ≡ Err NodeLimit → LacksPart table.new.graph (clause_function table.old.graph.order clause.now) }
     ensures id_limit { result ≡ Err IdLimit → table.new.book.limit < table.new.book.state.top + 4 }
     ensures broken { result ≡ Err WriteFault → BreaksOff S.tells (S.channel table.old.book.sink) (S.channel table.new.book.sink) table.old table.new }
     ensures beside { S.beside table.new.book.sink ≡ S.beside table.old.book.sink }
@@ -79,6 +80,7 @@ fn build<S: Sink + Drop>(
     requires signs { HasNoOpposites placed.now }
     ensures diagram { IfOk result (λ found. IsDiagramOf table.new.graph table.new.book.state.live placed.now found.0 found.1.items) }
     ensures made { UnlessTorn result (MakesOnly table.old.graph table.new.graph (placed_function placed.now)) }
+    ensures lacks { result ≡ Err NodeLimit → LacksPart table.new.graph (placed_function placed.now) }
     ensures continues { UnlessTorn result (Continues S.tells (S.channel table.old.book.sink) (S.channel table.new.book.sink) table.old table.new) }
     ensures node_limit { result ≡ Err NodeLimit → table.new.max_nodes ≤ live_nodes table.new.graph }
     ensures id_limit { result ≡ Err IdLimit → table.new.book.limit < table.new.book.state.top + 4 }

@@ -22,3 +22,4 @@ pub mod InUseSame
 pub mod Progressed
 pub mod Subfunctions
 pub mod Reached
+pub mod Missing

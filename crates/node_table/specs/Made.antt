@@ -28,3 +28,9 @@ pub record Reaches (graph : Graph) (node other : Node) : Type 0 where
 -- each node is one of the old graph, or reachable from this one
 pub record ReachesNew (old new : Graph) (root : Node) : Type 0 where
   pub each : (node : Node) → IsTrue (is_node new node) → IsTrue (is_node old node) ⊎ Reaches new root node
+
+-- A subfunction of this function is that of no node, so of no constant.
+pub record LacksPart (graph : Graph) (function : Levels → Bool) : Type 0 where
+  pub part : Levels → Bool
+  pub is_part : IsSubfunction function part
+  pub nowhere : (node : Node) → IsTrue (is_node graph node) → ((a : Levels) → value_of graph a node ≡ part a) → ⊥

@@ -10,7 +10,7 @@ ghost use Rattle.node_table.specs.declared.node.Just.{Just as JustValue};
 ghost use Rattle.node_table.specs.Tied.{IsTied, KeepsClauses};
 ghost use Rattle.node_table.specs.Defined.{atom_of};
 ghost use Rattle.node_table.specs.Just.{IsJustified};
-ghost use Rattle.node_table.specs.Table.{TableState, live_nodes};
+ghost use Rattle.node_table.specs.Table.{TableState, IsWanted, live_nodes};
 ghost use Rattle.node_table.specs.Progress.{Continues, BreaksOff};
 ghost use Rattle.node_table.specs.declared.node.Node.{Node as NodeValue};
 ghost use Rattle.node_table.specs.Diagram.{Graph, IsReduced, IsBelow, KeepsNodes, IsOrder, is_node, levels, level_of, high_at, low_at};
@@ -80,6 +80,13 @@ pub fn subfunction_law()
     ensures none_made { (graph : Graph) (f : Levels → Bool) → MakesOnly graph graph f }
     ensures made_further { (old mid new : Graph) → IsReduced mid → KeepsNodes mid new → (f : Levels → Bool) → MakesOnly old mid f → MakesOnly mid new f → MakesOnly old new f }
     ensures made_for_part { (old new : Graph) (f g : Levels → Bool) → IsSubfunction f g → MakesOnly old new g → MakesOnly old new f }
+{}
+
+/// A node that is missing has the function of no other one. (Bryant 1986, theorem 1.)
+pub fn missing_law()
+    ensures { (graph : Graph) → IsReduced graph → (level : ℕ) (high low : NodeValue) → level < levels graph → IsBelow graph level high → IsBelow graph level low
+        → IsWanted graph level high low → (node : NodeValue) → IsTrue (is_node graph node)
+        → ((a : Levels) → value_of graph a node ≡ (if a level then value_of graph a high else value_of graph a low)) → ⊥ }
 {}
 
 /// Reachable nodes, and those that calls make.

@@ -1,11 +1,11 @@
-use Rattle.std.proofs.Common.{◌≡◌, List, ◌∷◌, reverse, sym, ap, ◌∙◌, subst}
+use Rattle.std.proofs.Common.{◌≡◌, Err, List, ◌∷◌, reverse, sym, ap, ◌∙◌, subst}
 use Rattle.hint_chain.specs.declared.unit.UnitPart.{UnitPart}
-use Rattle.node_table.specs.declared.error.TableError.TheVariants.{WriteFault}
+use Rattle.node_table.specs.declared.error.TableError.TheVariants.{NodeLimit, WriteFault}
 use Rattle.node_table.specs.Diagram.{branch_of}
 use Rattle.node_table.specs.Progress.{Continues}
 use Rattle.clause_terms.specs.ClauseDiagram.{IsDiagramOf, part_of}
 use Rattle.clause_terms.proofs.AddedLiteral.{added, reverse_more}
-use Rattle.clause_terms.proofs.HandedOn.{handed_on}
+use Rattle.clause_terms.proofs.HandedOn.{handed_on, came_from}
 use Rattle.clause_terms.proofs.step.add_literal.Goals as goal
 
 pub returns-clause-diagram : goal.returns-clause-diagram
@@ -30,3 +30,7 @@ returns-in_err-node-clause-made g c more value whole =
 
 pub returns-in_err-push_part-clause-made : goal.returns-in_err-push_part-clause-made
 returns-in_err-push_part-clause-made g c more value whole = c.in_ok-node.ensures.made more value (λ is. cc)
+
+pub returns-in_err-node-clause-lacks : goal.returns-in_err-node-clause-lacks
+returns-in_err-node-clause-lacks g c more value full =
+    c.in_err-node.ensures.lacks more value (ap Err (came_from _ c.in_err-node.field-0.0 NodeLimit c.from_residual.ensures.1 full))

@@ -1,7 +1,7 @@
 use Rattle.std.proofs.Common.{◌≡◌, ◌+◌, List, ◌∷◌, drop, reverse, false, sym, subst}
 use Rattle.std.specs.Prelude.{IfOk, slice_index_or}
 use Rattle.std.proofs.lemmas.List.{drop_more}
-use Rattle.node_table.specs.Made.{MakesOnly}
+use Rattle.node_table.specs.Made.{LacksPart, MakesOnly}
 use Rattle.clause_terms.specs.declared.placed.Placed.{Placed}
 use Rattle.clause_terms.specs.Placed.{placed_function}
 use Rattle.clause_terms.specs.ClauseDiagram.{IsDiagramOf}
@@ -23,6 +23,13 @@ returns-clause-made g c whole =
     let rest : drop c.args.i placed ≡ slice_index_or placed c.args.i no_placed ∷ drop (c.args.i + 1) placed = drop_more placed c.args.i no_placed c.requires.index in
     subst (λ (list : List Placed). MakesOnly c.args.table.now.graph c.add_literal.new.table.graph (placed_function list)) (sym rest)
     (c.add_literal.ensures.made (drop (c.args.i + 1) placed) c.requires.diagram.value whole)
+
+pub returns-clause-lacks : goal.returns-clause-lacks
+returns-clause-lacks g c full =
+    let placed = c.args.placed.now in
+    let rest : drop c.args.i placed ≡ slice_index_or placed c.args.i no_placed ∷ drop (c.args.i + 1) placed = drop_more placed c.args.i no_placed c.requires.index in
+    subst (λ (list : List Placed). LacksPart c.add_literal.new.table.graph (placed_function list)) (sym rest)
+    (c.add_literal.ensures.lacks (drop (c.args.i + 1) placed) c.requires.diagram.value full)
 
 pub returns-clause-diagram : goal.returns-clause-diagram
 returns-clause-diagram g c =

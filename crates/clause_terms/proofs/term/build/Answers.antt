@@ -1,11 +1,12 @@
-use Rattle.std.proofs.Common.{◌≡◌, ◌∙◌, ◌-◌, drop, arith}
+use Rattle.std.proofs.Common.{◌≡◌, ◌∙◌, Err, ap, ◌-◌, drop, arith}
 use Rattle.node_table.specs.Made.{MakesOnly}
 use Rattle.node_table.specs.Progress.{Continues}
 use Rattle.node_table.specs.Value.{IsSubfunction}
-use Rattle.node_table.specs.declared.error.TableError.TheVariants.{WriteFault}
+use Rattle.node_table.specs.declared.error.TableError.TheVariants.{NodeLimit, WriteFault}
 use Rattle.clause_terms.specs.Placed.{placed_function}
-use Rattle.clause_terms.proofs.HandedOn.{handed_on}
+use Rattle.clause_terms.proofs.HandedOn.{handed_on, came_from}
 use Rattle.clause_terms.proofs.ClauseParts.{later_part}
+use Rattle.clause_terms.proofs.LackedPart.{lacked_whole}
 use Rattle.clause_terms.proofs.term.build.Goals as goal
 
 pub returns-in_err-node-clause-continues : goal.returns-in_err-node-clause-continues
@@ -46,3 +47,11 @@ literals-preserved g c =
       continues = c.progress_law.ensures.further _ _ _ old mid new c.literals.invariant.continues grown;
       beside = c.in_ok-node.ensures.beside ∙ c.literals.invariant.beside;
     }
+
+pub returns-in_err-node-clause-lacks : goal.returns-in_err-node-clause-lacks
+returns-in_err-node-clause-lacks g c full =
+    let placed = c.args.placed.now in
+    let part : IsSubfunction (placed_function placed) (placed_function (drop (c.literals.i - 1) placed)) =
+    later_part c.subfunction_law.ensures.same c.subfunction_law.ensures.further (c.literals.i - 1) placed (omega (arith, c.literals.invariant.within, c.literals-test.true)) c.requires.sorted c.requires.signs in
+    lacked_whole c.subfunction_law.ensures.further c.take_literal.new.table.graph (placed_function placed) (placed_function (drop (c.literals.i - 1) placed)) part
+    (c.in_err-node.ensures.lacks (ap Err (came_from _ c.in_err-node.field-0.0 NodeLimit c.from_residual.ensures.1 full)))

@@ -1,6 +1,6 @@
-use Rattle.std.proofs.Common.{◌≡◌, List, [], ◌∷◌, sym, subst}
+use Rattle.std.proofs.Common.{◌≡◌, Err, ap, List, [], ◌∷◌, sym, subst}
 use Rattle.hint_chain.specs.declared.unit.UnitPart.{UnitPart}
-use Rattle.node_table.specs.declared.error.TableError.TheVariants.{WriteFault}
+use Rattle.node_table.specs.declared.error.TableError.TheVariants.{NodeLimit, WriteFault}
 use Rattle.node_table.specs.declared.node.Just.TheVariants.{Clause}
 use Rattle.node_table.specs.Defined.{atom_of}
 use Rattle.node_table.specs.Diagram.{Graph}
@@ -13,7 +13,8 @@ use Rattle.clause_terms.specs.Term.{clause_function, IsTerm, HasUnitPath}
 use Rattle.clause_terms.proofs.Ordered.{no_tautology, same_function}
 use Rattle.clause_terms.proofs.MadeNodes.{by_values}
 use Rattle.clause_terms.proofs.ClauseTerm.{still_in_order, unit_path, clause_term, true_term}
-use Rattle.clause_terms.proofs.HandedOn.{handed_on}
+use Rattle.clause_terms.proofs.HandedOn.{handed_on, came_from}
+use Rattle.clause_terms.proofs.LackedPart.{lacked_by_values}
 use Rattle.clause_terms.proofs.term.push_clause.Goals as goal
 
 pub returns-then-has_opposites-clause-term : goal.returns-then-has_opposites-clause-term
@@ -109,3 +110,12 @@ returns-clause-tautology g c tautology =
     let placed = c.as_slice.result.now in
     let in_order : AreInOrder c.args.table.now.graph c.args.clause.now placed = subst (AreInOrder c.args.table.now.graph c.args.clause.now) (sym c.as_slice.ensures.value) c.in_ok-placed.ensures in
     absurd (no_tautology c.args.table.now.graph c.is_reduced.ensures.ordered c.args.clause.now placed in_order (c.has_opposites.ensures.none c.if-has_opposites.false) tautology)
+
+pub returns-in_err-node-clause-lacks : goal.returns-in_err-node-clause-lacks
+returns-in_err-node-clause-lacks g c full =
+    let old = c.args.table.now.graph in
+    let clause = c.args.clause.now in
+    let placed = c.as_slice-2.result.now in
+    let in_order : AreInOrder old clause placed = subst (AreInOrder old clause) (sym c.as_slice-2.ensures.value) c.in_ok-placed.ensures in
+    lacked_by_values c.build.new.table.graph (placed_function placed) (clause_function old.order clause) (λ a. sym (same_function old c.is_reduced.ensures.ordered clause placed in_order a))
+    (c.in_err-node.ensures.lacks (ap Err (came_from _ c.in_err-node.field-0.0 NodeLimit c.from_residual-in_err-node.ensures.1 full)))

@@ -1,7 +1,7 @@
 use Rattle.std.proofs.Common.{IsTrue}
 use Rattle.node_table.specs.Tied.{IsTied}
 use Rattle.apply_and.specs.Cache.{Fits, entries}
-use Rattle.apply_and.proofs.tests.all_pairs.Given as goal
+use Rattle.apply_and.proofs.tests.each_pair.Given as goal
 
 abbrev pub invariant-loop-row : goal.invariant-loop-row
 invariant-loop-row g l = IsTied l.table.graph l.table.book.state × IsTrue l.table.book.in_step
