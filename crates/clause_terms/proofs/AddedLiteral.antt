@@ -1,22 +1,20 @@
 -- A literal's node over the diagram of the later literals is the diagram of all of them.
-use Rattle.std.proofs.Common.{◌≡◌, ◌≢◌, ℕ, zero, suc, ◌<◌, ◌≤◌, Bool, true, false, ℤ, pos, neg_ℤ, List, [], ◌∷◌, ◌++◌, reverse, length, map, Option, None, Some, nat_abs, refl, sym, ap, ◌∙◌, subst, arith}
+use Rattle.std.proofs.Common.{◌≡◌, ◌≢◌, ℕ, zero, suc, ◌<◌, Bool, true, false, pos, neg_ℤ, List, [], ◌∷◌, ◌++◌, reverse, length, map, Some, nat_abs, refl, sym, ap, ◌∙◌, subst}
 use Rattle.std.specs.Prelude.{IsTrue, if◌then◌else◌}
 use Rattle.std.proofs.lemmas.List.{reverse-append}
 use Rattle.lrat_rules.specs.State.{Live}
 use Rattle.hint_chain.specs.declared.unit.UnitPart.{UnitPart}
-use Rattle.hint_chain.specs.Units.{next_id, FalsifiesLiteral, FalsifiesNext}
 use Rattle.node_table.specs.declared.node.Node.{Node}
-use Rattle.node_table.specs.declared.node.Node.TheVariants.{False, True, Inner}
-use Rattle.node_table.specs.declared.node.NodeKey.{NodeKey}
+use Rattle.node_table.specs.declared.node.Node.TheVariants.{True, Inner}
 use Rattle.node_table.specs.declared.node.Branch.{Branch}
 use Rattle.node_table.specs.Diagram.{Graph, IsOrder, IsReduced, KeepsNodes, branch_at, branch_of, is_node, levels, variable_at}
-use Rattle.node_table.specs.Defined.{IsDefined, defs_of}
+use Rattle.node_table.specs.Defined.{IsDefined}
 use Rattle.node_table.specs.Tied.{KeepsClauses}
 use Rattle.node_table.specs.Table.{HasChildren}
 use Rattle.clause_terms.specs.declared.placed.Placed.{Placed}
 use Rattle.clause_terms.specs.Placed.{literal_at}
 use Rattle.clause_terms.specs.ClauseDiagram.{IsBefore, IsTopNode, IsDiagramOf, high_of, low_of, part_of}
-use Rattle.clause_terms.proofs.Inner.{IsInnerOf, inner_of}
+use Rattle.clause_terms.proofs.Inner.{inner_of}
 use Rattle.clause_terms.proofs.Links.{positive_literal, positive_next, positive_last, negative_literal, negative_next, negative_last}
 use Rattle.clause_terms.proofs.TopStep.{LastLaw, OnTopLaw, KeptLaw, IsPartOf, top_step}
 use Rattle.clause_terms.proofs.StepValue.{CofactorLaw, GrowthLaw, value_step}

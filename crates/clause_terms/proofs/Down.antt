@@ -1,10 +1,9 @@
 -- One step down, and the end of the way.
-use Rattle.std.proofs.Common.{◌≡◌, ◌≢◌, ℕ, zero, suc, ◌+◌, ◌-◌, ◌<◌, ◌≤◌, Bool, true, false, ◌&&◌, List, [], ◌∷◌, length, Option, None, Some, is_some, refl, sym, ap, ◌∙◌, subst, arith, inl, inr, eq-eqb, ne_eqb}
-use Rattle.std.specs.Prelude.{if◌then◌else◌, slice_index_or, replicate, ◌==◌}
+use Rattle.std.proofs.Common.{◌≡◌, ◌≢◌, ℕ, ◌<◌, ◌≤◌, Bool, true, false, None, Some, is_some, refl, sym, ap, ◌∙◌, arith, inl, inr, eq-eqb}
+use Rattle.std.specs.Prelude.{if◌then◌else◌, ◌==◌}
 use Rattle.std.proofs.lemmas.Bool.{cases_eq, cases_lt}
 use Rattle.node_table.specs.declared.node.Node.{Node}
 use Rattle.node_table.specs.declared.node.Node.TheVariants.{False, True, Inner}
-use Rattle.node_table.specs.declared.node.NodeKey.{NodeKey}
 use Rattle.node_table.specs.declared.node.Branch.{Branch}
 use Rattle.node_table.specs.Diagram.{Graph, IsReduced, IsBelow, branch_at, branch_of, is_node, levels, level_of, level_in, high_at, low_at, child_in}
 use Rattle.node_table.specs.Value.{Levels, value_of}
@@ -38,9 +37,9 @@ has_branch law graph reduced (Inner key) stands b at = record {
   low = reduced.low key.index b at;
   differ = reduced.differ key.index b at;
   value = λ a.
-    let high : high_at graph b.level (Inner key) ≡ b.high = ap (child_in (λ x. x.high) b.level (Inner key)) at ∙ at_own b.level b.high (Inner key) in
-    let low : low_at graph b.level (Inner key) ≡ b.low = ap (child_in (λ x. x.low) b.level (Inner key)) at ∙ at_own b.level b.low (Inner key) in
-    law graph reduced a b.level (Inner key) stands ∙ (λ i. if a b.level then value_of graph a (high i) else value_of graph a (low i));
+      let high : high_at graph b.level (Inner key) ≡ b.high = ap (child_in (λ x. x.high) b.level (Inner key)) at ∙ at_own b.level b.high (Inner key) in
+      let low : low_at graph b.level (Inner key) ≡ b.low = ap (child_in (λ x. x.low) b.level (Inner key)) at ∙ at_own b.level b.low (Inner key) in
+      law graph reduced a b.level (Inner key) stands ∙ (λ i. if a b.level then value_of graph a (high i) else value_of graph a (low i));
 }
 
 chosen_high : (t x y : Bool) → t ≡ true → (if t then x else y) ≡ x
@@ -69,8 +68,8 @@ low_step graph reduced a first node b has down some =
       stands = has.low.stands;
       some = some;
       leads = λ c agree.
-        down.leads c (λ i early. agree i (omega (arith, early, here, below)))
-        ∙ has.value c ∙ chosen_low (c b.level) (value_of graph c b.high) (value_of graph c b.low) (agree b.level below ∙ off);
+          down.leads c (λ i early. agree i (omega (arith, early, here, below)))
+          ∙ has.value c ∙ chosen_low (c b.level) (value_of graph c b.high) (value_of graph c b.low) (agree b.level below ∙ off);
       least = λ other holds level early agree on. elim (cases_lt level b.level) [
         | inl above ↦ down.least other holds level (omega (arith, above, here)) agree on
         | inr late ↦ absurd (let no : a level ≡ false = down.rest level (omega (arith, late, here)) (omega (arith, early, node_level graph reduced b.low has.low.stands)) in cc)
@@ -86,13 +85,13 @@ high_step graph reduced a later first node b has down no_low on same =
     let below = has.high.below in
     let above_same : (i : ℕ) → i < b.level → later i ≡ a i = λ i early. same i (omega (arith, early, has.small)) (λ e. omega (arith, e, early)) in
     let never : (c : Levels) → c b.level ≡ false → value_of graph c node ≡ false = λ c off.
-      has.value c ∙ chosen_low (c b.level) (value_of graph c b.high) (value_of graph c b.low) off ∙ ap (value_of graph c) no_low in
+    has.value c ∙ chosen_low (c b.level) (value_of graph c b.high) (value_of graph c b.low) off ∙ ap (value_of graph c) no_low in
     record {
       stands = has.high.stands;
       some = λ is. has.differ (is ∙ sym no_low);
       leads = λ c agree.
-        down.leads c (λ i early. agree i (omega (arith, early, here, below)) ∙ above_same i (omega (arith, early, here)))
-        ∙ has.value c ∙ chosen_high (c b.level) (value_of graph c b.high) (value_of graph c b.low) (agree b.level below ∙ on);
+          down.leads c (λ i early. agree i (omega (arith, early, here, below)) ∙ above_same i (omega (arith, early, here)))
+          ∙ has.value c ∙ chosen_high (c b.level) (value_of graph c b.high) (value_of graph c b.low) (agree b.level below ∙ on);
       least = λ other holds level early agree is_on. elim (cases_lt level b.level) [
         | inl above ↦ down.least other holds level (omega (arith, above, here)) (λ i under. agree i under ∙ above_same i (omega (arith, under, above))) (sym (above_same level above) ∙ is_on)
         | inr late ↦ elim (cases_eq level b.level) [

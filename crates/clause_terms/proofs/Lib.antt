@@ -7,3 +7,9 @@ pub mod AddedLiteral
 pub mod Taken
 pub mod Down
 pub mod Set
+pub mod Ordered
+pub mod HandedOn
+pub mod ClauseTerm
+pub mod ClauseParts
+pub mod MadeNodes
+pub mod LackedPart

@@ -1,10 +1,10 @@
 -- A literal's node holds where the literal does, or the next node.
-use Rattle.std.proofs.Common.{◌≡◌, ℕ, ◌<◌, ◌≤◌, Bool, true, false, not, ◌||◌, List, ◌∷◌, refl, sym, ap, ◌∙◌, subst}
+use Rattle.std.proofs.Common.{◌≡◌, ℕ, Bool, true, false, not, ◌||◌, List, ◌∷◌, refl, ap, ◌∙◌}
 use Rattle.std.specs.Prelude.{IsTrue, if◌then◌else◌}
 use Rattle.std.specs.List.{list_any}
 use Rattle.node_table.specs.declared.node.Node.{Node}
-use Rattle.node_table.specs.declared.node.Node.TheVariants.{False, True, Inner}
-use Rattle.node_table.specs.Diagram.{Graph, IsReduced, KeepsNodes, is_node, levels, high_at, low_at}
+use Rattle.node_table.specs.declared.node.Node.TheVariants.{True}
+use Rattle.node_table.specs.Diagram.{Graph, IsReduced, KeepsNodes, is_node, high_at, low_at}
 use Rattle.node_table.specs.Value.{Levels, value_of}
 use Rattle.node_table.specs.Table.{HasChildren}
 use Rattle.clause_terms.specs.declared.placed.Placed.{Placed}
@@ -18,7 +18,7 @@ CofactorLaw = (graph : Graph) → IsReduced graph → (a : Levels) (level : ℕ)
 abbrev pub GrowthLaw : Type 0
 GrowthLaw = (old new : Graph) → IsReduced old → KeepsNodes old new → (a : Levels) (node : Node) → IsTrue (is_node old node) → value_of new a node ≡ value_of old a node
 
-chosen : (negative t v : Bool) (graph : Graph) (a : Levels) (below : Node) → value_of graph a below ≡ v
+pub chosen : (negative t v : Bool) (graph : Graph) (a : Levels) (below : Node) → value_of graph a below ≡ v
     → (if t then value_of graph a (if negative then below else True) else value_of graph a (if negative then True else below)) ≡ ((if negative then not t else t) || v)
 chosen false false v graph a below is = is
 chosen false true v graph a below is = refl

@@ -1,5 +1,5 @@
 -- The next literal of a list that is sorted by levels: a repetition adds nothing, any other comes before the rest.
-use Rattle.std.proofs.Common.{◌≡◌, ◌≢◌, ℕ, ◌<◌, ◌≤◌, ◌+◌, Bool, true, false, ◌||◌, ℤ, pos, List, [], ◌∷◌, length, map, drop, Some, int_eq, refl, sym, ap, ◌∙◌, subst, arith, inl, inr}
+use Rattle.std.proofs.Common.{◌≡◌, ◌≢◌, ℕ, ◌<◌, ◌+◌, Bool, true, false, ◌||◌, ℤ, pos, List, ◌∷◌, length, map, drop, int_eq, refl, sym, ap, ◌∙◌, subst, arith, inl, inr}
 use Rattle.std.specs.Prelude.{slice_index_or}
 use Rattle.std.specs.List.{list_any}
 use Rattle.std.specs.List.Sorted.{IsNonDecreasingBy}
@@ -13,13 +13,13 @@ use Rattle.node_table.specs.declared.node.Node.{Node}
 use Rattle.node_table.specs.Diagram.{Graph}
 use Rattle.clause_terms.specs.declared.placed.Placed.{Placed}
 use Rattle.clause_terms.specs.Placed.{literal_at, placed_holds, HasNoOpposites}
-use Rattle.clause_terms.specs.ClauseDiagram.{IsBefore, IsTopNode, IsDiagramOf}
+use Rattle.clause_terms.specs.ClauseDiagram.{IsBefore, IsDiagramOf}
 
 abbrev pub SameSetLaw : Type 0
 SameSetLaw = (live : Live) (path : List UnitPart) (nodes clause other : List ℤ)
     → ((x : ℤ) → literals_of other x ≡ literals_of clause x) → IsUnitPath live path nodes clause → IsUnitPath live path nodes other
 
-or_again : (t r : Bool) → (t || r) ≡ (t || (t || r))
+pub or_again : (t r : Bool) → (t || r) ≡ (t || (t || r))
 or_again true r = refl
 or_again false r = refl
 

@@ -1,8 +1,8 @@
 -- One literal more on top of a clause's diagram.
-use Rattle.std.proofs.Common.{◌≡◌, ◌≢◌, ℕ, zero, suc, ◌<◌, ◌≤◌, ◌+◌, Bool, true, false, not, ◌&&◌, ◌||◌, ℤ, pos, neg_ℤ, List, [], ◌∷◌, length, map, Option, None, Some, nat_abs, int_eq, refl, sym, ap, ◌∙◌, subst, arith, inl, inr, ◌⊎◌}
-use Rattle.std.specs.Prelude.{IsTrue, ◌==◌, slice_index_or, if◌then◌else◌}
+use Rattle.std.proofs.Common.{◌≡◌, ◌≢◌, ℕ, ◌<◌, ◌≤◌, ◌+◌, true, false, not, ◌&&◌, ◌||◌, ℤ, pos, neg_ℤ, List, [], ◌∷◌, map, None, Some, nat_abs, int_eq, refl, sym, ap, ◌∙◌, subst, arith, inl, inr}
+use Rattle.std.specs.Prelude.{IsTrue, slice_index_or, if◌then◌else◌}
 use Rattle.std.specs.List.{list_any}
-use Rattle.std.proofs.lemmas.Bool.{or_right, or_left, or_cases, and_from, lt-ltb}
+use Rattle.std.proofs.lemmas.Bool.{or_cases, lt-ltb}
 use Rattle.std.proofs.lemmas.Bool.Decides.{Decides-int_eq}
 use Rattle.lrat_rules.specs.State.{Live, clause_at}
 use Rattle.lrat_rules.specs.Soundness.{is_nonzero}
@@ -10,17 +10,14 @@ use Rattle.hint_chain.specs.declared.unit.UnitPart.{UnitPart}
 use Rattle.hint_chain.specs.Closing.{are_apart}
 use Rattle.hint_chain.specs.Units.{next_id, FalsifiesLiteral, FalsifiesNext, path_literals, IsUnitPath}
 use Rattle.node_table.specs.declared.node.Node.{Node}
-use Rattle.node_table.specs.declared.node.Node.TheVariants.{False, True, Inner}
+use Rattle.node_table.specs.declared.node.Node.TheVariants.{False, Inner}
 use Rattle.node_table.specs.declared.node.NodeKey.{NodeKey}
 use Rattle.node_table.specs.declared.node.Branch.{Branch}
 use Rattle.node_table.specs.Diagram.{Graph, IsOrder, IsReduced, KeepsNodes, branch_at, levels, variable_at}
-use Rattle.node_table.specs.Defined.{IsDefined, defs_of}
 use Rattle.node_table.specs.Tied.{KeepsClauses}
 use Rattle.clause_terms.specs.declared.placed.Placed.{Placed}
-use Rattle.clause_terms.specs.Placed.{literal_at, placed_holds}
-use Rattle.clause_terms.specs.ClauseDiagram.{IsBefore, LiesFrom, IsTopNode, IsTop, IsDiagramOf, high_of, low_of}
-use Rattle.clause_terms.proofs.Inner.{IsInnerOf}
-use Rattle.clause_terms.proofs.Links.{positive_part, negative_part, positive_literal, positive_next, positive_last, negative_literal, negative_next, negative_last}
+use Rattle.clause_terms.specs.Placed.{literal_at}
+use Rattle.clause_terms.specs.ClauseDiagram.{IsBefore, IsTopNode, IsTop}
 use Rattle.clause_terms.proofs.Apart.{AllLieFrom, none_alike, node_apart, literal_apart, lies_kept}
 
 abbrev pub LastLaw : Type 0

@@ -1,7 +1,7 @@
 -- The diagram of a clause: a node for each of its variables, from the top down. The literal's child is True, the other
 -- one the next node, at last False. (Bryant, Heule: Generating Extended Resolution Proofs with a BDD-Based SAT Solver,
 -- 2021, section 5.)
-use Rattle.std.specs.Prelude.{◌≡◌, ◌⊎◌, ◌<◌, ◌≤◌, ℕ, Bool, ℤ, pos, nat_abs, List, [], ◌∷◌, map, Option, None, Some, IsTrue, if◌then◌else◌}
+use Rattle.std.specs.Prelude.{◌≡◌, ◌⊎◌, ◌<◌, ◌≤◌, ℕ, ℤ, pos, nat_abs, List, [], ◌∷◌, map, Option, None, Some, IsTrue, if◌then◌else◌}
 use Rattle.std.specs.List.{list_any}
 use Rattle.std.specs.Ordering.{int_eq}
 use Rattle.lrat_rules.specs.State.{Live}

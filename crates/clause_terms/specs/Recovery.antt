@@ -1,6 +1,6 @@
 -- The assignment that is recovered from a diagram: of those that make it true the least, the variables compared in the
 -- order and false before true.
-use Rattle.std.specs.Prelude.{◌≡◌, ℕ, ◌<◌, ◌≤◌, Bool, true, false, List, length}
+use Rattle.std.specs.Prelude.{◌≡◌, ℕ, ◌<◌, Bool, true}
 use Rattle.node_table.specs.Value.{Levels}
 
 -- It makes the function true. Each other one that does has true where it has, at the first place where they differ.

@@ -1,5 +1,5 @@
 -- On the way down from a node, with the values so far.
-use Rattle.std.specs.Prelude.{◌≡◌, ◌≢◌, ℕ, ◌<◌, ◌≤◌, Bool, true, false, List, length}
+use Rattle.std.specs.Prelude.{◌≡◌, ◌≢◌, ℕ, ◌<◌, ◌≤◌, Bool, true, false, List}
 use Rattle.cnf_base.specs.Truth.{assignment_of}
 use Rattle.node_table.specs.declared.node.Node.{Node}
 use Rattle.node_table.specs.declared.node.Node.TheVariants.{False}

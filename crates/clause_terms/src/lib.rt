@@ -1,14 +1,18 @@
-//! Terms: diagrams with the live clauses that prove them. So far there is one step on the way: the node of a literal is
-//! put on top of the diagram of a clause's later literals, and with its defining clauses the unit of the top node still
-//! follows from the clause. It stands on `node_table` for nodes and on `hint_chain` for the unit's hints.
+//! Terms: diagrams with the live clauses that prove them. A clause of the formula becomes the node of its function,
+//! whose unit clause is then live (`push_clause`), and from a node the least assignment that makes it true is recovered
+//! (`recover`). Both stand on the nodes of `node_table`; the hints of the unit are those of `hint_chain`.
 #![tactic(auto)]
 
 mod model;
+mod order;
 mod placed;
 mod recovery;
 mod step;
+mod term;
 
-pub use placed::Placed;
-pub use step::take_literal;
 pub use model::Model;
 pub use recovery::recover;
+pub use term::push_clause;
+
+#[cfg(test)]
+mod tests;

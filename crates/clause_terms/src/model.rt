@@ -1,4 +1,5 @@
 // Truth values of all variables.
+ghost use Rattle.std.specs.Prelude.{◌≡◌};
 
 /// An assignment: the value of variable 1 first.
 #[derive(Debug, Drop)]

@@ -4,7 +4,7 @@ ghost use Rattle.node_table.specs.declared.node.Node.TheVariants.{False};
 ghost use Rattle.node_table.specs.Diagram.{is_node, levels};
 ghost use Rattle.node_table.specs.Value.{value_of};
 ghost use Rattle.clause_terms.specs.Recovery.{IsLeast};
-ghost use Rattle.clause_terms.specs.Walk.{IsDown, levels_of};
+ghost use Rattle.clause_terms.specs.Walk.{levels_of};
 
 use crate::model::Model;
 use cnf_base::OutOfMemory;

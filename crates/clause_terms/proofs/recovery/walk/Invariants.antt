@@ -1,8 +1,6 @@
 use Rattle.std.proofs.Common.{◌≡◌, ◌-◌, length}
 use Rattle.node_table.specs.Diagram.{levels, level_of}
 use Rattle.clause_terms.specs.Walk.{IsDown, levels_of}
-use Rattle.clause_terms.proofs.Down
-use Rattle.clause_terms.proofs.Set
 use Rattle.clause_terms.proofs.recovery.walk.Given as goal
 
 abbrev pub invariant-down : goal.invariant-down
