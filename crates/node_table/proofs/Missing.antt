@@ -37,8 +37,8 @@ module _ (graph : Graph) (reduced : IsReduced graph) (level : ℕ) (high low : N
       let high_child = reduced.high key.index b at in
       let low_child = reduced.low key.index b at in
       reduced.differ key.index b at (canonical graph reduced b.high b.low high_child.stands low_child.stands (λ a.
-        sym (value-high graph reduced a key b at) ∙ same (with_level a b.level true) ∙ unseen a b.level true above
-        ∙ sym (unseen a b.level false above) ∙ sym (same (with_level a b.level false)) ∙ value-low graph reduced a key b at))
+      sym (value-high graph reduced a key b at) ∙ same (with_level a b.level true) ∙ unseen a b.level true above
+      ∙ sym (unseen a b.level false above) ∙ sym (same (with_level a b.level false)) ∙ value-low graph reduced a key b at))
 
   -- one that isn't has these cofactors
   module _ (node : Node) (is : is_node graph node ≡ true) (same : HasJoined node) (not_above : level ≤ level_of graph node) where
@@ -46,21 +46,21 @@ module _ (graph : Graph) (reduced : IsReduced graph) (level : ℕ) (high low : N
     high_same =
         let below = (cofactors-below graph reduced level node is not_above small).0 in
         canonical graph reduced (high_at graph level node) high below.stands high_below.stands (λ a.
-          let b = with_level a level true in
-          sym (value-below graph reduced a level true (high_at graph level node) below)
-          ∙ sym (value-split graph reduced b level node is ∙ ap (λ t. if t then value_of graph b (high_at graph level node) else value_of graph b (low_at graph level node)) (with_level-here a level true))
-          ∙ same b ∙ ap (λ t. if t then value_of graph b high else value_of graph b low) (with_level-here a level true)
-          ∙ value-below graph reduced a level true high high_below)
+        let b = with_level a level true in
+        sym (value-below graph reduced a level true (high_at graph level node) below)
+        ∙ sym (value-split graph reduced b level node is ∙ ap (λ t. if t then value_of graph b (high_at graph level node) else value_of graph b (low_at graph level node)) (with_level-here a level true))
+        ∙ same b ∙ ap (λ t. if t then value_of graph b high else value_of graph b low) (with_level-here a level true)
+        ∙ value-below graph reduced a level true high high_below)
 
     low_same : low_at graph level node ≡ low
     low_same =
         let below = (cofactors-below graph reduced level node is not_above small).1 in
         canonical graph reduced (low_at graph level node) low below.stands low_below.stands (λ a.
-          let b = with_level a level false in
-          sym (value-below graph reduced a level false (low_at graph level node) below)
-          ∙ sym (value-split graph reduced b level node is ∙ ap (λ t. if t then value_of graph b (high_at graph level node) else value_of graph b (low_at graph level node)) (with_level-here a level false))
-          ∙ same b ∙ ap (λ t. if t then value_of graph b high else value_of graph b low) (with_level-here a level false)
-          ∙ value-below graph reduced a level false low low_below)
+        let b = with_level a level false in
+        sym (value-below graph reduced a level false (low_at graph level node) below)
+        ∙ sym (value-split graph reduced b level node is ∙ ap (λ t. if t then value_of graph b (high_at graph level node) else value_of graph b (low_at graph level node)) (with_level-here a level false))
+        ∙ same b ∙ ap (λ t. if t then value_of graph b high else value_of graph b low) (with_level-here a level false)
+        ∙ value-below graph reduced a level false low low_below)
 
   pub missing_nowhere : IsWanted graph level high low → (node : Node) → is_node graph node ≡ true → HasJoined node → ⊥
   missing_nowhere wanted False is same = wanted.differ (sym (high_same False is same (omega (arith, small))) ∙ low_same False is same (omega (arith, small)))
