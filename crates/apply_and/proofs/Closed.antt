@@ -1,7 +1,5 @@
 -- The two additions of a conjunction: their clauses are of different variables, and their hints close.
-use Rattle.std.proofs.Common.{◌≡◌, ◌≢◌, ◌<◌, ◌≤◌, ℕ, zero, suc, ℤ, pos, neg_ℤ, nat_abs, int_eq, true, false, List, [], ◌∷◌, length, Option, None, Some, is_some, refl, sym, ap, ◌∙◌, subst, arith, inl, inr, ◌⊎◌}
-use Rattle.std.specs.Prelude.{IsTrue}
-use Rattle.std.specs.List.{list_any}
+use Rattle.std.proofs.Common.{◌≡◌, ◌<◌, ◌≤◌, ℕ, zero, suc, ℤ, pos, neg_ℤ, nat_abs, true, false, List, ◌∷◌, Option, Some, refl, sym, ap, subst, arith}
 use Rattle.std.specs.Option.{option_map}
 use Rattle.lrat_rules.specs.State.{Live}
 use Rattle.hint_chain.specs.Atoms.{clause_of, is_trivial}
@@ -10,8 +8,7 @@ use Rattle.hint_chain.specs.Additions.{where_true}
 use Rattle.node_table.specs.declared.node.Node.{Node}
 use Rattle.node_table.specs.declared.node.Just.{Just}
 use Rattle.node_table.specs.Diagram.{Graph, IsReduced, IsOrder, levels, level_of, level_in, variable_at}
-use Rattle.node_table.specs.Defined.{atom_of}
-use Rattle.node_table.specs.Tied.{IsOverNodes, IsOwned}
+use Rattle.node_table.specs.Tied.{IsOverNodes}
 use Rattle.node_table.specs.Just.{IsJustified}
 use Rattle.apply_and.specs.declared.operands.Operands.{Operands}
 use Rattle.apply_and.specs.declared.parts.Side.{Side}

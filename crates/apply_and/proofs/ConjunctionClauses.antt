@@ -1,6 +1,6 @@
 -- The clause of a conjunction: its literals are of different variables, each the extension variable of a node.
-use Rattle.std.proofs.Common.{◌≡◌, ◌≢◌, ◌<◌, ◌≤◌, ◌+◌, ◌||◌, ◌&&◌, ℕ, zero, suc, ℤ, pos, negsuc, neg_ℤ, nat_abs, int_eq, Bool, true, false, not, List, [], ◌∷◌, length, Option, None, Some, is_some, refl, sym, ap, ◌∙◌, subst, arith, inl, inr, ◌⊎◌, ne_eqb, eq-eqb}
-use Rattle.std.specs.Prelude.{IsTrue, ◌==◌, nat_lt}
+use Rattle.std.proofs.Common.{◌≡◌, ◌≢◌, ◌<◌, ◌≤◌, ◌||◌, ◌&&◌, ℕ, zero, suc, ℤ, pos, neg_ℤ, nat_abs, int_eq, Bool, true, false, not, List, [], ◌∷◌, Option, None, Some, refl, sym, ap, ◌∙◌, subst, arith, inl, inr, ne_eqb}
+use Rattle.std.specs.Prelude.{◌==◌}
 use Rattle.std.specs.List.{list_any, list_all}
 use Rattle.std.proofs.Math.IntN.{neg_ℤ-neg_ℤ}
 use Rattle.std.proofs.lemmas.Bool.{and_parts, and_from, or_cases}
@@ -15,11 +15,11 @@ use Rattle.node_table.specs.declared.node.Node.{Node}
 use Rattle.node_table.specs.declared.node.Node.TheVariants.{False, True, Inner}
 use Rattle.node_table.specs.declared.node.NodeKey.{NodeKey}
 use Rattle.node_table.specs.declared.node.Branch.{Branch}
-use Rattle.node_table.specs.Diagram.{Graph, IsReduced, branch_at, branch_of, is_node, levels}
+use Rattle.node_table.specs.Diagram.{Graph, IsReduced, branch_at, levels}
 use Rattle.node_table.specs.Defined.{atom_of, atom_in}
 use Rattle.node_table.specs.Tied.{IsOwned}
 use Rattle.apply_and.specs.Conjunction.{conjunction_atoms}
-use Rattle.apply_and.proofs.NodeParts.{IsAt, IsAt-from}
+use Rattle.apply_and.proofs.NodeParts.{IsAt}
 
 -- whole numbers and their signs
 abs_neg : (n : ℕ) → nat_abs (neg_ℤ (pos n)) ≡ n

@@ -1,33 +1,30 @@
 -- The conjunction by its cofactors, and that it stays one as nodes and clauses are added.
-use Rattle.std.proofs.Common.{◌≡◌, ◌≢◌, ◌<◌, ◌≤◌, ◌+◌, ◌-◌, ◌&&◌, ◌||◌, ℕ, length, ℤ, pos, neg_ℤ, int_eq, Bool, true, false, List, [], ◌∷◌, Option, None, Some, is_some, refl, sym, ap, ◌∙◌, subst, arith, inl, inr, ◌⊎◌}
-use Rattle.std.specs.Prelude.{IsTrue, if◌then◌else◌, Contains, min}
+use Rattle.std.proofs.Common.{◌≡◌, ◌<◌, ◌≤◌, ◌+◌, ◌-◌, ◌&&◌, ◌||◌, ℕ, pos, neg_ℤ, int_eq, Bool, true, false, List, [], ◌∷◌, is_some, sym, ap, ◌∙◌, subst, arith, inl, inr, ◌⊎◌}
+use Rattle.std.specs.Prelude.{if◌then◌else◌, min}
 use Rattle.std.specs.List.{list_any}
 use Rattle.std.proofs.Math.IntN.{neg_ℤ-neg_ℤ}
 use Rattle.std.proofs.lemmas.Bool.{or_left, or_right}
 use Rattle.std.proofs.lemmas.Bool.Decides.{Decides-int_eq}
 use Rattle.lrat_rules.specs.State.{Live}
 use Rattle.hint_chain.specs.declared.atom.Atom.{Atom}
-use Rattle.hint_chain.specs.declared.atom.Atom.TheVariants.{Always, Never, Of}
+use Rattle.hint_chain.specs.declared.atom.Atom.TheVariants.{Of}
 use Rattle.hint_chain.specs.Atoms.{neg_atom, is_literal, is_trivial}
 use Rattle.hint_chain.specs.Additions.{conjunction}
 use Rattle.node_table.specs.declared.node.Node.{Node}
-use Rattle.node_table.specs.declared.node.Node.TheVariants.{False, True, Inner}
 use Rattle.node_table.specs.declared.node.Just.{Just}
-use Rattle.node_table.specs.declared.node.Branch.{Branch}
-use Rattle.node_table.specs.Diagram.{Graph, IsReduced, IsBelow, KeepsNodes, branch_at, branch_of, is_node, levels, level_of, high_at, low_at}
+use Rattle.node_table.specs.Diagram.{Graph, IsReduced, IsBelow, KeepsNodes, branch_of, is_node, level_of}
 use Rattle.node_table.specs.Value.{Levels, value_of}
 use Rattle.node_table.specs.Defined.{atom_of, atom_in}
 use Rattle.node_table.specs.Tied.{KeepsClauses}
 use Rattle.node_table.specs.Just.{IsJustified}
 use Rattle.node_table.specs.Table.{HasChildren}
 use Rattle.apply_and.specs.declared.operands.Operands.{Operands}
-use Rattle.apply_and.specs.declared.parts.Side.TheVariants.{High, Low}
 use Rattle.apply_and.specs.Operands.{AreSplit, IsInner}
 use Rattle.apply_and.specs.Conjunction.{conjunction_atoms, Conjoined}
-use Rattle.apply_and.specs.Cache.{Entry, FitsEntry, Fits}
-use Rattle.apply_and.specs.Additions.{IsSide, AreSides}
+use Rattle.apply_and.specs.Cache.{Entry, Fits}
+use Rattle.apply_and.specs.Additions.{AreSides}
 use Rattle.apply_and.proofs.Laws.{Cofactors, Growth}
-use Rattle.apply_and.proofs.NodeParts.{IsAt, IsAt-from}
+use Rattle.apply_and.proofs.NodeParts.{IsAt-from}
 use Rattle.apply_and.proofs.Closed.{split_level}
 
 pub inner_stands : (graph : Graph) (node : Node) → IsInner graph node → is_node graph node ≡ true
@@ -60,7 +57,23 @@ choose_both : (t w1 w0 u1 u0 v1 v0 : Bool) → w1 ≡ (u1 && v1) → w0 ≡ (u0 
 choose_both true w1 w0 u1 u0 v1 v0 high low = high
 choose_both false w1 w0 u1 u0 v1 v0 high low = low
 
--- the node of both sides' results is the conjunction
+-- The node of both sides' results is the conjunction: by its value, and as the answer.
+pub sides_value : Cofactors → (graph : Graph) → IsReduced graph → (before : Live) (o : Operands) → AreSplit graph o → (h l : Node) (high_just low_just : Just)
+    → Conjoined graph before o.u_high o.v_high h high_just → Conjoined graph before o.u_low o.v_low l low_just
+    → (a : Levels) → (if a o.level then value_of graph a h else value_of graph a l) ≡ (value_of graph a o.u && value_of graph a o.v)
+sides_value laws graph reduced before o split h l high_just low_just high low a =
+    choose_both (a o.level) (value_of graph a h) (value_of graph a l) (value_of graph a o.u_high) (value_of graph a o.u_low) (value_of graph a o.v_high) (value_of graph a o.v_low) (high.value a) (low.value a)
+    ∙ (λ i. (if a o.level then value_of graph a (split.first_high i) else value_of graph a (split.first_low i)) && (if a o.level then value_of graph a (split.second_high i) else value_of graph a (split.second_low i)))
+    ∙ (λ i. sym (laws.value graph reduced a o.level o.u (inner_stands graph o.u split.first)) i && sym (laws.value graph reduced a o.level o.v (inner_stands graph o.v split.second)) i)
+
+value_from : Cofactors → (graph : Graph) → IsReduced graph → (before : Live) (o : Operands) → AreSplit graph o → (h l : Node) (high_just low_just : Just)
+    → Conjoined graph before o.u_high o.v_high h high_just → Conjoined graph before o.u_low o.v_low l low_just → (w : Node) → HasChildren graph o.level h l w
+    → (a : Levels) → value_of graph a w ≡ (value_of graph a o.u && value_of graph a o.v)
+value_from laws graph reduced before o split h l high_just low_just high low w children a =
+    laws.value graph reduced a o.level w children.stands
+    ∙ (λ i. if a o.level then value_of graph a (children.high_child i) else value_of graph a (children.low_child i))
+    ∙ sides_value laws graph reduced before o split h l high_just low_just high low a
+
 pub conjoined_from : Cofactors → (graph : Graph) → IsReduced graph → (before live : Live) (o : Operands) → AreSplit graph o → (h l : Node) (high_just low_just : Just)
     → Conjoined graph before o.u_high o.v_high h high_just → Conjoined graph before o.u_low o.v_low l low_just → (w : Node) → HasChildren graph o.level h l w
     → (just : Just) → IsJustified live (conjunction_atoms graph o.u o.v w) just → Conjoined graph live o.u o.v w just
@@ -70,12 +83,7 @@ conjoined_from laws graph reduced before live o split h l high_just low_just hig
     | inl is ↦ omega (arith, children.not_above, is, first)
     | inr is ↦ omega (arith, children.not_above, is, second)
   ];
-  value = λ a.
-      laws.value graph reduced a o.level w children.stands
-      ∙ (λ i. if a o.level then value_of graph a (children.high_child i) else value_of graph a (children.low_child i))
-      ∙ choose_both (a o.level) (value_of graph a h) (value_of graph a l) (value_of graph a o.u_high) (value_of graph a o.u_low) (value_of graph a o.v_high) (value_of graph a o.v_low) (high.value a) (low.value a)
-      ∙ (λ i. (if a o.level then value_of graph a (split.first_high i) else value_of graph a (split.first_low i)) && (if a o.level then value_of graph a (split.second_high i) else value_of graph a (split.second_low i)))
-      ∙ (λ i. sym (laws.value graph reduced a o.level o.u (inner_stands graph o.u split.first)) i && sym (laws.value graph reduced a o.level o.v (inner_stands graph o.v split.second)) i);
+  value = value_from laws graph reduced before o split h l high_just low_just high low w children;
   justified = justified;
 }
 
@@ -193,6 +201,10 @@ pub conjoined_ready : Cofactors → (graph : Graph) → IsReduced graph → (bef
     → (w : Node) → HasChildren graph o.level high.0 low.0 w → (just : Just) → IsJustified live (conjunction_atoms graph o.u o.v w) just → Conjoined graph live o.u o.v w just
 conjoined_ready laws graph reduced before live o high low ready w children just justified =
     conjoined_from laws graph reduced before live o ready.split high.0 low.0 high.1 low.1 ready.on_high ready.on_low w children just justified
+
+pub value_ready : Cofactors → (graph : Graph) → IsReduced graph → (live : Live) (o : Operands) (high low : Node × Just) → IsReady graph live o high low
+    → (w : Node) → HasChildren graph o.level high.0 low.0 w → (a : Levels) → value_of graph a w ≡ (value_of graph a o.u && value_of graph a o.v)
+value_ready laws graph reduced live o high low ready w children = value_from laws graph reduced live o ready.split high.0 low.0 high.1 low.1 ready.on_high ready.on_low w children
 
 -- the earlier of the cofactors comes after the earlier of the operands
 pub measure_falls : (n m u v u1 v1 l : ℕ) → m ≡ n → l < n → l ≤ u → l ≤ v → (u ≡ l) ⊎ (v ≡ l) → l < u1 → l < v1 → m - min u1 v1 < n - min u v

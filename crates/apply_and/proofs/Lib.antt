@@ -5,3 +5,5 @@ pub mod Closed
 pub mod HandedOn
 pub mod Laws
 pub mod Conjunctions
+pub mod Made
+pub mod Named

@@ -1,17 +1,14 @@
 -- The defining clauses of a node as parts of a hint list.
-use Rattle.std.proofs.Common.{◌≡◌, ◌<◌, ◌≤◌, ℕ, ℤ, pos, neg_ℤ, Bool, true, false, List, length, Option, None, Some, is_some, refl, sym, ap, ◌∙◌, subst, arith, inl, inr, ◌⊎◌, eq-eqb}
-use Rattle.std.specs.Prelude.{IsTrue, if◌then◌else◌, ◌==◌, nat_lt}
+use Rattle.std.proofs.Common.{◌≡◌, ◌<◌, ℕ, pos, neg_ℤ, Bool, true, false, Option, None, Some, is_some, refl, sym, ap, ◌∙◌, subst, arith, eq-eqb}
+use Rattle.std.specs.Prelude.{if◌then◌else◌, ◌==◌, nat_lt}
 use Rattle.lrat_rules.specs.State.{Live}
-use Rattle.hint_chain.specs.declared.atom.Atom.{Atom}
-use Rattle.hint_chain.specs.declared.atom.Atom.TheVariants.{Always, Never, Of}
-use Rattle.hint_chain.specs.declared.part.Part.{Part}
+use Rattle.hint_chain.specs.declared.atom.Atom.TheVariants.{Of}
 use Rattle.hint_chain.specs.Atoms.{clause_of, is_nonzero_atom, up_clause, down_clause}
-use Rattle.hint_chain.specs.Additions.{part_clause, IsUpPart, IsDownPart}
 use Rattle.node_table.specs.declared.node.Node.{Node}
 use Rattle.node_table.specs.declared.node.Node.TheVariants.{False, True, Inner}
 use Rattle.node_table.specs.declared.node.NodeKey.{NodeKey}
 use Rattle.node_table.specs.declared.node.Branch.{Branch}
-use Rattle.node_table.specs.Diagram.{Graph, IsReduced, branch_at, branch_of, is_node, levels, high_at, low_at, child_in, variable_at}
+use Rattle.node_table.specs.Diagram.{Graph, IsReduced, branch_at, branch_of, is_node, levels, child_in, variable_at}
 use Rattle.node_table.specs.Defined.{IsDefined, atom_of, atom_in, clause_named, defs_of}
 use Rattle.apply_and.specs.declared.parts.Side.{Side}
 use Rattle.apply_and.specs.declared.parts.Side.TheVariants.{High, Low}

@@ -1,10 +1,10 @@
 -- The operands of a conjunction, split by the earlier of their variables. (Bryant: Graph-Based Algorithms for Boolean
 -- Function Manipulation, 1986, section 4.3: apply.)
-use Rattle.std.specs.Prelude.{◌≡◌, ◌≢◌, ◌⊎◌, ◌<◌, ◌≤◌, IsTrue, Option, Some}
+use Rattle.std.specs.Prelude.{◌≡◌, ◌≢◌, ◌⊎◌, ◌≤◌, Some}
 use Rattle.node_table.specs.declared.node.Node.{Node}
 use Rattle.node_table.specs.declared.node.Node.TheVariants.{False, True}
 use Rattle.node_table.specs.declared.node.Branch.{Branch}
-use Rattle.node_table.specs.Diagram.{Graph, branch_of, levels, level_of, high_at, low_at}
+use Rattle.node_table.specs.Diagram.{Graph, branch_of, level_of, high_at, low_at}
 use Rattle.apply_and.specs.declared.operands.Operands.{Operands}
 
 -- an inner node of the graph

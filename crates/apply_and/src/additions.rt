@@ -15,6 +15,7 @@ ghost use Rattle.node_table.specs.Progress.{Continues, BreaksOff};
 ghost use Rattle.apply_and.specs.Operands.{AreSplit};
 ghost use Rattle.apply_and.specs.Conjunction.{conjunction_atoms};
 ghost use Rattle.apply_and.specs.Additions.{AreSides, IsSide};
+ghost use Rattle.apply_and.specs.Cache.{IsNewJust};
 ghost use Rattle.apply_and.specs.declared.parts.Side.TheVariants.{High, Low};
 
 use crate::operands::Operands;
@@ -43,6 +44,7 @@ pub fn justify<S: Sink + Drop>(
     requires split { AreSplit table.old.graph operands.now }
     requires sides { AreSides table.old.graph table.old.book.state.live operands.now w high.now low.now }
     ensures justified { IfOk result (λ just. IsJustified table.new.book.state.live (conjunction_atoms table.new.graph operands.now.u operands.now.v w) just) }
+    ensures named { IfOk result (λ just. IsNewJust table.old.book.state table.new.book.state just) }
     ensures nodes { table.new.graph ≡ table.old.graph }
     ensures continues { UnlessTorn result (Continues S.tells (S.channel table.old.book.sink) (S.channel table.new.book.sink) table.old table.new) }
     ensures no_node_limit { result ≢ Err NodeLimit }
@@ -131,6 +133,7 @@ fn add_low<S: Sink + Drop>(
     requires first { first.clause ≡ neg_ℤ (pos (variable_at table.old.graph operands.now.level)) ∷ clause.now }
     requires live { clause_at table.old.book.state.live first.id ≡ Some first.clause }
     ensures added { IfOk result (λ id. clause_at table.new.book.state.live id ≡ Some clause.now) }
+    ensures number { IfOk result (λ id. (table.old.book.state.top < id) × (id ≤ table.new.book.state.top)) }
     ensures nodes { table.new.graph ≡ table.old.graph }
     ensures continues { UnlessTorn result (Continues S.tells (S.channel table.old.book.sink) (S.channel table.new.book.sink) table.old table.new) }
     ensures no_node_limit { result ≢ Err NodeLimit }

@@ -1,7 +1,8 @@
 // The computed cache: conjunctions that were found before, in an ordered map over their operands. Its size isn't
 // bounded yet.
-ghost use Rattle.std.specs.Prelude.{◌≡◌, ◌≤◌, ◌⊎◌, [], Contains, IfOk, IfSome, OnOk, OnErr};
-ghost use Rattle.apply_and.specs.Cache.{Entry, Fits, entries};
+ghost use Rattle.std.specs.Prelude.{◌≡◌, ◌≤◌, ◌⊎◌, ◌↔◌, [], Contains, IfOk, MatchOption, OnOk, OnErr};
+ghost use Rattle.std.specs.Cmp.{IsTotalOrder};
+ghost use Rattle.apply_and.specs.Cache.{Entry, Fits, HasOperands, entries};
 ghost use Rattle.node_table.specs.Diagram.{Graph};
 ghost use Rattle.lrat_rules.specs.State.{Live};
 
@@ -39,8 +40,11 @@ impl AndCache {
 
     /// The conjunction of two nodes, where it is kept.
     pub fn look(&self, u: Node, v: Node) -> Option<(Node, Just)>
-        ensures { IfSome result (λ found. Contains (entries self.now) (record { u = u; v = v; w = found.0; just = found.1 })) }
+        ensures { MatchOption result ((entry : Entry) → Contains (entries self.now) entry → HasOperands entry u v → ⊥)
+            (λ found. Contains (entries self.now) (record { u = u; v = v; w = found.0; just = found.1 })) }
     {
+        order_law::<(Node, Node)>();
+        let _ = self.results.len();
         match self.results.get(&(u, v)) {
             None => None,
             Some(found) => Some(*found),
@@ -49,12 +53,17 @@ impl AndCache {
 
     /// Keeps a conjunction. A refusal changes nothing.
     pub fn keep(&mut self, u: Node, v: Node, found: &(Node, Just)) -> Result<(), OutOfMemory>
-        ensures added { OnOk result (Contains (entries self.new) (record { u = u; v = v; w = found.now.0; just = found.now.1 })) }
-        ensures within { OnOk result ((entry : Entry) → Contains (entries self.new) entry
-            → Contains (entries self.old) entry ⊎ (entry ≡ record { u = u; v = v; w = found.now.0; just = found.now.1 })) }
+        ensures kept { OnOk result ((entry : Entry) → Contains (entries self.new) entry
+            ↔ ((entry ≡ record { u = u; v = v; w = found.now.0; just = found.now.1 }) ⊎ (Contains (entries self.old) entry × (HasOperands entry u v → ⊥)))) }
         ensures refused { OnErr result (entries self.new ≡ entries self.old) }
     {
+        order_law::<(Node, Node)>();
         self.results.insert((u, v), *found)?;
         Ok(())
     }
 }
+
+// The keys of a map are in a total order.
+fn order_law<K: Ord>()
+    ensures { IsTotalOrder K.cmp }
+{}

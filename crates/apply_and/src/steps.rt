@@ -1,11 +1,12 @@
 // One node or one clause more: what the table's calls leave, in the words of an operation that goes on.
-ghost use Rattle.std.specs.Prelude.{◌≡◌, ◌≢◌, ◌≤◌, ◌<◌, ◌+◌, Err, IsTrue, IfOk, IfErr, Some};
+ghost use Rattle.std.specs.Prelude.{◌≡◌, ◌≢◌, ◌⊎◌, ◌≤◌, ◌<◌, ◌+◌, Ok, Err, IsTrue, IfOk, IfErr, Some};
 ghost use Rattle.lrat_rules.specs.State.{clause_at};
 ghost use Rattle.lrat_rules.specs.Strict.{RefutesStrictly};
+ghost use Rattle.node_table.specs.declared.node.Node.{Node as NodeValue};
 ghost use Rattle.node_table.specs.declared.error.TableError.TheVariants.{NodeLimit, IdLimit, WriteFault};
-ghost use Rattle.node_table.specs.Diagram.{IsBelow, levels};
+ghost use Rattle.node_table.specs.Diagram.{IsBelow, is_node, levels};
 ghost use Rattle.node_table.specs.Tied.{IsTied, IsOverNodes};
-ghost use Rattle.node_table.specs.Table.{HasChildren, UnlessTorn, live_nodes};
+ghost use Rattle.node_table.specs.Table.{HasChildren, IsWanted, UnlessTorn, live_nodes};
 ghost use Rattle.node_table.specs.Progress.{Continues, BreaksOff};
 
 use cnf_base::{Id, Lit};
@@ -26,7 +27,9 @@ pub fn join<S: Sink + Drop>(
     requires high { IsBelow table.old.graph level high }
     requires low { IsBelow table.old.graph level low }
     ensures children { IfOk result (λ node. HasChildren table.new.graph level high low node) }
+    ensures only { UnlessTorn result ((other : NodeValue) → IsTrue (is_node table.new.graph other) → IsTrue (is_node table.old.graph other) ⊎ (result ≡ Ok other)) }
     ensures continues { UnlessTorn result (Continues S.tells (S.channel table.old.book.sink) (S.channel table.new.book.sink) table.old table.new) }
+    ensures missing { result ≡ Err NodeLimit → IsWanted table.old.graph level high low × (table.new.graph ≡ table.old.graph) }
     ensures node_limit { result ≡ Err NodeLimit → table.new.max_nodes ≤ live_nodes table.new.graph }
     ensures id_limit { result ≡ Err IdLimit → table.new.book.limit < table.new.book.state.top + 4 }
     ensures broken { result ≡ Err WriteFault → BreaksOff S.tells (S.channel table.old.book.sink) (S.channel table.new.book.sink) table.old table.new }
@@ -46,6 +49,7 @@ pub fn add<S: Sink + Drop>(
     requires strict { RefutesStrictly table.old.book.state.live clause.now hints.now }
     requires over_nodes { IsOverNodes table.old.graph clause.now }
     ensures added { IfOk result (λ id. clause_at table.new.book.state.live id ≡ Some clause.now) }
+    ensures number { IfOk result (λ id. (table.old.book.state.top < id) × (id ≤ table.new.book.state.top)) }
     ensures nodes { table.new.graph ≡ table.old.graph }
     ensures continues { UnlessTorn result (Continues S.tells (S.channel table.old.book.sink) (S.channel table.new.book.sink) table.old table.new) }
     ensures no_node_limit { result ≢ Err NodeLimit }

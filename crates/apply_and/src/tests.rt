@@ -57,12 +57,12 @@ impl Sink for ProofText {
     }
 }
 
-// The variables 1 and 2 in this order.
-fn order() -> [u32; 2]
+// The variables 1 and 2 in this order, or in the other one.
+fn order(reversed: bool) -> [u32; 2]
     ensures order { IsOrder result }
     ensures two { length result ≡ 2 }
 {
-    [1, 2]
+    if reversed { [2, 1] } else { [1, 2] }
 }
 
 // A formula without clauses.
@@ -75,6 +75,7 @@ fn no_clauses(alloc: Global) -> Cnf
 // A table of two variables without nodes.
 fn open(
     alloc: Global,
+    reversed: bool,
     sink: ProofText,
     max_nodes: u32,
     max_ids: u32,
@@ -90,7 +91,7 @@ fn open(
         Ok(ledger) => ledger,
         Err((_, e)) => return Err(e),
     };
-    match Table::open(alloc, ledger, &order(), max_nodes) {
+    match Table::open(alloc, ledger, &order(reversed), max_nodes) {
         Ok(table) => Ok(table),
         Err((_, e)) => Err(e),
     }
@@ -167,26 +168,52 @@ fn constant(value: bool) -> Node {
     if value { Node::True } else { Node::False }
 }
 
-/// All pairs of functions of two variables: the conjunction is the node of the function.
-#[test]
-fn all_pairs(rt: HostRuntime) -> Result<(), Fail> {
-    let sink = ProofText::new(rt.alloc(), 100_000);
-    let mut table = open(rt.alloc(), sink, 100, 10_000)?;
-    let mut nodes = Vec::new(rt.alloc());
+// Whether the third node is the conjunction of the others under each assignment.
+fn is_conjunction(table: &Table<ProofText>, u: Node, v: Node, w: Node) -> bool {
+    if !is_known(table, u) || !is_known(table, v) || !is_known(table, w) {
+        return false;
+    }
+    for values in [[false, false], [false, true], [true, false], [true, true]] {
+        let first = table.value(u, &values);
+        let second = table.value(v, &values);
+        if table.value(w, &values) != (first && second) {
+            return false;
+        }
+    }
+    true
+}
+
+// Each pair of functions, whose conjunction is the node of the function.
+fn each_pair(rt: &impl Abort, alloc: Global, reversed: bool) -> Result<(), Fail> {
+    let sink = ProofText::new(alloc, 100_000);
+    let mut table = open(alloc, reversed, sink, 100, 10_000)?;
+    let mut nodes = Vec::new(alloc);
     for row in 0..16_u8 {
         let node = function(&mut table, row)?;
         nodes.push(node)?;
     }
-    let mut cache = AndCache::new(rt.alloc(), 1)?;
+    let mut cache = AndCache::new(alloc, 1)?;
     for i in 0..16 {
         for j in 0..16 {
             let u = *nodes.get(i).ok_or("no node")?;
             let v = *nodes.get(j).ok_or("no node")?;
-            let found = conjoin(&mut table, &mut cache, u, v)?;
-            assert_eq!(rt; found.0, *nodes.get(i & j).ok_or("no node")?, "{i} {j}");
+            let (w, _) = conjoin(&mut table, &mut cache, u, v)?;
+            assert_eq!(rt;
+                w,
+                *nodes.get(i & j).ok_or("no node")?,
+                "{reversed} {i} {j}"
+            );
+            assert!(rt; is_conjunction(&table, u, v, w), "{reversed} {i} {j}");
         }
     }
     Ok(())
+}
+
+/// All pairs of functions of two variables, in both orders.
+#[test]
+fn all_pairs(rt: HostRuntime) -> Result<(), Fail> {
+    each_pair(&rt, rt.alloc(), false)?;
+    each_pair(&rt, rt.alloc(), true)
 }
 
 // The nodes of the table of lines below.
@@ -224,7 +251,7 @@ const DEFINITIONS: &str =
 #[test]
 fn lines(rt: HostRuntime) -> Result<(), Fail> {
     let sink = ProofText::new(rt.alloc(), 1_000);
-    let mut table = open(rt.alloc(), sink, 100, 10_000)?;
+    let mut table = open(rt.alloc(), false, sink, 100, 10_000)?;
     let n = five_nodes(&mut table)?;
     let mut cache = AndCache::new(rt.alloc(), 1)?;
     let (first, id) = conjoin(&mut table, &mut cache, n.u, n.v)?;
@@ -258,6 +285,34 @@ fn lines(rt: HostRuntime) -> Result<(), Fail> {
     Ok(())
 }
 
+/// A result that is a child of both operands; an operand that is the level's variable, and the other below it; that
+/// variable and a node with a child True.
+#[test]
+fn coincidences(rt: HostRuntime) -> Result<(), Fail> {
+    let sink = ProofText::new(rt.alloc(), 1_000);
+    let mut table = open(rt.alloc(), false, sink, 100, 10_000)?;
+    let p = make(&mut table, 1, Node::True, Node::False)?;
+    let a = make(&mut table, 0, p, Node::True)?;
+    let b = make(&mut table, 0, Node::True, p)?;
+    let x = make(&mut table, 0, Node::True, Node::False)?;
+    let mut cache = AndCache::new(rt.alloc(), 1)?;
+    let (child, id) = conjoin(&mut table, &mut cache, a, b)?;
+    assert_eq!(rt; (child, id), (p, Some(Id(12))));
+    let (both, id) = conjoin(&mut table, &mut cache, x, p)?;
+    assert_eq!(rt; id, Some(Id(17)));
+    assert_eq!(rt; table.parts(both), Some((0, p, Node::False)));
+    let (again, id) = conjoin(&mut table, &mut cache, x, a)?;
+    assert_eq!(rt; (again, id), (both, Some(Id(19))));
+    let text =
+        "1 3 -2 0 0\n2 -3 2 0 -1 0\n3 4 -1 -3 0 0\n4 4 1 0 0\n5 -4 -1 3 0 -3 -4 0\n6 5 -1 0 0\n\
+        7 5 1 -3 0 0\n8 -5 1 3 0 -6 -7 0\n9 6 -1 0 0\n10 -6 1 0 -9 0\n11 -1 -4 -5 3 0 5 0\n\
+        12 -4 -5 3 0 11 8 0\n13 7 -1 -3 0 0\n14 -7 -1 3 0 -13 0\n15 -7 1 0 -13 0\n16 -1 -6 -3 7 0 13 0\n\
+        17 -6 -3 7 0 16 10 0\n18 -1 -6 -4 7 0 13 5 0\n19 -6 -4 7 0 18 10 0\n";
+    let sink = table.into_ledger().close();
+    assert_eq!(rt; sink.bytes.as_slice(), text.as_bytes());
+    Ok(())
+}
+
 // Whether the conjunction of the first lines is refused.
 fn refusal(
     alloc: Global,
@@ -267,7 +322,13 @@ fn refusal(
 ) -> Result<Option<TableError>, Fail>
     requires few { max_nodes ≤ 100000000 }
 {
-    let mut table = open(alloc, ProofText::new(alloc, writes), max_nodes, max_ids)?;
+    let mut table = open(
+        alloc,
+        false,
+        ProofText::new(alloc, writes),
+        max_nodes,
+        max_ids,
+    )?;
     let n = five_nodes(&mut table)?;
     let mut cache = AndCache::new(alloc, 1)?;
     if !is_known(&table, n.u) || !is_known(&table, n.v) {

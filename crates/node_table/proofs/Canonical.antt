@@ -38,10 +38,10 @@ value-agree graph reduced a b node is same = agree_within graph reduced (levels 
 abbrev pub with_level : Levels → ℕ → Bool → Levels
 with_level a level value i = if i == level then value else a i
 
-with_level-here : (a : Levels) (level : ℕ) (value : Bool) → with_level a level value level ≡ value
+pub with_level-here : (a : Levels) (level : ℕ) (value : Bool) → with_level a level value level ≡ value
 with_level-here a level value = ap (λ t. if t then value else a level) (eq-eqb level level refl)
 
-with_level-other : (a : Levels) (level : ℕ) (value : Bool) (i : ℕ) → (i ≡ level → ⊥) → with_level a level value i ≡ a i
+pub with_level-other : (a : Levels) (level : ℕ) (value : Bool) (i : ℕ) → (i ≡ level → ⊥) → with_level a level value i ≡ a i
 with_level-other a level value i differ = ap (λ t. if t then value else a i) (ne_eqb i level differ)
 
 -- a node below a level doesn't see its variable
@@ -50,13 +50,13 @@ value-below graph reduced a level value node below =
     value-agree graph reduced (with_level a level value) a node below.stands (λ i above. with_level-other a level value i (λ same. omega (arith, above, same, below.below)))
 
 -- with the variable true a node has the value of its high child, else that of its low one
-value-high : (graph : Graph) → IsReduced graph → (a : Levels) (key : NodeKey) (b : Branch) → branch_at graph key.index ≡ Some b → value_of graph (with_level a b.level true) (Inner key) ≡ value_of graph a b.high
+pub value-high : (graph : Graph) → IsReduced graph → (a : Levels) (key : NodeKey) (b : Branch) → branch_at graph key.index ≡ Some b → value_of graph (with_level a b.level true) (Inner key) ≡ value_of graph a b.high
 value-high graph reduced a key b at =
     value_of-inner graph reduced (with_level a b.level true) key b at
     ∙ ap (λ t. if t then value_of graph (with_level a b.level true) b.high else value_of graph (with_level a b.level true) b.low) (with_level-here a b.level true)
     ∙ value-below graph reduced a b.level true b.high (reduced.high key.index b at)
 
-value-low : (graph : Graph) → IsReduced graph → (a : Levels) (key : NodeKey) (b : Branch) → branch_at graph key.index ≡ Some b → value_of graph (with_level a b.level false) (Inner key) ≡ value_of graph a b.low
+pub value-low : (graph : Graph) → IsReduced graph → (a : Levels) (key : NodeKey) (b : Branch) → branch_at graph key.index ≡ Some b → value_of graph (with_level a b.level false) (Inner key) ≡ value_of graph a b.low
 value-low graph reduced a key b at =
     value_of-inner graph reduced (with_level a b.level false) key b at
     ∙ ap (λ t. if t then value_of graph (with_level a b.level false) b.high else value_of graph (with_level a b.level false) b.low) (with_level-here a b.level false)

@@ -1,6 +1,6 @@
 -- What a graph that keeps the nodes of another says of them, and the value of a node by its cofactors at a level.
-use Rattle.std.proofs.Common.{◌≡◌, ℕ, zero, suc, ◌+◌, ◌-◌, ◌<◌, ◌≤◌, ℤ, Bool, true, false, List, length, Option, None, Some, is_some, cond, refl, sym, ap, ◌∙◌, subst, arith, inl, inr, eq-eqb, ne_eqb}
-use Rattle.std.specs.Prelude.{IsTrue, if◌then◌else◌, ◌==◌}
+use Rattle.std.proofs.Common.{◌≡◌, ℕ, zero, suc, ◌<◌, ◌≤◌, ℤ, Bool, true, false, List, length, Option, None, Some, is_some, refl, sym, ap, ◌∙◌, subst, arith, inl, inr, eq-eqb, ne_eqb}
+use Rattle.std.specs.Prelude.{if◌then◌else◌, ◌==◌}
 use Rattle.std.proofs.lemmas.Bool.{cases_eq}
 use Rattle.node_table.specs.declared.node.Node.{Node}
 use Rattle.node_table.specs.declared.node.Node.TheVariants.{False, True, Inner}
@@ -32,7 +32,7 @@ pub value-kept : (old new : Graph) → IsReduced old → KeepsNodes old new → 
 value-kept old new reduced keeps a node is =
     ap (λ (o : List ℕ). value_within (length o) new a node) keeps.order ∙ same_within old new reduced keeps (levels old) a node is
 
-branch_of-kept : (old new : Graph) → KeepsNodes old new → (node : Node) → is_node old node ≡ true → branch_of new node ≡ branch_of old node
+pub branch_of-kept : (old new : Graph) → KeepsNodes old new → (node : Node) → is_node old node ≡ true → branch_of new node ≡ branch_of old node
 branch_of-kept old new keeps False is = refl
 branch_of-kept old new keeps True is = refl
 branch_of-kept old new keeps (Inner key) is =

@@ -20,3 +20,6 @@ pub mod TwoVariables
 pub mod InUse
 pub mod InUseSame
 pub mod Progressed
+pub mod Subfunctions
+pub mod Reached
+pub mod Missing

@@ -7,3 +7,4 @@ pub mod Errors
 pub mod Table
 pub mod Just
 pub mod Progress
+pub mod Made

@@ -1,5 +1,5 @@
 -- What a call that may make nodes and clauses leaves, as it ends in step with the proof or breaks off.
-use Rattle.std.specs.Prelude.{◌≡◌, ◌⊎◌, ℕ, Bool, ℤ, List, Result, Ok, Err, IsTrue}
+use Rattle.std.specs.Prelude.{◌≡◌, Bool, ℤ, List, IsTrue}
 use Rattle.host_io.specs.Channel.{Channel, Rose}
 use Rattle.lrat_rules.specs.Run.{IsCutProof}
 use Rattle.clause_ledger.specs.Book.{IsProofOf, OnlyWrites}

@@ -1,5 +1,5 @@
 // Laws of diagrams, over everything: functions without work, whose clauses the crates above cite by a call.
-ghost use Rattle.std.specs.Prelude.{◌≡◌, ◌≤◌, ◌<◌, ℕ, ℤ, Bool, List, length, IsTrue, if◌then◌else◌};
+ghost use Rattle.std.specs.Prelude.{◌≡◌, ◌≤◌, ◌<◌, ◌+◌, ℕ, ℤ, Bool, true, false, List, length, IsTrue, if◌then◌else◌};
 ghost use Rattle.std.specs.FinMap as map;
 ghost use Rattle.cnf_base.specs.Truth.{AreClausesOf};
 ghost use Rattle.host_io.specs.Channel.{Channel};
@@ -10,11 +10,12 @@ ghost use Rattle.node_table.specs.declared.node.Just.{Just as JustValue};
 ghost use Rattle.node_table.specs.Tied.{IsTied, KeepsClauses};
 ghost use Rattle.node_table.specs.Defined.{atom_of};
 ghost use Rattle.node_table.specs.Just.{IsJustified};
-ghost use Rattle.node_table.specs.Table.{TableState, live_nodes};
+ghost use Rattle.node_table.specs.Table.{TableState, IsWanted, live_nodes};
 ghost use Rattle.node_table.specs.Progress.{Continues, BreaksOff};
 ghost use Rattle.node_table.specs.declared.node.Node.{Node as NodeValue};
 ghost use Rattle.node_table.specs.Diagram.{Graph, IsReduced, IsBelow, KeepsNodes, IsOrder, is_node, levels, level_of, high_at, low_at};
-ghost use Rattle.node_table.specs.Value.{Levels, value_of};
+ghost use Rattle.node_table.specs.Value.{Levels, value_of, fixed_to, IsSubfunction};
+ghost use Rattle.node_table.specs.Made.{MakesOnly, Reaches, ReachesNew};
 
 use hint_chain::clause_law;
 use host_io::Sink;
@@ -60,6 +61,46 @@ pub fn cofactor_law()
     // A value doesn't depend on the levels above the node.
     ensures below { (graph : Graph) → IsReduced graph → (a b : Levels) (node : NodeValue) → IsTrue (is_node graph node) → ((i : ℕ) → level_of graph node ≤ i → a i ≡ b i)
         → value_of graph a node ≡ value_of graph b node }
+{}
+
+/// A function with its first levels fixed, and the nodes that calls make for it.
+pub fn subfunction_law()
+    ensures same { (f : Levels → Bool) → IsSubfunction f f }
+    ensures further { (f g h : Levels → Bool) → IsSubfunction f g → IsSubfunction g h → IsSubfunction f h }
+    // A node's cofactor has its value where the levels down to this one are true, or false.
+    ensures high_value { (graph : Graph) → IsReduced graph → (level : ℕ) (node : NodeValue) → IsTrue (is_node graph node) → level ≤ level_of graph node → level < levels graph
+        → (a : Levels) → value_of graph a (high_at graph level node) ≡ value_of graph (fixed_to (level + 1) (λ i. true) a) node }
+    ensures low_value { (graph : Graph) → IsReduced graph → (level : ℕ) (node : NodeValue) → IsTrue (is_node graph node) → level ≤ level_of graph node → level < levels graph
+        → (a : Levels) → value_of graph a (low_at graph level node) ≡ value_of graph (fixed_to (level + 1) (λ i. false) a) node }
+    ensures high { (graph : Graph) → IsReduced graph → (level : ℕ) (node : NodeValue) → IsTrue (is_node graph node) → level ≤ level_of graph node → level < levels graph
+        → IsSubfunction (λ a. value_of graph a node) (λ a. value_of graph a (high_at graph level node)) }
+    ensures low { (graph : Graph) → IsReduced graph → (level : ℕ) (node : NodeValue) → IsTrue (is_node graph node) → level ≤ level_of graph node → level < levels graph
+        → IsSubfunction (λ a. value_of graph a node) (λ a. value_of graph a (low_at graph level node)) }
+    // Calls that make no node, one call after another, and one for a part of the function.
+    ensures none_made { (graph : Graph) (f : Levels → Bool) → MakesOnly graph graph f }
+    ensures made_further { (old mid new : Graph) → IsReduced mid → KeepsNodes mid new → (f : Levels → Bool) → MakesOnly old mid f → MakesOnly mid new f → MakesOnly old new f }
+    ensures made_for_part { (old new : Graph) (f g : Levels → Bool) → IsSubfunction f g → MakesOnly old new g → MakesOnly old new f }
+{}
+
+/// A node that is missing has the function of no other one. (Bryant 1986, theorem 1.)
+pub fn missing_law()
+    ensures { (graph : Graph) → IsReduced graph → (level : ℕ) (high low : NodeValue) → level < levels graph → IsBelow graph level high → IsBelow graph level low
+        → IsWanted graph level high low → (node : NodeValue) → IsTrue (is_node graph node)
+        → ((a : Levels) → value_of graph a node ≡ (if a level then value_of graph a high else value_of graph a low)) → ⊥ }
+{}
+
+/// Reachable nodes, and those that calls make.
+pub fn reach_law()
+    ensures itself { (graph : Graph) (node : NodeValue) → Reaches graph node node }
+    ensures further { (graph : Graph) (u v w : NodeValue) → Reaches graph u v → Reaches graph v w → Reaches graph u w }
+    ensures high { (graph : Graph) (level : ℕ) (node : NodeValue) → Reaches graph node (high_at graph level node) }
+    ensures low { (graph : Graph) (level : ℕ) (node : NodeValue) → Reaches graph node (low_at graph level node) }
+    ensures kept { (old new : Graph) → IsReduced old → KeepsNodes old new → (node other : NodeValue) → IsTrue (is_node old node) → Reaches old node other → Reaches new node other }
+    ensures none_made { (graph : Graph) (root : NodeValue) → ReachesNew graph graph root }
+    // Two calls, and a third one whose result reaches those of both.
+    ensures joined { (old one two new : Graph) → IsReduced one → IsReduced two → KeepsNodes one two → KeepsNodes two new → (high low root : NodeValue)
+        → IsTrue (is_node one high) → IsTrue (is_node two low) → ReachesNew old one high → ReachesNew one two low → ReachesNew two new root
+        → Reaches new root high → Reaches new root low → ReachesNew old new root }
 {}
 
 /// A table without nodes is tied to the formula's clauses.

@@ -16,6 +16,9 @@ mod tests;
 
 pub use diagram::Diagram;
 pub use error::TableError;
-pub use laws::{canonical_law, cofactor_law, growth_law, in_use_law, opening_law, progress_law};
+pub use laws::{
+    canonical_law, cofactor_law, growth_law, in_use_law, missing_law, opening_law, progress_law,
+    reach_law, subfunction_law,
+};
 pub use node::{Branch, Defs, Just, Node, NodeKey};
 pub use table::Table;

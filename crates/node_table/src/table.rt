@@ -9,6 +9,7 @@ ghost use Rattle.lrat_rules.specs.Run.{IsCutProof};
 ghost use Rattle.lrat_rules.specs.Strict.{RefutesStrictly};
 ghost use Rattle.clause_ledger.specs.Book.{IsProofOf, IsTorn, OnlyWrites, next_line, with_next};
 ghost use Rattle.node_table.specs.declared.node.Branch.{Branch as BranchValue};
+ghost use Rattle.node_table.specs.declared.node.Node.{Node as NodeValue};
 ghost use Rattle.node_table.specs.declared.node.Node.TheVariants.{Inner};
 ghost use Rattle.node_table.specs.declared.error.TableError.TheVariants.{NodeLimit, IdLimit, WriteFault};
 ghost use Rattle.node_table.specs.Diagram.{Graph, IsOrder, IsReduced, IsBelow, branch_at, branch_of, is_node, levels, level_of, high_at, low_at, variable_at};
@@ -118,6 +119,8 @@ impl<S: Sink + Drop> Table<S> {
         ensures known { (key : ℕ) (branch : BranchValue) → branch_at self.old.graph key ≡ Some branch → branch.level ≡ level → branch.high ≡ high → branch.low ≡ low
             → (result ≡ Ok (Inner (record { index = key }))) × (self.new ≡ self.old) }
         ensures made { IsWanted self.old.graph level high low → IfOk result (λ node. IsMade self.old self.new level high low node) }
+        // No other node is new.
+        ensures only { UnlessTorn result ((other : NodeValue) → IsTrue (is_node self.new.graph other) → IsTrue (is_node self.old.graph other) ⊎ (result ≡ Ok other)) }
         // The limits, tried in this order. A node that is refused changes nothing.
         ensures node_limit { (result ≡ Err NodeLimit) ↔ (IsWanted self.old.graph level high low × (self.old.max_nodes ≤ live_nodes self.old.graph)) }
         ensures id_limit { (result ≡ Err IdLimit) ↔ (IsWanted self.old.graph level high low × (live_nodes self.old.graph < self.old.max_nodes)

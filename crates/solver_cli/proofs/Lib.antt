@@ -11,6 +11,7 @@ pub mod Promised
 pub mod Helped
 pub mod Accepted
 pub mod Printed
+pub mod Unjudged
 pub mod Verdicts
 pub mod Named
 pub mod Whole

@@ -1,156 +1,29 @@
--- What is promised of a run that was to judge a proof.
-use Rattle.std.proofs.Common.{◌≡◌, ◌<◌, ◌≤◌, ℕ, ℤ, true, false, List, [], ◌++◌, length, append-nil, refl, sym, ap, ap₂, ◌∙◌, subst, Some, None, Ok, Err, IsTrue, inl, inr, true≢false}
-use Rattle.std.specs.Prelude.{Option, Result, ⊤, ◌⊎◌, ◌≢◌}
+-- What is promised of a run that judged its proof.
+use Rattle.std.proofs.Common.{◌≡◌, ℕ, true, false, List, [], ◌++◌, append-nil, refl, sym, ap, ◌∙◌, subst, Some, None, Ok, Err, IsTrue, inl, inr, true≢false}
+use Rattle.std.specs.Prelude.{Result, ⊤, ◌⊎◌, ◌≢◌}
 use Rattle.cnf_base.specs.Formula.{Formula}
-use Rattle.dimacs_reader.specs.Cnf.{formula, cnf}
-use Rattle.dimacs_reader.specs.declared.error.CnfKind.{CnfKind}
-use Rattle.host_io.specs.declared.role.Role.{Role}
+use Rattle.dimacs_reader.specs.Cnf.{formula}
 use Rattle.host_io.specs.declared.role.Role.TheVariants.{ProofIn, ProofOut, Out}
-use Rattle.lrat_rules.specs.Run.{Refutes, verdict}
+use Rattle.lrat_rules.specs.Run.{Refutes}
 use Rattle.lrat_rules.specs.declared.outcome.Reason.{Reason}
-use Rattle.lrat_checker.specs.TextVerdict.{max_bytes, text_verdict}
+use Rattle.lrat_checker.specs.TextVerdict.{text_verdict}
 use Rattle.lrat_checker.specs.declared.verdict.Verdict.{Verdict}
 use Rattle.lrat_checker.specs.declared.verdict.Verdict.TheVariants as judgement
 use Rattle.lrat_checker.specs.declared.verdict.CheckError.{CheckError}
 use Rattle.lrat_checker.specs.declared.verdict.CheckError.TheVariants as error
 use Rattle.solver_cli.specs.declared.status.Status.{Status}
-use Rattle.solver_cli.specs.declared.status.Status.TheVariants.{Sat, Unsat, Unknown, Verified, NotVerified, Help, Usage, CnfRefused, TooLong, ReadFault, WriteFault, OutOfMemory}
+use Rattle.solver_cli.specs.declared.status.Status.TheVariants.{Sat, Unsat, Unknown, Verified, NotVerified, WriteFault, OutOfMemory}
 use Rattle.solver_cli.specs.declared.status.Why.TheVariants.{NodeLimit}
 use Rattle.solver_cli.specs.Command.{Check, command}
 use Rattle.solver_cli.specs.ErrorText.{is_answer}
-use Rattle.solver_cli.specs.ExitCode.{status_of_check}
 use Rattle.solver_cli.specs.Verdict.{verdict_text, status_of_verdict}
-use Rattle.solver_cli.specs.Phases.{JudgesText, JudgesProof, PutsText}
-use Rattle.solver_cli.specs.Stages.{streams_of, Unjudged, Judged, status_of_printed}
-use Rattle.solver_cli.specs.Headline.{Run, written_in, taken_in, HasFault, Asks, AsksToJudge, HasVerdict, IsLongProof, VerdictOn, IsTrueAnswer, IsComplete}
-use Rattle.solver_cli.proofs.Facts.{behind, grown_by, nothing_more, no_answer, write_ends, one_text, one_proof, two_commands, only_misuse, only_help, same_formula}
-use Rattle.solver_cli.proofs.Promised.{Core, quiet_output, no_proof, no_verdict, none_written, same_written}
-use Rattle.solver_cli.proofs.Accepted.{took, accepted_refuses, accepted_long, accepted_refusals, Accepts, accepts_write, accepts_memory}
-use Rattle.solver_cli.proofs.Printed.{Law}
-
--- the laws of the rules and of the check
-pub record Laws : Type 0 where
-  pub sound : Law
-  pub verified : (clauses : List (List ℤ)) (bytes : List ℕ) → text_verdict clauses bytes ≡ Some judgement.Verified → Refutes clauses bytes
-  pub refused : (clauses : List (List ℤ)) (bytes : List ℕ) (line : ℕ) (reason : Reason) → length bytes ≤ max_bytes
-      → text_verdict clauses bytes ≡ Some (judgement.Refused line reason) → verdict clauses bytes ≡ Some (line, reason)
-  pub overlong : (clauses : List (List ℤ)) (bytes : List ℕ) → text_verdict clauses bytes ≡ None → max_bytes < length bytes
-
--- the words name one formula and one proof, which has one verdict
-one_verdict : (run : Run) {problem other : Formula} {bytes text : List ℕ} → AsksToJudge run problem bytes → AsksToJudge run other text
-    → text_verdict problem.clauses bytes ≡ text_verdict other.clauses text
-one_verdict run here there = ap₂ (λ (p : Formula) (b : List ℕ). text_verdict p.clauses b)
-    (same_formula here.asks.says (ap cnf (one_text run.files here.asks.command there.asks.command here.asks.stands there.asks.stands) ∙ there.asks.says))
-    (one_proof run.files here.asks.command there.asks.command here.stands there.stands)
-
-none_some : {text : Option Verdict} {judged : Verdict} → text ≡ None → text ≡ Some judged → ⊥
-none_some e d = cc
-
-one_some : {text : Option Verdict} (here there : Verdict) → text ≡ Some here → text ≡ Some there → here ≡ there
-one_some here there e d = inner (sym e ∙ d) where
-  inner : ◌≡◌ {A = Option Verdict} (Some here) (Some there) → here ≡ there
-  inner e = cc
-
--- what is complete of a run whose formula was taken to judge a proof over it
-check_complete : (run : Run) (file proof : List ℕ) (problem : Formula) → command run.words ≡ Some (Check file proof) → (IsTrue run.tells → Asks run (Check file proof) (formula problem))
-    → ((other : Formula) (bytes : List ℕ) (judged : Verdict) → HasVerdict run other bytes judged → IsTrue run.tells → (HasFault run ProofIn → ⊥) → (HasFault run Out → ⊥)
-    → (run.status ≡ status_of_verdict judged) ⊎ (run.status ≡ OutOfMemory))
-    → ((other : Formula) (bytes : List ℕ) → AsksToJudge run other bytes → text_verdict other.clauses bytes ≡ None → IsTrue run.tells → (HasFault run ProofIn → ⊥)
-    → (run.status ≡ TooLong ProofIn) ⊎ (run.status ≡ OutOfMemory))
-    → IsComplete run
-check_complete run file proof problem gives read judges long = record {
-  misused = λ only. absurd (only_misuse run.words gives only);
-  helped = λ only _. absurd (only_help run.words gives only);
-  answers = λ other asks. absurd (two_commands asks.asks.command gives);
-  judges = λ other bytes judged has t _ b c. judges other bytes judged has t b c;
-  refuses = λ other kind line asks t a. absurd (accepted_refuses run (Check file proof) problem (read t) other kind line asks);
-  overlong = λ other asks t a. absurd (accepted_long run (Check file proof) problem (read t) other asks);
-  long_proof = λ other bytes asks long_text t _ b. long other bytes asks long_text t b;
-}
-
--- statuses with which a run ends whose proof was not judged
-record Unread (status : Status) : Type 0 where
-  pub unanswered : is_answer status ≡ false
-  pub usage : status ≡ Usage → ⊥
-  pub help : status ≡ Help → ⊥
-  pub refused : (kind : CnfKind) (line : ℕ) → status ≡ CnfRefused kind line → ⊥
-  pub write : status ≡ WriteFault → ⊥
-
-unread : (status : Status) (e : CheckError) → status ≡ status_of_check e → Unread status
-unread status error.ReadFault is = record { unanswered = ap is_answer is; usage = λ e. cc; help = λ e. cc; refused = λ kind line e. cc; write = λ e. cc }
-unread status error.TooLong is = record { unanswered = ap is_answer is; usage = λ e. cc; help = λ e. cc; refused = λ kind line e. cc; write = λ e. cc }
-unread status error.OutOfMemory is = record { unanswered = ap is_answer is; usage = λ e. cc; help = λ e. cc; refused = λ kind line e. cc; write = λ e. cc }
-
--- the proof was not judged
-pub unjudged : Laws → (run : Run) (file proof : List ℕ) → command run.words ≡ Some (Check file proof) → Unjudged run.tells (streams_of run.before) (streams_of run.after) run.files file proof run.status → Core run
-unjudged laws run file proof asked u = go u.error u.judges u.ends where
-  read : IsTrue run.tells → Asks run (Check file proof) (formula u.problem)
-  read = took run (Check file proof) u.problem asked u.takes
-
-  to_judge : {result : Result Verdict CheckError} → IsTrue run.tells → (text : JudgesText run.files proof u.problem.clauses (taken_in run ProofIn) result) → AsksToJudge run u.problem text.bytes
-  to_judge t text = record { file = file; proof = proof; asks = read t; stands = text.stands }
-
-  core : Unread run.status
-      → ((role : Role) → run.status ≡ TooLong role → (role ≡ ProofIn) × (IsTrue run.tells → IsLongProof run))
-      → (run.status ≡ ReadFault → HasFault run ProofIn) → IsComplete run → Core run
-  core ends long fault complete = record {
-    unsatisfiable = λ e. absurd (no_answer ends.unanswered refl e);
-    satisfiable = λ e. absurd (no_answer ends.unanswered refl e);
-    undecided = λ e. absurd (no_answer ends.unanswered refl e);
-    verdict = no_verdict run ends.unanswered;
-    refusals = record {
-      usage = λ e. absurd (ends.usage e);
-      help = λ e. absurd (ends.help e);
-      refused = λ kind line e. absurd (ends.refused kind line e);
-      too_long = λ role e. inr (long role e);
-    };
-    faults = record { read = λ e. inr (fault e); write = λ e. absurd (ends.write e); accepted = λ e. absurd (ends.write e) };
-    output = quiet_output run ends.unanswered ends.help (same_written u.out);
-    proof = no_proof run (none_written run ProofOut u.proof);
-    complete = complete;
-  }
-
-  go : (e : CheckError) → JudgesProof run.tells (run.before ProofIn) (run.after ProofIn) run.files proof u.problem.clauses (Err e) → run.status ≡ status_of_check e → Core run
-  go error.ReadFault judges ends =
-      let rose : HasFault run ProofIn = judges.fault refl in
-      core (unread run.status error.ReadFault ends) (λ role e. absurd (apart role ends e)) (λ _. rose)
-      (check_complete run file proof u.problem asked read (λ other bytes judged has t faultless _. absurd (faultless rose)) (λ other bytes asks long t faultless. absurd (faultless rose))) where
-        apart : {status : Status} (role : Role) → status ≡ ReadFault → status ≡ TooLong role → ⊥
-        apart role d e = cc
-  go error.TooLong judges ends =
-      core (unread run.status error.TooLong ends) (λ role e. (same role (sym e ∙ ends), λ t. is_long t)) (λ e. absurd (apart ends e))
-      (check_complete run file proof u.problem asked read
-      (λ other bytes judged has t _ _. let text = text_of t in absurd (none_some (one_verdict run has.asked (to_judge t text) ∙ text.judged) has.judged))
-      (λ other bytes asks long t _. inl ends)) where
-        no_fault : ◌≡◌ {A = Result Verdict CheckError} (Err error.TooLong) (Err error.ReadFault) → ⊥
-        no_fault e = cc
-
-        text_of : IsTrue run.tells → JudgesText run.files proof u.problem.clauses (taken_in run ProofIn) (Err error.TooLong)
-        text_of t = elim (judges.read t) [ inl e ↦ absurd (no_fault e) | inr text ↦ text ]
-
-        is_long : IsTrue run.tells → IsLongProof run
-        is_long t = let text = text_of t in record {
-          problem = u.problem;
-          bytes = text.bytes;
-          asked = to_judge t text;
-          judged = text.judged;
-          decided = text.decided;
-          long = laws.overlong u.problem.clauses (taken_in run ProofIn) text.decided;
-        }
-
-        same : (role : Role) → TooLong role ≡ TooLong ProofIn → role ≡ ProofIn
-        same role e = cc
-
-        apart : {status : Status} → status ≡ TooLong ProofIn → status ≡ ReadFault → ⊥
-        apart d e = cc
-  go error.OutOfMemory judges ends =
-      core (unread run.status error.OutOfMemory ends) (λ role e. absurd (not_long role ends e)) (λ e. absurd (apart ends e))
-      (check_complete run file proof u.problem asked read (λ other bytes judged has t _ _. inr ends) (λ other bytes asks long t _. inr ends)) where
-        not_long : {status : Status} (role : Role) → status ≡ OutOfMemory → status ≡ TooLong role → ⊥
-        not_long role d e = cc
-
-        apart : {status : Status} → status ≡ OutOfMemory → status ≡ ReadFault → ⊥
-        apart d e = cc
+use Rattle.solver_cli.specs.Phases.{JudgesText, PutsText}
+use Rattle.solver_cli.specs.Stages.{streams_of, Judged, status_of_printed}
+use Rattle.solver_cli.specs.Headline.{Run, written_in, taken_in, HasFault, Asks, AsksToJudge, HasVerdict, VerdictOn, IsTrueAnswer}
+use Rattle.solver_cli.proofs.Facts.{behind, grown_by, nothing_more, no_answer, write_ends}
+use Rattle.solver_cli.proofs.Promised.{Core, no_proof, no_verdict, none_written}
+use Rattle.solver_cli.proofs.Accepted.{took, accepted_refusals, Accepts, accepts_write, accepts_memory}
+use Rattle.solver_cli.proofs.Unjudged.{Laws, one_verdict, none_some, one_some, check_complete}
 
 -- statuses of verdicts
 

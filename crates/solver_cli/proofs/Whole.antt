@@ -13,7 +13,8 @@ use Rattle.solver_cli.proofs.Promised.{Core, misused, untaken}
 use Rattle.solver_cli.proofs.Helped.{helped}
 use Rattle.solver_cli.proofs.Accepted.{uncreated, undecided}
 use Rattle.solver_cli.proofs.Printed.{answered}
-use Rattle.solver_cli.proofs.Verdicts.{Laws, unjudged, judged}
+use Rattle.solver_cli.proofs.Unjudged.{Laws, unjudged}
+use Rattle.solver_cli.proofs.Verdicts.{judged}
 use Rattle.solver_cli.proofs.Named.{stream_names, names, error_stands}
 
 core : Laws → (run : Run) → Stages run.tells run.words (streams_of run.before) (streams_of run.after) run.files run.status → Core run

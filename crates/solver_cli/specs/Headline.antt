@@ -114,7 +114,7 @@ pub record IsVerified (run : Run) : Type 0 where
   pub unsatisfiable : (a : Assignment) → Satisfies a problem.clauses → ⊥
   pub printed : written_in run Out ≡ verified_line
 
--- Not verified: this is the first bad line of the proof, and why it is bad.
+-- Not verified: this is the first bad line of the proof, or that of its end, and why it is refused.
 pub record IsNotVerified (run : Run) (line : ℕ) (reason : Reason) : Type 0 where
   pub problem : Formula
   pub bytes : List ℕ

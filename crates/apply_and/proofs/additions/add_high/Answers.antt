@@ -1,4 +1,4 @@
-use Rattle.std.proofs.Common.{◌≡◌, ◌<◌, ◌≤◌, ◌∙◌, pos, neg_ℤ, ℕ, List, [], ◌∷◌, ℤ, true, arith, nat_abs, Some, ap, sym, subst}
+use Rattle.std.proofs.Common.{◌≡◌, ◌∙◌, pos, neg_ℤ, ℕ, List, [], ◌∷◌, ℤ, true, arith, ap, sym, subst}
 use Rattle.lrat_rules.specs.Strict.{RefutesStrictly}
 use Rattle.lrat_rules.specs.Chain.{literals_of}
 use Rattle.hint_chain.specs.Closing.{are_among, are_apart}

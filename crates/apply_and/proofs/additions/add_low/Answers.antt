@@ -1,10 +1,8 @@
-use Rattle.std.proofs.Common.{◌≡◌, ◌<◌, ◌≤◌, ◌∙◌, pos, ℕ, List, [], ◌∷◌, ℤ, true, arith, nat_abs, Some, ap, sym, subst}
+use Rattle.std.proofs.Common.{◌≡◌, ◌<◌, ◌∙◌, pos, ℕ, List, [], ◌∷◌, true, arith, Some, ap, sym, subst}
 use Rattle.lrat_rules.specs.Strict.{RefutesStrictly}
-use Rattle.std.specs.Prelude.{nat_lt}
 use Rattle.hint_chain.specs.Closing.{are_among}
-use Rattle.hint_chain.specs.Atoms.{clause_of}
 use Rattle.lrat_rules.specs.Soundness.{is_nonzero}
-use Rattle.node_table.specs.Diagram.{Graph, variable_at}
+use Rattle.node_table.specs.Diagram.{variable_at}
 use Rattle.node_table.specs.Defined.{atom_of}
 use Rattle.apply_and.specs.Conjunction.{conjunction_atoms}
 use Rattle.apply_and.specs.Sides.{cofactor_at}

@@ -1,4 +1,4 @@
-use Rattle.std.proofs.Common.{◌≡◌, ◌∙◌, true, Some, ap, sym, subst}
+use Rattle.std.proofs.Common.{◌≡◌, ◌∙◌, ◌≤◌, true, Some, ap, sym, subst, arith}
 use Rattle.hint_chain.specs.Closing.{are_among}
 use Rattle.hint_chain.specs.Atoms.{clause_of}
 use Rattle.node_table.specs.declared.node.Just.TheVariants.{Clause}
@@ -9,6 +9,7 @@ use Rattle.apply_and.specs.declared.parts.Side.TheVariants.{High}
 use Rattle.node_table.specs.declared.error.TableError.TheVariants.{WriteFault}
 use Rattle.apply_and.proofs.Closed.{is_open}
 use Rattle.apply_and.proofs.HandedOn.{handed_on}
+use Rattle.apply_and.proofs.Named.{IsNewJust-clause}
 use Rattle.apply_and.proofs.additions.justify.Goals as goal
 
 pub returns-in_err-id-clause-continues : goal.returns-in_err-id-clause-continues
@@ -29,3 +30,11 @@ returns-clause-justified g c =
 pub returns-clause-continues : goal.returns-clause-continues
 returns-clause-continues g c whole =
     c.progress_law.ensures.further _ _ _ _ _ _ (c.in_ok-first.ensures.continues (λ is. cc)) (c.in_ok-id.ensures.continues (λ is. cc))
+
+pub returns-clause-named : goal.returns-clause-named
+returns-clause-named g c =
+    let old = c.args.table.now.book.state in
+    let mid = c.add_high.new.table.book.state in
+    let new = c.add_low.new.table.book.state in
+    let more : old.top ≤ mid.top = (c.in_ok-first.ensures.continues (λ is. cc)).extends.numbers.no_less in
+    IsNewJust-clause old new c.in_ok-id.id (omega (arith, more, c.in_ok-id.ensures.number.0)) c.in_ok-id.ensures.number.1

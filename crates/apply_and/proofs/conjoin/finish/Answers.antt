@@ -1,16 +1,18 @@
-use Rattle.std.proofs.Common.{◌≡◌, ◌≢◌, ◌∙◌, ◌⊎◌, ap, sym, subst, true}
-use Rattle.hint_chain.specs.Atoms.{is_trivial}
-use Rattle.node_table.specs.declared.error.TableError.TheVariants.{WriteFault}
+use Rattle.std.proofs.Common.{◌≡◌, ◌⊎◌, ap, sym, subst, true, arith, Err, inl, inr}
+use Rattle.node_table.specs.declared.error.TableError.TheVariants.{NodeLimit, WriteFault}
 use Rattle.node_table.specs.declared.node.Just.TheVariants.{Trivial}
-use Rattle.node_table.specs.Diagram.{Graph, IsReduced}
+use Rattle.node_table.specs.declared.node.Node.{Node}
+use Rattle.node_table.specs.Diagram.{Graph, is_node}
+use Rattle.node_table.specs.Made.{LacksPart, MakesOnly}
 use Rattle.node_table.specs.Just.{IsJustified}
 use Rattle.node_table.specs.Progress.{Continues}
-use Rattle.apply_and.specs.Conjunction.{conjunction_atoms, Conjoined}
-use Rattle.apply_and.specs.Operands.{AreSplit}
-use Rattle.apply_and.proofs.Laws.{Cofactors, Growth}
+use Rattle.apply_and.specs.Conjunction.{conjunction_atoms, conjunction_of, Conjoined}
+use Rattle.apply_and.proofs.Laws.{Cofactors, Growth, Parts}
 use Rattle.apply_and.proofs.Closed.{split_level}
-use Rattle.apply_and.proofs.Conjunctions.{u_high_below, v_high_below, u_low_below, v_low_below, found_below, conjoined_from, trivial_operand, sides_from, split_kept, IsReady, ready_kept, conjoined_ready}
-use Rattle.apply_and.proofs.HandedOn.{handed_on}
+use Rattle.apply_and.proofs.Conjunctions.{u_high_below, v_high_below, u_low_below, v_low_below, found_below, trivial_operand, sides_from, split_kept, ready_kept, conjoined_ready, value_ready, inner_stands}
+use Rattle.apply_and.proofs.Made.{made_one, made_none, lacks_one}
+use Rattle.apply_and.proofs.HandedOn.{handed_on, came_from}
+use Rattle.apply_and.proofs.Named.{IsNewJust-within}
 use Rattle.apply_and.proofs.conjoin.finish.Goals as goal
 
 pub join-requires-clause-level : goal.join-requires-clause-level
@@ -85,3 +87,65 @@ returns-clause-conjoined g c =
 pub returns-clause-continues : goal.returns-clause-continues
 returns-clause-continues g c whole =
     c.progress_law.ensures.further _ _ _ _ _ _ (c.in_ok-w.ensures.continues (λ is. cc)) (c.in_ok-just.ensures.continues (λ is. cc))
+
+pub returns-in_err-w-clause-made : goal.returns-in_err-w-clause-made
+returns-in_err-w-clause-made g c whole =
+    made_none c.args.table.now.graph c.join.new.table.graph (conjunction_of c.args.table.now.graph c.args.operands.now.u c.args.operands.now.v)
+    (λ other is. elim (c.in_err-w.ensures.only (λ is. whole (handed_on _ c.in_err-w.field-0.0 WriteFault c.from_residual.ensures.1 (let same : c.in_err-w.field-0.0 ≡ WriteFault = cc in same))) other is) [
+      | inl before ↦ before
+      | inr ok ↦ absurd cc
+    ])
+
+pub returns-in_err-just-clause-made : goal.returns-in_err-just-clause-made
+returns-in_err-just-clause-made g c whole =
+    let laws : Cofactors = record { value = c.cofactor_law.ensures.value; high = c.cofactor_law.ensures.high; low = c.cofactor_law.ensures.low } in
+    let growth : Growth = record { stands = c.growth_law.ensures.stands; level = c.growth_law.ensures.level; high = c.growth_law.ensures.high; low = c.growth_law.ensures.low; value = c.growth_law.ensures.value; atom = c.growth_law.ensures.atom; justified = c.growth_law.ensures.justified } in
+    let parts : Parts = record { same = c.subfunction_law.ensures.same; further = c.subfunction_law.ensures.further; high_value = c.subfunction_law.ensures.high_value; low_value = c.subfunction_law.ensures.low_value; made_further = c.subfunction_law.ensures.made_further; made_for_part = c.subfunction_law.ensures.made_for_part } in
+    let o = c.args.operands.now in
+    let old = c.args.table.now in
+    let mid = c.join.new.table in
+    let grown : Continues g.S.Sink.tells (g.S.Sink.channel old.book.sink) (g.S.Sink.channel mid.book.sink) old mid = c.in_ok-w.ensures.continues (λ is. cc) in
+    let ready = ready_kept laws growth old.graph mid.graph grown.extends.nodes c.requires.tied.reduced old.book.state.live mid.book.state.live grown.extends.clauses o c.args.high.now c.args.low.now
+    (record { split = c.requires.split; on_high = c.requires.high; on_low = c.requires.low }) in
+    let only : (other : Node) → is_node mid.graph other ≡ true → (is_node old.graph other ≡ true) ⊎ (c.in_ok-w.w ≡ other) =
+    λ other is. elim (c.in_ok-w.ensures.only (λ is. cc) other is) [ inl before ↦ inl before | inr ok ↦ inr cc ] in
+    subst (λ (graph : Graph). MakesOnly old.graph graph (conjunction_of old.graph o.u o.v)) (sym c.justify.ensures.nodes)
+    (made_one parts growth old.graph mid.graph c.requires.tied.reduced grown.extends.nodes o.u o.v c.in_ok-w.w
+    (inner_stands old.graph o.u c.requires.split.first) (inner_stands old.graph o.v c.requires.split.second)
+    (value_ready laws mid.graph grown.tied.reduced mid.book.state.live o c.args.high.now c.args.low.now ready c.in_ok-w.w c.in_ok-w.ensures.children) only)
+
+pub returns-clause-made : goal.returns-clause-made
+returns-clause-made g c whole =
+    let laws : Cofactors = record { value = c.cofactor_law.ensures.value; high = c.cofactor_law.ensures.high; low = c.cofactor_law.ensures.low } in
+    let growth : Growth = record { stands = c.growth_law.ensures.stands; level = c.growth_law.ensures.level; high = c.growth_law.ensures.high; low = c.growth_law.ensures.low; value = c.growth_law.ensures.value; atom = c.growth_law.ensures.atom; justified = c.growth_law.ensures.justified } in
+    let parts : Parts = record { same = c.subfunction_law.ensures.same; further = c.subfunction_law.ensures.further; high_value = c.subfunction_law.ensures.high_value; low_value = c.subfunction_law.ensures.low_value; made_further = c.subfunction_law.ensures.made_further; made_for_part = c.subfunction_law.ensures.made_for_part } in
+    let o = c.args.operands.now in
+    let old = c.args.table.now in
+    let mid = c.join.new.table in
+    let grown : Continues g.S.Sink.tells (g.S.Sink.channel old.book.sink) (g.S.Sink.channel mid.book.sink) old mid = c.in_ok-w.ensures.continues (λ is. cc) in
+    let ready = ready_kept laws growth old.graph mid.graph grown.extends.nodes c.requires.tied.reduced old.book.state.live mid.book.state.live grown.extends.clauses o c.args.high.now c.args.low.now
+    (record { split = c.requires.split; on_high = c.requires.high; on_low = c.requires.low }) in
+    let only : (other : Node) → is_node mid.graph other ≡ true → (is_node old.graph other ≡ true) ⊎ (c.in_ok-w.w ≡ other) =
+    λ other is. elim (c.in_ok-w.ensures.only (λ is. cc) other is) [ inl before ↦ inl before | inr ok ↦ inr cc ] in
+    subst (λ (graph : Graph). MakesOnly old.graph graph (conjunction_of old.graph o.u o.v)) (sym c.justify.ensures.nodes)
+    (made_one parts growth old.graph mid.graph c.requires.tied.reduced grown.extends.nodes o.u o.v c.in_ok-w.w
+    (inner_stands old.graph o.u c.requires.split.first) (inner_stands old.graph o.v c.requires.split.second)
+    (value_ready laws mid.graph grown.tied.reduced mid.book.state.live o c.args.high.now c.args.low.now ready c.in_ok-w.w c.in_ok-w.ensures.children) only)
+
+pub returns-then-is_operand-clause-named : goal.returns-then-is_operand-clause-named
+returns-then-is_operand-clause-named g c id is = cc
+
+pub returns-clause-named : goal.returns-clause-named
+returns-clause-named g c =
+    let grown : Continues g.S.Sink.tells (g.S.Sink.channel c.args.table.now.book.sink) (g.S.Sink.channel c.join.new.table.book.sink) c.args.table.now c.join.new.table = c.in_ok-w.ensures.continues (λ is. cc) in
+    IsNewJust-within c.args.table.now.book.state c.join.new.table.book.state c.justify.new.table.book.state c.justify.new.table.book.state grown.extends.numbers.no_less (omega arith) c.in_ok-just.just c.in_ok-just.ensures.named
+
+pub returns-in_err-w-clause-lacks : goal.returns-in_err-w-clause-lacks
+returns-in_err-w-clause-lacks g c is =
+    let laws : Cofactors = record { value = c.cofactor_law.ensures.value; high = c.cofactor_law.ensures.high; low = c.cofactor_law.ensures.low } in
+    let parts : Parts = record { same = c.subfunction_law.ensures.same; further = c.subfunction_law.ensures.further; high_value = c.subfunction_law.ensures.high_value; low_value = c.subfunction_law.ensures.low_value; made_further = c.subfunction_law.ensures.made_further; made_for_part = c.subfunction_law.ensures.made_for_part } in
+    let o = c.args.operands.now in
+    let old = c.args.table.now in
+    let missing = c.in_err-w.ensures.missing (ap Err (came_from _ c.in_err-w.field-0.0 NodeLimit c.from_residual.ensures.1 is)) in
+    subst (λ (graph : Graph). LacksPart graph (conjunction_of old.graph o.u o.v)) (sym missing.1)
+    (lacks_one laws parts c.missing_law.ensures old.graph c.requires.tied.reduced old.book.state.live o c.requires.split c.args.high.now.0 c.args.low.now.0 c.args.high.now.1 c.args.low.now.1 c.requires.high c.requires.low missing.0)

@@ -1,6 +1,6 @@
-use Rattle.std.proofs.Common.{◌≡◌, Some, None, sym, ap, ◌∙◌, arith, inl, inr}
+use Rattle.std.proofs.Common.{◌≡◌, sym, ap, ◌∙◌, arith, inl}
 use Rattle.hint_chain.specs.Atoms.{clause_of, down_clause}
-use Rattle.node_table.specs.Defined.{atom_of, clause_named, defs_of}
+use Rattle.node_table.specs.Defined.{atom_of, clause_named}
 use Rattle.apply_and.specs.Sides.{false_literal, cofactor_at, down_of}
 use Rattle.apply_and.proofs.NodeParts.{down_given, nonzero_node, cofactor_stands}
 use Rattle.apply_and.proofs.parts.down_part.Goals as goal

@@ -2,7 +2,7 @@ use Rattle.std.proofs.Common.{◌≡◌, ◌<◌, ℕ, true, Some, subst}
 use Rattle.node_table.specs.declared.node.Branch.{Branch}
 use Rattle.node_table.specs.Diagram.{branch_at, next_variable}
 use Rattle.node_table.specs.Table.{TableState, IsWanted}
-use Rattle.node_table.proofs.Outcome.{outcome_children, outcome_both}
+use Rattle.node_table.proofs.Outcome.{outcome_children, outcome_only, outcome_both}
 use Rattle.node_table.proofs.table.Table.node.Goals as goal
 
 pub returns-clause-children : goal.returns-clause-children
@@ -31,3 +31,6 @@ returns-clause-extends g c whole =
     let own : (key : ℕ) (b : Branch) → branch_at c.args.self.now.graph key ≡ Some b → b.variable < next_variable c.args.self.now.graph =
     subst (λ (t : TableState g.row.S.Denot). (key : ℕ) (b : Branch) → branch_at t.graph key ≡ Some b → b.variable < next_variable t.graph) c.self.view_is c.is_reduced.ensures.next in
     (outcome_both c.args.self.now c.make.new.self c.args.level c.args.high c.args.low c.requires.tied c.requires.level c.requires.high c.requires.low wanted own c.make.result c.make.ensures.made c.make.ensures.refused whole).1
+
+pub returns-clause-only : goal.returns-clause-only
+returns-clause-only g c whole = outcome_only c.args.self.now c.make.new.self c.args.level c.args.high c.args.low c.make.result c.make.ensures.made c.make.ensures.refused whole

@@ -1,0 +1,15 @@
+pub mod Links
+pub mod Inner
+pub mod Apart
+pub mod TopStep
+pub mod StepValue
+pub mod AddedLiteral
+pub mod Taken
+pub mod Down
+pub mod Set
+pub mod Ordered
+pub mod HandedOn
+pub mod ClauseTerm
+pub mod ClauseParts
+pub mod MadeNodes
+pub mod LackedPart

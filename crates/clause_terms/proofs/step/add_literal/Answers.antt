@@ -1,0 +1,36 @@
+use Rattle.std.proofs.Common.{◌≡◌, Err, List, ◌∷◌, reverse, sym, ap, ◌∙◌, subst}
+use Rattle.hint_chain.specs.declared.unit.UnitPart.{UnitPart}
+use Rattle.node_table.specs.declared.error.TableError.TheVariants.{NodeLimit, WriteFault}
+use Rattle.node_table.specs.Diagram.{branch_of}
+use Rattle.node_table.specs.Progress.{Continues}
+use Rattle.clause_terms.specs.ClauseDiagram.{IsDiagramOf, part_of}
+use Rattle.clause_terms.proofs.AddedLiteral.{added, reverse_more}
+use Rattle.clause_terms.proofs.HandedOn.{handed_on, came_from}
+use Rattle.clause_terms.proofs.step.add_literal.Goals as goal
+
+pub returns-clause-diagram : goal.returns-clause-diagram
+returns-clause-diagram g c = λ more before diagram.
+    let old = c.args.table.now in
+    let table = c.literal_node.new.table in
+    let node = c.in_ok-node.node in
+    let placed = c.args.placed.now in
+    let grown : Continues g.S.Sink.tells (g.S.Sink.channel old.book.sink) (g.S.Sink.channel table.book.sink) old table = c.in_ok-node.ensures.continues (λ e. cc) in
+    let path : reverse c.push_part.new.path.items ≡ part_of table.graph placed (branch_of table.graph node) ∷ reverse c.args.path.now.items =
+    ap reverse c.in_ok-push_part.ensures
+    ∙ (reverse_more c.args.path.now.items c.part_of-part.result ∙ ap (λ (part : UnitPart). part ∷ reverse c.args.path.now.items) c.part_of-part.ensures) in
+    subst (λ (items : List UnitPart). IsDiagramOf table.graph table.book.state.live (placed ∷ more) node items) (sym path)
+    (added c.unit_path_law.ensures.last c.unit_path_law.ensures.on_top c.unit_path_law.ensures.kept c.cofactor_law.ensures.value c.growth_law.ensures.value
+    old.graph table.graph old.book.state.live table.book.state.live c.requires.tied.reduced grown.tied.reduced grown.tied.ordered
+    grown.extends.nodes grown.extends.clauses grown.tied.defined placed more before c.args.below node (reverse c.args.path.now.items) c.requires.level c.requires.below.stands c.requires.not_true diagram c.in_ok-node.ensures.children)
+
+pub returns-in_err-node-clause-made : goal.returns-in_err-node-clause-made
+returns-in_err-node-clause-made g c more value whole =
+    c.in_err-node.ensures.made more value
+    (λ is. whole (handed_on _ c.in_err-node.field-0.0 WriteFault c.from_residual.ensures.1 (let same : c.in_err-node.field-0.0 ≡ WriteFault = cc in same)))
+
+pub returns-in_err-push_part-clause-made : goal.returns-in_err-push_part-clause-made
+returns-in_err-push_part-clause-made g c more value whole = c.in_ok-node.ensures.made more value (λ is. cc)
+
+pub returns-in_err-node-clause-lacks : goal.returns-in_err-node-clause-lacks
+returns-in_err-node-clause-lacks g c more value full =
+    c.in_err-node.ensures.lacks more value (ap Err (came_from _ c.in_err-node.field-0.0 NodeLimit c.from_residual.ensures.1 full))

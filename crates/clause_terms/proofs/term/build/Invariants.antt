@@ -1,0 +1,18 @@
+use Rattle.std.proofs.Common.{◌≡◌, ◌≤◌, drop, length, reverse}
+use Rattle.node_table.specs.Made.{MakesOnly}
+use Rattle.node_table.specs.Progress.{Continues}
+use Rattle.clause_terms.specs.Placed.{placed_function}
+use Rattle.clause_terms.specs.ClauseDiagram.{IsDiagramOf}
+use Rattle.clause_terms.proofs.term.build.Given as goal
+
+abbrev pub invariant-literals : goal.invariant-literals
+invariant-literals g l = record {
+  within : l.i ≤ length l.placed;
+  diagram : IsDiagramOf l.table.graph l.table.book.state.live (drop l.i l.placed) l.node (reverse l.path.items);
+  made : MakesOnly l.fn.table.graph l.table.graph (placed_function l.placed);
+  continues : Continues g.S.Sink.tells (g.S.Sink.channel l.fn.table.book.sink) (g.S.Sink.channel l.table.book.sink) l.fn.table l.table;
+  beside : g.S.Sink.beside l.table.book.sink ≡ g.S.Sink.beside l.fn.table.book.sink;
+}
+
+abbrev pub decreases-literals : goal.decreases-literals
+decreases-literals g l = l.i

@@ -1,0 +1,121 @@
+use Rattle.std.proofs.Common.{◌≡◌, Err, ap, List, [], ◌∷◌, sym, subst}
+use Rattle.hint_chain.specs.declared.unit.UnitPart.{UnitPart}
+use Rattle.node_table.specs.declared.error.TableError.TheVariants.{NodeLimit, WriteFault}
+use Rattle.node_table.specs.declared.node.Just.TheVariants.{Clause}
+use Rattle.node_table.specs.Defined.{atom_of}
+use Rattle.node_table.specs.Diagram.{Graph}
+use Rattle.node_table.specs.Just.{IsJustified}
+use Rattle.node_table.specs.Made.{MakesOnly}
+use Rattle.node_table.specs.Progress.{Continues}
+use Rattle.cnf_base.specs.Truth.{clause_holds}
+use Rattle.clause_terms.specs.Placed.{placed_function, AreInOrder}
+use Rattle.clause_terms.specs.Term.{clause_function, IsTerm, HasUnitPath}
+use Rattle.clause_terms.proofs.Ordered.{no_tautology, same_function}
+use Rattle.clause_terms.proofs.MadeNodes.{by_values}
+use Rattle.clause_terms.proofs.ClauseTerm.{still_in_order, unit_path, clause_term, true_term}
+use Rattle.clause_terms.proofs.HandedOn.{handed_on, came_from}
+use Rattle.clause_terms.proofs.LackedPart.{lacked_by_values}
+use Rattle.clause_terms.proofs.term.push_clause.Goals as goal
+
+pub returns-then-has_opposites-clause-term : goal.returns-then-has_opposites-clause-term
+returns-then-has_opposites-clause-term g c =
+    let placed = c.as_slice.result.now in
+    let in_order : AreInOrder c.args.table.now.graph c.args.clause.now placed = subst (AreInOrder c.args.table.now.graph c.args.clause.now) (sym c.as_slice.ensures.value) c.in_ok-placed.ensures in
+    true_term c.args.table.now.graph c.is_reduced.ensures.ordered c.args.table.now.book.state.live c.args.clause.now placed in_order (c.has_opposites.ensures.holds c.if-has_opposites.true)
+
+pub returns-in_err-node-clause-tautology : goal.returns-in_err-node-clause-tautology
+returns-in_err-node-clause-tautology g c tautology =
+    let placed = c.as_slice.result.now in
+    let in_order : AreInOrder c.args.table.now.graph c.args.clause.now placed = subst (AreInOrder c.args.table.now.graph c.args.clause.now) (sym c.as_slice.ensures.value) c.in_ok-placed.ensures in
+    absurd (no_tautology c.args.table.now.graph c.is_reduced.ensures.ordered c.args.clause.now placed in_order (c.has_opposites.ensures.none c.if-has_opposites.false) tautology)
+
+pub add_unit-requires-clause-path : goal.add_unit-requires-clause-path
+add_unit-requires-clause-path g c =
+    let old = c.args.table.now in
+    let mid = c.build.new.table in
+    let placed = c.as_slice-2.result.now in
+    let clause = c.args.clause.now in
+    let in_order : AreInOrder old.graph clause placed = subst (AreInOrder old.graph clause) (sym c.as_slice-2.ensures.value) c.in_ok-placed.ensures in
+    let grown : Continues g.S.Sink.tells (g.S.Sink.channel old.book.sink) (g.S.Sink.channel mid.book.sink) old mid = c.in_ok-node.ensures.continues (λ is. cc) in
+    subst (λ (path : List UnitPart). HasUnitPath mid.graph mid.book.state.live c.in_ok-node.node path c.args.input) (sym c.as_slice-3.ensures.value)
+    (unit_path c.unit_path_law.ensures.same_set mid.graph mid.book.state.live clause placed c.in_ok-node.node c.in_ok-node.path.items c.args.input
+    (still_in_order old.graph mid.graph grown.extends.nodes.order clause placed in_order) c.requires.some c.in_ok-node.ensures.diagram
+    (grown.extends.clauses c.args.input clause c.requires.live))
+
+pub returns-in_err-node-clause-made : goal.returns-in_err-node-clause-made
+returns-in_err-node-clause-made g c whole =
+    let clause = c.args.clause.now in
+    let placed = c.as_slice-2.result.now in
+    let in_order : AreInOrder c.args.table.now.graph clause placed = subst (AreInOrder c.args.table.now.graph clause) (sym c.as_slice-2.ensures.value) c.in_ok-placed.ensures in
+    by_values c.args.table.now.graph c.build.new.table.graph (placed_function placed) (clause_function c.args.table.now.graph.order clause)
+    (λ a. sym (same_function c.args.table.now.graph c.is_reduced.ensures.ordered clause placed in_order a))
+    (c.in_err-node.ensures.made (λ is. whole (handed_on _ c.in_err-node.field-0.0 WriteFault c.from_residual-in_err-node.ensures.1 (let same : c.in_err-node.field-0.0 ≡ WriteFault = cc in same))))
+
+pub returns-in_err-id-clause-made : goal.returns-in_err-id-clause-made
+returns-in_err-id-clause-made g c whole =
+    let old = c.args.table.now.graph in
+    let clause = c.args.clause.now in
+    let placed = c.as_slice-2.result.now in
+    let in_order : AreInOrder old clause placed = subst (AreInOrder old clause) (sym c.as_slice-2.ensures.value) c.in_ok-placed.ensures in
+    subst (λ (new : Graph). MakesOnly old new (clause_function old.order clause)) (sym c.in_err-id.ensures.nodes)
+    (by_values old c.build.new.table.graph (placed_function placed) (clause_function old.order clause) (λ a. sym (same_function old c.is_reduced.ensures.ordered clause placed in_order a))
+    (c.in_ok-node.ensures.made (λ is. cc)))
+
+pub returns-clause-made : goal.returns-clause-made
+returns-clause-made g c whole =
+    let old = c.args.table.now.graph in
+    let clause = c.args.clause.now in
+    let placed = c.as_slice-2.result.now in
+    let in_order : AreInOrder old clause placed = subst (AreInOrder old clause) (sym c.as_slice-2.ensures.value) c.in_ok-placed.ensures in
+    subst (λ (new : Graph). MakesOnly old new (clause_function old.order clause)) (sym c.in_ok-id.ensures.nodes)
+    (by_values old c.build.new.table.graph (placed_function placed) (clause_function old.order clause) (λ a. sym (same_function old c.is_reduced.ensures.ordered clause placed in_order a))
+    (c.in_ok-node.ensures.made (λ is. cc)))
+
+pub returns-in_err-id-clause-continues : goal.returns-in_err-id-clause-continues
+returns-in_err-id-clause-continues g c whole =
+    c.progress_law.ensures.further _ _ _ _ _ _ (c.in_ok-node.ensures.continues (λ is. cc))
+    (c.in_err-id.ensures.continues (λ is. whole (handed_on _ c.in_err-id.field-0.0 WriteFault c.from_residual-in_err-id.ensures.1 (let same : c.in_err-id.field-0.0 ≡ WriteFault = cc in same))))
+
+pub returns-in_err-id-clause-tautology : goal.returns-in_err-id-clause-tautology
+returns-in_err-id-clause-tautology g c tautology =
+    let placed = c.as_slice.result.now in
+    let in_order : AreInOrder c.args.table.now.graph c.args.clause.now placed = subst (AreInOrder c.args.table.now.graph c.args.clause.now) (sym c.as_slice.ensures.value) c.in_ok-placed.ensures in
+    absurd (no_tautology c.args.table.now.graph c.is_reduced.ensures.ordered c.args.clause.now placed in_order (c.has_opposites.ensures.none c.if-has_opposites.false) tautology)
+
+pub returns-clause-term : goal.returns-clause-term
+returns-clause-term g c =
+    let old = c.args.table.now in
+    let mid = c.build.new.table in
+    let new = c.add_unit.new.table in
+    let placed = c.as_slice-2.result.now in
+    let clause = c.args.clause.now in
+    let node = c.in_ok-node.node in
+    let id = c.in_ok-id.id in
+    let in_order : AreInOrder old.graph clause placed = subst (AreInOrder old.graph clause) (sym c.as_slice-2.ensures.value) c.in_ok-placed.ensures in
+    let grown : Continues g.S.Sink.tells (g.S.Sink.channel old.book.sink) (g.S.Sink.channel mid.book.sink) old mid = c.in_ok-node.ensures.continues (λ is. cc) in
+    let there = still_in_order old.graph mid.graph grown.extends.nodes.order clause placed in_order in
+    let path : HasUnitPath mid.graph mid.book.state.live node c.in_ok-node.path.items c.args.input =
+    unit_path c.unit_path_law.ensures.same_set mid.graph mid.book.state.live clause placed node c.in_ok-node.path.items c.args.input
+    there c.requires.some c.in_ok-node.ensures.diagram (grown.extends.clauses c.args.input clause c.requires.live) in
+    subst (λ (graph : Graph). IsTerm graph new.book.state.live (λ a. clause_holds a clause) node (Clause id)) (sym c.in_ok-id.ensures.nodes)
+    (clause_term mid.graph grown.tied.ordered mid.book.state.live new.book.state.live clause placed node c.in_ok-node.path.items there c.in_ok-node.ensures.diagram path.branch path.stands id
+    (subst (λ (graph : Graph). IsJustified new.book.state.live (atom_of graph node ∷ []) (Clause id)) c.in_ok-id.ensures.nodes c.in_ok-id.ensures.proved))
+
+pub returns-clause-continues : goal.returns-clause-continues
+returns-clause-continues g c whole =
+    c.progress_law.ensures.further _ _ _ _ _ _ (c.in_ok-node.ensures.continues (λ is. cc)) (c.in_ok-id.ensures.continues (λ is. cc))
+
+pub returns-clause-tautology : goal.returns-clause-tautology
+returns-clause-tautology g c tautology =
+    let placed = c.as_slice.result.now in
+    let in_order : AreInOrder c.args.table.now.graph c.args.clause.now placed = subst (AreInOrder c.args.table.now.graph c.args.clause.now) (sym c.as_slice.ensures.value) c.in_ok-placed.ensures in
+    absurd (no_tautology c.args.table.now.graph c.is_reduced.ensures.ordered c.args.clause.now placed in_order (c.has_opposites.ensures.none c.if-has_opposites.false) tautology)
+
+pub returns-in_err-node-clause-lacks : goal.returns-in_err-node-clause-lacks
+returns-in_err-node-clause-lacks g c full =
+    let old = c.args.table.now.graph in
+    let clause = c.args.clause.now in
+    let placed = c.as_slice-2.result.now in
+    let in_order : AreInOrder old clause placed = subst (AreInOrder old clause) (sym c.as_slice-2.ensures.value) c.in_ok-placed.ensures in
+    lacked_by_values c.build.new.table.graph (placed_function placed) (clause_function old.order clause) (λ a. sym (same_function old c.is_reduced.ensures.ordered clause placed in_order a))
+    (c.in_err-node.ensures.lacks (ap Err (came_from _ c.in_err-node.field-0.0 NodeLimit c.from_residual-in_err-node.ensures.1 full)))

@@ -1,0 +1,5 @@
+pub mod Placed
+pub mod ClauseDiagram
+pub mod Term
+pub mod Recovery
+pub mod Walk

@@ -1,0 +1,42 @@
+-- A node as a term: its function, and the live clause that proves it.
+use Rattle.std.specs.Prelude.{◌≡◌, ◌==◌, Bool, true, ℤ, pos, ℕ, List, [], ◌∷◌, Some, IsTrue}
+use Rattle.std.specs.List.{position_or_len}
+use Rattle.cnf_base.specs.Truth.{Assignment, clause_holds}
+use Rattle.lrat_rules.specs.State.{Live, clause_at}
+use Rattle.hint_chain.specs.declared.unit.UnitPart.{UnitPart}
+use Rattle.hint_chain.specs.Units.{IsUnitPath}
+use Rattle.node_table.specs.declared.node.Node.{Node}
+use Rattle.node_table.specs.declared.node.Just.{Just}
+use Rattle.node_table.specs.declared.node.Branch.{Branch}
+use Rattle.node_table.specs.Diagram.{Graph, branch_of, is_node}
+use Rattle.node_table.specs.Defined.{atom_of}
+use Rattle.node_table.specs.Just.{IsJustified}
+use Rattle.node_table.specs.Value.{Levels, by_level, value_of}
+
+-- A node that holds exactly where a function of the assignment does, and the live clause of its literal: none where the
+-- node is True, the empty clause where it is False.
+pub record IsTerm (graph : Graph) (live : Live) (holds : Assignment → Bool) (node : Node) (unit : Just) : Type 0 where
+  pub stands : IsTrue (is_node graph node)
+  pub value : (a : Assignment) → value_of graph (by_level graph.order a) node ≡ holds a
+  pub proved : IsJustified live (atom_of graph node ∷ []) unit
+
+-- the assignment with these values by levels
+abbrev pub by_variable : List ℕ → Levels → Assignment
+by_variable order a variable = a (position_or_len (λ x. x == variable) order)
+
+-- the function of a clause, by levels
+abbrev pub clause_function : List ℕ → List ℤ → Levels → Bool
+clause_function order clause a = clause_holds (by_variable order a) clause
+
+-- the clause holds under each assignment
+abbrev pub IsTautology : List ℤ → Type 0
+IsTautology clause = (a : Assignment) → clause_holds a clause ≡ true
+
+-- The unit of the node's literal follows, along this path, from the live clause of this number.
+pub record HasUnitPath (graph : Graph) (live : Live) (node : Node) (path : List UnitPart) (input : ℕ) : Type 0 where
+  pub branch : Branch
+  pub nodes : List ℤ
+  pub clause : List ℤ
+  pub stands : branch_of graph node ≡ Some branch
+  pub live_clause : clause_at live input ≡ Some clause
+  pub unit : IsUnitPath live path (pos branch.variable ∷ nodes) clause

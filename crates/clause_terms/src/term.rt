@@ -1,0 +1,128 @@
+// A clause of the formula as a term: its diagram from the last literal up, and the unit of the top node. (Bryant, Heule:
+// Generating Extended Resolution Proofs with a BDD-Based SAT Solver, 2021, section 5.)
+ghost use Rattle.std.specs.Prelude.{◌≡◌, ◌≢◌, ◌<◌, ◌≤◌, ◌+◌, [], ◌∷◌, Err, IsTrue, IfOk, IfErr, Some};
+ghost use Rattle.std.specs.List.{list_all};
+ghost use Rattle.std.specs.List.Sorted.{IsNonDecreasingBy};
+ghost use Rattle.cnf_base.specs.Truth.{clause_holds, is_literal_of};
+ghost use Rattle.lrat_rules.specs.State.{clause_at};
+ghost use Rattle.node_table.specs.declared.error.TableError.TheVariants.{NodeLimit, IdLimit, OutOfMemory, WriteFault};
+ghost use Rattle.node_table.specs.declared.node.Node.TheVariants.{True};
+ghost use Rattle.node_table.specs.declared.node.Just.TheVariants.{Trivial, Clause};
+ghost use Rattle.node_table.specs.Defined.{atom_of};
+ghost use Rattle.node_table.specs.Diagram.{levels};
+ghost use Rattle.node_table.specs.Just.{IsJustified};
+ghost use Rattle.node_table.specs.Made.{LacksPart, MakesOnly};
+ghost use Rattle.node_table.specs.Progress.{Continues, BreaksOff};
+ghost use Rattle.node_table.specs.Table.{UnlessTorn, live_nodes};
+ghost use Rattle.node_table.specs.Tied.{IsTied};
+ghost use Rattle.clause_terms.specs.declared.placed.Placed.{Placed as PlacedValue};
+ghost use Rattle.clause_terms.specs.ClauseDiagram.{IsDiagramOf};
+ghost use Rattle.clause_terms.specs.Placed.{placed_function, are_of_levels, HasNoOpposites};
+ghost use Rattle.clause_terms.specs.Term.{clause_function, IsTerm, IsTautology, HasUnitPath};
+
+use crate::order::{has_opposites, in_order};
+use crate::placed::Placed;
+use crate::step::take_literal;
+use cnf_base::{Id, Lit};
+use hint_chain::{UnitPart, unit_hints, unit_law, unit_path_law};
+use host_io::Sink;
+use lrat_rules::live_law;
+use node_table::{Just, Node, Table, TableError, progress_law, subfunction_law};
+use std::alloc::Global;
+
+/// The term of a clause of the formula, which is live under the number `input`. A clause with both signs of a variable
+/// is True, and writes nothing. What was made before a refusal stays.
+pub fn push_clause<S: Sink + Drop>(
+    alloc: Global,
+    table: &mut Table<S>,
+    clause: &[Lit],
+    input: Id,
+) -> Result<(Node, Just), TableError>
+    requires in_step { IsTrue table.old.book.in_step }
+    requires tied { IsTied table.old.graph table.old.book.state }
+    requires live { clause_at table.old.book.state.live input ≡ Some clause.now }
+    requires variables { IsTrue (list_all (is_literal_of (levels table.old.graph)) clause.now) }
+    requires some { clause.now ≢ [] }
+    ensures term { IfOk result (λ found. IsTerm table.new.graph table.new.book.state.live (λ a. clause_holds a clause.now) found.0 found.1) }
+    ensures made { UnlessTorn result (MakesOnly table.old.graph table.new.graph (clause_function table.old.graph.order clause.now)) }
+    ensures continues { UnlessTorn result (Continues S.tells (S.channel table.old.book.sink) (S.channel table.new.book.sink) table.old table.new) }
+    ensures tautology { IsTautology clause.now → (table.new ≡ table.old) × IfOk result (λ found. (found.0 ≡ True) × (found.1 ≡ Trivial)) × IfErr result (λ e. e ≡ OutOfMemory) }
+    // The limits, each where it is met, and a failed write. A node of a part of the clause is refused for want of room.
+    ensures node_limit { result ≡ Err NodeLimit → table.new.max_nodes ≤ live_nodes table.new.graph }
+    ensures lacks { result ≡ Err NodeLimit → LacksPart table.new.graph (clause_function table.old.graph.order clause.now) }
+    ensures id_limit { result ≡ Err IdLimit → table.new.book.limit < table.new.book.state.top + 4 }
+    ensures broken { result ≡ Err WriteFault → BreaksOff S.tells (S.channel table.old.book.sink) (S.channel table.new.book.sink) table.old table.new }
+    ensures beside { S.beside table.new.book.sink ≡ S.beside table.old.book.sink }
+{
+    progress_law::<S>();
+    subfunction_law();
+    unit_path_law();
+    table.is_reduced();
+    let placed = in_order(alloc, table, clause)?;
+    if has_opposites(placed.as_slice()) {
+        return Ok((Node::True, Just::Trivial));
+    }
+    let (node, path) = build(alloc, table, placed.as_slice())?;
+    let id = add_unit(alloc, table, node, path.as_slice(), input)?;
+    Ok((node, Just::Clause(id)))
+}
+
+// The diagram of the literals, with the path down its nodes.
+fn build<S: Sink + Drop>(
+    alloc: Global,
+    table: &mut Table<S>,
+    placed: &[Placed],
+) -> Result<(Node, Vec<UnitPart>), TableError>
+    requires in_step { IsTrue table.old.book.in_step }
+    requires tied { IsTied table.old.graph table.old.book.state }
+    requires levels { IsTrue (are_of_levels table.old.graph placed.now) }
+    requires sorted { IsNonDecreasingBy (λ (p : PlacedValue). p.level) placed.now }
+    requires signs { HasNoOpposites placed.now }
+    ensures diagram { IfOk result (λ found. IsDiagramOf table.new.graph table.new.book.state.live placed.now found.0 found.1.items) }
+    ensures made { UnlessTorn result (MakesOnly table.old.graph table.new.graph (placed_function placed.now)) }
+    ensures lacks { result ≡ Err NodeLimit → LacksPart table.new.graph (placed_function placed.now) }
+    ensures continues { UnlessTorn result (Continues S.tells (S.channel table.old.book.sink) (S.channel table.new.book.sink) table.old table.new) }
+    ensures node_limit { result ≡ Err NodeLimit → table.new.max_nodes ≤ live_nodes table.new.graph }
+    ensures id_limit { result ≡ Err IdLimit → table.new.book.limit < table.new.book.state.top + 4 }
+    ensures broken { result ≡ Err WriteFault → BreaksOff S.tells (S.channel table.old.book.sink) (S.channel table.new.book.sink) table.old table.new }
+    ensures beside { S.beside table.new.book.sink ≡ S.beside table.old.book.sink }
+{
+    progress_law::<S>();
+    subfunction_law();
+    let mut node = Node::False;
+    let mut path = Vec::new(alloc);
+    let mut i = placed.len();
+    'literals: while i > 0 {
+        i -= 1;
+        node = take_literal(table, placed, i, node, &mut path)?;
+    }
+    path.reverse();
+    Ok((node, path))
+}
+
+// Adds the unit of the top node.
+fn add_unit<S: Sink + Drop>(
+    alloc: Global,
+    table: &mut Table<S>,
+    node: Node,
+    path: &[UnitPart],
+    input: Id,
+) -> Result<Id, TableError>
+    requires in_step { IsTrue table.old.book.in_step }
+    requires tied { IsTied table.old.graph table.old.book.state }
+    requires path { HasUnitPath table.old.graph table.old.book.state.live node path.now input }
+    ensures proved { IfOk result (λ id. IsJustified table.new.book.state.live (atom_of table.new.graph node ∷ []) (Clause id)) }
+    ensures nodes { table.new.graph ≡ table.old.graph }
+    ensures continues { UnlessTorn result (Continues S.tells (S.channel table.old.book.sink) (S.channel table.new.book.sink) table.old table.new) }
+    ensures no_node_limit { result ≢ Err NodeLimit }
+    ensures id_limit { result ≡ Err IdLimit → table.new.book.limit < table.new.book.state.top + 4 }
+    ensures broken { result ≡ Err WriteFault → BreaksOff S.tells (S.channel table.old.book.sink) (S.channel table.new.book.sink) table.old table.new }
+    ensures beside { S.beside table.new.book.sink ≡ S.beside table.old.book.sink }
+{
+    progress_law::<S>();
+    unit_law();
+    live_law();
+    let hints = unit_hints(alloc, path, input)?;
+    let unit = table.literal(node).unwrap();
+    table.justify(&[unit], hints.as_slice())
+}

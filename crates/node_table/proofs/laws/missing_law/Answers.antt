@@ -1,0 +1,5 @@
+use Rattle.node_table.proofs.Missing.{missing_nowhere}
+use Rattle.node_table.proofs.laws.missing_law.Goals as goal
+
+pub returns : goal.returns
+returns c = missing_nowhere
