@@ -15,7 +15,7 @@ pub record Underway (tells : Bool) (old new : Channel) (text rest : List ℕ) : 
   pub taken : new.taken ≡ old.taken
   pub left : new.left ≡ old.left
   pub name : new.name ≡ old.name
-  pub no_less : old.faults ≤ new.faults
+  pub faults : new.faults ≡ old.faults
 
 -- no answer is both
 not_both : {T : Type 0} (r : Result T Failed) → IsOk r → IsErr r → ⊥
@@ -32,7 +32,7 @@ start {channel = channel} text = record {
   taken = refl;
   left = refl;
   name = refl;
-  no_less = omega arith;
+  faults = refl;
 }
 
 -- one more part was written
@@ -46,7 +46,7 @@ went_on {a = a} {piece = piece} u w ok more parts = record {
   taken = w.taken ∙ u.taken;
   left = w.left ∙ u.left;
   name = w.name ∙ u.name;
-  no_less = omega (arith, u.no_less, w.faults.no_less);
+  faults = w.faults.unfailed ok ∙ u.faults;
 }
 
 -- all of it was written
@@ -58,7 +58,7 @@ complete {a = a} {answer = answer} u good = record {
   taken = u.taken;
   left = u.left;
   name = u.name;
-  faults = record { no_less = u.no_less; cause = λ err. absurd (not_both answer good err) };
+  faults = record { no_less = omega (arith, u.faults); cause = λ err. absurd (not_both answer good err); unfailed = λ _. u.faults };
 }
 
 -- a write of the rest, or of a front of it
@@ -75,7 +75,7 @@ ended {a = a} {piece = piece} u w = record {
   taken = w.taken ∙ u.taken;
   left = w.left ∙ u.left;
   name = w.name ∙ u.name;
-  faults = record { no_less = omega (arith, u.no_less, w.faults.no_less); cause = λ err. omega (arith, u.no_less, w.faults.cause err) };
+  faults = record { no_less = omega (arith, u.faults, w.faults.no_less); cause = λ err. omega (arith, u.faults, w.faults.cause err); unfailed = λ ok. w.faults.unfailed ok ∙ u.faults };
 }
 
 -- a write that failed, of a part with more behind it
@@ -96,5 +96,5 @@ failed_within {a = a} {text = text} {piece = piece} {answer = answer} u w err fa
   taken = w.taken ∙ u.taken;
   left = w.left ∙ u.left;
   name = w.name ∙ u.name;
-  faults = record { no_less = omega (arith, u.no_less, w.faults.no_less); cause = λ _. omega (arith, u.no_less, w.faults.cause err) };
+  faults = record { no_less = omega (arith, u.faults, w.faults.no_less); cause = λ _. omega (arith, u.faults, w.faults.cause err); unfailed = λ ok. absurd (not_both answer ok failed) };
 }

@@ -1,4 +1,5 @@
 -- The lines that tell a model: each variable once in rising order, with a sign where it is false, and a zero.
+-- (SAT Competitions, output format: `v` lines. The order and the width of 78 bytes are this project's own.)
 use Rattle.std.specs.Prelude.{ℕ, ◌+◌, Bool, true, false, List, [], ◌∷◌, ◌++◌, length, decimal, codes, nat_le, if◌then◌else◌}
 
 -- a variable as it stands in a line

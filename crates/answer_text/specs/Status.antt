@@ -1,4 +1,5 @@
--- The lines that tell an outcome, and the whole texts that they begin or end.
+-- The lines that tell an outcome, and the whole texts that they begin or end. (SAT Competitions, output format: the
+-- `s` line of an answer and `c` lines of comment. The words of a verdict, of a limit and of a reason are this project's own.)
 use Rattle.std.specs.Prelude.{ℕ, Bool, List, ◌++◌, decimal, codes}
 use Rattle.lrat_rules.specs.declared.outcome.Reason.{Reason}
 use Rattle.lrat_rules.specs.declared.outcome.Reason.TheVariants.{Syntax, IdNotGreater, HintNotLive, HintNotUnit, NoConflict, CandidateOpen, GroupStray, NoEmptyClause}

@@ -1,3 +1,4 @@
+pub mod Orders
 pub mod Cached
 pub mod NodeParts
 pub mod ConjunctionClauses

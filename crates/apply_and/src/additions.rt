@@ -2,7 +2,7 @@
 // -x, -u, -v, w: with x true the defining clauses lead from w, u and v to their high children, whose conjunction is
 // justified. The low one drops -x: the high clause makes x false, and the same holds on the low side. (Bryant, Heule:
 // Generating Extended Resolution Proofs with a BDD-Based SAT Solver, 2021, section 4.2.)
-ghost use Rattle.std.specs.Prelude.{◌≡◌, ◌≢◌, ◌≤◌, ◌<◌, ◌+◌, neg_ℤ, pos, ◌∷◌, Err, IsTrue, IfOk, Some, length};
+ghost use Rattle.std.specs.Prelude.{◌≡◌, ◌≢◌, ◌≤◌, ◌<◌, ◌+◌, ℕ, neg_ℤ, pos, ◌∷◌, Ok, Err, IsTrue, IfOk, Some, length};
 ghost use Rattle.lrat_rules.specs.State.{clause_at};
 ghost use Rattle.hint_chain.specs.Atoms.{clause_of};
 ghost use Rattle.hint_chain.specs.Additions.{where_true};
@@ -10,6 +10,7 @@ ghost use Rattle.node_table.specs.declared.error.TableError.TheVariants.{NodeLim
 ghost use Rattle.node_table.specs.Diagram.{is_node, levels, variable_at, high_at, low_at};
 ghost use Rattle.node_table.specs.Tied.{IsTied};
 ghost use Rattle.node_table.specs.Table.{UnlessTorn};
+ghost use Rattle.node_table.specs.declared.node.Just.TheVariants.{Trivial, Clause};
 ghost use Rattle.node_table.specs.Just.{IsJustified};
 ghost use Rattle.node_table.specs.Progress.{Continues, BreaksOff};
 ghost use Rattle.apply_and.specs.Operands.{AreSplit};
@@ -45,6 +46,9 @@ pub fn justify<S: Sink + Drop>(
     requires sides { AreSides table.old.graph table.old.book.state.live operands.now w high.now low.now }
     ensures justified { IfOk result (λ just. IsJustified table.new.book.state.live (conjunction_atoms table.new.graph operands.now.u operands.now.v w) just) }
     ensures named { IfOk result (λ just. IsNewJust table.old.book.state table.new.book.state just) }
+    // The two additions alone; none where the clause is true by itself.
+    ensures none_added { result ≡ Ok Trivial → table.new ≡ table.old }
+    ensures two_added { (id : ℕ) → result ≡ Ok (Clause id) → (id ≡ table.old.book.state.top + 2) × (table.new.book.state.top ≡ id) }
     ensures nodes { table.new.graph ≡ table.old.graph }
     ensures continues { UnlessTorn result (Continues S.tells (S.channel table.old.book.sink) (S.channel table.new.book.sink) table.old table.new) }
     ensures no_node_limit { result ≢ Err NodeLimit }
@@ -91,6 +95,7 @@ fn add_high<S: Sink + Drop>(
     requires side { IsSide table.old.graph table.old.book.state.live operands.now w High high.now }
     requires clause { clause_of (conjunction_atoms table.old.graph operands.now.u operands.now.v w) ≡ Some clause.now }
     ensures added { IfOk result (λ part. (part.clause ≡ neg_ℤ (pos (variable_at table.old.graph operands.now.level)) ∷ clause.now) × (clause_at table.new.book.state.live part.id ≡ Some part.clause)) }
+    ensures number { IfOk result (λ part. table.new.book.state.top ≡ table.old.book.state.top + 1) }
     ensures nodes { table.new.graph ≡ table.old.graph }
     ensures continues { UnlessTorn result (Continues S.tells (S.channel table.old.book.sink) (S.channel table.new.book.sink) table.old table.new) }
     ensures no_node_limit { result ≢ Err NodeLimit }
@@ -133,7 +138,7 @@ fn add_low<S: Sink + Drop>(
     requires first { first.clause ≡ neg_ℤ (pos (variable_at table.old.graph operands.now.level)) ∷ clause.now }
     requires live { clause_at table.old.book.state.live first.id ≡ Some first.clause }
     ensures added { IfOk result (λ id. clause_at table.new.book.state.live id ≡ Some clause.now) }
-    ensures number { IfOk result (λ id. (table.old.book.state.top < id) × (id ≤ table.new.book.state.top)) }
+    ensures number { IfOk result (λ id. (id ≡ table.old.book.state.top + 1) × (table.new.book.state.top ≡ id)) }
     ensures nodes { table.new.graph ≡ table.old.graph }
     ensures continues { UnlessTorn result (Continues S.tells (S.channel table.old.book.sink) (S.channel table.new.book.sink) table.old table.new) }
     ensures no_node_limit { result ≢ Err NodeLimit }

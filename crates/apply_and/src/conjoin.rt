@@ -1,6 +1,6 @@
 // The conjunction of two nodes, by their cofactors at the earlier of their variables. (Bryant: Graph-Based Algorithms
 // for Boolean Function Manipulation, 1986, section 4.3: apply.)
-ghost use Rattle.std.specs.Prelude.{◌≡◌, ◌≢◌, ◌↔◌, ◌⊎◌, ◌≤◌, ◌<◌, ◌+◌, Some, Ok, Err, IsTrue, IfOk, MatchOption};
+ghost use Rattle.std.specs.Prelude.{◌≡◌, ◌≢◌, ◌↔◌, ◌⊎◌, ◌≤◌, ◌<◌, ◌+◌, Some, Ok, Err, Contains, IsTrue, IsOk, IfOk, IfSome, MatchOption};
 ghost use Rattle.node_table.specs.declared.error.TableError.TheVariants.{NodeLimit, IdLimit, WriteFault};
 ghost use Rattle.node_table.specs.declared.node.Node.{Node as NodeValue};
 ghost use Rattle.node_table.specs.declared.node.Just.TheVariants.{Trivial};
@@ -12,7 +12,7 @@ ghost use Rattle.node_table.specs.Progress.{Continues, BreaksOff};
 ghost use Rattle.lrat_rules.specs.State.{Live};
 ghost use Rattle.apply_and.specs.Operands.{AreSplit, IsNoConstant};
 ghost use Rattle.apply_and.specs.Conjunction.{Conjoined, IsPlain, conjunction_of};
-ghost use Rattle.apply_and.specs.Cache.{Fits, IsNewJust, NamesOnly, entries};
+ghost use Rattle.apply_and.specs.Cache.{Entry, Fits, HasOperands, IsNewJust, NamesOnly, entries};
 
 use crate::additions::justify;
 use crate::cache::AndCache;
@@ -42,6 +42,10 @@ pub fn and<S: Sink + Drop>(
     ensures continues { UnlessTorn result (Continues S.tells (S.channel table.old.book.sink) (S.channel table.new.book.sink) table.old table.new) }
     ensures fits { UnlessTorn result (Fits table.new.graph table.new.book.state.live (entries cache.new)) }
     ensures named { UnlessTorn result (NamesOnly (entries cache.old) (entries cache.new) table.old.book.state table.new.book.state) }
+    // A conjunction that is kept is found again without a node or a clause more; none is forgotten, and a new one is kept.
+    ensures known { (entry : Entry) → Contains (entries cache.old) entry → HasOperands entry u v → IsOk result × (table.new ≡ table.old) × (cache.new ≡ cache.old) }
+    ensures remembered { (entry : Entry) → Contains (entries cache.old) entry → Contains (entries cache.new) entry }
+    ensures kept { u ≢ v → IsNoConstant u → IsNoConstant v → IfOk result (λ found. Contains (entries cache.new) (record { u = u; v = v; w = found.0; just = found.1 })) }
     // Each node that was made is a subfunction of the conjunction, and none is left over.
     ensures made { UnlessTorn result (MakesOnly table.old.graph table.new.graph (conjunction_of table.old.graph u v)) }
     ensures reachable { IfOk result (λ found. ReachesNew table.old.graph table.new.graph found.0) }
@@ -76,6 +80,7 @@ pub fn and<S: Sink + Drop>(
 // The conjunction of two nodes of which one is a constant, or which are the same.
 fn plain(u: Node, v: Node) -> Option<Node>
     ensures exact { (w : NodeValue) → IsPlain u v w → result ≡ Some w }
+    ensures plain { IfSome result (λ w. IsPlain u v w) }
     ensures conjoined { MatchOption result ((u ≢ v) × IsNoConstant u × IsNoConstant v) (λ w. (graph : Graph) (live : Live) → IsTrue (is_node graph u) → IsTrue (is_node graph v) → Conjoined graph live u v w Trivial) }
 {
     match (u, v) {

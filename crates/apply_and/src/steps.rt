@@ -49,7 +49,7 @@ pub fn add<S: Sink + Drop>(
     requires strict { RefutesStrictly table.old.book.state.live clause.now hints.now }
     requires over_nodes { IsOverNodes table.old.graph clause.now }
     ensures added { IfOk result (λ id. clause_at table.new.book.state.live id ≡ Some clause.now) }
-    ensures number { IfOk result (λ id. (table.old.book.state.top < id) × (id ≤ table.new.book.state.top)) }
+    ensures number { IfOk result (λ id. (id ≡ table.old.book.state.top + 1) × (table.new.book.state.top ≡ id)) }
     ensures nodes { table.new.graph ≡ table.old.graph }
     ensures continues { UnlessTorn result (Continues S.tells (S.channel table.old.book.sink) (S.channel table.new.book.sink) table.old table.new) }
     ensures no_node_limit { result ≢ Err NodeLimit }

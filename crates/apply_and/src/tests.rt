@@ -1,5 +1,5 @@
 // What no clause shows: the lines of the proof, and that calls succeed where there is memory.
-ghost use Rattle.std.specs.Prelude.{◌≡◌, ◌<◌, ◌≤◌, ℕ, pos, negsuc, [], ◌∷◌, length, true, None, IfOk, OnOk, IsTrue};
+ghost use Rattle.std.specs.Prelude.{◌≡◌, ◌≢◌, ◌<◌, ◌≤◌, ℕ, pos, negsuc, [], length, true, None, IfOk, OnOk, IsTrue};
 ghost use Rattle.cnf_base.specs.ProofText.{max_id};
 ghost use Rattle.cnf_base.specs.Truth.{AreClausesOf};
 ghost use Rattle.node_table.specs.Diagram.{IsOrder, is_node};
@@ -65,21 +65,48 @@ fn order(reversed: bool) -> [u32; 2]
     if reversed { [2, 1] } else { [1, 2] }
 }
 
+// Three variables, the first of which is the given one, the others in this order, or in the other one.
+fn order_of_three(first: u32, reversed: bool) -> [u32; 3]
+    ensures order { IsOrder result }
+    ensures three { length result ≡ 3 }
+{
+    match (first, reversed) {
+        (1, false) => three(1, 2, 3),
+        (1, true) => three(1, 3, 2),
+        (2, false) => three(2, 1, 3),
+        (2, true) => three(2, 3, 1),
+        (_, false) => three(3, 1, 2),
+        (_, true) => three(3, 2, 1),
+    }
+}
+
+fn three(first: u32, second: u32, third: u32) -> [u32; 3]
+    requires positive { (0 < first) × (0 < second) × (0 < third) }
+    requires small { (first ≤ 3) × (second ≤ 3) × (third ≤ 3) }
+    requires apart { (first ≢ second) × (first ≢ third) × (second ≢ third) }
+    ensures order { IsOrder result }
+    ensures three { length result ≡ 3 }
+{
+    [first, second, third]
+}
+
 // A formula without clauses.
 fn no_clauses(alloc: Global) -> Cnf
     ensures { result.clauses ≡ [] }
 {
-    CnfBuilder::new(alloc, 2).finish()
+    CnfBuilder::new(alloc, 3).finish()
 }
 
-// A table of two variables without nodes.
+// A table over this order without nodes.
 fn open(
     alloc: Global,
-    reversed: bool,
+    order: &[u32],
     sink: ProofText,
     max_nodes: u32,
     max_ids: u32,
 ) -> Result<Table<ProofText>, OutOfMemory>
+    requires order { IsOrder order.now }
+    requires few_variables { length order.now ≤ 3 }
     requires fresh { sink.bytes.items ≡ [] }
     requires few { max_nodes ≤ 100000000 }
     ensures tied { IfOk result (λ table. IsTied table.graph table.book.state) }
@@ -91,7 +118,7 @@ fn open(
         Ok(ledger) => ledger,
         Err((_, e)) => return Err(e),
     };
-    match Table::open(alloc, ledger, &order(reversed), max_nodes) {
+    match Table::open(alloc, ledger, order, max_nodes) {
         Ok(table) => Ok(table),
         Err((_, e)) => Err(e),
     }
@@ -151,16 +178,39 @@ fn number(just: &Just) -> Option<Id> {
     }
 }
 
-// The node of a function of two variables, by its values where the variables are both true, the first alone, the
-// second alone, and none.
-fn function(table: &mut Table<ProofText>, row: u8) -> Result<Node, Fail>
+// The node of a function of the two variables from this level on, by its values where they are both true, the first
+// alone, the second alone, and none.
+fn function(table: &mut Table<ProofText>, level: u32, row: usize) -> Result<Node, Fail>
+    requires small { level ≤ 1 }
     requires tied { IsTied table.old.graph table.old.book.state }
     requires in_step { IsTrue table.old.book.in_step }
     ensures tied { OnOk result (IsTied table.new.graph table.new.book.state) }
     ensures in_step { OnOk result (IsTrue table.new.book.in_step) }
 {
-    let high = make(table, 1, constant(row & 8 != 0), constant(row & 4 != 0))?;
-    let low = make(table, 1, constant(row & 2 != 0), constant(row & 1 != 0))?;
+    let high = make(
+        table,
+        level + 1,
+        constant(row & 8 != 0),
+        constant(row & 4 != 0),
+    )?;
+    let low = make(
+        table,
+        level + 1,
+        constant(row & 2 != 0),
+        constant(row & 1 != 0),
+    )?;
+    make(table, level, high, low)
+}
+
+// The node of a function of three variables: its values where the first one is true stand before the others.
+fn function_of_three(table: &mut Table<ProofText>, row: usize) -> Result<Node, Fail>
+    requires tied { IsTied table.old.graph table.old.book.state }
+    requires in_step { IsTrue table.old.book.in_step }
+    ensures tied { OnOk result (IsTied table.new.graph table.new.book.state) }
+    ensures in_step { OnOk result (IsTrue table.new.book.in_step) }
+{
+    let high = function(table, 1, row >> 4)?;
+    let low = function(table, 1, row & 15)?;
     make(table, 0, high, low)
 }
 
@@ -168,12 +218,13 @@ fn constant(value: bool) -> Node {
     if value { Node::True } else { Node::False }
 }
 
-// Whether the third node is the conjunction of the others under each assignment.
+// Whether the third node is the conjunction of the others under each assignment of three variables.
 fn is_conjunction(table: &Table<ProofText>, u: Node, v: Node, w: Node) -> bool {
     if !is_known(table, u) || !is_known(table, v) || !is_known(table, w) {
         return false;
     }
-    for values in [[false, false], [false, true], [true, false], [true, true]] {
+    for number in 0..8_u8 {
+        let values = [number & 4 != 0, number & 2 != 0, number & 1 != 0];
         let first = table.value(u, &values);
         let second = table.value(v, &values);
         if table.value(w, &values) != (first && second) {
@@ -183,13 +234,13 @@ fn is_conjunction(table: &Table<ProofText>, u: Node, v: Node, w: Node) -> bool {
     true
 }
 
-// Each pair of functions, whose conjunction is the node of the function.
+// Each pair of functions of two variables, whose conjunction is the node of the function.
 fn each_pair(rt: &impl Abort, alloc: Global, reversed: bool) -> Result<(), Fail> {
     let sink = ProofText::new(alloc, 100_000);
-    let mut table = open(alloc, reversed, sink, 100, 10_000)?;
+    let mut table = open(alloc, &order(reversed), sink, 100, 10_000)?;
     let mut nodes = Vec::new(alloc);
-    for row in 0..16_u8 {
-        let node = function(&mut table, row)?;
+    for row in 0..16_usize {
+        let node = function(&mut table, 0, row)?;
         nodes.push(node)?;
     }
     let mut cache = AndCache::new(alloc, 1)?;
@@ -209,11 +260,65 @@ fn each_pair(rt: &impl Abort, alloc: Global, reversed: bool) -> Result<(), Fail>
     Ok(())
 }
 
+// Each pair of these functions of three variables.
+fn each_pair_of_three(
+    rt: &impl Abort,
+    alloc: Global,
+    order: &[u32],
+    rows: &[usize],
+) -> Result<(), Fail>
+    requires order { IsOrder order.now }
+    requires three { length order.now ≡ 3 }
+{
+    let sink = ProofText::new(alloc, 100_000);
+    let mut table = open(alloc, order, sink, 1_000, 100_000)?;
+    for first in rows {
+        for second in rows {
+            let u = function_of_three(&mut table, *first)?;
+            let v = function_of_three(&mut table, *second)?;
+            let expected = function_of_three(&mut table, *first & *second)?;
+            let mut cache = AndCache::new(alloc, 1)?;
+            let (w, _) = conjoin(&mut table, &mut cache, u, v)?;
+            assert_eq!(rt; w, expected, "{order:?} {first} {second}");
+            assert!(rt;
+                is_conjunction(&table, u, v, w),
+                "{order:?} {first} {second}"
+            );
+        }
+    }
+    Ok(())
+}
+
 /// All pairs of functions of two variables, in both orders.
 #[test]
 fn all_pairs(rt: HostRuntime) -> Result<(), Fail> {
     each_pair(&rt, rt.alloc(), false)?;
     each_pair(&rt, rt.alloc(), true)
+}
+
+/// Pairs of functions of three variables, in each order: the variables, their parity, majority and choice, exactly one of
+/// them, equal ones, a clause and a product.
+#[test]
+fn pairs_of_three(rt: HostRuntime) -> Result<(), Fail> {
+    let rows = [
+        0b1111_0000,
+        0b1100_1100,
+        0b1010_1010,
+        0b1001_0110,
+        0b1110_1000,
+        0b1100_1010,
+        0b0001_0110,
+        0b1000_0001,
+        0b1101_1111,
+        0b0010_0000,
+    ];
+    for first in [1, 2, 3] {
+        for reversed in [false, true] {
+            let order = order_of_three(first, reversed);
+            each_pair_of_three(&rt, rt.alloc(), &order, &rows)?;
+        }
+    }
+    Ok(())
 }
 
 // The nodes of the table of lines below.
@@ -251,7 +356,7 @@ const DEFINITIONS: &str =
 #[test]
 fn lines(rt: HostRuntime) -> Result<(), Fail> {
     let sink = ProofText::new(rt.alloc(), 1_000);
-    let mut table = open(rt.alloc(), false, sink, 100, 10_000)?;
+    let mut table = open(rt.alloc(), &order(false), sink, 100, 10_000)?;
     let n = five_nodes(&mut table)?;
     let mut cache = AndCache::new(rt.alloc(), 1)?;
     let (first, id) = conjoin(&mut table, &mut cache, n.u, n.v)?;
@@ -290,7 +395,7 @@ fn lines(rt: HostRuntime) -> Result<(), Fail> {
 #[test]
 fn coincidences(rt: HostRuntime) -> Result<(), Fail> {
     let sink = ProofText::new(rt.alloc(), 1_000);
-    let mut table = open(rt.alloc(), false, sink, 100, 10_000)?;
+    let mut table = open(rt.alloc(), &order(false), sink, 100, 10_000)?;
     let p = make(&mut table, 1, Node::True, Node::False)?;
     let a = make(&mut table, 0, p, Node::True)?;
     let b = make(&mut table, 0, Node::True, p)?;
@@ -324,7 +429,7 @@ fn refusal(
 {
     let mut table = open(
         alloc,
-        false,
+        &order(false),
         ProofText::new(alloc, writes),
         max_nodes,
         max_ids,

@@ -97,10 +97,12 @@ impl<S: Sink + Drop> Ledger<S> {
         ensures memory { IsErrOf result LedgerError.OutOfMemory → length clause.now ≤ 4 → self.old.spare ≡ 0 }
         ensures spare { length clause.now ≤ 4 → self.old.spare ≤ self.new.spare + 1 }
 
-        // A failed write leaves the ledger out of step, behind its proof a front of one good line.
+        // A failed write leaves the ledger out of step: its clause is live, behind the proof stands a front of one good
+        // line.
         ensures write_fault { IsErrOf result LedgerError.WriteFault
             → IsTorn S.tells (S.channel self.old.sink) (S.channel self.new.sink) (next_line self.old.state clause.now hints.now) }
         ensures out_of_step { IsErrOf result LedgerError.WriteFault → self.new.in_step ≡ false }
+        ensures fault_state { IsErrOf result LedgerError.WriteFault → self.new.state ≡ with_next self.old.state clause.now }
         ensures cut { (clauses : List (List ℤ)) → IsProofOf clauses S.tells (S.channel self.old.sink) self.old.state → IsTrue S.tells
             → IsErrOf result LedgerError.WriteFault → IsCutProof clauses (S.channel self.new.sink).written }
 
@@ -139,6 +141,7 @@ impl<S: Sink + Drop> Ledger<S> {
         ensures write_fault { IsErrOf result LedgerError.WriteFault
             → IsTorn S.tells (S.channel self.old.sink) (S.channel self.new.sink) (definition_line self.old.state clause.now candidates.now) }
         ensures out_of_step { IsErrOf result LedgerError.WriteFault → self.new.in_step ≡ false }
+        ensures fault_state { IsErrOf result LedgerError.WriteFault → self.new.state ≡ with_next self.old.state clause.now }
         ensures cut { (clauses : List (List ℤ)) → IsProofOf clauses S.tells (S.channel self.old.sink) self.old.state → IsTrue S.tells
             → IsErrOf result LedgerError.WriteFault → IsCutProof clauses (S.channel self.new.sink).written }
 

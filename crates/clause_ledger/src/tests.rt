@@ -142,7 +142,7 @@ fn proof_file(rt: HostRuntime) -> Result<(), Fail> {
 }
 
 // What came of adding the empty clause to a formula that has it: the answer of `add` and, where that was Ok, of
-// `finish`; whether the ledger is in step; what was written and how much of it is flushed.
+// `finish`; whether the ledger is in step; what was written, how much of it is flushed, and how many calls failed.
 #[derive(Debug, PartialEq, Drop)]
 struct Outcome {
     added: Result<Id, LedgerError>,
@@ -150,6 +150,7 @@ struct Outcome {
     in_step: bool,
     bytes: Vec<u8>,
     flushed: usize,
+    faults: u64,
 }
 
 fn run(alloc: Global, formula: &Cnf, max_ids: u32, calls: usize) -> Result<Outcome, OutOfMemory>
@@ -171,6 +172,7 @@ fn run(alloc: Global, formula: &Cnf, max_ids: u32, calls: usize) -> Result<Outco
         added,
         finished,
         in_step,
+        faults: sink.faults,
         bytes: sink.bytes,
         flushed: sink.flushed,
     })
@@ -182,11 +184,11 @@ fn limits_and_faults(rt: HostRuntime) -> Result<(), Fail> {
     let formula = empty_clause(rt.alloc())?;
     let limit = Err(LedgerError::IdLimit);
     let fault = Err(LedgerError::WriteFault);
-    for (max_ids, calls, added, finished, in_step, text, flushed) in [
-        (2, 2, Ok(Id(2)), Some(Ok(())), true, "2 0 1 0\n", 8),
-        (1, 2, limit, None, true, "", 0),
-        (0, 0, limit, None, true, "", 0),
-        (2, 0, fault, None, false, "", 0),
+    for (max_ids, calls, added, finished, in_step, text, flushed, faults) in [
+        (2, 2, Ok(Id(2)), Some(Ok(())), true, "2 0 1 0\n", 8, 0),
+        (1, 2, limit, None, true, "", 0, 0),
+        (0, 0, limit, None, true, "", 0, 0),
+        (2, 0, fault, None, false, "", 0, 1),
         (
             2,
             1,
@@ -195,6 +197,7 @@ fn limits_and_faults(rt: HostRuntime) -> Result<(), Fail> {
             false,
             "2 0 1 0\n",
             0,
+            1,
         ),
     ] {
         let expected = Outcome {
@@ -203,6 +206,7 @@ fn limits_and_faults(rt: HostRuntime) -> Result<(), Fail> {
             in_step,
             bytes: text.as_bytes().to_vec(rt.alloc())?,
             flushed,
+            faults,
         };
         let outcome = run(rt.alloc(), &formula, max_ids, calls)?;
         assert_eq!(rt; outcome, expected, "{max_ids} {calls}");

@@ -1,6 +1,6 @@
 // A clause of the formula as a term: its diagram from the last literal up, and the unit of the top node. (Bryant, Heule:
 // Generating Extended Resolution Proofs with a BDD-Based SAT Solver, 2021, section 5.)
-ghost use Rattle.std.specs.Prelude.{◌≡◌, ◌≢◌, ◌<◌, ◌≤◌, ◌+◌, [], ◌∷◌, Err, IsTrue, IfOk, IfErr, Some};
+ghost use Rattle.std.specs.Prelude.{◌≡◌, ◌≢◌, ◌<◌, ◌≤◌, ◌+◌, ℕ, [], ◌∷◌, Err, IsTrue, IfOk, IfErr, Some};
 ghost use Rattle.std.specs.List.{list_all};
 ghost use Rattle.std.specs.List.Sorted.{IsNonDecreasingBy};
 ghost use Rattle.cnf_base.specs.Truth.{clause_holds, is_literal_of};
@@ -44,6 +44,8 @@ pub fn push_clause<S: Sink + Drop>(
     requires variables { IsTrue (list_all (is_literal_of (levels table.old.graph)) clause.now) }
     requires some { clause.now ≢ [] }
     ensures term { IfOk result (λ found. IsTerm table.new.graph table.new.book.state.live (λ a. clause_holds a clause.now) found.0 found.1) }
+    // The unit is the last clause.
+    ensures last { IfOk result (λ found. (id : ℕ) → found.1 ≡ Clause id → id ≡ table.new.book.state.top) }
     ensures made { UnlessTorn result (MakesOnly table.old.graph table.new.graph (clause_function table.old.graph.order clause.now)) }
     ensures continues { UnlessTorn result (Continues S.tells (S.channel table.old.book.sink) (S.channel table.new.book.sink) table.old table.new) }
     ensures tautology { IsTautology clause.now → (table.new ≡ table.old) × IfOk result (λ found. (found.0 ≡ True) × (found.1 ≡ Trivial)) × IfErr result (λ e. e ≡ OutOfMemory) }
@@ -112,6 +114,7 @@ fn add_unit<S: Sink + Drop>(
     requires tied { IsTied table.old.graph table.old.book.state }
     requires path { HasUnitPath table.old.graph table.old.book.state.live node path.now input }
     ensures proved { IfOk result (λ id. IsJustified table.new.book.state.live (atom_of table.new.graph node ∷ []) (Clause id)) }
+    ensures one { IfOk result (λ id. (id ≡ table.old.book.state.top + 1) × (id ≡ table.new.book.state.top)) }
     ensures nodes { table.new.graph ≡ table.old.graph }
     ensures continues { UnlessTorn result (Continues S.tells (S.channel table.old.book.sink) (S.channel table.new.book.sink) table.old table.new) }
     ensures no_node_limit { result ≢ Err NodeLimit }

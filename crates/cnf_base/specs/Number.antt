@@ -1,4 +1,5 @@
--- Numbers in texts. A token of more than 64 bytes is no number; leading zeros are read, and -0 is no number.
+-- Numbers in texts. A token of more than 64 bytes is no number; leading zeros are read, and -0 is no number. (These
+-- three are this project's own rules: neither DIMACS nor the LRAT paper says anything of them.)
 use Rattle.std.specs.Prelude.{ℕ, zero, suc, ◌+◌, ◌-◌, ◌*◌, Bool, false, ◌&&◌, ℤ, pos, negsuc, List, [], ◌∷◌, length, Option, None, Some, nat_le, ◌==◌, if◌then◌else◌}
 use Rattle.std.specs.List.{list_all}
 use Rattle.std.specs.Option.{option_map, option_and_then}

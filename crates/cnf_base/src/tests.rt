@@ -92,6 +92,16 @@ fn has_clauses(cnf: &Cnf, clauses: &[&[i32]]) -> bool {
     true
 }
 
+/// More literals than 16 bits can count.
+#[test]
+fn many_literals(rt: HostRuntime) -> Result<(), Fail> {
+    let numbers = vec![in rt.alloc(); -1; 70000]?;
+    let clauses: [&[i32]; 2] = [&numbers, &[1]];
+    let cnf = formula(rt.alloc(), 1, &clauses)?;
+    assert!(rt; has_clauses(&cnf, &clauses));
+    Ok(())
+}
+
 /// Clauses are kept as they stand, and a formula is true where each clause has a true literal.
 #[test]
 fn formulas(rt: HostRuntime) -> Result<(), Fail> {

@@ -1,6 +1,7 @@
 -- The DIMACS CNF format: a header `p cnf V C`, then C clauses, each its literals and a zero. A clause may span lines;
 -- comment lines begin with `c`; a token `%` ends the text, as in old benchmark files. Clauses are kept as they stand.
--- (DIMACS, 'Satisfiability: Suggested Format', 1993.)
+-- (DIMACS, 'Satisfiability: Suggested Format', 1993; the `%` is that of SATLIB's files uf20 to uf250. The limits, and which
+-- of several faults is told, are this project's own.)
 use Rattle.std.specs.Prelude.{ℕ, zero, suc, ◌+◌, Bool, ◌&&◌, ℤ, pos, negsuc, nat_abs, List, [], ◌∷◌, ◌++◌, length, sum_by, Option, None, Some, nat_lt, nat_le, codes, if◌then◌else◌}
 use Rattle.std.specs.Str.{bytes_eq}
 use Rattle.cnf_base.specs.Formula.{Formula, Draft}

@@ -1,4 +1,3 @@
 pub mod Cnf
 pub mod Answers
-pub mod Capped
 pub mod Body

@@ -7,16 +7,15 @@ ghost use Rattle.text_scan.specs.Scan.{ahead, is_faulted};
 ghost use Rattle.dimacs_reader.specs.declared.error.CnfError.TheVariants.{ReadFault, OutOfMemory};
 ghost use Rattle.dimacs_reader.specs.Answers.{Answers};
 ghost use Rattle.dimacs_reader.specs.Body.{Takes, answer_of};
-ghost use Rattle.dimacs_reader.specs.Capped.{cap};
+ghost use Rattle.text_scan.specs.Capped.{cap};
 ghost use Rattle.dimacs_reader.specs.Cnf.{max_vars, max_clauses, max_literals, literals_of, is_word, with_number, with_read, offence_of, text_end, body as body_text};
 
 use crate::error::{CnfError, CnfKind};
-use crate::number::signed_number;
 use cnf_base::{Cnf, CnfBuilder, Lit};
 use host_io::Source;
 use std::alloc::Global;
 use std::marker::Model;
-use text_scan::{Scanner, Token};
+use text_scan::{Scanner, Token, signed_number};
 
 /// How many literals a formula may have.
 const MAX_LITERALS: u32 = 100_000_000;
@@ -72,6 +71,8 @@ impl Body {
     fn take(&mut self, token: &Token) -> Result<(), CnfError>
         ensures takes { Takes result (offence_of (signed_number token.now.bytes) self.old.count self.old.draft) token.now.line
             (with_read (signed_number token.now.bytes) self.old.draft) self.new.draft }
+        // want of memory never stands for a refusal
+        ensures memory { result ≡ Err OutOfMemory → offence_of (signed_number token.now.bytes) self.old.count self.old.draft ≡ None }
         ensures count { self.new.count ≡ self.old.count }
     {
         match signed_number(token) {
@@ -83,6 +84,7 @@ impl Body {
     #[inline(always)]
     fn take_number(&mut self, number: i64, line: u64) -> Result<(), CnfError>
         ensures takes { Takes result (offence_of (Some number) self.old.count self.old.draft) line (with_number number self.old.draft) self.new.draft }
+        ensures memory { result ≡ Err OutOfMemory → offence_of (Some number) self.old.count self.old.draft ≡ None }
         ensures count { self.new.count ≡ self.old.count }
         ensures few_vars { self.old.draft.vars ≤ max_vars }
     {

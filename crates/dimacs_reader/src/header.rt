@@ -10,11 +10,10 @@ ghost use Rattle.dimacs_reader.specs.Cnf.{max_vars, cnf, cnf_of, after_p, after_
 
 use crate::body::{Body, is_word, read_body};
 use crate::error::{CnfError, CnfKind};
-use crate::number::plain_number;
 use cnf_base::Cnf;
 use host_io::Source;
 use std::alloc::Global;
-use text_scan::Scanner;
+use text_scan::{Scanner, plain_number};
 
 /// How many bytes a text may have.
 const MAX_BYTES: u64 = 4_000_000_000;

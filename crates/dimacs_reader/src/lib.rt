@@ -6,7 +6,6 @@
 mod body;
 mod error;
 mod header;
-mod number;
 
 pub use error::{CnfError, CnfKind};
 pub use header::read_cnf;

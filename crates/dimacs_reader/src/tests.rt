@@ -16,6 +16,17 @@ struct SliceSource<'a> {
     faults: u64,
 }
 
+impl<'a> SliceSource<'a> {
+    fn new(text: &'a [u8], piece: usize, fails_at: Option<usize>) -> Self {
+        SliceSource {
+            rest: text,
+            piece,
+            fails_at,
+            faults: 0,
+        }
+    }
+}
+
 impl Source for SliceSource<'_> {
     ghost use Rattle.std.specs.Prelude.{false, None, []};
 
@@ -51,14 +62,8 @@ fn spelled(alloc: Global, cnf: &Cnf) -> Result<String, AllocError> {
     Ok(out)
 }
 
-fn answer(alloc: Global, text: &[u8], piece: usize) -> Result<String, AllocError> {
-    let mut source = SliceSource {
-        rest: text,
-        piece,
-        fails_at: None,
-        faults: 0,
-    };
-    match read_cnf(alloc, &mut source) {
+fn answer(alloc: Global, source: &mut SliceSource) -> Result<String, AllocError> {
+    match read_cnf(alloc, source) {
         Ok(cnf) => spelled(alloc, &cnf),
         Err(e) => format!(in alloc; "{e}"),
     }
@@ -66,7 +71,7 @@ fn answer(alloc: Global, text: &[u8], piece: usize) -> Result<String, AllocError
 
 fn expect(rt: &impl Abort, alloc: Global, text: &[u8], wanted: &str) -> Result<(), AllocError> {
     for piece in [1, 3, usize::MAX] {
-        let given = answer(alloc, text, piece)?;
+        let given = answer(alloc, &mut SliceSource::new(text, piece, None))?;
         assert_eq!(rt; given.as_str(), wanted, "{text:?} in pieces of {piece}");
     }
     Ok(())
@@ -163,7 +168,7 @@ fn judges_cut_texts(rt: HostRuntime) -> Result<(), Fail> {
     Ok(())
 }
 
-// Numerals of 64 and of 65 bytes, as the ending zero, as a literal and as the number of variables.
+// Numerals of 64 and of 65 bytes, as the ending zero, as a literal, as the number of variables and for `cnf`.
 #[test]
 fn reads_long_numerals(rt: HostRuntime) -> Result<(), Fail> {
     for (digit, len, wanted) in [
@@ -180,6 +185,8 @@ fn reads_long_numerals(rt: HostRuntime) -> Result<(), Fail> {
         expect(&rt, rt.alloc(), body.as_bytes(), wanted[0])?;
         let header = format!(in rt.alloc(); "p cnf {numeral} 1")?;
         expect(&rt, rt.alloc(), header.as_bytes(), wanted[1])?;
+        let format = format!(in rt.alloc(); "p {numeral} 1 1")?;
+        expect(&rt, rt.alloc(), format.as_bytes(), "line 1: BadHeader")?;
     }
     Ok(())
 }
@@ -187,7 +194,8 @@ fn reads_long_numerals(rt: HostRuntime) -> Result<(), Fail> {
 #[test]
 fn a_token_of_ten_million_bytes(rt: HostRuntime) -> Result<(), Fail> {
     let text = vec![in rt.alloc(); b'1'; 10_000_000]?;
-    let given = answer(rt.alloc(), text.as_slice(), usize::MAX)?;
+    let mut source = SliceSource::new(text.as_slice(), usize::MAX, None);
+    let given = answer(rt.alloc(), &mut source)?;
     assert_eq!(rt; given.as_str(), "line 1: NoHeader");
     Ok(())
 }
@@ -196,17 +204,38 @@ fn a_token_of_ten_million_bytes(rt: HostRuntime) -> Result<(), Fail> {
 fn a_read_fails(rt: HostRuntime) -> Result<(), Fail> {
     let text: &[u8] = b"p cnf 2 2\n1 -2 0\n2 0\n";
     for left in 0..text.len() {
-        let mut source = SliceSource {
-            rest: text,
-            piece: 1,
-            fails_at: Some(left),
-            faults: 0,
-        };
+        let mut source = SliceSource::new(text, 1, Some(left));
         match read_cnf(rt.alloc(), &mut source) {
             Ok(_) => panic!(rt; "read with {left} bytes left"),
             Err(e) => assert_eq!(rt; e, CnfError::ReadFault),
         }
         assert_eq!(rt; source.faults, 1);
+    }
+    Ok(())
+}
+
+// The byte after the deciding token was read, and the last one is not: its read would fail.
+#[test]
+fn reads_no_further(rt: HostRuntime) -> Result<(), Fail> {
+    let table: [(&[u8], &str); 12] = [
+        (b"q 1", "line 1: NoHeader"),
+        (b"p dnf 1", "line 1: BadHeader"),
+        (b"p cnf x 1", "line 1: BadHeader"),
+        (b"p cnf 1000001 1", "line 1: Limit"),
+        (b"p cnf 1 x 1", "line 1: BadHeader"),
+        (b"p cnf 1 10000001 1", "line 1: Limit"),
+        (b"p cnf 1 1\nx 1", "line 2: BadToken"),
+        (b"p cnf 1 1\n2 1", "line 2: LiteralRange"),
+        (b"p cnf 1 1\n1 0 0 1", "line 2: TooManyClauses"),
+        (b"p cnf 1 1\n1 % 1", "line 2: NoEndingZero"),
+        (b"p cnf 1 1\n% 1", "line 2: ClauseMissing"),
+        (b"p cnf 1 1\n1 0\n% 1", "1: 1 0"),
+    ];
+    for (text, wanted) in table {
+        let mut source = SliceSource::new(text, 1, Some(1));
+        let given = answer(rt.alloc(), &mut source)?;
+        assert_eq!(rt; given.as_str(), wanted, "{text:?}");
+        assert_eq!(rt; source.faults, 0, "{text:?}");
     }
     Ok(())
 }

@@ -27,5 +27,5 @@ reads_front channel input position count capacity front rest count_is front_is =
       written = refl;
       flushed = refl;
       name = refl;
-      faults = record { no_less = omega arith; cause = λ e. cc };
+      faults = record { no_less = omega arith; cause = λ e. cc; unfailed = λ _. refl };
     }

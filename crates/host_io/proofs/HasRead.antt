@@ -13,7 +13,7 @@ pub record HasRead (tells : Bool) (old new : Channel) (buffer : List ℕ) (done 
   pub written : new.written ≡ old.written
   pub flushed : new.flushed ≡ old.flushed
   pub name : new.name ≡ old.name
-  pub no_less : old.faults ≤ new.faults
+  pub faults : new.faults ≡ old.faults
 
 -- one read more, into the rest of the buffer
 pub more_read : (tells : Bool) (old mid new : Channel) (buffer rest : List ℕ) (done capacity n : ℕ) → HasRead tells old mid buffer done → capacity ≡ length rest → Reads tells mid new capacity rest (Ok n) → HasRead tells old new (take done buffer ++ rest) (done + n)
@@ -29,7 +29,7 @@ more_read tells old mid new buffer rest done capacity n so_far long step =
       written = step.written ∙ so_far.written;
       flushed = step.flushed ∙ so_far.flushed;
       name = step.name ∙ so_far.name;
-      no_less = omega (arith, step.faults.no_less, so_far.no_less);
+      faults = step.faults.unfailed refl ∙ so_far.faults;
     }
 
 -- after a write to the rest of a list, whose length it keeps

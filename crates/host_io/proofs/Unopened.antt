@@ -11,7 +11,7 @@ at_fault old name e idle none no_less = record {
   failed = λ _. inr none;
   was_idle = idle;
   idle = record { taken = idle.taken; written = idle.written; flushed = idle.flushed };
-  faults = record { no_less = no_less; cause = λ _. omega arith };
+  faults = record { no_less = no_less; cause = λ _. omega arith; unfailed = λ ok. cc };
 }
 
 pub opens_not : {T : Type 0} (old new : Channel) (name : List ℕ) (e : Failed) → IsIdle old → old.name ≡ None → new ≡ faulted old → old.faults ≤ new.faults → Opens {T = T} old new name (Err e)

@@ -12,7 +12,7 @@ pub record HasWritten (tells : Bool) (old new : Channel) (piece : List ℕ) (don
   pub taken : new.taken ≡ old.taken
   pub left : new.left ≡ old.left
   pub name : new.name ≡ old.name
-  pub no_less : old.faults ≤ new.faults
+  pub faults : new.faults ≡ old.faults
 
 -- one write more
 pub more_written : (tells : Bool) (old mid new : Channel) (piece rest : List ℕ) (done n : ℕ) → rest ≡ drop done piece → HasWritten tells old mid piece done → Writes tells mid new rest (Ok n) → HasWritten tells old new piece (done + n)
@@ -28,7 +28,7 @@ more_written tells old mid new piece rest done n e so_far step =
       taken = step.taken ∙ so_far.taken;
       left = step.left ∙ so_far.left;
       name = step.name ∙ so_far.name;
-      no_less = omega (arith, step.faults.no_less, so_far.no_less);
+      faults = step.faults.unfailed refl ∙ so_far.faults;
     }
 
 -- a whole piece, and then a flush
@@ -44,6 +44,7 @@ puts_whole tells old mid new piece u result writes flushes = record {
   faults = record {
     no_less = omega (arith, flushes.faults.no_less, writes.faults.no_less);
     cause = λ err. omega (arith, flushes.faults.cause err, writes.faults.no_less);
+    unfailed = λ ok. flushes.faults.unfailed ok ∙ writes.faults.unfailed refl;
   };
 }
 

@@ -22,10 +22,11 @@ abbrev pub moved : Result ℕ Failed → ℕ
 moved (Ok n) = n
 moved (Err e) = 0
 
--- Counts never fall, and a call fails only where its count rose.
+-- A count never falls. A call that fails raises it, and one that succeeds leaves it as it is.
 pub record Counts {T : Type 0} (old new : Channel) (result : Result T Failed) : Type 0 where
   pub no_less : old.faults ≤ new.faults
   pub cause : IsErr result → Rose old.faults new.faults
+  pub unfailed : IsOk result → new.faults ≡ old.faults
 
 -- A read into a buffer of this capacity, which holds `buffer` afterwards. The bytes answered come from the
 -- front of what was left; none for a buffer that isn't empty is the end. A failed read takes nothing.

@@ -1,5 +1,5 @@
 // A host in memory whose calls fail where a plan says so, and move few bytes at a time: for tests of the layers
-// above.
+// above. Reads and flushes fail nowhere else; the other calls may, for want of memory.
 ghost use Rattle.std.specs.Prelude.{◌≡◌, ◌<◌, ◌≤◌, ◌≢◌, true, None, Some, ℕ, length, IsOk, IfOk, OnOk, OnErr, IsTrue, IsErr, IsFalse};
 ghost use Rattle.std.specs.Option.{option_copied};
 ghost use Rattle.host_io.specs.declared.role.Role.{Role};
@@ -80,6 +80,7 @@ impl FailingHost {
     // Counts a call of this role, which fails where it is listed.
     fn begin(&mut self, role: Role) -> Result<(), Failed>
         ensures plan { GoesByPlan self.old self.new role result }
+        ensures planned { IsErr result → IsTrue (is_listed role (next_call self.old role) self.old.fails) }
         ensures ok { OnOk result (self.new.base ≡ self.old.base) }
         ensures err { OnErr result (channel_of self.new role ≡ memory.faulted (channel_of self.old role)) }
         ensures no_less { (channel_of self.old role).faults ≤ (channel_of self.new role).faults }
@@ -132,6 +133,7 @@ impl Host for FailingHost {
         ensures reads { Reads true (channel_of self.old role) (channel_of self.new role) (length buf.old) buf.new result }
         ensures kept { Kept role None (channel_of self.old) (channel_of self.new) (files_of self.old) (files_of self.new) }
         ensures plan { GoesByPlan self.old self.new role result }
+        ensures planned { IsErr result → IsTrue (is_listed role (next_call self.old role) self.old.fails) }
         ensures piece { IfOk result (λ n. n ≤ self.old.piece) }
     {
         self.begin(role)?;
@@ -156,6 +158,7 @@ impl Host for FailingHost {
         ensures flushes { Flushes true (channel_of self.old role) (channel_of self.new role) result }
         ensures kept { Kept role (channel_of self.old role).name (channel_of self.old) (channel_of self.new) (files_of self.old) (files_of self.new) }
         ensures plan { GoesByPlan self.old self.new role result }
+        ensures planned { IsErr result → IsTrue (is_listed role (next_call self.old role) self.old.fails) }
     {
         self.begin(role)?;
         self.base.flush(role)

@@ -1,7 +1,7 @@
 //! The outside of the program. A `Source` is a stream that is read, a `Sink` one that is written, and a `Host`
 //! holds all of them by their roles; `HostSource` and `HostSink` lend one role of a host. The contracts tell
 //! the bytes that were taken, are left, were written and are flushed, names of files, and counts of faults: a
-//! call fails only where its role's count rose, and a failed call moved nothing. `MemoryHost` keeps its files
+//! failed call raises its role's count and moves nothing, and no other call raises it. `MemoryHost` keeps its files
 //! in memory and tells all; `RealHost` meets the system, tells names and counts, and is trusted for the bytes.
 //! Stands on nothing.
 #![tactic(auto)]

@@ -1,11 +1,11 @@
 // A host that keeps its files in memory and tells all. Each role reads a copy of its file, so that no call of
-// one role is met by another.
-ghost use Rattle.std.specs.Prelude.{◌≡◌, ◌≢◌, ◌≤◌, List, ℕ, None, Some, true, length, IfSome, OnOk, OnErr};
+// one role is met by another. Reads and flushes never fail.
+ghost use Rattle.std.specs.Prelude.{◌≡◌, ◌≢◌, ◌≤◌, List, ℕ, None, Some, true, length, IsOk, IfSome, OnOk, OnErr};
 ghost use Rattle.std.specs.Option.{option_copied};
 ghost use Rattle.host_io.specs.declared.role.Role.{Role};
 ghost use Rattle.host_io.specs.declared.role.Role.TheVariants.{ProofOut, Made};
 ghost use Rattle.host_io.specs.Channel.{Channel, Reads, Writes, Flushes};
-ghost use Rattle.host_io.specs.Files.{Kept, IsIdle};
+ghost use Rattle.host_io.specs.Files.{IsInput, IsWritable, Kept, IsIdle};
 ghost use Rattle.host_io.specs.Memory.{Memory, fresh, faulted, channel_of, files_of, stored, IsNamedFirst, IsUnnamed, AddsFile};
 
 use crate::host::Host;
@@ -186,7 +186,13 @@ impl Host for MemoryHost {
         }
     }
 
-    fn read(&mut self, role: Role, buf: &mut [u8]) -> Result<usize, Failed> {
+    fn read(&mut self, role: Role, buf: &mut [u8]) -> Result<usize, Failed>
+        requires input { IsInput role }
+        requires opened { (channel_of self.old role).name ≢ None }
+        ensures reads { Reads true (channel_of self.old role) (channel_of self.new role) (length buf.old) buf.new result }
+        ensures kept { Kept role None (channel_of self.old) (channel_of self.new) (files_of self.old) (files_of self.new) }
+        ensures succeeds { IsOk result }
+    {
         Ok(self.streams[place(role)].read(buf))
     }
 
@@ -194,7 +200,12 @@ impl Host for MemoryHost {
         self.streams[place(role)].write(bytes)
     }
 
-    fn flush(&mut self, role: Role) -> Result<(), Failed> {
+    fn flush(&mut self, role: Role) -> Result<(), Failed>
+        requires { IsWritable role (channel_of self.old role).name }
+        ensures flushes { Flushes true (channel_of self.old role) (channel_of self.new role) result }
+        ensures kept { Kept role (channel_of self.old role).name (channel_of self.old) (channel_of self.new) (files_of self.old) (files_of self.new) }
+        ensures succeeds { IsOk result }
+    {
         self.streams[place(role)].flush();
         Ok(())
     }

@@ -5,7 +5,7 @@ use Rattle.lrat_text.specs.Steps.{Steps, no_more, overlong, no_step, next_step, 
 use Rattle.lrat_rules.specs.declared.outcome.Reason.{Reason}
 use Rattle.lrat_rules.specs.declared.outcome.Reason.TheVariants.{Syntax, NoEmptyClause}
 use Rattle.lrat_rules.specs.State.{State, start}
-use Rattle.lrat_rules.specs.Run.{step_fault, after_step, step_adds_empty}
+use Rattle.lrat_rules.specs.Run.{Judged, Reached, Stopped, step_fault, after_step, step_adds_empty}
 use Rattle.lrat_checker.specs.declared.verdict.Verdict.{Verdict}
 use Rattle.lrat_checker.specs.declared.verdict.Verdict.TheVariants.{Verified, Refused}
 use Rattle.lrat_checker.specs.declared.verdict.CheckError.{CheckError}
@@ -41,6 +41,11 @@ text_verdict clauses bytes = steps_verdict (start clauses) false (steps max_byte
 abbrev pub verdict_as : Option (ℕ × Reason) → Verdict
 verdict_as None = Verified
 verdict_as (Some (line, reason)) = Refused line reason
+
+-- the verdict of a text that is too long, by where its lines that end under the limit lead
+abbrev pub verdict_within : Judged → Option Verdict
+verdict_within (Stopped line reason) = Some (Refused line reason)
+verdict_within (Reached state) = None
 
 -- The answer is what the text says. A failed read and want of memory say nothing of it.
 abbrev pub Answers : Result Verdict CheckError → Option Verdict → Type 0

@@ -1,6 +1,6 @@
 // When an addition is good: its number is greater than all earlier ones, and its hints refute the clause's negation,
 // or its first literal, the pivot, has a refutation for each candidate. (LRAT: RUP and RAT steps.)
-ghost use Rattle.std.specs.Prelude.{◌≡◌, None, IfOk, OnOk};
+ghost use Rattle.std.specs.Prelude.{◌≡◌, ◌<◌, None, IfOk, OnErr};
 ghost use Rattle.lrat_rules.specs.Chain.{literals_of};
 ghost use Rattle.lrat_rules.specs.Addition.{fault, fault_after_hints};
 ghost use Rattle.lrat_rules.specs.FalseLiterals.{set_of, before_of};
@@ -22,7 +22,8 @@ pub fn addition_fault(
     hints: &[Id],
     groups: &[Group],
 ) -> Result<Option<Reason>, OutOfMemory>
-    ensures { IfOk result (λ answer. answer ≡ fault (record { live = live.now; top = top }) id clause.now hints.now groups.now) }
+    ensures fault { IfOk result (λ answer. answer ≡ fault (record { live = live.now; top = top }) id clause.now hints.now groups.now) }
+    ensures memory { OnErr result (top < id) }
 {
     if id.get() <= top.get() {
         return Ok(Some(Reason::IdNotGreater));

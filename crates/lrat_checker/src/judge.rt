@@ -1,10 +1,11 @@
 // The judge of a proof's steps. It keeps the live clauses, the greatest number, and the memory of one chain of hints.
-ghost use Rattle.std.specs.Prelude.{◌≡◌, IfOk, OnErr, IfNone, OnSome};
+ghost use Rattle.std.specs.Prelude.{◌≡◌, ◌<◌, IfOk, OnErr, IfNone, OnSome, IsTrue};
 ghost use Rattle.std.specs.FinMap as map;
 ghost use Rattle.std.specs.Option.{option_copied};
 ghost use Rattle.lrat_rules.specs.State.{start, clause_at, with_clause, numbered_from};
 ghost use Rattle.lrat_rules.specs.Addition.{fault};
 ghost use Rattle.lrat_rules.specs.Run.{step_fault, after_step};
+ghost use Rattle.lrat_checker.specs.Memory.{may_want_memory};
 
 use crate::addition::addition_fault;
 use crate::live::LiveClauses;
@@ -48,6 +49,8 @@ impl Judge {
         ensures good { IfOk result (λ fault. IfNone fault (self.new ≡ after_step self.old step.now)) }
         ensures bad { IfOk result (λ fault. OnSome fault (self.new ≡ self.old)) }
         ensures err { OnErr result (self.new ≡ self.old) }
+        // A deletion, and an addition whose number isn't greater, want no memory.
+        ensures memory { OnErr result (IsTrue (may_want_memory self.old step.now)) }
     {
         match step {
             Step::Add {
@@ -81,6 +84,7 @@ impl Judge {
         ensures good { IfOk result (λ answer. IfNone answer (self.new ≡ record { live = with_clause self.old.live id clause.now; top = id })) }
         ensures bad { IfOk result (λ answer. OnSome answer (self.new ≡ self.old)) }
         ensures err { OnErr result (self.new ≡ self.old) }
+        ensures memory { OnErr result (self.old.top < id) }
     {
         let fault = addition_fault(
             &self.live,

@@ -322,3 +322,15 @@ fn live_clauses(rt: HostRuntime) -> Result<(), Fail> {
     }
     Ok(())
 }
+
+#[test]
+fn error_texts(rt: HostRuntime) -> Result<(), Fail> {
+    for (error, text) in [
+        (CheckError::ReadFault, "a read failed"),
+        (CheckError::TooLong, "the text is too long"),
+        (CheckError::OutOfMemory, "out of memory"),
+    ] {
+        assert_eq!(rt; format!(in rt.alloc(); "{error}")?.as_str(), text);
+    }
+    Ok(())
+}

@@ -19,7 +19,7 @@ pub enum Verdict {
 pub enum CheckError {
     #[error("a read failed")]
     ReadFault,
-    /// The text is longer than 4,000,000,000 bytes, and no line among these is bad.
+    /// The text is longer than 4,000,000,000 bytes, and no line that ends among these is bad.
     #[error("the text is too long")]
     TooLong,
     #[error("out of memory")]

@@ -1,6 +1,8 @@
 -- When an addition is good: its hints refute the negation of its clause, or its first literal, the pivot, has a
--- refutation for each candidate, a live clause with the pivot's negation. A candidate is blocked, and needs no
--- hints, where another literal of it has its negation among the false ones. (LRAT: RUP and RAT steps.)
+-- refutation for each candidate, a live clause with the pivot's negation: RUP and RAT steps. (Cruz-Filipe, Heule,
+-- Hunt, Kaufmann, Schneider-Kamp: Efficient Certified RAT Verification, CADE 2017.) A candidate is blocked where
+-- another literal of it has its negation among the false ones. That it needs no group then, and that a group of it
+-- passes whatever its hints, is this project's own rule.
 use Rattle.std.specs.Prelude.{ℕ, Bool, false, not, ◌||◌, ◌&&◌, ℤ, neg_ℤ, List, [], ◌∷◌, Option, None, Some, nat_le, ◌==◌, if◌then◌else◌}
 use Rattle.std.specs.List.{list_any, list_all}
 use Rattle.std.specs.Ordering.{int_eq}

@@ -1,6 +1,7 @@
 -- Hints: each names a live clause, which under the literals that are false so far is a conflict, forces a literal,
--- or is a bad hint. (LRAT: reverse unit propagation with hints.)
-use Rattle.std.specs.Prelude.{◌≡◌, ℕ, Bool, not, ◌||◌, ℤ, neg_ℤ, List, [], ◌∷◌, Option, None, Some, if◌then◌else◌}
+-- or is a bad hint: reverse unit propagation with hints. (Cruz-Filipe, Heule, Hunt, Kaufmann, Schneider-Kamp:
+-- Efficient Certified RAT Verification, CADE 2017.)
+use Rattle.std.specs.Prelude.{◌≡◌, ℕ, Bool, true, false, not, ◌||◌, ℤ, neg_ℤ, List, [], ◌∷◌, Option, None, Some, if◌then◌else◌}
 use Rattle.std.specs.List.{filter, list_any, list_all}
 use Rattle.std.specs.Ordering.{int_eq}
 use Rattle.lrat_rules.specs.declared.outcome.Effect.{Effect}
@@ -32,6 +33,12 @@ effect_of_outside (x ∷ xs) = if list_all (int_eq x) xs then Forced x else NotU
 
 abbrev pub effect : FalseSet → List ℤ → Effect
 effect n clause = effect_of_outside (outside n clause)
+
+-- a literal is forced
+abbrev pub is_unit : Effect → Bool
+is_unit Conflict = false
+is_unit (Forced literal) = true
+is_unit NotUnit = false
 
 -- where hints lead: to a set of false literals without a conflict, to a conflict, or to a bad hint
 pub data Outcome : Type 0 where

@@ -1,4 +1,6 @@
--- A proof as a run of steps from the formula's clauses, and the verdict on a text.
+-- A proof as a run of steps from the formula's clauses, and the verdict on a text. (Cruz-Filipe, Heule, Hunt,
+-- Kaufmann, Schneider-Kamp: Efficient Certified RAT Verification, CADE 2017.) That lines behind the empty clause are
+-- judged too is this project's own rule.
 use Rattle.std.specs.Prelude.{◌≡◌, ℕ, Bool, false, ℤ, List, [], ◌∷◌, ◌++◌, Option, None, Some, IsTrue, if◌then◌else◌}
 use Rattle.std.specs.List.{list_any}
 use Rattle.cnf_base.specs.declared.step.Step.{Step}

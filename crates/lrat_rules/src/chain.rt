@@ -5,7 +5,7 @@
 ghost use Rattle.std.specs.Prelude.{◌≡◌, ◌&&◌, ◌++◌, not, neg_ℤ, IsTrue, false, None, Some, OnOk, OnErr, IfOk, take, length};
 ghost use Rattle.std.specs.List.{filter};
 ghost use Rattle.std.specs.Ordering.{int_eq};
-ghost use Rattle.lrat_rules.specs.Chain.{literals_of, effect};
+ghost use Rattle.lrat_rules.specs.Chain.{literals_of, effect, is_unit};
 ghost use Rattle.lrat_rules.specs.Addition.{is_blocked_by, with_candidate};
 ghost use Rattle.lrat_rules.specs.FalseLiterals.{set_of, before_of, is_open, set_after, SameSets};
 
@@ -45,7 +45,7 @@ impl Chain {
         })
     }
 
-    /// The same for the next addition, in the same memory. A refusal leaves everything as it was.
+    /// The same for the next addition, also while a group is open. A refusal leaves everything as it was.
     pub fn restart(&mut self, clause: &[Lit]) -> Result<(), OutOfMemory>
         ensures set { OnOk result (set_of self.new ≡ literals_of clause.now) }
         ensures no_group { OnOk result (before_of self.new ≡ None) }
@@ -64,6 +64,8 @@ impl Chain {
         ensures set { IfOk result (λ answer. set_of self.new ≡ set_after (set_of self.old) answer) }
         ensures same_group { OnOk result (before_of self.new ≡ before_of self.old) }
         ensures err { OnErr result (SameSets self.old self.new) }
+        // A conflict and a bad hint want no memory.
+        ensures memory { OnErr result (IsTrue (is_unit (effect (set_of self.old) clause.now))) }
     {
         let effect = effect_on(self.literals.as_slice(), clause);
         if let Effect::Unit(literal) = effect {
@@ -103,7 +105,7 @@ impl Chain {
         }
     }
 
-    /// Closes the group: what it added is no longer false.
+    /// Closes the group: what was added since it was opened is no longer false.
     pub fn close_group(&mut self)
         requires { IsTrue (is_open self.old) }
         ensures set { before_of self.old ≡ Some (set_of self.new) }

@@ -11,7 +11,7 @@ ghost use Rattle.lrat_rules.specs.Addition.{fault};
 ghost use Rattle.lrat_rules.specs.Strict.{RefutesStrictly, IsDefinition};
 ghost use Rattle.lrat_rules.specs.Run.{Reached, Refutes, Spells, run, step_fault, after_step, step_adds_empty, adds_empty_clause};
 
-/// An addition by a strict refutation is good, and its hints close.
+/// An addition by a strict refutation is good: its hints close, and each of them names a live clause.
 pub fn strict_addition_law()
     ensures good { (state : State) (id : ℕ) (clause : List ℤ) (hints : List ℕ) → state.top < id
         → RefutesStrictly state.live clause hints → fault state id clause hints [] ≡ None }

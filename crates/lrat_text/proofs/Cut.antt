@@ -6,7 +6,8 @@ use Rattle.std.proofs.lemmas.Bool.Decides.{nat_tests}
 use Rattle.cnf_base.specs.declared.step.Step.TheVariants.{Add, Delete}
 use Rattle.cnf_base.specs.Truth.{is_literal_of}
 use Rattle.cnf_base.specs.ProofText.{max_id, max_literal, is_id, is_hint, all_given, in_front, split_at, is_empty, is_zero, given_if, hints_before_group, groups_of, addition_of, addition_from, deletion_of}
-use Rattle.lrat_text.specs.Numbers.{capped, capped_ℤ, positive, deletion_with, deletion_from, addition_by}
+use Rattle.text_scan.specs.Capped.{capped, capped_ℤ}
+use Rattle.lrat_text.specs.Numbers.{positive, deletion_with, deletion_from, addition_by}
 
 -- Lists under a map.
 pub all_given-map : {W X Y : Type 0} (c : X → Y) (f : W → Option X) (ws : List W) → all_given (map (λ w. option_map c (f w)) ws) ≡ option_map (map c) (all_given (map f ws))

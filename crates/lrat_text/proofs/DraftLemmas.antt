@@ -6,7 +6,8 @@ use Rattle.cnf_base.specs.ProofText.{all_given, split_at, is_zero, addition_from
 use Rattle.text_scan.specs.Items.{Items, the_end, too_long, next_word}
 use Rattle.lrat_text.specs.declared.draft.Kind.{Kind}
 use Rattle.lrat_text.specs.declared.draft.Kind.TheVariants.{Empty, Begun, Adds, Deletes}
-use Rattle.lrat_text.specs.Numbers.{capped, capped_ℤ, positive, signed_word, plain_word, deletion_from, addition_by}
+use Rattle.text_scan.specs.Capped.{capped, capped_ℤ}
+use Rattle.lrat_text.specs.Numbers.{positive, signed_word, plain_word, deletion_from, addition_by}
 use Rattle.lrat_text.specs.Steps.{step_then, steps_after, steps_of, row_of_word}
 use Rattle.lrat_text.specs.Draft.{DraftLine, no_draft, draft_of_word, with_given, draft_with, judged, judged_in, is_open, is_open_kind, drafted}
 use Rattle.lrat_text.proofs.Cut.{all_given-map, addition_by-capped, deletion_from-capped}

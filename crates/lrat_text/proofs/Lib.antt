@@ -1,5 +1,5 @@
-pub mod Numeral
 pub mod Cut
 pub mod DraftLemmas
 pub mod Zero
 pub mod Lines
+pub mod Overlong

@@ -1,12 +1,14 @@
--- The steps of a text within the limit are those of its lines.
-use Rattle.std.proofs.Common.{◌≡◌, ℕ, ◌+◌, ◌<◌, true, false, List, [], ◌∷◌, ◌++◌, map, take, Option, Some, None, option_and_then, ◌==◌, if◌then◌else◌, refl, ◌∙◌, ap, arith, append_assoc, append-nil}
+-- The steps of a text are those of its lines, whatever ends them.
+use Rattle.std.proofs.Common.{◌≡◌, ℕ, ◌+◌, ◌<◌, true, false, List, [], ◌∷◌, ◌++◌, map, take, length, Option, Some, None, option_and_then, ◌==◌, if◌then◌else◌, refl, sym, ◌∙◌, ap, arith, append_assoc, append-nil}
+use Rattle.std.specs.Prelude.{Bool, nat_lt}
+use Rattle.std.proofs.lemmas.Bool.{lt-ltb}
 use Rattle.std.proofs.lemmas.Bool.Decides.{nat_tests}
 use Rattle.std.specs.List.{flat_map}
 use Rattle.cnf_base.specs.Number.{plain_number, signed_number}
-use Rattle.cnf_base.specs.Text.{Word, words_of, begins_with, row_of, rows_from, words_of_row}
+use Rattle.cnf_base.specs.Text.{Word, Row, words_of, begins_with, row_of, rows_from, words_of_row}
 use Rattle.cnf_base.specs.ProofText.{all_given, split_at, is_zero, addition_from, deletion_of, is_delete_word, step_with, step_of, line_of_row}
-use Rattle.text_scan.specs.Items.{Items, the_end, words_then, kept}
-use Rattle.lrat_text.specs.Steps.{Steps, no_more, step_then, line_then, lines_then, steps_after, steps_of}
+use Rattle.text_scan.specs.Items.{Items, the_end, too_long, next_word, words_then, kept}
+use Rattle.lrat_text.specs.Steps.{Steps, no_more, overlong, step_then, line_then, lines_then, steps_after, steps_of}
 
 abbrev word_at : ℕ → List ℕ → Word
 word_at line bytes = record { bytes = bytes; line = line }
@@ -20,6 +22,11 @@ pub record IsKept : Type 0 where
 map_kept : {X : Type 0} (f : List ℕ → X) → ((word : Word) → f (kept word).bytes ≡ f word.bytes) → (words : List (List ℕ)) → map f (map (take 65) words) ≡ map f words
 map_kept f same [] = refl
 map_kept f same (word ∷ words) = rw (same (word_at 0 word), map_kept f same words) refl
+
+-- What stands behind the lines under this one: a line that isn't ended before is given, and then these steps.
+pub record IsEnding (e : ℕ) (items : Items) (steps : Steps) : Type 0 where
+  pub after_line : (line : ℕ) (first : List ℕ) (words : List (List ℕ)) → line < e → steps_after items (record { line = line; words = first ∷ words }) ≡ line_then (line_of_row (record { line = line; words = first ∷ words })) steps
+  pub alone : steps_of items ≡ steps
 
 module _ (keeps : IsKept) where
   step_with-kept : (id : ℕ) (words : List (List ℕ)) → step_with id (map (take 65) words) ≡ step_with id words
@@ -64,41 +71,100 @@ module _ (keeps : IsKept) where
   lines_from n texts last = lines_then (map line_of_row (rows_from 99 n texts)) last
 
   -- a line with tokens, then the lines behind it
-  whole_line : (e n : ℕ) (first : List ℕ) (words : List (List ℕ)) (texts : List (List ℕ))
-      → (steps_after (words_then (map kept (words_from (n + 1) texts)) (the_end e)) (record { line = n; words = take 65 first ∷ map (take 65) words })
-      ≡ line_then (line_of_row (record { line = n; words = take 65 first ∷ map (take 65) words })) (lines_from (n + 1) texts (no_more e)))
-      → steps_after (words_then (map kept (map (word_at n) words ++ words_from (n + 1) texts)) (the_end e)) (record { line = n; words = take 65 first ∷ [] })
-      ≡ step_then (step_of (first ∷ words)) n (lines_from (n + 1) texts (no_more e))
-  whole_line e n first words texts behind =
-      line_taken n (take 65 first) [] words (words_from (n + 1) texts) (the_end e)
+  whole_line : (items : Items) (steps : Steps) (n : ℕ) (first : List ℕ) (words : List (List ℕ)) (texts : List (List ℕ))
+      → (steps_after (words_then (map kept (words_from (n + 1) texts)) items) (record { line = n; words = take 65 first ∷ map (take 65) words })
+      ≡ line_then (line_of_row (record { line = n; words = take 65 first ∷ map (take 65) words })) (lines_from (n + 1) texts steps))
+      → steps_after (words_then (map kept (map (word_at n) words ++ words_from (n + 1) texts)) items) (record { line = n; words = take 65 first ∷ [] })
+      ≡ step_then (step_of (first ∷ words)) n (lines_from (n + 1) texts steps)
+  whole_line items steps n first words texts behind =
+      line_taken n (take 65 first) [] words (words_from (n + 1) texts) items
       ∙ behind
-      ∙ ap (λ s. step_then s n (lines_from (n + 1) texts (no_more e))) (step_of-kept (first ∷ words))
+      ∙ ap (λ s. step_then s n (lines_from (n + 1) texts steps)) (step_of-kept (first ∷ words))
 
-  lines_open : (e : ℕ) (texts : List (List ℕ)) (line n : ℕ) (first : List ℕ) (words : List (List ℕ)) → line < n →
-      steps_after (words_then (map kept (words_from n texts)) (the_end e)) (record { line = line; words = first ∷ words })
-      ≡ line_then (line_of_row (record { line = line; words = first ∷ words })) (lines_from n texts (no_more e))
-  lines_open e [] line n first words below = refl
-  lines_open e (text ∷ texts) line n first words below =
-      elim (words_of text) as (λ (tokens : List (List ℕ)). steps_after (words_then (map kept (flat_map words_of_row (row_of 99 n tokens ++ rows_from 99 (n + 1) texts))) (the_end e)) (record { line = line; words = first ∷ words })
-      ≡ step_then (step_of (first ∷ words)) line (lines_then (map line_of_row (row_of 99 n tokens ++ rows_from 99 (n + 1) texts)) (no_more e))) [
-        | [] ↦ lines_open e texts line (n + 1) first words (omega arith)
-        | token ∷ tokens ↦ elim (begins_with 99 token) as (λ b. steps_after (words_then (map kept (flat_map words_of_row ((if b then [] else record { line = n; words = token ∷ tokens } ∷ []) ++ rows_from 99 (n + 1) texts))) (the_end e)) (record { line = line; words = first ∷ words })
-            ≡ step_then (step_of (first ∷ words)) line (lines_then (map line_of_row ((if b then [] else record { line = n; words = token ∷ tokens } ∷ []) ++ rows_from 99 (n + 1) texts)) (no_more e))) [
-              | true ↦ lines_open e texts line (n + 1) first words (omega arith)
+  lines_open : (e : ℕ) (items : Items) (steps : Steps) → IsEnding e items steps → (texts : List (List ℕ)) (line n : ℕ) (first : List ℕ) (words : List (List ℕ)) → n + length texts ≡ e → line < n →
+      steps_after (words_then (map kept (words_from n texts)) items) (record { line = line; words = first ∷ words })
+      ≡ line_then (line_of_row (record { line = line; words = first ∷ words })) (lines_from n texts steps)
+  lines_open e items steps ending [] line n first words at below = ending.after_line line first words (omega (arith, at, below))
+  lines_open e items steps ending (text ∷ texts) line n first words at below =
+      elim (words_of text) as (λ (tokens : List (List ℕ)). steps_after (words_then (map kept (flat_map words_of_row (row_of 99 n tokens ++ rows_from 99 (n + 1) texts))) items) (record { line = line; words = first ∷ words })
+      ≡ step_then (step_of (first ∷ words)) line (lines_then (map line_of_row (row_of 99 n tokens ++ rows_from 99 (n + 1) texts)) steps)) [
+        | [] ↦ lines_open e items steps ending texts line (n + 1) first words (omega (arith, at)) (omega (arith, below))
+        | token ∷ tokens ↦ elim (begins_with 99 token) as (λ b. steps_after (words_then (map kept (flat_map words_of_row ((if b then [] else record { line = n; words = token ∷ tokens } ∷ []) ++ rows_from 99 (n + 1) texts))) items) (record { line = line; words = first ∷ words })
+            ≡ step_then (step_of (first ∷ words)) line (lines_then (map line_of_row ((if b then [] else record { line = n; words = token ∷ tokens } ∷ []) ++ rows_from 99 (n + 1) texts)) steps)) [
+              | true ↦ lines_open e items steps ending texts line (n + 1) first words (omega (arith, at)) (omega (arith, below))
               | false ↦ rw (other_line line n below) (ap (step_then (step_of (first ∷ words)) line)
-                  (whole_line e n token tokens texts (lines_open e texts n (n + 1) (take 65 token) (map (take 65) tokens) (omega arith))))
+                  (whole_line items steps n token tokens texts (lines_open e items steps ending texts n (n + 1) (take 65 token) (map (take 65) tokens) (omega (arith, at)) (omega arith))))
             ]
       ]
 
-  pub lines_closed : (e : ℕ) (texts : List (List ℕ)) (n : ℕ) → steps_of (words_then (map kept (words_from n texts)) (the_end e)) ≡ lines_from n texts (no_more e)
-  lines_closed e [] n = refl
-  lines_closed e (text ∷ texts) n =
-      elim (words_of text) as (λ (tokens : List (List ℕ)). steps_of (words_then (map kept (flat_map words_of_row (row_of 99 n tokens ++ rows_from 99 (n + 1) texts))) (the_end e))
-      ≡ lines_then (map line_of_row (row_of 99 n tokens ++ rows_from 99 (n + 1) texts)) (no_more e)) [
-        | [] ↦ lines_closed e texts (n + 1)
-        | token ∷ tokens ↦ elim (begins_with 99 token) as (λ b. steps_of (words_then (map kept (flat_map words_of_row ((if b then [] else record { line = n; words = token ∷ tokens } ∷ []) ++ rows_from 99 (n + 1) texts))) (the_end e))
-            ≡ lines_then (map line_of_row ((if b then [] else record { line = n; words = token ∷ tokens } ∷ []) ++ rows_from 99 (n + 1) texts)) (no_more e)) [
-              | true ↦ lines_closed e texts (n + 1)
-              | false ↦ whole_line e n token tokens texts (lines_open e texts n (n + 1) (take 65 token) (map (take 65) tokens) (omega arith))
+  pub lines_closed : (e : ℕ) (items : Items) (steps : Steps) → IsEnding e items steps → (texts : List (List ℕ)) (n : ℕ) → n + length texts ≡ e
+      → steps_of (words_then (map kept (words_from n texts)) items) ≡ lines_from n texts steps
+  lines_closed e items steps ending [] n at = ending.alone
+  lines_closed e items steps ending (text ∷ texts) n at =
+      elim (words_of text) as (λ (tokens : List (List ℕ)). steps_of (words_then (map kept (flat_map words_of_row (row_of 99 n tokens ++ rows_from 99 (n + 1) texts))) items)
+      ≡ lines_then (map line_of_row (row_of 99 n tokens ++ rows_from 99 (n + 1) texts)) steps) [
+        | [] ↦ lines_closed e items steps ending texts (n + 1) (omega (arith, at))
+        | token ∷ tokens ↦ elim (begins_with 99 token) as (λ b. steps_of (words_then (map kept (flat_map words_of_row ((if b then [] else record { line = n; words = token ∷ tokens } ∷ []) ++ rows_from 99 (n + 1) texts))) items)
+            ≡ lines_then (map line_of_row ((if b then [] else record { line = n; words = token ∷ tokens } ∷ []) ++ rows_from 99 (n + 1) texts)) steps) [
+              | true ↦ lines_closed e items steps ending texts (n + 1) (omega (arith, at))
+              | false ↦ whole_line items steps n token tokens texts (lines_open e items steps ending texts n (n + 1) (take 65 token) (map (take 65) tokens) (omega (arith, at)) (omega arith))
             ]
       ]
+
+  -- the end of a text gives the line before it
+  pub at_end : (e end : ℕ) → IsEnding e (the_end end) (no_more end)
+  at_end e end = record { after_line = λ line first words below. refl; alone = refl }
+
+  not_under : (n : ℕ) → nat_lt n n ≡ false
+  not_under n = grind (arith, nat_tests)
+
+  -- a line that is cut by the limit isn't given
+  cut_line : (e : ℕ) (first : List ℕ) (words : List (List ℕ)) → steps_after (words_then (map kept (map (word_at e) words ++ [])) (too_long e)) (record { line = e; words = take 65 first ∷ [] }) ≡ overlong
+  cut_line e first words = line_taken e (take 65 first) [] words [] (too_long e) ∙ rw (not_under e) refl
+
+  both_overlong : (b : Bool) → (if b then overlong else overlong) ≡ overlong
+  both_overlong true = refl
+  both_overlong false = refl
+
+  -- the limit gives the line before the one that it cuts
+  pub at_limit : (e : ℕ) (tail : List ℕ) → IsEnding e (words_then (map kept (words_from e (tail ∷ []))) (too_long e)) overlong
+  at_limit e tail = record { after_line = before; alone = alone } where
+    before : (line : ℕ) (first : List ℕ) (words : List (List ℕ)) → line < e → steps_after (words_then (map kept (words_from e (tail ∷ []))) (too_long e)) (record { line = line; words = first ∷ words }) ≡ step_then (step_of (first ∷ words)) line overlong
+    before line first words below =
+        elim (words_of tail) as (λ (tokens : List (List ℕ)). steps_after (words_then (map kept (flat_map words_of_row (row_of 99 e tokens ++ []))) (too_long e)) (record { line = line; words = first ∷ words }) ≡ step_then (step_of (first ∷ words)) line overlong) [
+          | [] ↦ rw (lt-ltb line e below) refl
+          | token ∷ tokens ↦ elim (begins_with 99 token) as (λ b. steps_after (words_then (map kept (flat_map words_of_row ((if b then [] else record { line = e; words = token ∷ tokens } ∷ []) ++ []))) (too_long e)) (record { line = line; words = first ∷ words })
+              ≡ step_then (step_of (first ∷ words)) line overlong) [
+                | true ↦ rw (lt-ltb line e below) refl
+                | false ↦ rw (other_line line e below) (ap (step_then (step_of (first ∷ words)) line) (cut_line e token tokens))
+              ]
+        ]
+
+    alone : steps_of (words_then (map kept (words_from e (tail ∷ []))) (too_long e)) ≡ overlong
+    alone =
+        elim (words_of tail) as (λ (tokens : List (List ℕ)). steps_of (words_then (map kept (flat_map words_of_row (row_of 99 e tokens ++ []))) (too_long e)) ≡ overlong) [
+          | [] ↦ both_overlong (nat_lt 0 e)
+          | token ∷ tokens ↦ elim (begins_with 99 token) as (λ b. steps_of (words_then (map kept (flat_map words_of_row ((if b then [] else record { line = e; words = token ∷ tokens } ∷ []) ++ []))) (too_long e)) ≡ overlong) [
+            | true ↦ both_overlong (nat_lt 0 e)
+            | false ↦ cut_line e token tokens
+          ]
+        ]
+
+  words_then-append : (ws vs : List Word) (last : Items) → words_then (map kept (ws ++ vs)) last ≡ words_then (map kept ws) (words_then (map kept vs) last)
+  words_then-append [] vs last = refl
+  words_then-append (w ∷ ws) vs last = ap (λ (i : Items). next_word (kept w) i) (words_then-append ws vs last)
+
+  -- what is the same behind some lines is the same with them
+  behind_rows : (rows more others : List Row) (last rest : Items) → words_then (map kept (flat_map words_of_row more)) last ≡ words_then (map kept (flat_map words_of_row others)) rest
+      → words_then (map kept (flat_map words_of_row (rows ++ more))) last ≡ words_then (map kept (flat_map words_of_row (rows ++ others))) rest
+  behind_rows [] more others last rest same = same
+  behind_rows (row ∷ rows) more others last rest same =
+      words_then-append (words_of_row row) (flat_map words_of_row (rows ++ more)) last
+      ∙ ap (words_then (map kept (words_of_row row))) (behind_rows rows more others last rest same)
+      ∙ sym (words_then-append (words_of_row row) (flat_map words_of_row (rows ++ others)) rest)
+
+  -- the tokens of lines, and then those of others
+  pub joined : (e : ℕ) (texts tail : List (List ℕ)) (n : ℕ) (last : Items) → n + length texts ≡ e → words_then (map kept (words_from n (texts ++ tail))) last ≡ words_then (map kept (words_from n texts)) (words_then (map kept (words_from e tail)) last)
+  joined e [] tail n last at = ap (λ (m : ℕ). words_then (map kept (words_from m tail)) last) (omega (arith, at))
+  joined e (text ∷ texts) tail n last at =
+      behind_rows (row_of 99 n (words_of text)) (rows_from 99 (n + 1) (texts ++ tail)) (rows_from 99 (n + 1) texts) last (words_then (map kept (words_from e tail)) last) (joined e texts tail (n + 1) last (omega (arith, at)))

@@ -9,7 +9,8 @@ use Rattle.cnf_base.specs.ProofText.{is_delete_word}
 use Rattle.text_scan.specs.Items.{Items, the_end, too_long, next_word}
 use Rattle.lrat_text.specs.declared.draft.Kind.{Kind}
 use Rattle.lrat_text.specs.declared.draft.Kind.TheVariants.{Empty, Begun, Adds, Deletes}
-use Rattle.lrat_text.specs.Numbers.{capped, signed_word, plain_word, deletion_from, addition_by}
+use Rattle.text_scan.specs.Capped.{capped}
+use Rattle.lrat_text.specs.Numbers.{signed_word, plain_word, deletion_from, addition_by}
 use Rattle.lrat_text.specs.Steps.{Steps, no_more, overlong, step_then}
 
 pub record DraftLine : Type 0 where

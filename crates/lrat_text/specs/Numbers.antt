@@ -1,23 +1,12 @@
--- The numbers of a line as they are kept: cut at a bound above every identifier, so that numerals of any length are
--- judged by it.
-use Rattle.std.specs.Prelude.{ℕ, suc, min, ℤ, pos, negsuc, neg_ℤ, nat_abs, ◌&&◌, List, map, Option, nat_le}
+-- The numbers of a line as they are kept, cut at a bound above every identifier.
+use Rattle.std.specs.Prelude.{ℕ, ℤ, pos, nat_abs, ◌&&◌, List, map, Option, nat_le}
 use Rattle.std.specs.List.{list_all}
 use Rattle.std.specs.Option.{option_map, option_and_then}
 use Rattle.cnf_base.specs.declared.step.Step.{Step}
 use Rattle.cnf_base.specs.declared.step.Step.TheVariants.{Delete}
 use Rattle.cnf_base.specs.Number.{plain_number, signed_number}
 use Rattle.cnf_base.specs.ProofText.{max_id, is_hint, is_zero, is_empty, given_if, split_at, addition_from}
-
-abbrev pub cap : ℕ
-cap = 1000000000000000000
-
-abbrev pub capped : ℕ → ℕ
-capped n = min n cap
-
--- the same of a magnitude
-abbrev pub capped_ℤ : ℤ → ℤ
-capped_ℤ (pos n) = pos (capped n)
-capped_ℤ (negsuc n) = neg_ℤ (pos (capped (suc n)))
+use Rattle.text_scan.specs.Capped.{capped, capped_ℤ}
 
 -- a plain number as a number with a sign
 abbrev pub positive : ℕ → ℤ

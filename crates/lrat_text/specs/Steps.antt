@@ -1,9 +1,10 @@
 -- What a reader of a proof gives in turn: the steps that the lines of the text spell, up to the first line that
 -- spells none, to the end, or to the limit.
-use Rattle.std.specs.Prelude.{ℕ, Bool, true, false, List, [], ◌∷◌, ◌++◌, Option, None, Some, nat_lt, ◌==◌, if◌then◌else◌}
+use Rattle.std.specs.Prelude.{◌≡◌, ℕ, Bool, true, false, List, [], ◌∷◌, ◌++◌, take, Option, None, Some, nat_lt, ◌==◌, if◌then◌else◌}
+use Rattle.std.specs.List.{filter}
 use Rattle.cnf_base.specs.declared.step.Step.{Step}
-use Rattle.cnf_base.specs.Text.{Word, Row}
-use Rattle.cnf_base.specs.ProofText.{Line, line_of_row}
+use Rattle.cnf_base.specs.Text.{Word, Row, end_line}
+use Rattle.cnf_base.specs.ProofText.{Line, line_of_row, proof_lines}
 use Rattle.text_scan.specs.Items.{Items, the_end, too_long, next_word, items}
 
 -- Each step with its line. In the end the line of the end, that the text is longer than the limit, or the line that
@@ -59,3 +60,14 @@ steps_of items = steps_after items (record { line = 0; words = [] })
 -- a whole proof text, of which as many bytes are looked at as the limit says (99 is `c`)
 abbrev pub steps : ℕ → List ℕ → Steps
 steps limit bytes = steps_of (items 99 limit bytes)
+
+-- the lines whose line ends stand among so many bytes of the text: those before the line on which these bytes end
+abbrev pub lines_within : ℕ → List ℕ → List Line
+lines_within limit bytes = filter (λ line. nat_lt line.line (end_line (take limit bytes))) (proof_lines bytes)
+
+-- the steps are those of the first of these lines, and then the text is too long
+pub record AreFront (given : Steps) (lines : List Line) : Type 0 where
+  pub front : List Line
+  pub rest : List Line
+  pub parts : lines ≡ front ++ rest
+  pub steps : given ≡ lines_then front overlong

@@ -6,11 +6,10 @@ ghost use Rattle.lrat_text.specs.declared.draft.Kind.TheVariants.{Empty};
 ghost use Rattle.lrat_text.specs.Draft.{no_draft, draft_of_word, draft_with, with_given, draft_as, judged, is_open};
 
 use crate::build::{addition, deletion};
-use crate::number::{plain_number, signed_number};
 use cnf_base::{OutOfMemory, Step};
 use std::alloc::Global;
 use std::marker::Model;
-use text_scan::Token;
+use text_scan::{Token, plain_number, signed_number};
 
 /// What was read of a line: nothing, its first token, or that it is an addition or a deletion.
 #[derive(Clone, Copy, Debug, PartialEq, Eq)]

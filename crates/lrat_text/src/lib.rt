@@ -7,11 +7,10 @@ mod build;
 mod draft;
 mod error;
 mod laws;
-mod number;
 mod reader;
 
 pub use error::StepError;
-pub use laws::whole_text_law;
+pub use laws::{long_text_law, whole_text_law};
 pub use reader::StepReader;
 
 #[cfg(test)]

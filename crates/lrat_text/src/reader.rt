@@ -71,8 +71,8 @@ impl StepReader {
         self.line
     }
 
-    /// The next step with its line; None is the end. A step is given once its line's end or the text's was seen. After
-    /// None or an error it gives the same again and reads nothing.
+    /// The next step with its line; None is the end. A line is judged once the first token of a later one, or the end of
+    /// the text, was read. After None or an error it gives the same again and reads nothing.
     pub fn next<S: Source>(&mut self, source: &mut S) -> Result<Option<(Step, u64)>, StepError>
         // The answer is the next of the steps of the bytes that were taken and whatever may follow them.
         ensures gives { IsTrue S.tells → Decides (S.channel source.old) (S.channel source.new)

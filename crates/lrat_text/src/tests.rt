@@ -261,3 +261,16 @@ fn a_refusal_stays(rt: HostRuntime) -> Result<(), Fail> {
     assert_eq!(rt; source.reads, reads);
     Ok(())
 }
+
+#[test]
+fn error_texts(rt: HostRuntime) -> Result<(), Fail> {
+    for (error, text) in [
+        (StepError::Syntax(12), "line 12 is no step of a proof"),
+        (StepError::ReadFault, "a read failed"),
+        (StepError::TooLong, "the text is too long"),
+        (StepError::OutOfMemory, "out of memory"),
+    ] {
+        assert_eq!(rt; format!(in rt.alloc(); "{error}")?.as_str(), text);
+    }
+    Ok(())
+}

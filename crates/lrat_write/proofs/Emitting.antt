@@ -35,7 +35,7 @@ cut_short {tells = true} {old} {new} {piece} {result} {answer} w err failed held
       taken = w.taken;
       left = w.left;
       name = w.name;
-      faults = record { no_less = w.faults.no_less; cause = λ _. w.faults.cause err };
+      faults = record { no_less = w.faults.no_less; cause = λ _. w.faults.cause err; unfailed = λ ok. absurd (not_both answer ok failed) };
     }
 cut_short {tells = false} {old} {new} {piece} {result} {answer} w err failed held bytes after more whole =
     record {
@@ -48,7 +48,7 @@ cut_short {tells = false} {old} {new} {piece} {result} {answer} w err failed hel
       taken = w.taken;
       left = w.left;
       name = w.name;
-      faults = record { no_less = w.faults.no_less; cause = λ _. w.faults.cause err };
+      faults = record { no_less = w.faults.no_less; cause = λ _. w.faults.cause err; unfailed = λ ok. absurd (not_both answer ok failed) };
     }
 
 -- one after the other
@@ -69,6 +69,7 @@ in_turn {tells} {a} {b} {c} {held} {middle} {after} {first} {second} x ok y = re
   faults = record {
     no_less = omega (arith, x.faults.no_less, y.faults.no_less);
     cause = λ err. omega (arith, x.faults.no_less, y.faults.cause err);
+    unfailed = λ good. y.faults.unfailed good ∙ x.faults.unfailed ok;
   };
 }
 
@@ -106,7 +107,7 @@ fails_within {held = held} {front = front} {answer = answer} x err failed bytes 
   taken = x.taken;
   left = x.left;
   name = x.name;
-  faults = record { no_less = x.faults.no_less; cause = λ _. x.faults.cause err };
+  faults = record { no_less = x.faults.no_less; cause = λ _. x.faults.cause err; unfailed = λ ok. absurd (not_both answer ok failed) };
 }
 
 -- nothing happened
@@ -121,7 +122,7 @@ nothing channel held = record {
   taken = refl;
   left = refl;
   name = refl;
-  faults = record { no_less = omega arith; cause = λ err. absurd (not_both (Ok tt) refl err) };
+  faults = record { no_less = omega arith; cause = λ err. absurd (not_both (Ok tt) refl err); unfailed = λ _. refl };
 }
 
 -- the text of a list's front, and of the rest
@@ -231,7 +232,7 @@ written_out {a = a} {c = c} {bytes = bytes} {last = last} x is w =
       taken = w.taken ∙ x.taken;
       left = w.left ∙ x.left;
       name = w.name ∙ x.name;
-      faults = record { no_less = omega (arith, x.faults.no_less, w.faults.no_less); cause = λ err. omega (arith, x.faults.no_less, w.faults.cause err) };
+      faults = record { no_less = omega (arith, x.faults.no_less, w.faults.no_less); cause = λ err. omega (arith, x.faults.no_less, w.faults.cause err); unfailed = λ ok. w.faults.unfailed ok ∙ x.faults.unfailed refl };
     }
 
 -- a piece that was cut before its end
@@ -243,5 +244,5 @@ cut_before {a = a} {bytes = bytes} {answer = answer} x err failed = record {
   taken = x.taken;
   left = x.left;
   name = x.name;
-  faults = record { no_less = x.faults.no_less; cause = λ _. x.faults.cause err };
+  faults = record { no_less = x.faults.no_less; cause = λ _. x.faults.cause err; unfailed = λ ok. absurd (not_both answer ok failed) };
 }

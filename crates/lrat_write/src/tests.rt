@@ -72,7 +72,7 @@ fn ids(alloc: Global, numbers: &[u64]) -> Result<Vec<Id>, Fail> {
     Ok(ids)
 }
 
-/// Lines of additions, in pieces of one byte and whole.
+/// Lines of additions, in pieces of one byte and by one call.
 #[test]
 fn additions(rt: HostRuntime) -> Result<(), Fail> {
     let lines: [(u64, &[i32], &[u64], &str); 4] = [
@@ -89,8 +89,8 @@ fn additions(rt: HostRuntime) -> Result<(), Fail> {
     for (id, clause, hints, line) in lines {
         let clause = literals(rt.alloc(), clause)?;
         let hints = ids(rt.alloc(), hints)?;
-        for piece in [1, 1000] {
-            let mut sink = PieceSink::new(rt.alloc(), piece, 1000);
+        for (piece, calls) in [(1, 1000), (1000, 1)] {
+            let mut sink = PieceSink::new(rt.alloc(), piece, calls);
             write_add(&mut sink, Id(id), &clause, &hints)?;
             assert_eq!(rt; sink.bytes.as_slice(), line.as_bytes(), "{line}");
         }
@@ -98,7 +98,7 @@ fn additions(rt: HostRuntime) -> Result<(), Fail> {
     Ok(())
 }
 
-/// Lines of definitions, in pieces of one byte and whole.
+/// Lines of definitions, in pieces of one byte and by one call.
 #[test]
 fn definitions(rt: HostRuntime) -> Result<(), Fail> {
     let lines: [(u64, &[i32], &[Id], &str); 3] = [
@@ -118,8 +118,8 @@ fn definitions(rt: HostRuntime) -> Result<(), Fail> {
                 .iter()
                 .all(|id| id.get() > 0 && id.get() <= 999999999999999999)
         );
-        for piece in [1, 1000] {
-            let mut sink = PieceSink::new(rt.alloc(), piece, 1000);
+        for (piece, calls) in [(1, 1000), (1000, 1)] {
+            let mut sink = PieceSink::new(rt.alloc(), piece, calls);
             write_define(&mut sink, Id(id), &clause, candidates)?;
             assert_eq!(rt; sink.bytes.as_slice(), line.as_bytes(), "{line}");
         }

@@ -8,11 +8,12 @@ use Rattle.hint_chain.specs.declared.atom.Atom.{Atom}
 use Rattle.node_table.specs.declared.node.Node.{Node}
 use Rattle.node_table.specs.declared.node.Node.TheVariants.{False, True, Inner}
 use Rattle.node_table.specs.declared.node.Branch.{Branch}
-use Rattle.node_table.specs.Diagram.{Graph, IsNew, branch_at, is_node, levels}
+use Rattle.node_table.specs.Diagram.{Graph, IsNew, KeepsNodes, branch_at, is_node, levels}
 use Rattle.node_table.specs.Defined.{IsNewVariable, IsUnused, atom_of, atom_in, is_apart_from}
 use Rattle.node_table.specs.Tied.{IsTied}
 use Rattle.node_table.specs.Table.{live_nodes}
 use Rattle.node_table.proofs.Values.{branch_of_node}
+use Rattle.node_table.proofs.Grown.{KeepsNodes-joined}
 
 -- every node's variable is below this one
 abbrev pub IsAboveAll : Graph → ℕ → Type 0
@@ -49,3 +50,6 @@ pub live_more : (old new : Graph) (key : ℕ) {branch : Branch} → IsNew old ne
 live_more old new key {branch} is =
     ap live_nodes is.joined ∙ map.len-insert nat_cmp_total old.nodes key branch
     ∙ ap (λ (o : Option Branch). cond (is_some o) (map.len old.nodes) (map.len old.nodes + 1)) is.unused
+
+pub KeepsNodes-new : (old new : Graph) (key : ℕ) {branch : Branch} → IsNew old new key branch → KeepsNodes old new
+KeepsNodes-new old new key {branch} is = subst (KeepsNodes old) (sym is.joined) (KeepsNodes-joined old key branch is.unused)

@@ -6,7 +6,7 @@ use Rattle.clause_ledger.specs.declared.error.LedgerError.{LedgerError}
 use Rattle.clause_ledger.specs.declared.error.LedgerError.TheVariants.{IdLimit as LedgerIdLimit, OutOfMemory as LedgerOutOfMemory, WriteFault as LedgerWriteFault}
 use Rattle.node_table.specs.declared.error.TableError.TheVariants.{WriteFault}
 use Rattle.node_table.specs.Diagram.{Graph, KeepsNodes}
-use Rattle.node_table.specs.Tied.{IsTied, IsOverNodes, Extends}
+use Rattle.node_table.specs.Tied.{IsTied, IsOverNodes, Extends, Stays}
 use Rattle.node_table.specs.Errors.{table_error}
 use Rattle.node_table.proofs.Stands.{Grows-next, Grows-none, next_cases}
 use Rattle.node_table.proofs.Made.{IsDefined-kept}
@@ -37,6 +37,15 @@ pub same_extends : (graph : Graph) (state : State) → IsTied graph state → Ex
 same_extends graph state tied =
     let grows = Grows-none state tied.numbers in
     record { nodes = KeepsNodes-none graph; clauses = grows.clauses; numbers = grows.gives }
+
+pub justified_stays : (graph : Graph) (state : State) (clause : List ℤ) → IsTied graph state → Stays graph graph state (with_next state clause)
+justified_stays graph state clause tied = record { nodes = KeepsNodes-none graph; clauses = (Grows-next state clause tied.numbers).clauses }
+
+-- a failure of the ledger that is a write fault
+pub torn : {P : Type 0} (e : LedgerError) → (e ≡ LedgerWriteFault → P) → table_error e ≡ WriteFault → P
+torn LedgerIdLimit fault is = cc
+torn LedgerOutOfMemory fault is = cc
+torn LedgerWriteFault fault is = fault refl
 
 -- a failure of the ledger that is no write fault
 pub not_torn : {P : Type 0} (e : LedgerError) → (e ≡ LedgerIdLimit → P) → (e ≡ LedgerOutOfMemory → P) → table_error e ≢ WriteFault → P

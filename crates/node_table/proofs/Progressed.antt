@@ -5,7 +5,7 @@ use Rattle.host_io.specs.Channel.{Channel}
 use Rattle.lrat_rules.specs.State.{State, Live, clause_at}
 use Rattle.clause_ledger.specs.Book.{OnlyWrites}
 use Rattle.node_table.specs.Diagram.{Graph, KeepsNodes}
-use Rattle.node_table.specs.Tied.{IsTied, KeepsClauses, GivesNumbers, Extends}
+use Rattle.node_table.specs.Tied.{IsTied, KeepsClauses, GivesNumbers, Extends, Stays}
 use Rattle.node_table.specs.Table.{TableState}
 use Rattle.node_table.specs.Progress.{Continues, BreaksOff}
 use Rattle.node_table.proofs.Justified.{same_extends}
@@ -55,6 +55,12 @@ Extends-further one two three first second third before after = record {
   numbers = GivesNumbers-further first second third after.clauses before.numbers after.numbers;
 }
 
+Stays-further : (one two three : Graph) (first second third : State) → Extends one two first second → Stays two three second third → Stays one three first third
+Stays-further one two three first second third before after = record {
+  nodes = KeepsNodes-further one two three before.nodes after.nodes;
+  clauses = λ id clause is. after.clauses id clause (before.clauses id clause is);
+}
+
 pub Continues-same : (S : Type 0) (tells : Bool) (channel : Channel) (table : TableState S) → IsTied table.graph table.book.state → table.book.in_step ≡ true
     → Continues tells channel channel table table
 Continues-same S tells channel table tied step = record {
@@ -84,6 +90,8 @@ pub BreaksOff-after : (S : Type 0) (tells : Bool) (first second third : Channel)
 BreaksOff-after S tells first second third old mid new before after = record {
   rose = omega (arith, before.writes.faults, after.rose);
   cut = λ clauses is. after.cut clauses (before.kept clauses is);
+  out_of_step = after.out_of_step;
+  stays = Stays-further old.graph mid.graph new.graph old.book.state mid.book.state new.book.state before.extends after.stays;
   max_nodes = after.max_nodes ∙ before.max_nodes;
   limit = after.limit ∙ before.limit;
   writes = OnlyWrites-further first second third before.writes after.writes;

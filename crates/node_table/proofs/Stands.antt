@@ -100,6 +100,10 @@ pub Grows-some : (state : State) (o : Option (List ℤ)) → AreNumbers state �
 Grows-some state None numbers = Grows-none state numbers
 Grows-some state (Some clause) numbers = Grows-next state clause numbers
 
+-- one clause more behind others, if there is one
+pub Grows-reached : (state later last : State) (o : Option (List ℤ)) → Grows state later → last ≡ with_some later o → Grows state last
+Grows-reached state later last o so_far is = subst (Grows state) (sym is) (Grows-then state later (with_some later o) so_far (Grows-some later o so_far.numbers))
+
 -- the clause stands under the next number
 named_some : (state : State) (o : Option (List ℤ)) → clause_named (with_some state o).live (given_if (is_some o) (state.top + 1)) ≡ o
 named_some state None = refl

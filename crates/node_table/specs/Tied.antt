@@ -37,6 +37,11 @@ pub record GivesNumbers (old new : State) : Type 0 where
   pub next : (id : ℕ) → IsTrue (is_some (clause_at new.live id)) → IsTrue (is_some (clause_at old.live id)) ⊎ (old.top < id)
   pub each : (id : ℕ) → old.top < id → id ≤ new.top → IsTrue (is_some (clause_at new.live id))
 
+-- Nodes and live clauses stay as they are.
+pub record Stays (old_graph new_graph : Graph) (old new : State) : Type 0 where
+  pub nodes : KeepsNodes old_graph new_graph
+  pub clauses : KeepsClauses old.live new.live
+
 -- Nodes and live clauses stay, and new clauses come under the next numbers.
 pub record Extends (old_graph new_graph : Graph) (old new : State) : Type 0 where
   pub nodes : KeepsNodes old_graph new_graph

@@ -10,6 +10,7 @@ ghost use Rattle.hint_chain.specs.Atoms.{clause_of};
 ghost use Rattle.clause_ledger.specs.Book.{IsProofOf, IsTorn, OnlyWrites};
 ghost use Rattle.clause_ledger.specs.declared.error.LedgerError.TheVariants.{WriteFault};
 ghost use Rattle.node_table.specs.Defined.{IsNewVariable, definitions, count_atoms, one_if, with_some, line_of_some, with_definitions, definition_lines};
+ghost use Rattle.node_table.specs.Tied.{KeepsClauses};
 
 use clause_ledger::{Ledger, LedgerError};
 use cnf_base::{Id, Lit};
@@ -41,6 +42,7 @@ pub fn write_definitions<S: Sink + Drop>(
     ensures write_fault { IsErr result → IsTorn S.tells (S.channel ledger.old.sink) (S.channel ledger.new.sink)
         (definition_lines ledger.old.state (definitions u x high.now low.now (ledger.old.state.top + 1))) }
     ensures out_of_step { IsErr result → ledger.new.in_step ≡ false }
+    ensures stays { IsErr result → KeepsClauses ledger.old.state.live ledger.new.state.live }
     ensures cut { (clauses : List (List ℤ)) → IsProofOf clauses S.tells (S.channel ledger.old.sink) ledger.old.state → IsTrue S.tells
         → IsErr result → IsCutProof clauses (S.channel ledger.new.sink).written }
 
@@ -98,6 +100,7 @@ fn write_one<S: Sink + Drop>(
     ensures write_fault { IsErr result → IsTorn S.tells (S.channel ledger.old.sink) (S.channel ledger.new.sink)
         (line_of_some ledger.old.state (clause_of atoms.now) candidates.now) }
     ensures out_of_step { IsErr result → ledger.new.in_step ≡ false }
+    ensures fault_state { IsErr result → ledger.new.state ≡ with_some ledger.old.state (clause_of atoms.now) }
     ensures cut { (clauses : List (List ℤ)) → IsProofOf clauses S.tells (S.channel ledger.old.sink) ledger.old.state → IsTrue S.tells
         → IsErr result → IsCutProof clauses (S.channel ledger.new.sink).written }
 

@@ -14,7 +14,7 @@ pub enum TableError {
     IdLimit,
     #[error("out of memory")]
     OutOfMemory,
-    /// The proof could not be written. The table is out of step with it.
+    /// The proof could not be written. The table is out of step with it, and has no less than before.
     #[error("a write of the proof failed")]
     WriteFault,
 }

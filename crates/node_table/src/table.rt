@@ -16,7 +16,7 @@ ghost use Rattle.node_table.specs.Diagram.{Graph, IsOrder, IsReduced, IsBelow, b
 ghost use Rattle.node_table.specs.Value.{value_of, by_level};
 ghost use Rattle.node_table.specs.Defined.{IsDefined, atom_of, defs_of, definition_count, definition_lines, is_false_node, is_true_node, literal_of_branch};
 ghost use Rattle.cnf_base.specs.ProofText.{given_if, max_id};
-ghost use Rattle.node_table.specs.Tied.{IsTied, IsOverNodes, Extends};
+ghost use Rattle.node_table.specs.Tied.{IsTied, IsOverNodes, Extends, Stays};
 ghost use Rattle.node_table.specs.Table.{TableState, HasChildren, IsMissing, IsWanted, IsMade, IsSame, UnlessTorn, live_nodes, node_definitions};
 
 use crate::define::write_definitions;
@@ -135,6 +135,8 @@ impl<S: Sink + Drop> Table<S> {
             (definition_lines self.old.book.state (node_definitions self.old.graph self.old.book.state level high low)) }
         ensures cut { (clauses : List (List ℤ)) → IsProofOf clauses S.tells (S.channel self.old.book.sink) self.old.book.state → IsTrue S.tells
             → result ≡ Err WriteFault → IsCutProof clauses (S.channel self.new.book.sink).written }
+        ensures out_of_step { result ≡ Err WriteFault → self.new.book.in_step ≡ false }
+        ensures stays { result ≡ Err WriteFault → Stays self.old.graph self.new.graph self.old.book.state self.new.book.state }
         ensures in_step { UnlessTorn result (IsTrue self.new.book.in_step) }
         ensures limits { (self.new.max_nodes ≡ self.old.max_nodes) × (self.new.book.limit ≡ self.old.book.limit) }
         ensures only_writes { OnlyWrites (S.channel self.old.book.sink) (S.channel self.new.book.sink) }
@@ -172,6 +174,8 @@ impl<S: Sink + Drop> Table<S> {
             (next_line self.old.book.state clause.now hints.now) }
         ensures cut { (clauses : List (List ℤ)) → IsProofOf clauses S.tells (S.channel self.old.book.sink) self.old.book.state → IsTrue S.tells
             → result ≡ Err WriteFault → IsCutProof clauses (S.channel self.new.book.sink).written }
+        ensures out_of_step { result ≡ Err WriteFault → self.new.book.in_step ≡ false }
+        ensures stays { result ≡ Err WriteFault → Stays self.old.graph self.new.graph self.old.book.state self.new.book.state }
         ensures in_step { UnlessTorn result (IsTrue self.new.book.in_step) }
         ensures limits { (self.new.max_nodes ≡ self.old.max_nodes) × (self.new.book.limit ≡ self.old.book.limit) }
         ensures only_writes { OnlyWrites (S.channel self.old.book.sink) (S.channel self.new.book.sink) }
@@ -312,6 +316,8 @@ impl<S: Sink + Drop> Table<S> {
             (definition_lines self.old.book.state (node_definitions self.old.graph self.old.book.state level high low)) }
         ensures cut { (clauses : List (List ℤ)) → IsProofOf clauses S.tells (S.channel self.old.book.sink) self.old.book.state → IsTrue S.tells
             → result ≡ Err WriteFault → IsCutProof clauses (S.channel self.new.book.sink).written }
+        ensures out_of_step { result ≡ Err WriteFault → self.new.book.in_step ≡ false }
+        ensures stays { result ≡ Err WriteFault → Stays self.old.graph self.new.graph self.old.book.state self.new.book.state }
         ensures in_step { UnlessTorn result (IsTrue self.new.book.in_step) }
         ensures limits { (self.new.max_nodes ≡ self.old.max_nodes) × (self.new.book.limit ≡ self.old.book.limit) }
         ensures only_writes { OnlyWrites (S.channel self.old.book.sink) (S.channel self.new.book.sink) }

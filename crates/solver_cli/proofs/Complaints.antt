@@ -1,19 +1,26 @@
 -- What was written of a complaint.
-use Rattle.std.proofs.Common.{◌≡◌, ℕ, Bool, List, [], ◌++◌, take, drop, refl, sym, ◌∙◌, append_assoc, subst, Ok, Err, arith}
-use Rattle.std.specs.Prelude.{Result, codes, decimal}
+use Rattle.std.proofs.Common.{◌≡◌, ℕ, Bool, List, [], ◌++◌, length, take, drop, refl, sym, ◌∙◌, append_assoc, subst, Ok, Err, arith}
+use Rattle.std.specs.Prelude.{Result, IsTrue, codes, decimal}
 use Rattle.std.proofs.lemmas.List.{append-nil, take-append-drop}
 use Rattle.dimacs_reader.specs.declared.error.CnfKind.{CnfKind}
 use Rattle.host_io.specs.declared.source.Failed.{Failed}
-use Rattle.host_io.specs.Channel.{Channel, WritesAll, Flushes}
+use Rattle.host_io.specs.Channel.{Channel, Rose, WritesAll, Flushes}
 use Rattle.solver_cli.specs.declared.status.Status.{Status}
 use Rattle.solver_cli.specs.declared.status.Status.TheVariants.{CnfRefused}
 use Rattle.solver_cli.specs.ErrorText.{kind_name, error_text}
 use Rattle.solver_cli.specs.Phases.{Complains}
 
+-- a flush behind a write covers all bytes, where no call failed
+flushed_whole : {T U : Type 0} (tells : Bool) (old mid new : Channel) (piece : List ℕ) (result : Result T Failed) (flushed : Result U Failed) → WritesAll tells old mid piece result → Flushes tells mid new flushed
+    → IsTrue tells → (Rose old.faults new.faults → ⊥) → new.flushed ≡ length new.written
+flushed_whole tells old mid new piece result (Ok u) writes flushes t none = flushes.done t refl
+flushed_whole tells old mid new piece result (Err e) writes flushes t none = absurd (none (omega (arith, flushes.faults.cause refl, writes.faults.no_less)))
+
 -- the text was written, and whatever came of the flush
 pub complained : {T U : Type 0} (tells : Bool) (old mid new : Channel) (status : Status) (result : Result T Failed) (flushed : Result U Failed) → WritesAll tells old mid (error_text status) result → Flushes tells mid new flushed → Complains tells old new status
 complained tells old mid new status (Ok u) flushed writes flushes = record {
   written = λ t. (error_text status, [], flushes.written ∙ writes.done t refl, sym (append-nil (error_text status)), λ _. refl);
+  flushed = flushed_whole tells old mid new (error_text status) (Ok u) flushed writes flushes;
   only = record { name = flushes.name ∙ writes.name; faults = omega (arith, flushes.faults.no_less, writes.faults.no_less) };
 }
 complained tells old mid new status (Err e) flushed writes flushes = record {
@@ -25,6 +32,7 @@ complained tells old mid new status (Err e) flushed writes flushes = record {
         sym (take-append-drop front.0 (error_text status)),
         λ none. absurd (none (omega (arith, writes.faults.cause refl, flushes.faults.no_less))),
       );
+  flushed = flushed_whole tells old mid new (error_text status) (Err e) flushed writes flushes;
   only = record { name = flushes.name ∙ writes.name; faults = omega (arith, flushes.faults.no_less, writes.faults.no_less) };
 }
 

@@ -1,5 +1,5 @@
 -- What the stages of a run say of its streams, for the promises.
-use Rattle.std.proofs.Common.{◌≡◌, ℕ, true, false, List, [], ◌∷◌, ◌++◌, length, append-nil, refl, sym, ap, ◌∙◌, Some, Err, inl, inr, true≢false}
+use Rattle.std.proofs.Common.{◌≡◌, ℕ, true, false, List, [], ◌∷◌, ◌++◌, length, append-nil, refl, sym, ap, ◌∙◌, Some, None, Err, inl, inr, true≢false}
 use Rattle.std.specs.Prelude.{Option, drop, ◌⊎◌}
 use Rattle.std.proofs.Math.Seq.{drop-append_seam}
 use Rattle.cnf_base.specs.Formula.{Formula}
@@ -11,6 +11,7 @@ use Rattle.dimacs_reader.specs.Cnf.{CnfText, formula, refusal, overlong}
 use Rattle.solver_cli.specs.declared.status.Status.{Status}
 use Rattle.solver_cli.specs.declared.status.Status.TheVariants.{Sat, Unsat, Unknown, Verified, NotVerified, Help, Usage, CnfRefused, TooLong, ReadFault, WriteFault, OutOfMemory}
 use Rattle.solver_cli.specs.ErrorText.{is_answer}
+use Rattle.term_runner.specs.declared.outcome.Limits.{Limits}
 use Rattle.solver_cli.specs.Command.{Command, Solve, Check, formula_file, Meaning, Asks, AsksHelp, Misuse, IsOneOf, MayMean, CanOnlyMean, meanings, only_command, command}
 use Rattle.solver_cli.specs.Phases.{IsRead, IsReadStatus, IsProofStatus}
 
@@ -73,20 +74,20 @@ read_ends ReadFault whole taken is p = inl refl
 read_ends WriteFault whole taken is p = absurd p
 read_ends OutOfMemory whole taken is p = inr (inl refl)
 
--- how writing a proof, or an answer, ends a run
-pub write_ends : (T : Type 0) (status : Status) → IsProofStatus {T = T} (Err status) → (status ≡ WriteFault) ⊎ (status ≡ OutOfMemory)
-write_ends T Sat p = absurd p
-write_ends T Unsat p = absurd p
-write_ends T (Unknown why) p = absurd p
-write_ends T Verified p = absurd p
-write_ends T (NotVerified line reason) p = absurd p
-write_ends T Help p = absurd p
-write_ends T Usage p = absurd p
-write_ends T (CnfRefused kind line) p = absurd p
-write_ends T (TooLong role) p = absurd p
-write_ends T ReadFault p = absurd p
-write_ends T WriteFault p = inl refl
-write_ends T OutOfMemory p = inr refl
+-- how deciding a formula and writing its proof ends a run
+pub write_ends : (status : Status) → IsProofStatus (Err status) → (status ≡ WriteFault) ⊎ (status ≡ OutOfMemory)
+write_ends Sat p = absurd p
+write_ends Unsat p = absurd p
+write_ends (Unknown why) p = absurd p
+write_ends Verified p = absurd p
+write_ends (NotVerified line reason) p = absurd p
+write_ends Help p = absurd p
+write_ends Usage p = absurd p
+write_ends (CnfRefused kind line) p = absurd p
+write_ends (TooLong role) p = absurd p
+write_ends ReadFault p = absurd p
+write_ends WriteFault p = inl refl
+write_ends OutOfMemory p = inr refl
 
 -- the words give one command, and a file has one text
 same_some : {a b : List ℕ} → ◌≡◌ {A = Option (List ℕ)} (Some a) (Some b) → a ≡ b
@@ -104,9 +105,15 @@ one_proof files here there stands stands_there = same_some (sym stands ∙ ap fi
   same_proof : {a b c d : List ℕ} → ◌≡◌ {A = Option Command} (Some (Check a b)) (Some (Check c d)) → b ≡ d
   same_proof e = cc
 
-pub two_commands : {words : Option Command} {file other proof other_proof : List ℕ} → words ≡ Some (Solve file proof) → words ≡ Some (Check other other_proof) → ⊥
-two_commands {file = file} {other = other} {proof = proof} {other_proof = other_proof} here there = apart (sym here ∙ there) where
-  apart : ◌≡◌ {A = Option Command} (Some (Solve file proof)) (Some (Check other other_proof)) → ⊥
+pub two_commands : {words : Option Command} {file other proof other_proof : List ℕ} {limits : Limits} → words ≡ Some (Solve file proof limits) → words ≡ Some (Check other other_proof) → ⊥
+two_commands {file = file} {other = other} {proof = proof} {other_proof = other_proof} {limits = limits} here there = apart (sym here ∙ there) where
+  apart : ◌≡◌ {A = Option Command} (Some (Solve file proof limits)) (Some (Check other other_proof)) → ⊥
+  apart e = cc
+
+-- words that give a command are not words that give none
+pub not_unasked : {words : Option Command} {asked : Command} → words ≡ Some asked → words ≡ None → ⊥
+not_unasked {asked = asked} here none = apart (sym here ∙ none) where
+  apart : ◌≡◌ {A = Option Command} (Some asked) None → ⊥
   apart e = cc
 
 -- words that give a command can mean nothing else

@@ -1,10 +1,9 @@
-pub mod Ends
-pub mod Tautologies
 pub mod Reading
 pub mod Judging
 pub mod Staged
 pub mod StagedCheck
 pub mod Complaints
+pub mod Numbers
 pub mod Meant
 pub mod Facts
 pub mod Promised
@@ -15,4 +14,6 @@ pub mod Unjudged
 pub mod Verdicts
 pub mod Named
 pub mod Whole
-pub mod FirstEmpty
+pub mod Decided
+pub mod Puts
+pub mod SolveThenCheck

@@ -12,7 +12,7 @@ use Rattle.solver_cli.specs.Reading.{IsRefusal, IsRefusalOf}
 use Rattle.clap.proofs.OnLiterals.{clap_on_literals}
 use Rattle.clap.proofs.WalkLemmas.{first_value-rows}
 use Rattle.solver_cli.specs.Parser.{the_app}
-use Rattle.solver_cli.specs.Command.{Command, Solve, Check, Meaning, Asks, Misuse, IsOneOf, MayMean, command, command_means, means, meanings, only_command, refusal_means, over, two_names, taken_means}
+use Rattle.solver_cli.specs.Command.{Command, Meaning, Asks, Misuse, IsOneOf, MayMean, check_means, command, command_means, limits_given, means, meanings, only_command, refusal_means, solve_means, taken_means, to_check, to_solve, two_names}
 
 -- the parser is one whose meaning is known
 simple : is_simple the_app ≡ true
@@ -87,25 +87,40 @@ by_none m named same = ap taken_means (two_parts {B = Text × List Row} (subcomm
 
 -- what a command means, by its name
 abbrev command_by : Bool → Bool → List Row → Meaning
-command_by is_solve is_check rows =
-    if is_solve
-    then over Solve (two_names (first_of (codes "FILE") rows) (first_of (codes "proof") rows))
-    else if is_check then over Check (two_names (first_of (codes "FILE") rows) (first_of (codes "PROOF") rows)) else Misuse
+command_by is_solve is_check rows = if is_solve then solve_means rows else if is_check then check_means rows else Misuse
 
-pub solve_values : (values : ArgMatches) (name : Text) → bytes_eq name (codes "solve") ≡ true
-    → command_means name (rows_of (found_of values)) ≡ over Solve (two_names (first_value (found_of values) (codes "FILE")) (first_value (found_of values) (codes "proof")))
-solve_values values name is =
-    ap (λ (b : Bool). command_by b (bytes_eq name (codes "check")) (rows_of (found_of values))) is
-    ∙ ap (over Solve) (ap₂ two_names (sym (first_value-rows (found_of values) (codes "FILE"))) (sym (first_value-rows (found_of values) (codes "proof"))))
+pub named_solve : (name : Text) (rows : List Row) → bytes_eq name (codes "solve") ≡ true → command_means name rows ≡ solve_means rows
+named_solve name rows is = ap (λ (b : Bool). command_by b (bytes_eq name (codes "check")) rows) is
 
-pub check_values : (values : ArgMatches) (name : Text) → bytes_eq name (codes "solve") ≡ false → bytes_eq name (codes "check") ≡ true
-    → command_means name (rows_of (found_of values)) ≡ over Check (two_names (first_value (found_of values) (codes "FILE")) (first_value (found_of values) (codes "PROOF")))
-check_values values name other is =
-    ap₂ (λ (b c : Bool). command_by b c (rows_of (found_of values))) other is
-    ∙ ap (over Check) (ap₂ two_names (sym (first_value-rows (found_of values) (codes "FILE"))) (sym (first_value-rows (found_of values) (codes "PROOF"))))
+pub named_check : (name : Text) (rows : List Row) → bytes_eq name (codes "solve") ≡ false → bytes_eq name (codes "check") ≡ true → command_means name rows ≡ check_means rows
+named_check name rows other is = ap₂ (λ (b c : Bool). command_by b c rows) other is
 
 pub other_name : (name : Text) (rows : List Row) → bytes_eq name (codes "solve") ≡ false → bytes_eq name (codes "check") ≡ false → command_means name rows ≡ Misuse
 other_name name rows is and = ap₂ (λ (b c : Bool). command_by b c rows) is and
+
+-- the value that a getter reads is that of the row
+of_row : (values : ArgMatches) (name : Text) → first_of name (rows_of (found_of values)) ≡ first_value (found_of values) name
+of_row values name = sym (first_value-rows (found_of values) name)
+
+pub solve_values : (values : ArgMatches) (file proof nodes ids : Option Text)
+    → file ≡ first_value (found_of values) (codes "FILE") → proof ≡ first_value (found_of values) (codes "proof")
+    → nodes ≡ first_value (found_of values) (codes "max-nodes") → ids ≡ first_value (found_of values) (codes "max-ids")
+    → solve_means (rows_of (found_of values)) ≡ to_solve (two_names file proof) (limits_given nodes ids)
+solve_values values file proof nodes ids file_is proof_is nodes_is ids_is =
+    ap₂ to_solve (ap₂ two_names (of_row values (codes "FILE") ∙ sym file_is) (of_row values (codes "proof") ∙ sym proof_is))
+    (ap₂ limits_given (of_row values (codes "max-nodes") ∙ sym nodes_is) (of_row values (codes "max-ids") ∙ sym ids_is))
+
+pub solve_nameless : (values : ArgMatches) (file proof : Option Text)
+    → file ≡ first_value (found_of values) (codes "FILE") → proof ≡ first_value (found_of values) (codes "proof") → two_names file proof ≡ None
+    → solve_means (rows_of (found_of values)) ≡ Misuse
+solve_nameless values file proof file_is proof_is none =
+    ap₂ to_solve (ap₂ two_names (of_row values (codes "FILE") ∙ sym file_is) (of_row values (codes "proof") ∙ sym proof_is) ∙ none) refl
+
+pub check_values : (values : ArgMatches) (file proof : Option Text)
+    → file ≡ first_value (found_of values) (codes "FILE") → proof ≡ first_value (found_of values) (codes "PROOF")
+    → check_means (rows_of (found_of values)) ≡ to_check (two_names file proof)
+check_values values file proof file_is proof_is =
+    ap to_check (ap₂ two_names (of_row values (codes "FILE") ∙ sym file_is) (of_row values (codes "PROOF") ∙ sym proof_is))
 
 -- what a refusal of the parser comes to is what the words may mean
 pub refusal_due : (words : List Text) (k : ErrorKind) (r : Refusal) → ((k ≡ kind.OutOfMemory → ⊥) → MayMean words (refusal_means k)) → IsRefusalOf k r → IsRefusal words r

@@ -5,11 +5,13 @@ use Rattle.host_io.specs.Channel.{Channel}
 use Rattle.host_io.specs.Files.{FilesBut, same_role}
 use Rattle.host_io.specs.declared.role.Role.{Role}
 use Rattle.host_io.specs.declared.role.Role.TheVariants.{Cnf, Order, Schedule, ProofIn, ProofOut, Made, Out, Err as ErrRole}
+use Rattle.host_io.specs.declared.source.Failed.{Failed}
 use Rattle.solver_cli.specs.declared.status.Status.{Status}
 use Rattle.solver_cli.specs.declared.answer.Answer.{Answer}
-use Rattle.solver_cli.specs.declared.answer.Answer.TheVariants.{Satisfiable, Unsatisfiable, NodesUsed}
+use Rattle.solver_cli.specs.declared.answer.Answer.TheVariants.{Satisfiable, Unsatisfiable, NodesUsed, NumbersUsed}
+use Rattle.term_runner.specs.declared.outcome.Limits.{Limits}
 use Rattle.solver_cli.specs.Command.{Command, Solve, Check, formula_file, command}
-use Rattle.solver_cli.specs.Phases.{Complains, IsProofStatus}
+use Rattle.solver_cli.specs.Phases.{Complains}
 use Rattle.solver_cli.specs.Stages.{Streams, streams_of, Came, CameToCheck, Stages, status_after}
 use Rattle.solver_cli.specs.Headline.{Run, ErrorStands, NamesAreGiven, name_given, ends_before_proof}
 use Rattle.solver_cli.proofs.Facts.{behind, grown_by, write_ends}
@@ -36,18 +38,19 @@ given_judged : (run : Run) (file proof : List ℕ) → command run.words ≡ Som
 given_judged run file proof asked (inl some) = inr (Check file proof, asked, some)
 given_judged run file proof asked (inr none) = inl none
 
-given_proof : (run : Run) (file proof : List ℕ) → command run.words ≡ Some (Solve file proof) → ((run.after ProofOut).name ≡ Some proof) ⊎ ((run.after ProofOut).name ≡ None) → IsNamed run ProofOut
-given_proof run file proof asked (inl some) = inr (Solve file proof, asked, some)
-given_proof run file proof asked (inr none) = inl none
+given_proof : (run : Run) (file proof : List ℕ) (limits : Limits) → command run.words ≡ Some (Solve file proof limits) → ((run.after ProofOut).name ≡ Some proof) ⊎ ((run.after ProofOut).name ≡ None) → IsNamed run ProofOut
+given_proof run file proof limits asked (inl some) = inr (Solve file proof limits, asked, some)
+given_proof run file proof limits asked (inr none) = inl none
 
 later : (status : Status) → ends_before_proof status ≡ false → {A : Type 0} → IsTrue (ends_before_proof status) → A
 later status after before = absurd (true≢false (sym before ∙ after))
 
-answer_later : (answer : Answer) (printed : Result ⊤ Status) → IsProofStatus printed → ends_before_proof (status_after answer printed) ≡ false
-answer_later Satisfiable (Ok x) p = refl
-answer_later Unsatisfiable (Ok x) p = refl
-answer_later NodesUsed (Ok x) p = refl
-answer_later answer (Err status) p = elim (write_ends ⊤ status p) [ inl fault ↦ ap ends_before_proof fault | inr memory ↦ ap ends_before_proof memory ]
+answer_later : (answer : Answer) (printed : Result ⊤ Failed) → ends_before_proof (status_after answer printed) ≡ false
+answer_later (Satisfiable values) (Ok x) = refl
+answer_later Unsatisfiable (Ok x) = refl
+answer_later NodesUsed (Ok x) = refl
+answer_later NumbersUsed (Ok x) = refl
+answer_later answer (Err e) = refl
 
 pub stream_names : (run : Run) → ((role : Role) → (run.before role).name ≡ None) → Stages run.tells run.words (streams_of run.before) (streams_of run.after) run.files run.status → StreamNames run
 stream_names run unnamed (inl m) = record {
@@ -65,34 +68,41 @@ stream_names run unnamed (inr (inl h)) = record {
   read_first = λ _. name_of h.proof (unnamed ProofOut);
 }
 stream_names run unnamed (inr (inr (inl t))) = came t.came where
-  came : Came run.tells (streams_of run.before) (streams_of run.after) run.files t.file t.proof run.status → StreamNames run
+  came : Came run.tells (streams_of run.before) (streams_of run.after) run.files t.file t.proof t.limits run.status → StreamNames run
   came (inl u) = record {
-    cnf = given run (Solve t.file t.proof) t.asked u.takes.name;
+    cnf = given run (Solve t.file t.proof t.limits) t.asked u.takes.name;
     judged = inl (name_of u.judged (unnamed ProofIn));
     proof = inl (name_of u.proof (unnamed ProofOut));
     out = inl (name_of u.out (unnamed Out));
     read_first = λ _. name_of u.proof (unnamed ProofOut);
   }
   came (inr (inl u)) = record {
-    cnf = given run (Solve t.file t.proof) t.asked u.takes.name;
+    cnf = given run (Solve t.file t.proof t.limits) t.asked u.takes.name;
     judged = inl (name_of u.judged (unnamed ProofIn));
-    proof = given_proof run t.file t.proof t.asked (u.opens.failed u.failed);
+    proof = inl (name_of u.proof (unnamed ProofOut));
+    out = inl (name_of u.out (unnamed Out));
+    read_first = λ _. name_of u.proof (unnamed ProofOut);
+  }
+  came (inr (inr (inl u))) = record {
+    cnf = given run (Solve t.file t.proof t.limits) t.asked u.takes.name;
+    judged = inl (name_of u.judged (unnamed ProofIn));
+    proof = given_proof run t.file t.proof t.limits t.asked (u.opens.failed u.failed);
     out = inl (name_of u.out (unnamed Out));
     read_first = later run.status (ap ends_before_proof u.ends);
   }
-  came (inr (inr (inl u))) = record {
-    cnf = given run (Solve t.file t.proof) t.asked u.takes.name;
+  came (inr (inr (inr (inl u)))) = record {
+    cnf = given run (Solve t.file t.proof t.limits) t.asked u.takes.name;
     judged = inl (name_of u.judged (unnamed ProofIn));
-    proof = given_proof run t.file t.proof t.asked (inl (u.writes.only.name ∙ u.opens.named u.done));
+    proof = given_proof run t.file t.proof t.limits t.asked (inl (u.writes.only.name ∙ u.opens.named u.done));
     out = inl (name_of u.out (unnamed Out));
-    read_first = later run.status (elim (write_ends Answer run.status u.writes.statuses) [ inl fault ↦ ap ends_before_proof fault | inr memory ↦ ap ends_before_proof memory ]);
+    read_first = later run.status (elim (write_ends run.status u.writes.statuses) [ inl fault ↦ ap ends_before_proof fault | inr memory ↦ ap ends_before_proof memory ]);
   }
-  came (inr (inr (inr a))) = record {
-    cnf = given run (Solve t.file t.proof) t.asked a.takes.name;
+  came (inr (inr (inr (inr a)))) = record {
+    cnf = given run (Solve t.file t.proof t.limits) t.asked a.takes.name;
     judged = inl (name_of a.judged (unnamed ProofIn));
-    proof = given_proof run t.file t.proof t.asked (inl (a.writes.only.name ∙ a.opens.named a.done));
+    proof = given_proof run t.file t.proof t.limits t.asked (inl (a.writes.only.name ∙ a.opens.named a.done));
     out = inl (a.puts.only.name ∙ unnamed Out);
-    read_first = later run.status (ap ends_before_proof a.ends ∙ answer_later a.answer a.printed a.puts.statuses);
+    read_first = later run.status (ap ends_before_proof a.ends ∙ answer_later a.answer a.printed);
   }
 stream_names run unnamed (inr (inr (inr c))) = came c.came where
   came : CameToCheck run.tells (streams_of run.before) (streams_of run.after) run.files c.file c.proof run.status → StreamNames run
@@ -141,4 +151,5 @@ error_stands run complains = record {
   grows = λ t. let put = complains.written t in grown_by (run.before ErrRole) (run.after ErrRole) put.0 put.2;
   front = λ t. let put = complains.written t in
       (put.1, put.3 ∙ ap (λ (l : List ℕ). l ++ put.1) (sym (behind (run.before ErrRole) (run.after ErrRole) put.0 put.2)), put.4);
+  flushed = complains.flushed;
 }

@@ -14,7 +14,7 @@ use Rattle.solver_cli.specs.ErrorText.{is_answer}
 use Rattle.solver_cli.specs.Phases.{IsReadStatus}
 use Rattle.solver_cli.specs.Stages.{Streams, streams_of, Misused, Untaken}
 use Rattle.solver_cli.specs.Headline.{Run, written_in, taken_in, HasFault, UnsatisfiableIsProved, SatisfiableIsTrue, LimitsAreReached, VerdictIsTrue, RefusalsAreDue, FaultsAreCounted, OutputStands, ProofStands, IsComplete, IsRefusedBy, Asks}
-use Rattle.solver_cli.proofs.Facts.{behind, grown_by, nothing_more, no_answer, Refuses, Exceeds, read_statuses, read_ends, one_text, no_misuse, only_misuse, only_help, formula_refusal, formula_overlong, refusal_overlong, same_refusal}
+use Rattle.solver_cli.proofs.Facts.{behind, grown_by, nothing_more, no_answer, Refuses, Exceeds, read_statuses, read_ends, one_text, not_unasked, no_misuse, only_misuse, only_help, formula_refusal, formula_overlong, refusal_overlong, same_refusal}
 
 -- The promises on streams and statuses, without names, files and standard error.
 pub record Core (run : Run) : Type 0 where
@@ -80,7 +80,7 @@ misused run m =
     record {
       unsatisfiable = λ e. absurd (no_answer undone.unanswered refl e);
       satisfiable = λ e. absurd (no_answer undone.unanswered refl e);
-      undecided = λ e. absurd (no_answer undone.unanswered refl e);
+      undecided = λ why e. absurd (no_answer undone.unanswered refl e);
       verdict = no_verdict run undone.unanswered;
       refusals = record {
         usage = λ e. elim m.ends [ inl faulty ↦ faulty.1 | inr memory ↦ absurd (apart memory e) ];
@@ -94,6 +94,7 @@ misused run m =
       complete = record {
         misused = λ only. elim m.ends [ inl faulty ↦ inl faulty.0 | inr memory ↦ inr memory ];
         helped = λ only _. elim m.ends [ inl faulty ↦ absurd (no_wish (only Misuse faulty.1)) | inr memory ↦ inr memory ];
+        unasked = λ _ _. elim m.ends [ inl faulty ↦ inl faulty.0 | inr memory ↦ inr (inr memory) ];
         answers = λ problem asked t a b c. elim m.ends [ inl faulty ↦ absurd (no_misuse run.words asked.asks.command faulty.1) | inr memory ↦ inr memory ];
         judges = λ problem bytes judged has t a b c. elim m.ends [ inl faulty ↦ absurd (no_misuse run.words has.asked.asks.command faulty.1) | inr memory ↦ inr memory ];
         refuses = λ asked kind line asks t a. elim m.ends [ inl faulty ↦ absurd (no_misuse run.words asks.command faulty.1) | inr memory ↦ inr memory ];
@@ -192,6 +193,7 @@ untaken_complete : (run : Run) (asked : Command) → command run.words ≡ Some 
 untaken_complete run asked gives u = record {
   misused = λ only. absurd (only_misuse run.words gives only);
   helped = λ only _. absurd (only_help run.words gives only);
+  unasked = λ none _. absurd (not_unasked gives none);
   answers = λ problem asks t faultless _ _. inr (untaken_accepted run asked gives u _ problem asks.asks t faultless);
   judges = λ problem bytes judged has t faultless _ _. inr (untaken_accepted run asked gives u _ problem has.asked.asks t faultless);
   refuses = λ other kind line asks t faultless. elim (untaken_says run asked u t) [
@@ -222,7 +224,7 @@ untaken run asked gives u =
     record {
       unsatisfiable = λ e. absurd (no_answer unanswered refl e);
       satisfiable = λ e. absurd (no_answer unanswered refl e);
-      undecided = λ e. absurd (no_answer unanswered refl e);
+      undecided = λ why e. absurd (no_answer unanswered refl e);
       verdict = no_verdict run unanswered;
       refusals = record {
         usage = λ e. absurd (statuses.2 e);

@@ -9,7 +9,8 @@ use Rattle.host_io.specs.Channel.{Channel}
 use Rattle.host_io.specs.Files.{Files, Opens, Others}
 use Rattle.solver_cli.specs.declared.answer.Answer.{Answer}
 use Rattle.solver_cli.specs.declared.status.Status.{Status}
-use Rattle.solver_cli.specs.declared.status.Status.TheVariants.{WriteFault}
+use Rattle.solver_cli.specs.declared.status.Status.TheVariants.{WriteFault, OutOfMemory}
+use Rattle.term_runner.specs.declared.outcome.Limits.{Limits}
 use Rattle.solver_cli.specs.Answer.{answer_text}
 use Rattle.solver_cli.specs.Phases.{TakesFormula, WritesProof, PutsText}
 use Rattle.solver_cli.specs.Stages.{streams_of, Came, status_after}
@@ -21,17 +22,29 @@ still_taken {tells = tells} {old = old} {files = files} {file = file} {result = 
 opened_from : {start old new : Channel} {file : List ℕ} {answer : Result ⊤ Failed} → old ≡ start → Opens old new file answer → Opens start new file answer
 opened_from {new = new} {file = file} {answer = answer} same opens = subst (λ (c : Channel). Opens c new file answer) same opens
 
-still_written : {tells : Bool} {old new now : Channel} {problem : Formula} {result : Result Answer Status} → now ≡ new → WritesProof tells old new problem result → WritesProof tells old now problem result
-still_written {tells = tells} {old = old} {problem = problem} {result = result} same writes = subst (λ (c : Channel). WritesProof tells old c problem result) (sym same) writes
+still_written : {tells : Bool} {old new now : Channel} {problem : Formula} {limits : Limits} {result : Result Answer Status} → now ≡ new → WritesProof tells old new problem limits result → WritesProof tells old now problem limits result
+still_written {tells = tells} {old = old} {problem = problem} {limits = limits} {result = result} same writes = subst (λ (c : Channel). WritesProof tells old c problem limits result) (sym same) writes
 
-pub printed_from : {tells : Bool} {start old new : Channel} {text : List ℕ} {result : Result ⊤ Status} → old ≡ start → PutsText tells old new text result → PutsText tells start new text result
+pub printed_from : {tells : Bool} {start old new : Channel} {text : List ℕ} {result : Result ⊤ Failed} → old ≡ start → PutsText tells old new text result → PutsText tells start new text result
 printed_from {tells = tells} {new = new} {text = text} {result = result} same puts = subst (λ (c : Channel). PutsText tells c new text result) same puts
 
-pub uncreated : {tells : Bool} {file proof : List ℕ} {problem : Formula} {answer : Result ⊤ Failed} (old taken new : Role → Channel) (files : Files)
-    → TakesFormula tells (old Cnf) (taken Cnf) files file (Ok problem) → Others Cnf old taken
-    → Opens (taken ProofOut) (new ProofOut) proof answer → IsErr answer → Others ProofOut taken new → Came tells (streams_of old) (streams_of new) files file proof WriteFault
-uncreated {file = file} {proof = proof} {problem = problem} {answer = answer} old taken new files takes beside_taken opens failed beside_new =
+pub unplanned : {tells : Bool} {file proof : List ℕ} {problem : Formula} {limits : Limits} (old new : Role → Channel) (files : Files)
+    → TakesFormula tells (old Cnf) (new Cnf) files file (Ok problem) → Others Cnf old new → Came tells (streams_of old) (streams_of new) files file proof limits OutOfMemory
+unplanned {problem = problem} old new files takes beside_taken =
     inr (inl (record {
+      problem = problem;
+      takes = takes;
+      judged = beside_taken ProofIn refl;
+      proof = beside_taken ProofOut refl;
+      out = beside_taken Out refl;
+      ends = refl;
+    }))
+
+pub uncreated : {tells : Bool} {file proof : List ℕ} {problem : Formula} {limits : Limits} {answer : Result ⊤ Failed} (old taken new : Role → Channel) (files : Files)
+    → TakesFormula tells (old Cnf) (taken Cnf) files file (Ok problem) → Others Cnf old taken
+    → Opens (taken ProofOut) (new ProofOut) proof answer → IsErr answer → Others ProofOut taken new → Came tells (streams_of old) (streams_of new) files file proof limits WriteFault
+uncreated {file = file} {proof = proof} {problem = problem} {answer = answer} old taken new files takes beside_taken opens failed beside_new =
+    inr (inr (inl (record {
       problem = problem;
       takes = still_taken (beside_new Cnf refl) takes;
       answer = answer;
@@ -40,14 +53,14 @@ uncreated {file = file} {proof = proof} {problem = problem} {answer = answer} ol
       judged = beside_new ProofIn refl ∙ beside_taken ProofIn refl;
       out = beside_new Out refl ∙ beside_taken Out refl;
       ends = refl;
-    }))
+    })))
 
-pub undecided : {tells : Bool} {file proof : List ℕ} {problem : Formula} {answer : Result ⊤ Failed} {status : Status} (old taken made new : Role → Channel) (files : Files)
+pub undecided : {tells : Bool} {file proof : List ℕ} {problem : Formula} {limits : Limits} {answer : Result ⊤ Failed} {status : Status} (old taken made new : Role → Channel) (files : Files)
     → TakesFormula tells (old Cnf) (taken Cnf) files file (Ok problem) → Others Cnf old taken
     → Opens (taken ProofOut) (made ProofOut) proof answer → IsOk answer → Others ProofOut taken made
-    → WritesProof tells (made ProofOut) (new ProofOut) problem (Err status) → Others ProofOut made new → Came tells (streams_of old) (streams_of new) files file proof status
+    → WritesProof tells (made ProofOut) (new ProofOut) problem limits (Err status) → Others ProofOut made new → Came tells (streams_of old) (streams_of new) files file proof limits status
 undecided {file = file} {proof = proof} {problem = problem} {answer = answer} old taken made new files takes beside_taken opens done beside_made writes beside_new =
-    inr (inr (inl (record {
+    inr (inr (inr (inl (record {
       problem = problem;
       takes = still_taken (beside_new Cnf refl ∙ beside_made Cnf refl) takes;
       created = made ProofOut;
@@ -57,17 +70,17 @@ undecided {file = file} {proof = proof} {problem = problem} {answer = answer} ol
       writes = writes;
       judged = beside_new ProofIn refl ∙ beside_made ProofIn refl ∙ beside_taken ProofIn refl;
       out = beside_new Out refl ∙ beside_made Out refl ∙ beside_taken Out refl;
-    })))
+    }))))
 
-pub answered : {tells : Bool} {file proof : List ℕ} {problem : Formula} {answer : Result ⊤ Failed} {found : Answer} {printed : Result ⊤ Status} {status : Status}
+pub answered : {tells : Bool} {file proof : List ℕ} {problem : Formula} {limits : Limits} {answer : Result ⊤ Failed} {found : Answer} {printed : Result ⊤ Failed} {status : Status}
     (old taken made proved new : Role → Channel) (files : Files)
     → TakesFormula tells (old Cnf) (taken Cnf) files file (Ok problem) → Others Cnf old taken
     → Opens (taken ProofOut) (made ProofOut) proof answer → IsOk answer → Others ProofOut taken made
-    → WritesProof tells (made ProofOut) (proved ProofOut) problem (Ok found) → Others ProofOut made proved
-    → PutsText tells (proved Out) (new Out) (answer_text problem.vars found) printed → Others Out proved new → status ≡ status_after found printed
-    → Came tells (streams_of old) (streams_of new) files file proof status
+    → WritesProof tells (made ProofOut) (proved ProofOut) problem limits (Ok found) → Others ProofOut made proved
+    → PutsText tells (proved Out) (new Out) (answer_text limits found) printed → Others Out proved new → status ≡ status_after found printed
+    → Came tells (streams_of old) (streams_of new) files file proof limits status
 answered {file = file} {proof = proof} {problem = problem} {answer = answer} {found = found} {printed = printed} old taken made proved new files takes beside_taken opens done beside_made writes beside_proved puts beside_new ends =
-    inr (inr (inr (record {
+    inr (inr (inr (inr (record {
       problem = problem;
       takes = still_taken (beside_new Cnf refl ∙ beside_proved Cnf refl ∙ beside_made Cnf refl) takes;
       created = made ProofOut;
@@ -80,4 +93,4 @@ answered {file = file} {proof = proof} {problem = problem} {answer = answer} {fo
       printed = printed;
       puts = printed_from (beside_proved Out refl ∙ beside_made Out refl ∙ beside_taken Out refl) puts;
       ends = ends;
-    })))
+    }))))

@@ -4,6 +4,7 @@ use Rattle.std.specs.Prelude.{Result, ⊤, Option}
 use Rattle.cnf_base.specs.Formula.{Formula}
 use Rattle.host_io.specs.declared.role.Role.{Role}
 use Rattle.host_io.specs.declared.role.Role.TheVariants.{Cnf, ProofIn, ProofOut, Out}
+use Rattle.host_io.specs.declared.source.Failed.{Failed}
 use Rattle.host_io.specs.Channel.{Channel}
 use Rattle.host_io.specs.Files.{Files, FilesBut, Others}
 use Rattle.lrat_checker.specs.declared.verdict.Verdict.{Verdict}
@@ -51,7 +52,7 @@ unjudged {problem = problem} {error = error} old taken new before files takes be
       ends = ends;
     }))
 
-pub judged : {tells : Bool} {file proof : List ℕ} {problem : Formula} {verdict : Verdict} {printed : Result ⊤ Status} {status : Status} (old taken checked new : Role → Channel) (before files : Files)
+pub judged : {tells : Bool} {file proof : List ℕ} {problem : Formula} {verdict : Verdict} {printed : Result ⊤ Failed} {status : Status} (old taken checked new : Role → Channel) (before files : Files)
     → TakesFormula tells (old Cnf) (taken Cnf) before file (Ok problem) → Others Cnf old taken → FilesBut None before files
     → JudgesProof tells (taken ProofIn) (checked ProofIn) files proof problem.clauses (Ok verdict) → Others ProofIn taken checked
     → PutsText tells (checked Out) (new Out) (verdict_text verdict) printed → Others Out checked new → status ≡ status_of_printed verdict printed

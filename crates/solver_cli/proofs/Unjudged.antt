@@ -1,5 +1,5 @@
 -- What is promised of a run that took its formula, and did not judge the proof.
-use Rattle.std.proofs.Common.{◌≡◌, ◌<◌, ◌≤◌, ℕ, ℤ, false, List, length, refl, sym, ap, ap₂, ◌∙◌, Some, None, Err, IsTrue, inl, inr}
+use Rattle.std.proofs.Common.{◌≡◌, ◌<◌, ℕ, ℤ, false, List, length, refl, sym, ap, ap₂, ◌∙◌, Some, None, Err, IsTrue, inl, inr}
 use Rattle.std.specs.Prelude.{Option, Result, ◌⊎◌}
 use Rattle.cnf_base.specs.Formula.{Formula}
 use Rattle.dimacs_reader.specs.Cnf.{formula, cnf}
@@ -22,7 +22,7 @@ use Rattle.solver_cli.specs.Verdict.{status_of_verdict}
 use Rattle.solver_cli.specs.Phases.{JudgesText, JudgesProof}
 use Rattle.solver_cli.specs.Stages.{streams_of, Unjudged}
 use Rattle.solver_cli.specs.Headline.{Run, taken_in, HasFault, Asks, AsksToJudge, HasVerdict, IsLongProof, IsComplete}
-use Rattle.solver_cli.proofs.Facts.{no_answer, one_text, one_proof, two_commands, only_misuse, only_help, same_formula}
+use Rattle.solver_cli.proofs.Facts.{no_answer, one_text, one_proof, not_unasked, two_commands, only_misuse, only_help, same_formula}
 use Rattle.solver_cli.proofs.Promised.{Core, quiet_output, no_proof, no_verdict, none_written, same_written}
 use Rattle.solver_cli.proofs.Accepted.{took, accepted_refuses, accepted_long}
 use Rattle.solver_cli.proofs.Printed.{Law}
@@ -31,7 +31,7 @@ use Rattle.solver_cli.proofs.Printed.{Law}
 pub record Laws : Type 0 where
   pub sound : Law
   pub verified : (clauses : List (List ℤ)) (bytes : List ℕ) → text_verdict clauses bytes ≡ Some judgement.Verified → Refutes clauses bytes
-  pub refused : (clauses : List (List ℤ)) (bytes : List ℕ) (line : ℕ) (reason : Reason) → length bytes ≤ max_bytes
+  pub refused : (clauses : List (List ℤ)) (bytes : List ℕ) (line : ℕ) (reason : Reason)
       → text_verdict clauses bytes ≡ Some (judgement.Refused line reason) → verdict clauses bytes ≡ Some (line, reason)
   pub overlong : (clauses : List (List ℤ)) (bytes : List ℕ) → text_verdict clauses bytes ≡ None → max_bytes < length bytes
 
@@ -60,6 +60,7 @@ pub check_complete : (run : Run) (file proof : List ℕ) (problem : Formula) →
 check_complete run file proof problem gives read judges long = record {
   misused = λ only. absurd (only_misuse run.words gives only);
   helped = λ only _. absurd (only_help run.words gives only);
+  unasked = λ none _. absurd (not_unasked gives none);
   answers = λ other asks. absurd (two_commands asks.asks.command gives);
   judges = λ other bytes judged has t _ b c. judges other bytes judged has t b c;
   refuses = λ other kind line asks t a. absurd (accepted_refuses run (Check file proof) problem (read t) other kind line asks);
@@ -95,7 +96,7 @@ unjudged laws run file proof asked u = go u.error u.judges u.ends where
   core ends long fault complete = record {
     unsatisfiable = λ e. absurd (no_answer ends.unanswered refl e);
     satisfiable = λ e. absurd (no_answer ends.unanswered refl e);
-    undecided = λ e. absurd (no_answer ends.unanswered refl e);
+    undecided = λ why e. absurd (no_answer ends.unanswered refl e);
     verdict = no_verdict run ends.unanswered;
     refusals = record {
       usage = λ e. absurd (ends.usage e);

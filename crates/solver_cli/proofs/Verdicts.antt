@@ -1,9 +1,10 @@
 -- What is promised of a run that judged its proof.
 use Rattle.std.proofs.Common.{◌≡◌, ℕ, true, false, List, [], ◌++◌, append-nil, refl, sym, ap, ◌∙◌, subst, Some, None, Ok, Err, IsTrue, inl, inr, true≢false}
-use Rattle.std.specs.Prelude.{Result, ⊤, ◌⊎◌, ◌≢◌}
+use Rattle.std.specs.Prelude.{Result, ⊤}
 use Rattle.cnf_base.specs.Formula.{Formula}
 use Rattle.dimacs_reader.specs.Cnf.{formula}
 use Rattle.host_io.specs.declared.role.Role.TheVariants.{ProofIn, ProofOut, Out}
+use Rattle.host_io.specs.declared.source.Failed.{Failed}
 use Rattle.lrat_rules.specs.Run.{Refutes}
 use Rattle.lrat_rules.specs.declared.outcome.Reason.{Reason}
 use Rattle.lrat_checker.specs.TextVerdict.{text_verdict}
@@ -12,17 +13,17 @@ use Rattle.lrat_checker.specs.declared.verdict.Verdict.TheVariants as judgement
 use Rattle.lrat_checker.specs.declared.verdict.CheckError.{CheckError}
 use Rattle.lrat_checker.specs.declared.verdict.CheckError.TheVariants as error
 use Rattle.solver_cli.specs.declared.status.Status.{Status}
-use Rattle.solver_cli.specs.declared.status.Status.TheVariants.{Sat, Unsat, Unknown, Verified, NotVerified, WriteFault, OutOfMemory}
-use Rattle.solver_cli.specs.declared.status.Why.TheVariants.{NodeLimit}
+use Rattle.solver_cli.specs.declared.status.Status.TheVariants.{Sat, Unsat, Unknown, Verified, NotVerified, WriteFault}
+use Rattle.solver_cli.specs.declared.status.Why.{Why}
 use Rattle.solver_cli.specs.Command.{Check, command}
 use Rattle.solver_cli.specs.ErrorText.{is_answer}
 use Rattle.solver_cli.specs.Verdict.{verdict_text, status_of_verdict}
 use Rattle.solver_cli.specs.Phases.{JudgesText, PutsText}
 use Rattle.solver_cli.specs.Stages.{streams_of, Judged, status_of_printed}
 use Rattle.solver_cli.specs.Headline.{Run, written_in, taken_in, HasFault, Asks, AsksToJudge, HasVerdict, VerdictOn, IsTrueAnswer}
-use Rattle.solver_cli.proofs.Facts.{behind, grown_by, nothing_more, no_answer, write_ends}
+use Rattle.solver_cli.proofs.Facts.{behind, grown_by, no_answer}
 use Rattle.solver_cli.proofs.Promised.{Core, no_proof, no_verdict, none_written}
-use Rattle.solver_cli.proofs.Accepted.{took, accepted_refusals, Accepts, accepts_write, accepts_memory}
+use Rattle.solver_cli.proofs.Accepted.{took, accepted_refusals, Accepts, accepts_write}
 use Rattle.solver_cli.proofs.Unjudged.{Laws, one_verdict, none_some, one_some, check_complete}
 
 -- statuses of verdicts
@@ -42,11 +43,11 @@ accepts_verdict status (judgement.Refused line reason) is = record { usage = λ 
 record Undecided (status : Status) : Type 0 where
   pub unsat : status ≡ Unsat → ⊥
   pub sat : status ≡ Sat → ⊥
-  pub unknown : status ≡ Unknown NodeLimit → ⊥
+  pub unknown : (why : Why) → status ≡ Unknown why → ⊥
 
 undecided_by : (status : Status) (judged : Verdict) → status ≡ status_of_verdict judged → Undecided status
-undecided_by status judgement.Verified is = record { unsat = λ e. cc; sat = λ e. cc; unknown = λ e. cc }
-undecided_by status (judgement.Refused line reason) is = record { unsat = λ e. cc; sat = λ e. cc; unknown = λ e. cc }
+undecided_by status judgement.Verified is = record { unsat = λ e. cc; sat = λ e. cc; unknown = λ why e. cc }
+undecided_by status (judgement.Refused line reason) is = record { unsat = λ e. cc; sat = λ e. cc; unknown = λ why e. cc }
 
 is_verified : (judged : Verdict) → status_of_verdict judged ≡ Verified → judged ≡ judgement.Verified
 is_verified judgement.Verified e = refl
@@ -88,10 +89,10 @@ judged laws run file proof asked j = go j.printed j.puts j.ends where
   true_answer : (t : IsTrue run.tells) (rest : List ℕ) → text ≡ written_in run Out ++ rest → IsTrueAnswer run (VerdictOn j.problem (judged_text t).bytes j.verdict)
   true_answer t rest front = record { found = has t; rest = rest; front = front }
 
-  grows : (printed : Result ⊤ Status) → PutsText run.tells (run.before Out) (run.after Out) text printed → IsTrue run.tells → (run.after Out).written ≡ (run.before Out).written ++ written_in run Out
+  grows : (printed : Result ⊤ Failed) → PutsText run.tells (run.before Out) (run.after Out) text printed → IsTrue run.tells → (run.after Out).written ≡ (run.before Out).written ++ written_in run Out
   grows printed puts t = let front = puts.front t in grown_by (run.before Out) (run.after Out) front.0 front.2
 
-  fronts : (printed : Result ⊤ Status) → PutsText run.tells (run.before Out) (run.after Out) text printed → (t : IsTrue run.tells) → IsTrueAnswer run (VerdictOn j.problem (judged_text t).bytes j.verdict)
+  fronts : (printed : Result ⊤ Failed) → PutsText run.tells (run.before Out) (run.after Out) text printed → (t : IsTrue run.tells) → IsTrueAnswer run (VerdictOn j.problem (judged_text t).bytes j.verdict)
   fronts printed puts t = let front = puts.front t in true_answer t front.1 (front.3 ∙ ap (λ (l : List ℕ). l ++ front.1) (sym (behind (run.before Out) (run.after Out) front.0 front.2)))
 
   fine : (x : ⊤) → PutsText run.tells (run.before Out) (run.after Out) text (Ok x) → run.status ≡ status_of_verdict j.verdict → Core run
@@ -103,7 +104,7 @@ judged laws run file proof asked j = go j.printed j.puts j.ends where
       record {
         unsatisfiable = λ e. absurd (undecided.unsat e);
         satisfiable = λ e. absurd (undecided.sat e);
-        undecided = λ e. absurd (undecided.unknown e);
+        undecided = λ why e. absurd (undecided.unknown why e);
         verdict = record {
           verified = λ e t.
               let is : j.verdict ≡ judgement.Verified = is_verified j.verdict (sym ends ∙ e) in
@@ -124,7 +125,7 @@ judged laws run file proof asked j = go j.printed j.puts j.ends where
                 problem = j.problem;
                 bytes = (judged_text t).bytes;
                 has = refused;
-                refused = λ fits. laws.refused j.problem.clauses (judged_text t).bytes line reason fits refused.judged;
+                refused = laws.refused j.problem.clauses (judged_text t).bytes line reason refused.judged;
                 printed = all t ∙ ap verdict_text is;
               };
         };
@@ -148,41 +149,34 @@ judged laws run file proof asked j = go j.printed j.puts j.ends where
             (λ other bytes asks long t _. absurd (not_long other bytes asks long t));
       }
 
-  failed : (status : Status) → PutsText run.tells (run.before Out) (run.after Out) text (Err status) → run.status ≡ status → is_answer run.status ≡ false → Accepts run.status
-      → (run.status ≢ WriteFault → status ≡ OutOfMemory) → ((HasFault run Out → ⊥) → run.status ≡ OutOfMemory) → Core run
-  failed status puts ends unanswered accepts memory faultless =
+  failed : (e : Failed) → PutsText run.tells (run.before Out) (run.after Out) text (Err e) → run.status ≡ WriteFault → Core run
+  failed e puts ends =
+      let unanswered : is_answer run.status ≡ false = ap is_answer ends in
+      let accepts : Accepts run.status = accepts_write run.status ends in
+      let rose : HasFault run Out = puts.fault refl in
       record {
-        unsatisfiable = λ e. absurd (no_answer unanswered refl e);
-        satisfiable = λ e. absurd (no_answer unanswered refl e);
-        undecided = λ e. absurd (no_answer unanswered refl e);
+        unsatisfiable = λ d. absurd (no_answer unanswered refl d);
+        satisfiable = λ d. absurd (no_answer unanswered refl d);
+        undecided = λ why d. absurd (no_answer unanswered refl d);
         verdict = no_verdict run unanswered;
         refusals = accepted_refusals run accepts;
         faults = record {
-          read = λ e. absurd (accepts.read e);
-          write = λ e. inr (puts.fault (ap (λ (s : Status). the_err s) (sym ends ∙ e)));
-          accepted = λ e. inr (λ t. inr (j.problem, (judged_text t).bytes, j.verdict, has t));
+          read = λ d. absurd (accepts.read d);
+          write = λ d. inr rose;
+          accepted = λ d. inr (λ t. inr (j.problem, (judged_text t).bytes, j.verdict, has t));
         };
         output = record {
-          grows = grows (Err status) puts;
-          front = λ t. inr (inl (VerdictOn j.problem (judged_text t).bytes j.verdict, fronts (Err status) puts t));
+          grows = grows (Err e) puts;
+          front = λ t. inr (inl (VerdictOn j.problem (judged_text t).bytes j.verdict, fronts (Err e) puts t));
           answered = λ yes_answer. absurd (true≢false (sym yes_answer ∙ unanswered));
-          helped = λ e. absurd (accepts.help e);
-          flushed = λ either. elim either [ inl yes_answer ↦ absurd (true≢false (sym yes_answer ∙ unanswered)) | inr e ↦ absurd (accepts.help e) ];
-          silent = λ _ _ unfaulted t. behind (run.before Out) (run.after Out) [] (nothing_more (run.before Out) (run.after Out) (puts.silent (ap (λ (s : Status). the_err s) (memory unfaulted)) t));
+          helped = λ d. absurd (accepts.help d);
+          flushed = λ either. elim either [ inl yes_answer ↦ absurd (true≢false (sym yes_answer ∙ unanswered)) | inr d ↦ absurd (accepts.help d) ];
+          silent = λ _ _ unfaulted. absurd (unfaulted ends);
         };
         proof = no_proof run (none_written run ProofOut j.proof);
-        complete = check_complete run file proof j.problem asked read (λ other bytes v given t _ o. inr (faultless o)) (λ other bytes asks long t _. absurd (not_long other bytes asks long t));
-      } where
-        the_err : Status → Result ⊤ Status
-        the_err s = Err s
+        complete = check_complete run file proof j.problem asked read (λ other bytes v given t _ faultless. absurd (faultless rose)) (λ other bytes asks long t _. absurd (not_long other bytes asks long t));
+      }
 
-  go : (printed : Result ⊤ Status) → PutsText run.tells (run.before Out) (run.after Out) text printed → run.status ≡ status_of_printed j.verdict printed → Core run
+  go : (printed : Result ⊤ Failed) → PutsText run.tells (run.before Out) (run.after Out) text printed → run.status ≡ status_of_printed j.verdict printed → Core run
   go (Ok x) puts ends = fine x puts ends
-  go (Err status) puts ends = by (write_ends ⊤ status puts.statuses) where
-    the_err : Status → Result ⊤ Status
-    the_err s = Err s
-
-    by : (status ≡ WriteFault) ⊎ (status ≡ OutOfMemory) → Core run
-    by (inl fault) = failed status puts ends (ap is_answer (ends ∙ fault)) (accepts_write run.status (ends ∙ fault)) (λ unfaulted. absurd (unfaulted (ends ∙ fault)))
-        (λ faultless. absurd (faultless (puts.fault (ap (λ (s : Status). the_err s) fault))))
-    by (inr memory) = failed status puts ends (ap is_answer (ends ∙ memory)) (accepts_memory run.status (ends ∙ memory)) (λ _. memory) (λ _. ends ∙ memory)
+  go (Err e) puts ends = failed e puts ends

@@ -5,13 +5,14 @@ use Rattle.host_io.specs.Channel.{Channel}
 use Rattle.host_io.specs.Files.{Files, FilesBut, same_role, Others, Kept}
 use Rattle.host_io.specs.declared.role.Role.{Role}
 use Rattle.host_io.specs.declared.role.Role.TheVariants.{Cnf, Order, Schedule, ProofIn, ProofOut, Made, Out, Err as ErrRole}
+use Rattle.term_runner.specs.declared.outcome.Limits.{Limits}
 use Rattle.solver_cli.specs.Phases.{Complains}
-use Rattle.solver_cli.specs.Command.{Solve, Check}
-use Rattle.solver_cli.specs.Stages.{Streams, streams_of, Came, CameToCheck, Stages}
-use Rattle.solver_cli.specs.Headline.{Run, Promises}
+use Rattle.solver_cli.specs.Command.{Solve, Check, limits_of, limits_asked}
+use Rattle.solver_cli.specs.Stages.{Streams, streams_of, Undecided, Answered, Came, CameToCheck, Stages}
+use Rattle.solver_cli.specs.Headline.{Run, limits_given, Promises}
 use Rattle.solver_cli.proofs.Promised.{Core, misused, untaken}
 use Rattle.solver_cli.proofs.Helped.{helped}
-use Rattle.solver_cli.proofs.Accepted.{uncreated, undecided}
+use Rattle.solver_cli.proofs.Accepted.{unplanned, uncreated, undecided}
 use Rattle.solver_cli.proofs.Printed.{answered}
 use Rattle.solver_cli.proofs.Unjudged.{Laws, unjudged}
 use Rattle.solver_cli.proofs.Verdicts.{judged}
@@ -21,11 +22,15 @@ core : Laws → (run : Run) → Stages run.tells run.words (streams_of run.befor
 core law run (inl m) = misused run m
 core law run (inr (inl h)) = helped run h
 core law run (inr (inr (inl t))) = came t.came where
-  came : Came run.tells (streams_of run.before) (streams_of run.after) run.files t.file t.proof run.status → Core run
-  came (inl u) = untaken run (Solve t.file t.proof) t.asked u
-  came (inr (inl u)) = uncreated run t.file t.proof t.asked u
-  came (inr (inr (inl u))) = undecided run t.file t.proof t.asked u
-  came (inr (inr (inr a))) = answered law.sound run t.file t.proof t.asked a
+  given : t.limits ≡ limits_given run
+  given = sym (ap limits_asked t.asked)
+
+  came : Came run.tells (streams_of run.before) (streams_of run.after) run.files t.file t.proof t.limits run.status → Core run
+  came (inl u) = untaken run (Solve t.file t.proof t.limits) t.asked u
+  came (inr (inl u)) = unplanned run t.file t.proof t.asked u
+  came (inr (inr (inl u))) = uncreated run t.file t.proof t.asked u
+  came (inr (inr (inr (inl u)))) = undecided run t.file t.proof t.asked (subst (λ (l : Limits). Undecided run.tells (streams_of run.before) (streams_of run.after) run.files t.file t.proof l run.status) given u)
+  came (inr (inr (inr (inr a)))) = answered law.sound run t.file t.proof t.asked (subst (λ (l : Limits). Answered run.tells (streams_of run.before) (streams_of run.after) run.files t.file t.proof l run.status) given a)
 core law run (inr (inr (inr c))) = came c.came where
   came : CameToCheck run.tells (streams_of run.before) (streams_of run.after) run.files c.file c.proof run.status → Core run
   came (inl u) = untaken run (Check c.file c.proof) c.asked u

@@ -1,6 +1,6 @@
 -- What the program promises, over one run of it: its words, the host before and after, and how it ended. What it
 -- says of bytes is said of hosts that tell their bytes.
-use Rattle.std.specs.Prelude.{◌≡◌, ◌≢◌, ◌⊎◌, ◌++◌, ◌<◌, ◌≤◌, ℕ, Bool, true, false, List, [], Option, None, Some, length, drop, IsTrue, IsFalse}
+use Rattle.std.specs.Prelude.{◌≡◌, ◌≢◌, ◌⊎◌, ◌++◌, ◌<◌, ℕ, Bool, true, false, List, [], Option, None, Some, length, drop, IsTrue, IsFalse}
 use Rattle.cnf_base.specs.Truth.{Assignment, Satisfies, assignment_of}
 use Rattle.cnf_base.specs.Formula.{Formula}
 use Rattle.host_io.specs.declared.role.Role.{Role}
@@ -14,14 +14,20 @@ use Rattle.lrat_rules.specs.declared.outcome.Reason.{Reason}
 use Rattle.lrat_checker.specs.TextVerdict.{max_bytes, text_verdict}
 use Rattle.lrat_checker.specs.declared.verdict.Verdict.{Verdict}
 use Rattle.lrat_checker.specs.declared.verdict.Verdict.TheVariants as judgement
-use Rattle.answer_text.specs.Status.{sat_text, unsat_line, verified_line, refused_text}
-use Rattle.solver_cli.specs.declared.status.Why.TheVariants.{NodeLimit}
+use Rattle.term_runner.specs.declared.outcome.Limits.{Limits}
+use Rattle.term_runner.specs.Clauses.{has_empty_clause, one_line}
+use Rattle.term_runner.specs.Proofs.{IsProof, IsProofSoFar, NodesAreUsed, NumbersAreUsed}
+use Rattle.term_runner.specs.Needs.{NeedsMore}
+use Rattle.term_runner.specs.Recovered.{IsRecovered}
+use Rattle.answer_text.specs.Status.{sat_text, unsat_line, node_limit_text, id_limit_text, verified_line, refused_text}
+use Rattle.solver_cli.specs.declared.status.Why.{Why}
+use Rattle.solver_cli.specs.declared.status.Why.TheVariants.{NodeLimit, IdLimit}
 use Rattle.solver_cli.specs.declared.status.Status.{Status}
 use Rattle.solver_cli.specs.declared.status.Status.TheVariants.{Sat, Unsat, Unknown, Verified, NotVerified, Help, Usage, CnfRefused, TooLong, ReadFault, WriteFault, OutOfMemory}
 use Rattle.solver_cli.specs.declared.answer.Answer.{Answer}
-use Rattle.solver_cli.specs.Command.{Command, Solve, Check, formula_file, AsksHelp, Misuse, MayMean, CanOnlyMean, command}
+use Rattle.solver_cli.specs.Command.{Command, Solve, Check, formula_file, AsksHelp, Misuse, MayMean, CanOnlyMean, command, limits_asked}
 use Rattle.solver_cli.specs.ErrorText.{error_text, is_answer}
-use Rattle.solver_cli.specs.Answer.{Holds, IsProof, IsProofSoFar, NodesAreUsed, has_empty_clause, one_line, answer_text, status_of}
+use Rattle.solver_cli.specs.Answer.{Holds, order_of, plan_of, answer_text, status_of}
 use Rattle.solver_cli.specs.Verdict.{verdict_text, status_of_verdict}
 
 -- One run of the program: whether the host tells its bytes, the words, the roles and the files before, the roles
@@ -42,6 +48,10 @@ written_in run role = drop (length (run.before role).written) (run.after role).w
 abbrev pub taken_in : Run → Role → List ℕ
 taken_in run role = drop (length (run.before role).taken) (run.after role).taken
 
+-- the limits that the words give
+abbrev pub limits_given : Run → Limits
+limits_given run = limits_asked (command run.words)
+
 -- the role's count of faults rose
 abbrev pub HasFault : Run → Role → Type 0
 HasFault run role = Rose (run.before role).faults (run.after role).faults
@@ -57,7 +67,8 @@ pub record Asks (run : Run) (asked : Command) (text : CnfText) : Type 0 where
 pub record AsksFor (run : Run) (problem : Formula) : Type 0 where
   pub file : List ℕ
   pub proof : List ℕ
-  pub asks : Asks run (Solve file proof) (formula problem)
+  pub limits : Limits
+  pub asks : Asks run (Solve file proof limits) (formula problem)
 
 -- they ask to judge this proof over this formula
 pub record AsksToJudge (run : Run) (problem : Formula) (bytes : List ℕ) : Type 0 where
@@ -84,26 +95,39 @@ pub record IsRefuted (run : Run) : Type 0 where
 abbrev pub UnsatisfiableIsProved : Run → Type 0
 UnsatisfiableIsProved run = run.status ≡ Unsat → IsTrue run.tells → IsRefuted run
 
--- Satisfiable: the values that were printed satisfy the formula's clauses.
+-- Satisfiable: the values that were printed, one for each variable, satisfy the formula's clauses. They are recovered:
+-- of those that make the plan's last term true, the least, the variables compared in their natural order.
 pub record IsSatisfied (run : Run) : Type 0 where
   pub problem : Formula
   pub asked : AsksFor run problem
   pub values : List Bool
   pub one_each : length values ≡ problem.vars
   pub satisfied : Satisfies (assignment_of values) problem.clauses
+  pub recovered : IsRecovered problem (order_of problem) (plan_of problem) values
   pub printed : written_in run Out ≡ sat_text values
 
 abbrev pub SatisfiableIsTrue : Run → Type 0
 SatisfiableIsTrue run = run.status ≡ Sat → IsTrue run.tells → IsSatisfied run
 
--- Undecided: the nodes allowed are in use.
-pub record IsUndecided (run : Run) : Type 0 where
+-- Why a formula may be left undecided: the proof's bytes show that this limit is reached, and the plan needs more nodes
+-- than its limit.
+abbrev pub IsReached : Why → Formula → Limits → List ℕ → Type 0
+IsReached NodeLimit problem limits bytes = NodesAreUsed problem limits.max_nodes bytes × NeedsMore problem (order_of problem) (plan_of problem) limits.max_nodes
+IsReached IdLimit problem limits bytes = NumbersAreUsed problem limits.max_ids bytes
+
+abbrev pub limit_text : Why → Limits → List ℕ
+limit_text NodeLimit limits = node_limit_text limits.max_nodes
+limit_text IdLimit limits = id_limit_text limits.max_ids
+
+-- Undecided: the limit that the words give is reached, and was printed.
+pub record IsUndecided (run : Run) (why : Why) : Type 0 where
   pub problem : Formula
   pub asked : AsksFor run problem
-  pub used : NodesAreUsed problem (written_in run ProofOut)
+  pub reached : IsReached why problem (limits_given run) (written_in run ProofOut)
+  pub printed : written_in run Out ≡ limit_text why (limits_given run)
 
 abbrev pub LimitsAreReached : Run → Type 0
-LimitsAreReached run = run.status ≡ Unknown NodeLimit → IsTrue run.tells → IsUndecided run
+LimitsAreReached run = (why : Why) → run.status ≡ Unknown why → IsTrue run.tells → IsUndecided run why
 
 -- Verified: the very bytes of the proof's file refute the formula's clauses, so that no assignment satisfies them.
 pub record IsVerified (run : Run) : Type 0 where
@@ -119,7 +143,7 @@ pub record IsNotVerified (run : Run) (line : ℕ) (reason : Reason) : Type 0 whe
   pub problem : Formula
   pub bytes : List ℕ
   pub has : HasVerdict run problem bytes (judgement.Refused line reason)
-  pub refused : length bytes ≤ max_bytes → verdict problem.clauses bytes ≡ Some (line, reason)
+  pub refused : verdict problem.clauses bytes ≡ Some (line, reason)
   pub printed : written_in run Out ≡ refused_text line reason
 
 pub record VerdictIsTrue (run : Run) : Type 0 where
@@ -169,7 +193,7 @@ pub data Finding : Type 0 where
 -- a true answer to the formula that the words ask for, after a flushed proof of whole lines
 pub record IsAnswerTo (run : Run) (problem : Formula) (answer : Answer) : Type 0 where
   pub asked : AsksFor run problem
-  pub holds : Holds problem (written_in run ProofOut) answer
+  pub holds : Holds (limits_given run) problem (written_in run ProofOut) answer
   pub proof : IsProof problem.clauses (written_in run ProofOut)
   pub flushed : (run.after ProofOut).flushed ≡ length (run.after ProofOut).written
 
@@ -178,9 +202,9 @@ abbrev pub IsFound : Run → Finding → Type 0
 IsFound run (AnswerTo problem answer) = IsAnswerTo run problem answer
 IsFound run (VerdictOn problem bytes judged) = HasVerdict run problem bytes judged
 
-abbrev pub text_found : Finding → List ℕ
-text_found (AnswerTo problem answer) = answer_text problem.vars answer
-text_found (VerdictOn problem bytes judged) = verdict_text judged
+abbrev pub text_found : Run → Finding → List ℕ
+text_found run (AnswerTo problem answer) = answer_text (limits_given run) answer
+text_found run (VerdictOn problem bytes judged) = verdict_text judged
 
 abbrev pub status_found : Finding → Status
 status_found (AnswerTo problem answer) = status_of answer
@@ -190,7 +214,7 @@ status_found (VerdictOn problem bytes judged) = status_of_verdict judged
 pub record IsTrueAnswer (run : Run) (finding : Finding) : Type 0 where
   pub found : IsFound run finding
   pub rest : List ℕ
-  pub front : text_found finding ≡ written_in run Out ++ rest
+  pub front : text_found run finding ≡ written_in run Out ++ rest
 
 -- a text of help, as far as it was written, for words that may ask for it
 pub record IsHelp (run : Run) : Type 0 where
@@ -210,11 +234,12 @@ pub record OutputStands (run : Run) : Type 0 where
   pub flushed : IsTrue (is_answer run.status) ⊎ (run.status ≡ Help) → IsTrue run.tells → (run.after Out).flushed ≡ length (run.after Out).written
   pub silent : IsFalse (is_answer run.status) → run.status ≢ Help → run.status ≢ WriteFault → IsTrue run.tells → written_in run Out ≡ []
 
--- Standard error: a front of the status's text, the whole of it where no write to it failed; nothing for an answer and
--- for help.
+-- Standard error: a front of the status's text, the whole of it and flushed where no call of it failed; nothing for an
+-- answer and for help.
 pub record ErrorStands (run : Run) : Type 0 where
   pub grows : IsTrue run.tells → (run.after Err).written ≡ (run.before Err).written ++ written_in run Err
   pub front : IsTrue run.tells → (rest : List ℕ) × (error_text run.status ≡ written_in run Err ++ rest) × ((HasFault run Err → ⊥) → rest ≡ [])
+  pub flushed : IsTrue run.tells → (HasFault run Err → ⊥) → (run.after Err).flushed ≡ length (run.after Err).written
 
 -- The proof: nothing, or whole lines that are good steps from the clauses of the formula that is asked for; a
 -- front of one good line may stand behind them only after a failed write.
@@ -242,9 +267,9 @@ abbrev pub name_given : Role → Command → Option (List ℕ)
 name_given Cnf asked = Some (formula_file asked)
 name_given Order asked = None
 name_given Schedule asked = None
-name_given ProofIn (Solve file proof) = None
+name_given ProofIn (Solve file proof limits) = None
 name_given ProofIn (Check file proof) = Some proof
-name_given ProofOut (Solve file proof) = Some proof
+name_given ProofOut (Solve file proof limits) = Some proof
 name_given ProofOut (Check file proof) = None
 name_given Made asked = None
 name_given Out asked = None
@@ -258,10 +283,11 @@ pub record NamesAreGiven (run : Run) : Type 0 where
   pub read_first : IsTrue (ends_before_proof run.status) → (run.after ProofOut).name ≡ None
 
 -- Complete: what is asked for is answered, unless a call of the host failed or memory ran out; words that can mean
--- nothing else are refused, or answered by help.
+-- nothing else are refused, or answered by help, and words that give no command by one of both.
 pub record IsComplete (run : Run) : Type 0 where
   pub misused : CanOnlyMean run.words Misuse → (run.status ≡ Usage) ⊎ (run.status ≡ OutOfMemory)
   pub helped : CanOnlyMean run.words AsksHelp → (HasFault run Out → ⊥) → (run.status ≡ Help) ⊎ (run.status ≡ OutOfMemory)
+  pub unasked : command run.words ≡ None → (HasFault run Out → ⊥) → (run.status ≡ Usage) ⊎ ((run.status ≡ Help) ⊎ (run.status ≡ OutOfMemory))
   pub answers : (problem : Formula) → AsksFor run problem → IsTrue run.tells → (HasFault run Cnf → ⊥) → (HasFault run ProofOut → ⊥) → (HasFault run Out → ⊥)
       → IsTrue (is_answer run.status) ⊎ (run.status ≡ OutOfMemory)
   pub judges : (problem : Formula) (bytes : List ℕ) (judged : Verdict) → HasVerdict run problem bytes judged → IsTrue run.tells → (HasFault run Cnf → ⊥) → (HasFault run ProofIn → ⊥) → (HasFault run Out → ⊥)

@@ -8,3 +8,4 @@ pub mod Verdict
 pub mod Headline
 pub mod Phases
 pub mod Stages
+pub mod SolveThenCheck

@@ -1,18 +1,22 @@
 -- The words that the program knows, as its parser of command lines has them.
 use Rattle.std.specs.Prelude.{true, Some, codes}
-use Rattle.clap.specs.Words.{App, Rule, new_app, new_rule, with_rule, with_subcommand}
+use Rattle.clap.specs.Words.{App, Rule, Text, new_app, new_rule, with_rule, with_subcommand}
 
 -- a file that must be named, without an option in front of it
 abbrev pub file_rule : Rule
 file_rule = record (new_rule (codes "FILE")) { required = true }
 
+-- an option of one value: `--name VALUE`
+abbrev pub option_rule : Text → Rule
+option_rule name = record (new_rule name) { long = Some name; value_names = 1 }
+
 -- `--proof P`, which must be there
 abbrev pub proof_rule : Rule
-proof_rule = record (new_rule (codes "proof")) { long = Some (codes "proof"); value_names = 1; required = true }
+proof_rule = record (option_rule (codes "proof")) { required = true }
 
--- `solve FILE --proof P`
+-- `solve FILE --proof P [--max-nodes N] [--max-ids N]`
 abbrev pub solve_app : App
-solve_app = with_rule (with_rule (new_app (codes "solve")) file_rule) proof_rule
+solve_app = with_rule (with_rule (with_rule (with_rule (new_app (codes "solve")) file_rule) proof_rule) (option_rule (codes "max-nodes"))) (option_rule (codes "max-ids"))
 
 -- a proof's file, behind the formula's
 abbrev pub proof_file_rule : Rule

@@ -1,7 +1,9 @@
 -- The parts of a run, each over the one role that it serves.
-use Rattle.std.specs.Prelude.{◌≡◌, ◌⊎◌, ◌≤◌, ◌++◌, ℕ, Bool, List, [], None, Some, Result, Ok, Err, length, IsTrue, IsOk, IfOk, ℤ, ⊤}
+use Rattle.std.specs.Prelude.{◌≡◌, ◌≢◌, ◌⊎◌, ◌≤◌, ◌++◌, ℕ, Bool, List, [], None, Some, Result, Ok, Err, length, IsTrue, IsFalse, IsOk, IsErr, IfOk, ℤ, ⊤}
+use Rattle.std.specs.List.{list_any}
 use Rattle.cnf_base.specs.Formula.{Formula, IsFormula}
 use Rattle.host_io.specs.declared.role.Role.TheVariants.{Cnf}
+use Rattle.host_io.specs.declared.source.Failed.{Failed}
 use Rattle.host_io.specs.Channel.{Channel, Rose}
 use Rattle.host_io.specs.Files.{Files}
 use Rattle.text_scan.specs.Decides.{gained}
@@ -10,7 +12,12 @@ use Rattle.lrat_checker.specs.TextVerdict.{text_verdict, Answers}
 use Rattle.lrat_checker.specs.declared.verdict.Verdict.{Verdict}
 use Rattle.lrat_checker.specs.declared.verdict.CheckError.{CheckError}
 use Rattle.lrat_checker.specs.declared.verdict.CheckError.TheVariants.{ReadFault as CheckReadFault}
-use Rattle.solver_cli.specs.Answer.{Holds, IsProof, IsProofSoFar}
+use Rattle.schedule_plan.specs.Plan.{IsAdmissible}
+use Rattle.schedule_plan.specs.declared.plan.Move.{Move}
+use Rattle.term_runner.specs.Moves.{quantifies}
+use Rattle.term_runner.specs.declared.outcome.Limits.{Limits}
+use Rattle.term_runner.specs.Proofs.{IsProof, IsProofSoFar}
+use Rattle.solver_cli.specs.Answer.{Holds, order_of, plan_of}
 use Rattle.solver_cli.specs.ErrorText.{error_text}
 use Rattle.solver_cli.specs.declared.answer.Answer.{Answer}
 use Rattle.solver_cli.specs.declared.status.Status.{Status}
@@ -91,22 +98,14 @@ pub record JudgesProof (tells : Bool) (old new : Channel) (files : Files) (file 
   pub name : (new.name ≡ Some file) ⊎ (new.name ≡ None)
   pub faults : old.faults ≤ new.faults
 
--- The proof so far, whatever formula it is of, once a call ended: whole lines, flushed where the call succeeded; a
--- line that is cut short only after a failed write.
-pub record EndsProof (clauses : List (List ℤ)) (tells : Bool) (old new : Channel) (done faulted : Type 0) : Type 0 where
-  pub whole : (faulted → ⊥) → IsTrue tells → IsProof clauses new.written
-  pub so_far : IsTrue tells → IsProofSoFar clauses new.written
-  pub flushed : done → IsTrue tells → new.flushed ≡ length new.written
-  pub fault : faulted → Rose old.faults new.faults
-
 -- a call that writes keeps the name, and counts
 pub record OnlyWritten (old new : Channel) : Type 0 where
   pub name : new.name ≡ old.name
   pub faults : old.faults ≤ new.faults
 
--- only these statuses come of writing a proof
-abbrev pub IsProofStatus : {T : Type 0} → Result T Status → Type 0
-IsProofStatus (Ok x) = ⊤
+-- only these statuses come of deciding a formula and writing its proof
+abbrev pub IsProofStatus : Result Answer Status → Type 0
+IsProofStatus (Ok answer) = ⊤
 IsProofStatus (Err Sat) = ⊥
 IsProofStatus (Err Unsat) = ⊥
 IsProofStatus (Err (Unknown why)) = ⊥
@@ -120,25 +119,34 @@ IsProofStatus (Err ReadFault) = ⊥
 IsProofStatus (Err WriteFault) = ⊤
 IsProofStatus (Err OutOfMemory) = ⊤
 
--- a formula was decided, and its proof written
-pub record WritesProof (tells : Bool) (old new : Channel) (problem : Formula) (result : Result Answer Status) : Type 0 where
-  pub answer : IsTrue tells → IfOk result (Holds problem new.written)
-  pub proof : EndsProof problem.clauses tells old new (IsOk result) (result ≡ Err WriteFault)
+-- how a formula is decided: its order and its plan
+pub record IsScheduled (problem : Formula) (order : List ℕ) (moves : List Move) : Type 0 where
+  pub ordered : order ≡ order_of problem
+  pub planned : moves ≡ plan_of problem
+  pub admissible : IsAdmissible problem moves
+  pub joins : IsFalse (list_any quantifies moves)
+
+-- A formula was decided, and its proof written: whole lines, flushed where the formula was decided; a line that is cut
+-- short only after a failed write.
+pub record WritesProof (tells : Bool) (old new : Channel) (problem : Formula) (limits : Limits) (result : Result Answer Status) : Type 0 where
+  pub answer : IsTrue tells → IfOk result (Holds limits problem new.written)
+  pub whole : result ≢ Err WriteFault → IsTrue tells → IsProof problem.clauses new.written
+  pub so_far : IsTrue tells → IsProofSoFar problem.clauses new.written
+  pub flushed : IsOk result → IsTrue tells → new.flushed ≡ length new.written
+  pub fault : result ≡ Err WriteFault → Rose old.faults new.faults
   pub statuses : IsProofStatus result
   pub only : OnlyWritten old new
 
--- the status's text was written on standard error, or, where a write failed, a front of it
+-- The status's text was written on standard error and flushed, or, where a call failed, a front of it was written.
 pub record Complains (tells : Bool) (old new : Channel) (status : Status) : Type 0 where
   pub written : IsTrue tells → (part : List ℕ) × (rest : List ℕ) × (new.written ≡ old.written ++ part) × (error_text status ≡ part ++ rest) × ((Rose old.faults new.faults → ⊥) → rest ≡ [])
+  pub flushed : IsTrue tells → (Rose old.faults new.faults → ⊥) → new.flushed ≡ length new.written
   pub only : OnlyWritten old new
 
--- The text was written on standard output and flushed, or a front of it where a write or the flush failed; nothing
--- where memory ran out.
-pub record PutsText (tells : Bool) (old new : Channel) (text : List ℕ) (result : Result ⊤ Status) : Type 0 where
+-- The text was written on standard output and flushed, or a front of it where a write or the flush failed.
+pub record PutsText (tells : Bool) (old new : Channel) (text : List ℕ) (result : Result ⊤ Failed) : Type 0 where
   pub done : IsTrue tells → IsOk result → new.written ≡ old.written ++ text
   pub flushed : IsTrue tells → IsOk result → new.flushed ≡ length new.written
   pub front : IsTrue tells → (part : List ℕ) × (rest : List ℕ) × (new.written ≡ old.written ++ part) × (text ≡ part ++ rest)
-  pub silent : result ≡ Err OutOfMemory → IsTrue tells → new.written ≡ old.written
-  pub fault : result ≡ Err WriteFault → Rose old.faults new.faults
-  pub statuses : IsProofStatus result
+  pub fault : IsErr result → Rose old.faults new.faults
   pub only : OnlyWritten old new

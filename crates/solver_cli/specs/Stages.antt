@@ -8,13 +8,15 @@ use Rattle.host_io.specs.Channel.{Channel}
 use Rattle.host_io.specs.Files.{Files, Opens}
 use Rattle.lrat_checker.specs.declared.verdict.Verdict.{Verdict}
 use Rattle.lrat_checker.specs.declared.verdict.CheckError.{CheckError}
+use Rattle.term_runner.specs.declared.outcome.Limits.{Limits}
 use Rattle.solver_cli.specs.declared.answer.Answer.{Answer}
 use Rattle.solver_cli.specs.declared.status.Status.{Status}
 use Rattle.solver_cli.specs.declared.status.Status.TheVariants.{Help, Usage, WriteFault, OutOfMemory}
+use Rattle.term_runner.specs.declared.outcome.Limits.{Limits}
 use Rattle.solver_cli.specs.Answer.{answer_text, status_of}
 use Rattle.solver_cli.specs.Verdict.{verdict_text, status_of_verdict}
 use Rattle.solver_cli.specs.ExitCode.{status_of_check}
-use Rattle.solver_cli.specs.Command.{Solve, Check, AsksHelp, Misuse, MayMean, command}
+use Rattle.solver_cli.specs.Command.{Solve, Check, AsksHelp, Misuse, MayMean, command, limits_of}
 use Rattle.solver_cli.specs.Phases.{TakesFormula, JudgesProof, WritesProof, PutsText}
 
 -- the formula's file, the proof that is judged, the proof that is written, and standard output
@@ -33,14 +35,14 @@ pub record Misused (words : List (List ℕ)) (old new : Streams) (status : Statu
   pub same : new ≡ old
 
 -- how showing help ends the run
-abbrev pub status_of_help : Result ⊤ Status → Status
+abbrev pub status_of_help : Result ⊤ Failed → Status
 status_of_help (Ok x) = Help
-status_of_help (Err status) = status
+status_of_help (Err e) = WriteFault
 
 -- a text of help was printed on standard output, or a front of it
 pub record ShowsHelp (tells : Bool) (old new : Channel) (status : Status) : Type 0 where
   pub text : List ℕ
-  pub printed : Result ⊤ Status
+  pub printed : Result ⊤ Failed
   pub puts : PutsText tells old new text printed
   pub ends : status ≡ status_of_help printed
 
@@ -59,6 +61,15 @@ pub record Untaken (tells : Bool) (old new : Streams) (files : Files) (file : Li
   pub proof : new.proof ≡ old.proof
   pub out : new.out ≡ old.out
 
+-- memory ran out while the plan was made
+pub record Unplanned (tells : Bool) (old new : Streams) (files : Files) (file : List ℕ) (status : Status) : Type 0 where
+  pub problem : Formula
+  pub takes : TakesFormula tells old.cnf new.cnf files file (Ok problem)
+  pub judged : new.judged ≡ old.judged
+  pub proof : new.proof ≡ old.proof
+  pub out : new.out ≡ old.out
+  pub ends : status ≡ OutOfMemory
+
 -- the proof's file was not created
 pub record Uncreated (tells : Bool) (old new : Streams) (files : Files) (file proof_file : List ℕ) (status : Status) : Type 0 where
   pub problem : Formula
@@ -71,24 +82,24 @@ pub record Uncreated (tells : Bool) (old new : Streams) (files : Files) (file pr
   pub ends : status ≡ WriteFault
 
 -- the formula was not decided
-pub record Undecided (tells : Bool) (old new : Streams) (files : Files) (file proof_file : List ℕ) (status : Status) : Type 0 where
+pub record Undecided (tells : Bool) (old new : Streams) (files : Files) (file proof_file : List ℕ) (limits : Limits) (status : Status) : Type 0 where
   pub problem : Formula
   pub takes : TakesFormula tells old.cnf new.cnf files file (Ok problem)
   pub created : Channel
   pub created_answer : Result ⊤ Failed
   pub done : IsOk created_answer
   pub opens : Opens old.proof created proof_file created_answer
-  pub writes : WritesProof tells created new.proof problem (Err status)
+  pub writes : WritesProof tells created new.proof problem limits (Err status)
   pub judged : new.judged ≡ old.judged
   pub out : new.out ≡ old.out
 
 -- how printing an answer ends the run
-abbrev pub status_after : Answer → Result ⊤ Status → Status
+abbrev pub status_after : Answer → Result ⊤ Failed → Status
 status_after answer (Ok x) = status_of answer
-status_after answer (Err status) = status
+status_after answer (Err e) = WriteFault
 
 -- it was decided, and the answer was printed or not
-pub record Answered (tells : Bool) (old new : Streams) (files : Files) (file proof_file : List ℕ) (status : Status) : Type 0 where
+pub record Answered (tells : Bool) (old new : Streams) (files : Files) (file proof_file : List ℕ) (limits : Limits) (status : Status) : Type 0 where
   pub problem : Formula
   pub takes : TakesFormula tells old.cnf new.cnf files file (Ok problem)
   pub created : Channel
@@ -96,15 +107,19 @@ pub record Answered (tells : Bool) (old new : Streams) (files : Files) (file pro
   pub done : IsOk created_answer
   pub opens : Opens old.proof created proof_file created_answer
   pub answer : Answer
-  pub writes : WritesProof tells created new.proof problem (Ok answer)
+  pub writes : WritesProof tells created new.proof problem limits (Ok answer)
   pub judged : new.judged ≡ old.judged
-  pub printed : Result ⊤ Status
-  pub puts : PutsText tells old.out new.out (answer_text problem.vars answer) printed
+  pub printed : Result ⊤ Failed
+  pub puts : PutsText tells old.out new.out (answer_text limits answer) printed
   pub ends : status ≡ status_after answer printed
 
--- how far `solve` came
-abbrev pub Came : Bool → Streams → Streams → Files → List ℕ → List ℕ → Status → Type 0
-Came tells old new files file proof status = Untaken tells old new files file status ⊎ (Uncreated tells old new files file proof status ⊎ (Undecided tells old new files file proof status ⊎ Answered tells old new files file proof status))
+-- how far `solve` came, under these limits
+abbrev pub Came : Bool → Streams → Streams → Files → List ℕ → List ℕ → Limits → Status → Type 0
+Came tells old new files file proof limits status = Untaken tells old new files file status
+    ⊎ (Unplanned tells old new files file status
+    ⊎ (Uncreated tells old new files file proof status
+    ⊎ (Undecided tells old new files file proof limits status
+    ⊎ Answered tells old new files file proof limits status)))
 
 -- the proof was not judged
 pub record Unjudged (tells : Bool) (old new : Streams) (files : Files) (file proof_file : List ℕ) (status : Status) : Type 0 where
@@ -117,9 +132,9 @@ pub record Unjudged (tells : Bool) (old new : Streams) (files : Files) (file pro
   pub ends : status ≡ status_of_check error
 
 -- how printing a verdict ends the run
-abbrev pub status_of_printed : Verdict → Result ⊤ Status → Status
+abbrev pub status_of_printed : Verdict → Result ⊤ Failed → Status
 status_of_printed verdict (Ok x) = status_of_verdict verdict
-status_of_printed verdict (Err status) = status
+status_of_printed verdict (Err e) = WriteFault
 
 -- it was judged, and the verdict was printed or not
 pub record Judged (tells : Bool) (old new : Streams) (files : Files) (file proof_file : List ℕ) (status : Status) : Type 0 where
@@ -128,7 +143,7 @@ pub record Judged (tells : Bool) (old new : Streams) (files : Files) (file proof
   pub verdict : Verdict
   pub judges : JudgesProof tells old.judged new.judged files proof_file problem.clauses (Ok verdict)
   pub proof : new.proof ≡ old.proof
-  pub printed : Result ⊤ Status
+  pub printed : Result ⊤ Failed
   pub puts : PutsText tells old.out new.out (verdict_text verdict) printed
   pub ends : status ≡ status_of_printed verdict printed
 
@@ -140,8 +155,9 @@ CameToCheck tells old new files file proof status = Untaken tells old new files 
 pub record Tried (tells : Bool) (words : List (List ℕ)) (old new : Streams) (files : Files) (status : Status) : Type 0 where
   pub file : List ℕ
   pub proof : List ℕ
-  pub asked : command words ≡ Some (Solve file proof)
-  pub came : Came tells old new files file proof status
+  pub limits : Limits
+  pub asked : command words ≡ Some (Solve file proof limits)
+  pub came : Came tells old new files file proof limits status
 
 -- `check` was tried
 pub record Checked (tells : Bool) (words : List (List ℕ)) (old new : Streams) (files : Files) (status : Status) : Type 0 where

@@ -154,14 +154,28 @@ fn other_formulas(rt: HostRuntime) -> Result<(), Fail> {
 /// The proof that `solve` writes is verified.
 #[test]
 fn own_proof(rt: HostRuntime) -> Result<(), Fail> {
-    let formula = b"p cnf 2 3\n1 2 0\n0\n-1 0\n".as_slice();
-    let words = words_of(rt.alloc(), "bddsat solve in.cnf --proof out.lrat")?;
-    let mut host = host_of(rt.alloc(), formula, b"")?;
-    assert_eq!(rt; run(rt.alloc(), &words, &mut host), Status::Unsat);
-    let proof = host.file("out.lrat").ok_or("no proof")?;
-    let words = words_of(rt.alloc(), "bddsat check in.cnf in.lrat")?;
-    let mut other = host_of(rt.alloc(), formula, proof)?;
-    assert_eq!(rt; run(rt.alloc(), &words, &mut other), Status::Verified);
+    let solve = words_of(rt.alloc(), "bddsat solve in.cnf --proof out.lrat")?;
+    let check = words_of(rt.alloc(), "bddsat check in.cnf in.lrat")?;
+    let table: [&[u8]; 3] = [
+        b"p cnf 2 3\n1 2 0\n0\n-1 0\n",
+        b"p cnf 1 2\n1 0\n-1 0\n",
+        b"p cnf 2 3\n1 -1 0\n2 0\n-2 0\n",
+    ];
+    for formula in table {
+        let mut host = host_of(rt.alloc(), formula, b"")?;
+        assert_eq!(rt;
+            run(rt.alloc(), &solve, &mut host),
+            Status::Unsat,
+            "{formula:?}"
+        );
+        let proof = host.file("out.lrat").ok_or("no proof")?;
+        let mut other = host_of(rt.alloc(), formula, proof)?;
+        assert_eq!(rt;
+            run(rt.alloc(), &check, &mut other),
+            Status::Verified,
+            "{formula:?}"
+        );
+    }
     Ok(())
 }
 

@@ -12,8 +12,8 @@ use dimacs_reader::CnfKind;
 use host_io::{Failed, Host, HostSink, Role, Sink, beside_kept, write_all};
 use itoa::Buffer;
 
-/// Writes the status's line on standard error, and nothing for an answer or for help. That the line could not be written ends
-/// no run otherwise.
+/// Writes the status's line on standard error, and nothing for an answer or for help, and flushes. That the line could not
+/// be written ends no run otherwise.
 pub fn complain<H: Host>(host: &mut H, status: Status)
     ensures complains { Complains H.tells (H.channel host.old ErrRole) (H.channel host.new ErrRole) status }
     ensures kept { Kept ErrRole (H.channel host.old ErrRole).name (H.channel host.old) (H.channel host.new) (H.files host.old) (H.files host.new) }

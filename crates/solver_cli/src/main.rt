@@ -7,6 +7,8 @@ mod check_tests;
 mod complaint;
 mod formula;
 mod judgement;
+mod laws;
+mod limits;
 mod output;
 mod parser;
 mod proof;
@@ -18,6 +20,10 @@ mod verdict;
 #[cfg(test)]
 mod word_tests;
 mod words;
+
+ghost use Rattle.std.specs.Prelude.{◌≡◌, ◌≢◌};
+ghost use Rattle.std.specs.declared.io.ErrorKind.TheVariants.{OutOfMemory as NoMemory};
+ghost use Rattle.solver_cli.specs.declared.status.Status.TheVariants.{Usage, OutOfMemory};
 
 use crate::complaint::complain;
 use crate::run::run;
@@ -46,7 +52,10 @@ fn main(rt: HostRuntime) -> ExitCode {
 }
 
 // How a run ends whose words can't be had: but for want of memory, a word is no UTF-8.
-fn unread(kind: ErrorKind) -> Status {
+fn unread(kind: ErrorKind) -> Status
+    ensures memory { kind ≡ NoMemory → result ≡ OutOfMemory }
+    ensures others { kind ≢ NoMemory → result ≡ Usage }
+{
     match kind {
         ErrorKind::OutOfMemory => Status::OutOfMemory,
         _ => Status::Usage,

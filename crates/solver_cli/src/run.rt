@@ -5,6 +5,7 @@ ghost use Rattle.host_io.specs.declared.role.Role.{Role};
 ghost use Rattle.host_io.specs.declared.role.Role.TheVariants.{Cnf as CnfRole, ProofIn, ProofOut, Out};
 ghost use Rattle.host_io.specs.Files.{FilesBut, Kept, same_role};
 ghost use Rattle.host_io.specs.Memory.{channel_of, files_of};
+ghost use Rattle.term_runner.specs.Ends.{AreLimits};
 ghost use Rattle.solver_cli.specs.Headline.{Promises};
 ghost use Rattle.solver_cli.specs.Stages.{Came, CameToCheck, ShowsHelp, Stages, streams_of};
 
@@ -12,7 +13,7 @@ use crate::complaint::complain;
 use crate::formula::take_formula;
 use crate::judgement::judge;
 use crate::output::{put_answer, put_text};
-use crate::proof::prove;
+use crate::proof::{prove, schedule};
 use crate::status::Status;
 use crate::verdict::{put_verdict, verdict_status};
 use crate::words::{Asked, FileNames, Refusal, read_words};
@@ -20,6 +21,7 @@ use host_io::{Host, MemoryHost, Role as HostRole};
 use lrat_checker::check_law;
 use lrat_rules::soundness_law;
 use std::alloc::Global;
+use term_runner::Limits;
 
 fn work<H: Host>(alloc: Global, words: &[String], host: &mut H) -> Status
     requires unnamed { (role : Role) → (H.channel host.old role).name ≡ None }
@@ -28,7 +30,7 @@ fn work<H: Host>(alloc: Global, words: &[String], host: &mut H) -> Status
     ensures files { FilesBut (H.channel host.new ProofOut).name (H.files host.old) (H.files host.new) }
 {
     match read_words(alloc, words) {
-        Ok(Asked::Solve(files)) => solve(alloc, &files, host),
+        Ok(Asked::Solve(files, limits)) => solve(alloc, &files, limits, host),
         Ok(Asked::Check(files)) => check(alloc, &files, host),
         Err(Refusal::Help(text)) => show_help(&text, host),
         Err(Refusal::Usage) => Status::Usage,
@@ -43,14 +45,16 @@ fn show_help<H: Host>(text: &str, host: &mut H) -> Status
 {
     match put_text(host, text) {
         Ok(()) => Status::Help,
-        Err(fault) => fault,
+        Err(_) => Status::WriteFault,
     }
 }
 
-// Reads the formula, decides it, writes the proof and prints the answer.
-fn solve<H: Host>(alloc: Global, asked: &FileNames<'_>, host: &mut H) -> Status
+// Reads the formula, decides it, writes the proof and prints the answer. The plan is made before the proof's file, so
+// that none is created where memory runs out by then.
+fn solve<H: Host>(alloc: Global, asked: &FileNames<'_>, limits: Limits, host: &mut H) -> Status
     requires unnamed { (role : Role) → (H.channel host.old role).name ≡ None }
-    ensures came { Came H.tells (streams_of (H.channel host.old)) (streams_of (H.channel host.new)) (H.files host.old) asked.now.formula.now asked.now.proof.now result }
+    requires limits { AreLimits limits }
+    ensures came { Came H.tells (streams_of (H.channel host.old)) (streams_of (H.channel host.new)) (H.files host.old) asked.now.formula.now asked.now.proof.now limits result }
     ensures others { (role : Role) → IsFalse (same_role role CnfRole) → IsFalse (same_role role ProofOut) → IsFalse (same_role role Out) → H.channel host.new role ≡ H.channel host.old role }
     ensures files { FilesBut (H.channel host.new ProofOut).name (H.files host.old) (H.files host.new) }
 {
@@ -58,16 +62,19 @@ fn solve<H: Host>(alloc: Global, asked: &FileNames<'_>, host: &mut H) -> Status
         Ok(formula) => formula,
         Err(status) => return status,
     };
+    let Ok((order, plan)) = schedule(alloc, &formula) else {
+        return Status::OutOfMemory;
+    };
     if host.create(HostRole::ProofOut, asked.proof).is_err() {
         return Status::WriteFault;
     }
-    let answer = match prove(alloc, host, &formula) {
+    let answer = match prove(alloc, host, &formula, &order, &plan, limits) {
         Ok(answer) => answer,
         Err(status) => return status,
     };
-    match put_answer(alloc, host, &formula, answer) {
+    match put_answer(host, &answer, limits) {
         Ok(()) => answer.status(),
-        Err(status) => status,
+        Err(_) => Status::WriteFault,
     }
 }
 
@@ -88,7 +95,7 @@ fn check<H: Host>(alloc: Global, asked: &FileNames<'_>, host: &mut H) -> Status
     };
     match put_verdict(host, verdict) {
         Ok(()) => verdict_status(verdict),
-        Err(unprinted) => unprinted,
+        Err(_) => Status::WriteFault,
     }
 }
 

@@ -12,6 +12,8 @@ use lrat_rules::Reason;
 pub enum Why {
     /// The diagrams reached the greatest number of nodes.
     NodeLimit,
+    /// The proof reached the greatest clause number, or too few are left for a node's clauses.
+    IdLimit,
 }
 
 /// How the program ends.

@@ -30,12 +30,23 @@ fn words_of(alloc: Global, line: &str) -> Result<Vec<String>, AllocError> {
     Ok(words)
 }
 
+// The proof of `1 0` and `-1 0`: the nodes and units of both clauses, their conjunction, and the empty clause.
+const TWO_UNITS_PROOF: &[u8] = b"3 2 -1 0 0
+4 -2 1 0 -3 0
+5 2 0 3 1 0
+6 3 1 0 0
+7 -3 -1 0 -6 0
+8 3 0 6 2 0
+9 -1 -2 -3 0 7 0
+10 -2 -3 0 9 4 0
+11 0 5 8 10 0
+";
+
 /// What decides each of these, and the bytes: on standard output, in the proof, and none on standard error.
 #[test]
 fn answers(rt: HostRuntime) -> Result<(), Fail> {
     let words = words_of(rt.alloc(), "bddsat solve in.cnf --proof out.lrat")?;
-    let unknown = Status::Unknown(Why::NodeLimit);
-    let table: [(&[u8], Status, &[u8], &[u8]); 8] = [
+    let table: [(&[u8], Status, &[u8], &[u8]); 7] = [
         (b"p cnf 0 0\n", Status::Sat, b"s SATISFIABLE\nv 0\n", b""),
         (
             b"p cnf 0 1\n0\n",
@@ -57,15 +68,9 @@ fn answers(rt: HostRuntime) -> Result<(), Fail> {
         ),
         (
             b"p cnf 1 2\n1 0\n-1 0\n",
-            unknown,
-            b"c node limit 0 reached\ns UNKNOWN\n",
-            b"",
-        ),
-        (
-            b"p cnf 2 2\n1 -1 0\n1 2 0\n",
-            unknown,
-            b"c node limit 0 reached\ns UNKNOWN\n",
-            b"",
+            Status::Unsat,
+            b"s UNSATISFIABLE\n",
+            TWO_UNITS_PROOF,
         ),
         (
             b"p cnf 2 3\n1 2 0\n0\n-1 0\n",
@@ -86,6 +91,79 @@ fn answers(rt: HostRuntime) -> Result<(), Fail> {
         assert_eq!(rt; host.output(Role::Out), out, "{text:?}");
         assert_eq!(rt; host.file("out.lrat"), Some(proof), "{text:?}");
         assert_eq!(rt; host.output(Role::Err), b"".as_slice(), "{text:?}");
+    }
+    Ok(())
+}
+
+/// Answers alone: the least values, a text that a `%` ends, and clauses that are numbered whether tautologies or not.
+#[test]
+fn answers_after_proofs(rt: HostRuntime) -> Result<(), Fail> {
+    let words = words_of(rt.alloc(), "bddsat solve in.cnf --proof out.lrat")?;
+    let table: [(&[u8], Status, &[u8], &[u8]); 4] = [
+        (
+            b"p cnf 2 2\r\n1\r\nc note\r\n2 0\r\n-1 0\r\n%\r\n0\r\n",
+            Status::Sat,
+            b"s SATISFIABLE\nv -1 2 0\n",
+            b"3 ",
+        ),
+        (
+            b"p cnf 3 3\n1 -2 0\n2 -3 0\n3 0\n",
+            Status::Sat,
+            b"s SATISFIABLE\nv 1 2 3 0\n",
+            b"4 ",
+        ),
+        (
+            b"p cnf 2 2\n1 -1 0\n1 2 0\n",
+            Status::Sat,
+            b"s SATISFIABLE\nv -1 2 0\n",
+            b"3 ",
+        ),
+        (
+            b"p cnf 2 3\n1 -1 0\n2 0\n-2 0\n",
+            Status::Unsat,
+            b"s UNSATISFIABLE\n",
+            b"4 ",
+        ),
+    ];
+    for (text, status, out, first) in table {
+        let mut host = host_of(rt.alloc(), text)?;
+        assert_eq!(rt; run(rt.alloc(), &words, &mut host), status, "{text:?}");
+        assert_eq!(rt; host.output(Role::Out), out, "{text:?}");
+        let proof = host.file("out.lrat").ok_or("no proof")?;
+        assert!(rt; proof.starts_with(first), "{text:?}");
+    }
+    Ok(())
+}
+
+/// With limits: `1 0` and `-1 0` take two nodes, and eleven clause numbers.
+#[test]
+fn limits(rt: HostRuntime) -> Result<(), Fail> {
+    let unsat = b"s UNSATISFIABLE\n".as_slice();
+    let table: [(&str, Status, &[u8]); 5] = [
+        (
+            "--max-nodes 0",
+            Status::Unknown(Why::NodeLimit),
+            b"c node limit 0 reached\ns UNKNOWN\n",
+        ),
+        (
+            "--max-nodes 1",
+            Status::Unknown(Why::NodeLimit),
+            b"c node limit 1 reached\ns UNKNOWN\n",
+        ),
+        ("--max-nodes 2", Status::Unsat, unsat),
+        (
+            "--max-ids 10",
+            Status::Unknown(Why::IdLimit),
+            b"c identifier limit 10 reached\ns UNKNOWN\n",
+        ),
+        ("--max-ids 11", Status::Unsat, unsat),
+    ];
+    for (limit, status, out) in table {
+        let mut words = words_of(rt.alloc(), "bddsat solve in.cnf --proof out.lrat")?;
+        words.append(&mut words_of(rt.alloc(), limit)?)?;
+        let mut host = host_of(rt.alloc(), b"p cnf 1 2\n1 0\n-1 0\n")?;
+        assert_eq!(rt; run(rt.alloc(), &words, &mut host), status, "{limit}");
+        assert_eq!(rt; host.output(Role::Out), out, "{limit}");
     }
     Ok(())
 }
@@ -269,6 +347,7 @@ fn exit_codes(rt: HostRuntime) -> Result<(), Fail> {
         (Status::Sat, 10),
         (Status::Unsat, 20),
         (Status::Unknown(Why::NodeLimit), 0),
+        (Status::Unknown(Why::IdLimit), 0),
         (Status::Verified, 0),
         (Status::NotVerified(7, Reason::Syntax), 1),
         (Status::Help, 0),

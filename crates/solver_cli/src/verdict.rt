@@ -22,7 +22,7 @@ pub fn verdict_status(verdict: Verdict) -> Status
 }
 
 /// Prints the verdict and flushes standard output.
-pub fn put_verdict<H: Host>(host: &mut H, verdict: Verdict) -> Result<(), Status>
+pub fn put_verdict<H: Host>(host: &mut H, verdict: Verdict) -> Result<(), Failed>
     ensures puts { PutsText H.tells (H.channel host.old Out) (H.channel host.new Out) (verdict_text verdict) result }
     ensures kept { Kept Out (H.channel host.old Out).name (H.channel host.old) (H.channel host.new) (H.files host.old) (H.files host.new) }
 {
@@ -31,17 +31,12 @@ pub fn put_verdict<H: Host>(host: &mut H, verdict: Verdict) -> Result<(), Status
     print_verdict(&mut sink, verdict)
 }
 
-fn print_verdict<S: Sink>(sink: &mut S, verdict: Verdict) -> Result<(), Status>
+fn print_verdict<S: Sink>(sink: &mut S, verdict: Verdict) -> Result<(), Failed>
     ensures puts { PutsText S.tells (S.channel sink.old) (S.channel sink.new) (verdict_text verdict) result }
     ensures beside { S.beside sink.new ≡ S.beside sink.old }
 {
-    if write_verdict(sink, verdict).is_err() {
-        return Err(Status::WriteFault);
-    }
-    if sink.flush().is_err() {
-        return Err(Status::WriteFault);
-    }
-    Ok(())
+    write_verdict(sink, verdict)?;
+    sink.flush()
 }
 
 fn write_verdict<S: Sink>(sink: &mut S, verdict: Verdict) -> Result<(), Failed>

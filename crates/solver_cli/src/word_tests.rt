@@ -5,16 +5,17 @@ ghost use Rattle.host_io.specs.Memory.{channel_of, fresh};
 
 use crate::run::run;
 use crate::status::Status;
-use crate::words::gather;
+use crate::words::{Asked, gather, read_words};
 use host_io::{FailingHost, MemoryHost, OutOfMemory, Role};
 use lrat_rules::Reason;
 use std::alloc::{AllocError, Global};
 use std::test::Fail;
+use term_runner::Limits;
 
 const HELP: &str = "\
 Decides a CNF formula and proves the answer, or checks a proof.
 
-Usage: bddsat solve FILE --proof P
+Usage: bddsat solve FILE --proof P [--max-nodes N] [--max-ids N]
        bddsat check FILE PROOF
 
 Commands:
@@ -46,14 +47,16 @@ Example:
 const SOLVE_HELP: &str = "\
 Decides FILE, and writes the proof to P where it is unsatisfiable
 
-Usage: bddsat solve FILE --proof P
+Usage: bddsat solve FILE --proof P [--max-nodes N] [--max-ids N]
 
 Arguments:
   <FILE>  The formula, in DIMACS CNF
 
 Options:
-      --proof <P>  The file that the proof is written to, in LRAT
-  -h, --help       Print help
+      --proof <P>      The file that the proof is written to, in LRAT
+      --max-nodes <N>  The most nodes in use at once, 0 to 100000000 [default: 10000000]
+      --max-ids <N>    The greatest clause number, 0 to 1000000000 [default: 1000000000]
+  -h, --help           Print help
 
 Example:
   bddsat solve formula.cnf --proof formula.lrat
@@ -127,6 +130,78 @@ fn taken(rt: HostRuntime) -> Result<(), Fail> {
     Ok(())
 }
 
+/// The limits that the words give.
+#[test]
+fn limits(rt: HostRuntime) -> Result<(), Fail> {
+    let table: [(&[&str], u32, u64); 9] = [
+        (&[], 10_000_000, 1_000_000_000),
+        (&["--max-nodes", "5"], 5, 1_000_000_000),
+        (&["--max-nodes=5"], 5, 1_000_000_000),
+        (&["--max-ids", "7"], 10_000_000, 7),
+        (&["--max-nodes", "5", "--max-ids", "7"], 5, 7),
+        (&["--max-ids=7", "--max-nodes=5"], 5, 7),
+        (&["--max-nodes=0", "--max-ids=0"], 0, 0),
+        (
+            &["--max-nodes=100000000", "--max-ids=1000000000"],
+            100_000_000,
+            1_000_000_000,
+        ),
+        (&["--max-nodes=007", "--max-ids=000000000000000009"], 7, 9),
+    ];
+    for (list, max_nodes, max_ids) in table {
+        let mut words = words_of(rt.alloc(), &["bddsat", "solve", "in.cnf", "--proof", "out"])?;
+        for word in list {
+            words.push(word.to_string(rt.alloc())?)?;
+        }
+        let expected = Limits {
+            cache: 1_000_000,
+            max_nodes,
+            max_ids,
+        };
+        match read_words(rt.alloc(), &words) {
+            Ok(Asked::Solve(_, limits)) => assert_eq!(rt; limits, expected, "{list:?}"),
+            _ => assert!(rt; false, "{list:?}"),
+        }
+    }
+    Ok(())
+}
+
+/// Options of `solve` that are faulty.
+#[test]
+fn misused_limits(rt: HostRuntime) -> Result<(), Fail> {
+    let table: [&[&str]; 15] = [
+        &["--max-nodes"],
+        &["--max-nodes="],
+        &["--max-nodes", ""],
+        &["--max-nodes", "-1"],
+        &["--max-nodes=-1"],
+        &["--max-nodes", "+1"],
+        &["--max-nodes", "1x"],
+        &["--max-nodes", "1 "],
+        &["--max-nodes", "0000000000000000009"],
+        &["--max-nodes", "100000001"],
+        &["--max-nodes", "18446744073709551616"],
+        &["--max-nodes", "5", "--max-nodes", "5"],
+        &["--max-ids", "1000000001"],
+        &["--max-ids", "0000000000000000009"],
+        &["--max-ids"],
+    ];
+    for list in table {
+        let mut words = words_of(rt.alloc(), &["bddsat", "solve", "in.cnf", "--proof", "out"])?;
+        for word in list {
+            words.push(word.to_string(rt.alloc())?)?;
+        }
+        let mut host = host_of(rt.alloc())?;
+        assert_eq!(rt;
+            run(rt.alloc(), &words, &mut host),
+            Status::Usage,
+            "{list:?}"
+        );
+        assert!(rt; host.file("out").is_none(), "{list:?}");
+    }
+    Ok(())
+}
+
 /// Commands that judge a proof.
 #[test]
 fn taken_to_check(rt: HostRuntime) -> Result<(), Fail> {
@@ -151,7 +226,7 @@ fn taken_to_check(rt: HostRuntime) -> Result<(), Fail> {
 /// Faulty words.
 #[test]
 fn misused(rt: HostRuntime) -> Result<(), Fail> {
-    let table: [&[&str]; 33] = [
+    let table: [&[&str]; 34] = [
         &[],
         &["bddsat"],
         &["bddsat", ""],
@@ -192,6 +267,7 @@ fn misused(rt: HostRuntime) -> Result<(), Fail> {
         &["bddsat", "check", "in.cnf", "out", "more"],
         &["bddsat", "check", "in.cnf", "--proof", "out"],
         &["bddsat", "check", "in.cnf", "-f"],
+        &["bddsat", "check", "in.cnf", "empty", "--max-nodes", "5"],
         &["bddsat", "in.cnf", "check", "out"],
         &["bddsat", "help", "decide"],
         &["bddsat", "--version"],

@@ -1,24 +1,27 @@
 // The words of the command line: what the parser takes, and this program's own test of the names.
-ghost use Rattle.std.specs.Prelude.{◌≡◌, MatchOption, MatchResult, IfOk, IfErr, None, Some, map};
+ghost use Rattle.std.specs.Prelude.{◌≡◌, MatchOption, MatchResult, IfOk, IfErr, IfSome, None, Some, map};
 ghost use Rattle.std.specs.String.{string_bytes};
 ghost use Rattle.std.specs.Iterator.{IsFinite};
 ghost use Rattle.std.specs.Iterator.Runs.{WholeRun};
 ghost use Rattle.clap.specs.Words.{found_of, kind_of, rows_of, subcommand_rows_of};
-ghost use Rattle.solver_cli.specs.Command.{Asks, Misuse, command, command_means, taken_means, two_names};
+ghost use Rattle.term_runner.specs.Ends.{AreLimits};
+ghost use Rattle.solver_cli.specs.Command.{Asks, Misuse, check_means, command, command_means, limits_of, solve_means, taken_means, two_names};
 ghost use Rattle.solver_cli.specs.declared.status.Status.TheVariants.{OutOfMemory};
 ghost use Rattle.solver_cli.specs.Reading.{IsRefusal, IsRefusalOf, command_of, text_of};
 
+use crate::limits::limits_given;
 use crate::parser::parser;
 use crate::status::Status;
 use clap::ArgMatches;
 use clap::error::ErrorKind;
 use std::alloc::Global;
+use term_runner::Limits;
 
 /// What the words ask for.
 #[derive(Drop)]
 pub enum Asked<'a> {
-    /// To decide the formula, and to write the proof.
-    Solve(FileNames<'a>),
+    /// To decide the formula within the limits, and to write the proof.
+    Solve(FileNames<'a>, Limits),
     /// To judge the proof over the formula.
     Check(FileNames<'a>),
 }
@@ -42,8 +45,9 @@ pub enum Refusal {
 
 /// What the words ask for, the program's own name first.
 pub fn read_words(alloc: Global, words: &[String]) -> Result<Asked<'_>, Refusal>
-    ensures { MatchResult result (λ asked. command (map string_bytes words.now) ≡ Some (command_of asked))
+    ensures meant { MatchResult result (λ asked. command (map string_bytes words.now) ≡ Some (command_of asked))
         (IsRefusal (map string_bytes words.now)) }
+    ensures limits { IfOk result (λ asked. AreLimits (limits_of (command_of asked))) }
 {
     let Ok(parser) = parser(alloc) else {
         return Err(Refusal::OutOfMemory);
@@ -59,8 +63,9 @@ pub fn read_words(alloc: Global, words: &[String]) -> Result<Asked<'_>, Refusal>
 
 // What the words that the parser took ask for.
 fn asked_of<'a>(matches: &ArgMatches<'a>) -> Option<Asked<'a>>
-    ensures { MatchOption result (taken_means (subcommand_rows_of matches.now) ≡ Misuse)
+    ensures meant { MatchOption result (taken_means (subcommand_rows_of matches.now) ≡ Misuse)
         (λ asked. taken_means (subcommand_rows_of matches.now) ≡ Asks (command_of asked)) }
+    ensures limits { IfSome result (λ asked. AreLimits (limits_of (command_of asked))) }
 {
     match matches.subcommand() {
         Some((name, values)) => command_named(name, values),
@@ -70,22 +75,36 @@ fn asked_of<'a>(matches: &ArgMatches<'a>) -> Option<Asked<'a>>
 
 // The command of this name, with its values.
 fn command_named<'a>(name: &str, values: &ArgMatches<'a>) -> Option<Asked<'a>>
-    ensures { MatchOption result (command_means name.now (rows_of (found_of values.now)) ≡ Misuse)
+    ensures meant { MatchOption result (command_means name.now (rows_of (found_of values.now)) ≡ Misuse)
         (λ asked. command_means name.now (rows_of (found_of values.now)) ≡ Asks (command_of asked)) }
+    ensures limits { IfSome result (λ asked. AreLimits (limits_of (command_of asked))) }
 {
     if name == "solve" {
-        match two_names(values.get_str("FILE"), values.get_str("proof")) {
-            Some(files) => Some(Asked::Solve(files)),
-            None => None,
-        }
+        solve_asked(values)
     } else if name == "check" {
-        match two_names(values.get_str("FILE"), values.get_str("PROOF")) {
-            Some(files) => Some(Asked::Check(files)),
-            None => None,
-        }
+        check_asked(values)
     } else {
         None
     }
+}
+
+fn solve_asked<'a>(values: &ArgMatches<'a>) -> Option<Asked<'a>>
+    ensures meant { MatchOption result (solve_means (rows_of (found_of values.now)) ≡ Misuse)
+        (λ asked. solve_means (rows_of (found_of values.now)) ≡ Asks (command_of asked)) }
+    ensures limits { IfSome result (λ asked. AreLimits (limits_of (command_of asked))) }
+{
+    let files = two_names(values.get_str("FILE"), values.get_str("proof"))?;
+    let limits = limits_given(values.get_str("max-nodes"), values.get_str("max-ids"))?;
+    Some(Asked::Solve(files, limits))
+}
+
+fn check_asked<'a>(values: &ArgMatches<'a>) -> Option<Asked<'a>>
+    ensures meant { MatchOption result (check_means (rows_of (found_of values.now)) ≡ Misuse)
+        (λ asked. check_means (rows_of (found_of values.now)) ≡ Asks (command_of asked)) }
+    ensures limits { IfSome result (λ asked. AreLimits (limits_of (command_of asked))) }
+{
+    let files = two_names(values.get_str("FILE"), values.get_str("PROOF"))?;
+    Some(Asked::Check(files))
 }
 
 // The two names, which have to differ.

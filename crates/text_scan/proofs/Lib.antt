@@ -3,3 +3,4 @@ pub mod Turn
 pub mod Bridge
 pub mod Kept
 pub mod WordAhead
+pub mod Numeral

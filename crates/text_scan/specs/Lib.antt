@@ -3,3 +3,4 @@ pub mod Lexer
 pub mod Scan
 pub mod Decides
 pub mod Block
+pub mod Capped

@@ -5,10 +5,12 @@
 
 mod laws;
 mod lexer;
+mod number;
 mod scanner;
 mod token;
 
 pub use laws::{kept_word_law, short_text_law};
+pub use number::{plain_number, signed_number};
 pub use scanner::{ScanError, Scanner};
 pub use token::Token;
 

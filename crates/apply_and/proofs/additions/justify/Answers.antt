@@ -37,4 +37,11 @@ returns-clause-named g c =
     let mid = c.add_high.new.table.book.state in
     let new = c.add_low.new.table.book.state in
     let more : old.top ≤ mid.top = (c.in_ok-first.ensures.continues (λ is. cc)).extends.numbers.no_less in
-    IsNewJust-clause old new c.in_ok-id.id (omega (arith, more, c.in_ok-id.ensures.number.0)) c.in_ok-id.ensures.number.1
+    IsNewJust-clause old new c.in_ok-id.id (omega (arith, more, c.in_ok-id.ensures.number.0)) (omega (arith, c.in_ok-id.ensures.number.1))
+
+pub returns-clause-two_added : goal.returns-clause-two_added
+returns-clause-two_added g c id is =
+    let same : c.in_ok-id.id ≡ id = cc in
+    let first = c.in_ok-first.ensures.number in
+    let second = c.in_ok-id.ensures.number in
+    (omega (arith, first, second.0, same), omega (arith, second.1, same))

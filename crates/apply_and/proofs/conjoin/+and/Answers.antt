@@ -1,4 +1,4 @@
-use Rattle.std.proofs.Common.{◌≡◌, ap, refl, sym, subst, true, arith, ℕ, List, Ok, Err, Some, inl, inr, ◌<◌, ◌-◌, length}
+use Rattle.std.proofs.Common.{◌≡◌, ap, refl, sym, subst, true, arith, ℕ, List, Ok, Err, Some, Contains, inl, inr, ◌<◌, ◌-◌, length}
 use Rattle.std.specs.Prelude.{min}
 use Rattle.node_table.specs.declared.error.TableError.TheVariants.{NodeLimit, WriteFault}
 use Rattle.node_table.specs.declared.node.Node.{Node}
@@ -79,6 +79,11 @@ returns-in_err-low-clause-continues g t c whole =
     c.progress_law.ensures.further _ _ _ _ _ _ (c.in_ok-high.ensures.continues (λ is. cc))
     (c.in_err-low.ensures.continues (λ is. whole (handed_on _ c.in_err-low.field-0.0 WriteFault c.from_residual-in_err-low.ensures.1 (let same : c.in_err-low.field-0.0 ≡ WriteFault = cc in same))))
 
+pub returns-in_err-low-clause-broken : goal.returns-in_err-low-clause-broken
+returns-in_err-low-clause-broken g t c is =
+    c.progress_law.ensures.broken _ _ _ _ _ _ (c.in_ok-high.ensures.continues (λ is. cc))
+    (c.in_err-low.ensures.broken (ap Err (came_from _ c.in_err-low.field-0.0 WriteFault c.from_residual-in_err-low.ensures.1 is)))
+
 pub finish-requires-clause-split : goal.finish-requires-clause-split
 finish-requires-clause-split g t c =
     let growth : Growth = record { stands = c.growth_law.ensures.stands; level = c.growth_law.ensures.level; high = c.growth_law.ensures.high; low = c.growth_law.ensures.low; value = c.growth_law.ensures.value; atom = c.growth_law.ensures.atom; justified = c.growth_law.ensures.justified } in
@@ -109,6 +114,12 @@ returns-in_err-found-clause-continues g t c whole =
     c.progress_law.ensures.further _ _ _ _ _ _ (c.in_ok-high.ensures.continues (λ is. cc))
     (c.progress_law.ensures.further _ _ _ _ _ _ (c.in_ok-low.ensures.continues (λ is. cc))
     (c.in_err-found.ensures.continues (λ is. whole (handed_on _ c.in_err-found.field-0.0 WriteFault c.from_residual-in_err-found.ensures.1 (let same : c.in_err-found.field-0.0 ≡ WriteFault = cc in same)))))
+
+pub returns-in_err-found-clause-broken : goal.returns-in_err-found-clause-broken
+returns-in_err-found-clause-broken g t c is =
+    c.progress_law.ensures.broken _ _ _ _ _ _ (c.in_ok-high.ensures.continues (λ is. cc))
+    (c.progress_law.ensures.broken _ _ _ _ _ _ (c.in_ok-low.ensures.continues (λ is. cc))
+    (c.in_err-found.ensures.broken (ap Err (came_from _ c.in_err-found.field-0.0 WriteFault c.from_residual-in_err-found.ensures.1 is))))
 
 pub returns-in_err-found-clause-fits : goal.returns-in_err-found-clause-fits
 returns-in_err-found-clause-fits g t c whole =
@@ -361,3 +372,38 @@ returns-in_err-keep-clause-plain g t c w plain = absurd (not_plain c.args.u c.ar
 
 pub returns-clause-plain : goal.returns-clause-plain
 returns-clause-plain g t c w plain = absurd (not_plain c.args.u c.args.v w c.in_default.ensures.conjoined.0 c.in_default.ensures.conjoined.1 c.in_default.ensures.conjoined.2 plain)
+
+pub returns-in_err-high-clause-known : goal.returns-in_err-high-clause-known
+returns-in_err-high-clause-known g t c entry there own = absurd (c.in_default-look.ensures entry there own)
+
+pub returns-in_err-low-clause-known : goal.returns-in_err-low-clause-known
+returns-in_err-low-clause-known g t c entry there own = absurd (c.in_default-look.ensures entry there own)
+
+pub returns-in_err-found-clause-known : goal.returns-in_err-found-clause-known
+returns-in_err-found-clause-known g t c entry there own = absurd (c.in_default-look.ensures entry there own)
+
+pub returns-in_err-keep-clause-known : goal.returns-in_err-keep-clause-known
+returns-in_err-keep-clause-known g t c entry there own = absurd (c.in_default-look.ensures entry there own)
+
+pub returns-clause-known : goal.returns-clause-known
+returns-clause-known g t c entry there own = absurd (c.in_default-look.ensures entry there own)
+
+pub returns-in_err-low-clause-remembered : goal.returns-in_err-low-clause-remembered
+returns-in_err-low-clause-remembered g t c entry there = c.in_err-low.ensures.remembered entry (c.in_ok-high.ensures.remembered entry there)
+
+pub returns-in_err-found-clause-remembered : goal.returns-in_err-found-clause-remembered
+returns-in_err-found-clause-remembered g t c entry there = c.in_ok-low.ensures.remembered entry (c.in_ok-high.ensures.remembered entry there)
+
+pub returns-in_err-keep-clause-remembered : goal.returns-in_err-keep-clause-remembered
+returns-in_err-keep-clause-remembered g t c entry there =
+    subst (λ (list : List Entry). Contains list entry) (sym c.in_err-keep.ensures.refused) (c.in_ok-low.ensures.remembered entry (c.in_ok-high.ensures.remembered entry there))
+
+pub returns-clause-remembered : goal.returns-clause-remembered
+returns-clause-remembered g t c entry there =
+    (c.in_ok-keep.ensures.kept entry).1 (inr (c.in_ok-low.ensures.remembered entry (c.in_ok-high.ensures.remembered entry there), c.in_default-look.ensures entry there))
+
+pub returns-in-Some-clause-kept : goal.returns-in-Some-clause-kept
+returns-in-Some-clause-kept g t c differ first second = absurd (not_plain c.args.u c.args.v c.in-Some.w differ first second c.in-Some.ensures.plain)
+
+pub returns-clause-kept : goal.returns-clause-kept
+returns-clause-kept g t c differ first second = (c.in_ok-keep.ensures.kept _).1 (inl refl)

@@ -68,6 +68,11 @@ returns-in_err-just-clause-continues g c whole =
     c.progress_law.ensures.further _ _ _ _ _ _ (c.in_ok-w.ensures.continues (λ is. cc))
     (c.in_err-just.ensures.continues (λ is. whole (handed_on _ c.in_err-just.field-0.0 WriteFault c.from_residual-in_err-just.ensures.1 (let same : c.in_err-just.field-0.0 ≡ WriteFault = cc in same))))
 
+pub returns-in_err-just-clause-broken : goal.returns-in_err-just-clause-broken
+returns-in_err-just-clause-broken g c is =
+    c.progress_law.ensures.broken _ _ _ _ _ _ (c.in_ok-w.ensures.continues (λ is. cc))
+    (c.in_err-just.ensures.broken (ap Err (came_from _ c.in_err-just.field-0.0 WriteFault c.from_residual-in_err-just.ensures.1 is)))
+
 pub returns-clause-conjoined : goal.returns-clause-conjoined
 returns-clause-conjoined g c =
     let laws : Cofactors = record { value = c.cofactor_law.ensures.value; high = c.cofactor_law.ensures.high; low = c.cofactor_law.ensures.low } in

@@ -15,6 +15,6 @@ same_state {S} book other is = ap (λ (b : Book S). b.state) is
 
 pub returns-in-Ok-open-clause-tied : goal.returns-in-Ok-open-clause-tied
 returns-in-Ok-open-clause-tied c =
-    let graph : Graph = record { order = c.order.result; nodes = map.empty } in
+    let graph : Graph = record { order = c.args.order.now; nodes = map.empty } in
     opened_tied c.in-Ok-open.table _ c.in-Ok-open.ensures.opened
-    (subst (λ (s : State). IsTied graph s) (sym (same_state c.in-Ok.ledger _ c.in-Ok.ensures.opened ∙ ap start c.no_clauses-formula.ensures)) (c.opening_law.ensures c.order.result [] c.order.ensures.order refl))
+    (subst (λ (s : State). IsTied graph s) (sym (same_state c.in-Ok.ledger _ c.in-Ok.ensures.opened ∙ ap start c.no_clauses-formula.ensures)) (c.opening_law.ensures c.args.order.now [] c.requires.order refl))

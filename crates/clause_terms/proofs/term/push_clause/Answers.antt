@@ -1,4 +1,4 @@
-use Rattle.std.proofs.Common.{◌≡◌, Err, ap, List, [], ◌∷◌, sym, subst}
+use Rattle.std.proofs.Common.{◌≡◌, ◌∙◌, Err, ap, List, [], ◌∷◌, sym, subst}
 use Rattle.hint_chain.specs.declared.unit.UnitPart.{UnitPart}
 use Rattle.node_table.specs.declared.error.TableError.TheVariants.{NodeLimit, WriteFault}
 use Rattle.node_table.specs.declared.node.Just.TheVariants.{Clause}
@@ -119,3 +119,6 @@ returns-in_err-node-clause-lacks g c full =
     let in_order : AreInOrder old clause placed = subst (AreInOrder old clause) (sym c.as_slice-2.ensures.value) c.in_ok-placed.ensures in
     lacked_by_values c.build.new.table.graph (placed_function placed) (clause_function old.order clause) (λ a. sym (same_function old c.is_reduced.ensures.ordered clause placed in_order a))
     (c.in_err-node.ensures.lacks (ap Err (came_from _ c.in_err-node.field-0.0 NodeLimit c.from_residual-in_err-node.ensures.1 full)))
+
+pub returns-clause-last : goal.returns-clause-last
+returns-clause-last g c id is = let same : c.in_ok-id.id ≡ id = cc in sym same ∙ c.in_ok-id.ensures.one.1

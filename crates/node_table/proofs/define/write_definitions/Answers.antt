@@ -9,6 +9,7 @@ use Rattle.node_table.specs.Defined.{one_if, is_always, ups_from}
 use Rattle.node_table.proofs.DefineClauses.{is_some-clause_of}
 use Rattle.node_table.proofs.DefineGood.{IsStart, lu_definition, hd_definition, ld_definition, ups_are, top_after_hd}
 use Rattle.node_table.proofs.DefineSteps.{AreWritten-none, AreWritten-more, IsTorn-next, IsCallOf, hu_of, lu_of, hd_of, ld_of}
+use Rattle.node_table.proofs.Stands.{Grows-none, Grows-reached}
 use Rattle.node_table.proofs.define.write_definitions.Goals as goal
 
 -- equal atoms give one clause
@@ -168,3 +169,33 @@ returns-clause-lines g c tells =
     let ld : IsCallOf (clause_of (Of c.negated-not_u.result ∷ Of x ∷ low ∷ [])) (take c.in_row-ids.result.1 c.in_row-ids.result.0) (ld_of u x high low (state.top + 1)) = record { clause = clauses_alike c.negated-not_u.ensures refl refl; candidates = ups } in
     let four = AreWritten-more three ld c.in_ok-write_one-2.ensures.written c.in_ok-write_one-2.ensures.lines c.in_ok-write_one-2.ensures.only_writes in
     four.lines tells
+
+pub returns-in_err-hu-clause-stays : goal.returns-in_err-hu-clause-stays
+returns-in_err-hu-clause-stays g c failed =
+    let state = c.args.ledger.now.state in
+    let none = Grows-none state c.last_id.ensures.numbers in
+    (Grows-reached state state c.write_one.new.ledger.state (clause_of (Of c.args.u ∷ Of c.negated-not_x.result ∷ c.negated.result ∷ [])) none (c.in_err-hu.ensures.fault_state refl)).clauses
+
+pub returns-in_err-lu-clause-stays : goal.returns-in_err-lu-clause-stays
+returns-in_err-lu-clause-stays g c failed =
+    let state = c.args.ledger.now.state in
+    let none = Grows-none state c.last_id.ensures.numbers in
+    let one = Grows-reached state state c.write_one.new.ledger.state (clause_of (Of c.args.u ∷ Of c.negated-not_x.result ∷ c.negated.result ∷ [])) none c.in_ok-hu.ensures.written in
+    (Grows-reached state c.write_one.new.ledger.state c.write_one-2.new.ledger.state (clause_of (Of c.args.u ∷ Of c.args.x ∷ c.negated-2.result ∷ [])) one (c.in_err-lu.ensures.fault_state refl)).clauses
+
+pub returns-in_err-write_one-clause-stays : goal.returns-in_err-write_one-clause-stays
+returns-in_err-write_one-clause-stays g c failed =
+    let state = c.args.ledger.now.state in
+    let none = Grows-none state c.last_id.ensures.numbers in
+    let one = Grows-reached state state c.write_one.new.ledger.state (clause_of (Of c.args.u ∷ Of c.negated-not_x.result ∷ c.negated.result ∷ [])) none c.in_ok-hu.ensures.written in
+    let two = Grows-reached state c.write_one.new.ledger.state c.write_one-2.new.ledger.state (clause_of (Of c.args.u ∷ Of c.args.x ∷ c.negated-2.result ∷ [])) one c.in_ok-lu.ensures.written in
+    (Grows-reached state c.write_one-2.new.ledger.state c.write_one-3.new.ledger.state (clause_of (Of c.negated-not_u.result ∷ Of c.negated-not_x.result ∷ c.args.high.now ∷ [])) two (c.in_err-write_one.ensures.fault_state refl)).clauses
+
+pub returns-in_err-write_one-2-clause-stays : goal.returns-in_err-write_one-2-clause-stays
+returns-in_err-write_one-2-clause-stays g c failed =
+    let state = c.args.ledger.now.state in
+    let none = Grows-none state c.last_id.ensures.numbers in
+    let one = Grows-reached state state c.write_one.new.ledger.state (clause_of (Of c.args.u ∷ Of c.negated-not_x.result ∷ c.negated.result ∷ [])) none c.in_ok-hu.ensures.written in
+    let two = Grows-reached state c.write_one.new.ledger.state c.write_one-2.new.ledger.state (clause_of (Of c.args.u ∷ Of c.args.x ∷ c.negated-2.result ∷ [])) one c.in_ok-lu.ensures.written in
+    let three = Grows-reached state c.write_one-2.new.ledger.state c.write_one-3.new.ledger.state (clause_of (Of c.negated-not_u.result ∷ Of c.negated-not_x.result ∷ c.args.high.now ∷ [])) two c.in_ok-write_one.ensures.written in
+    (Grows-reached state c.write_one-3.new.ledger.state c.write_one-4.new.ledger.state (clause_of (Of c.negated-not_u.result ∷ Of c.args.x ∷ c.args.low.now ∷ [])) three (c.in_err-write_one-2.ensures.fault_state refl)).clauses

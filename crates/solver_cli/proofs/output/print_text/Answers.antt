@@ -1,17 +1,9 @@
-use Rattle.std.proofs.Common.{rules, List, ℕ, take, drop, sym, ◌∙◌}
-use Rattle.std.proofs.lemmas.List.{take-append-drop}
+use Rattle.std.proofs.Common.{rules, List, ℕ, subst}
+use Rattle.solver_cli.specs.Phases.{PutsText}
+use Rattle.solver_cli.proofs.Puts.{cut_short}
 use Rattle.solver_cli.proofs.output.print_text.Goals as goal
 
-pub returns-then-is_err-clause-puts : goal.returns-then-is_err-clause-puts
-returns-then-is_err-clause-puts g c =
-    let writes = c.write_all.ensures.writes in
-    let text : List ℕ = c.as_bytes.result.now in
-    record {
-      done = λ t ok. cc;
-      flushed = λ t ok. cc;
-      front = λ t. let cut = writes.failed t (search rules) in (take cut.0 text, drop cut.0 text, cut.1, sym c.as_bytes.ensures.value ∙ sym (take-append-drop cut.0 text));
-      silent = λ e. cc;
-      fault = λ e. writes.faults.cause (search rules);
-      statuses = tt;
-      only = record { name = writes.name; faults = writes.faults.no_less };
-    }
+pub returns-in_err-write_all-clause-puts : goal.returns-in_err-write_all-clause-puts
+returns-in_err-write_all-clause-puts g c =
+    subst (λ (text : List ℕ). PutsText g.S.Sink.tells (g.S.Sink.channel c.args.sink.now) (g.S.Sink.channel c.write_all.new.sink) text c.from_residual.result) c.as_bytes.ensures.value
+    (cut_short c.from_residual.result c.in_err-write_all.ensures.writes (search rules))

@@ -1,18 +1,6 @@
-use Rattle.std.proofs.Common.{rules, take, drop, sym}
-use Rattle.std.proofs.lemmas.List.{take-append-drop}
-use Rattle.solver_cli.specs.Verdict.{verdict_text}
+use Rattle.std.proofs.Common.{rules}
+use Rattle.solver_cli.proofs.Puts.{cut_short}
 use Rattle.solver_cli.proofs.verdict.print_verdict.Goals as goal
 
-pub returns-then-is_err-clause-puts : goal.returns-then-is_err-clause-puts
-returns-then-is_err-clause-puts g c =
-    let writes = c.write_verdict.ensures.writes in
-    let text = verdict_text c.args.verdict in
-    record {
-      done = λ t ok. cc;
-      flushed = λ t ok. cc;
-      front = λ t. let cut = writes.failed t (search rules) in (take cut.0 text, drop cut.0 text, cut.1, sym (take-append-drop cut.0 text));
-      silent = λ e. cc;
-      fault = λ e. writes.faults.cause (search rules);
-      statuses = tt;
-      only = record { name = writes.name; faults = writes.faults.no_less };
-    }
+pub returns-in_err-write_verdict-clause-puts : goal.returns-in_err-write_verdict-clause-puts
+returns-in_err-write_verdict-clause-puts g c = cut_short c.from_residual.result c.in_err-write_verdict.ensures.writes (search rules)

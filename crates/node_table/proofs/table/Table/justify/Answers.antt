@@ -1,9 +1,10 @@
-use Rattle.std.proofs.Common.{rules, ◌≡◌, ◌≢◌, Err, sym, ap, ◌∙◌, subst}
+use Rattle.std.proofs.Common.{rules, ◌≡◌, ◌≢◌, ℕ, Result, Ok, Err, sym, ap, ◌∙◌, subst}
 use Rattle.clause_ledger.specs.Book.{Book}
+use Rattle.node_table.specs.declared.error.TableError.{TableError}
 use Rattle.node_table.specs.declared.error.TableError.TheVariants.{WriteFault}
-use Rattle.node_table.specs.Tied.{IsTied, IsOverNodes, Extends}
+use Rattle.node_table.specs.Tied.{IsTied, IsOverNodes, Extends, Stays}
 use Rattle.node_table.specs.Table.{TableState}
-use Rattle.node_table.proofs.Justified.{justified_tied, justified_extends, same_extends, not_torn}
+use Rattle.node_table.proofs.Justified.{justified_tied, justified_extends, justified_stays, same_extends, not_torn, torn}
 use Rattle.node_table.proofs.table.Table.justify.Goals as goal
 use Rattle.node_table.proofs.table.Table.justify.Goals.{in-Ok, in-Err}
 
@@ -41,3 +42,19 @@ returns-clause-extends g c =
           subst (Extends graph graph state) (sym unchanged) (same_extends graph state tied)
     ] in
     subst (λ (t : TableState g.row.S.Denot). c.match-add.result ≢ Err WriteFault → Extends t.graph graph t.book.state c.add.new.self.state) c.self.view_is extends
+
+pub returns-clause-stays : goal.returns-clause-stays
+returns-clause-stays g c =
+    let state = c.self.inside.ledger.state in
+    let graph = c.self.inside.diagram in
+    let tied : IsTied graph state = search (rules, c.self.view_is) in
+    let stays : c.match-add.result ≡ Err WriteFault → Stays graph graph state c.add.new.self.state =
+    elim c.match-add.branch [
+      | in-Ok w ↦ λ is. absurd (let bad : ◌≡◌ {A = Result ℕ TableError} (Ok w.in-Ok.id) (Err WriteFault) = sym w.result-is ∙ is in cc)
+      | in-Err w ↦ λ is.
+          let error : w.from.result ≡ WriteFault = (let same : ◌≡◌ {A = Result ℕ TableError} (Err w.from.result) (Err WriteFault) = sym w.result-is ∙ is in cc) in
+          torn w.in-Err.e
+          (λ fault. subst (Stays graph graph state) (sym (c.add.ensures.fault_state (w.in-Err.is ∙ ap Err fault))) (justified_stays graph state c.args.clause.now tied))
+          (sym w.from.ensures ∙ error)
+    ] in
+    subst (λ (t : TableState g.row.S.Denot). c.match-add.result ≡ Err WriteFault → Stays t.graph graph t.book.state c.add.new.self.state) c.self.view_is stays

@@ -1,11 +1,11 @@
-use Rattle.std.proofs.Common.{rules, ◌≡◌, true, sym, ap, subst, arith}
+use Rattle.std.proofs.Common.{rules, ◌≡◌, true, refl, sym, ap, subst, arith}
 use Rattle.lrat_rules.specs.State.{State}
 use Rattle.clause_ledger.specs.Book.{Book}
 use Rattle.node_table.specs.Diagram.{is_node}
-use Rattle.node_table.specs.Tied.{IsTied}
+use Rattle.node_table.specs.Tied.{IsTied, KeepsClauses, Stays}
 use Rattle.node_table.specs.Defined.{IsNewVariable}
 use Rattle.node_table.specs.Table.{TableState}
-use Rattle.node_table.proofs.Fresh.{new_variable, live_more}
+use Rattle.node_table.proofs.Fresh.{new_variable, live_more, KeepsNodes-new}
 use Rattle.node_table.proofs.table.Table.make.Goals as goal
 
 pub write_definitions-requires-clause-new_variable : goal.write_definitions-requires-clause-new_variable
@@ -28,3 +28,15 @@ invariant_of-self-in_err-write_definitions g c =
 pub invariant_of-self-2 : goal.invariant_of-self-2
 invariant_of-self-2 g c =
     (c.self.invariant.0, omega (arith, live_more c.self.inside.diagram c.push.new.self c.in_ok-key.key.index c.in_ok-key.ensures.ok, c.if-len-self.false, c.len.ensures))
+
+pub returns-in_err-write_definitions-clause-stays : goal.returns-in_err-write_definitions-clause-stays
+returns-in_err-write_definitions-clause-stays g c failed =
+    let graph = c.self.inside.diagram in
+    let state = c.self.inside.ledger.state in
+    let new = c.write_definitions.new.ledger.state in
+    let live : c.reserve.new.self.state ≡ state = ap (λ (b : Book g.row.S.Denot). b.state) c.reserve.ensures.unchanged in
+    let stays : Stays graph c.push.new.self state new = record {
+      nodes = KeepsNodes-new graph c.push.new.self c.in_ok-key.key.index c.in_ok-key.ensures.ok;
+      clauses = subst (λ (s : State). KeepsClauses s.live new.live) live (c.in_err-write_definitions.ensures.stays refl);
+    } in
+    subst (λ (t : TableState g.row.S.Denot). Stays t.graph c.push.new.self t.book.state new) c.self.view_is stays

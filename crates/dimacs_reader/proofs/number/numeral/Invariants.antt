@@ -1,6 +1,0 @@
--- So far all bytes were digits.
-use Rattle.dimacs_reader.proofs.Numeral.{IsNumeralFrom}
-use Rattle.dimacs_reader.proofs.number.numeral.Given as goal
-
-abbrev pub invariant-loop-digit : goal.invariant-loop-digit
-invariant-loop-digit l = IsNumeralFrom l.digits l.digit-index l.value

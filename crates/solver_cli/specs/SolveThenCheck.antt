@@ -1,0 +1,38 @@
+-- What `check` answers to the proof that `solve` left.
+use Rattle.std.specs.Prelude.{◌≡◌, ◌⊎◌, ◌<◌, ℕ, List, Some, length, IsTrue, ⊤}
+use Rattle.host_io.specs.declared.role.Role.TheVariants.{Cnf, ProofIn, ProofOut, Out}
+use Rattle.lrat_checker.specs.TextVerdict.{max_bytes}
+use Rattle.solver_cli.specs.declared.status.Status.{Status}
+use Rattle.solver_cli.specs.declared.status.Status.TheVariants.{Sat, Unsat, Unknown, Verified, NotVerified, Help, Usage, CnfRefused, TooLong, ReadFault, WriteFault, OutOfMemory}
+use Rattle.solver_cli.specs.Command.{Command, Check, formula_file, command}
+use Rattle.solver_cli.specs.Headline.{Run, written_in, HasFault}
+
+-- One run found a formula unsatisfiable. Another judges a proof over the same text of a formula, and the proof's file
+-- holds the bytes that the first run wrote as its proof.
+pub record ChecksSolved (solved checked : Run) : Type 0 where
+  pub solved_tells : IsTrue solved.tells
+  pub checked_tells : IsTrue checked.tells
+  pub unsatisfiable : solved.status ≡ Unsat
+  pub solve : Command
+  pub solve_asked : command solved.words ≡ Some solve
+  pub file : List ℕ
+  pub proof : List ℕ
+  pub check_asked : command checked.words ≡ Some (Check file proof)
+  pub same_formula : checked.files file ≡ solved.files (formula_file solve)
+  pub same_proof : checked.files proof ≡ Some (written_in solved ProofOut)
+
+-- How the run that judges these bytes may end: they are verified, unless memory ran out, they are more than are looked
+-- at, or a call of the host failed.
+abbrev pub MayEnd : Run → List ℕ → Status → Type 0
+MayEnd run bytes Sat = ⊥
+MayEnd run bytes Unsat = ⊥
+MayEnd run bytes (Unknown why) = ⊥
+MayEnd run bytes Verified = ⊤
+MayEnd run bytes (NotVerified line reason) = ⊥
+MayEnd run bytes Help = ⊥
+MayEnd run bytes Usage = ⊥
+MayEnd run bytes (CnfRefused kind line) = ⊥
+MayEnd run bytes (TooLong role) = (role ≡ ProofIn) × (max_bytes < length bytes)
+MayEnd run bytes ReadFault = HasFault run Cnf ⊎ HasFault run ProofIn
+MayEnd run bytes WriteFault = HasFault run ProofOut ⊎ HasFault run Out
+MayEnd run bytes OutOfMemory = ⊤

@@ -1,0 +1,16 @@
+pub mod Ending
+pub mod OneLine
+pub mod FirstEmpty
+pub mod Tautologies
+pub mod Emptied
+pub mod Plans
+pub mod Units
+pub mod Least
+pub mod Stacks
+pub mod Joins
+pub mod Inputs
+pub mod HandedOn
+pub mod Taking
+pub mod Between
+pub mod Opening
+pub mod Planned

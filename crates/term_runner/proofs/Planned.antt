@@ -1,0 +1,128 @@
+-- The nodes that a plan's moves make are of parts of its terms.
+use Rattle.std.proofs.Common.{◌≡◌, ℕ, zero, suc, ◌<◌, ◌⊎◌, true, false, ◌&&◌, List, [], ◌∷◌, take, Option, None, Some, is_some, Result, Ok, Err, refl, sym, ap, ◌∙◌, subst, arith, inl, inr, eq-eqb, ne_eqb}
+use Rattle.std.specs.Prelude.{IsTrue, IfErr, ◌==◌, if◌then◌else◌}
+use Rattle.std.specs.List.{slice_get}
+use Rattle.std.specs.Option.{option_and_then}
+use Rattle.std.proofs.lemmas.List.Sums.{position_or_len_is}
+use Rattle.cnf_base.specs.Formula.{Formula}
+use Rattle.lrat_rules.specs.State.{Live}
+use Rattle.node_table.specs.declared.node.Node.{Node}
+use Rattle.node_table.specs.declared.node.Node.TheVariants.{False, True, Inner}
+use Rattle.node_table.specs.declared.node.Just.{Just}
+use Rattle.node_table.specs.declared.error.TableError.{TableError}
+use Rattle.node_table.specs.declared.error.TableError.TheVariants.{NodeLimit, OutOfMemory}
+use Rattle.node_table.specs.Diagram.{Graph, IsOrder, IsReduced, KeepsNodes, branch_at, is_node, levels, variable_at}
+use Rattle.node_table.specs.Value.{Levels, branch_value, by_level, value_of, value_within}
+use Rattle.node_table.specs.Made.{LacksPart, MakesOnly}
+use Rattle.node_table.specs.Table.{live_nodes}
+use Rattle.node_table.proofs.Values.{branch_of_node}
+use Rattle.schedule_plan.specs.declared.plan.Move.{Move}
+use Rattle.schedule_plan.specs.Plan.{Term, both, Stage, term_holds, after_move, after_moves, no_stage}
+use Rattle.clause_terms.specs.Term.{IsTerm, by_variable}
+use Rattle.apply_and.specs.Conjunction.{conjunction_of}
+use Rattle.term_runner.specs.Needs.{IsPlanned, NeedsMore, RunsShort, term_function, top_function}
+
+-- the nodes look at no other levels than those of the order
+module _ (graph : Graph) (reduced : IsReduced graph) (ordered : IsOrder graph.order) where
+  value_there : (a : Levels) (level : ℕ) → level < levels graph → by_variable graph.order a (variable_at graph level) ≡ a level
+  value_there a level small =
+      ap a (position_or_len_is (λ x. x == variable_at graph level) graph.order level 0 (omega (arith, small))
+      (λ k before. ne_eqb (variable_at graph k) (variable_at graph level) (λ same. omega (arith, before, ordered.apart k level (omega (arith, before, small)) small same)))
+      (λ _. eq-eqb (variable_at graph level) (variable_at graph level) refl))
+
+  agree_within : (steps : ℕ) (a b : Levels) (node : Node) → is_node graph node ≡ true → ((level : ℕ) → level < levels graph → a level ≡ b level) → value_within steps graph a node ≡ value_within steps graph b node
+  agree_within steps a b False is same = refl
+  agree_within steps a b True is same = refl
+  agree_within zero a b (Inner key) is same = refl
+  agree_within (suc steps) a b (Inner key) is same =
+      let branch = branch_of_node graph key is in
+      let at = branch.1 in
+      let same_high : value_within steps graph a branch.0.high ≡ value_within steps graph b branch.0.high = agree_within steps a b branch.0.high (reduced.high key.index branch.0 at).stands same in
+      let same_low : value_within steps graph a branch.0.low ≡ value_within steps graph b branch.0.low = agree_within steps a b branch.0.low (reduced.low key.index branch.0 at).stands same in
+      let same_here : a branch.0.level ≡ b branch.0.level = same branch.0.level (reduced.level key.index branch.0 at) in
+      ap (branch_value a (value_within steps graph a)) at
+      ∙ (λ i. if same_here i then same_high i else same_low i)
+      ∙ sym (ap (branch_value b (value_within steps graph b)) at)
+
+  node_function : (formula : Formula) (live : Live) (node : Node) (unit : Just) (term : Term) → IsTerm graph live (λ a. term_holds formula a term) node unit → (a : Levels) → value_of graph a node ≡ term_function formula graph.order term a
+  node_function formula live node unit term is a =
+      sym (agree_within (levels graph) (by_level graph.order (by_variable graph.order a)) a node is.stands (λ level small. value_there a level small)) ∙ is.value (by_variable graph.order a)
+
+  -- the conjunction of two terms' nodes
+  pub both_function : (formula : Formula) (live : Live) (u v : Node) (first second : Just) (one other : Term) → IsTerm graph live (λ a. term_holds formula a one) u first → IsTerm graph live (λ a. term_holds formula a other) v second
+      → conjunction_of graph u v ≡ term_function formula graph.order (both one other)
+  both_function formula live u v first second one other is_u is_v =
+      λ i a. node_function formula live u first one is_u a i && node_function formula live v second other is_v a i
+
+-- a front of the moves, and one move more
+pub moved_on : (formula : Formula) (moves : List Move) (i : ℕ) (step : Move) (first stage next : Stage) → slice_get moves i ≡ Some step → after_moves formula first (take i moves) ≡ Some stage
+    → after_move formula stage step ≡ Some next → after_moves formula first (take (suc i) moves) ≡ Some next
+moved_on formula [] zero step first stage next at front is = cc
+moved_on formula [] (suc i) step first stage next at front is = cc
+moved_on formula (move ∷ moves) zero step first stage next at front is =
+    ap (option_and_then (λ (later : Stage). Some later)) ((λ k. after_move formula (inside_stage first stage front k) (inside_move move step at k)) ∙ is)
+  where
+    inside_stage : (s t : Stage) → Some s ≡ Some t → s ≡ t
+    inside_stage s t e = cc
+
+    inside_move : (s t : Move) → Some s ≡ Some t → s ≡ t
+    inside_move s t e = cc
+moved_on formula (move ∷ moves) (suc i) step first stage next at front is = go (λ later e. moved_on formula moves i step later stage next at e is) (after_move formula first move) front
+  where
+    go : ((later : Stage) → after_moves formula later (take i moves) ≡ Some stage → after_moves formula later (take (suc i) moves) ≡ Some next) → (o : Option Stage)
+        → option_and_then (λ later. after_moves formula later (take i moves)) o ≡ Some stage → option_and_then (λ later. after_moves formula later (take (suc i) moves)) o ≡ Some next
+    go further None e = cc
+    go further (Some later) e = further later e
+
+abbrev pub ValueLaw : Type 0
+ValueLaw = (old new : Graph) → IsReduced old → KeepsNodes old new → (a : Levels) (node : Node) → IsTrue (is_node old node) → value_of new a node ≡ value_of old a node
+
+-- the nodes made so far, and those of one move more
+pub record AreMade (formula : Formula) (order : List ℕ) (moves : List Move) (old new : Graph) : Type 0 where
+  pub planned : (node : Node) → IsTrue (is_node new node) → IsTrue (is_node old node) ⊎ IsPlanned formula order moves (λ a. value_of new a node)
+
+pub none_made : (formula : Formula) (order : List ℕ) (moves : List Move) (graph : Graph) → AreMade formula order moves graph graph
+none_made formula order moves graph = record { planned = λ node is. inl is }
+
+pub more_made : ValueLaw → (formula : Formula) (order : List ℕ) (moves : List Move) (old mid new : Graph) → IsReduced mid → KeepsNodes mid new → AreMade formula order moves old mid
+    → (count : ℕ) (stage : Stage) → after_moves formula no_stage (take count moves) ≡ Some stage → MakesOnly mid new (top_function formula order stage.stack) → AreMade formula order moves old new
+more_made law formula order moves old mid new reduced keeps before count stage reached made = record {
+  planned = λ node is. elim (made.each node is) [
+    | inr part ↦ inr (record { count = count; stage = stage; reached = reached; is_part = part })
+    | inl there ↦ elim (before.planned node there) [
+      | inl first ↦ inl first
+      | inr part ↦ inr (subst (IsPlanned formula order moves) (λ k a. sym (law mid new reduced keeps a node there) k) part)
+    ]
+  ];
+}
+
+pub runs_short : (formula : Formula) (order : List ℕ) (moves : List Move) (old new : Graph) → AreMade formula order moves old new
+    → (count : ℕ) (stage : Stage) → after_moves formula no_stage (take count moves) ≡ Some stage → LacksPart new (top_function formula order stage.stack) → RunsShort formula order moves old new
+runs_short formula order moves old new made count stage reached lacks = record {
+  planned = made.planned;
+  further = lacks.part;
+  is_planned = record { count = count; stage = stage; reached = reached; is_part = lacks.is_part };
+  nowhere = lacks.nowhere;
+}
+
+-- where there was no node before
+pub needs_more : (formula : Formula) (order : List ℕ) (moves : List Move) (old new : Graph) (number : ℕ) → ((key : ℕ) → branch_at old key ≡ None) → IsReduced new → new.order ≡ order → live_nodes new ≡ number
+    → RunsShort formula order moves old new → NeedsMore formula order moves number
+needs_more formula order moves old new number none reduced in_order live short = record {
+  graph = new;
+  reduced = reduced;
+  in_order = in_order;
+  live = live;
+  planned = λ key branch at. elim (short.planned (Inner (record { index = key })) (ap is_some at)) [
+    | inl there ↦ absurd (let e : true ≡ false = sym there ∙ ap is_some (none key) in cc)
+    | inr part ↦ part
+  ];
+  further = short.further;
+  is_planned = short.is_planned;
+  nowhere = short.nowhere;
+}
+
+-- want of memory is no limit of nodes
+pub no_limit : {T : Type 0} (result : Result T TableError) → IfErr result (λ e. e ≡ OutOfMemory) → result ≡ Err NodeLimit → ⊥
+no_limit (Ok x) failed is = cc
+no_limit (Err e) failed is = let same : e ≡ NodeLimit = cc in let wrong : ◌≡◌ {A = TableError} OutOfMemory NodeLimit = sym failed ∙ same in cc

@@ -1,0 +1,105 @@
+use Rattle.std.proofs.Common.{◌≡◌, ℕ, suc, ◌+◌, true, List, take, reverse, Some, Err, ap, sym, ◌∙◌, subst, arith}
+use Rattle.node_table.specs.declared.node.Node.{Node}
+use Rattle.node_table.specs.Diagram.{is_node}
+use Rattle.node_table.specs.Value.{by_level, value_of}
+use Rattle.node_table.specs.declared.error.TableError.TheVariants.{NodeLimit, WriteFault}
+use Rattle.node_table.specs.declared.error.TableError.{TableError}
+use Rattle.node_table.specs.Made.{LacksPart, MakesOnly}
+use Rattle.schedule_plan.specs.Plan.{after_moves, no_stage}
+use Rattle.term_runner.specs.Needs.{top_function}
+use Rattle.term_runner.specs.Held.{top_node}
+use Rattle.term_runner.specs.Recovered.{IsRecovered}
+use Rattle.term_runner.proofs.HandedOn.{handed_on, came_from}
+use Rattle.term_runner.proofs.Stacks.{top_stands, top_value}
+use Rattle.term_runner.proofs.Between.{at_last, joins_at, next_of, some_at}
+use Rattle.term_runner.proofs.Least.{recovered}
+use Rattle.term_runner.proofs.Planned.{moved_on, more_made, runs_short}
+use Rattle.term_runner.proofs.decide.run_moves.Goals as goal
+
+pub unreachable-requires : goal.unreachable-requires
+unreachable-requires g c = some_at c.args.plan.now c.moves.i (omega (arith, c.moves-test.true, c.len-i-end.ensures)) (sym c.get.ensures ∙ c.in_default.is)
+
+pub take_move-requires-clause-possible : goal.take_move-requires-clause-possible
+take_move-requires-clause-possible g c =
+    let between = c.moves.invariant.between in
+    let next = next_of c.args.formula.now c.args.plan.now c.moves.i between.stage c.requires.plan.last c.in-Some.step (sym c.get.ensures ∙ c.in-Some.is) (between.rest ∙ c.requires.plan.possible) in
+    (between.stage, next.next, between.held, next.is)
+
+pub take_move-requires-clause-joins : goal.take_move-requires-clause-joins
+take_move-requires-clause-joins g c = joins_at c.args.plan.now c.moves.i c.in-Some.step (sym c.get.ensures ∙ c.in-Some.is) c.requires.joins
+
+pub moves-preserved : goal.moves-preserved
+moves-preserved g c =
+    let between = c.moves.invariant.between in
+    let next = next_of c.args.formula.now c.args.plan.now c.moves.i between.stage c.requires.plan.last c.in-Some.step (sym c.get.ensures ∙ c.in-Some.is) (between.rest ∙ c.requires.plan.possible) in
+    let step_continues = c.in_ok-take_move.ensures.continues (λ is. cc) in
+    let moved : after_moves c.args.formula.now no_stage (take (suc c.moves.i) c.args.plan.now) ≡ Some next.next = moved_on c.args.formula.now c.args.plan.now c.moves.i c.in-Some.step no_stage between.stage next.next (sym c.get.ensures ∙ c.in-Some.is) between.front next.is in
+    let shift : suc c.moves.i ≡ c.moves.i + 1 = omega arith in
+    let front : after_moves c.args.formula.now no_stage (take (c.moves.i + 1) c.args.plan.now) ≡ Some next.next = subst (λ (n : ℕ). after_moves c.args.formula.now no_stage (take n c.args.plan.now) ≡ Some next.next) shift moved in
+    record {
+      between = record {
+        stage = next.next;
+        front = front;
+        rest = next.rest ∙ sym c.requires.plan.possible;
+        held = c.in_ok-take_move.ensures.held between.stage next.next between.held next.is c.if-branch.false;
+      };
+      ready = c.in_ok-take_move.ensures.ready (λ is. cc);
+      continues = c.progress_law.ensures.further _ _ _ c.args.table.now c.moves.table c.take_move.new.table c.moves.invariant.continues (c.in_ok-take_move.ensures.continues (λ is. cc));
+      made = more_made c.growth_law.ensures.value c.args.formula.now c.args.table.now.graph.order c.args.plan.now c.args.table.now.graph c.moves.table.graph c.take_move.new.table.graph
+          c.moves.invariant.continues.tied.reduced step_continues.extends.nodes c.moves.invariant.made (suc c.moves.i) next.next moved
+          (subst (λ (order : List ℕ). MakesOnly c.moves.table.graph c.take_move.new.table.graph (top_function c.args.formula.now order next.next.stack)) c.moves.invariant.continues.extends.nodes.order
+          (c.in_ok-take_move.ensures.made between.stage next.next between.held next.is (λ is. cc)));
+      beside = c.in_ok-take_move.ensures.beside ∙ c.moves.invariant.beside;
+    }
+
+pub recover-requires-clause-node : goal.recover-requires-clause-node
+recover-requires-clause-node g c =
+    let table = c.moves.table in
+    let held = at_last c.args.formula.now c.args.plan.now c.moves.i table.graph table.book.state.live c.moves.stack.items c.requires.plan.last (omega (arith, c.moves-test.false, c.len-i-end.ensures)) c.requires.plan.possible c.moves.invariant.between in
+    subst (λ (n : Node). is_node table.graph n ≡ true) (sym (c.top.ensures ∙ (λ k. top_node (reverse (c.as_slice.ensures.value k)))))
+    (top_stands c.args.formula.now table.graph table.book.state.live (reverse c.moves.stack.items) c.requires.plan.last.stack held).0
+
+pub recover-requires-clause-some : goal.recover-requires-clause-some
+recover-requires-clause-some g c is =
+    let table = c.moves.table in
+    let held = at_last c.args.formula.now c.args.plan.now c.moves.i table.graph table.book.state.live c.moves.stack.items c.requires.plan.last (omega (arith, c.moves-test.false, c.len-i-end.ensures)) c.requires.plan.possible c.moves.invariant.between in
+    (top_stands c.args.formula.now table.graph table.book.state.live (reverse c.moves.stack.items) c.requires.plan.last.stack held).1
+    (sym (c.top.ensures ∙ (λ k. top_node (reverse (c.as_slice.ensures.value k)))) ∙ is)
+
+pub returns-clause-found : goal.returns-clause-found
+returns-clause-found g c =
+    let table = c.moves.table in
+    let formula = c.args.formula.now in
+    let held = at_last formula c.args.plan.now c.moves.i table.graph table.book.state.live c.moves.stack.items c.requires.plan.last (omega (arith, c.moves-test.false, c.len-i-end.ensures)) c.requires.plan.possible c.moves.invariant.between in
+    subst (λ (order : List ℕ). IsRecovered formula order c.args.plan.now c.in_ok-model.model) c.moves.invariant.continues.extends.nodes.order
+    (recovered formula table.graph c.args.plan.now c.requires.plan c.requires.joins c.moves.invariant.ready.vars c.top.result
+    (λ a. (λ k. value_of table.graph (by_level table.graph.order a) ((c.top.ensures ∙ (λ m. top_node (reverse (c.as_slice.ensures.value m)))) k))
+    ∙ top_value formula table.graph table.book.state.live (reverse c.moves.stack.items) c.requires.plan.last.stack held c.requires.plan.one_term a)
+    c.in_ok-model.model c.in_ok-model.ensures.one_each c.in_ok-model.ensures.least)
+
+pub returns-in_err-take_move-clause-continues : goal.returns-in_err-take_move-clause-continues
+returns-in_err-take_move-clause-continues g c whole =
+    c.progress_law.ensures.further _ _ _ c.args.table.now c.moves.table c.take_move.new.table c.moves.invariant.continues
+    (c.in_err-take_move.ensures.continues (λ is. whole (handed_on _ c.in_err-take_move.field-0.0 WriteFault c.from_residual-in_err-take_move.ensures.1 (let same : c.in_err-take_move.field-0.0 ≡ WriteFault = cc in same))))
+
+pub returns-in_err-take_move-clause-broken : goal.returns-in_err-take_move-clause-broken
+returns-in_err-take_move-clause-broken g c is =
+    c.progress_law.ensures.broken _ _ _ c.args.table.now c.moves.table c.take_move.new.table c.moves.invariant.continues
+    (c.in_err-take_move.ensures.broken (ap Err (came_from _ c.in_err-take_move.field-0.0 WriteFault c.from_residual-in_err-take_move.ensures.1 is)))
+
+pub returns-in_err-take_move-clause-short : goal.returns-in_err-take_move-clause-short
+returns-in_err-take_move-clause-short g c is =
+    let between = c.moves.invariant.between in
+    let next = next_of c.args.formula.now c.args.plan.now c.moves.i between.stage c.requires.plan.last c.in-Some.step (sym c.get.ensures ∙ c.in-Some.is) (between.rest ∙ c.requires.plan.possible) in
+    let cause : c.in_err-take_move.field-0.0 ≡ NodeLimit = came_from _ c.in_err-take_move.field-0.0 NodeLimit c.from_residual-in_err-take_move.ensures.1 is in
+    let torn : c.in_err-take_move.field-0.0 ≡ WriteFault → ⊥ = λ e. let bad : ◌≡◌ {A = TableError} NodeLimit WriteFault = sym cause ∙ e in cc in
+    let step_continues = c.in_err-take_move.ensures.continues (λ e. torn (let same : c.in_err-take_move.field-0.0 ≡ WriteFault = cc in same)) in
+    let moved : after_moves c.args.formula.now no_stage (take (suc c.moves.i) c.args.plan.now) ≡ Some next.next = moved_on c.args.formula.now c.args.plan.now c.moves.i c.in-Some.step no_stage between.stage next.next (sym c.get.ensures ∙ c.in-Some.is) between.front next.is in
+    let same_order = c.moves.invariant.continues.extends.nodes.order in
+    let made = more_made c.growth_law.ensures.value c.args.formula.now c.args.table.now.graph.order c.args.plan.now c.args.table.now.graph c.moves.table.graph c.take_move.new.table.graph
+    c.moves.invariant.continues.tied.reduced step_continues.extends.nodes c.moves.invariant.made (suc c.moves.i) next.next moved
+    (subst (λ (order : List ℕ). MakesOnly c.moves.table.graph c.take_move.new.table.graph (top_function c.args.formula.now order next.next.stack)) same_order
+    (c.in_err-take_move.ensures.made between.stage next.next between.held next.is (λ e. torn (let same : c.in_err-take_move.field-0.0 ≡ WriteFault = cc in same)))) in
+    runs_short c.args.formula.now c.args.table.now.graph.order c.args.plan.now c.args.table.now.graph c.take_move.new.table.graph made (suc c.moves.i) next.next moved
+    (subst (λ (order : List ℕ). LacksPart c.take_move.new.table.graph (top_function c.args.formula.now order next.next.stack)) same_order
+    (c.in_err-take_move.ensures.lacks between.stage next.next between.held next.is (ap Err cause)))

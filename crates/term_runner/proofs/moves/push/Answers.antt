@@ -1,0 +1,72 @@
+use Rattle.std.proofs.Common.{◌≡◌, ◌≢◌, ◌++◌, ℕ, false, [], ◌∷◌, reverse, ℤ, List, Some, Err, ap, subst}
+use Rattle.std.specs.Prelude.{IsTrue}
+use Rattle.lrat_rules.specs.State.{clause_at}
+use Rattle.node_table.specs.declared.node.Node.TheVariants.{False}
+use Rattle.node_table.specs.Made.{LacksPart, MakesOnly}
+use Rattle.schedule_plan.specs.Plan.{input}
+use Rattle.clause_terms.specs.Term.{clause_function}
+use Rattle.term_runner.specs.Held.{AreHeld}
+use Rattle.node_table.specs.declared.error.TableError.TheVariants.{NodeLimit, WriteFault}
+use Rattle.term_runner.proofs.HandedOn.{handed_on, came_from}
+use Rattle.term_runner.proofs.Planned.{no_limit}
+use Rattle.term_runner.proofs.Inputs.{input_live, input_literals, input_some}
+use Rattle.term_runner.proofs.Stacks.{Growth, held_kept, pushed, clause_held, false_refutes, if_ok}
+use Rattle.term_runner.proofs.moves.push.Goals as goal
+
+pub push_clause-requires-clause-live : goal.push_clause-requires-clause-live
+push_clause-requires-clause-live g c =
+    input_live c.args.formula.now c.args.table.now c.requires.ready.0 c.requires.ready.1 c.args.number c.requires.from_one c.requires.to_len c.clause-clause.result.now c.clause-clause.ensures
+
+pub push_clause-requires-clause-variables : goal.push_clause-requires-clause-variables
+push_clause-requires-clause-variables g c =
+    input_literals c.args.formula.now c.args.table.now c.requires.ready.0 c.requires.ready.1 c.args.number c.requires.from_one c.requires.to_len c.clause-clause.result.now c.clause-clause.ensures c.is_formula.ensures.literals
+
+pub push_clause-requires-clause-some : goal.push_clause-requires-clause-some
+push_clause-requires-clause-some g c =
+    input_some c.args.formula.now c.args.table.now c.requires.ready.0 c.requires.ready.1 c.args.number c.requires.from_one c.requires.to_len c.clause-clause.result.now c.clause-clause.ensures
+
+pub returns-clause-held : goal.returns-clause-held
+returns-clause-held g c terms are =
+    let growth : Growth = record { stands = c.growth_law.ensures.stands; level = c.growth_law.ensures.level; value = c.growth_law.ensures.value; atom = c.growth_law.ensures.atom; justified = c.growth_law.ensures.justified } in
+    let old = c.args.table.now in
+    let new = c.push_clause.new.table in
+    let grown = c.in_ok-found.ensures.continues (λ is. cc) in
+    let formula = c.args.formula.now in
+    if_ok c.put.result (λ refuted. refuted ≡ false → (c.in_ok-found.found.0 ≢ False) × (c.put.new.stack.items ≡ c.args.stack.now.items ++ record { node = c.in_ok-found.found.0; unit = c.in_ok-found.found.1 } ∷ []))
+    (λ refuted. refuted ≡ false → AreHeld formula new.graph new.book.state.live (reverse c.put.new.stack.items) (input c.args.number ∷ terms))
+    (λ refuted stacked is. let s = stacked is in
+    pushed formula new.graph new.book.state.live c.args.stack.now.items c.put.new.stack.items (record { node = c.in_ok-found.found.0; unit = c.in_ok-found.found.1 }) s.1 (input c.args.number) terms
+    (clause_held formula new.graph new.book.state.live c.clause-clause.result.now c.args.number c.in_ok-found.found.0 c.in_ok-found.found.1 c.clause-clause.ensures c.in_ok-found.ensures.term s.0)
+    (held_kept growth old.graph new.graph c.requires.ready.1.tied.reduced grown.extends.nodes old.book.state.live new.book.state.live grown.extends.clauses formula (reverse c.args.stack.now.items) terms are))
+    c.put.ensures.stacked
+
+pub returns-clause-refuted : goal.returns-clause-refuted
+returns-clause-refuted g c =
+    let new = c.push_clause.new.table in
+    if_ok c.put.result (λ refuted. IsTrue refuted → c.in_ok-found.found.0 ≡ False) (λ refuted. IsTrue refuted → (id : ℕ) × (clause_at new.book.state.live id ≡ Some []))
+    (λ refuted named is. false_refutes new.graph new.book.state.live c.in_ok-found.found.0 c.in_ok-found.found.1 (named is) c.in_ok-found.ensures.term.proved)
+    c.put.ensures.refuted
+
+pub returns-in_err-found-clause-continues : goal.returns-in_err-found-clause-continues
+returns-in_err-found-clause-continues g c whole =
+    c.in_err-found.ensures.continues (λ is. whole (handed_on _ c.in_err-found.field-0.0 WriteFault c.from_residual.ensures.1 (let same : c.in_err-found.field-0.0 ≡ WriteFault = cc in same)))
+
+pub returns-in_err-found-clause-made : goal.returns-in_err-found-clause-made
+returns-in_err-found-clause-made g c whole =
+    let old = c.args.table.now.graph in
+    subst (λ (clause : List ℤ). MakesOnly old c.push_clause.new.table.graph (clause_function old.order clause)) c.clause-clause.ensures
+    (c.in_err-found.ensures.made (λ is. whole (handed_on _ c.in_err-found.field-0.0 WriteFault c.from_residual.ensures.1 (let same : c.in_err-found.field-0.0 ≡ WriteFault = cc in same))))
+
+pub returns-clause-made : goal.returns-clause-made
+returns-clause-made g c whole =
+    let old = c.args.table.now.graph in
+    subst (λ (clause : List ℤ). MakesOnly old c.push_clause.new.table.graph (clause_function old.order clause)) c.clause-clause.ensures (c.in_ok-found.ensures.made (λ is. cc))
+
+pub returns-in_err-found-clause-lacks : goal.returns-in_err-found-clause-lacks
+returns-in_err-found-clause-lacks g c is =
+    let old = c.args.table.now.graph in
+    subst (λ (clause : List ℤ). LacksPart c.push_clause.new.table.graph (clause_function old.order clause)) c.clause-clause.ensures
+    (c.in_err-found.ensures.lacks (ap Err (came_from _ c.in_err-found.field-0.0 NodeLimit c.from_residual.ensures.1 is)))
+
+pub returns-clause-lacks : goal.returns-clause-lacks
+returns-clause-lacks g c is = absurd (no_limit c.put.result c.put.ensures.failed is)

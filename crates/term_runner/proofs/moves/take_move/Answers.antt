@@ -1,0 +1,95 @@
+use Rattle.std.proofs.Common.{◌≡◌, false, List, ◌∷◌, reverse, sym, subst}
+use Rattle.apply_and.specs.Cache.{entries}
+use Rattle.node_table.specs.Made.{LacksPart, MakesOnly}
+use Rattle.schedule_plan.specs.Plan.{Term, input, both}
+use Rattle.term_runner.specs.Needs.{top_function}
+use Rattle.term_runner.specs.Held.{AreHeld}
+use Rattle.term_runner.proofs.Stacks.{Growth, fits_kept, ready_after, if_ok}
+use Rattle.term_runner.proofs.Taking.{push_of, and_of, no_quantifier}
+use Rattle.term_runner.proofs.moves.take_move.Goals as goal
+
+pub push-requires-clause-from_one : goal.push-requires-clause-from_one
+push-requires-clause-from_one g c = (push_of c.args.formula.now c.requires.possible.0 c.requires.possible.1 c.args.step c.in-Push.number c.in-Push.is c.requires.possible.3).from_one
+
+pub push-requires-clause-to_len : goal.push-requires-clause-to_len
+push-requires-clause-to_len g c = (push_of c.args.formula.now c.requires.possible.0 c.requires.possible.1 c.args.step c.in-Push.number c.in-Push.is c.requires.possible.3).to_len
+
+pub push-requires-clause-ready : goal.push-requires-clause-ready
+push-requires-clause-ready g c = (entries c.args.cache.now, c.requires.ready)
+
+pub returns-in-Push-clause-held : goal.returns-in-Push-clause-held
+returns-in-Push-clause-held g c stage next are is =
+    let move = push_of c.args.formula.now stage next c.args.step c.in-Push.number c.in-Push.is is in
+    let new = c.push.new.table in
+    if_ok c.push.result (λ refuted. refuted ≡ false → AreHeld c.args.formula.now new.graph new.book.state.live (reverse c.push.new.stack.items) (input c.in-Push.number ∷ stage.stack))
+    (λ refuted. refuted ≡ false → AreHeld c.args.formula.now new.graph new.book.state.live (reverse c.push.new.stack.items) next.stack)
+    (λ refuted held no_end. subst (λ (terms : List Term). AreHeld c.args.formula.now new.graph new.book.state.live (reverse c.push.new.stack.items) terms) (sym move.stack) (held no_end))
+    (c.push.ensures.held stage.stack are)
+
+pub returns-in-Push-clause-ready : goal.returns-in-Push-clause-ready
+returns-in-Push-clause-ready g c whole =
+    let growth : Growth = record { stands = c.growth_law.ensures.stands; level = c.growth_law.ensures.level; value = c.growth_law.ensures.value; atom = c.growth_law.ensures.atom; justified = c.growth_law.ensures.justified } in
+    let old = c.args.table.now in
+    let new = c.push.new.table in
+    let grown = c.push.ensures.continues whole in
+    ready_after c.args.formula.now old new (entries c.args.cache.now) (entries c.args.cache.now) c.requires.ready grown.in_step grown.tied grown.extends
+    (fits_kept growth old.graph new.graph c.requires.ready.tied.reduced grown.extends.nodes old.book.state.live new.book.state.live grown.extends.clauses (entries c.args.cache.now) c.requires.ready.fits)
+
+pub conjoin-requires-clause-two : goal.conjoin-requires-clause-two
+conjoin-requires-clause-two g c =
+    let stage = c.requires.possible.0 in
+    let move = and_of c.args.formula.now stage c.requires.possible.1 c.args.step c.in-And.is c.requires.possible.3 in
+    let old = c.args.table.now in (
+      c.args.formula.now,
+      move.one,
+      move.other,
+      move.rest,
+      subst (λ (terms : List Term). AreHeld c.args.formula.now old.graph old.book.state.live (reverse c.args.stack.now.items) terms) move.before c.requires.possible.2,
+    )
+
+pub returns-in-And-clause-held : goal.returns-in-And-clause-held
+returns-in-And-clause-held g c stage next are is =
+    let move = and_of c.args.formula.now stage next c.args.step c.in-And.is is in
+    let old = c.args.table.now in
+    let new = c.conjoin.new.table in
+    if_ok c.conjoin.result (λ refuted. refuted ≡ false → AreHeld c.args.formula.now new.graph new.book.state.live (reverse c.conjoin.new.stack.items) (both move.one move.other ∷ move.rest))
+    (λ refuted. refuted ≡ false → AreHeld c.args.formula.now new.graph new.book.state.live (reverse c.conjoin.new.stack.items) next.stack)
+    (λ refuted held no_end. subst (λ (terms : List Term). AreHeld c.args.formula.now new.graph new.book.state.live (reverse c.conjoin.new.stack.items) terms) (sym move.after) (held no_end))
+    (c.conjoin.ensures.held c.args.formula.now move.one move.other move.rest
+    (subst (λ (terms : List Term). AreHeld c.args.formula.now old.graph old.book.state.live (reverse c.args.stack.now.items) terms) move.before are))
+
+pub returns-in-And-clause-ready : goal.returns-in-And-clause-ready
+returns-in-And-clause-ready g c whole =
+    let old = c.args.table.now in
+    let new = c.conjoin.new.table in
+    let grown = c.conjoin.ensures.continues whole in
+    ready_after c.args.formula.now old new (entries c.args.cache.now) (entries c.conjoin.new.cache) c.requires.ready grown.in_step grown.tied grown.extends (c.conjoin.ensures.fits whole)
+
+pub returns-in-Push-clause-made : goal.returns-in-Push-clause-made
+returns-in-Push-clause-made g c stage next are is whole =
+    let move = push_of c.args.formula.now stage next c.args.step c.in-Push.number c.in-Push.is is in
+    subst (λ (terms : List Term). MakesOnly c.args.table.now.graph c.push.new.table.graph (top_function c.args.formula.now c.args.table.now.graph.order terms)) (sym move.stack) (c.push.ensures.made whole)
+
+pub returns-in-Push-clause-lacks : goal.returns-in-Push-clause-lacks
+returns-in-Push-clause-lacks g c stage next are is limit =
+    let move = push_of c.args.formula.now stage next c.args.step c.in-Push.number c.in-Push.is is in
+    subst (λ (terms : List Term). LacksPart c.push.new.table.graph (top_function c.args.formula.now c.args.table.now.graph.order terms)) (sym move.stack) (c.push.ensures.lacks limit)
+
+pub returns-in-And-clause-made : goal.returns-in-And-clause-made
+returns-in-And-clause-made g c stage next are is whole =
+    let move = and_of c.args.formula.now stage next c.args.step c.in-And.is is in
+    let old = c.args.table.now in
+    let two = subst (λ (terms : List Term). AreHeld c.args.formula.now old.graph old.book.state.live (reverse c.args.stack.now.items) terms) move.before are in
+    subst (λ (terms : List Term). MakesOnly old.graph c.conjoin.new.table.graph (top_function c.args.formula.now old.graph.order terms)) (sym move.after)
+    (c.conjoin.ensures.made c.args.formula.now move.one move.other move.rest two whole)
+
+pub returns-in-And-clause-lacks : goal.returns-in-And-clause-lacks
+returns-in-And-clause-lacks g c stage next are is limit =
+    let move = and_of c.args.formula.now stage next c.args.step c.in-And.is is in
+    let old = c.args.table.now in
+    let two = subst (λ (terms : List Term). AreHeld c.args.formula.now old.graph old.book.state.live (reverse c.args.stack.now.items) terms) move.before are in
+    subst (λ (terms : List Term). LacksPart c.conjoin.new.table.graph (top_function c.args.formula.now old.graph.order terms)) (sym move.after)
+    (c.conjoin.ensures.lacks c.args.formula.now move.one move.other move.rest two limit)
+
+pub unreachable-requires : goal.unreachable-requires
+unreachable-requires g c = no_quantifier c.args.step c.in-Exists.field-0 c.in-Exists.is c.requires.joins

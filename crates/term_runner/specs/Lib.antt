@@ -1,0 +1,9 @@
+pub mod Moves
+pub mod Clauses
+pub mod Proofs
+pub mod Recovered
+pub mod Needs
+pub mod Ends
+pub mod Errors
+pub mod Opened
+pub mod Held

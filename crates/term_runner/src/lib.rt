@@ -1,0 +1,24 @@
+//! Runs a plan over a formula: pushes its clauses as terms, conjoins them, and ends with a refutation on the proof, with
+//! an assignment that satisfies the formula, or at a limit. It stands on `clause_terms` for the clauses' terms and for
+//! the assignment, and on `apply_and` for conjunctions.
+#![tactic(auto)]
+
+mod decide;
+mod error;
+mod finish;
+mod held;
+mod law;
+mod moves;
+mod open;
+mod outcome;
+mod run;
+mod unit;
+
+pub use clause_terms::{Model, push_clause, recover};
+pub use error::RunError;
+pub use law::conjoining_law;
+pub use outcome::{Limits, Outcome, Run};
+pub use run::{run_plan, run_plan_into};
+
+#[cfg(test)]
+mod tests;

@@ -1,0 +1,86 @@
+// A run of a plan, from the formula to the flushed proof.
+ghost use Rattle.std.specs.Prelude.{◌≡◌, [], length, IsTrue, IsFalse};
+ghost use Rattle.std.specs.List.{list_any};
+ghost use Rattle.schedule_plan.specs.Plan.{IsAdmissible};
+ghost use Rattle.term_runner.specs.Moves.{quantifies};
+ghost use Rattle.term_runner.specs.Ends.{AreLimits, Ends};
+
+use crate::decide::decide;
+use crate::error::RunError;
+use crate::finish::{finish, refute};
+use crate::open::first_empty;
+use crate::outcome::{Limits, Run};
+use clause_ledger::{Ledger, start_clauses};
+use cnf_base::Cnf;
+use host_io::Sink;
+use lrat_rules::{refuted_law, start_law};
+use node_table::{Diagram, Table, in_use_law, opening_law};
+use schedule_plan::{Order, Plan};
+use std::alloc::Global;
+
+/// Runs a plan over a formula and writes the proof to a sink, which is handed back. A formula with an empty clause is
+/// refuted by one line, without a diagram. With an answer, and where a limit is reached, all that was written is flushed.
+pub fn run_plan<S: Sink + Drop>(
+    alloc: Global,
+    formula: &Cnf,
+    order: &Order,
+    plan: &Plan,
+    limits: Limits,
+    sink: S,
+) -> (S, Result<Run, RunError>)
+    requires order { length order.now ≡ formula.now.vars }
+    requires plan { IsAdmissible formula.now plan.now }
+    requires joins { IsFalse (list_any quantifies plan.now) }
+    requires limits { AreLimits limits }
+    requires fresh { IsTrue S.tells → (S.channel sink).written ≡ [] }
+    ensures ends { Ends S.tells (S.channel sink) (S.channel result.0) formula.now order.now plan.now limits result.1 }
+    ensures beside { S.beside result.0 ≡ S.beside sink }
+{
+    let mut sink = sink;
+    let result = run_plan_into(alloc, formula, order, plan, limits, &mut sink);
+    (sink, result)
+}
+
+/// As `run_plan`, over a sink that is lent.
+pub fn run_plan_into<S: Sink + Drop>(
+    alloc: Global,
+    formula: &Cnf,
+    order: &Order,
+    plan: &Plan,
+    limits: Limits,
+    sink: &mut S,
+) -> Result<Run, RunError>
+    requires order { length order.now ≡ formula.now.vars }
+    requires plan { IsAdmissible formula.now plan.now }
+    requires joins { IsFalse (list_any quantifies plan.now) }
+    requires limits { AreLimits limits }
+    requires fresh { IsTrue S.tells → (S.channel sink.old).written ≡ [] }
+    ensures ends { Ends S.tells (S.channel sink.old) (S.channel sink.new) formula.now order.now plan.now limits result }
+    ensures beside { S.beside sink.new ≡ S.beside sink.old }
+{
+    start_law();
+    refuted_law();
+    formula.is_formula();
+    let Ok(live) = start_clauses(alloc, formula) else {
+        return Err(RunError::OutOfMemory);
+    };
+    let mut ledger = Ledger::new(live, sink, limits.max_ids);
+    if let Some(number) = first_empty(formula) {
+        let result = refute(&mut ledger, number);
+        let _sink = ledger.close();
+        return result;
+    }
+    let Ok(diagram) = Diagram::new(alloc, order.as_slice()) else {
+        let _sink = ledger.close();
+        return Err(RunError::OutOfMemory);
+    };
+    opening_law();
+    in_use_law();
+    let mut table = Table::new(ledger, diagram, limits.max_nodes);
+    let outcome = decide(alloc, &mut table, formula, plan, limits.cache);
+    let _ = table.live();
+    let mut ledger = table.into_ledger();
+    let result = finish(&mut ledger, outcome);
+    let _sink = ledger.close();
+    result
+}

@@ -1,0 +1,136 @@
+// The unit of a conjunction of two terms: an operand's own where the conjunction is that operand, else a clause that
+// follows from both units and the conjunction's clause.
+ghost use Rattle.std.specs.Prelude.{◌≡◌, ◌≢◌, ◌<◌, ◌+◌, ◌⊎◌, ◌↔◌, ℤ, List, [], ◌∷◌, Err, Some, IsTrue, IfOk, MatchOption};
+ghost use Rattle.node_table.specs.declared.node.Node.TheVariants.{False, True};
+ghost use Rattle.node_table.specs.declared.node.Just.TheVariants.{Trivial, Clause};
+ghost use Rattle.lrat_rules.specs.State.{clause_at};
+ghost use Rattle.lrat_rules.specs.Strict.{RefutesStrictly};
+ghost use Rattle.hint_chain.specs.Atoms.{clause_of};
+ghost use Rattle.node_table.specs.declared.error.TableError.TheVariants.{NodeLimit, IdLimit, WriteFault};
+ghost use Rattle.node_table.specs.Defined.{atom_of};
+ghost use Rattle.node_table.specs.Diagram.{is_node};
+ghost use Rattle.node_table.specs.Just.{IsJustified};
+ghost use Rattle.node_table.specs.Table.{UnlessTorn};
+ghost use Rattle.node_table.specs.Tied.{IsTied, IsOverNodes};
+ghost use Rattle.node_table.specs.Progress.{Continues, BreaksOff};
+ghost use Rattle.apply_and.specs.Conjunction.{Conjoined};
+
+use crate::held::Held;
+use cnf_base::{Id, Lit};
+use hint_chain::{clause_law, following_unit_law};
+use host_io::Sink;
+use lrat_rules::live_law;
+use node_table::{Just, Node, Table, TableError, canonical_law, progress_law};
+
+/// The unit of the node w, which is the conjunction of both terms' nodes.
+pub fn unit_of<S: Sink + Drop>(
+    table: &mut Table<S>,
+    u: &Held,
+    v: &Held,
+    w: Node,
+    just: &Just,
+) -> Result<Just, TableError>
+    requires in_step { IsTrue table.old.book.in_step }
+    requires tied { IsTied table.old.graph table.old.book.state }
+    requires first { IsTrue (is_node table.old.graph u.now.node) }
+    requires second { IsTrue (is_node table.old.graph v.now.node) }
+    requires first_open { u.now.node ≢ False }
+    requires second_open { v.now.node ≢ False }
+    requires first_unit { IsJustified table.old.book.state.live (atom_of table.old.graph u.now.node ∷ []) u.now.unit }
+    requires second_unit { IsJustified table.old.book.state.live (atom_of table.old.graph v.now.node ∷ []) v.now.unit }
+    requires conjoined { Conjoined table.old.graph table.old.book.state.live u.now.node v.now.node w just.now }
+    ensures unit { IfOk result (λ unit. IsJustified table.new.book.state.live (atom_of table.old.graph w ∷ []) unit) }
+    // An operand's own unit without a clause more, or one clause.
+    ensures own { (w ≡ u.now.node) ⊎ (w ≡ v.now.node) → table.new ≡ table.old }
+    ensures number { w ≢ u.now.node → w ≢ v.now.node → IfOk result (λ unit. (unit ≡ Clause (table.old.book.state.top + 1)) × (table.new.book.state.top ≡ table.old.book.state.top + 1)) }
+    ensures nodes { table.new.graph ≡ table.old.graph }
+    ensures continues { UnlessTorn result (Continues S.tells (S.channel table.old.book.sink) (S.channel table.new.book.sink) table.old table.new) }
+    ensures no_node_limit { result ≢ Err NodeLimit }
+    ensures id_limit { result ≡ Err IdLimit → table.new.book.limit < table.new.book.state.top + 4 }
+    ensures broken { result ≡ Err WriteFault → BreaksOff S.tells (S.channel table.old.book.sink) (S.channel table.new.book.sink) table.old table.new }
+    ensures beside { S.beside table.new.book.sink ≡ S.beside table.old.book.sink }
+{
+    progress_law::<S>();
+    canonical_law();
+    clause_law();
+    following_unit_law();
+    if is_same(w, u.node) {
+        return Ok(u.unit);
+    }
+    if is_same(w, v.node) {
+        return Ok(v.unit);
+    }
+    let Some(first) = clause_id(&u.unit) else {
+        unreachable!();
+    };
+    let Some(second) = clause_id(&v.unit) else {
+        unreachable!();
+    };
+    let Some(both) = clause_id(just) else {
+        unreachable!();
+    };
+    add_unit(table, w, &[first, second, both])
+}
+
+fn is_same(one: Node, other: Node) -> bool
+    ensures { IsTrue result ↔ (one ≡ other) }
+{
+    one == other
+}
+
+// The clause that a justification names.
+fn clause_id(just: &Just) -> Option<Id>
+    ensures { MatchOption result (just.now ≡ Trivial) (λ id. just.now ≡ Clause id) }
+{
+    match just {
+        Just::Trivial => None,
+        Just::Clause(id) => Some(*id),
+    }
+}
+
+// Adds the clause of a node alone, the empty one where it is False.
+fn add_unit<S: Sink + Drop>(table: &mut Table<S>, w: Node, hints: &[Id]) -> Result<Just, TableError>
+    requires in_step { IsTrue table.old.book.in_step }
+    requires tied { IsTied table.old.graph table.old.book.state }
+    requires stands { IsTrue (is_node table.old.graph w) }
+    requires not_true { w ≢ True }
+    requires strict { (clause : List ℤ) → clause_of (atom_of table.old.graph w ∷ []) ≡ Some clause → RefutesStrictly table.old.book.state.live clause hints.now }
+    ensures unit { IfOk result (λ unit. IsJustified table.new.book.state.live (atom_of table.old.graph w ∷ []) unit) }
+    ensures number { IfOk result (λ unit. (unit ≡ Clause (table.old.book.state.top + 1)) × (table.new.book.state.top ≡ table.old.book.state.top + 1)) }
+    ensures nodes { table.new.graph ≡ table.old.graph }
+    ensures continues { UnlessTorn result (Continues S.tells (S.channel table.old.book.sink) (S.channel table.new.book.sink) table.old table.new) }
+    ensures no_node_limit { result ≢ Err NodeLimit }
+    ensures id_limit { result ≡ Err IdLimit → table.new.book.limit < table.new.book.state.top + 4 }
+    ensures broken { result ≡ Err WriteFault → BreaksOff S.tells (S.channel table.old.book.sink) (S.channel table.new.book.sink) table.old table.new }
+    ensures beside { S.beside table.new.book.sink ≡ S.beside table.old.book.sink }
+{
+    match table.literal(w) {
+        None => {
+            let id = add(table, &[], hints)?;
+            Ok(Just::Clause(id))
+        }
+        Some(literal) => {
+            let id = add(table, &[literal], hints)?;
+            Ok(Just::Clause(id))
+        }
+    }
+}
+
+// Adds a clause, with a strict refutation as its hints.
+fn add<S: Sink + Drop>(table: &mut Table<S>, clause: &[Lit], hints: &[Id]) -> Result<Id, TableError>
+    requires in_step { IsTrue table.old.book.in_step }
+    requires tied { IsTied table.old.graph table.old.book.state }
+    requires strict { RefutesStrictly table.old.book.state.live clause.now hints.now }
+    requires over_nodes { IsOverNodes table.old.graph clause.now }
+    ensures added { IfOk result (λ id. clause_at table.new.book.state.live id ≡ Some clause.now) }
+    ensures number { IfOk result (λ id. (id ≡ table.old.book.state.top + 1) × (table.new.book.state.top ≡ id)) }
+    ensures nodes { table.new.graph ≡ table.old.graph }
+    ensures continues { UnlessTorn result (Continues S.tells (S.channel table.old.book.sink) (S.channel table.new.book.sink) table.old table.new) }
+    ensures no_node_limit { result ≢ Err NodeLimit }
+    ensures id_limit { result ≡ Err IdLimit → table.new.book.limit < table.new.book.state.top + 4 }
+    ensures broken { result ≡ Err WriteFault → BreaksOff S.tells (S.channel table.old.book.sink) (S.channel table.new.book.sink) table.old table.new }
+    ensures beside { S.beside table.new.book.sink ≡ S.beside table.old.book.sink }
+{
+    live_law();
+    table.justify(clause, hints)
+}
