@@ -2,21 +2,21 @@
 use Rattle.std.proofs.Common.{◌≡◌, ℕ, ◌+◌, ◌<◌, ◌≤◌, ◌∷◌, ◌++◌, Bool, true, false, List, drop, length, get_or, refl, sym, ◌∙◌, ap, add-one, append_assoc, drop-cons, rules}
 use Rattle.std.specs.Prelude.{decimal, codes}
 use Rattle.std.proofs.lemmas.List.{drop_all}
-use Rattle.answer_text.specs.Model.{literal, words_from, has_room, separator, width_behind, wrapped}
+use Rattle.answer_text.specs.Model.{literal, max_width, words_from, has_room, separator, width_behind, wrapped}
 use Rattle.answer_text.specs.Status.{unknown_line, not_verified_line}
 
 -- whether the line has room
-room : (width : ℕ) (word : List ℕ) → width + 1 + length word ≤ 78 → has_room width word ≡ true
+room : (width : ℕ) (word : List ℕ) → width + 1 + length word ≤ max_width → has_room width word ≡ true
 room width word fits = search rules
 
-no_room : (width : ℕ) (word : List ℕ) → 78 < width + 1 + length word → has_room width word ≡ false
+no_room : (width : ℕ) (word : List ℕ) → max_width < width + 1 + length word → has_room width word ≡ false
 no_room width word long = search rules
 
 -- the word behind what stands before it
-pub space_before : (width : ℕ) (word : List ℕ) → width + 1 + length word ≤ 78 → separator width word ++ word ≡ codes " " ++ word
+pub space_before : (width : ℕ) (word : List ℕ) → width + 1 + length word ≤ max_width → separator width word ++ word ≡ codes " " ++ word
 space_before width word fits = rw (room width word fits) refl
 
-pub line_before : (width : ℕ) (word : List ℕ) → 78 < width + 1 + length word → separator width word ++ word ≡ codes "\nv " ++ word
+pub line_before : (width : ℕ) (word : List ℕ) → max_width < width + 1 + length word → separator width word ++ word ≡ codes "\nv " ++ word
 line_before width word long = rw (no_room width word long) refl
 
 rest_of : (i : ℕ) (values : List Bool) (d : Bool) → i < length values → drop i values ≡ get_or values i d ∷ drop (i + 1) values

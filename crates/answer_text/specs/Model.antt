@@ -15,9 +15,13 @@ words_from variable (value ∷ values) = literal variable value ∷ words_from (
 abbrev pub model_words : List Bool → List (List ℕ)
 model_words values = words_from 1 values
 
--- a line of so many bytes has room for the word: without its line end it has at most 78 bytes
+-- the most bytes of a line without its line end
+abbrev pub max_width : ℕ
+max_width = 78
+
+-- a line of so many bytes has room for the word
 abbrev pub has_room : ℕ → List ℕ → Bool
-has_room width word = nat_le (width + 1 + length word) 78
+has_room width word = nat_le (width + 1 + length word) max_width
 
 -- what stands before a word: a space, behind `v` on a new line where the old one has no room
 abbrev pub separator : ℕ → List ℕ → List ℕ

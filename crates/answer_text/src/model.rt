@@ -1,7 +1,7 @@
 // The lines of a model, word by word.
 ghost use Rattle.std.specs.Prelude.{◌≡◌, ◌+◌, ◌≤◌, ◌++◌, length, IfOk};
 ghost use Rattle.host_io.specs.Channel.{WritesAll};
-ghost use Rattle.answer_text.specs.Model.{literal, separator, width_behind, model_text};
+ghost use Rattle.answer_text.specs.Model.{literal, max_width, separator, width_behind, model_text};
 
 use host_io::{Failed, Sink, write_all};
 use itoa::Buffer;
@@ -30,10 +30,10 @@ fn write_literal<S: Sink>(
     variable: usize,
     value: bool,
 ) -> Result<usize, Failed>
-    requires { width ≤ 78 }
+    requires { width ≤ max_width }
     ensures writes { WritesAll S.tells (S.channel sink.old) (S.channel sink.new) (separator width (literal variable value) ++ literal variable value) result }
     ensures width { IfOk result (λ behind. behind ≡ width_behind width (literal variable value)) }
-    ensures narrow { IfOk result (λ behind. behind ≤ 78) }
+    ensures narrow { IfOk result (λ behind. behind ≤ max_width) }
     ensures beside { S.beside sink.new ≡ S.beside sink.old }
 {
     let mut buffer = Buffer::new();
@@ -52,11 +52,11 @@ fn write_word<S: Sink>(
     sign: &[u8],
     digits: &[u8],
 ) -> Result<usize, Failed>
-    requires width { width ≤ 78 }
-    requires fits { length sign.now + length digits.now ≤ 76 }
+    requires width { width ≤ max_width }
+    requires fits { 2 + length sign.now + length digits.now ≤ max_width }
     ensures writes { WritesAll S.tells (S.channel sink.old) (S.channel sink.new) (separator width (sign.now ++ digits.now) ++ (sign.now ++ digits.now)) result }
     ensures width { IfOk result (λ behind. behind ≡ width_behind width (sign.now ++ digits.now)) }
-    ensures narrow { IfOk result (λ behind. behind ≤ 78) }
+    ensures narrow { IfOk result (λ behind. behind ≤ max_width) }
     ensures beside { S.beside sink.new ≡ S.beside sink.old }
 {
     let behind = width + 1 + sign.len() + digits.len();

@@ -3,7 +3,6 @@ pub mod Cached
 pub mod NodeParts
 pub mod ConjunctionClauses
 pub mod Closed
-pub mod HandedOn
 pub mod Laws
 pub mod Conjunctions
 pub mod Made

@@ -20,7 +20,7 @@ pub struct AndCache {
 }
 
 impl AndCache {
-    /// An empty cache, for this many entries.
+    /// An empty cache. The greatest number of entries is not in force yet: none is pushed out.
     pub fn new(alloc: Global, capacity: u32) -> Result<AndCache, OutOfMemory>
         requires { 1 ≤ capacity }
         ensures empty { IfOk result (λ cache. entries cache ≡ []) }

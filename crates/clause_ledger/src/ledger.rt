@@ -106,6 +106,8 @@ impl<S: Sink + Drop> Ledger<S> {
         ensures cut { (clauses : List (List ℤ)) → IsProofOf clauses S.tells (S.channel self.old.sink) self.old.state → IsTrue S.tells
             → IsErrOf result LedgerError.WriteFault → IsCutProof clauses (S.channel self.new.sink).written }
 
+        // no failed write is told as anything else
+        ensures unfailed { result ≢ Err LedgerError.WriteFault → (S.channel self.new.sink).faults ≡ (S.channel self.old.sink).faults }
         ensures only_writes { OnlyWrites (S.channel self.old.sink) (S.channel self.new.sink) }
         ensures beside { S.beside self.new.sink ≡ S.beside self.old.sink }
     {
@@ -145,6 +147,7 @@ impl<S: Sink + Drop> Ledger<S> {
         ensures cut { (clauses : List (List ℤ)) → IsProofOf clauses S.tells (S.channel self.old.sink) self.old.state → IsTrue S.tells
             → IsErrOf result LedgerError.WriteFault → IsCutProof clauses (S.channel self.new.sink).written }
 
+        ensures unfailed { result ≢ Err LedgerError.WriteFault → (S.channel self.new.sink).faults ≡ (S.channel self.old.sink).faults }
         ensures only_writes { OnlyWrites (S.channel self.old.sink) (S.channel self.new.sink) }
         ensures beside { S.beside self.new.sink ≡ S.beside self.old.sink }
     {
@@ -211,6 +214,7 @@ impl<S: Sink + Drop> Ledger<S> {
         ensures flushed { IsTrue S.tells → OnOk result ((S.channel self.new.sink).flushed ≡ length (S.channel self.new.sink).written) }
         ensures unflushed { OnErr result ((S.channel self.new.sink).flushed ≡ (S.channel self.old.sink).flushed) }
         ensures write_fault { IfErr result (λ e. (e ≡ LedgerError.WriteFault) × Rose (S.channel self.old.sink).faults (S.channel self.new.sink).faults) }
+        ensures unfailed { OnOk result ((S.channel self.new.sink).faults ≡ (S.channel self.old.sink).faults) }
         ensures counts { (S.channel self.old.sink).faults ≤ (S.channel self.new.sink).faults }
         ensures taken { (S.channel self.new.sink).taken ≡ (S.channel self.old.sink).taken }
         ensures left { (S.channel self.new.sink).left ≡ (S.channel self.old.sink).left }

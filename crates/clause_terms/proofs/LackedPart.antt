@@ -1,5 +1,5 @@
 -- A node that is refused for want of room is of a part of the clause that no node is of.
-use Rattle.std.proofs.Common.{◌≡◌, ◌≢◌, ◌∙◌, ℕ, ◌<◌, Bool, true, false, List, ◌∷◌, refl, sym, subst}
+use Rattle.std.proofs.Common.{◌≡◌, ◌∙◌, ℕ, ◌<◌, Bool, true, false, List, ◌∷◌, refl, sym, subst}
 use Rattle.std.specs.Prelude.{IsTrue, if◌then◌else◌}
 use Rattle.std.specs.List.{list_any}
 use Rattle.node_table.specs.declared.node.Node.{Node}

@@ -8,7 +8,6 @@ pub mod Taken
 pub mod Down
 pub mod Set
 pub mod Ordered
-pub mod HandedOn
 pub mod ClauseTerm
 pub mod ClauseParts
 pub mod MadeNodes

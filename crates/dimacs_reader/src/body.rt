@@ -1,5 +1,5 @@
 // The body of a CNF text: the clauses' numbers, up to the end of the text or `%`.
-ghost use Rattle.std.specs.Prelude.{◌≡◌, ◌<◌, ◌≤◌, [], true, false, nat_abs, length, None, Some, Err, IsTrue, OnOk, OnErr, codes};
+ghost use Rattle.std.specs.Prelude.{◌≡◌, ◌≢◌, ◌<◌, ◌≤◌, [], true, false, nat_abs, length, None, Some, Err, IsTrue, OnOk, OnErr, codes};
 ghost use Rattle.cnf_base.specs.Number.{signed_number};
 ghost use Rattle.host_io.specs.Channel.{Rose};
 ghost use Rattle.text_scan.specs.Decides.{Decides, OnlyReads};
@@ -167,6 +167,7 @@ pub fn read_body<S: Source>(
     ensures decides { IsTrue S.tells → Decides (S.channel source.old) (S.channel source.new)
         (λ bytes more. Answers result (body_text (ahead scanner.old bytes) body.count body.draft)) }
     ensures fault { result ≡ Err ReadFault → Rose (S.channel source.old).faults (S.channel source.new).faults }
+    ensures unfailed { result ≢ Err ReadFault → (S.channel source.new).faults ≡ (S.channel source.old).faults }
     ensures reads { OnlyReads (S.channel source.old) (S.channel source.new) }
     ensures beside { S.beside source.new ≡ S.beside source.old }
 {

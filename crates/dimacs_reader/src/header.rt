@@ -1,5 +1,5 @@
 // The header of a CNF text, token by token: `p`, `cnf`, the number of variables, the number of clauses.
-ghost use Rattle.std.specs.Prelude.{◌≡◌, ◌≤◌, false, Err, IsTrue, IfOk};
+ghost use Rattle.std.specs.Prelude.{◌≡◌, ◌≢◌, ◌≤◌, false, Err, IsTrue, IfOk};
 ghost use Rattle.cnf_base.specs.Formula.{IsFormula};
 ghost use Rattle.host_io.specs.Channel.{Rose};
 ghost use Rattle.text_scan.specs.Decides.{Decides, OnlyReads};
@@ -29,6 +29,8 @@ pub fn read_cnf<S: Source>(alloc: Global, source: &mut S) -> Result<Cnf, CnfErro
     // The answer is the grammar's of the bytes that were taken and whatever may follow them, so of the whole text.
     ensures decides { IsTrue S.tells → Decides (S.channel source.old) (S.channel source.new) (λ bytes more. Answers result (cnf bytes)) }
     ensures fault { result ≡ Err ReadFault → Rose (S.channel source.old).faults (S.channel source.new).faults }
+    // no failed read is told as anything else
+    ensures unfailed { result ≢ Err ReadFault → (S.channel source.new).faults ≡ (S.channel source.old).faults }
     ensures formula { IfOk result IsFormula }
 
     ensures reads { OnlyReads (S.channel source.old) (S.channel source.new) }
@@ -49,6 +51,7 @@ fn read_header<S: Source>(
     ensures decides { IsTrue S.tells → Decides (S.channel source.old) (S.channel source.new)
         (λ bytes more. Answers result (cnf_of (ahead scanner.old bytes))) }
     ensures fault { result ≡ Err ReadFault → Rose (S.channel source.old).faults (S.channel source.new).faults }
+    ensures unfailed { result ≢ Err ReadFault → (S.channel source.new).faults ≡ (S.channel source.old).faults }
     ensures reads { OnlyReads (S.channel source.old) (S.channel source.new) }
     ensures beside { S.beside source.new ≡ S.beside source.old }
 {
@@ -73,6 +76,7 @@ fn read_format<S: Source>(
     ensures decides { IsTrue S.tells → Decides (S.channel source.old) (S.channel source.new)
         (λ bytes more. Answers result (after_p (ahead scanner.old bytes))) }
     ensures fault { result ≡ Err ReadFault → Rose (S.channel source.old).faults (S.channel source.new).faults }
+    ensures unfailed { result ≢ Err ReadFault → (S.channel source.new).faults ≡ (S.channel source.old).faults }
     ensures reads { OnlyReads (S.channel source.old) (S.channel source.new) }
     ensures beside { S.beside source.new ≡ S.beside source.old }
 {
@@ -97,6 +101,7 @@ fn read_vars<S: Source>(
     ensures decides { IsTrue S.tells → Decides (S.channel source.old) (S.channel source.new)
         (λ bytes more. Answers result (after_format (ahead scanner.old bytes))) }
     ensures fault { result ≡ Err ReadFault → Rose (S.channel source.old).faults (S.channel source.new).faults }
+    ensures unfailed { result ≢ Err ReadFault → (S.channel source.new).faults ≡ (S.channel source.old).faults }
     ensures reads { OnlyReads (S.channel source.old) (S.channel source.new) }
     ensures beside { S.beside source.new ≡ S.beside source.old }
 {
@@ -125,6 +130,7 @@ fn read_count<S: Source>(
     ensures decides { IsTrue S.tells → Decides (S.channel source.old) (S.channel source.new)
         (λ bytes more. Answers result (after_vars vars (ahead scanner.old bytes))) }
     ensures fault { result ≡ Err ReadFault → Rose (S.channel source.old).faults (S.channel source.new).faults }
+    ensures unfailed { result ≢ Err ReadFault → (S.channel source.new).faults ≡ (S.channel source.old).faults }
     ensures reads { OnlyReads (S.channel source.old) (S.channel source.new) }
     ensures beside { S.beside source.new ≡ S.beside source.old }
 {

@@ -1,5 +1,5 @@
 // The check of a proof text: a reader gives its steps in turn, and a judge takes them.
-ghost use Rattle.std.specs.Prelude.{◌≡◌, ◌||◌, false, Err, IsTrue};
+ghost use Rattle.std.specs.Prelude.{◌≡◌, ◌≢◌, ◌||◌, false, Err, IsTrue};
 ghost use Rattle.host_io.specs.Channel.{Rose};
 ghost use Rattle.text_scan.specs.Decides.{Decides, OnlyReads};
 ghost use Rattle.lrat_text.specs.declared.reader.Status.TheVariants.{Reading};
@@ -26,6 +26,8 @@ pub fn check<S: Source>(alloc: Global, formula: &Cnf, source: &mut S) -> Result<
     ensures decides { IsTrue S.tells → Decides (S.channel source.old) (S.channel source.new)
         (λ bytes more. Answers result (text_verdict formula.now.clauses bytes)) }
     ensures fault { result ≡ Err ReadFault → Rose (S.channel source.old).faults (S.channel source.new).faults }
+    // no failed read is told as anything else
+    ensures unfailed { result ≢ Err ReadFault → (S.channel source.new).faults ≡ (S.channel source.old).faults }
 
     ensures reads { OnlyReads (S.channel source.old) (S.channel source.new) }
     ensures beside { S.beside source.new ≡ S.beside source.old }
@@ -44,6 +46,7 @@ fn judge_steps<S: Source>(
     ensures decides { IsTrue S.tells → Decides (S.channel source.old) (S.channel source.new)
         (λ bytes more. Answers result (steps_verdict judge false (steps_ahead reader bytes))) }
     ensures fault { result ≡ Err ReadFault → Rose (S.channel source.old).faults (S.channel source.new).faults }
+    ensures unfailed { result ≢ Err ReadFault → (S.channel source.new).faults ≡ (S.channel source.old).faults }
     ensures reads { OnlyReads (S.channel source.old) (S.channel source.new) }
     ensures beside { S.beside source.new ≡ S.beside source.old }
 {

@@ -1,5 +1,5 @@
 // The reader: tokens from a scanner, gathered line by line.
-ghost use Rattle.std.specs.Prelude.{◌≡◌, ℕ, ◌+◌, ◌^◌, ◌<◌, true, false, List, None, Ok, Err, IsTrue, OnOk, OnErr};
+ghost use Rattle.std.specs.Prelude.{◌≡◌, ◌≢◌, ℕ, ◌+◌, ◌^◌, ◌<◌, true, false, List, None, Ok, Err, IsTrue, OnOk, OnErr};
 ghost use Rattle.host_io.specs.Channel.{Rose};
 ghost use Rattle.text_scan.specs.Decides.{Decides, OnlyReads};
 ghost use Rattle.lrat_text.specs.declared.error.StepError.TheVariants.{ReadFault, TooLong, OutOfMemory};
@@ -80,6 +80,8 @@ impl StepReader {
         ensures moves { Moves result self.old self.new }
         ensures fault { result ≡ Err ReadFault → is_reading self.old.status ≡ true →
             Rose (S.channel source.old).faults (S.channel source.new).faults }
+        // No failed read is told as anything else.
+        ensures unfailed { result ≢ Err ReadFault → (S.channel source.new).faults ≡ (S.channel source.old).faults }
         // Once it has stopped, nothing changes.
         ensures stopped_answer { is_reading self.old.status ≡ false → result ≡ last_answer self.old.status }
         ensures stopped_reader { is_reading self.old.status ≡ false → self.new ≡ self.old }
@@ -101,6 +103,7 @@ impl StepReader {
             (λ bytes more. Gives result self.new.line (steps_ahead self.old bytes) (steps_ahead self.new more)) }
         ensures moves { Moves result self.old self.new }
         ensures fault { result ≡ Err ReadFault → Rose (S.channel source.old).faults (S.channel source.new).faults }
+        ensures unfailed { result ≢ Err ReadFault → (S.channel source.new).faults ≡ (S.channel source.old).faults }
         ensures reads { OnlyReads (S.channel source.old) (S.channel source.new) }
         ensures beside { S.beside source.new ≡ S.beside source.old }
     {

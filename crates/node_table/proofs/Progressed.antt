@@ -70,6 +70,7 @@ Continues-same S tells channel table tied step = record {
   kept = λ clauses is. is;
   max_nodes = refl;
   limit = refl;
+  unfailed = refl;
   writes = OnlyWrites-same channel;
 }
 
@@ -82,6 +83,7 @@ Continues-further S tells first second third old mid new before after = record {
   kept = λ clauses is. after.kept clauses (before.kept clauses is);
   max_nodes = after.max_nodes ∙ before.max_nodes;
   limit = after.limit ∙ before.limit;
+  unfailed = after.unfailed ∙ before.unfailed;
   writes = OnlyWrites-further first second third before.writes after.writes;
 }
 

@@ -8,3 +8,4 @@ pub mod Table
 pub mod Just
 pub mod Progress
 pub mod Made
+pub mod HandedOn

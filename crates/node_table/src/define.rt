@@ -46,6 +46,7 @@ pub fn write_definitions<S: Sink + Drop>(
     ensures cut { (clauses : List (List ℤ)) → IsProofOf clauses S.tells (S.channel ledger.old.sink) ledger.old.state → IsTrue S.tells
         → IsErr result → IsCutProof clauses (S.channel ledger.new.sink).written }
 
+    ensures unfailed { OnOk result ((S.channel ledger.new.sink).faults ≡ (S.channel ledger.old.sink).faults) }
     ensures only_writes { OnlyWrites (S.channel ledger.old.sink) (S.channel ledger.new.sink) }
     ensures beside { S.beside ledger.new.sink ≡ S.beside ledger.old.sink }
 {
@@ -104,6 +105,7 @@ fn write_one<S: Sink + Drop>(
     ensures cut { (clauses : List (List ℤ)) → IsProofOf clauses S.tells (S.channel ledger.old.sink) ledger.old.state → IsTrue S.tells
         → IsErr result → IsCutProof clauses (S.channel ledger.new.sink).written }
 
+    ensures unfailed { OnOk result ((S.channel ledger.new.sink).faults ≡ (S.channel ledger.old.sink).faults) }
     ensures only_writes { OnlyWrites (S.channel ledger.old.sink) (S.channel ledger.new.sink) }
     ensures beside { S.beside ledger.new.sink ≡ S.beside ledger.old.sink }
 {

@@ -139,6 +139,7 @@ impl<S: Sink + Drop> Table<S> {
         ensures stays { result ≡ Err WriteFault → Stays self.old.graph self.new.graph self.old.book.state self.new.book.state }
         ensures in_step { UnlessTorn result (IsTrue self.new.book.in_step) }
         ensures limits { (self.new.max_nodes ≡ self.old.max_nodes) × (self.new.book.limit ≡ self.old.book.limit) }
+        ensures unfailed { UnlessTorn result ((S.channel self.new.book.sink).faults ≡ (S.channel self.old.book.sink).faults) }
         ensures only_writes { OnlyWrites (S.channel self.old.book.sink) (S.channel self.new.book.sink) }
         ensures beside { S.beside self.new.book.sink ≡ S.beside self.old.book.sink }
     {
@@ -178,6 +179,7 @@ impl<S: Sink + Drop> Table<S> {
         ensures stays { result ≡ Err WriteFault → Stays self.old.graph self.new.graph self.old.book.state self.new.book.state }
         ensures in_step { UnlessTorn result (IsTrue self.new.book.in_step) }
         ensures limits { (self.new.max_nodes ≡ self.old.max_nodes) × (self.new.book.limit ≡ self.old.book.limit) }
+        ensures unfailed { UnlessTorn result ((S.channel self.new.book.sink).faults ≡ (S.channel self.old.book.sink).faults) }
         ensures only_writes { OnlyWrites (S.channel self.old.book.sink) (S.channel self.new.book.sink) }
         ensures beside { S.beside self.new.book.sink ≡ S.beside self.old.book.sink }
     {
@@ -320,6 +322,7 @@ impl<S: Sink + Drop> Table<S> {
         ensures stays { result ≡ Err WriteFault → Stays self.old.graph self.new.graph self.old.book.state self.new.book.state }
         ensures in_step { UnlessTorn result (IsTrue self.new.book.in_step) }
         ensures limits { (self.new.max_nodes ≡ self.old.max_nodes) × (self.new.book.limit ≡ self.old.book.limit) }
+        ensures unfailed { UnlessTorn result ((S.channel self.new.book.sink).faults ≡ (S.channel self.old.book.sink).faults) }
         ensures only_writes { OnlyWrites (S.channel self.old.book.sink) (S.channel self.new.book.sink) }
         ensures beside { S.beside self.new.book.sink ≡ S.beside self.old.book.sink }
     {

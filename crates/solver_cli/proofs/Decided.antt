@@ -48,6 +48,7 @@ decided {new = new} {problem = problem} {order = order} {moves = moves} {limits 
   so_far = ends.so_far;
   flushed = λ _. ends.flushed (λ e. cc) (λ e. cc);
   fault = λ e. cc;
+  unfailed = λ _. ends.unfailed (λ e. cc);
   statuses = tt;
   only = record { name = ends.name; faults = ends.faults };
 }
@@ -58,6 +59,7 @@ decided {problem = problem} {order = order} {moves = moves} {limits = limits} (E
   so_far = ends.so_far;
   flushed = λ _. ends.flushed (λ e. cc) (λ e. cc);
   fault = λ e. cc;
+  unfailed = λ _. ends.unfailed (λ e. cc);
   statuses = tt;
   only = record { name = ends.name; faults = ends.faults };
 }
@@ -67,6 +69,7 @@ decided (Err error.IdLimit) scheduled ends = record {
   so_far = ends.so_far;
   flushed = λ _. ends.flushed (λ e. cc) (λ e. cc);
   fault = λ e. cc;
+  unfailed = λ _. ends.unfailed (λ e. cc);
   statuses = tt;
   only = record { name = ends.name; faults = ends.faults };
 }
@@ -76,6 +79,7 @@ decided (Err error.OutOfMemory) scheduled ends = record {
   so_far = ends.so_far;
   flushed = λ d. cc;
   fault = λ e. cc;
+  unfailed = λ _. ends.unfailed (λ e. cc);
   statuses = tt;
   only = record { name = ends.name; faults = ends.faults };
 }
@@ -85,6 +89,7 @@ decided (Err error.WriteFault) scheduled ends = record {
   so_far = ends.so_far;
   flushed = λ d. cc;
   fault = λ e. ends.fault refl;
+  unfailed = λ no. absurd (no refl);
   statuses = tt;
   only = record { name = ends.name; faults = ends.faults };
 }

@@ -1,6 +1,6 @@
 -- What the check of an opened proof says of the run.
 use Rattle.std.proofs.Common.{◌≡◌, ℕ, ℤ, Bool, List, length, sym, ap, ◌∙◌, subst, arith, Some, Err, IsTrue, IsOk, inl, inr}
-use Rattle.std.specs.Prelude.{Result, ⊤, drop}
+use Rattle.std.specs.Prelude.{◌≢◌, Result, ⊤, drop}
 use Rattle.host_io.specs.Channel.{Channel, Rose}
 use Rattle.host_io.specs.Files.{Files, Opens}
 use Rattle.host_io.specs.declared.source.Failed.{Failed}
@@ -13,21 +13,22 @@ use Rattle.solver_cli.specs.Phases.{ChecksProof, JudgesProof}
 use Rattle.solver_cli.proofs.Reading.{rose_since}
 
 seen : (tells : Bool) (old new : Channel) (clauses : List (List ℤ)) (result : Result Verdict CheckError) → (IsTrue tells → Decides old new (λ bytes more. Answers result (text_verdict clauses bytes)))
-    → (result ≡ Err ReadFault → Rose old.faults new.faults) → OnlyReads old new → ChecksProof tells old new clauses result
-seen tells old new clauses result decides fault reads = record {
+    → (result ≡ Err ReadFault → Rose old.faults new.faults) → (result ≢ Err ReadFault → new.faults ≡ old.faults) → OnlyReads old new → ChecksProof tells old new clauses result
+seen tells old new clauses result decides fault unfailed reads = record {
   judged = λ t. Decides-whole (decides t);
   decided = λ t. Decides-taken (decides t);
   fault = fault;
+  unfailed = unfailed;
   name = reads.name;
   faults = reads.faults;
 }
 
 pub checked : {tells : Bool} {seen_old seen_new old new : Channel} {clauses : List (List ℤ)} {result : Result Verdict CheckError} → seen_old ≡ old → new ≡ seen_new
     → (IsTrue tells → Decides seen_old seen_new (λ bytes more. Answers result (text_verdict clauses bytes)))
-    → (result ≡ Err ReadFault → Rose seen_old.faults seen_new.faults) → OnlyReads seen_old seen_new → ChecksProof tells old new clauses result
-checked {tells = tells} {seen_old = seen_old} {seen_new = seen_new} {old = old} {new = new} {clauses = clauses} {result = result} from to decides fault reads =
+    → (result ≡ Err ReadFault → Rose seen_old.faults seen_new.faults) → (result ≢ Err ReadFault → seen_new.faults ≡ seen_old.faults) → OnlyReads seen_old seen_new → ChecksProof tells old new clauses result
+checked {tells = tells} {seen_old = seen_old} {seen_new = seen_new} {old = old} {new = new} {clauses = clauses} {result = result} from to decides fault unfailed reads =
     subst (λ (o : Channel). ChecksProof tells o new clauses result) from
-    (subst (λ (n : Channel). ChecksProof tells seen_old n clauses result) (sym to) (seen tells seen_old seen_new clauses result decides fault reads))
+    (subst (λ (n : Channel). ChecksProof tells seen_old n clauses result) (sym to) (seen tells seen_old seen_new clauses result decides fault unfailed reads))
 
 -- the file was opened, and then its text was judged
 pub judged : {tells : Bool} {old opened new : Channel} {files : Files} {file : List ℕ} {clauses : List (List ℤ)} {answer : Result ⊤ Failed} {result : Result Verdict CheckError}
@@ -42,6 +43,7 @@ judged {tells = tells} {old = old} {opened = opened} {new = new} {clauses = clau
         decided = subst (λ (l : List ℕ). Answers result (text_verdict clauses l)) same (checks.decided t);
       });
       fault = λ e. rose_since opens.faults.no_less (checks.fault e);
+      unfailed = λ no. checks.unfailed no ∙ opens.faults.unfailed ok;
       name = inl (checks.name ∙ opens.named ok);
       faults = omega (arith, opens.faults.no_less, checks.faults);
     }

@@ -13,6 +13,7 @@ pub mod Printed
 pub mod Unjudged
 pub mod Verdicts
 pub mod Named
+pub mod Told
 pub mod Whole
 pub mod Decided
 pub mod Puts

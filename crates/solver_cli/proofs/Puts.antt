@@ -13,5 +13,6 @@ cut_short {text = text} (Err f) writes failed = record {
   flushed = λ t ok. cc;
   front = λ t. let cut = writes.failed t refl in (take cut.0 text, drop cut.0 text, cut.1, sym (take-append-drop cut.0 text));
   fault = λ is. writes.faults.cause refl;
+  unfailed = λ ok. cc;
   only = record { name = writes.name; faults = writes.faults.no_less };
 }

@@ -25,6 +25,7 @@ judged_in {file = file} files before same judges = record {
     | inr text ↦ inr (record { bytes = text.bytes; stands = sym (same file none_some) ∙ text.stands; judged = text.judged; decided = text.decided })
   ];
   fault = judges.fault;
+  unfailed = judges.unfailed;
   name = judges.name;
   faults = judges.faults;
 } where

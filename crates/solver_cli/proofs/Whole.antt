@@ -7,9 +7,9 @@ use Rattle.host_io.specs.declared.role.Role.{Role}
 use Rattle.host_io.specs.declared.role.Role.TheVariants.{Cnf, Order, Schedule, ProofIn, ProofOut, Made, Out, Err as ErrRole}
 use Rattle.term_runner.specs.declared.outcome.Limits.{Limits}
 use Rattle.solver_cli.specs.Phases.{Complains}
-use Rattle.solver_cli.specs.Command.{Solve, Check, limits_of, limits_asked}
+use Rattle.solver_cli.specs.Command.{Solve, Check, limits_asked}
 use Rattle.solver_cli.specs.Stages.{Streams, streams_of, Undecided, Answered, Came, CameToCheck, Stages}
-use Rattle.solver_cli.specs.Headline.{Run, limits_given, Promises}
+use Rattle.solver_cli.specs.Headline.{Run, limits_given, FailuresAreTold, Promises}
 use Rattle.solver_cli.proofs.Promised.{Core, misused, untaken}
 use Rattle.solver_cli.proofs.Helped.{helped}
 use Rattle.solver_cli.proofs.Accepted.{unplanned, uncreated, undecided}
@@ -17,6 +17,7 @@ use Rattle.solver_cli.proofs.Printed.{answered}
 use Rattle.solver_cli.proofs.Unjudged.{Laws, unjudged}
 use Rattle.solver_cli.proofs.Verdicts.{judged}
 use Rattle.solver_cli.proofs.Named.{stream_names, names, error_stands}
+use Rattle.solver_cli.proofs.Told.{told, failures}
 
 core : Laws → (run : Run) → Stages run.tells run.words (streams_of run.before) (streams_of run.after) run.files run.status → Core run
 core law run (inl m) = misused run m
@@ -39,8 +40,8 @@ core law run (inr (inr (inr c))) = came c.came where
 
 whole : Laws → (run : Run) → ((role : Role) → (run.before role).name ≡ None) → Stages run.tells run.words (streams_of run.before) (streams_of run.after) run.files run.status
     → ((role : Role) → IsFalse (same_role role Cnf) → IsFalse (same_role role ProofIn) → IsFalse (same_role role ProofOut) → IsFalse (same_role role Out) → (run.after role).name ≡ None)
-    → FilesBut (run.after ProofOut).name run.files run.files_after → Complains run.tells (run.before ErrRole) (run.after ErrRole) run.status → Promises run
-whole law run unnamed stages others files complains =
+    → FilesBut (run.after ProofOut).name run.files run.files_after → Complains run.tells (run.before ErrRole) (run.after ErrRole) run.status → FailuresAreTold run → Promises run
+whole law run unnamed stages others files complains failures_told =
     let c : Core run = core law run stages in
     record {
       unsatisfiable = c.unsatisfiable;
@@ -49,6 +50,7 @@ whole law run unnamed stages others files complains =
       verdict = c.verdict;
       refusals = c.refusals;
       faults = c.faults;
+      failures = failures_told;
       output = c.output;
       error = error_stands run complains;
       proof = c.proof;
@@ -66,10 +68,17 @@ pub promises : Laws → (run : Run) (middle : Role → Channel) (files : Files) 
     → FilesBut (middle ProofOut).name run.files files → Complains run.tells (middle ErrRole) (run.after ErrRole) run.status
     → Kept ErrRole (middle ErrRole).name middle run.after files run.files_after → Promises run
 promises law run middle files unnamed stages others beside complains kept = whole law run unnamed
-    (subst (λ (s : Streams). Stages run.tells run.words (streams_of run.before) s run.files run.status) (sym (streams_kept middle run.after kept.others)) stages)
+    came
     named
     (λ file own. kept.files file (λ same. none_some (sym err_none ∙ same)) ∙ beside file (λ same. own (ap (λ (c : Channel). c.name) (kept.others ProofOut refl) ∙ same)))
-    (subst (λ (c : Channel). Complains run.tells c (run.after ErrRole) run.status) (others ErrRole refl refl refl refl) complains) where
+    (subst (λ (c : Channel). Complains run.tells c (run.after ErrRole) run.status) (others ErrRole refl refl refl refl) complains)
+    (failures run (told came) (same Order refl refl refl refl refl) (same Schedule refl refl refl refl refl) (same Made refl refl refl refl refl)) where
+      came : Stages run.tells run.words (streams_of run.before) (streams_of run.after) run.files run.status
+      came = subst (λ (s : Streams). Stages run.tells run.words (streams_of run.before) s run.files run.status) (sym (streams_kept middle run.after kept.others)) stages
+
+      same : (role : Role) → IsFalse (same_role role ErrRole) → IsFalse (same_role role Cnf) → IsFalse (same_role role ProofIn) → IsFalse (same_role role ProofOut) → IsFalse (same_role role Out) → run.after role ≡ run.before role
+      same role e a b c d = kept.others role e ∙ others role a b c d
+
       err_none : (middle ErrRole).name ≡ None
       err_none = ap (λ (c : Channel). c.name) (others ErrRole refl refl refl refl) ∙ unnamed ErrRole
 
@@ -80,7 +89,7 @@ promises law run middle files unnamed stages others beside complains kept = whol
       after_err = complains.only.name ∙ err_none
 
       still : (role : Role) → IsFalse (same_role role ErrRole) → IsFalse (same_role role Cnf) → IsFalse (same_role role ProofIn) → IsFalse (same_role role ProofOut) → IsFalse (same_role role Out) → (run.after role).name ≡ None
-      still role e a b c d = ap (λ (x : Channel). x.name) (kept.others role e ∙ others role a b c d) ∙ unnamed role
+      still role e a b c d = ap (λ (x : Channel). x.name) (same role e a b c d) ∙ unnamed role
 
       named : (role : Role) → IsFalse (same_role role Cnf) → IsFalse (same_role role ProofIn) → IsFalse (same_role role ProofOut) → IsFalse (same_role role Out) → (run.after role).name ≡ None
       named role a b c d = by role a b c d where

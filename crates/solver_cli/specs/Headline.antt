@@ -6,7 +6,7 @@ use Rattle.cnf_base.specs.Formula.{Formula}
 use Rattle.host_io.specs.declared.role.Role.{Role}
 use Rattle.host_io.specs.declared.role.Role.TheVariants.{Cnf, Order, Schedule, ProofIn, ProofOut, Made, Out, Err}
 use Rattle.host_io.specs.Channel.{Channel, Rose}
-use Rattle.host_io.specs.Files.{Files, FilesBut}
+use Rattle.host_io.specs.Files.{Files, FilesBut, IsInput, IsCreated}
 use Rattle.dimacs_reader.specs.declared.error.CnfKind.{CnfKind}
 use Rattle.dimacs_reader.specs.Cnf.{CnfText, formula, refusal, overlong, cnf}
 use Rattle.lrat_rules.specs.Run.{Refutes, verdict}
@@ -185,6 +185,16 @@ pub record FaultsAreCounted (run : Run) : Type 0 where
   pub write : run.status ≡ WriteFault → HasFault run ProofOut ⊎ HasFault run Out
   pub accepted : run.status ≡ WriteFault → MayMean run.words AsksHelp ⊎ (IsTrue run.tells → TextsAreRead run)
 
+-- no call of this role failed
+abbrev pub IsUnfailed : Run → Role → Type 0
+IsUnfailed run role = (run.after role).faults ≡ (run.before role).faults
+
+-- Failed calls are told: unless a run ends with a read fault, no call on a file that is read failed, and unless it ends
+-- with a write fault, none on a file that is created or on standard output. This holds of every host.
+pub record FailuresAreTold (run : Run) : Type 0 where
+  pub read : run.status ≢ ReadFault → (role : Role) → IsInput role → IsUnfailed run role
+  pub write : run.status ≢ WriteFault → (role : Role) → IsCreated role ⊎ (role ≡ Out) → IsUnfailed run role
+
 -- what was found: the answer to a formula, or the verdict on a proof over one
 pub data Finding : Type 0 where
   AnswerTo : Formula → Answer → Finding
@@ -306,6 +316,7 @@ pub record Promises (run : Run) : Type 0 where
   pub verdict : VerdictIsTrue run
   pub refusals : RefusalsAreDue run
   pub faults : FaultsAreCounted run
+  pub failures : FailuresAreTold run
   pub output : OutputStands run
   pub error : ErrorStands run
   pub proof : ProofStands run

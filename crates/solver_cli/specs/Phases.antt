@@ -63,6 +63,7 @@ pub record ReadsFormula (tells : Bool) (old new : Channel) (result : Result Form
   pub read : IsTrue tells → IsRead result (cnf old.left) (cnf (gained old new))
   pub statuses : IfErrStatus result
   pub fault : result ≡ Err ReadFault → Rose old.faults new.faults
+  pub unfailed : result ≢ Err ReadFault → new.faults ≡ old.faults
   pub written : new.written ≡ old.written
   pub flushed : new.flushed ≡ old.flushed
   pub name : new.name ≡ old.name
@@ -73,6 +74,7 @@ pub record TakesFormula (tells : Bool) (old new : Channel) (files : Files) (file
   pub read : IsTrue tells → (result ≡ Err ReadFault) ⊎ ((bytes : List ℕ) × (files file ≡ Some bytes) × IsRead result (cnf bytes) (cnf (gained old new)))
   pub statuses : IfErrStatus result
   pub fault : result ≡ Err ReadFault → Rose old.faults new.faults
+  pub unfailed : result ≢ Err ReadFault → new.faults ≡ old.faults
   pub name : (new.name ≡ Some file) ⊎ (new.name ≡ None)
   pub faults : old.faults ≤ new.faults
 
@@ -81,6 +83,7 @@ pub record ChecksProof (tells : Bool) (old new : Channel) (clauses : List (List 
   pub judged : IsTrue tells → Answers result (text_verdict clauses old.left)
   pub decided : IsTrue tells → Answers result (text_verdict clauses (gained old new))
   pub fault : result ≡ Err CheckReadFault → Rose old.faults new.faults
+  pub unfailed : result ≢ Err CheckReadFault → new.faults ≡ old.faults
   pub name : new.name ≡ old.name
   pub faults : old.faults ≤ new.faults
 
@@ -95,6 +98,7 @@ pub record JudgesText (files : Files) (file : List ℕ) (clauses : List (List �
 pub record JudgesProof (tells : Bool) (old new : Channel) (files : Files) (file : List ℕ) (clauses : List (List ℤ)) (result : Result Verdict CheckError) : Type 0 where
   pub read : IsTrue tells → (result ≡ Err CheckReadFault) ⊎ JudgesText files file clauses (gained old new) result
   pub fault : result ≡ Err CheckReadFault → Rose old.faults new.faults
+  pub unfailed : result ≢ Err CheckReadFault → new.faults ≡ old.faults
   pub name : (new.name ≡ Some file) ⊎ (new.name ≡ None)
   pub faults : old.faults ≤ new.faults
 
@@ -134,6 +138,7 @@ pub record WritesProof (tells : Bool) (old new : Channel) (problem : Formula) (l
   pub so_far : IsTrue tells → IsProofSoFar problem.clauses new.written
   pub flushed : IsOk result → IsTrue tells → new.flushed ≡ length new.written
   pub fault : result ≡ Err WriteFault → Rose old.faults new.faults
+  pub unfailed : result ≢ Err WriteFault → new.faults ≡ old.faults
   pub statuses : IsProofStatus result
   pub only : OnlyWritten old new
 
@@ -149,4 +154,5 @@ pub record PutsText (tells : Bool) (old new : Channel) (text : List ℕ) (result
   pub flushed : IsTrue tells → IsOk result → new.flushed ≡ length new.written
   pub front : IsTrue tells → (part : List ℕ) × (rest : List ℕ) × (new.written ≡ old.written ++ part) × (text ≡ part ++ rest)
   pub fault : IsErr result → Rose old.faults new.faults
+  pub unfailed : IsOk result → new.faults ≡ old.faults
   pub only : OnlyWritten old new

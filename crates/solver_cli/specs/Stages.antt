@@ -16,7 +16,7 @@ use Rattle.term_runner.specs.declared.outcome.Limits.{Limits}
 use Rattle.solver_cli.specs.Answer.{answer_text, status_of}
 use Rattle.solver_cli.specs.Verdict.{verdict_text, status_of_verdict}
 use Rattle.solver_cli.specs.ExitCode.{status_of_check}
-use Rattle.solver_cli.specs.Command.{Solve, Check, AsksHelp, Misuse, MayMean, command, limits_of}
+use Rattle.solver_cli.specs.Command.{Solve, Check, AsksHelp, Misuse, MayMean, command}
 use Rattle.solver_cli.specs.Phases.{TakesFormula, JudgesProof, WritesProof, PutsText}
 
 -- the formula's file, the proof that is judged, the proof that is written, and standard output

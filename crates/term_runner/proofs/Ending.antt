@@ -32,11 +32,11 @@ module _ (tells : Bool) (before mid after : Channel) (formula : Formula) (order 
     pub whole : IsTrue tells → IsProof formula.clauses mid.written
     pub tautologies : IsTrue (list_all is_tautology formula.clauses) → mid.written ≡ before.written
     pub name : mid.name ≡ before.name
-    pub faults : before.faults ≤ mid.faults
+    pub unfailed : mid.faults ≡ before.faults
 
-  stays : (found : Result Run RunError) → Shown found → found ≢ Err WriteFault → after.written ≡ mid.written → after.name ≡ mid.name → mid.faults ≤ after.faults
+  stays : (found : Result Run RunError) → Shown found → found ≢ Err WriteFault → after.written ≡ mid.written → after.name ≡ mid.name → after.faults ≡ mid.faults
       → (IsTrue tells → after.flushed ≡ length after.written) → Ends tells before after formula order moves limits found
-  stays found shown whole written name faults flushed = record {
+  stays found shown whole written name unfailed flushed = record {
     unsat = λ t. subst (λ (b : List ℕ). IfOk found (λ run. run.outcome ≡ Unsat → Refutation formula.clauses b)) (sym written) (shown.unsat t);
     sat = shown.sat;
     last = λ t. subst (λ (b : List ℕ). IfOk found (λ run. LeadsTo formula.clauses b run.last_id)) (sym written) (shown.last t);
@@ -44,12 +44,13 @@ module _ (tells : Bool) (before mid after : Channel) (formula : Formula) (order 
     needs = shown.needs;
     numbers = λ e t. subst (λ (b : List ℕ). NumbersAreUsed formula limits.max_ids b) (sym written) (shown.numbers e t);
     fault = λ e. absurd (whole e);
+    unfailed = λ _. unfailed ∙ shown.unfailed;
     whole = λ _ t. subst (λ (b : List ℕ). IsProof formula.clauses b) (sym written) (shown.whole t);
     so_far = λ t. inl (subst (λ (b : List ℕ). IsProof formula.clauses b) (sym written) (shown.whole t));
     flushed = λ _ _ t. flushed t;
     tautologies = λ all. written ∙ shown.tautologies all;
     name = name ∙ shown.name;
-    faults = omega (arith, faults, shown.faults);
+    faults = omega (arith, unfailed, shown.unfailed);
   }
 
   fails : (found : Result Run RunError) → Shown found → after.written ≡ mid.written → after.name ≡ mid.name → mid.faults ≤ after.faults
@@ -61,18 +62,19 @@ module _ (tells : Bool) (before mid after : Channel) (formula : Formula) (order 
     nodes = λ e. cc;
     needs = λ e. cc;
     numbers = λ e. cc;
-    fault = λ e. omega (arith, rose, shown.faults);
+    fault = λ e. omega (arith, rose, shown.unfailed);
+    unfailed = λ no. absurd (no refl);
     whole = λ no t. absurd (no refl);
     so_far = λ t. inl (subst (λ (b : List ℕ). IsProof formula.clauses b) (sym written) (shown.whole t));
     flushed = λ no _ t. absurd (no refl);
     tautologies = λ all. written ∙ shown.tautologies all;
     name = name ∙ shown.name;
-    faults = omega (arith, faults, shown.faults);
+    faults = omega (arith, faults, shown.unfailed);
   }
 
   pub flushed_ends : (found result : Result Run RunError) → IsFlushed tells mid after found result → Shown found → found ≢ Err WriteFault → Ends tells before after formula order moves limits result
   flushed_ends found result flushes shown whole = elim flushes.ends [
-    | inl same ↦ subst (λ (r : Result Run RunError). Ends tells before after formula order moves limits r) (sym same.0) (stays found shown whole flushes.written flushes.name flushes.faults same.1)
+    | inl same ↦ subst (λ (r : Result Run RunError). Ends tells before after formula order moves limits r) (sym same.0) (stays found shown whole flushes.written flushes.name same.2 same.1)
     | inr broke ↦ subst (λ (r : Result Run RunError). Ends tells before after formula order moves limits r) (sym broke.0) (fails found shown flushes.written flushes.name flushes.faults broke.1)
   ]
 
@@ -91,7 +93,7 @@ module _ (tells : Bool) (before mid after : Channel) (formula : Formula) (order 
       whole = proof_of (Ok found) leads (λ e. cc);
       tautologies = leads.tautologies;
       name = leads.name;
-      faults = leads.faults;
+      unfailed = leads.unfailed (λ e. cc);
     }
 
     pub nodes_shown : Leads tells before mid formula order moves limits book (Err table.NodeLimit) → Shown (Err NodeLimit)
@@ -105,7 +107,7 @@ module _ (tells : Bool) (before mid after : Channel) (formula : Formula) (order 
       whole = proof_of (Err table.NodeLimit) leads (λ e. cc);
       tautologies = leads.tautologies;
       name = leads.name;
-      faults = leads.faults;
+      unfailed = leads.unfailed (λ e. cc);
     }
 
     pub numbers_shown : Leads tells before mid formula order moves limits book (Err table.IdLimit) → Shown (Err IdLimit)
@@ -119,7 +121,7 @@ module _ (tells : Bool) (before mid after : Channel) (formula : Formula) (order 
       whole = proof_of (Err table.IdLimit) leads (λ e. cc);
       tautologies = leads.tautologies;
       name = leads.name;
-      faults = leads.faults;
+      unfailed = leads.unfailed (λ e. cc);
     }
 
     pub memory_ends : Leads tells before mid formula order moves limits book (Err table.OutOfMemory) → Ends tells before mid formula order moves limits (Err OutOfMemory)
@@ -131,6 +133,7 @@ module _ (tells : Bool) (before mid after : Channel) (formula : Formula) (order 
       needs = λ e. cc;
       numbers = λ e. cc;
       fault = λ e. cc;
+      unfailed = λ _. leads.unfailed (λ e. cc);
       whole = λ _ t. proof_of (Err table.OutOfMemory) leads (λ e. cc) t;
       so_far = λ t. inl (proof_of (Err table.OutOfMemory) leads (λ e. cc) t);
       flushed = λ _ no t. absurd (no refl);
@@ -148,6 +151,7 @@ module _ (tells : Bool) (before mid after : Channel) (formula : Formula) (order 
       needs = λ e. cc;
       numbers = λ e. cc;
       fault = λ e. leads.fault refl;
+      unfailed = λ no. absurd (no refl);
       whole = λ no t. absurd (no refl);
       so_far = λ t. inr (leads.cut refl t);
       flushed = λ no _ t. absurd (no refl);
@@ -158,8 +162,8 @@ module _ (tells : Bool) (before mid after : Channel) (formula : Formula) (order 
 
 -- the end where memory ran out before the moves
 pub nothing_ends : (tells : Bool) (before after : Channel) (formula : Formula) (order : List ℕ) (moves : List Move) (limits : Limits) → (IsTrue tells → IsProof formula.clauses after.written)
-    → after.written ≡ before.written → after.name ≡ before.name → before.faults ≤ after.faults → Ends tells before after formula order moves limits (Err OutOfMemory)
-nothing_ends tells before after formula order moves limits whole written name faults = record {
+    → after.written ≡ before.written → after.name ≡ before.name → after.faults ≡ before.faults → Ends tells before after formula order moves limits (Err OutOfMemory)
+nothing_ends tells before after formula order moves limits whole written name unfailed = record {
   unsat = λ t. tt;
   sat = tt;
   last = λ t. tt;
@@ -167,10 +171,11 @@ nothing_ends tells before after formula order moves limits whole written name fa
   needs = λ e. cc;
   numbers = λ e. cc;
   fault = λ e. cc;
+  unfailed = λ _. unfailed;
   whole = λ _ t. whole t;
   so_far = λ t. inl (whole t);
   flushed = λ _ no t. absurd (no refl);
   tautologies = λ all. written;
   name = name;
-  faults = faults;
+  faults = omega (arith, unfailed);
 }

@@ -9,7 +9,6 @@ pub mod Least
 pub mod Stacks
 pub mod Joins
 pub mod Inputs
-pub mod HandedOn
 pub mod Taking
 pub mod Between
 pub mod Opening

@@ -50,6 +50,7 @@ pub record Added {S : Type 0} (tells : Bool) (before after : Channel) (hint : �
   pub kept : (clauses : List (List ℤ)) → IsProofOf clauses tells before old.state → result ≢ Err WriteFault → IsProofOf clauses tells after new.state
   pub cut : (clauses : List (List ℤ)) → IsProofOf clauses tells before old.state → IsTrue tells → result ≡ Err WriteFault → IsCutProof clauses after.written
   pub fault : result ≡ Err WriteFault → Rose before.faults after.faults
+  pub unfailed : result ≢ Err WriteFault → after.faults ≡ before.faults
   pub no_node_limit : result ≢ Err NodeLimit
   pub id_limit : result ≡ Err IdLimit → (old.limit ≤ old.state.top) × (after ≡ before)
   pub only_writes : OnlyWrites before after
@@ -88,6 +89,7 @@ added_leads tells before after hint old new result added formula order moves lim
         at_once = λ _. omega (arith, limit.0, opened.limit, top);
       };
   fault = added.fault;
+  unfailed = added.unfailed;
   tautologies = λ all. absurd (let e : true ≡ false = sym all ∙ empty_is_open formula.clauses has in cc);
   name = added.only_writes.name;
   faults = added.only_writes.faults;

@@ -151,6 +151,7 @@ module _ {S : Type 0} (there : StartClauses) (zero_law : NoneAtZero) (above : No
           at_once = λ has. absurd (has_none has);
         };
     fault = λ is. (decided.broken is).rose;
+    unfailed = λ whole. (decided.continues whole).unfailed;
     tautologies = decided.tautologies;
     name = either outcome (after.name ≡ before.name) (λ whole. (decided.continues whole).writes.name) (λ is. (decided.broken is).writes.name);
     faults = either outcome (before.faults ≤ after.faults) (λ whole. (decided.continues whole).writes.faults) (λ is. (decided.broken is).writes.faults);

@@ -27,9 +27,10 @@ IsFound formula order moves Unsat = ⊤
 IsFound formula order moves (Sat values) = IsRecovered formula order moves values
 
 -- Unsatisfiable only with a refutation in the proof's very bytes, satisfiable only with the recovered assignment, and
--- undecided only where the bytes show that the limit is reached, and, for nodes, where the plan needs more of them. All that was written is a proof, but for a front of
--- one line after a failed write, and flushed unless a write failed or memory ran out. Where all clauses are tautologies
--- nothing is written.
+-- undecided only where the bytes show that the limit is reached, and, for nodes, where the plan needs more of them. A
+-- write fault is answered exactly where a write or the flush failed. All that was written is a proof, but for a front
+-- of one line after a failed write, and flushed unless a write failed or memory ran out. Where all clauses are
+-- tautologies nothing is written.
 pub record Ends (tells : Bool) (before after : Channel) (formula : Formula) (order : List ℕ) (moves : List Move) (limits : Limits) (result : Result Run RunError) : Type 0 where
   pub unsat : IsTrue tells → IfOk result (λ run. run.outcome ≡ Unsat → Refutation formula.clauses after.written)
   pub sat : IfOk result (λ run. IsFound formula order moves run.outcome)
@@ -38,6 +39,7 @@ pub record Ends (tells : Bool) (before after : Channel) (formula : Formula) (ord
   pub needs : result ≡ Err NodeLimit → NeedsMore formula order moves limits.max_nodes
   pub numbers : result ≡ Err IdLimit → IsTrue tells → NumbersAreUsed formula limits.max_ids after.written
   pub fault : result ≡ Err WriteFault → Rose before.faults after.faults
+  pub unfailed : result ≢ Err WriteFault → after.faults ≡ before.faults
   pub whole : result ≢ Err WriteFault → IsTrue tells → IsProof formula.clauses after.written
   pub so_far : IsTrue tells → IsProofSoFar formula.clauses after.written
   pub flushed : result ≢ Err WriteFault → result ≢ Err OutOfMemory → IsTrue tells → after.flushed ≡ length after.written

@@ -4,6 +4,5 @@ pub mod Proofs
 pub mod Recovered
 pub mod Needs
 pub mod Ends
-pub mod Errors
 pub mod Opened
 pub mod Held

@@ -28,9 +28,9 @@ pub record IsOpened {S : Type 0} (tells : Bool) (channel : Channel) (formula : F
   pub proof : IsProofOf formula.clauses tells channel book.state
   pub fresh : IsTrue tells → channel.written ≡ []
 
--- The result stands after the flush, or the flush failed; no byte changed.
+-- The result stands after a flush that didn't fail, or the flush failed; no byte changed.
 pub record IsFlushed (tells : Bool) (before after : Channel) (found result : Result Run RunError) : Type 0 where
-  pub ends : ((result ≡ found) × (IsTrue tells → after.flushed ≡ length after.written)) ⊎ ((result ≡ Err Torn) × Rose before.faults after.faults)
+  pub ends : ((result ≡ found) × (IsTrue tells → after.flushed ≡ length after.written) × (after.faults ≡ before.faults)) ⊎ ((result ≡ Err Torn) × Rose before.faults after.faults)
   pub written : after.written ≡ before.written
   pub name : after.name ≡ before.name
   pub faults : before.faults ≤ after.faults
@@ -46,6 +46,7 @@ pub record Leads {S : Type 0} (tells : Bool) (before after : Channel) (formula :
   pub needs : outcome ≡ Err NodeLimit → NeedsMore formula order moves limits.max_nodes
   pub numbers : outcome ≡ Err IdLimit → IsTrue tells → NumbersAreUsed formula limits.max_ids after.written
   pub fault : outcome ≡ Err WriteFault → Rose before.faults after.faults
+  pub unfailed : outcome ≢ Err WriteFault → after.faults ≡ before.faults
   pub tautologies : IsTrue (list_all is_tautology formula.clauses) → after.written ≡ before.written
   pub name : after.name ≡ before.name
   pub faults : before.faults ≤ after.faults

@@ -100,6 +100,7 @@ fn add_empty<S: Sink + Drop>(ledger: &mut Ledger<S>, hint: Id) -> Result<Outcome
     ensures cut { (clauses : List (List ℤ)) → IsProofOf clauses S.tells (S.channel ledger.old.sink) ledger.old.state → IsTrue S.tells
         → result ≡ Err WriteFault → IsCutProof clauses (S.channel ledger.new.sink).written }
     ensures fault { result ≡ Err WriteFault → Rose (S.channel ledger.old.sink).faults (S.channel ledger.new.sink).faults }
+    ensures unfailed { result ≢ Err WriteFault → (S.channel ledger.new.sink).faults ≡ (S.channel ledger.old.sink).faults }
     ensures no_node_limit { result ≢ Err NodeLimit }
     ensures id_limit { result ≡ Err IdLimit → (ledger.old.limit ≤ ledger.old.state.top) × (ledger.new ≡ ledger.old) }
     ensures only_writes { OnlyWrites (S.channel ledger.old.sink) (S.channel ledger.new.sink) }

@@ -3,7 +3,6 @@
 ghost use Rattle.std.specs.Prelude.{◌≡◌, ◌≢◌, ◌<◌, ◌+◌, ◌⊎◌, ◌↔◌, ℤ, List, [], ◌∷◌, Err, Some, IsTrue, IfOk, MatchOption};
 ghost use Rattle.node_table.specs.declared.node.Node.TheVariants.{False, True};
 ghost use Rattle.node_table.specs.declared.node.Just.TheVariants.{Trivial, Clause};
-ghost use Rattle.lrat_rules.specs.State.{clause_at};
 ghost use Rattle.lrat_rules.specs.Strict.{RefutesStrictly};
 ghost use Rattle.hint_chain.specs.Atoms.{clause_of};
 ghost use Rattle.node_table.specs.declared.error.TableError.TheVariants.{NodeLimit, IdLimit, WriteFault};
@@ -11,12 +10,12 @@ ghost use Rattle.node_table.specs.Defined.{atom_of};
 ghost use Rattle.node_table.specs.Diagram.{is_node};
 ghost use Rattle.node_table.specs.Just.{IsJustified};
 ghost use Rattle.node_table.specs.Table.{UnlessTorn};
-ghost use Rattle.node_table.specs.Tied.{IsTied, IsOverNodes};
+ghost use Rattle.node_table.specs.Tied.{IsTied};
 ghost use Rattle.node_table.specs.Progress.{Continues, BreaksOff};
 ghost use Rattle.apply_and.specs.Conjunction.{Conjoined};
 
 use crate::held::Held;
-use cnf_base::{Id, Lit};
+use cnf_base::Id;
 use hint_chain::{clause_law, following_unit_law};
 use host_io::Sink;
 use lrat_rules::live_law;
@@ -104,33 +103,15 @@ fn add_unit<S: Sink + Drop>(table: &mut Table<S>, w: Node, hints: &[Id]) -> Resu
     ensures broken { result ≡ Err WriteFault → BreaksOff S.tells (S.channel table.old.book.sink) (S.channel table.new.book.sink) table.old table.new }
     ensures beside { S.beside table.new.book.sink ≡ S.beside table.old.book.sink }
 {
+    live_law();
     match table.literal(w) {
         None => {
-            let id = add(table, &[], hints)?;
+            let id = table.justify(&[], hints)?;
             Ok(Just::Clause(id))
         }
         Some(literal) => {
-            let id = add(table, &[literal], hints)?;
+            let id = table.justify(&[literal], hints)?;
             Ok(Just::Clause(id))
         }
     }
-}
-
-// Adds a clause, with a strict refutation as its hints.
-fn add<S: Sink + Drop>(table: &mut Table<S>, clause: &[Lit], hints: &[Id]) -> Result<Id, TableError>
-    requires in_step { IsTrue table.old.book.in_step }
-    requires tied { IsTied table.old.graph table.old.book.state }
-    requires strict { RefutesStrictly table.old.book.state.live clause.now hints.now }
-    requires over_nodes { IsOverNodes table.old.graph clause.now }
-    ensures added { IfOk result (λ id. clause_at table.new.book.state.live id ≡ Some clause.now) }
-    ensures number { IfOk result (λ id. (id ≡ table.old.book.state.top + 1) × (table.new.book.state.top ≡ id)) }
-    ensures nodes { table.new.graph ≡ table.old.graph }
-    ensures continues { UnlessTorn result (Continues S.tells (S.channel table.old.book.sink) (S.channel table.new.book.sink) table.old table.new) }
-    ensures no_node_limit { result ≢ Err NodeLimit }
-    ensures id_limit { result ≡ Err IdLimit → table.new.book.limit < table.new.book.state.top + 4 }
-    ensures broken { result ≡ Err WriteFault → BreaksOff S.tells (S.channel table.old.book.sink) (S.channel table.new.book.sink) table.old table.new }
-    ensures beside { S.beside table.new.book.sink ≡ S.beside table.old.book.sink }
-{
-    live_law();
-    table.justify(clause, hints)
 }

@@ -1,5 +1,5 @@
 // The scanner: blocks of bytes from a source, cut into tokens byte by byte, up to a limit.
-ghost use Rattle.std.specs.Prelude.{◌≡◌, ℕ, ◌+◌, ◌^◌, ◌<◌, ◌≤◌, true, false, List, [], ◌++◌, length, None, Ok, Err, IsTrue, IfSome, IfNone, IfOk, OnOk, OnErr, is_ok, if◌then◌else◌};
+ghost use Rattle.std.specs.Prelude.{◌≡◌, ◌≢◌, ℕ, ◌+◌, ◌^◌, ◌<◌, ◌≤◌, true, false, List, [], ◌++◌, length, None, Ok, Err, IsTrue, IfSome, IfNone, IfOk, OnOk, OnErr, is_ok, if◌then◌else◌};
 ghost use Rattle.cnf_base.specs.Text.{has_bytes};
 ghost use Rattle.host_io.specs.Channel.{Rose};
 ghost use Rattle.text_scan.specs.declared.scanner.Status.TheVariants.{Reading, Ended, Overlong, Faulted};
@@ -99,6 +99,8 @@ impl Scanner {
         ensures moves { Moves result self.old self.new }
         ensures fault { result ≡ Err ReadFault → is_faulted self.old.status ≡ false →
             Rose (S.channel source.old).faults (S.channel source.new).faults }
+        // No failed read is told as anything else.
+        ensures unfailed { result ≢ Err ReadFault → (S.channel source.new).faults ≡ (S.channel source.old).faults }
         // Once it has stopped, nothing changes.
         ensures stopped_answer { is_reading self.old.status ≡ false → result ≡ last_answer self.old.status }
         ensures stopped_scanner { is_reading self.old.status ≡ false → self.new ≡ self.old }
@@ -130,6 +132,7 @@ impl Scanner {
             (λ bytes more. Gives result self.new.line (ahead self.old bytes) (ahead self.new more)) }
         ensures moves { Moves result self.old self.new }
         ensures fault { result ≡ Err ReadFault → Rose (S.channel source.old).faults (S.channel source.new).faults }
+        ensures unfailed { result ≢ Err ReadFault → (S.channel source.new).faults ≡ (S.channel source.old).faults }
         ensures reads { OnlyReads (S.channel source.old) (S.channel source.new) }
         ensures beside { S.beside source.new ≡ S.beside source.old }
     {
@@ -280,6 +283,7 @@ impl Scanner {
         ensures status_err { OnErr result (self.new.status ≡ Faulted) }
         ensures error { OnErr result (result ≡ Err ReadFault) }
         ensures fault { OnErr result (Rose (S.channel source.old).faults (S.channel source.new).faults) }
+        ensures unfailed { OnOk result ((S.channel source.new).faults ≡ (S.channel source.old).faults) }
         ensures reads { OnlyReads (S.channel source.old) (S.channel source.new) }
         ensures beside { S.beside source.new ≡ S.beside source.old }
     {

@@ -8,7 +8,7 @@ use Rattle.apply_and.specs.Conjunction.{conjunction_atoms}
 use Rattle.apply_and.specs.declared.parts.Side.TheVariants.{High}
 use Rattle.node_table.specs.declared.error.TableError.TheVariants.{WriteFault}
 use Rattle.apply_and.proofs.Closed.{is_open}
-use Rattle.apply_and.proofs.HandedOn.{handed_on}
+use Rattle.node_table.specs.HandedOn.{handed_on}
 use Rattle.apply_and.proofs.Named.{IsNewJust-clause}
 use Rattle.apply_and.proofs.additions.justify.Goals as goal
 

@@ -11,7 +11,7 @@ use Rattle.apply_and.specs.Cache.{Entry, FitsEntry, Fits, NamesOnly, entries}
 use Rattle.apply_and.proofs.Laws.{Cofactors, Growth, Parts, Paths}
 use Rattle.apply_and.proofs.Conjunctions.{u_high_below, v_high_below, u_low_below, v_low_below, split_kept, conjoined_kept, fits_kept, measure_falls}
 use Rattle.apply_and.proofs.Closed.{split_level}
-use Rattle.apply_and.proofs.HandedOn.{handed_on, came_from}
+use Rattle.node_table.specs.HandedOn.{handed_on, came_from}
 use Rattle.apply_and.proofs.Named.{NamesOnly-same, NamesOnly-further, NamesOnly-kept}
 use Rattle.apply_and.proofs.Made.{made_high, made_low, made_all, reached_all, lacks_high, lacks_low, lacks_both, not_plain}
 use Rattle.apply_and.proofs.conjoin.+and.Goals as goal

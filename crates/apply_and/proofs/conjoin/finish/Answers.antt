@@ -11,7 +11,7 @@ use Rattle.apply_and.proofs.Laws.{Cofactors, Growth, Parts}
 use Rattle.apply_and.proofs.Closed.{split_level}
 use Rattle.apply_and.proofs.Conjunctions.{u_high_below, v_high_below, u_low_below, v_low_below, found_below, trivial_operand, sides_from, split_kept, ready_kept, conjoined_ready, value_ready, inner_stands}
 use Rattle.apply_and.proofs.Made.{made_one, made_none, lacks_one}
-use Rattle.apply_and.proofs.HandedOn.{handed_on, came_from}
+use Rattle.node_table.specs.HandedOn.{handed_on, came_from}
 use Rattle.apply_and.proofs.Named.{IsNewJust-within}
 use Rattle.apply_and.proofs.conjoin.finish.Goals as goal
 

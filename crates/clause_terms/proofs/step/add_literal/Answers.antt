@@ -5,7 +5,7 @@ use Rattle.node_table.specs.Diagram.{branch_of}
 use Rattle.node_table.specs.Progress.{Continues}
 use Rattle.clause_terms.specs.ClauseDiagram.{IsDiagramOf, part_of}
 use Rattle.clause_terms.proofs.AddedLiteral.{added, reverse_more}
-use Rattle.clause_terms.proofs.HandedOn.{handed_on, came_from}
+use Rattle.node_table.specs.HandedOn.{handed_on, came_from}
 use Rattle.clause_terms.proofs.step.add_literal.Goals as goal
 
 pub returns-clause-diagram : goal.returns-clause-diagram

@@ -4,7 +4,7 @@ use Rattle.node_table.specs.Progress.{Continues}
 use Rattle.node_table.specs.Value.{IsSubfunction}
 use Rattle.node_table.specs.declared.error.TableError.TheVariants.{NodeLimit, WriteFault}
 use Rattle.clause_terms.specs.Placed.{placed_function}
-use Rattle.clause_terms.proofs.HandedOn.{handed_on, came_from}
+use Rattle.node_table.specs.HandedOn.{handed_on, came_from}
 use Rattle.clause_terms.proofs.ClauseParts.{later_part}
 use Rattle.clause_terms.proofs.LackedPart.{lacked_whole}
 use Rattle.clause_terms.proofs.term.build.Goals as goal

@@ -12,6 +12,7 @@ invariant-tokens g l = record {
       (λ bytes more. body (ahead l.fn.scanner bytes) l.fn.body.count l.fn.body.draft ≡ body (ahead l.scanner more) l.body.count l.body.draft);
   sound : is_faulted l.scanner.status ≡ false;
   reads : OnlyReads (g.S.Source.channel l.fn.source) (g.S.Source.channel l.source);
+  unfailed : (g.S.Source.channel l.source).faults ≡ (g.S.Source.channel l.fn.source).faults;
   beside : g.S.Source.beside l.source ≡ g.S.Source.beside l.fn.source;
 }
 

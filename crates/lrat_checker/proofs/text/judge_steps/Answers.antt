@@ -48,6 +48,7 @@ steps-preserved g c =
           (ap Ok c.in-Ok-Some.field-0-is) is_good moved c.or_adds_empty-has_empty.ensures);
       reading = gave.reading;
       reads = OnlyReads-then c.steps.invariant.reads c.next.ensures.reads;
+      unfailed = c.in-Ok-Some.ensures.unfailed (λ e. cc) ∙ c.steps.invariant.unfailed;
       beside = c.next.ensures.beside ∙ c.steps.invariant.beside;
     }
 
@@ -64,5 +65,6 @@ steps-preserved-in-None g c =
           (ap Ok c.in-Ok-Some.field-0-is) is_good moved c.or_adds_empty-has_empty.ensures);
       reading = gave.reading;
       reads = OnlyReads-then c.steps.invariant.reads c.next.ensures.reads;
+      unfailed = c.in-Ok-Some.ensures.unfailed (λ e. cc) ∙ c.steps.invariant.unfailed;
       beside = c.next.ensures.beside ∙ c.steps.invariant.beside;
     }

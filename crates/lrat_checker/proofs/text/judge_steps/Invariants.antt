@@ -13,6 +13,7 @@ invariant-steps g l = record {
       (λ bytes more. steps_verdict l.fn.judge false (steps_ahead l.fn.reader bytes) ≡ steps_verdict l.judge l.has_empty (steps_ahead l.reader more));
   reading : l.reader.status ≡ Reading;
   reads : OnlyReads (g.S.Source.channel l.fn.source) (g.S.Source.channel l.source);
+  unfailed : (g.S.Source.channel l.source).faults ≡ (g.S.Source.channel l.fn.source).faults;
   beside : g.S.Source.beside l.source ≡ g.S.Source.beside l.fn.source;
 }
 

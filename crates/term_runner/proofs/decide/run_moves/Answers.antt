@@ -9,7 +9,7 @@ use Rattle.schedule_plan.specs.Plan.{after_moves, no_stage}
 use Rattle.term_runner.specs.Needs.{top_function}
 use Rattle.term_runner.specs.Held.{top_node}
 use Rattle.term_runner.specs.Recovered.{IsRecovered}
-use Rattle.term_runner.proofs.HandedOn.{handed_on, came_from}
+use Rattle.node_table.specs.HandedOn.{handed_on, came_from}
 use Rattle.term_runner.proofs.Stacks.{top_stands, top_value}
 use Rattle.term_runner.proofs.Between.{at_last, joins_at, next_of, some_at}
 use Rattle.term_runner.proofs.Least.{recovered}

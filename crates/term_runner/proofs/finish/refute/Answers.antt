@@ -15,6 +15,7 @@ returns-clause-ends g c formula order moves limits opened first has =
       kept = added.kept;
       cut = added.cut;
       fault = added.fault;
+      unfailed = added.unfailed;
       no_node_limit = added.no_node_limit;
       id_limit = λ is. ((added.id_limit is).0, ap (λ b. g.S.Sink.channel b.sink) (added.id_limit is).1);
       only_writes = added.only_writes;

@@ -7,7 +7,7 @@ use Rattle.schedule_plan.specs.Plan.{both}
 use Rattle.term_runner.specs.Needs.{term_function}
 use Rattle.term_runner.specs.Held.{AreHeld}
 use Rattle.node_table.specs.declared.error.TableError.TheVariants.{NodeLimit, WriteFault}
-use Rattle.term_runner.proofs.HandedOn.{handed_on, came_from}
+use Rattle.node_table.specs.HandedOn.{handed_on, came_from}
 use Rattle.term_runner.proofs.Planned.{both_function, no_limit}
 use Rattle.term_runner.proofs.Stacks.{Growth, held_kept, held_one_kept, pushed, popped, none_left, fits_kept, if_ok, conjunction_kept}
 use Rattle.term_runner.proofs.moves.conjoin.Goals as goal

@@ -7,7 +7,7 @@ use Rattle.schedule_plan.specs.Plan.{input}
 use Rattle.clause_terms.specs.Term.{clause_function}
 use Rattle.term_runner.specs.Held.{AreHeld}
 use Rattle.node_table.specs.declared.error.TableError.TheVariants.{NodeLimit, WriteFault}
-use Rattle.term_runner.proofs.HandedOn.{handed_on, came_from}
+use Rattle.node_table.specs.HandedOn.{handed_on, came_from}
 use Rattle.term_runner.proofs.Planned.{no_limit}
 use Rattle.term_runner.proofs.Inputs.{input_live, input_literals, input_some}
 use Rattle.term_runner.proofs.Stacks.{Growth, held_kept, pushed, clause_held, false_refutes, if_ok}

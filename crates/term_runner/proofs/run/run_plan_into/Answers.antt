@@ -1,4 +1,4 @@
-use Rattle.std.proofs.Common.{rules, MutBor, ◌≡◌, ℕ, List, [], refl, sym, ap, ◌∙◌, subst, arith, nat_cmp}
+use Rattle.std.proofs.Common.{rules, MutBor, ◌≡◌, ℕ, List, [], refl, sym, ap, ◌∙◌, subst, nat_cmp}
 use Rattle.std.specs.Prelude.{IsTrue}
 use Rattle.std.specs.FinMap as map
 use Rattle.host_io.specs.Channel.{Channel}
@@ -16,7 +16,7 @@ pub returns-in_default-clause-ends : goal.returns-in_default-clause-ends
 returns-in_default-clause-ends g c =
     let channel : Channel = g.S.Sink.channel c.args.sink.now in
     let proof = proof_at_start c.start_law.ensures.clauses c.start_law.ensures.none_at_zero c.start_law.ensures.none_above c.start_law.ensures.spells c.args.formula.now.clauses g.S.Sink.tells channel c.requires.fresh in
-    nothing_ends g.S.Sink.tells channel channel c.args.formula.now c.args.order.now c.args.plan.now c.args.limits (λ t. record { state = start c.args.formula.now.clauses; spelled = proof.spelled t }) refl refl (omega arith)
+    nothing_ends g.S.Sink.tells channel channel c.args.formula.now c.args.order.now c.args.plan.now c.args.limits (λ t. record { state = start c.args.formula.now.clauses; spelled = proof.spelled t }) refl refl refl
 
 pub returns-in-Some-clause-ends : goal.returns-in-Some-clause-ends
 returns-in-Some-clause-ends g c =
@@ -37,7 +37,7 @@ returns-in_default-new-clause-ends g c =
     let channel : Channel = g.S.Sink.channel c.args.sink.now in
     let proof = proof_at_start c.start_law.ensures.clauses c.start_law.ensures.none_at_zero c.start_law.ensures.none_above c.start_law.ensures.spells c.args.formula.now.clauses g.S.Sink.tells channel c.requires.fresh in
     subst (λ (s : g.row.S.Denot). Ends g.S.Sink.tells channel (g.S.Sink.channel s) c.args.formula.now c.args.order.now c.args.plan.now c.args.limits _) (search rules)
-    (nothing_ends g.S.Sink.tells channel channel c.args.formula.now c.args.order.now c.args.plan.now c.args.limits (λ t. record { state = start c.args.formula.now.clauses; spelled = proof.spelled t }) refl refl (omega arith))
+    (nothing_ends g.S.Sink.tells channel channel c.args.formula.now c.args.order.now c.args.plan.now c.args.limits (λ t. record { state = start c.args.formula.now.clauses; spelled = proof.spelled t }) refl refl refl)
 
 pub decide-outcome-requires-clause-ready : goal.decide-outcome-requires-clause-ready
 decide-outcome-requires-clause-ready g c =

@@ -16,6 +16,7 @@ invariant-tokens g l = record {
   line : l.self.line ≡ l.fn.self.line;
   less : fuel l.self.scan + open_count l.self.draft ≤ fuel l.fn.self.scan + open_count l.fn.self.draft;
   reads : OnlyReads (g.S.Source.channel l.fn.source) (g.S.Source.channel l.source);
+  unfailed : (g.S.Source.channel l.source).faults ≡ (g.S.Source.channel l.fn.source).faults;
   beside : g.S.Source.beside l.source ≡ g.S.Source.beside l.fn.source;
 }
 

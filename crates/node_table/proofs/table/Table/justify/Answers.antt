@@ -1,7 +1,9 @@
 use Rattle.std.proofs.Common.{rules, ◌≡◌, ◌≢◌, ℕ, Result, Ok, Err, sym, ap, ◌∙◌, subst}
 use Rattle.clause_ledger.specs.Book.{Book}
+use Rattle.clause_ledger.specs.declared.error.LedgerError.{LedgerError}
 use Rattle.node_table.specs.declared.error.TableError.{TableError}
 use Rattle.node_table.specs.declared.error.TableError.TheVariants.{WriteFault}
+use Rattle.node_table.specs.Errors.{table_error}
 use Rattle.node_table.specs.Tied.{IsTied, IsOverNodes, Extends, Stays}
 use Rattle.node_table.specs.Table.{TableState}
 use Rattle.node_table.proofs.Justified.{justified_tied, justified_extends, justified_stays, same_extends, not_torn, torn}
@@ -58,3 +60,15 @@ returns-clause-stays g c =
           (sym w.from.ensures ∙ error)
     ] in
     subst (λ (t : TableState g.row.S.Denot). c.match-add.result ≡ Err WriteFault → Stays t.graph graph t.book.state c.add.new.self.state) c.self.view_is stays
+
+same_error : {a b : LedgerError} → ◌≡◌ {A = Result ℕ LedgerError} (Err a) (Err b) → a ≡ b
+same_error e = cc
+
+pub returns-clause-unfailed : goal.returns-clause-unfailed
+returns-clause-unfailed g c =
+    let unfailed : c.match-add.result ≢ Err WriteFault → (g.S.Sink.channel c.add.new.self.sink).faults ≡ (g.S.Sink.channel c.self.inside.ledger.sink).faults =
+    elim c.match-add.branch [
+      | in-Ok w ↦ λ _. w.in-Ok.ensures.unfailed (λ e. cc)
+      | in-Err w ↦ λ differ. w.in-Err.ensures.unfailed (λ e. differ (w.result-is ∙ ap Err (w.from.ensures ∙ ap table_error (same_error e))))
+    ] in
+    subst (λ (t : TableState g.row.S.Denot). c.match-add.result ≢ Err WriteFault → (g.S.Sink.channel c.add.new.self.sink).faults ≡ (g.S.Sink.channel t.book.sink).faults) c.self.view_is unfailed

@@ -13,6 +13,7 @@ invariant-turns g l = record {
   line : l.self.line ≡ l.fn.self.line;
   room : l.self.room ≤ l.fn.self.room;
   reads : OnlyReads (g.S.Source.channel l.fn.source) (g.S.Source.channel l.source);
+  unfailed : (g.S.Source.channel l.source).faults ≡ (g.S.Source.channel l.fn.source).faults;
   beside : g.S.Source.beside l.source ≡ g.S.Source.beside l.fn.source;
 }
 

@@ -1,4 +1,4 @@
--- An error that is handed on is the one that came.
+-- Laws of `?`: an error that is handed on is the one that came.
 use Rattle.std.proofs.Common.{◌≡◌, ◌∙◌, Result, Ok, Err, ap, sym}
 use Rattle.std.specs.Prelude.{IsErrAnd}
 
