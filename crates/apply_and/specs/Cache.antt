@@ -1,4 +1,5 @@
--- The computed cache: conjunctions that were found before.
+-- The computed cache: conjunctions that were found before. (Brace, Rudell, Bryant: Efficient Implementation of a BDD
+-- Package, DAC 1990.)
 use Rattle.std.specs.Prelude.{◌≡◌, ◌⊎◌, ◌<◌, ◌≤◌, ℕ, List, map, Contains, IsTrue}
 use Rattle.lrat_rules.specs.State.{State, Live}
 use Rattle.node_table.specs.declared.node.Node.{Node}

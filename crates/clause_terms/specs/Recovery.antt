@@ -1,5 +1,5 @@
 -- The assignment that is recovered from a diagram: of those that make it true the least, the variables compared in the
--- order and false before true.
+-- order and false before true. (Bryant: Graph-Based Algorithms for Boolean Function Manipulation, 1986, section 4.6.)
 use Rattle.std.specs.Prelude.{◌≡◌, ℕ, ◌<◌, Bool, true}
 use Rattle.node_table.specs.Value.{Levels}
 

@@ -1,4 +1,5 @@
--- A node as a term: its function, and the live clause that proves it.
+-- A node as a term: its function, and the live clause that proves it. (Bryant, Heule: Generating Extended Resolution
+-- Proofs with a BDD-Based SAT Solver, 2021, section 5.)
 use Rattle.std.specs.Prelude.{◌≡◌, ◌==◌, Bool, true, ℤ, pos, ℕ, List, [], ◌∷◌, Some, IsTrue}
 use Rattle.std.specs.List.{position_or_len}
 use Rattle.cnf_base.specs.Truth.{Assignment, clause_holds}

@@ -2,52 +2,10 @@
 // one byte, of three, and whole.
 use super::*;
 use cnf_base::Cnf;
-use host_io::{Failed, Source};
+use host_io::SliceSource;
 use std::alloc::{AllocError, Global};
 use std::process::Abort;
 use std::test::Fail;
-
-/// A text in memory that gives at most `piece` bytes a read. With so many bytes left each read fails.
-#[derive(Drop)]
-struct SliceSource<'a> {
-    rest: &'a [u8],
-    piece: usize,
-    fails_at: Option<usize>,
-    faults: u64,
-}
-
-impl<'a> SliceSource<'a> {
-    fn new(text: &'a [u8], piece: usize, fails_at: Option<usize>) -> Self {
-        SliceSource {
-            rest: text,
-            piece,
-            fails_at,
-            faults: 0,
-        }
-    }
-}
-
-impl Source for SliceSource<'_> {
-    ghost use Rattle.std.specs.Prelude.{false, None, []};
-
-    ghost tells = { false };
-
-    ghost channel = { λ s. record { name = None; faults = s.faults; taken = []; left = []; written = []; flushed = 0 } };
-
-    ghost beside = { λ _. record { lenders = []; rest = None } };
-
-    fn read(&mut self, buf: &mut [u8]) -> Result<usize, Failed> {
-        if self.fails_at == Some(self.rest.len()) {
-            self.faults = self.faults.saturating_add(1);
-            return Err(Failed);
-        }
-        let len = self.rest.len().min(self.piece).min(buf.len());
-        let (front, rest) = self.rest.split_at(len);
-        buf[..len].copy_from_slice(front);
-        self.rest = rest;
-        Ok(len)
-    }
-}
 
 /// The number of variables, and the clauses with their zeros.
 fn spelled(alloc: Global, cnf: &Cnf) -> Result<String, AllocError> {
@@ -71,7 +29,7 @@ fn answer(alloc: Global, source: &mut SliceSource) -> Result<String, AllocError>
 
 fn expect(rt: &impl Abort, alloc: Global, text: &[u8], wanted: &str) -> Result<(), AllocError> {
     for piece in [1, 3, usize::MAX] {
-        let given = answer(alloc, &mut SliceSource::new(text, piece, None))?;
+        let given = answer(alloc, &mut SliceSource::new(text, piece))?;
         assert_eq!(rt; given.as_str(), wanted, "{text:?} in pieces of {piece}");
     }
     Ok(())
@@ -194,7 +152,7 @@ fn reads_long_numerals(rt: HostRuntime) -> Result<(), Fail> {
 #[test]
 fn a_token_of_ten_million_bytes(rt: HostRuntime) -> Result<(), Fail> {
     let text = vec![in rt.alloc(); b'1'; 10_000_000]?;
-    let mut source = SliceSource::new(text.as_slice(), usize::MAX, None);
+    let mut source = SliceSource::new(text.as_slice(), usize::MAX);
     let given = answer(rt.alloc(), &mut source)?;
     assert_eq!(rt; given.as_str(), "line 1: NoHeader");
     Ok(())
@@ -204,12 +162,13 @@ fn a_token_of_ten_million_bytes(rt: HostRuntime) -> Result<(), Fail> {
 fn a_read_fails(rt: HostRuntime) -> Result<(), Fail> {
     let text: &[u8] = b"p cnf 2 2\n1 -2 0\n2 0\n";
     for left in 0..text.len() {
-        let mut source = SliceSource::new(text, 1, Some(left));
+        let mut source = SliceSource::new(text, 1);
+        source.fail_at(Some(left));
         match read_cnf(rt.alloc(), &mut source) {
             Ok(_) => panic!(rt; "read with {left} bytes left"),
             Err(e) => assert_eq!(rt; e, CnfError::ReadFault),
         }
-        assert_eq!(rt; source.faults, 1);
+        assert_eq!(rt; source.faults(), 1);
     }
     Ok(())
 }
@@ -232,10 +191,11 @@ fn reads_no_further(rt: HostRuntime) -> Result<(), Fail> {
         (b"p cnf 1 1\n1 0\n% 1", "1: 1 0"),
     ];
     for (text, wanted) in table {
-        let mut source = SliceSource::new(text, 1, Some(1));
+        let mut source = SliceSource::new(text, 1);
+        source.fail_at(Some(1));
         let given = answer(rt.alloc(), &mut source)?;
         assert_eq!(rt; given.as_str(), wanted, "{text:?}");
-        assert_eq!(rt; source.faults, 0, "{text:?}");
+        assert_eq!(rt; source.faults(), 0, "{text:?}");
     }
     Ok(())
 }

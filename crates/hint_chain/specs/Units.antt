@@ -1,6 +1,7 @@
 -- The unit of a clause's diagram. The diagram of a clause has one node for each literal, from the top down: the
 -- literal's child is True, the other child the next node, and the last one's other child is False. The unit of the
--- top node follows from the clause: with the top node false, each literal is false, and each next node.
+-- top node follows from the clause: with the top node false, each literal is false, and each next node. (Bryant, Heule:
+-- Generating Extended Resolution Proofs with a BDD-Based SAT Solver, 2021, section 5.)
 use Rattle.std.specs.Prelude.{◌≡◌, ℕ, ℤ, neg_ℤ, List, [], ◌∷◌, ◌++◌, map, Option, None, Some, IsTrue, if◌then◌else◌}
 use Rattle.std.specs.Int.{is_negative}
 use Rattle.std.specs.Option.{option_to_list}

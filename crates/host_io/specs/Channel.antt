@@ -1,5 +1,6 @@
 -- What the outside tells of one role: a stream that is read, or one that is written.
--- `read`, `write` and `flush` are described here once, for a source, a sink and a role of a host alike.
+-- `read`, `write` and `flush` are described here once, for a source, a sink and a role of a host alike. (They are those
+-- of Rust's `std::io::Read` and `Write`.)
 use Rattle.std.specs.Prelude.{◌≡◌, ℕ, ◌+◌, ◌-◌, ◌^◌, ◌<◌, ◌≤◌, min, Bool, List, [], ◌++◌, length, take, drop, Option, Result, Ok, Err, IsTrue, IsOk, IsErr, IfOk}
 use Rattle.host_io.specs.declared.source.Failed.{Failed}
 

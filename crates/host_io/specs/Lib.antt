@@ -4,3 +4,4 @@ pub mod Beside
 pub mod Memory
 pub mod Failing
 pub mod Real
+pub mod Slice

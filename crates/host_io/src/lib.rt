@@ -2,8 +2,8 @@
 //! holds all of them by their roles; `HostSource` and `HostSink` lend one role of a host. The contracts tell
 //! the bytes that were taken, are left, were written and are flushed, names of files, and counts of faults: a
 //! failed call raises its role's count and moves nothing, and no other call raises it. `MemoryHost` keeps its files
-//! in memory and tells all; `RealHost` meets the system, tells names and counts, and is trusted for the bytes.
-//! Stands on nothing.
+//! in memory and tells all; so does `SliceSource`, a source of bytes in memory. `RealHost` meets the system, tells
+//! names and counts, and is trusted for the bytes. Stands on nothing.
 #![tactic(auto)]
 
 #[cfg(test)]
@@ -20,6 +20,7 @@ mod memory_host;
 mod real_host;
 mod real_role;
 mod role;
+mod slice_source;
 mod source;
 mod stream;
 #[cfg(test)]
@@ -35,5 +36,6 @@ pub use law::beside_kept;
 pub use memory_host::{MemoryHost, OutOfMemory};
 pub use real_host::RealHost;
 pub use role::Role;
+pub use slice_source::SliceSource;
 pub use source::{Failed, Sink, Source};
 pub use whole::{fill, write_all};

@@ -3,7 +3,7 @@ ghost use Rattle.std.specs.Prelude.{◌≡◌, ◌+◌, ◌<◌, [], length, OnO
 
 use crate::{CheckError, Judge, Verdict, check};
 use cnf_base::{Cnf, CnfBuilder, Id, Lit};
-use host_io::{Failed, Source};
+use host_io::SliceSource;
 use lrat_rules::Reason;
 use lrat_rules::Reason::{
     CandidateOpen, GroupStray, HintNotLive, HintNotUnit, IdNotGreater, NoConflict, NoEmptyClause,
@@ -13,46 +13,6 @@ use lrat_text::StepReader;
 use std::alloc::Global;
 use std::process::Abort;
 use std::test::Fail;
-
-/// A text in memory that gives at most `piece` bytes a read. With so many bytes left each read fails.
-#[derive(Drop)]
-struct SliceSource<'a> {
-    rest: &'a [u8],
-    piece: usize,
-    fails_at: Option<usize>,
-    faults: u64,
-}
-
-impl Source for SliceSource<'_> {
-    ghost use Rattle.std.specs.Prelude.{false, None, []};
-
-    ghost tells = { false };
-
-    ghost channel = { λ s. record { name = None; faults = s.faults; taken = []; left = []; written = []; flushed = 0 } };
-
-    ghost beside = { λ _. record { lenders = []; rest = None } };
-
-    fn read(&mut self, buf: &mut [u8]) -> Result<usize, Failed> {
-        if self.fails_at == Some(self.rest.len()) {
-            self.faults = self.faults.saturating_add(1);
-            return Err(Failed);
-        }
-        let len = self.rest.len().min(self.piece).min(buf.len());
-        let (front, rest) = self.rest.split_at(len);
-        buf[..len].copy_from_slice(front);
-        self.rest = rest;
-        Ok(len)
-    }
-}
-
-fn source(text: &[u8], piece: usize, fails_at: Option<usize>) -> SliceSource<'_> {
-    SliceSource {
-        rest: text,
-        piece,
-        fails_at,
-        faults: 0,
-    }
-}
 
 const VARS: u32 = 4;
 
@@ -100,7 +60,7 @@ fn expect(
 ) -> Result<(), Fail> {
     let formula = formula_of(rt, alloc, clauses)?;
     for piece in [1, 3, usize::MAX] {
-        let verdict = check(alloc, &formula, &mut source(proof, piece, None))?;
+        let verdict = check(alloc, &formula, &mut SliceSource::new(proof, piece))?;
         assert_eq!(rt; refusal(verdict), wanted, "{proof:?} in pieces of {piece}");
     }
     Ok(())
@@ -265,14 +225,14 @@ fn long_line(rt: HostRuntime) -> Result<(), Fail> {
     let verdict = check(
         alloc,
         &formula,
-        &mut source(proof.as_slice(), usize::MAX, None),
+        &mut SliceSource::new(proof.as_slice(), usize::MAX),
     )?;
     assert_eq!(rt; refusal(verdict), None);
     proof.extend_from_slice(b"5 0\n")?;
     let verdict = check(
         alloc,
         &formula,
-        &mut source(proof.as_slice(), usize::MAX, None),
+        &mut SliceSource::new(proof.as_slice(), usize::MAX),
     )?;
     assert_eq!(rt; refusal(verdict), Some((3, Syntax)));
     Ok(())
@@ -285,15 +245,17 @@ fn failing_reads(rt: HostRuntime) -> Result<(), Fail> {
     let formula = formula_of(&rt, alloc, "1 / -1")?;
     let proof: &[u8] = b"3 1 0 1 0\n4 0 3 2 0\n";
     for left in 0..=proof.len() {
-        let mut failing = source(proof, 1, Some(left));
+        let mut failing = SliceSource::new(proof, 1);
+        failing.fail_at(Some(left));
         let answer = check(alloc, &formula, &mut failing);
         assert_eq!(rt; answer, Err(CheckError::ReadFault), "{left} bytes left");
-        assert_eq!(rt; failing.faults, 1, "{left} bytes left");
+        assert_eq!(rt; failing.faults(), 1, "{left} bytes left");
     }
-    let mut failing = source(b"3 0 1 0\n4 0 3 2 0\n", 1, Some(0));
+    let mut failing = SliceSource::new(b"3 0 1 0\n4 0 3 2 0\n", 1);
+    failing.fail_at(Some(0));
     let verdict = check(alloc, &formula, &mut failing)?;
     assert_eq!(rt;
-        (refusal(verdict), failing.faults),
+        (refusal(verdict), failing.faults()),
         (Some((1, NoConflict)), 0)
     );
     Ok(())
@@ -305,7 +267,7 @@ fn live_clauses(rt: HostRuntime) -> Result<(), Fail> {
     let formula = formula_of(&rt, alloc, "1 2 / -1")?;
     let mut judge = Judge::open(alloc, &formula)?;
     let mut reader = StepReader::new(alloc, 100);
-    let mut proof = source(b"3 2 0 2 1 0\n3 d 3 0\n", 1, None);
+    let mut proof = SliceSource::new(b"3 2 0 2 1 0\n3 d 3 0\n", 1);
     for literals in [Some(1), None] {
         let (step, line) = reader.next(&mut proof)?.ok_or("no step")?;
         assert_eq!(rt; judge.step(&step)?, None, "line {line}");

@@ -1,4 +1,5 @@
--- The clauses that stand at some line of a proof, by their numbers, and the greatest number so far.
+-- The clauses that stand at some line of a proof, by their numbers, and the greatest number so far. (Cruz-Filipe,
+-- Heule, Hunt, Kaufmann, Schneider-Kamp: Efficient Certified RAT Verification, CADE 2017.)
 use Rattle.std.specs.Prelude.{◌≡◌, ℕ, ◌+◌, ℤ, List, [], ◌∷◌, length, Option, Some, IsTrue, refl}
 use Rattle.std.specs.Ordering.{nat_cmp}
 use Rattle.std.specs.FinMap as map

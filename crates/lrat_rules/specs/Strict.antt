@@ -1,6 +1,6 @@
 -- The two kinds of addition that the solver writes. A strict refutation uses each of its hints: each but the last
 -- forces a literal that wasn't forced before, the last is the conflict. A definition names all its candidates, and
--- each of them is blocked.
+-- each of them is blocked. (Extended resolution: Tseitin: On the Complexity of Derivation in Propositional Calculus, 1968.)
 use Rattle.std.specs.Prelude.{◌≡◌, ℕ, Bool, false, not, ◌&&◌, ℤ, neg_ℤ, List, [], ◌∷◌, Option, None, Some, IsTrue, ◌==◌}
 use Rattle.std.specs.List.{list_any}
 use Rattle.cnf_base.specs.ProofText.{is_empty}

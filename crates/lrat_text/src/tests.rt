@@ -2,53 +2,10 @@
 // of one byte, of three, and whole.
 use super::*;
 use cnf_base::{Id, Step};
-use host_io::{Failed, Source};
+use host_io::SliceSource;
 use std::alloc::{AllocError, Global};
 use std::process::Abort;
 use std::test::Fail;
-
-/// A text in memory that gives at most `piece` bytes a read. With so many bytes left each read fails.
-#[derive(Drop)]
-struct SliceSource<'a> {
-    rest: &'a [u8],
-    piece: usize,
-    fails_at: Option<usize>,
-    faults: u64,
-    reads: u64,
-}
-
-impl Source for SliceSource<'_> {
-    ghost use Rattle.std.specs.Prelude.{false, None, []};
-
-    ghost tells = { false };
-
-    ghost channel = { λ s. record { name = None; faults = s.faults; taken = []; left = []; written = []; flushed = 0 } };
-
-    ghost beside = { λ _. record { lenders = []; rest = None } };
-
-    fn read(&mut self, buf: &mut [u8]) -> Result<usize, Failed> {
-        self.reads = self.reads.saturating_add(1);
-        if self.fails_at == Some(self.rest.len()) {
-            self.faults = self.faults.saturating_add(1);
-            return Err(Failed);
-        }
-        let len = self.rest.len().min(self.piece).min(buf.len());
-        let (front, rest) = self.rest.split_at(len);
-        buf[..len].copy_from_slice(front);
-        self.rest = rest;
-        Ok(len)
-    }
-}
-
-fn source(text: &[u8], piece: usize) -> SliceSource<'_> {
-    SliceSource {
-        rest: text,
-        piece,
-        fails_at: None,
-        faults: 0,
-        reads: 0,
-    }
-}
 
 fn push_ids(alloc: Global, out: &mut String, ids: &[Id]) -> Result<(), AllocError> {
     for id in ids {
@@ -93,7 +50,7 @@ fn push_step(alloc: Global, out: &mut String, step: &Step, line: u64) -> Result<
 
 /// The steps of a text, and what comes behind them: the line of the end, or the error.
 fn answer(alloc: Global, limit: u64, text: &[u8], piece: usize) -> Result<String, AllocError> {
-    let mut source = source(text, piece);
+    let mut source = SliceSource::new(text, piece);
     let mut reader = StepReader::new(alloc, limit.min(u64::MAX - 2));
     let mut out = String::new(alloc);
     for _ in 0..100 {
@@ -229,8 +186,8 @@ fn stops_at_the_limit(rt: HostRuntime) -> Result<(), Fail> {
 fn a_read_fails(rt: HostRuntime) -> Result<(), Fail> {
     let text: &[u8] = b"3 1 0 2 0\n4 d 3 0\n";
     for left in 0..text.len() {
-        let mut source = source(text, 1);
-        source.fails_at = Some(left);
+        let mut source = SliceSource::new(text, 1);
+        source.fail_at(Some(left));
         let mut reader = StepReader::new(rt.alloc(), 1000);
         // The first step is given once the token behind its line is ended.
         let steps = if left <= 6 { 1 } else { 0 };
@@ -239,10 +196,10 @@ fn a_read_fails(rt: HostRuntime) -> Result<(), Fail> {
         }
         let line = reader.line();
         assert!(rt; matches!(reader.next(&mut source), Err(StepError::ReadFault)));
-        let reads = source.reads;
+        let reads = source.reads();
         assert!(rt; matches!(reader.next(&mut source), Err(StepError::ReadFault)));
         assert_eq!(rt;
-            (source.faults, source.reads, reader.line()),
+            (source.faults(), source.reads(), reader.line()),
             (1, reads, line)
         );
     }
@@ -251,14 +208,14 @@ fn a_read_fails(rt: HostRuntime) -> Result<(), Fail> {
 
 #[test]
 fn a_refusal_stays(rt: HostRuntime) -> Result<(), Fail> {
-    let mut source = source(b"3 1 0 2 0\n\n4 d\n5 0 1 0\n", 1);
+    let mut source = SliceSource::new(b"3 1 0 2 0\n\n4 d\n5 0 1 0\n", 1);
     let mut reader = StepReader::new(rt.alloc(), 1000);
     assert_eq!(rt; reader.line(), 1);
     assert!(rt; matches!(reader.next(&mut source), Ok(Some((_, 1)))));
     assert!(rt; matches!(reader.next(&mut source), Err(StepError::Syntax(3))));
-    let reads = source.reads;
+    let reads = source.reads();
     assert!(rt; matches!(reader.next(&mut source), Err(StepError::Syntax(3))));
-    assert_eq!(rt; source.reads, reads);
+    assert_eq!(rt; source.reads(), reads);
     Ok(())
 }
 

@@ -1,4 +1,5 @@
--- What nodes and live clauses have to do with each other.
+-- What nodes and live clauses have to do with each other. (Bryant, Heule: Generating Extended Resolution Proofs with a
+-- BDD-Based SAT Solver, 2021, section 4.)
 use Rattle.std.specs.Prelude.{◌≡◌, ◌⊎◌, ℕ, ◌<◌, ◌≤◌, ℤ, nat_abs, List, Some, IsTrue, is_some}
 use Rattle.std.specs.List.{list_any}
 use Rattle.std.specs.Ordering.{int_eq}

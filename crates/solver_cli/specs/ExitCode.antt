@@ -1,4 +1,5 @@
--- The exit codes, and the status for what a reader or the checker answers.
+-- The exit codes, and the status for what a reader or the checker answers. (SAT Competitions, output format: 10, 20
+-- and 0 of an answer. The other codes are this project's own.)
 use Rattle.std.specs.Prelude.{ℕ}
 use Rattle.dimacs_reader.specs.declared.error.CnfError.{CnfError}
 use Rattle.dimacs_reader.specs.declared.error.CnfError.TheVariants.{Refused, ReadFault as CnfReadFault, TooLong as CnfTooLong, OutOfMemory as CnfOutOfMemory}

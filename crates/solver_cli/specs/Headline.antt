@@ -185,7 +185,7 @@ pub record FaultsAreCounted (run : Run) : Type 0 where
   pub write : run.status ≡ WriteFault → HasFault run ProofOut ⊎ HasFault run Out
   pub accepted : run.status ≡ WriteFault → MayMean run.words AsksHelp ⊎ (IsTrue run.tells → TextsAreRead run)
 
--- no call of this role failed
+-- the role's count of faults stayed: none of its calls failed, unless the count stood at the end of its type
 abbrev pub IsUnfailed : Run → Role → Type 0
 IsUnfailed run role = (run.after role).faults ≡ (run.before role).faults
 

@@ -1,53 +1,8 @@
 // Texts and their tokens, read in pieces of several sizes. The expected tokens are those of the format's rules.
 use super::*;
-use host_io::{Failed, Source};
+use host_io::SliceSource;
 use std::alloc::{AllocError, Global};
 use std::test::Fail;
-
-/// A text in memory that gives at most `piece` bytes a read. From `fails_at` bytes left on each read fails.
-#[derive(Drop)]
-struct SliceSource<'a> {
-    rest: &'a [u8],
-    piece: usize,
-    fails_at: Option<usize>,
-    faults: u64,
-    reads: u64,
-}
-
-impl<'a> SliceSource<'a> {
-    fn new(text: &'a [u8], piece: usize) -> Self {
-        SliceSource {
-            rest: text,
-            piece,
-            fails_at: None,
-            faults: 0,
-            reads: 0,
-        }
-    }
-}
-
-impl Source for SliceSource<'_> {
-    ghost use Rattle.std.specs.Prelude.{false, None, []};
-
-    ghost tells = { false };
-
-    ghost channel = { λ s. record { name = None; faults = s.faults; taken = []; left = []; written = []; flushed = 0 } };
-
-    ghost beside = { λ _. record { lenders = []; rest = None } };
-
-    fn read(&mut self, buf: &mut [u8]) -> Result<usize, Failed> {
-        self.reads = self.reads.saturating_add(1);
-        if self.fails_at == Some(self.rest.len()) {
-            self.faults = self.faults.saturating_add(1);
-            return Err(Failed);
-        }
-        let len = self.rest.len().min(self.piece).min(buf.len());
-        let (front, rest) = self.rest.split_at(len);
-        buf[..len].copy_from_slice(front);
-        self.rest = rest;
-        Ok(len)
-    }
-}
 
 /// What a scanner gives: each token with its line, a long one marked, and how it ends.
 fn listing(
@@ -104,13 +59,13 @@ fn gives_the_tokens(rt: HostRuntime) -> Result<(), Fail> {
             let mut scanner = Scanner::new(b'c', limit);
             let given = listing(rt.alloc(), &mut scanner, &mut source)?;
             assert_eq!(rt; given.as_str(), wanted, "in pieces of {piece}");
-            let reads = source.reads;
+            let reads = source.reads();
             let again = listing(rt.alloc(), &mut scanner, &mut source)?;
             assert!(rt;
                 given.as_str().ends_with(again.as_str()),
                 "{again} after {given}"
             );
-            assert_eq!(rt; source.reads, reads);
+            assert_eq!(rt; source.reads(), reads);
         }
     }
     Ok(())
@@ -141,14 +96,14 @@ fn marks_long_tokens(rt: HostRuntime) -> Result<(), Fail> {
 #[test]
 fn a_fault_stays(rt: HostRuntime) -> Result<(), Fail> {
     let mut source = SliceSource::new(b"1\n2 3 4", 1);
-    source.fails_at = Some(2);
+    source.fail_at(Some(2));
     let mut scanner = Scanner::new(b'c', 99);
     let given = listing(rt.alloc(), &mut scanner, &mut source)?;
     assert_eq!(rt; given.as_str(), "1:1 2:2 a read failed 2");
-    source.fails_at = None;
+    source.fail_at(None);
     let again = listing(rt.alloc(), &mut scanner, &mut source)?;
     assert_eq!(rt; again.as_str(), "a read failed 2");
-    assert_eq!(rt; source.faults, 1);
+    assert_eq!(rt; source.faults(), 1);
     Ok(())
 }
 
