@@ -1,0 +1,2 @@
+//! Tests of `solver_cli` over hosts in memory whose calls fail. What a user sees is tested by the cases in `tests/`.
+#![tactic(auto)]
