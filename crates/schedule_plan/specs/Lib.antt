@@ -1,2 +1,3 @@
+pub mod Limits
 pub mod Order
 pub mod Plan

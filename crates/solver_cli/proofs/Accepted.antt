@@ -10,10 +10,10 @@ use Rattle.solver_cli.specs.declared.status.Status.{Status}
 use Rattle.solver_cli.specs.declared.status.Status.TheVariants.{Help, Usage, CnfRefused, TooLong, ReadFault, WriteFault, OutOfMemory}
 use Rattle.solver_cli.specs.declared.answer.Answer.{Answer}
 use Rattle.solver_cli.specs.declared.answer.Answer.TheVariants.{Satisfiable, Unsatisfiable, NodesUsed, NumbersUsed}
-use Rattle.term_runner.specs.declared.outcome.Limits.{Limits}
+use Rattle.schedule_plan.specs.declared.limits.Limits.{Limits}
 use Rattle.term_runner.specs.Proofs.{IsProof, IsProofSoFar}
 use Rattle.solver_cli.specs.Answer.{status_of}
-use Rattle.solver_cli.specs.Command.{Command, Solve, formula_file, command}
+use Rattle.command_line.specs.Command.{Command, Solve, formula_file, command}
 use Rattle.solver_cli.specs.ErrorText.{is_answer}
 use Rattle.solver_cli.specs.Phases.{TakesFormula}
 use Rattle.solver_cli.specs.Stages.{streams_of, Unplanned, Uncreated, Undecided}

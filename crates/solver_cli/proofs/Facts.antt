@@ -11,8 +11,8 @@ use Rattle.dimacs_reader.specs.Cnf.{CnfText, formula, refusal, overlong}
 use Rattle.solver_cli.specs.declared.status.Status.{Status}
 use Rattle.solver_cli.specs.declared.status.Status.TheVariants.{Sat, Unsat, Unknown, Verified, NotVerified, Help, Usage, CnfRefused, TooLong, ReadFault, WriteFault, OutOfMemory}
 use Rattle.solver_cli.specs.ErrorText.{is_answer}
-use Rattle.term_runner.specs.declared.outcome.Limits.{Limits}
-use Rattle.solver_cli.specs.Command.{Command, Solve, Check, formula_file, Meaning, Asks, AsksHelp, Misuse, IsOneOf, MayMean, CanOnlyMean, meanings, only_command, command}
+use Rattle.schedule_plan.specs.declared.limits.Limits.{Limits}
+use Rattle.command_line.specs.Command.{Command, Solve, Check, formula_file, Meaning, Asks, AsksHelp, Misuse, IsOneOf, MayMean, CanOnlyMean, meanings, only_command, command}
 use Rattle.solver_cli.specs.Phases.{IsRead, IsReadStatus, IsProofStatus}
 
 -- what was written behind what stood there

@@ -7,7 +7,7 @@ use Rattle.host_io.specs.declared.source.Failed.{Failed}
 use Rattle.dimacs_reader.specs.declared.error.CnfKind.{CnfKind}
 use Rattle.solver_cli.specs.declared.status.Status.{Status}
 use Rattle.solver_cli.specs.declared.status.Status.TheVariants.{Help, Usage, CnfRefused, TooLong, ReadFault, WriteFault, OutOfMemory}
-use Rattle.solver_cli.specs.Command.{AsksHelp, Misuse}
+use Rattle.command_line.specs.Command.{AsksHelp, Misuse}
 use Rattle.solver_cli.specs.ErrorText.{is_answer}
 use Rattle.solver_cli.specs.Phases.{PutsText}
 use Rattle.solver_cli.specs.Stages.{streams_of, Helped, status_of_help}

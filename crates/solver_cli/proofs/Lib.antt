@@ -3,8 +3,6 @@ pub mod Judging
 pub mod Staged
 pub mod StagedCheck
 pub mod Complaints
-pub mod Numbers
-pub mod Meant
 pub mod Facts
 pub mod Promised
 pub mod Helped

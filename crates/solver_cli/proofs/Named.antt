@@ -9,8 +9,8 @@ use Rattle.host_io.specs.declared.source.Failed.{Failed}
 use Rattle.solver_cli.specs.declared.status.Status.{Status}
 use Rattle.solver_cli.specs.declared.answer.Answer.{Answer}
 use Rattle.solver_cli.specs.declared.answer.Answer.TheVariants.{Satisfiable, Unsatisfiable, NodesUsed, NumbersUsed}
-use Rattle.term_runner.specs.declared.outcome.Limits.{Limits}
-use Rattle.solver_cli.specs.Command.{Command, Solve, Check, formula_file, command}
+use Rattle.schedule_plan.specs.declared.limits.Limits.{Limits}
+use Rattle.command_line.specs.Command.{Command, Solve, Check, formula_file, command}
 use Rattle.solver_cli.specs.Phases.{Complains}
 use Rattle.solver_cli.specs.Stages.{Streams, streams_of, Came, CameToCheck, Stages, status_after}
 use Rattle.solver_cli.specs.Headline.{Run, ErrorStands, NamesAreGiven, name_given, ends_before_proof}

@@ -14,11 +14,11 @@ use Rattle.solver_cli.specs.declared.status.Why.{Why}
 use Rattle.solver_cli.specs.declared.status.Why.TheVariants.{NodeLimit, IdLimit}
 use Rattle.solver_cli.specs.declared.answer.Answer.{Answer}
 use Rattle.solver_cli.specs.declared.answer.Answer.TheVariants.{Satisfiable, Unsatisfiable, NodesUsed, NumbersUsed}
-use Rattle.term_runner.specs.declared.outcome.Limits.{Limits}
+use Rattle.schedule_plan.specs.declared.limits.Limits.{Limits}
 use Rattle.term_runner.specs.Proofs.{Refutation, IsProof}
 use Rattle.term_runner.specs.Recovered.{IsRecovered}
 use Rattle.solver_cli.specs.Answer.{Holds, order_of, plan_of, answer_text, status_of}
-use Rattle.solver_cli.specs.Command.{Solve, command}
+use Rattle.command_line.specs.Command.{Solve, command}
 use Rattle.solver_cli.specs.ErrorText.{is_answer}
 use Rattle.solver_cli.specs.Phases.{PutsText}
 use Rattle.solver_cli.specs.Stages.{streams_of, Answered, status_after}

@@ -9,7 +9,7 @@ use Rattle.dimacs_reader.specs.declared.error.CnfKind.{CnfKind}
 use Rattle.dimacs_reader.specs.Cnf.{CnfText, formula, refusal, overlong, cnf}
 use Rattle.solver_cli.specs.declared.status.Status.{Status}
 use Rattle.solver_cli.specs.declared.status.Status.TheVariants.{Help, Usage, CnfRefused, TooLong, ReadFault, WriteFault, OutOfMemory}
-use Rattle.solver_cli.specs.Command.{Command, formula_file, AsksHelp, Misuse, command}
+use Rattle.command_line.specs.Command.{Command, formula_file, AsksHelp, Misuse, command}
 use Rattle.solver_cli.specs.ErrorText.{is_answer}
 use Rattle.solver_cli.specs.Phases.{IsReadStatus}
 use Rattle.solver_cli.specs.Stages.{Streams, streams_of, Misused, Untaken}

@@ -9,7 +9,7 @@ use Rattle.lrat_rules.specs.declared.outcome.Reason.{Reason}
 use Rattle.lrat_checker.specs.TextVerdict.{max_bytes, text_verdict}
 use Rattle.solver_cli.specs.declared.status.Status.{Status}
 use Rattle.solver_cli.specs.declared.status.Status.TheVariants.{Sat, Unsat, Unknown, Verified, NotVerified, Help, Usage, CnfRefused, TooLong, ReadFault, WriteFault, OutOfMemory}
-use Rattle.solver_cli.specs.Command.{Command, Check, formula_file}
+use Rattle.command_line.specs.Command.{Command, Check, formula_file}
 use Rattle.solver_cli.specs.Headline.{Run, written_in, AsksFor, AsksToJudge, IsRefuted, Promises}
 use Rattle.solver_cli.specs.SolveThenCheck.{ChecksSolved, MayEnd}
 use Rattle.solver_cli.proofs.Facts.{one_text, one_proof, two_commands, no_misuse, no_help, same_formula}

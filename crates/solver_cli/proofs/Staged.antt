@@ -10,7 +10,7 @@ use Rattle.host_io.specs.Files.{Files, Opens, Others}
 use Rattle.solver_cli.specs.declared.answer.Answer.{Answer}
 use Rattle.solver_cli.specs.declared.status.Status.{Status}
 use Rattle.solver_cli.specs.declared.status.Status.TheVariants.{WriteFault, OutOfMemory}
-use Rattle.term_runner.specs.declared.outcome.Limits.{Limits}
+use Rattle.schedule_plan.specs.declared.limits.Limits.{Limits}
 use Rattle.solver_cli.specs.Answer.{answer_text}
 use Rattle.solver_cli.specs.Phases.{TakesFormula, WritesProof, PutsText}
 use Rattle.solver_cli.specs.Stages.{streams_of, Came, status_after}

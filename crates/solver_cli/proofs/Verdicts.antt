@@ -15,7 +15,7 @@ use Rattle.lrat_checker.specs.declared.verdict.CheckError.TheVariants as error
 use Rattle.solver_cli.specs.declared.status.Status.{Status}
 use Rattle.solver_cli.specs.declared.status.Status.TheVariants.{Sat, Unsat, Unknown, Verified, NotVerified, WriteFault}
 use Rattle.solver_cli.specs.declared.status.Why.{Why}
-use Rattle.solver_cli.specs.Command.{Check, command}
+use Rattle.command_line.specs.Command.{Check, command}
 use Rattle.solver_cli.specs.ErrorText.{is_answer}
 use Rattle.solver_cli.specs.Verdict.{verdict_text, status_of_verdict}
 use Rattle.solver_cli.specs.Phases.{JudgesText, PutsText}

@@ -5,9 +5,9 @@ use Rattle.host_io.specs.Channel.{Channel}
 use Rattle.host_io.specs.Files.{Files, FilesBut, same_role, Others, Kept}
 use Rattle.host_io.specs.declared.role.Role.{Role}
 use Rattle.host_io.specs.declared.role.Role.TheVariants.{Cnf, Order, Schedule, ProofIn, ProofOut, Made, Out, Err as ErrRole}
-use Rattle.term_runner.specs.declared.outcome.Limits.{Limits}
+use Rattle.schedule_plan.specs.declared.limits.Limits.{Limits}
 use Rattle.solver_cli.specs.Phases.{Complains}
-use Rattle.solver_cli.specs.Command.{Solve, Check, limits_asked}
+use Rattle.command_line.specs.Command.{Solve, Check, limits_asked}
 use Rattle.solver_cli.specs.Stages.{Streams, streams_of, Undecided, Answered, Came, CameToCheck, Stages}
 use Rattle.solver_cli.specs.Headline.{Run, limits_given, FailuresAreTold, Promises}
 use Rattle.solver_cli.proofs.Promised.{Core, misused, untaken}

@@ -4,7 +4,7 @@ use Rattle.cnf_base.specs.Formula.{Formula}
 use Rattle.schedule_plan.specs.Order.{natural}
 use Rattle.schedule_plan.specs.Plan.{conjoin}
 use Rattle.schedule_plan.specs.declared.plan.Move.{Move}
-use Rattle.term_runner.specs.declared.outcome.Limits.{Limits}
+use Rattle.schedule_plan.specs.declared.limits.Limits.{Limits}
 use Rattle.term_runner.specs.declared.outcome.Outcome.{Outcome}
 use Rattle.term_runner.specs.declared.outcome.Outcome.TheVariants as outcome
 use Rattle.term_runner.specs.Proofs.{Refutation, NodesAreUsed, NumbersAreUsed}

@@ -14,7 +14,7 @@ use Rattle.lrat_rules.specs.declared.outcome.Reason.{Reason}
 use Rattle.lrat_checker.specs.TextVerdict.{max_bytes, text_verdict}
 use Rattle.lrat_checker.specs.declared.verdict.Verdict.{Verdict}
 use Rattle.lrat_checker.specs.declared.verdict.Verdict.TheVariants as judgement
-use Rattle.term_runner.specs.declared.outcome.Limits.{Limits}
+use Rattle.schedule_plan.specs.declared.limits.Limits.{Limits}
 use Rattle.term_runner.specs.Clauses.{has_empty_clause, one_line}
 use Rattle.term_runner.specs.Proofs.{IsProof, IsProofSoFar, NodesAreUsed, NumbersAreUsed}
 use Rattle.term_runner.specs.Needs.{NeedsMore}
@@ -25,7 +25,7 @@ use Rattle.solver_cli.specs.declared.status.Why.TheVariants.{NodeLimit, IdLimit}
 use Rattle.solver_cli.specs.declared.status.Status.{Status}
 use Rattle.solver_cli.specs.declared.status.Status.TheVariants.{Sat, Unsat, Unknown, Verified, NotVerified, Help, Usage, CnfRefused, TooLong, ReadFault, WriteFault, OutOfMemory}
 use Rattle.solver_cli.specs.declared.answer.Answer.{Answer}
-use Rattle.solver_cli.specs.Command.{Command, Solve, Check, formula_file, AsksHelp, Misuse, MayMean, CanOnlyMean, command, limits_asked}
+use Rattle.command_line.specs.Command.{Command, Solve, Check, formula_file, AsksHelp, Misuse, MayMean, CanOnlyMean, command, limits_asked}
 use Rattle.solver_cli.specs.ErrorText.{error_text, is_answer}
 use Rattle.solver_cli.specs.Answer.{Holds, order_of, plan_of, answer_text, status_of}
 use Rattle.solver_cli.specs.Verdict.{verdict_text, status_of_verdict}

@@ -1,6 +1,3 @@
-pub mod Parser
-pub mod Command
-pub mod Reading
 pub mod ErrorText
 pub mod ExitCode
 pub mod Answer

@@ -15,7 +15,7 @@ use Rattle.lrat_checker.specs.declared.verdict.CheckError.TheVariants.{ReadFault
 use Rattle.schedule_plan.specs.Plan.{IsAdmissible}
 use Rattle.schedule_plan.specs.declared.plan.Move.{Move}
 use Rattle.term_runner.specs.Moves.{quantifies}
-use Rattle.term_runner.specs.declared.outcome.Limits.{Limits}
+use Rattle.schedule_plan.specs.declared.limits.Limits.{Limits}
 use Rattle.term_runner.specs.Proofs.{IsProof, IsProofSoFar}
 use Rattle.solver_cli.specs.Answer.{Holds, order_of, plan_of}
 use Rattle.solver_cli.specs.ErrorText.{error_text}

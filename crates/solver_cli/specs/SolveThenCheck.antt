@@ -4,7 +4,7 @@ use Rattle.host_io.specs.declared.role.Role.TheVariants.{Cnf, ProofIn, ProofOut,
 use Rattle.lrat_checker.specs.TextVerdict.{max_bytes}
 use Rattle.solver_cli.specs.declared.status.Status.{Status}
 use Rattle.solver_cli.specs.declared.status.Status.TheVariants.{Sat, Unsat, Unknown, Verified, NotVerified, Help, Usage, CnfRefused, TooLong, ReadFault, WriteFault, OutOfMemory}
-use Rattle.solver_cli.specs.Command.{Command, Check, formula_file, command}
+use Rattle.command_line.specs.Command.{Command, Check, formula_file, command}
 use Rattle.solver_cli.specs.Headline.{Run, written_in, HasFault}
 
 -- One run found a formula unsatisfiable. Another judges a proof over the same text of a formula, and the proof's file

@@ -8,15 +8,15 @@ use Rattle.host_io.specs.Channel.{Channel}
 use Rattle.host_io.specs.Files.{Files, Opens}
 use Rattle.lrat_checker.specs.declared.verdict.Verdict.{Verdict}
 use Rattle.lrat_checker.specs.declared.verdict.CheckError.{CheckError}
-use Rattle.term_runner.specs.declared.outcome.Limits.{Limits}
+use Rattle.schedule_plan.specs.declared.limits.Limits.{Limits}
 use Rattle.solver_cli.specs.declared.answer.Answer.{Answer}
 use Rattle.solver_cli.specs.declared.status.Status.{Status}
 use Rattle.solver_cli.specs.declared.status.Status.TheVariants.{Help, Usage, WriteFault, OutOfMemory}
-use Rattle.term_runner.specs.declared.outcome.Limits.{Limits}
+use Rattle.schedule_plan.specs.declared.limits.Limits.{Limits}
 use Rattle.solver_cli.specs.Answer.{answer_text, status_of}
 use Rattle.solver_cli.specs.Verdict.{verdict_text, status_of_verdict}
 use Rattle.solver_cli.specs.ExitCode.{status_of_check}
-use Rattle.solver_cli.specs.Command.{Solve, Check, AsksHelp, Misuse, MayMean, command}
+use Rattle.command_line.specs.Command.{Solve, Check, AsksHelp, Misuse, MayMean, command}
 use Rattle.solver_cli.specs.Phases.{TakesFormula, JudgesProof, WritesProof, PutsText}
 
 -- the formula's file, the proof that is judged, the proof that is written, and standard output

@@ -9,7 +9,7 @@ ghost use Rattle.solver_cli.specs.Phases.{PutsText};
 use crate::answer::Answer;
 use answer_text::{write_id_limit, write_node_limit, write_sat, write_unsat};
 use host_io::{Failed, Host, HostSink, Role, Sink, beside_kept, write_all};
-use term_runner::Limits;
+use schedule_plan::Limits;
 
 /// Prints the answer that was found within these limits, and flushes standard output.
 pub fn put_answer<H: Host>(host: &mut H, answer: &Answer, limits: Limits) -> Result<(), Failed>

@@ -2,7 +2,7 @@
 ghost use Rattle.std.specs.Prelude.{◌≡◌, ◌≢◌, [], IfOk, None};
 ghost use Rattle.host_io.specs.declared.role.Role.TheVariants.{ProofOut};
 ghost use Rattle.host_io.specs.Files.{Kept};
-ghost use Rattle.term_runner.specs.Ends.{AreLimits};
+ghost use Rattle.schedule_plan.specs.Limits.{AreLimits};
 ghost use Rattle.solver_cli.specs.Phases.{IsScheduled, WritesProof};
 
 use crate::answer::Answer;

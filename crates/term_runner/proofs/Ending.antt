@@ -10,7 +10,7 @@ use Rattle.node_table.specs.declared.error.TableError.TheVariants as table
 use Rattle.schedule_plan.specs.declared.plan.Move.{Move}
 use Rattle.term_runner.specs.declared.error.RunError.{RunError}
 use Rattle.term_runner.specs.declared.error.RunError.TheVariants.{NodeLimit, IdLimit, OutOfMemory, WriteFault}
-use Rattle.term_runner.specs.declared.outcome.Limits.{Limits}
+use Rattle.schedule_plan.specs.declared.limits.Limits.{Limits}
 use Rattle.term_runner.specs.declared.outcome.Outcome.{Outcome}
 use Rattle.term_runner.specs.declared.outcome.Outcome.TheVariants.{Unsat}
 use Rattle.term_runner.specs.declared.outcome.Run.{Run}

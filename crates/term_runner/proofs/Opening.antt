@@ -19,7 +19,7 @@ use Rattle.node_table.specs.Table.{TableState, live_nodes}
 use Rattle.node_table.specs.Progress.{Continues, BreaksOff}
 use Rattle.schedule_plan.specs.Order.{IsOrder}
 use Rattle.schedule_plan.specs.declared.plan.Move.{Move}
-use Rattle.term_runner.specs.declared.outcome.Limits.{Limits}
+use Rattle.schedule_plan.specs.declared.limits.Limits.{Limits}
 use Rattle.term_runner.specs.declared.outcome.Outcome.{Outcome}
 use Rattle.term_runner.specs.declared.outcome.Outcome.TheVariants.{Unsat}
 use Rattle.term_runner.specs.Clauses.{is_tautology, has_empty_clause}

@@ -6,7 +6,7 @@ use Rattle.host_io.specs.Channel.{Channel, Rose}
 use Rattle.schedule_plan.specs.declared.plan.Move.{Move}
 use Rattle.term_runner.specs.declared.error.RunError.{RunError}
 use Rattle.term_runner.specs.declared.error.RunError.TheVariants.{NodeLimit, IdLimit, OutOfMemory, WriteFault}
-use Rattle.term_runner.specs.declared.outcome.Limits.{Limits}
+use Rattle.schedule_plan.specs.declared.limits.Limits.{Limits}
 use Rattle.term_runner.specs.declared.outcome.Outcome.{Outcome}
 use Rattle.term_runner.specs.declared.outcome.Outcome.TheVariants.{Unsat, Sat}
 use Rattle.term_runner.specs.declared.outcome.Run.{Run}
@@ -14,12 +14,6 @@ use Rattle.term_runner.specs.Clauses.{is_tautology}
 use Rattle.term_runner.specs.Proofs.{IsProof, IsProofSoFar, LeadsTo, Refutation, NodesAreUsed, NumbersAreUsed}
 use Rattle.term_runner.specs.Recovered.{IsRecovered}
 use Rattle.term_runner.specs.Needs.{NeedsMore}
-
--- the limits that a run may be given
-pub record AreLimits (limits : Limits) : Type 0 where
-  pub cache : 1 ≤ limits.cache
-  pub max_nodes : limits.max_nodes ≤ 100000000
-  pub max_ids : limits.max_ids ≤ 1000000000
 
 -- the values of a satisfying outcome are recovered
 abbrev pub IsFound : Formula → List ℕ → List Move → Outcome → Type 0

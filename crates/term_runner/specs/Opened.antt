@@ -9,7 +9,7 @@ use Rattle.clause_ledger.specs.Book.{Book, IsProofOf}
 use Rattle.node_table.specs.declared.error.TableError.{TableError}
 use Rattle.node_table.specs.declared.error.TableError.TheVariants.{NodeLimit, IdLimit, WriteFault}
 use Rattle.schedule_plan.specs.declared.plan.Move.{Move}
-use Rattle.term_runner.specs.declared.outcome.Limits.{Limits}
+use Rattle.schedule_plan.specs.declared.limits.Limits.{Limits}
 use Rattle.term_runner.specs.declared.outcome.Outcome.{Outcome}
 use Rattle.term_runner.specs.declared.outcome.Outcome.TheVariants.{Unsat}
 use Rattle.term_runner.specs.declared.outcome.Run.{Run}

@@ -8,7 +8,7 @@ ghost use Rattle.host_io.specs.Channel.{Channel, Rose};
 ghost use Rattle.clause_ledger.specs.Book.{IsProofOf, OnlyWrites, next_line};
 ghost use Rattle.schedule_plan.specs.declared.plan.Move.{Move};
 ghost use Rattle.node_table.specs.declared.error.TableError.TheVariants.{NodeLimit, IdLimit, WriteFault};
-ghost use Rattle.term_runner.specs.declared.outcome.Limits.{Limits};
+ghost use Rattle.schedule_plan.specs.declared.limits.Limits.{Limits};
 ghost use Rattle.term_runner.specs.declared.outcome.Outcome.TheVariants.{Unsat};
 ghost use Rattle.term_runner.specs.Clauses.{first_empty, has_empty_clause};
 ghost use Rattle.term_runner.specs.Ends.{Ends};

@@ -17,8 +17,9 @@ mod unit;
 pub use clause_terms::{Model, push_clause, recover};
 pub use error::RunError;
 pub use law::conjoining_law;
-pub use outcome::{Limits, Outcome, Run};
+pub use outcome::{Outcome, Run};
 pub use run::{run_plan, run_plan_into};
+pub use schedule_plan::Limits;
 
 #[cfg(test)]
 mod tests;

@@ -1,16 +1,5 @@
-// What a run of a plan finds, and within which limits.
+// What a run of a plan finds.
 use clause_terms::Model;
-
-/// How much a run may use.
-#[derive(Clone, Copy, Debug, PartialEq, Eq)]
-pub struct Limits {
-    /// Entries of the cache of conjunctions, at least 1. Not in force yet: none is pushed out.
-    pub cache: u32,
-    /// Inner nodes live at once, at most 100,000,000.
-    pub max_nodes: u32,
-    /// The greatest clause number, at most 1,000,000,000.
-    pub max_ids: u64,
-}
 
 /// What was found of a formula.
 #[derive(Debug, Drop)]

@@ -3,7 +3,8 @@ ghost use Rattle.std.specs.Prelude.{◌≡◌, [], length, IsTrue, IsFalse};
 ghost use Rattle.std.specs.List.{list_any};
 ghost use Rattle.schedule_plan.specs.Plan.{IsAdmissible};
 ghost use Rattle.term_runner.specs.Moves.{quantifies};
-ghost use Rattle.term_runner.specs.Ends.{AreLimits, Ends};
+ghost use Rattle.schedule_plan.specs.Limits.{AreLimits};
+ghost use Rattle.term_runner.specs.Ends.{Ends};
 
 use crate::decide::decide;
 use crate::error::RunError;

@@ -1,7 +1,7 @@
 // What no clause shows: the lines of the proof, and that calls succeed where there is memory. The lines of the two opposite
 // units are worked out by hand.
 ghost use Rattle.std.specs.Prelude.{◌≡◌, ◌≤◌, ◌+◌, [], OnOk, IfOk, IsTrue, length};
-ghost use Rattle.term_runner.specs.Ends.{AreLimits};
+ghost use Rattle.schedule_plan.specs.Limits.{AreLimits};
 
 use crate::{Limits, Outcome, Run, RunError, conjoining_law, run_plan};
 use cnf_base::{Cnf, CnfBuilder, Lit};

@@ -1,0 +1,127 @@
+-- The meaning of the program's words, its own name first: what the parser of command lines makes of them (`fault_of`,
+-- `subcommand_of`: the kinds of its refusal, and the values that it reads), and then this program's own tests.
+use Rattle.std.specs.Prelude.{ℕ, List, [], ◌∷◌, Option, None, Some, codes, length, map, nat_le, if◌then◌else◌, ◌≡◌, ◌⊎◌}
+use Rattle.std.specs.Option.{option_and_then}
+use Rattle.std.specs.Str.{bytes_eq}
+use Rattle.clap.specs.Words.{Row, Text, first_of, fault_of, subcommand_of}
+use Rattle.clap.specs.declared.error.ErrorKind.{ErrorKind}
+use Rattle.clap.specs.declared.error.ErrorKind.TheVariants as kind
+use Rattle.cnf_base.specs.Number.{numeral_value}
+use Rattle.schedule_plan.specs.declared.limits.Limits.{Limits}
+use Rattle.command_line.specs.Parser.{the_app}
+
+-- decide this formula's file within limits and write the proof to that one, or judge the proof in that one over it
+pub data Command : Type 0 where
+  Solve : Text → Text → Limits → Command
+  Check : Text → Text → Command
+
+-- the formula's file
+abbrev pub formula_file : Command → Text
+formula_file (Solve file proof limits) = file
+formula_file (Check file proof) = file
+
+-- the limits where the words give none
+abbrev pub default_limits : Limits
+default_limits = record { cache = 1000000; max_nodes = 10000000; max_ids = 1000000000 }
+
+-- the limits that a command runs within
+abbrev pub limits_of : Command → Limits
+limits_of (Solve file proof limits) = limits
+limits_of (Check file proof) = default_limits
+
+-- what words may mean: a command, the wish for help, or nothing that the program does
+pub data Meaning : Type 0 where
+  Asks : Command → Meaning
+  AsksHelp : Meaning
+  Misuse : Meaning
+
+-- what a refusal of the parser means: one of them is its showing of help
+abbrev pub refusal_means : ErrorKind → Meaning
+refusal_means kind.DisplayHelp = AsksHelp
+refusal_means _ = Misuse
+
+-- two files have two names
+abbrev pub two_names : Option Text → Option Text → Option (Text × Text)
+two_names (Some file) (Some proof) = if bytes_eq file proof then None else Some (file, proof)
+two_names _ _ = None
+
+-- a number, where it is at most the greatest
+abbrev pub at_most : ℕ → ℕ → Option ℕ
+at_most greatest n = if nat_le n greatest then Some n else None
+
+-- 1 to 18 digits, of a value up to the greatest
+abbrev pub number_upto : ℕ → Text → Option ℕ
+number_upto greatest text = if nat_le (length text) 18 then option_and_then (at_most greatest) (numeral_value text) else None
+
+-- the number that an option gives, or the default without it
+abbrev pub number_given : ℕ → ℕ → Option Text → Option ℕ
+number_given default greatest None = Some default
+number_given default greatest (Some text) = number_upto greatest text
+
+-- the limits of these numbers of nodes and of identifiers
+abbrev pub limits_with : Option ℕ → Option ℕ → Option Limits
+limits_with (Some nodes) (Some ids) = Some (record default_limits { max_nodes = nodes; max_ids = ids })
+limits_with _ _ = None
+
+-- the limits that `--max-nodes` and `--max-ids` give
+abbrev pub limits_given : Option Text → Option Text → Option Limits
+limits_given nodes ids = limits_with (number_given default_limits.max_nodes 100000000 nodes) (number_given default_limits.max_ids 1000000000 ids)
+
+-- two files, and limits to solve within
+abbrev pub to_solve : Option (Text × Text) → Option Limits → Meaning
+to_solve (Some names) (Some limits) = Asks (Solve names.0 names.1 limits)
+to_solve _ _ = Misuse
+
+-- two files to check
+abbrev pub to_check : Option (Text × Text) → Meaning
+to_check (Some names) = Asks (Check names.0 names.1)
+to_check None = Misuse
+
+abbrev pub solve_means : List Row → Meaning
+solve_means rows =
+    to_solve (two_names (first_of (codes "FILE") rows) (first_of (codes "proof") rows)) (limits_given (first_of (codes "max-nodes") rows) (first_of (codes "max-ids") rows))
+
+abbrev pub check_means : List Row → Meaning
+check_means rows = to_check (two_names (first_of (codes "FILE") rows) (first_of (codes "PROOF") rows))
+
+-- what the values of a command mean
+abbrev pub command_means : Text → List Row → Meaning
+command_means name rows = if bytes_eq name (codes "solve") then solve_means rows else if bytes_eq name (codes "check") then check_means rows else Misuse
+
+-- what words mean that the parser takes; a command must be among them
+abbrev pub taken_means : Option (Text × List Row) → Meaning
+taken_means None = Misuse
+taken_means (Some taken) = command_means taken.0 taken.1
+
+abbrev pub means : List ErrorKind → Option (Text × List Row) → List Meaning
+means [] taken = taken_means taken ∷ []
+means (k ∷ more) taken = map refusal_means (k ∷ more)
+
+-- What the words may mean: one thing, but for words at which the parser leaves two kinds of refusal possible.
+unfoldable pub meanings : List Text → List Meaning
+meanings words = means (fault_of the_app words) (subcommand_of the_app words)
+
+abbrev pub IsOneOf : Meaning → List Meaning → Type 0
+IsOneOf meaning [] = ⊥
+IsOneOf meaning (m ∷ more) = (meaning ≡ m) ⊎ IsOneOf meaning more
+
+-- the words may mean this
+abbrev pub MayMean : List Text → Meaning → Type 0
+MayMean words meaning = IsOneOf meaning (meanings words)
+
+-- whatever they may mean is this
+abbrev pub CanOnlyMean : List Text → Meaning → Type 0
+CanOnlyMean words meaning = (other : Meaning) → MayMean words other → other ≡ meaning
+
+-- the command that the words give, if they give one
+abbrev pub only_command : List Meaning → Option Command
+only_command (Asks asked ∷ []) = Some asked
+only_command _ = None
+
+abbrev pub command : List Text → Option Command
+command words = only_command (meanings words)
+
+-- the limits of their run
+abbrev pub limits_asked : Option Command → Limits
+limits_asked None = default_limits
+limits_asked (Some asked) = limits_of asked

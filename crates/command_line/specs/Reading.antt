@@ -1,0 +1,31 @@
+-- What reading the words answers.
+use Rattle.std.specs.Prelude.{◌≡◌, ◌≢◌, ℕ, List, ⊤, Option, option_map}
+use Rattle.std.specs.Borrow.{Bor}
+use Rattle.clap.specs.declared.error.ErrorKind.{ErrorKind}
+use Rattle.clap.specs.declared.error.ErrorKind.TheVariants as kind
+use Rattle.command_line.specs.declared.words.Asked.{Asked}
+use Rattle.command_line.specs.declared.words.Asked.TheVariants as asked
+use Rattle.command_line.specs.declared.words.Refusal.{Refusal}
+use Rattle.command_line.specs.declared.words.Refusal.TheVariants as refusal
+use Rattle.command_line.specs.Command.{Command, Solve, Check, AsksHelp, Misuse, MayMean, refusal_means}
+
+-- the text behind a reference that may be there
+abbrev pub text_of : Option (Bor (List ℕ)) → Option (List ℕ)
+text_of = option_map (λ s. s.now)
+
+-- the command with its values
+abbrev pub command_of : Asked → Command
+command_of (asked.Solve files limits) = Solve files.formula.now files.proof.now limits
+command_of (asked.Check files) = Check files.formula.now files.proof.now
+
+-- what a refusal of the parser is, by its kind
+abbrev pub IsRefusalOf : ErrorKind → Refusal → Type 0
+IsRefusalOf k (refusal.Help text) = k ≡ kind.DisplayHelp
+IsRefusalOf k refusal.Usage = (k ≢ kind.OutOfMemory) × (refusal_means k ≡ Misuse)
+IsRefusalOf k refusal.OutOfMemory = ⊤
+
+-- the words may mean this refusal; want of memory is free
+abbrev pub IsRefusal : List (List ℕ) → Refusal → Type 0
+IsRefusal words (refusal.Help text) = MayMean words AsksHelp
+IsRefusal words refusal.Usage = MayMean words Misuse
+IsRefusal words refusal.OutOfMemory = ⊤

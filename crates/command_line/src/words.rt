@@ -1,0 +1,153 @@
+// The words of the command line: what the parser takes, and this program's own test of the names.
+ghost use Rattle.std.specs.Prelude.{◌≡◌, MatchOption, MatchResult, IfOk, IfErr, IfSome, None, Some, map};
+ghost use Rattle.std.specs.String.{string_bytes};
+ghost use Rattle.std.specs.Iterator.{IsFinite};
+ghost use Rattle.std.specs.Iterator.Runs.{WholeRun};
+ghost use Rattle.clap.specs.Words.{found_of, kind_of, rows_of, subcommand_rows_of};
+ghost use Rattle.schedule_plan.specs.Limits.{AreLimits};
+ghost use Rattle.command_line.specs.Command.{Asks, Misuse, check_means, command, command_means, limits_of, solve_means, taken_means, two_names};
+ghost use Rattle.command_line.specs.Reading.{IsRefusal, IsRefusalOf, command_of, text_of};
+
+use crate::limits::limits_given;
+use crate::parser::parser;
+use clap::ArgMatches;
+use clap::error::ErrorKind;
+use cnf_base::OutOfMemory;
+use schedule_plan::Limits;
+use std::alloc::Global;
+
+/// What the words ask for.
+#[derive(Drop)]
+pub enum Asked<'a> {
+    /// To decide the formula within the limits, and to write the proof.
+    Solve(FileNames<'a>, Limits),
+    /// To judge the proof over the formula.
+    Check(FileNames<'a>),
+}
+
+/// The files that a command is given: the formula's, and the proof's.
+#[derive(Drop)]
+pub struct FileNames<'a> {
+    pub formula: &'a str,
+    pub proof: &'a str,
+}
+
+/// Why the words ask for nothing that is to be done.
+#[derive(Drop)]
+pub enum Refusal {
+    /// They ask for help, which is this text.
+    Help(String),
+    /// They are faulty.
+    Usage,
+    OutOfMemory,
+}
+
+/// What the words ask for, the program's own name first.
+pub fn read_words(alloc: Global, words: &[String]) -> Result<Asked<'_>, Refusal>
+    ensures meant { MatchResult result (λ asked. command (map string_bytes words.now) ≡ Some (command_of asked))
+        (IsRefusal (map string_bytes words.now)) }
+    ensures limits { IfOk result (λ asked. AreLimits (limits_of (command_of asked))) }
+{
+    let Ok(parser) = parser(alloc) else {
+        return Err(Refusal::OutOfMemory);
+    };
+    match parser.try_get_matches_from(words) {
+        Ok(matches) => match asked_of(&matches) {
+            Some(asked) => Ok(asked),
+            None => Err(Refusal::Usage),
+        },
+        Err(error) => Err(refusal_of(alloc, &error)),
+    }
+}
+
+// What the words that the parser took ask for.
+fn asked_of<'a>(matches: &ArgMatches<'a>) -> Option<Asked<'a>>
+    ensures meant { MatchOption result (taken_means (subcommand_rows_of matches.now) ≡ Misuse)
+        (λ asked. taken_means (subcommand_rows_of matches.now) ≡ Asks (command_of asked)) }
+    ensures limits { IfSome result (λ asked. AreLimits (limits_of (command_of asked))) }
+{
+    match matches.subcommand() {
+        Some((name, values)) => command_named(name, values),
+        None => None,
+    }
+}
+
+// The command of this name, with its values.
+fn command_named<'a>(name: &str, values: &ArgMatches<'a>) -> Option<Asked<'a>>
+    ensures meant { MatchOption result (command_means name.now (rows_of (found_of values.now)) ≡ Misuse)
+        (λ asked. command_means name.now (rows_of (found_of values.now)) ≡ Asks (command_of asked)) }
+    ensures limits { IfSome result (λ asked. AreLimits (limits_of (command_of asked))) }
+{
+    if name == "solve" {
+        solve_asked(values)
+    } else if name == "check" {
+        check_asked(values)
+    } else {
+        None
+    }
+}
+
+fn solve_asked<'a>(values: &ArgMatches<'a>) -> Option<Asked<'a>>
+    ensures meant { MatchOption result (solve_means (rows_of (found_of values.now)) ≡ Misuse)
+        (λ asked. solve_means (rows_of (found_of values.now)) ≡ Asks (command_of asked)) }
+    ensures limits { IfSome result (λ asked. AreLimits (limits_of (command_of asked))) }
+{
+    let files = two_names(values.get_str("FILE"), values.get_str("proof"))?;
+    let limits = limits_given(values.get_str("max-nodes"), values.get_str("max-ids"))?;
+    Some(Asked::Solve(files, limits))
+}
+
+fn check_asked<'a>(values: &ArgMatches<'a>) -> Option<Asked<'a>>
+    ensures meant { MatchOption result (check_means (rows_of (found_of values.now)) ≡ Misuse)
+        (λ asked. check_means (rows_of (found_of values.now)) ≡ Asks (command_of asked)) }
+    ensures limits { IfSome result (λ asked. AreLimits (limits_of (command_of asked))) }
+{
+    let files = two_names(values.get_str("FILE"), values.get_str("PROOF"))?;
+    Some(Asked::Check(files))
+}
+
+// The two names, which have to differ.
+fn two_names<'a>(formula: Option<&'a str>, proof: Option<&'a str>) -> Option<FileNames<'a>>
+    ensures { MatchOption result (two_names (text_of formula.entry) (text_of proof.entry) ≡ None)
+        (λ files. two_names (text_of formula.entry) (text_of proof.entry) ≡ Some (files.formula.now, files.proof.now)) }
+{
+    let Some(formula) = formula else {
+        return None;
+    };
+    let Some(proof) = proof else {
+        return None;
+    };
+    if formula == proof {
+        None
+    } else {
+        Some(FileNames { formula, proof })
+    }
+}
+
+// What a refusal of the parser is; the text of help is made whole.
+fn refusal_of(alloc: Global, error: &clap::Error) -> Refusal
+    ensures { IsRefusalOf (kind_of error.now) result }
+{
+    match error.kind() {
+        ErrorKind::DisplayHelp => match error.to_string(alloc) {
+            Ok(text) => Refusal::Help(text),
+            Err(_) => Refusal::OutOfMemory,
+        },
+        ErrorKind::OutOfMemory => Refusal::OutOfMemory,
+        _ => Refusal::Usage,
+    }
+}
+
+/// The words of the command line, in a list: all that come, in turn.
+pub fn gather<I: Iterator<Item = String> + Drop>(
+    alloc: Global,
+    words: I,
+) -> Result<Vec<String>, OutOfMemory>
+    requires { I.can_next words × IsFinite (I.remaining words) }
+    ensures { IfOk result (λ list. WholeRun I.next_gives words (λ run. list.items ≡ run.items)) }
+{
+    match words.collect(alloc) {
+        Ok(list) => Ok(list),
+        Err(_) => Err(OutOfMemory),
+    }
+}

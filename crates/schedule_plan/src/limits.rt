@@ -1,0 +1,12 @@
+// How much a run of a plan may use.
+
+/// How much a run may use.
+#[derive(Clone, Copy, Debug, PartialEq, Eq)]
+pub struct Limits {
+    /// Entries of the cache of conjunctions, at least 1. Not in force yet: none is pushed out.
+    pub cache: u32,
+    /// Inner nodes live at once, at most 100,000,000.
+    pub max_nodes: u32,
+    /// The greatest clause number, at most 1,000,000,000.
+    pub max_ids: u64,
+}

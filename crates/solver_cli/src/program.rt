@@ -1,0 +1,137 @@
+// One run of the program.
+ghost use Rattle.std.specs.Prelude.{◌≡◌, None, map, IsFalse, true};
+ghost use Rattle.std.specs.String.{string_bytes};
+ghost use Rattle.host_io.specs.declared.role.Role.{Role};
+ghost use Rattle.host_io.specs.declared.role.Role.TheVariants.{Cnf as CnfRole, ProofIn, ProofOut, Out};
+ghost use Rattle.host_io.specs.Files.{FilesBut, Kept, same_role};
+ghost use Rattle.host_io.specs.Memory.{channel_of, files_of};
+ghost use Rattle.schedule_plan.specs.Limits.{AreLimits};
+ghost use Rattle.solver_cli.specs.Headline.{Promises};
+ghost use Rattle.solver_cli.specs.Stages.{Came, CameToCheck, ShowsHelp, Stages, streams_of};
+
+use crate::complaint::complain;
+use crate::formula::take_formula;
+use crate::judgement::judge;
+use crate::output::{put_answer, put_text};
+use crate::proof::{prove, schedule};
+use crate::status::Status;
+use crate::verdict::{put_verdict, verdict_status};
+use command_line::{Asked, FileNames, Refusal, read_words};
+use host_io::{Host, MemoryHost, Role as HostRole};
+use lrat_checker::check_law;
+use lrat_rules::soundness_law;
+use schedule_plan::Limits;
+use std::alloc::Global;
+
+fn work<H: Host>(alloc: Global, words: &[String], host: &mut H) -> Status
+    requires unnamed { (role : Role) → (H.channel host.old role).name ≡ None }
+    ensures stages { Stages H.tells (map string_bytes words.now) (streams_of (H.channel host.old)) (streams_of (H.channel host.new)) (H.files host.old) result }
+    ensures others { (role : Role) → IsFalse (same_role role CnfRole) → IsFalse (same_role role ProofIn) → IsFalse (same_role role ProofOut) → IsFalse (same_role role Out) → H.channel host.new role ≡ H.channel host.old role }
+    ensures files { FilesBut (H.channel host.new ProofOut).name (H.files host.old) (H.files host.new) }
+{
+    match read_words(alloc, words) {
+        Ok(Asked::Solve(files, limits)) => solve(alloc, &files, limits, host),
+        Ok(Asked::Check(files)) => check(alloc, &files, host),
+        Err(Refusal::Help(text)) => show_help(&text, host),
+        Err(Refusal::Usage) => Status::Usage,
+        Err(Refusal::OutOfMemory) => Status::OutOfMemory,
+    }
+}
+
+// Shows the help on standard output.
+fn show_help<H: Host>(text: &str, host: &mut H) -> Status
+    ensures helped { ShowsHelp H.tells (H.channel host.old Out) (H.channel host.new Out) result }
+    ensures kept { Kept Out (H.channel host.old Out).name (H.channel host.old) (H.channel host.new) (H.files host.old) (H.files host.new) }
+{
+    match put_text(host, text) {
+        Ok(()) => Status::Help,
+        Err(_) => Status::WriteFault,
+    }
+}
+
+// Reads the formula, decides it, writes the proof and prints the answer. The plan is made before the proof's file, so
+// that none is created where memory runs out by then.
+fn solve<H: Host>(alloc: Global, asked: &FileNames<'_>, limits: Limits, host: &mut H) -> Status
+    requires unnamed { (role : Role) → (H.channel host.old role).name ≡ None }
+    requires limits { AreLimits limits }
+    ensures came { Came H.tells (streams_of (H.channel host.old)) (streams_of (H.channel host.new)) (H.files host.old) asked.now.formula.now asked.now.proof.now limits result }
+    ensures others { (role : Role) → IsFalse (same_role role CnfRole) → IsFalse (same_role role ProofOut) → IsFalse (same_role role Out) → H.channel host.new role ≡ H.channel host.old role }
+    ensures files { FilesBut (H.channel host.new ProofOut).name (H.files host.old) (H.files host.new) }
+{
+    let formula = match take_formula(alloc, host, asked.formula) {
+        Ok(formula) => formula,
+        Err(status) => return status,
+    };
+    let Ok((order, plan)) = schedule(alloc, &formula) else {
+        return Status::OutOfMemory;
+    };
+    if host.create(HostRole::ProofOut, asked.proof).is_err() {
+        return Status::WriteFault;
+    }
+    let answer = match prove(alloc, host, &formula, &order, &plan, limits) {
+        Ok(answer) => answer,
+        Err(status) => return status,
+    };
+    match put_answer(host, &answer, limits) {
+        Ok(()) => answer.status(),
+        Err(_) => Status::WriteFault,
+    }
+}
+
+// Reads the formula, judges the proof over it and prints the verdict.
+fn check<H: Host>(alloc: Global, asked: &FileNames<'_>, host: &mut H) -> Status
+    requires unnamed { (role : Role) → (H.channel host.old role).name ≡ None }
+    ensures came { CameToCheck H.tells (streams_of (H.channel host.old)) (streams_of (H.channel host.new)) (H.files host.old) asked.now.formula.now asked.now.proof.now result }
+    ensures others { (role : Role) → IsFalse (same_role role CnfRole) → IsFalse (same_role role ProofIn) → IsFalse (same_role role Out) → H.channel host.new role ≡ H.channel host.old role }
+    ensures files { FilesBut None (H.files host.old) (H.files host.new) }
+{
+    let problem = match take_formula(alloc, host, asked.formula) {
+        Ok(problem) => problem,
+        Err(status) => return status,
+    };
+    let verdict = match judge(alloc, host, &problem, asked.proof) {
+        Ok(verdict) => verdict,
+        Err(error) => return Status::from(error),
+    };
+    match put_verdict(host, verdict) {
+        Ok(()) => verdict_status(verdict),
+        Err(_) => Status::WriteFault,
+    }
+}
+
+/// Does all that the program does: reads the words (the program's own name first), decides the formula and writes the
+/// proof, or judges a proof, prints the answer or what went wrong, and says how the run ends.
+pub fn run<H: Host>(alloc: Global, words: &[String], host: &mut H) -> Status
+    requires unnamed { (role : Role) → (H.channel host.old role).name ≡ None }
+    ensures promises { Promises (record {
+      tells = H.tells;
+      words = map string_bytes words.now;
+      before = H.channel host.old;
+      after = H.channel host.new;
+      files = H.files host.old;
+      files_after = H.files host.new;
+      status = result;
+    }) }
+{
+    soundness_law();
+    check_law();
+    let status = work(alloc, words, host);
+    complain(host, status);
+    status
+}
+
+/// As `run`, over a host in memory, which tells all bytes.
+pub fn run_in_memory(alloc: Global, words: &[String], host: &mut MemoryHost) -> Status
+    requires unnamed { (role : Role) → (channel_of host.old role).name ≡ None }
+    ensures promises { Promises (record {
+      tells = true;
+      words = map string_bytes words.now;
+      before = channel_of host.old;
+      after = channel_of host.new;
+      files = files_of host.old;
+      files_after = files_of host.new;
+      status = result;
+    }) }
+{
+    run(alloc, words, host)
+}
