@@ -10,13 +10,13 @@ use crate::decide::decide;
 use crate::error::RunError;
 use crate::finish::{finish, refute};
 use crate::open::first_empty;
-use crate::outcome::{Limits, Run};
+use crate::outcome::Run;
 use clause_ledger::{Ledger, start_clauses};
 use cnf_base::Cnf;
 use host_io::Sink;
 use lrat_rules::{refuted_law, start_law};
 use node_table::{Diagram, Table, in_use_law, opening_law};
-use schedule_plan::{Order, Plan};
+use schedule_plan::{Limits, Order, Plan};
 use std::alloc::Global;
 
 /// Runs a plan over a formula and writes the proof to a sink, which is handed back. A formula with an empty clause is
