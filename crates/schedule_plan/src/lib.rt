@@ -5,8 +5,6 @@
 
 mod order;
 mod plan;
-#[cfg(test)]
-mod tests;
 
 pub use order::Order;
 pub use plan::{Move, Plan};

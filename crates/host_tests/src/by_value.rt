@@ -3,12 +3,7 @@
 ghost use Rattle.std.specs.Prelude.{◌≡◌, ◌≤◌};
 ghost use Rattle.host_io.specs.Files.{IsWritable, Kept};
 
-use crate::host::Host;
-use crate::host_sink::HostSink;
-use crate::law::beside_kept;
-use crate::role::Role;
-use crate::source::Sink;
-use crate::whole::write_all;
+use host_io::{Host, HostSink, Role, Sink, beside_kept, write_all};
 
 fn twice<S: Sink>(sink: S, bytes: &[u8]) -> S
     ensures name { (S.channel result).name ≡ (S.channel sink).name }

@@ -1,5 +1,5 @@
 use Rattle.std.proofs.Common.{rules}
-use Rattle.host_io.proofs.by_value.twice_put.Goals as goal
+use Rattle.host_tests.proofs.by_value.twice_put.Goals as goal
 
 pub returns : goal.returns
 returns g c =
