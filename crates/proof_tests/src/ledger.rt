@@ -104,6 +104,22 @@ fn open<S: Sink + Drop>(
     }
 }
 
+// Over one clause without literals, with a sink that takes so many calls.
+fn open_on_empty_clause(
+    alloc: Global,
+    calls: usize,
+    max_ids: u64,
+) -> Result<Ledger<FailingSink>, OutOfMemory>
+    requires { max_ids ≤ max_id }
+    ensures state { IfOk result (λ ledger. ledger.state ≡ start ([] ∷ [])) }
+    ensures one { IfOk result (λ ledger. clause_at ledger.state.live 1 ≡ Some []) }
+    ensures in_step { IfOk result (λ ledger. IsTrue ledger.in_step) }
+{
+    start_law();
+    let formula = empty_clause(alloc)?;
+    open(alloc, &formula, FailingSink::new(alloc, calls), max_ids)
+}
+
 // The greatest number, how many are left, and whether the ledger is in step.
 fn expect_counts<S: Sink + Drop>(
     rt: &impl Abort,
@@ -141,6 +157,12 @@ fn expect_clauses<S: Sink + Drop>(
     for row in rows.lines() {
         expect_clause(rt, alloc, ledger, row)?;
     }
+    Ok(())
+}
+
+fn expect_written(rt: &impl Abort, ledger: Ledger<FailingSink>, wanted: &str) -> Result<(), Fail> {
+    let sink = ledger.close();
+    assert_eq!(rt; sink.text(), wanted);
     Ok(())
 }
 
@@ -202,14 +224,7 @@ fn add_and_finish<S: Sink + Drop>(alloc: Global, ledger: &mut Ledger<S>) -> Resu
 
 // The same, and then how much of what was written is flushed, how many calls failed, and what was written.
 fn outcome(alloc: Global, max_ids: u32, calls: usize) -> Result<String, Fail> {
-    start_law();
-    let formula = empty_clause(alloc)?;
-    let mut ledger = open(
-        alloc,
-        &formula,
-        FailingSink::new(alloc, calls),
-        max_ids as u64,
-    )?;
+    let mut ledger = open_on_empty_clause(alloc, calls, max_ids as u64)?;
     let answers = add_and_finish(alloc, &mut ledger)?;
     let sink = ledger.close();
     let (flushed, faults, written) = (sink.flushed, sink.faults, sink.text());
@@ -266,23 +281,34 @@ fn define_both<S: Sink + Drop>(
     Ok((first, second))
 }
 
+fn expect_definitions<S: Sink + Drop>(
+    rt: &impl Abort,
+    alloc: Global,
+    ledger: &mut Ledger<S>,
+) -> Result<(), Fail>
+    requires in_step { IsTrue ledger.old.in_step }
+    requires state { ledger.old.state ≡ start ([] ∷ []) }
+{
+    let ids = define_both(ledger, literal(2)?, literal(3)?);
+    assert_eq!(rt;
+        format!(in alloc; "{ids:?}")?.as_str(),
+        "Ok((Id(2), Id(3)))"
+    );
+    expect_clause(
+        rt,
+        alloc,
+        ledger,
+        "2;Some([Lit { value: 3 }, Lit { value: -2 }])",
+    )?;
+    expect_counts(rt, alloc, ledger, "3 0 true")
+}
+
 /// A definition without candidates, and one whose candidate it is.
 #[test]
 fn definitions(rt: HostRuntime) -> Result<(), Fail> {
-    let alloc = rt.alloc();
-    let formula = empty_clause(alloc)?;
-    let mut ledger = open(alloc, &formula, FailingSink::new(alloc, 2), 3)?;
-    let ids = define_both(&mut ledger, literal(2)?, literal(3)?);
-    assert_eq!(rt; ids, Ok((Id(2), Id(3))));
-    expect_clause(
-        &rt,
-        alloc,
-        &ledger,
-        "2;Some([Lit { value: 3 }, Lit { value: -2 }])",
-    )?;
-    expect_counts(&rt, alloc, &ledger, "3 0 true")?;
-    assert_eq!(rt; ledger.close().text(), "2 3 -2 0 0\n3 -3 2 0 -2 0\n");
-    Ok(())
+    let mut ledger = open_on_empty_clause(rt.alloc(), 2, 3)?;
+    expect_definitions(&rt, rt.alloc(), &mut ledger)?;
+    expect_written(&rt, ledger, "2 3 -2 0 0\n3 -3 2 0 -2 0\n")
 }
 
 // Adds a short clause for which there is room, with the empty clause 1 as its hint: memory isn't wanting.
@@ -319,28 +345,48 @@ fn add_four<S: Sink + Drop>(ledger: &mut Ledger<S>, literals: &[Lit]) -> Result<
     Ok(())
 }
 
-const FOUR: &str = "\
+// Room for four clauses, and then four of at most four literals.
+fn fill_room<S: Sink + Drop>(
+    rt: &impl Abort,
+    alloc: Global,
+    ledger: &mut Ledger<S>,
+    literals: &[Lit],
+) -> Result<(), Fail>
+    requires in_step { IsTrue ledger.old.in_step }
+    requires one { clause_at ledger.old.state.live 1 ≡ Some [] }
+    requires top { 1 ≤ ledger.old.state.top }
+{
+    assert_eq!(rt; literals.len(), 4);
+    ledger.reserve(4)?;
+    expect_counts(rt, alloc, ledger, "1 4 true")?;
+    add_four(ledger, literals)?;
+    Ok(())
+}
+
+const FILLED: &str = "\
 2;Some([Lit { value: 1 }, Lit { value: -2 }, Lit { value: 3 }, Lit { value: -4 }])
 5;Some([])";
 
-/// Room for four clauses, and four of at most four literals.
+fn expect_filled<S: Sink + Drop>(
+    rt: &impl Abort,
+    alloc: Global,
+    ledger: &mut Ledger<S>,
+) -> Result<(), Fail> {
+    assert_eq!(rt; ledger.reserve(usize::MAX), Err(OutOfMemory));
+    expect_counts(rt, alloc, ledger, "5 0 true")?;
+    expect_clauses(rt, alloc, ledger, FILLED)
+}
+
+/// Reserved room is enough, and what can't be reserved changes nothing.
 #[test]
 fn reserved_room(rt: HostRuntime) -> Result<(), Fail> {
-    start_law();
     let alloc = rt.alloc();
     let literals = literals_in(alloc, "1 -2 3 -4")?;
-    assert_eq!(rt; literals.as_slice().len(), 4);
-    let formula = empty_clause(alloc)?;
-    let mut ledger = open(alloc, &formula, FailingSink::new(alloc, 4), 5)?;
-    ledger.reserve(4)?;
-    expect_counts(&rt, alloc, &ledger, "1 4 true")?;
-    add_four(&mut ledger, literals.as_slice())?;
-    assert_eq!(rt; ledger.reserve(usize::MAX), Err(OutOfMemory));
-    expect_counts(&rt, alloc, &ledger, "5 0 true")?;
-    expect_clauses(&rt, alloc, &ledger, FOUR)?;
+    let mut ledger = open_on_empty_clause(alloc, 4, 5)?;
+    fill_room(&rt, alloc, &mut ledger, literals.as_slice())?;
+    expect_filled(&rt, alloc, &mut ledger)?;
     let written = "2 1 -2 3 -4 0 1 0\n3 -2 3 -4 0 1 0\n4 1 -2 3 -4 0 1 0\n5 0 1 0\n";
-    assert_eq!(rt; ledger.close().text(), written);
-    Ok(())
+    expect_written(&rt, ledger, written)
 }
 
 #[test]
