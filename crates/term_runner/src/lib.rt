@@ -19,6 +19,3 @@ pub use error::RunError;
 pub use law::conjoining_law;
 pub use outcome::{Limits, Outcome, Run};
 pub use run::{run_plan, run_plan_into};
-
-#[cfg(test)]
-mod tests;
