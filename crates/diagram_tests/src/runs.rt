@@ -15,8 +15,11 @@ fn ran(alloc: Global, formula: &Cnf, room: &Room) -> Result<Result<Run, RunError
     conjoining_law();
     let order = Order::natural(alloc, formula.vars())?;
     let plan = Plan::conjoin(alloc, formula)?;
-    if order.as_slice().len() != formula.vars() as usize || room.nodes > 100 || room.ids > 100 {
-        return Err(Fail::from("no order, or too much room"));
+    if order.as_slice().len() != formula.vars() as usize {
+        return Err(Fail::from("no order"));
+    }
+    if room.nodes > 100 || room.ids > 100 {
+        return Err(Fail::from("too much room"));
     }
     let limits = Limits {
         cache: 1,

@@ -253,7 +253,7 @@ fn name_of(results: &[Named], node: Node) -> char {
         Node::True => 'T',
         Node::False => 'F',
         Node::Inner(_) => match results.iter().position(|own| own.node == node) {
-            Some(place) => char::from(b'a' + (place & 0xf) as u8),
+            Some(place) => char::from(b'a'.saturating_add((place & 0xff) as u8)),
             None => '?',
         },
     }

@@ -5,7 +5,7 @@ use Rattle.node_table.specs.Diagram.{branch_of}
 use Rattle.node_table.specs.Progress.{Continues}
 use Rattle.clause_terms.specs.ClauseDiagram.{IsDiagramOf, part_of}
 use Rattle.clause_terms.proofs.AddedLiteral.{added, reverse_more}
-use Rattle.node_table.specs.HandedOn.{handed_on, came_from}
+use Rattle.node_table.specs.HandedOn.{no_error, came_from, other_cause}
 use Rattle.clause_terms.proofs.step.add_literal.Goals as goal
 
 pub returns-clause-diagram : goal.returns-clause-diagram
@@ -14,7 +14,7 @@ returns-clause-diagram g c = λ more before diagram.
     let table = c.literal_node.new.table in
     let node = c.in_ok-node.node in
     let placed = c.args.placed.now in
-    let grown : Continues g.S.Sink.tells (g.S.Sink.channel old.book.sink) (g.S.Sink.channel table.book.sink) old table = c.in_ok-node.ensures.continues (λ e. cc) in
+    let grown : Continues g.S.Sink.tells (g.S.Sink.channel old.book.sink) (g.S.Sink.channel table.book.sink) old table = c.in_ok-node.ensures.continues no_error in
     let path : reverse c.push_part.new.path.items ≡ part_of table.graph placed (branch_of table.graph node) ∷ reverse c.args.path.now.items =
     ap reverse c.in_ok-push_part.ensures
     ∙ (reverse_more c.args.path.now.items c.part_of-part.result ∙ ap (λ (part : UnitPart). part ∷ reverse c.args.path.now.items) c.part_of-part.ensures) in
@@ -26,10 +26,10 @@ returns-clause-diagram g c = λ more before diagram.
 pub returns-in_err-node-clause-made : goal.returns-in_err-node-clause-made
 returns-in_err-node-clause-made g c more value whole =
     c.in_err-node.ensures.made more value
-    (λ is. whole (handed_on _ c.in_err-node.field-0.0 WriteFault c.from_residual.ensures.1 (let same : c.in_err-node.field-0.0 ≡ WriteFault = cc in same)))
+    (other_cause _ c.in_err-node.field-0.0 WriteFault c.from_residual.ensures.1 whole)
 
 pub returns-in_err-push_part-clause-made : goal.returns-in_err-push_part-clause-made
-returns-in_err-push_part-clause-made g c more value whole = c.in_ok-node.ensures.made more value (λ is. cc)
+returns-in_err-push_part-clause-made g c more value whole = c.in_ok-node.ensures.made more value no_error
 
 pub returns-in_err-node-clause-lacks : goal.returns-in_err-node-clause-lacks
 returns-in_err-node-clause-lacks g c more value full =

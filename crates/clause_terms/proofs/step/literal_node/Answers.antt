@@ -1,8 +1,8 @@
-use Rattle.std.proofs.Common.{◌≢◌, ◌∷◌, Result, ap, sym, subst}
+use Rattle.std.proofs.Common.{◌≡◌, ◌≢◌, ◌∷◌, Result, ap, sym, subst}
 use Rattle.std.specs.Prelude.{IfErr, IfOk}
 use Rattle.node_table.specs.declared.node.Node.{Node}
 use Rattle.node_table.specs.declared.error.TableError.{TableError}
-use Rattle.node_table.specs.declared.error.TableError.TheVariants.{WriteFault}
+use Rattle.node_table.specs.declared.error.TableError.TheVariants.{NodeLimit, WriteFault}
 use Rattle.node_table.specs.Diagram.{Graph}
 use Rattle.node_table.specs.Made.{LacksPart}
 use Rattle.node_table.specs.Table.{HasChildren, IsSame, IsWanted, TableState}
@@ -12,6 +12,9 @@ use Rattle.clause_terms.specs.ClauseDiagram.{high_of, low_of}
 use Rattle.clause_terms.proofs.MadeNodes.{made_literal}
 use Rattle.clause_terms.proofs.LackedPart.{lacked_literal}
 use Rattle.clause_terms.proofs.step.literal_node.Goals as goal
+
+two_causes : ◌≡◌ {A = TableError} NodeLimit WriteFault → ⊥
+two_causes is = cc
 
 pub returns-clause-made : goal.returns-clause-made
 returns-clause-made g c more value whole =
@@ -34,6 +37,6 @@ returns-clause-lacks g c more value full =
     let wanted : IsWanted old.graph placed.level (high_of placed c.args.below) (low_of placed c.args.below) =
     subst (λ (h : Node). IsWanted old.graph placed.level h (low_of placed c.args.below)) c.children-high.ensures.high
     (subst (λ (l : Node). IsWanted old.graph placed.level c.children-high.result.0 l) c.children-high.ensures.low asked) in
-    let same : IsSame old new = subst (λ (r : Result Node TableError). IfErr r (λ e. e ≢ WriteFault → IsSame old new)) full c.node.ensures.refused (λ is. cc) in
+    let same : IsSame old new = subst (λ (r : Result Node TableError). IfErr r (λ e. e ≢ WriteFault → IsSame old new)) full c.node.ensures.refused two_causes in
     subst (λ (graph : Graph). LacksPart graph (placed_function (placed ∷ more))) (sym (ap (λ (t : TableState g.row.S.Denot). t.graph) same))
     (lacked_literal c.subfunction_law.ensures.same c.missing_law.ensures old.graph c.requires.tied.reduced placed more c.args.below c.requires.level c.requires.below value wanted)
