@@ -1,9 +1,11 @@
 -- Laws of a call of a table that is refused: but for reserved room nothing changed, and a limit that was met is still met.
+-- Want of memory is no other refusal.
 use Rattle.std.proofs.Common.{◌≡◌, ◌≢◌, ◌+◌, ◌<◌, ◌≤◌, not, ℕ, Bool, true, false, Result, Err, sym, ap, subst, arith}
-use Rattle.std.specs.Prelude.{IfErr}
+use Rattle.std.specs.Prelude.{IfErr, IsErrAnd}
 use Rattle.node_table.specs.declared.node.Node.{Node}
 use Rattle.node_table.specs.declared.error.TableError.{TableError}
-use Rattle.node_table.specs.declared.error.TableError.TheVariants.{NodeLimit, IdLimit, WriteFault}
+use Rattle.node_table.specs.declared.error.TableError.TheVariants.{NodeLimit, IdLimit, OutOfMemory, WriteFault}
+use Rattle.node_table.specs.HandedOn.{came_from}
 use Rattle.node_table.specs.Diagram.{Graph}
 use Rattle.node_table.specs.Defined.{definition_count, one_if, is_false_node, is_true_node}
 use Rattle.node_table.specs.Table.{TableState, IsSame, live_nodes}
@@ -13,6 +15,25 @@ no_nodes_left is = cc
 
 no_ids_left : ◌≡◌ {A = TableError} IdLimit WriteFault → ⊥
 no_ids_left is = cc
+
+no_memory_no_nodes : ◌≡◌ {A = TableError} OutOfMemory NodeLimit → ⊥
+no_memory_no_nodes is = cc
+
+no_memory_no_ids : ◌≡◌ {A = TableError} OutOfMemory IdLimit → ⊥
+no_memory_no_ids is = cc
+
+no_memory_no_fault : ◌≡◌ {A = TableError} OutOfMemory WriteFault → ⊥
+no_memory_no_fault is = cc
+
+module _ {T : Type 0} (result : Result T TableError) (memory : IsErrAnd result (λ e. e ≡ OutOfMemory)) where
+  pub memory_not_nodes : result ≡ Err NodeLimit → ⊥
+  memory_not_nodes is = no_memory_no_nodes (came_from result OutOfMemory NodeLimit memory is)
+
+  pub memory_not_ids : result ≡ Err IdLimit → ⊥
+  memory_not_ids is = no_memory_no_ids (came_from result OutOfMemory IdLimit memory is)
+
+  pub memory_not_fault : result ≡ Err WriteFault → ⊥
+  memory_not_fault is = no_memory_no_fault (came_from result OutOfMemory WriteFault memory is)
 
 at_most_one : (b : Bool) → one_if b ≤ 1
 at_most_one true = omega arith

@@ -1,6 +1,6 @@
 use Rattle.std.proofs.Common.{◌≡◌, ◌∙◌, ap, refl, sym, subst, true, arith, ℕ, List, Ok, Err, Some, Contains, inl, inr, ◌<◌, ◌-◌, length}
 use Rattle.std.specs.Prelude.{min}
-use Rattle.node_table.specs.declared.error.TableError.TheVariants.{NodeLimit, IdLimit, WriteFault}
+use Rattle.node_table.specs.declared.error.TableError.TheVariants.{NodeLimit, IdLimit, OutOfMemory, WriteFault}
 use Rattle.node_table.specs.declared.node.Node.{Node}
 use Rattle.node_table.specs.declared.node.Just.TheVariants.{Trivial}
 use Rattle.node_table.specs.Diagram.{is_node, levels, level_of}
@@ -12,6 +12,7 @@ use Rattle.apply_and.proofs.Laws.{Cofactors, Growth, Parts, Paths}
 use Rattle.apply_and.proofs.Conjunctions.{u_high_below, v_high_below, u_low_below, v_low_below, split_kept, conjoined_kept, fits_kept, measure_falls}
 use Rattle.apply_and.proofs.Closed.{split_level}
 use Rattle.node_table.specs.HandedOn.{no_error, came_from, other_cause, no_answer}
+use Rattle.node_table.specs.Refused.{memory_not_nodes, memory_not_ids, memory_not_fault}
 use Rattle.apply_and.proofs.Named.{no_less, same_some, NamesOnly-same, NamesOnly-further, NamesOnly-kept}
 use Rattle.apply_and.proofs.Made.{made_high, made_low, made_all, reached_all, lacks_high, lacks_low, lacks_both, not_plain}
 use Rattle.apply_and.proofs.conjoin.+and.Goals as goal
@@ -590,3 +591,24 @@ finish-requires-clause-tied g t c = (c.in_ok-low.ensures.continues no_error).tie
 
 pub finish-requires-clause-low : goal.finish-requires-clause-low
 finish-requires-clause-low g t c = c.in_ok-low.ensures.conjoined
+
+pub returns-in_err-keep-clause-conjoined : goal.returns-in_err-keep-clause-conjoined
+returns-in_err-keep-clause-conjoined g t c = no_answer _ OutOfMemory _ c.from_residual-in_err-keep.ensures.1
+
+pub returns-in_err-keep-clause-reachable : goal.returns-in_err-keep-clause-reachable
+returns-in_err-keep-clause-reachable g t c = no_answer _ OutOfMemory _ c.from_residual-in_err-keep.ensures.1
+
+pub returns-in_err-keep-clause-kept : goal.returns-in_err-keep-clause-kept
+returns-in_err-keep-clause-kept g t c differ first second = no_answer _ OutOfMemory _ c.from_residual-in_err-keep.ensures.1
+
+pub returns-in_err-keep-clause-node_limit : goal.returns-in_err-keep-clause-node_limit
+returns-in_err-keep-clause-node_limit g t c is = absurd (memory_not_nodes _ c.from_residual-in_err-keep.ensures.1 is)
+
+pub returns-in_err-keep-clause-lacks : goal.returns-in_err-keep-clause-lacks
+returns-in_err-keep-clause-lacks g t c is = absurd (memory_not_nodes _ c.from_residual-in_err-keep.ensures.1 is)
+
+pub returns-in_err-keep-clause-id_limit : goal.returns-in_err-keep-clause-id_limit
+returns-in_err-keep-clause-id_limit g t c is = absurd (memory_not_ids _ c.from_residual-in_err-keep.ensures.1 is)
+
+pub returns-in_err-keep-clause-broken : goal.returns-in_err-keep-clause-broken
+returns-in_err-keep-clause-broken g t c is = absurd (memory_not_fault _ c.from_residual-in_err-keep.ensures.1 is)

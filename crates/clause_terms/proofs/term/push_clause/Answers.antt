@@ -1,6 +1,6 @@
 use Rattle.std.proofs.Common.{◌≡◌, ◌∙◌, ℕ, Err, refl, ap, List, [], ◌∷◌, sym, subst}
 use Rattle.hint_chain.specs.declared.unit.UnitPart.{UnitPart}
-use Rattle.node_table.specs.declared.error.TableError.TheVariants.{NodeLimit, IdLimit, WriteFault}
+use Rattle.node_table.specs.declared.error.TableError.TheVariants.{NodeLimit, IdLimit, OutOfMemory, WriteFault}
 use Rattle.node_table.specs.declared.node.Just.TheVariants.{Clause}
 use Rattle.node_table.specs.Defined.{atom_of}
 use Rattle.node_table.specs.Diagram.{Graph}
@@ -15,6 +15,7 @@ use Rattle.clause_terms.proofs.MadeNodes.{by_values}
 use Rattle.clause_terms.proofs.ClauseTerm.{still_in_order, unit_path, clause_term, true_term}
 use Rattle.node_table.specs.HandedOn.{no_error, came_from, other_cause, no_answer}
 use Rattle.clause_terms.proofs.LackedPart.{lacked_by_values}
+use Rattle.node_table.specs.Refused.{memory_not_nodes, memory_not_ids, memory_not_fault}
 use Rattle.clause_terms.proofs.term.push_clause.Goals as goal
 
 same_clause : (id other : ℕ) → Clause id ≡ Clause other → id ≡ other
@@ -205,3 +206,30 @@ returns-then-has_opposites-clause-beside g c = refl
 
 pub returns-clause-beside : goal.returns-clause-beside
 returns-clause-beside g c = c.in_ok-id.ensures.beside ∙ c.in_ok-node.ensures.beside
+
+pub returns-in_err-placed-clause-term : goal.returns-in_err-placed-clause-term
+returns-in_err-placed-clause-term g c = no_answer _ OutOfMemory _ c.from_residual.ensures.1
+
+pub returns-in_err-placed-clause-last : goal.returns-in_err-placed-clause-last
+returns-in_err-placed-clause-last g c = no_answer _ OutOfMemory _ c.from_residual.ensures.1
+
+pub returns-in_err-placed-clause-made : goal.returns-in_err-placed-clause-made
+returns-in_err-placed-clause-made g c whole = c.subfunction_law.ensures.none_made c.args.table.now.graph (clause_function c.args.table.now.graph.order c.args.clause.now)
+
+pub returns-in_err-placed-clause-continues : goal.returns-in_err-placed-clause-continues
+returns-in_err-placed-clause-continues g c whole = c.progress_law.ensures.same c.args.table.now c.requires.tied c.requires.in_step
+
+pub returns-in_err-placed-clause-node_limit : goal.returns-in_err-placed-clause-node_limit
+returns-in_err-placed-clause-node_limit g c is = absurd (memory_not_nodes _ c.from_residual.ensures.1 is)
+
+pub returns-in_err-placed-clause-lacks : goal.returns-in_err-placed-clause-lacks
+returns-in_err-placed-clause-lacks g c is = absurd (memory_not_nodes _ c.from_residual.ensures.1 is)
+
+pub returns-in_err-placed-clause-id_limit : goal.returns-in_err-placed-clause-id_limit
+returns-in_err-placed-clause-id_limit g c is = absurd (memory_not_ids _ c.from_residual.ensures.1 is)
+
+pub returns-in_err-placed-clause-broken : goal.returns-in_err-placed-clause-broken
+returns-in_err-placed-clause-broken g c is = absurd (memory_not_fault _ c.from_residual.ensures.1 is)
+
+pub returns-in_err-placed-clause-beside : goal.returns-in_err-placed-clause-beside
+returns-in_err-placed-clause-beside g c = refl

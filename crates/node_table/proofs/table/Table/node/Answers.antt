@@ -34,3 +34,42 @@ returns-clause-extends g c whole =
 
 pub returns-clause-only : goal.returns-clause-only
 returns-clause-only g c whole = outcome_only c.args.self.now c.make.new.self c.args.level c.args.high c.args.low c.make.result c.make.ensures.made c.make.ensures.refused whole
+
+pub returns-clause-refused : goal.returns-clause-refused
+returns-clause-refused g c = c.make.ensures.refused
+
+pub returns-clause-kept : goal.returns-clause-kept
+returns-clause-kept g c = c.make.ensures.kept
+
+pub returns-clause-write_fault : goal.returns-clause-write_fault
+returns-clause-write_fault g c = c.make.ensures.write_fault
+
+pub returns-clause-cut : goal.returns-clause-cut
+returns-clause-cut g c = c.make.ensures.cut
+
+pub returns-clause-out_of_step : goal.returns-clause-out_of_step
+returns-clause-out_of_step g c = c.make.ensures.out_of_step
+
+pub returns-clause-stays : goal.returns-clause-stays
+returns-clause-stays g c = c.make.ensures.stays
+
+pub returns-clause-in_step : goal.returns-clause-in_step
+returns-clause-in_step g c = c.make.ensures.in_step
+
+pub returns-clause-limits : goal.returns-clause-limits
+returns-clause-limits g c = c.make.ensures.limits
+
+pub returns-clause-unfailed : goal.returns-clause-unfailed
+returns-clause-unfailed g c = c.make.ensures.unfailed
+
+pub returns-clause-only_writes : goal.returns-clause-only_writes
+returns-clause-only_writes g c = c.make.ensures.only_writes
+
+pub returns-clause-beside : goal.returns-clause-beside
+returns-clause-beside g c = c.make.ensures.beside
+
+pub returns-clause-made : goal.returns-clause-made
+returns-clause-made g c wanted = c.make.ensures.made
+
+pub returns-clause-lines : goal.returns-clause-lines
+returns-clause-lines g c told wanted = c.make.ensures.lines told
