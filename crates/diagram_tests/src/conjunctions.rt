@@ -294,39 +294,43 @@ fn script_told(rt: &impl Abort, alloc: Global, script: &str) -> Result<String, F
     told(alloc, play(rt, alloc, &formula, false, &room, script)?)
 }
 
-/// Equal high children, which are True; a result that is False; a result in the cache; the operands in the other
-/// order; an operand that is a child of the other; a result that is an operand. The second variable and its negation are
-/// a and b, each where the first one is false c and d, and both by the first one e.
-#[test]
-fn lines(rt: HostRuntime) -> Result<(), Fail> {
-    let found = script_told(&rt, rt.alloc(), "1TF 1FT 0Ta 0Tb 0ab | cd cd ab dc ae ja")?;
-    assert_eq!(rt;
-        found.as_str(),
-        "done;a0=1TF b0=1FT c0=0Ta d0=0Tb e0=0ab f20=0TF f20=0TF F16 f24=0TF j29=0aF j0=0aF;7 29 true;\
-        1 3 -2 0 0/2 -3 2 0 -1 0/3 4 2 0 0/4 -4 -2 0 -3 0/5 5 -1 0 0/6 5 1 -3 0 0/7 -5 1 3 0 -5 -6 0/\
-        8 6 -1 0 0/9 6 1 -4 0 0/10 -6 1 4 0 -8 -9 0/11 7 -1 -3 0 0/12 7 1 -4 0 0/13 -7 -1 3 0 -11 -12 0/\
-        14 -7 1 4 0 -11 -12 0/15 -2 -3 -4 0 4 0/16 -3 -4 0 15 2 0/17 8 -1 0 0/18 -8 1 0 -17 0/\
-        19 -1 -5 -6 8 0 17 0/20 -5 -6 8 0 19 7 10 16 0/21 -2 -4 -3 0 4 0/22 -4 -3 0 21 2 0/\
-        23 -1 -6 -5 8 0 17 0/24 -6 -5 8 0 23 10 7 22 0/25 9 -1 -3 0 0/26 -9 -1 3 0 -25 0/27 -9 1 0 -25 0/\
-        28 -1 -3 -7 9 0 25 0/29 -3 -7 9 0 28 14 16 0/"
-    );
+// A row is a script, and what is told of it.
+fn expect_script(rt: &impl Abort, alloc: Global, row: &str) -> Result<(), Fail> {
+    let (script, expected) = row.split_once(';').ok_or("no script")?;
+    let found = script_told(rt, alloc, script)?;
+    assert_eq!(rt; found.as_str(), expected, "{script}");
     Ok(())
 }
+
+// The second variable and its negation are a and b, each where the first one is false c and d, and both by the first one e.
+const LINES: &str = "1TF 1FT 0Ta 0Tb 0ab | cd cd ab dc ae ja;\
+    done;a0=1TF b0=1FT c0=0Ta d0=0Tb e0=0ab f20=0TF f20=0TF F16 f24=0TF j29=0aF j0=0aF;7 29 true;\
+    1 3 -2 0 0/2 -3 2 0 -1 0/3 4 2 0 0/4 -4 -2 0 -3 0/5 5 -1 0 0/6 5 1 -3 0 0/7 -5 1 3 0 -5 -6 0/\
+    8 6 -1 0 0/9 6 1 -4 0 0/10 -6 1 4 0 -8 -9 0/11 7 -1 -3 0 0/12 7 1 -4 0 0/13 -7 -1 3 0 -11 -12 0/\
+    14 -7 1 4 0 -11 -12 0/15 -2 -3 -4 0 4 0/16 -3 -4 0 15 2 0/17 8 -1 0 0/18 -8 1 0 -17 0/\
+    19 -1 -5 -6 8 0 17 0/20 -5 -6 8 0 19 7 10 16 0/21 -2 -4 -3 0 4 0/22 -4 -3 0 21 2 0/\
+    23 -1 -6 -5 8 0 17 0/24 -6 -5 8 0 23 10 7 22 0/25 9 -1 -3 0 0/26 -9 -1 3 0 -25 0/27 -9 1 0 -25 0/\
+    28 -1 -3 -7 9 0 25 0/29 -3 -7 9 0 28 14 16 0/";
+
+/// Equal high children, which are True; a result that is False; a result in the cache; the operands in the other
+/// order; an operand that is a child of the other; a result that is an operand.
+#[test]
+fn lines(rt: HostRuntime) -> Result<(), Fail> {
+    expect_script(&rt, rt.alloc(), LINES)
+}
+
+const COINCIDENCES: &str = "1TF 0aT 0Ta 0TF | bc da db;\
+    done;a0=1TF b0=0aT c0=0Ta d0=0TF a12=1TF f17=0aF f19=0aF;5 19 true;\
+    1 3 -2 0 0/2 -3 2 0 -1 0/3 4 -1 -3 0 0/4 4 1 0 0/5 -4 -1 3 0 -3 -4 0/6 5 -1 0 0/7 5 1 -3 0 0/\
+    8 -5 1 3 0 -6 -7 0/9 6 -1 0 0/10 -6 1 0 -9 0/11 -1 -4 -5 3 0 5 0/12 -4 -5 3 0 11 8 0/\
+    13 7 -1 -3 0 0/14 -7 -1 3 0 -13 0/15 -7 1 0 -13 0/16 -1 -6 -3 7 0 13 0/17 -6 -3 7 0 16 10 0/\
+    18 -1 -6 -4 7 0 13 5 0/19 -6 -4 7 0 18 10 0/";
 
 /// A result that is a child of both operands; an operand that is the level's variable, and the other below it; that
 /// variable and a node with a child True.
 #[test]
 fn coincidences(rt: HostRuntime) -> Result<(), Fail> {
-    let found = script_told(&rt, rt.alloc(), "1TF 0aT 0Ta 0TF | bc da db")?;
-    assert_eq!(rt;
-        found.as_str(),
-        "done;a0=1TF b0=0aT c0=0Ta d0=0TF a12=1TF f17=0aF f19=0aF;5 19 true;\
-        1 3 -2 0 0/2 -3 2 0 -1 0/3 4 -1 -3 0 0/4 4 1 0 0/5 -4 -1 3 0 -3 -4 0/6 5 -1 0 0/7 5 1 -3 0 0/\
-        8 -5 1 3 0 -6 -7 0/9 6 -1 0 0/10 -6 1 0 -9 0/11 -1 -4 -5 3 0 5 0/12 -4 -5 3 0 11 8 0/\
-        13 7 -1 -3 0 0/14 -7 -1 3 0 -13 0/15 -7 1 0 -13 0/16 -1 -6 -3 7 0 13 0/17 -6 -3 7 0 16 10 0/\
-        18 -1 -6 -4 7 0 13 5 0/19 -6 -4 7 0 18 10 0/"
-    );
-    Ok(())
+    expect_script(&rt, rt.alloc(), COINCIDENCES)
 }
 
 // A row is a room, and how the first conjunction of the lines ends.

@@ -123,19 +123,21 @@ fn place(table: &Table<ProofText>, variable: u32) -> char {
     }
 }
 
+fn placed(rt: &impl Abort, alloc: Global, script: &str) -> Result<String, Fail> {
+    let played = played(rt, alloc, false, &room_of("2 6, 99 99")?, script)?;
+    let places = places(alloc, &played.table)?;
+    let told = told(alloc, played)?;
+    Ok(format!(in alloc; "{places};{told}")?)
+}
+
+const KNOWN_NODES: &str = "-01-;done;a0=1TF b0=0Ta a0=1TF b0=0Ta a0=1TF;2 6 true;\
+    2 3 -2 0 0/3 -3 2 0 -2 0/4 4 -1 0 0/5 4 1 -3 0 0/6 -4 1 3 0 -4 -5 0/";
+
 /// Both nodes of 'x1 or x2', the same asked for again, and equal children: what is known writes nothing.
 #[test]
 fn known_nodes(rt: HostRuntime) -> Result<(), Fail> {
-    let script = "1TF 0Ta 1TF 0Ta 0aa";
-    let played = played(&rt, rt.alloc(), false, &room_of("2 6, 99 99")?, script)?;
-    let places = places(rt.alloc(), &played.table)?;
-    let told = told(rt.alloc(), played)?;
-    let found = format!(in rt.alloc(); "{places};{told}")?;
-    assert_eq!(rt;
-        found.as_str(),
-        "-01-;done;a0=1TF b0=0Ta a0=1TF b0=0Ta a0=1TF;2 6 true;\
-        2 3 -2 0 0/3 -3 2 0 -2 0/4 4 -1 0 0/5 4 1 -3 0 0/6 -4 1 3 0 -4 -5 0/"
-    );
+    let found = placed(&rt, rt.alloc(), "1TF 0Ta 1TF 0Ta 0aa")?;
+    assert_eq!(rt; found.as_str(), KNOWN_NODES);
     Ok(())
 }
 
