@@ -1,9 +1,12 @@
-use Rattle.std.proofs.Common.{◌≡◌, ◌<◌, ℕ, true, Some, subst}
+use Rattle.std.proofs.Common.{◌≡◌, ◌<◌, ℕ, Bool, true, false, Some, subst}
 use Rattle.node_table.specs.declared.node.Branch.{Branch}
 use Rattle.node_table.specs.Diagram.{branch_at, next_variable}
 use Rattle.node_table.specs.Table.{TableState, IsWanted}
 use Rattle.node_table.proofs.Outcome.{outcome_children, outcome_only, outcome_both}
 use Rattle.node_table.proofs.table.Table.node.Goals as goal
+
+not_both : (b : Bool) → b ≡ true → b ≡ false → ⊥
+not_both b yes no = cc
 
 pub returns-clause-children : goal.returns-clause-children
 returns-clause-children g c = outcome_children c.args.self.now c.make.new.self c.args.level c.args.high c.args.low c.make.result c.make.ensures.made
@@ -13,7 +16,7 @@ returns-clause-tied g c whole =
     let wanted : IsWanted c.args.self.now.graph c.args.level c.args.high c.args.low =
     subst (λ (t : TableState g.row.S.Denot). IsWanted t.graph c.args.level c.args.high c.args.low) c.self.view_is
     (record {
-      differ = λ same. let is : c.same_node.result ≡ true = c.same_node.ensures.1 same in let not = c.if-same_node.false in cc;
+      differ = λ same. not_both c.same_node.result (c.same_node.ensures.1 same) c.if-same_node.false;
       missing = c.in_default.ensures;
     }) in
     let own : (key : ℕ) (b : Branch) → branch_at c.args.self.now.graph key ≡ Some b → b.variable < next_variable c.args.self.now.graph =
@@ -25,7 +28,7 @@ returns-clause-extends g c whole =
     let wanted : IsWanted c.args.self.now.graph c.args.level c.args.high c.args.low =
     subst (λ (t : TableState g.row.S.Denot). IsWanted t.graph c.args.level c.args.high c.args.low) c.self.view_is
     (record {
-      differ = λ same. let is : c.same_node.result ≡ true = c.same_node.ensures.1 same in let not = c.if-same_node.false in cc;
+      differ = λ same. not_both c.same_node.result (c.same_node.ensures.1 same) c.if-same_node.false;
       missing = c.in_default.ensures;
     }) in
     let own : (key : ℕ) (b : Branch) → branch_at c.args.self.now.graph key ≡ Some b → b.variable < next_variable c.args.self.now.graph =
