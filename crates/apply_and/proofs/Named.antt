@@ -12,7 +12,7 @@ pub no_less_same : (n : ℕ) → n ≤ n
 no_less_same n = omega arith
 
 pub not_both : (b : Bool) → b ≡ true → b ≡ false → ⊥
-not_both b yes no = cc
+not_both b holds fails = cc
 
 pub same_some : {X : Type 0} (x y : X) → Some x ≡ Some y → x ≡ y
 same_some x y is = cc

@@ -6,7 +6,7 @@ use Rattle.node_table.proofs.Outcome.{outcome_children, outcome_only, outcome_bo
 use Rattle.node_table.proofs.table.Table.node.Goals as goal
 
 not_both : (b : Bool) → b ≡ true → b ≡ false → ⊥
-not_both b yes no = cc
+not_both b holds fails = cc
 
 pub returns-clause-children : goal.returns-clause-children
 returns-clause-children g c = outcome_children c.args.self.now c.make.new.self c.args.level c.args.high c.args.low c.make.result c.make.ensures.made
