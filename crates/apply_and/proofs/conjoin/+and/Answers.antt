@@ -490,7 +490,7 @@ pub returns-in-Some-clause-named : goal.returns-in-Some-clause-named
 returns-in-Some-clause-named g t c whole = NamesOnly-same (entries c.args.cache.now) c.args.table.now.book.state c.args.table.now.book.state
 
 pub returns-in-Some-clause-known : goal.returns-in-Some-clause-known
-returns-in-Some-clause-known g t c entry there own = (tt, refl, refl)
+returns-in-Some-clause-known g t c entry there own = (refl, refl, refl)
 
 pub returns-in-Some-clause-remembered : goal.returns-in-Some-clause-remembered
 returns-in-Some-clause-remembered g t c entry there = there
@@ -526,7 +526,7 @@ pub returns-in-Some-look-clause-named : goal.returns-in-Some-look-clause-named
 returns-in-Some-look-clause-named g t c whole = NamesOnly-same (entries c.args.cache.now) c.args.table.now.book.state c.args.table.now.book.state
 
 pub returns-in-Some-look-clause-known : goal.returns-in-Some-look-clause-known
-returns-in-Some-look-clause-known g t c entry there own = (tt, refl, refl)
+returns-in-Some-look-clause-known g t c entry there own = (refl, refl, refl)
 
 pub returns-in-Some-look-clause-remembered : goal.returns-in-Some-look-clause-remembered
 returns-in-Some-look-clause-remembered g t c entry there = there

@@ -14,7 +14,7 @@ pub returns-clause-node_limit : goal.returns-clause-node_limit
 returns-clause-node_limit g c is = nodes_used c.args.table.now c.node.new.self c.node.result c.node.ensures.refused is (c.node.ensures.node_limit.0 is).1
 
 pub returns-clause-id_limit : goal.returns-clause-id_limit
-returns-clause-id_limit g c is = ids_used_by_node c.args.table.now c.node.new.self c.node.result c.node.ensures.refused c.args.high c.args.low is (c.node.ensures.id_limit.0 is).1.1
+returns-clause-id_limit g c is = ids_used_by_node c.args.table.now c.node.new.self c.node.result c.node.ensures.refused c.args.high c.args.low is (c.node.ensures.id_limit.0 is).2
 
 pub returns-clause-continues : goal.returns-clause-continues
 returns-clause-continues g c whole = record {
