@@ -49,7 +49,7 @@ Out 3;WriteFault|c line 1|none|error: write failed/
 Out 4;WriteFault|c line 1 |none|error: write failed/
 Out 5;WriteFault|c line 1 NoConfli|none|error: write failed/
 Out 6;WriteFault|c line 1 NoConflict|none|error: write failed/
-Out 7;WriteFault|c line 1 NoConflict/s NOT VE|none|error: write failed/
+Out 7;WriteFault|c line 1 NoConflict/s NOT V|none|error: write failed/
 Out 8;WriteFault|c line 1 NoConflict/s NOT VERIFIED/|none|error: write failed/
 Out 9;NotVerified(1, NoConflict)|c line 1 NoConflict/s NOT VERIFIED/|none|";
 
