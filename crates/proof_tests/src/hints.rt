@@ -235,21 +235,18 @@ fn number_of(word: &str) -> Result<Option<Id>, Fail> {
     }
 }
 
-// A literal, and the numbers of the clauses from the high and from the low child up.
-fn unit_part_of(text: &str) -> Result<UnitPart, Fail> {
+// A node's literal, and the numbers of its clauses from the high and from the low child up.
+fn node_of(text: &str) -> Result<(Lit, Option<Id>, Option<Id>), Fail> {
     let (lit, numbers) = text.split_once(' ').ok_or("no numbers")?;
     let (hu, lu) = numbers.split_once(' ').ok_or("one number")?;
-    Ok(UnitPart {
-        lit: literal_of(lit)?,
-        hu: number_of(hu)?,
-        lu: number_of(lu)?,
-    })
+    Ok((literal_of(lit)?, number_of(hu)?, number_of(lu)?))
 }
 
 fn path_in(alloc: Global, text: &str) -> Result<Vec<UnitPart>, Fail> {
     let mut path = Vec::new(alloc);
     for own in text.split('/') {
-        path.push(unit_part_of(own)?)?;
+        let (lit, hu, lu) = node_of(own)?;
+        path.push(UnitPart { lit, hu, lu })?;
     }
     Ok(path)
 }
