@@ -4,8 +4,6 @@
 
 mod model;
 mod status;
-#[cfg(test)]
-mod tests;
 
 pub use model::write_model;
 pub use status::{

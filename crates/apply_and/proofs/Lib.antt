@@ -1,4 +1,3 @@
-pub mod Orders
 pub mod Cached
 pub mod NodeParts
 pub mod ConjunctionClauses

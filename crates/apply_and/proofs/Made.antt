@@ -78,6 +78,19 @@ module _ (parts : Parts) (growth : Growth) (old : Graph) (reduced : IsReduced ol
 pub made_none : (old new : Graph) (f : Levels → Bool) → ((other : Node) → is_node new other ≡ true → is_node old other ≡ true) → MakesOnly old new f
 made_none old new f only = record { each = λ other is. inl (only other is) }
 
+-- none where the result is an operand
+pub made_operand : (old new : Graph) (o : Operands) → AreSplit old o → (f : Levels → Bool) (w : Node) → (w ≡ o.u) ⊎ (w ≡ o.v)
+    → ((other : Node) → is_node new other ≡ true → (is_node old other ≡ true) ⊎ (w ≡ other)) → MakesOnly old new f
+made_operand old new o split f w either only = record {
+  each = λ other is. elim (only other is) [
+    | inl before ↦ inl before
+    | inr same ↦ elim either [
+      | inl first ↦ inl (subst (λ (n : Node). is_node old n ≡ true) (sym first ∙ same) (inner_stands old o.u split.first))
+      | inr second ↦ inl (subst (λ (n : Node). is_node old n ≡ true) (sym second ∙ same) (inner_stands old o.v split.second))
+    ]
+  ];
+}
+
 pub made_one : Parts → Growth → (old new : Graph) → IsReduced old → KeepsNodes old new → (u v w : Node) → is_node old u ≡ true → is_node old v ≡ true
     → ((a : Levels) → value_of new a w ≡ (value_of new a u && value_of new a v)) → ((other : Node) → is_node new other ≡ true → (is_node old other ≡ true) ⊎ (w ≡ other))
     → MakesOnly old new (conjunction_of old u v)

@@ -12,6 +12,3 @@ mod steps;
 
 pub use cache::AndCache;
 pub use conjoin::and;
-
-#[cfg(test)]
-mod tests;

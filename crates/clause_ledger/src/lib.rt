@@ -7,8 +7,6 @@
 mod error;
 mod ledger;
 mod live;
-#[cfg(test)]
-mod tests;
 
 pub use error::LedgerError;
 pub use ledger::{Ledger, start_clauses};

@@ -13,6 +13,3 @@ mod term;
 pub use model::Model;
 pub use recovery::recover;
 pub use term::push_clause;
-
-#[cfg(test)]
-mod tests;

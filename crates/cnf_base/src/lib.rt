@@ -10,8 +10,6 @@ mod literal;
 mod memory;
 mod range;
 mod step;
-#[cfg(test)]
-mod tests;
 
 pub use examples::{number_examples, proof_example, step_examples, token_examples};
 pub use formula::{Cnf, CnfBuilder};

@@ -1,2 +1,15 @@
 //! Tests of the layers of diagrams: `node_table`, `clause_terms`, `apply_and`, `term_runner`.
 #![tactic(auto)]
+
+#[cfg(test)]
+mod conjunctions;
+#[cfg(test)]
+mod nodes;
+#[cfg(test)]
+mod runs;
+#[cfg(test)]
+mod script;
+#[cfg(test)]
+mod support;
+#[cfg(test)]
+mod terms;

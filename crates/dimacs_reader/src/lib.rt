@@ -9,6 +9,3 @@ mod header;
 
 pub use error::{CnfError, CnfKind};
 pub use header::read_cnf;
-
-#[cfg(test)]
-mod tests;

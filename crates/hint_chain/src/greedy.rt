@@ -49,8 +49,8 @@ pub fn imply_low(alloc: Global, clause: &[Lit], parts: [Option<Part>; 4]) -> Hin
     greedy_hints(alloc, clause, &parts).unwrap()
 }
 
-// The greedy choice among the parts; None where no part is a conflict.
-pub(crate) fn greedy_hints(alloc: Global, clause: &[Lit], parts: &[Option<Part>]) -> Option<Hints>
+/// The greedy choice among the parts; None where no part is a conflict. The calls above are instances of it.
+pub fn greedy_hints(alloc: Global, clause: &[Lit], parts: &[Option<Part>]) -> Option<Hints>
     requires short { length clause.now ≤ 4 }
     requires few { length parts.now ≤ 5 }
     ensures { result ≡ greedy (literals_of clause.now) parts.now }

@@ -13,7 +13,7 @@ mod part;
 mod unit;
 
 pub use atom::{Atom, clause_of};
-pub use greedy::{and_high, and_low, imply_high, imply_low};
+pub use greedy::{and_high, and_low, greedy_hints, imply_high, imply_low};
 pub use hints::Hints;
 pub use inline::{InlineLiterals, ShortClause};
 pub use laws::{
@@ -22,6 +22,3 @@ pub use laws::{
 };
 pub use part::Part;
 pub use unit::{UnitPart, unit_hints};
-
-#[cfg(test)]
-mod tests;

@@ -6,8 +6,6 @@
 //! names and counts, and is trusted for the bytes. Stands on nothing.
 #![tactic(auto)]
 
-#[cfg(test)]
-mod by_value;
 mod client;
 mod device;
 mod failing_host;
@@ -23,8 +21,6 @@ mod role;
 mod slice_source;
 mod source;
 mod stream;
-#[cfg(test)]
-mod tests;
 mod whole;
 
 pub use client::{load, put};

@@ -1,16 +1,19 @@
 -- What the reader's next answer says to the verdict on the steps ahead.
-use Rattle.std.proofs.Common.{◌≡◌, ℕ, Bool, ◌||◌, Option, None, Some, Ok, Err, sym, ◌∙◌, ap, subst}
+use Rattle.std.proofs.Common.{◌≡◌, ℕ, Bool, ◌||◌, Option, None, Some, Ok, Err, refl, sym, ◌∙◌, ap, subst}
 use Rattle.std.specs.Prelude.{Result}
 use Rattle.cnf_base.specs.declared.step.Step.{Step}
 use Rattle.lrat_text.specs.declared.error.StepError.{StepError}
-use Rattle.lrat_text.specs.declared.error.StepError.TheVariants.{Syntax, TooLong}
+use Rattle.lrat_text.specs.declared.error.StepError.TheVariants.{Syntax, ReadFault, TooLong, OutOfMemory}
 use Rattle.lrat_text.specs.Steps.{Steps, no_more, overlong, no_step, next_step}
 use Rattle.lrat_text.specs.Reader.{Gives}
 use Rattle.lrat_rules.specs.declared.outcome.Reason.TheVariants.{Syntax as NoStep}
 use Rattle.lrat_rules.specs.State.{State}
 use Rattle.lrat_rules.specs.Run.{step_fault, after_step, step_adds_empty}
 use Rattle.lrat_checker.specs.declared.verdict.Verdict.TheVariants.{Refused}
-use Rattle.lrat_checker.specs.TextVerdict.{end_verdict, judged, steps_verdict}
+use Rattle.lrat_checker.specs.declared.verdict.CheckError.{CheckError}
+use Rattle.lrat_checker.specs.declared.verdict.CheckError.TheVariants.{ReadFault as CheckFault}
+use Rattle.lrat_checker.specs.declared.verdict.Verdict.{Verdict}
+use Rattle.lrat_checker.specs.TextVerdict.{end_verdict, error_answer, judged, steps_verdict, Answers}
 
 module _ (state : State) (has_empty : Bool) (line : ℕ) (before after : Steps) (answer : Result (Option (Step × ℕ)) StepError) (gives : Gives answer line before after) where
   pub at_end : answer ≡ Ok None → steps_verdict state has_empty before ≡ Some (end_verdict has_empty line)
@@ -36,3 +39,26 @@ module _ (state : State) (has_empty : Bool) (line : ℕ) (before after : Steps) 
       ∙ ap (λ f. judged f at (steps_verdict (after_step state step) (has_empty || step_adds_empty step) after)) good
       ∙ ap (λ s. steps_verdict s (has_empty || step_adds_empty step) after) (sym moved)
       ∙ ap (λ b. steps_verdict next b after) (sym told)
+
+  -- the answer to an error is that of the text whose verdict is that of the steps ahead
+  pub at_error : (text : Option Verdict) → text ≡ steps_verdict state has_empty before → (error : StepError) → answer ≡ Err error
+      → (given : Result Verdict CheckError) → given ≡ error_answer error → Answers given text
+  at_error text told error is given given_is =
+      let answers : Answers (error_answer error) (steps_verdict state has_empty before) =
+      elim error as (λ x. answer ≡ Err x → Answers (error_answer x) (steps_verdict state has_empty before)) [
+        | Syntax at ↦ λ e. at_no_step at e
+        | ReadFault ↦ λ e. tt
+        | TooLong ↦ λ e. at_limit e
+        | OutOfMemory ↦ λ e. tt
+      ] is in
+      subst (λ r. Answers r text) (sym given_is) (subst (λ v. Answers (error_answer error) v) (sym told) answers)
+
+-- only a failed read is answered as one
+pub read_fault_alone : (error : StepError) → error_answer error ≡ Err CheckFault → error ≡ ReadFault
+read_fault_alone error =
+    elim error as (λ x. error_answer x ≡ Err CheckFault → x ≡ ReadFault) [
+      | Syntax at ↦ λ e. cc
+      | ReadFault ↦ λ e. refl
+      | TooLong ↦ λ e. cc
+      | OutOfMemory ↦ λ e. cc
+    ]

@@ -1,6 +1,8 @@
 -- What a proof text says over a formula: its steps in turn from the formula's clauses on, up to the first bad line, to
 -- the end, or to the limit. (Cruz-Filipe, Heule, Hunt, Kaufmann, Schneider-Kamp, CADE 2017.)
 use Rattle.std.specs.Prelude.{◌≡◌, ℕ, Bool, false, ◌||◌, ℤ, List, Option, None, Some, Result, Ok, Err, ⊤, if◌then◌else◌}
+use Rattle.lrat_text.specs.declared.error.StepError.{StepError}
+use Rattle.lrat_text.specs.declared.error.StepError.TheVariants.{Syntax as BadLine, ReadFault as FailedRead, TooLong as LongText, OutOfMemory as NoMemory}
 use Rattle.lrat_text.specs.Steps.{Steps, no_more, overlong, no_step, next_step, steps}
 use Rattle.lrat_rules.specs.declared.outcome.Reason.{Reason}
 use Rattle.lrat_rules.specs.declared.outcome.Reason.TheVariants.{Syntax, NoEmptyClause}
@@ -53,3 +55,10 @@ Answers (Ok verdict) text = text ≡ Some verdict
 Answers (Err TooLong) text = text ≡ None
 Answers (Err ReadFault) text = ⊤
 Answers (Err OutOfMemory) text = ⊤
+
+-- what the reader's error answers: its line spells no step, or there is no verdict
+abbrev pub error_answer : StepError → Result Verdict CheckError
+error_answer (BadLine line) = Ok (Refused line Syntax)
+error_answer FailedRead = Err ReadFault
+error_answer LongText = Err TooLong
+error_answer NoMemory = Err OutOfMemory

@@ -18,6 +18,3 @@ pub use judge::Judge;
 pub use laws::check_law;
 pub use text::check;
 pub use verdict::{CheckError, Verdict};
-
-#[cfg(test)]
-mod tests;

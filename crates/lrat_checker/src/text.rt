@@ -6,7 +6,7 @@ ghost use Rattle.lrat_text.specs.declared.reader.Status.TheVariants.{Reading};
 ghost use Rattle.lrat_text.specs.Reader.{steps_ahead};
 ghost use Rattle.lrat_rules.specs.Run.{step_adds_empty};
 ghost use Rattle.lrat_checker.specs.declared.verdict.CheckError.TheVariants.{ReadFault};
-ghost use Rattle.lrat_checker.specs.TextVerdict.{end_verdict, steps_verdict, text_verdict, Answers};
+ghost use Rattle.lrat_checker.specs.TextVerdict.{end_verdict, error_answer, steps_verdict, text_verdict, Answers};
 
 use crate::judge::Judge;
 use crate::verdict::{CheckError, Verdict};
@@ -32,19 +32,20 @@ pub fn check<S: Source>(alloc: Global, formula: &Cnf, source: &mut S) -> Result<
     ensures reads { OnlyReads (S.channel source.old) (S.channel source.new) }
     ensures beside { S.beside source.new ≡ S.beside source.old }
 {
-    let judge = Judge::open(alloc, formula)?;
-    judge_steps(judge, StepReader::new(alloc, MAX_BYTES), source)
+    let mut judge = Judge::open(alloc, formula)?;
+    let mut reader = StepReader::new(alloc, MAX_BYTES);
+    judge_steps(&mut judge, &mut reader, source)
 }
 
 // Judges the steps that the reader still gives.
 fn judge_steps<S: Source>(
-    mut judge: Judge,
-    mut reader: StepReader,
+    judge: &mut Judge,
+    reader: &mut StepReader,
     source: &mut S,
 ) -> Result<Verdict, CheckError>
-    requires { reader.status ≡ Reading }
+    requires { reader.old.status ≡ Reading }
     ensures decides { IsTrue S.tells → Decides (S.channel source.old) (S.channel source.new)
-        (λ bytes more. Answers result (steps_verdict judge false (steps_ahead reader bytes))) }
+        (λ bytes more. Answers result (steps_verdict judge.old false (steps_ahead reader.old bytes))) }
     ensures fault { result ≡ Err ReadFault → Rose (S.channel source.old).faults (S.channel source.new).faults }
     ensures unfailed { result ≢ Err ReadFault → (S.channel source.new).faults ≡ (S.channel source.old).faults }
     ensures reads { OnlyReads (S.channel source.old) (S.channel source.new) }
@@ -58,16 +59,23 @@ fn judge_steps<S: Source>(
                 None => has_empty = or_adds_empty(has_empty, &step),
             },
             Ok(None) => return Ok(verdict_at_end(has_empty, reader.line())),
-            Err(StepError::Syntax(line)) => {
-                return Ok(Verdict::Refused {
-                    line,
-                    reason: Reason::Syntax,
-                });
-            }
-            Err(StepError::TooLong) => return Err(CheckError::TooLong),
-            Err(StepError::ReadFault) => return Err(CheckError::ReadFault),
-            Err(StepError::OutOfMemory) => return Err(CheckError::OutOfMemory),
+            Err(error) => return answer_to(error),
         }
+    }
+}
+
+// A line that spells no step is refused; else there is no verdict.
+fn answer_to(error: StepError) -> Result<Verdict, CheckError>
+    ensures { result ≡ error_answer error }
+{
+    match error {
+        StepError::Syntax(line) => Ok(Verdict::Refused {
+            line,
+            reason: Reason::Syntax,
+        }),
+        StepError::TooLong => Err(CheckError::TooLong),
+        StepError::ReadFault => Err(CheckError::ReadFault),
+        StepError::OutOfMemory => Err(CheckError::OutOfMemory),
     }
 }
 

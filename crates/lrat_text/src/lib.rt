@@ -12,6 +12,3 @@ mod reader;
 pub use error::StepError;
 pub use laws::{long_text_law, whole_text_law};
 pub use reader::StepReader;
-
-#[cfg(test)]
-mod tests;

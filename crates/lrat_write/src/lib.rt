@@ -5,7 +5,5 @@
 
 mod held;
 mod line;
-#[cfg(test)]
-mod tests;
 
 pub use line::{write_add, write_define};

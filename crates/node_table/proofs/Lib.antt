@@ -16,7 +16,6 @@ pub mod Fresh
 pub mod HasChildren
 pub mod Outcome
 pub mod Opened
-pub mod TwoVariables
 pub mod InUse
 pub mod InUseSame
 pub mod Progressed

@@ -9,3 +9,4 @@ pub mod Just
 pub mod Progress
 pub mod Made
 pub mod HandedOn
+pub mod Refused

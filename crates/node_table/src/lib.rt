@@ -11,8 +11,6 @@ mod error;
 mod laws;
 mod node;
 mod table;
-#[cfg(test)]
-mod tests;
 
 pub use diagram::Diagram;
 pub use error::TableError;

@@ -1,2 +1,13 @@
 //! Tests of the layers of proofs: `lrat_rules`, `lrat_checker`, `hint_chain`, `clause_ledger`.
 #![tactic(auto)]
+
+#[cfg(test)]
+mod checker;
+#[cfg(test)]
+mod hints;
+#[cfg(test)]
+mod ledger;
+#[cfg(test)]
+mod rules;
+#[cfg(test)]
+mod support;

@@ -6,8 +6,6 @@
 mod limits;
 mod order;
 mod plan;
-#[cfg(test)]
-mod tests;
 
 pub use limits::Limits;
 pub use order::Order;

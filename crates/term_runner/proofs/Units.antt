@@ -32,6 +32,9 @@ pub record IsInner (graph : Graph) (node : Node) : Type 0 where
   pub stands : branch_at graph key.index ≡ Some branch
   pub atom : atom_of graph node ≡ Of (pos branch.variable)
 
+pub not_both : (b : Bool) → b ≡ true → b ≡ false → ⊥
+not_both b holds fails = cc
+
 some_of : (o : Option Branch) → is_some o ≡ true → (b : Branch) × (o ≡ Some b)
 some_of None is = absurd (let e : false ≡ true = is in cc)
 some_of (Some b) is = (b, refl)

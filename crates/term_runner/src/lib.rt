@@ -20,6 +20,3 @@ pub use law::conjoining_law;
 pub use outcome::{Outcome, Run};
 pub use run::{run_plan, run_plan_into};
 pub use schedule_plan::Limits;
-
-#[cfg(test)]
-mod tests;

@@ -13,6 +13,3 @@ pub use laws::{kept_word_law, short_text_law};
 pub use number::{plain_number, signed_number};
 pub use scanner::{ScanError, Scanner};
 pub use token::Token;
-
-#[cfg(test)]
-mod tests;

@@ -1,3 +1,23 @@
 //! Tests of the layers of texts, what is read and what is written: `cnf_base`, `text_scan`, `dimacs_reader`, `lrat_text`,
-//! `lrat_write`, `answer_text`, `schedule_plan`.
+//! `lrat_write`, `answer_text`, `schedule_plan`. What no clause says: that calls succeed where there is memory, texts
+//! typed out, and what stands where a call of the outside fails.
 #![tactic(auto)]
+
+#[cfg(test)]
+mod answers;
+#[cfg(test)]
+mod formulas;
+#[cfg(test)]
+mod headers;
+#[cfg(test)]
+mod lines;
+#[cfg(test)]
+mod literals;
+#[cfg(test)]
+mod plans;
+#[cfg(test)]
+mod scanner;
+#[cfg(test)]
+mod steps;
+#[cfg(test)]
+mod support;

@@ -1,9 +1,12 @@
-use Rattle.std.proofs.Common.{◌≡◌, sym, ap, ◌∙◌, arith, inl}
+use Rattle.std.proofs.Common.{◌≡◌, ◌≤◌, ℕ, length, sym, ap, ◌∙◌, arith, inl}
 use Rattle.hint_chain.specs.Atoms.{clause_of, up_clause}
 use Rattle.node_table.specs.Defined.{atom_of, clause_named}
 use Rattle.apply_and.specs.Sides.{false_literal, cofactor_at, up_of}
 use Rattle.apply_and.proofs.NodeParts.{up_given, nonzero_node, cofactor_stands}
 use Rattle.apply_and.proofs.parts.up_part.Goals as goal
+
+at_most_four : (n : ℕ) → n ≤ 3 → n ≤ 4
+at_most_four n three = omega arith
 
 pub part_of-requires : goal.part_of-requires
 part_of-requires g c clause is =
@@ -13,7 +16,7 @@ part_of-requires g c clause is =
     let atoms = up_clause (atom_of graph c.args.node) (false_literal c.args.side graph c.args.level) (atom_of graph (cofactor_at c.args.side graph c.args.level c.args.node)) in
     let named : clause_named live c.up_id.result ≡ clause_of atoms =
     ap (clause_named live) (c.up_id.ensures ∙ ap (up_of c.args.side) branch.3) ∙ up_given graph live c.args.level c.requires.tied.defined c.args.side c.args.node branch.0 branch.1 branch.2 in
-    omega (arith, c.clause_law.ensures.short atoms clause (sym named ∙ is))
+    at_most_four (length clause) (c.clause_law.ensures.short atoms clause (sym named ∙ is))
 
 pub returns-in-Some-clause-up : goal.returns-in-Some-clause-up
 returns-in-Some-clause-up g c =

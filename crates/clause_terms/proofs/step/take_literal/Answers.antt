@@ -1,4 +1,4 @@
-use Rattle.std.proofs.Common.{◌≡◌, ◌+◌, List, ◌∷◌, drop, reverse, false, sym, subst}
+use Rattle.std.proofs.Common.{◌≡◌, ◌+◌, List, ◌∷◌, drop, reverse, false, sym, subst, refl}
 use Rattle.std.specs.Prelude.{IfOk, slice_index_or}
 use Rattle.std.proofs.lemmas.List.{drop_more}
 use Rattle.node_table.specs.Made.{LacksPart, MakesOnly}
@@ -6,6 +6,7 @@ use Rattle.clause_terms.specs.declared.placed.Placed.{Placed}
 use Rattle.clause_terms.specs.Placed.{placed_function}
 use Rattle.clause_terms.specs.ClauseDiagram.{IsDiagramOf}
 use Rattle.clause_terms.proofs.Taken.{skipped, before_rest}
+use Rattle.node_table.specs.HandedOn.{no_error}
 use Rattle.clause_terms.proofs.step.take_literal.Goals as goal
 
 abbrev no_placed : Placed
@@ -38,3 +39,39 @@ returns-clause-diagram g c =
     let before = before_rest placed c.args.i no_placed c.requires.index c.requires.sorted (c.is_repeated.ensures.other c.if-is_repeated.false no_placed) in
     subst (λ (list : List Placed). IfOk c.add_literal.result (λ node. IsDiagramOf c.add_literal.new.table.graph c.add_literal.new.table.book.state.live list node (reverse c.add_literal.new.path.items))) (sym rest)
     (c.add_literal.ensures.diagram (drop (c.args.i + 1) placed) before c.requires.diagram)
+
+pub returns-then-is_repeated-clause-made : goal.returns-then-is_repeated-clause-made
+returns-then-is_repeated-clause-made g c whole = c.subfunction_law.ensures.none_made c.args.table.now.graph (placed_function (drop c.args.i c.args.placed.now))
+
+pub returns-then-is_repeated-clause-continues : goal.returns-then-is_repeated-clause-continues
+returns-then-is_repeated-clause-continues g c whole = c.progress_law.ensures.same c.args.table.now c.requires.tied c.requires.in_step
+
+pub returns-then-is_repeated-clause-node_limit : goal.returns-then-is_repeated-clause-node_limit
+returns-then-is_repeated-clause-node_limit g c is = absurd (no_error is)
+
+pub returns-then-is_repeated-clause-lacks : goal.returns-then-is_repeated-clause-lacks
+returns-then-is_repeated-clause-lacks g c is = absurd (no_error is)
+
+pub returns-then-is_repeated-clause-id_limit : goal.returns-then-is_repeated-clause-id_limit
+returns-then-is_repeated-clause-id_limit g c is = absurd (no_error is)
+
+pub returns-then-is_repeated-clause-broken : goal.returns-then-is_repeated-clause-broken
+returns-then-is_repeated-clause-broken g c is = absurd (no_error is)
+
+pub returns-then-is_repeated-clause-beside : goal.returns-then-is_repeated-clause-beside
+returns-then-is_repeated-clause-beside g c = refl
+
+pub returns-clause-continues : goal.returns-clause-continues
+returns-clause-continues g c = c.add_literal.ensures.continues
+
+pub returns-clause-node_limit : goal.returns-clause-node_limit
+returns-clause-node_limit g c = c.add_literal.ensures.node_limit
+
+pub returns-clause-id_limit : goal.returns-clause-id_limit
+returns-clause-id_limit g c = c.add_literal.ensures.id_limit
+
+pub returns-clause-broken : goal.returns-clause-broken
+returns-clause-broken g c = c.add_literal.ensures.broken
+
+pub returns-clause-beside : goal.returns-clause-beside
+returns-clause-beside g c = c.add_literal.ensures.beside

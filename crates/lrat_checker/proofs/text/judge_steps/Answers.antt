@@ -1,39 +1,36 @@
 -- What the reader's next answer says to the verdict.
-use Rattle.std.proofs.Common.{◌≡◌, false, Some, None, Ok, Err, sym, ◌∙◌, ap, rules}
-use Rattle.std.specs.Prelude.{⊤}
+use Rattle.std.proofs.Common.{◌≡◌, false, Some, None, Ok, Err, refl, sym, ◌∙◌, ap, subst, rules}
+use Rattle.host_io.specs.Channel.{Rose}
 use Rattle.text_scan.specs.Decides.{OnlyReads-then, Decides-then}
-use Rattle.lrat_text.specs.Reader.{GaveStep, steps_ahead}
-use Rattle.lrat_rules.specs.declared.outcome.Reason.TheVariants.{Syntax}
+use Rattle.lrat_text.specs.declared.error.StepError.TheVariants.{ReadFault}
+use Rattle.lrat_text.specs.Reader.{GaveStep, is_reading, steps_ahead}
 use Rattle.lrat_rules.specs.Run.{step_fault, after_step}
-use Rattle.lrat_checker.specs.declared.verdict.Verdict.TheVariants.{Refused}
-use Rattle.lrat_checker.specs.TextVerdict.{end_verdict, steps_verdict}
-use Rattle.lrat_checker.proofs.Turns.{at_end, at_no_step, at_limit, at_good_step}
+use Rattle.lrat_checker.specs.TextVerdict.{end_verdict, error_answer, steps_verdict, Answers}
+use Rattle.lrat_checker.proofs.Turns.{at_end, at_error, at_good_step, read_fault_alone}
 use Rattle.lrat_checker.proofs.text.judge_steps.Goals as goal
 
 pub returns-in-Ok-None-clause-decides : goal.returns-in-Ok-None-clause-decides
 returns-in-Ok-None-clause-decides g c = λ told.
-    Decides-then (λ bytes more. steps_verdict c.args.judge false (steps_ahead c.args.reader bytes) ≡ Some c.verdict_at_end.result)
+    Decides-then (λ bytes more. steps_verdict c.args.judge.now false (steps_ahead c.args.reader.now bytes) ≡ Some c.verdict_at_end.result)
     (c.steps.invariant.same told) (c.in-Ok-None.ensures.gives told)
     (λ bytes middle more before gives. before ∙ at_end c.steps.judge c.steps.has_empty _ _ _ _ gives (ap Ok c.in-Ok-None.field-0-is)
     ∙ ap Some (sym (c.verdict_at_end.ensures ∙ ap (end_verdict c.steps.has_empty) c.line.ensures)))
 
-pub returns-in-Err-Syntax-clause-decides : goal.returns-in-Err-Syntax-clause-decides
-returns-in-Err-Syntax-clause-decides g c = λ told.
-    Decides-then _ (c.steps.invariant.same told) (c.in-Err-Syntax.ensures.gives told)
-    (λ bytes middle more before gives. before ∙ at_no_step c.steps.judge c.steps.has_empty _ _ _ _ gives c.in-Err-Syntax.line (ap Err c.in-Err-Syntax.field-0-is)
-    ∙ ap (λ n. Some (Refused n Syntax)) (sym c.in-Err-Syntax.line-is))
+pub returns-in-Err-clause-decides : goal.returns-in-Err-clause-decides
+returns-in-Err-clause-decides g c = λ told.
+    Decides-then (λ bytes more. Answers c.answer_to.result (steps_verdict c.args.judge.now false (steps_ahead c.args.reader.now bytes)))
+    (c.steps.invariant.same told) (c.in-Err.ensures.gives told)
+    (λ bytes middle more before gives. at_error c.steps.judge c.steps.has_empty _ _ _ _ gives _ before c.in-Err.error refl c.answer_to.result c.answer_to.ensures)
 
-pub returns-in-Err-TooLong-clause-decides : goal.returns-in-Err-TooLong-clause-decides
-returns-in-Err-TooLong-clause-decides g c = λ told.
-    Decides-then (λ bytes more. steps_verdict c.args.judge false (steps_ahead c.args.reader bytes) ≡ None)
-    (c.steps.invariant.same told) (c.in-Err-TooLong.ensures.gives told)
-    (λ bytes middle more before gives. before ∙ at_limit c.steps.judge c.steps.has_empty _ _ _ _ gives (ap Err c.in-Err-TooLong.field-0-is))
+pub returns-in-Err-clause-fault : goal.returns-in-Err-clause-fault
+returns-in-Err-clause-fault g c = λ is.
+    subst (λ n. Rose n (g.S.Source.channel c.next.new.source).faults) c.steps.invariant.unfailed
+    (c.in-Err.ensures.fault (ap Err (read_fault_alone c.in-Err.error (sym c.answer_to.ensures ∙ is))) (ap is_reading c.steps.invariant.reading))
 
-pub returns-in-Err-ReadFault-clause-decides : goal.returns-in-Err-ReadFault-clause-decides
-returns-in-Err-ReadFault-clause-decides g c = λ told. Decides-then (λ bytes more. ⊤) (c.steps.invariant.same told) (c.in-Err-ReadFault.ensures.gives told) (λ bytes middle more before gives. tt)
-
-pub returns-in-Err-OutOfMemory-clause-decides : goal.returns-in-Err-OutOfMemory-clause-decides
-returns-in-Err-OutOfMemory-clause-decides g c = λ told. Decides-then (λ bytes more. ⊤) (c.steps.invariant.same told) (c.in-Err-OutOfMemory.ensures.gives told) (λ bytes middle more before gives. tt)
+pub returns-in-Err-clause-unfailed : goal.returns-in-Err-clause-unfailed
+returns-in-Err-clause-unfailed g c = λ differ.
+    c.in-Err.ensures.unfailed (λ e. let same : c.in-Err.error ≡ ReadFault = cc in differ (c.answer_to.ensures ∙ ap error_answer same))
+    ∙ c.steps.invariant.unfailed
 
 pub steps-preserved : goal.steps-preserved
 steps-preserved g c =

@@ -2,19 +2,22 @@ use Rattle.std.proofs.Common.{◌≡◌, ℕ, suc, ◌+◌, true, List, take, re
 use Rattle.node_table.specs.declared.node.Node.{Node}
 use Rattle.node_table.specs.Diagram.{is_node}
 use Rattle.node_table.specs.Value.{by_level, value_of}
-use Rattle.node_table.specs.declared.error.TableError.TheVariants.{NodeLimit, WriteFault}
+use Rattle.node_table.specs.declared.error.TableError.TheVariants.{NodeLimit, IdLimit, WriteFault}
 use Rattle.node_table.specs.declared.error.TableError.{TableError}
 use Rattle.node_table.specs.Made.{LacksPart, MakesOnly}
 use Rattle.schedule_plan.specs.Plan.{after_moves, no_stage}
 use Rattle.term_runner.specs.Needs.{top_function}
 use Rattle.term_runner.specs.Held.{top_node}
 use Rattle.term_runner.specs.Recovered.{IsRecovered}
-use Rattle.node_table.specs.HandedOn.{handed_on, came_from}
+use Rattle.node_table.specs.HandedOn.{no_error, same_error, came_from, other_cause, no_answer, no_ok}
 use Rattle.term_runner.proofs.Stacks.{top_stands, top_value}
 use Rattle.term_runner.proofs.Between.{at_last, joins_at, next_of, some_at}
 use Rattle.term_runner.proofs.Least.{recovered}
 use Rattle.term_runner.proofs.Planned.{moved_on, more_made, runs_short}
 use Rattle.term_runner.proofs.decide.run_moves.Goals as goal
+
+two_causes : ◌≡◌ {A = TableError} NodeLimit WriteFault → ⊥
+two_causes is = cc
 
 pub unreachable-requires : goal.unreachable-requires
 unreachable-requires g c = some_at c.args.plan.now c.moves.i (omega (arith, c.moves-test.true, c.len-i-end.ensures)) (sym c.get.ensures ∙ c.in_default.is)
@@ -32,7 +35,7 @@ pub moves-preserved : goal.moves-preserved
 moves-preserved g c =
     let between = c.moves.invariant.between in
     let next = next_of c.args.formula.now c.args.plan.now c.moves.i between.stage c.requires.plan.last c.in-Some.step (sym c.get.ensures ∙ c.in-Some.is) (between.rest ∙ c.requires.plan.possible) in
-    let step_continues = c.in_ok-take_move.ensures.continues (λ is. cc) in
+    let step_continues = c.in_ok-take_move.ensures.continues no_error in
     let moved : after_moves c.args.formula.now no_stage (take (suc c.moves.i) c.args.plan.now) ≡ Some next.next = moved_on c.args.formula.now c.args.plan.now c.moves.i c.in-Some.step no_stage between.stage next.next (sym c.get.ensures ∙ c.in-Some.is) between.front next.is in
     let shift : suc c.moves.i ≡ c.moves.i + 1 = omega arith in
     let front : after_moves c.args.formula.now no_stage (take (c.moves.i + 1) c.args.plan.now) ≡ Some next.next = subst (λ (n : ℕ). after_moves c.args.formula.now no_stage (take n c.args.plan.now) ≡ Some next.next) shift moved in
@@ -43,12 +46,12 @@ moves-preserved g c =
         rest = next.rest ∙ sym c.requires.plan.possible;
         held = c.in_ok-take_move.ensures.held between.stage next.next between.held next.is c.if-branch.false;
       };
-      ready = c.in_ok-take_move.ensures.ready (λ is. cc);
-      continues = c.progress_law.ensures.further _ _ _ c.args.table.now c.moves.table c.take_move.new.table c.moves.invariant.continues (c.in_ok-take_move.ensures.continues (λ is. cc));
+      ready = c.in_ok-take_move.ensures.ready no_error;
+      continues = c.progress_law.ensures.further _ _ _ c.args.table.now c.moves.table c.take_move.new.table c.moves.invariant.continues (c.in_ok-take_move.ensures.continues no_error);
       made = more_made c.growth_law.ensures.value c.args.formula.now c.args.table.now.graph.order c.args.plan.now c.args.table.now.graph c.moves.table.graph c.take_move.new.table.graph
           c.moves.invariant.continues.tied.reduced step_continues.extends.nodes c.moves.invariant.made (suc c.moves.i) next.next moved
           (subst (λ (order : List ℕ). MakesOnly c.moves.table.graph c.take_move.new.table.graph (top_function c.args.formula.now order next.next.stack)) c.moves.invariant.continues.extends.nodes.order
-          (c.in_ok-take_move.ensures.made between.stage next.next between.held next.is (λ is. cc)));
+          (c.in_ok-take_move.ensures.made between.stage next.next between.held next.is no_error));
       beside = c.in_ok-take_move.ensures.beside ∙ c.moves.invariant.beside;
     }
 
@@ -80,7 +83,7 @@ returns-clause-found g c =
 pub returns-in_err-take_move-clause-continues : goal.returns-in_err-take_move-clause-continues
 returns-in_err-take_move-clause-continues g c whole =
     c.progress_law.ensures.further _ _ _ c.args.table.now c.moves.table c.take_move.new.table c.moves.invariant.continues
-    (c.in_err-take_move.ensures.continues (λ is. whole (handed_on _ c.in_err-take_move.field-0.0 WriteFault c.from_residual-in_err-take_move.ensures.1 (let same : c.in_err-take_move.field-0.0 ≡ WriteFault = cc in same))))
+    (c.in_err-take_move.ensures.continues (other_cause _ c.in_err-take_move.field-0.0 WriteFault c.from_residual-in_err-take_move.ensures.1 whole))
 
 pub returns-in_err-take_move-clause-broken : goal.returns-in_err-take_move-clause-broken
 returns-in_err-take_move-clause-broken g c is =
@@ -92,14 +95,47 @@ returns-in_err-take_move-clause-short g c is =
     let between = c.moves.invariant.between in
     let next = next_of c.args.formula.now c.args.plan.now c.moves.i between.stage c.requires.plan.last c.in-Some.step (sym c.get.ensures ∙ c.in-Some.is) (between.rest ∙ c.requires.plan.possible) in
     let cause : c.in_err-take_move.field-0.0 ≡ NodeLimit = came_from _ c.in_err-take_move.field-0.0 NodeLimit c.from_residual-in_err-take_move.ensures.1 is in
-    let torn : c.in_err-take_move.field-0.0 ≡ WriteFault → ⊥ = λ e. let bad : ◌≡◌ {A = TableError} NodeLimit WriteFault = sym cause ∙ e in cc in
-    let step_continues = c.in_err-take_move.ensures.continues (λ e. torn (let same : c.in_err-take_move.field-0.0 ≡ WriteFault = cc in same)) in
+    let torn : c.in_err-take_move.field-0.0 ≡ WriteFault → ⊥ = λ e. two_causes (sym cause ∙ e) in
+    let step_continues = c.in_err-take_move.ensures.continues (λ e. torn (same_error e)) in
     let moved : after_moves c.args.formula.now no_stage (take (suc c.moves.i) c.args.plan.now) ≡ Some next.next = moved_on c.args.formula.now c.args.plan.now c.moves.i c.in-Some.step no_stage between.stage next.next (sym c.get.ensures ∙ c.in-Some.is) between.front next.is in
     let same_order = c.moves.invariant.continues.extends.nodes.order in
     let made = more_made c.growth_law.ensures.value c.args.formula.now c.args.table.now.graph.order c.args.plan.now c.args.table.now.graph c.moves.table.graph c.take_move.new.table.graph
     c.moves.invariant.continues.tied.reduced step_continues.extends.nodes c.moves.invariant.made (suc c.moves.i) next.next moved
     (subst (λ (order : List ℕ). MakesOnly c.moves.table.graph c.take_move.new.table.graph (top_function c.args.formula.now order next.next.stack)) same_order
-    (c.in_err-take_move.ensures.made between.stage next.next between.held next.is (λ e. torn (let same : c.in_err-take_move.field-0.0 ≡ WriteFault = cc in same)))) in
+    (c.in_err-take_move.ensures.made between.stage next.next between.held next.is (λ e. torn (same_error e)))) in
     runs_short c.args.formula.now c.args.table.now.graph.order c.args.plan.now c.args.table.now.graph c.take_move.new.table.graph made (suc c.moves.i) next.next moved
     (subst (λ (order : List ℕ). LacksPart c.take_move.new.table.graph (top_function c.args.formula.now order next.next.stack)) same_order
     (c.in_err-take_move.ensures.lacks between.stage next.next between.held next.is (ap Err cause)))
+
+pub returns-in_err-take_move-clause-found : goal.returns-in_err-take_move-clause-found
+returns-in_err-take_move-clause-found g c = no_answer _ c.in_err-take_move.field-0.0 _ c.from_residual-in_err-take_move.ensures.1
+
+pub returns-in_err-take_move-clause-refuted : goal.returns-in_err-take_move-clause-refuted
+returns-in_err-take_move-clause-refuted g c is = absurd (no_ok _ c.in_err-take_move.field-0.0 _ c.from_residual-in_err-take_move.ensures.1 is)
+
+pub returns-in_err-take_move-clause-node_limit : goal.returns-in_err-take_move-clause-node_limit
+returns-in_err-take_move-clause-node_limit g c is = c.in_err-take_move.ensures.node_limit (ap Err (came_from _ c.in_err-take_move.field-0.0 NodeLimit c.from_residual-in_err-take_move.ensures.1 is))
+
+pub returns-in_err-take_move-clause-id_limit : goal.returns-in_err-take_move-clause-id_limit
+returns-in_err-take_move-clause-id_limit g c is = c.in_err-take_move.ensures.id_limit (ap Err (came_from _ c.in_err-take_move.field-0.0 IdLimit c.from_residual-in_err-take_move.ensures.1 is))
+
+pub returns-in_err-take_move-clause-beside : goal.returns-in_err-take_move-clause-beside
+returns-in_err-take_move-clause-beside g c = c.in_err-take_move.ensures.beside ∙ c.moves.invariant.beside
+
+pub returns-clause-continues : goal.returns-clause-continues
+returns-clause-continues g c whole = c.moves.invariant.continues
+
+pub returns-clause-short : goal.returns-clause-short
+returns-clause-short g c is = absurd (no_error is)
+
+pub returns-clause-node_limit : goal.returns-clause-node_limit
+returns-clause-node_limit g c is = absurd (no_error is)
+
+pub returns-clause-id_limit : goal.returns-clause-id_limit
+returns-clause-id_limit g c is = absurd (no_error is)
+
+pub returns-clause-broken : goal.returns-clause-broken
+returns-clause-broken g c is = absurd (no_error is)
+
+pub returns-clause-beside : goal.returns-clause-beside
+returns-clause-beside g c = c.moves.invariant.beside

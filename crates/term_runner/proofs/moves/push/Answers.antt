@@ -6,8 +6,8 @@ use Rattle.node_table.specs.Made.{LacksPart, MakesOnly}
 use Rattle.schedule_plan.specs.Plan.{input}
 use Rattle.clause_terms.specs.Term.{clause_function}
 use Rattle.term_runner.specs.Held.{AreHeld}
-use Rattle.node_table.specs.declared.error.TableError.TheVariants.{NodeLimit, WriteFault}
-use Rattle.node_table.specs.HandedOn.{handed_on, came_from}
+use Rattle.node_table.specs.declared.error.TableError.TheVariants.{NodeLimit, IdLimit, WriteFault}
+use Rattle.node_table.specs.HandedOn.{no_error, came_from, other_cause, no_answer}
 use Rattle.term_runner.proofs.Planned.{no_limit}
 use Rattle.term_runner.proofs.Inputs.{input_live, input_literals, input_some}
 use Rattle.term_runner.proofs.Stacks.{Growth, held_kept, pushed, clause_held, false_refutes, if_ok}
@@ -30,7 +30,7 @@ returns-clause-held g c terms are =
     let growth : Growth = record { stands = c.growth_law.ensures.stands; level = c.growth_law.ensures.level; value = c.growth_law.ensures.value; atom = c.growth_law.ensures.atom; justified = c.growth_law.ensures.justified } in
     let old = c.args.table.now in
     let new = c.push_clause.new.table in
-    let grown = c.in_ok-found.ensures.continues (λ is. cc) in
+    let grown = c.in_ok-found.ensures.continues no_error in
     let formula = c.args.formula.now in
     if_ok c.put.result (λ refuted. refuted ≡ false → (c.in_ok-found.found.0 ≢ False) × (c.put.new.stack.items ≡ c.args.stack.now.items ++ record { node = c.in_ok-found.found.0; unit = c.in_ok-found.found.1 } ∷ []))
     (λ refuted. refuted ≡ false → AreHeld formula new.graph new.book.state.live (reverse c.put.new.stack.items) (input c.args.number ∷ terms))
@@ -49,18 +49,18 @@ returns-clause-refuted g c =
 
 pub returns-in_err-found-clause-continues : goal.returns-in_err-found-clause-continues
 returns-in_err-found-clause-continues g c whole =
-    c.in_err-found.ensures.continues (λ is. whole (handed_on _ c.in_err-found.field-0.0 WriteFault c.from_residual.ensures.1 (let same : c.in_err-found.field-0.0 ≡ WriteFault = cc in same)))
+    c.in_err-found.ensures.continues (other_cause _ c.in_err-found.field-0.0 WriteFault c.from_residual.ensures.1 whole)
 
 pub returns-in_err-found-clause-made : goal.returns-in_err-found-clause-made
 returns-in_err-found-clause-made g c whole =
     let old = c.args.table.now.graph in
     subst (λ (clause : List ℤ). MakesOnly old c.push_clause.new.table.graph (clause_function old.order clause)) c.clause-clause.ensures
-    (c.in_err-found.ensures.made (λ is. whole (handed_on _ c.in_err-found.field-0.0 WriteFault c.from_residual.ensures.1 (let same : c.in_err-found.field-0.0 ≡ WriteFault = cc in same))))
+    (c.in_err-found.ensures.made (other_cause _ c.in_err-found.field-0.0 WriteFault c.from_residual.ensures.1 whole))
 
 pub returns-clause-made : goal.returns-clause-made
 returns-clause-made g c whole =
     let old = c.args.table.now.graph in
-    subst (λ (clause : List ℤ). MakesOnly old c.push_clause.new.table.graph (clause_function old.order clause)) c.clause-clause.ensures (c.in_ok-found.ensures.made (λ is. cc))
+    subst (λ (clause : List ℤ). MakesOnly old c.push_clause.new.table.graph (clause_function old.order clause)) c.clause-clause.ensures (c.in_ok-found.ensures.made no_error)
 
 pub returns-in_err-found-clause-lacks : goal.returns-in_err-found-clause-lacks
 returns-in_err-found-clause-lacks g c is =
@@ -70,3 +70,30 @@ returns-in_err-found-clause-lacks g c is =
 
 pub returns-clause-lacks : goal.returns-clause-lacks
 returns-clause-lacks g c is = absurd (no_limit c.put.result c.put.ensures.failed is)
+
+pub returns-in_err-found-clause-held : goal.returns-in_err-found-clause-held
+returns-in_err-found-clause-held g c terms are = no_answer _ c.in_err-found.field-0.0 _ c.from_residual.ensures.1
+
+pub returns-in_err-found-clause-refuted : goal.returns-in_err-found-clause-refuted
+returns-in_err-found-clause-refuted g c = no_answer _ c.in_err-found.field-0.0 _ c.from_residual.ensures.1
+
+pub returns-in_err-found-clause-id_limit : goal.returns-in_err-found-clause-id_limit
+returns-in_err-found-clause-id_limit g c is = c.in_err-found.ensures.id_limit (ap Err (came_from _ c.in_err-found.field-0.0 IdLimit c.from_residual.ensures.1 is))
+
+pub returns-in_err-found-clause-node_limit : goal.returns-in_err-found-clause-node_limit
+returns-in_err-found-clause-node_limit g c is = c.in_err-found.ensures.node_limit (ap Err (came_from _ c.in_err-found.field-0.0 NodeLimit c.from_residual.ensures.1 is))
+
+pub returns-in_err-found-clause-broken : goal.returns-in_err-found-clause-broken
+returns-in_err-found-clause-broken g c is = c.in_err-found.ensures.broken (ap Err (came_from _ c.in_err-found.field-0.0 WriteFault c.from_residual.ensures.1 is))
+
+pub returns-in_err-found-clause-beside : goal.returns-in_err-found-clause-beside
+returns-in_err-found-clause-beside g c = c.in_err-found.ensures.beside
+
+pub returns-clause-continues : goal.returns-clause-continues
+returns-clause-continues g c whole = c.in_ok-found.ensures.continues no_error
+
+pub returns-clause-node_limit : goal.returns-clause-node_limit
+returns-clause-node_limit g c is = absurd (no_limit c.put.result c.put.ensures.failed is)
+
+pub returns-clause-beside : goal.returns-clause-beside
+returns-clause-beside g c = c.in_ok-found.ensures.beside

@@ -93,3 +93,39 @@ returns-in-And-clause-lacks g c stage next are is limit =
 
 pub unreachable-requires : goal.unreachable-requires
 unreachable-requires g c = no_quantifier c.args.step c.in-Exists.field-0 c.in-Exists.is c.requires.joins
+
+pub returns-in-Push-clause-refuted : goal.returns-in-Push-clause-refuted
+returns-in-Push-clause-refuted g c = c.push.ensures.refuted
+
+pub returns-in-Push-clause-continues : goal.returns-in-Push-clause-continues
+returns-in-Push-clause-continues g c = c.push.ensures.continues
+
+pub returns-in-Push-clause-node_limit : goal.returns-in-Push-clause-node_limit
+returns-in-Push-clause-node_limit g c = c.push.ensures.node_limit
+
+pub returns-in-Push-clause-id_limit : goal.returns-in-Push-clause-id_limit
+returns-in-Push-clause-id_limit g c = c.push.ensures.id_limit
+
+pub returns-in-Push-clause-broken : goal.returns-in-Push-clause-broken
+returns-in-Push-clause-broken g c = c.push.ensures.broken
+
+pub returns-in-Push-clause-beside : goal.returns-in-Push-clause-beside
+returns-in-Push-clause-beside g c = c.push.ensures.beside
+
+pub returns-in-And-clause-refuted : goal.returns-in-And-clause-refuted
+returns-in-And-clause-refuted g c = c.conjoin.ensures.refuted
+
+pub returns-in-And-clause-continues : goal.returns-in-And-clause-continues
+returns-in-And-clause-continues g c = c.conjoin.ensures.continues
+
+pub returns-in-And-clause-node_limit : goal.returns-in-And-clause-node_limit
+returns-in-And-clause-node_limit g c = c.conjoin.ensures.node_limit
+
+pub returns-in-And-clause-id_limit : goal.returns-in-And-clause-id_limit
+returns-in-And-clause-id_limit g c = c.conjoin.ensures.id_limit
+
+pub returns-in-And-clause-broken : goal.returns-in-And-clause-broken
+returns-in-And-clause-broken g c = c.conjoin.ensures.broken
+
+pub returns-in-And-clause-beside : goal.returns-in-And-clause-beside
+returns-in-And-clause-beside g c = c.conjoin.ensures.beside

@@ -1,12 +1,11 @@
-use Rattle.std.proofs.Common.{rules, ◌≡◌, ◌≢◌, ℕ, Result, Ok, Err, sym, ap, ◌∙◌, subst}
+use Rattle.std.proofs.Common.{◌≡◌, ◌≢◌, Err, sym, ap, ◌∙◌, subst}
 use Rattle.clause_ledger.specs.Book.{Book}
-use Rattle.clause_ledger.specs.declared.error.LedgerError.{LedgerError}
-use Rattle.node_table.specs.declared.error.TableError.{TableError}
 use Rattle.node_table.specs.declared.error.TableError.TheVariants.{WriteFault}
 use Rattle.node_table.specs.Errors.{table_error}
 use Rattle.node_table.specs.Tied.{IsTied, IsOverNodes, Extends, Stays}
 use Rattle.node_table.specs.Table.{TableState}
 use Rattle.node_table.proofs.Justified.{justified_tied, justified_extends, justified_stays, same_extends, not_torn, torn}
+use Rattle.node_table.specs.HandedOn.{no_error, same_error}
 use Rattle.node_table.proofs.table.Table.justify.Goals as goal
 use Rattle.node_table.proofs.table.Table.justify.Goals.{in-Ok, in-Err}
 
@@ -14,7 +13,7 @@ pub returns-clause-tied : goal.returns-clause-tied
 returns-clause-tied g c =
     let state = c.self.inside.ledger.state in
     let graph = c.self.inside.diagram in
-    let tied : IsTied graph state = search (rules, c.self.view_is) in
+    let tied : IsTied graph state = subst (λ (t : TableState g.row.S.Denot). IsTied t.graph t.book.state) (sym c.self.view_is) c.requires.tied in
     let over : IsOverNodes graph c.args.clause.now = subst (λ (t : TableState g.row.S.Denot). IsOverNodes t.graph c.args.clause.now) (sym c.self.view_is) c.requires.over_nodes in
     elim c.match-add.branch [
       | in-Ok w ↦ λ _. subst (IsTied graph) (sym w.in-Ok.ensures.added.1) (justified_tied graph state c.args.clause.now tied over)
@@ -31,7 +30,7 @@ pub returns-clause-extends : goal.returns-clause-extends
 returns-clause-extends g c =
     let state = c.self.inside.ledger.state in
     let graph = c.self.inside.diagram in
-    let tied : IsTied graph state = search (rules, c.self.view_is) in
+    let tied : IsTied graph state = subst (λ (t : TableState g.row.S.Denot). IsTied t.graph t.book.state) (sym c.self.view_is) c.requires.tied in
     let extends : c.match-add.result ≢ Err WriteFault → Extends graph graph state c.add.new.self.state =
     elim c.match-add.branch [
       | in-Ok w ↦ λ _. subst (Extends graph graph state) (sym w.in-Ok.ensures.added.1) (justified_extends graph state c.args.clause.now tied)
@@ -49,26 +48,23 @@ pub returns-clause-stays : goal.returns-clause-stays
 returns-clause-stays g c =
     let state = c.self.inside.ledger.state in
     let graph = c.self.inside.diagram in
-    let tied : IsTied graph state = search (rules, c.self.view_is) in
+    let tied : IsTied graph state = subst (λ (t : TableState g.row.S.Denot). IsTied t.graph t.book.state) (sym c.self.view_is) c.requires.tied in
     let stays : c.match-add.result ≡ Err WriteFault → Stays graph graph state c.add.new.self.state =
     elim c.match-add.branch [
-      | in-Ok w ↦ λ is. absurd (let bad : ◌≡◌ {A = Result ℕ TableError} (Ok w.in-Ok.id) (Err WriteFault) = sym w.result-is ∙ is in cc)
+      | in-Ok w ↦ λ is. absurd (no_error (sym w.result-is ∙ is))
       | in-Err w ↦ λ is.
-          let error : w.from.result ≡ WriteFault = (let same : ◌≡◌ {A = Result ℕ TableError} (Err w.from.result) (Err WriteFault) = sym w.result-is ∙ is in cc) in
+          let error : w.from.result ≡ WriteFault = same_error (sym w.result-is ∙ is) in
           torn w.in-Err.e
           (λ fault. subst (Stays graph graph state) (sym (c.add.ensures.fault_state (w.in-Err.is ∙ ap Err fault))) (justified_stays graph state c.args.clause.now tied))
           (sym w.from.ensures ∙ error)
     ] in
     subst (λ (t : TableState g.row.S.Denot). c.match-add.result ≡ Err WriteFault → Stays t.graph graph t.book.state c.add.new.self.state) c.self.view_is stays
 
-same_error : {a b : LedgerError} → ◌≡◌ {A = Result ℕ LedgerError} (Err a) (Err b) → a ≡ b
-same_error e = cc
-
 pub returns-clause-unfailed : goal.returns-clause-unfailed
 returns-clause-unfailed g c =
     let unfailed : c.match-add.result ≢ Err WriteFault → (g.S.Sink.channel c.add.new.self.sink).faults ≡ (g.S.Sink.channel c.self.inside.ledger.sink).faults =
     elim c.match-add.branch [
-      | in-Ok w ↦ λ _. w.in-Ok.ensures.unfailed (λ e. cc)
+      | in-Ok w ↦ λ _. w.in-Ok.ensures.unfailed no_error
       | in-Err w ↦ λ differ. w.in-Err.ensures.unfailed (λ e. differ (w.result-is ∙ ap Err (w.from.ensures ∙ ap table_error (same_error e))))
     ] in
     subst (λ (t : TableState g.row.S.Denot). c.match-add.result ≢ Err WriteFault → (g.S.Sink.channel c.add.new.self.sink).faults ≡ (g.S.Sink.channel t.book.sink).faults) c.self.view_is unfailed

@@ -1,4 +1,4 @@
-use Rattle.std.proofs.Common.{rules, ◌≡◌, true, refl, sym, ap, subst, arith}
+use Rattle.std.proofs.Common.{◌≡◌, true, refl, sym, ap, subst, arith}
 use Rattle.lrat_rules.specs.State.{State}
 use Rattle.clause_ledger.specs.Book.{Book}
 use Rattle.node_table.specs.Diagram.{is_node}
@@ -12,7 +12,7 @@ pub write_definitions-requires-clause-new_variable : goal.write_definitions-requ
 write_definitions-requires-clause-new_variable g c =
     let graph = c.self.inside.diagram in
     let state = c.self.inside.ledger.state in
-    let tied : IsTied graph state = search (rules, c.self.view_is) in
+    let tied : IsTied graph state = subst (λ (t : TableState g.row.S.Denot). IsTied t.graph t.book.state) (sym c.self.view_is) c.requires.tied in
     let high_stands : is_node graph c.args.high ≡ true = subst (λ (t : TableState g.row.S.Denot). is_node t.graph c.args.high ≡ true) (sym c.self.view_is) c.requires.high.stands in
     let low_stands : is_node graph c.args.low ≡ true = subst (λ (t : TableState g.row.S.Denot). is_node t.graph c.args.low ≡ true) (sym c.self.view_is) c.requires.low.stands in
     let live : c.reserve.new.self.state ≡ state = ap (λ (b : Book g.row.S.Denot). b.state) c.reserve.ensures.unchanged in

@@ -1,9 +1,12 @@
-use Rattle.std.proofs.Common.{◌≡◌, ◌<◌, ℕ, true, Some, subst}
+use Rattle.std.proofs.Common.{◌≡◌, ◌<◌, ℕ, Bool, true, false, Some, subst}
 use Rattle.node_table.specs.declared.node.Branch.{Branch}
 use Rattle.node_table.specs.Diagram.{branch_at, next_variable}
 use Rattle.node_table.specs.Table.{TableState, IsWanted}
 use Rattle.node_table.proofs.Outcome.{outcome_children, outcome_only, outcome_both}
 use Rattle.node_table.proofs.table.Table.node.Goals as goal
+
+not_both : (b : Bool) → b ≡ true → b ≡ false → ⊥
+not_both b holds fails = cc
 
 pub returns-clause-children : goal.returns-clause-children
 returns-clause-children g c = outcome_children c.args.self.now c.make.new.self c.args.level c.args.high c.args.low c.make.result c.make.ensures.made
@@ -13,7 +16,7 @@ returns-clause-tied g c whole =
     let wanted : IsWanted c.args.self.now.graph c.args.level c.args.high c.args.low =
     subst (λ (t : TableState g.row.S.Denot). IsWanted t.graph c.args.level c.args.high c.args.low) c.self.view_is
     (record {
-      differ = λ same. let is : c.same_node.result ≡ true = c.same_node.ensures.1 same in let not = c.if-same_node.false in cc;
+      differ = λ same. not_both c.same_node.result (c.same_node.ensures.1 same) c.if-same_node.false;
       missing = c.in_default.ensures;
     }) in
     let own : (key : ℕ) (b : Branch) → branch_at c.args.self.now.graph key ≡ Some b → b.variable < next_variable c.args.self.now.graph =
@@ -25,7 +28,7 @@ returns-clause-extends g c whole =
     let wanted : IsWanted c.args.self.now.graph c.args.level c.args.high c.args.low =
     subst (λ (t : TableState g.row.S.Denot). IsWanted t.graph c.args.level c.args.high c.args.low) c.self.view_is
     (record {
-      differ = λ same. let is : c.same_node.result ≡ true = c.same_node.ensures.1 same in let not = c.if-same_node.false in cc;
+      differ = λ same. not_both c.same_node.result (c.same_node.ensures.1 same) c.if-same_node.false;
       missing = c.in_default.ensures;
     }) in
     let own : (key : ℕ) (b : Branch) → branch_at c.args.self.now.graph key ≡ Some b → b.variable < next_variable c.args.self.now.graph =
@@ -34,3 +37,42 @@ returns-clause-extends g c whole =
 
 pub returns-clause-only : goal.returns-clause-only
 returns-clause-only g c whole = outcome_only c.args.self.now c.make.new.self c.args.level c.args.high c.args.low c.make.result c.make.ensures.made c.make.ensures.refused whole
+
+pub returns-clause-refused : goal.returns-clause-refused
+returns-clause-refused g c = c.make.ensures.refused
+
+pub returns-clause-kept : goal.returns-clause-kept
+returns-clause-kept g c = c.make.ensures.kept
+
+pub returns-clause-write_fault : goal.returns-clause-write_fault
+returns-clause-write_fault g c = c.make.ensures.write_fault
+
+pub returns-clause-cut : goal.returns-clause-cut
+returns-clause-cut g c = c.make.ensures.cut
+
+pub returns-clause-out_of_step : goal.returns-clause-out_of_step
+returns-clause-out_of_step g c = c.make.ensures.out_of_step
+
+pub returns-clause-stays : goal.returns-clause-stays
+returns-clause-stays g c = c.make.ensures.stays
+
+pub returns-clause-in_step : goal.returns-clause-in_step
+returns-clause-in_step g c = c.make.ensures.in_step
+
+pub returns-clause-limits : goal.returns-clause-limits
+returns-clause-limits g c = c.make.ensures.limits
+
+pub returns-clause-unfailed : goal.returns-clause-unfailed
+returns-clause-unfailed g c = c.make.ensures.unfailed
+
+pub returns-clause-only_writes : goal.returns-clause-only_writes
+returns-clause-only_writes g c = c.make.ensures.only_writes
+
+pub returns-clause-beside : goal.returns-clause-beside
+returns-clause-beside g c = c.make.ensures.beside
+
+pub returns-clause-made : goal.returns-clause-made
+returns-clause-made g c wanted = c.make.ensures.made
+
+pub returns-clause-lines : goal.returns-clause-lines
+returns-clause-lines g c told wanted = c.make.ensures.lines told

@@ -1,0 +1,363 @@
+// Conjunctions: their values under each assignment, and the lines of their proofs, worked out by hand.
+ghost use Rattle.std.specs.Prelude.{◌≡◌, ◌≢◌, ◌<◌, ◌≤◌, [], length, OnOk, IsTrue};
+ghost use Rattle.cnf_base.specs.Truth.{AreClausesOf};
+ghost use Rattle.node_table.specs.Diagram.{IsOrder};
+ghost use Rattle.node_table.specs.Tied.{IsTied};
+ghost use Rattle.apply_and.specs.Cache.{Fits, entries};
+
+use crate::script::{conjoin, end_of, play, told};
+use crate::support::{ProofText, is_known, make, open, order, room_of};
+use apply_and::AndCache;
+use cnf_base::{Cnf, CnfBuilder};
+use node_table::{Node, Table, TableError};
+use std::alloc::Global;
+use std::process::Abort;
+use std::test::Fail;
+
+// A formula of this many variables without clauses.
+fn no_clauses(alloc: Global, vars: u32) -> Cnf
+    requires { vars ≤ 3 }
+    ensures { result.clauses ≡ [] }
+{
+    CnfBuilder::new(alloc, vars).finish()
+}
+
+fn constant(value: bool) -> Node {
+    if value { Node::True } else { Node::False }
+}
+
+// The node of a function of the last variable, by its values where it is true and where it is false.
+fn function_of_one(
+    rt: &impl Abort,
+    table: &mut Table<ProofText>,
+    level: u32,
+    row: usize,
+) -> Result<Node, TableError>
+    requires in_step { IsTrue table.old.book.in_step }
+    requires tied { IsTied table.old.graph table.old.book.state }
+    ensures in_step { OnOk result (IsTrue table.new.book.in_step) }
+    ensures tied { OnOk result (IsTied table.new.graph table.new.book.state) }
+{
+    make(
+        rt,
+        table,
+        level,
+        constant(row & 2 != 0),
+        constant(row & 1 != 0),
+    )
+}
+
+// The node of a function of the two variables from this level on, by its values where they are both true, the first
+// alone, the second alone, and none.
+fn function_of_two(
+    rt: &impl Abort,
+    table: &mut Table<ProofText>,
+    level: u32,
+    row: usize,
+) -> Result<Node, TableError>
+    requires small { level ≤ 1 }
+    requires in_step { IsTrue table.old.book.in_step }
+    requires tied { IsTied table.old.graph table.old.book.state }
+    ensures in_step { OnOk result (IsTrue table.new.book.in_step) }
+    ensures tied { OnOk result (IsTied table.new.graph table.new.book.state) }
+{
+    let high = function_of_one(rt, table, level + 1, row >> 2)?;
+    let low = function_of_one(rt, table, level + 1, row & 3)?;
+    make(rt, table, level, high, low)
+}
+
+// The node of a function of three variables: its values where the first one is true stand before the others.
+fn function_of_three(
+    rt: &impl Abort,
+    table: &mut Table<ProofText>,
+    row: usize,
+) -> Result<Node, TableError>
+    requires in_step { IsTrue table.old.book.in_step }
+    requires tied { IsTied table.old.graph table.old.book.state }
+    ensures in_step { OnOk result (IsTrue table.new.book.in_step) }
+    ensures tied { OnOk result (IsTied table.new.graph table.new.book.state) }
+{
+    let high = function_of_two(rt, table, 1, row >> 4)?;
+    let low = function_of_two(rt, table, 1, row & 15)?;
+    make(rt, table, 0, high, low)
+}
+
+// Whether the third node is the conjunction of the others under each assignment of three variables.
+fn is_conjunction(table: &Table<ProofText>, u: Node, v: Node, w: Node) -> bool {
+    for number in 0..8_u8 {
+        let values = [number & 4 != 0, number & 2 != 0, number & 1 != 0];
+        let both = value(table, u, &values) && value(table, v, &values);
+        if value(table, w, &values) != both {
+            return false;
+        }
+    }
+    true
+}
+
+fn value(table: &Table<ProofText>, node: Node, values: &[bool]) -> bool {
+    is_known(table, node) && table.value(node, values)
+}
+
+// Conjoins two nodes into the third one.
+fn expect_conjunction(
+    rt: &impl Abort,
+    table: &mut Table<ProofText>,
+    cache: &mut AndCache,
+    u: Node,
+    v: Node,
+    expected: Node,
+) -> Result<(), TableError>
+    requires in_step { IsTrue table.old.book.in_step }
+    requires tied { IsTied table.old.graph table.old.book.state }
+    requires fits { Fits table.old.graph table.old.book.state.live (entries cache.old) }
+    ensures in_step { OnOk result (IsTrue table.new.book.in_step) }
+    ensures tied { OnOk result (IsTied table.new.graph table.new.book.state) }
+    ensures fits { OnOk result (Fits table.new.graph table.new.book.state.live (entries cache.new)) }
+{
+    let (w, _) = conjoin(rt, table, cache, u, v)?;
+    assert!(rt;
+        w == expected && is_conjunction(table, u, v, w),
+        "{u:?} {v:?}"
+    );
+    Ok(())
+}
+
+// The nodes of all functions of two variables, by their rows.
+fn all_functions(
+    rt: &impl Abort,
+    table: &mut Table<ProofText>,
+    nodes: &mut Vec<Node>,
+) -> Result<(), Fail>
+    requires in_step { IsTrue table.old.book.in_step }
+    requires tied { IsTied table.old.graph table.old.book.state }
+    ensures in_step { OnOk result (IsTrue table.new.book.in_step) }
+    ensures tied { OnOk result (IsTied table.new.graph table.new.book.state) }
+{
+    for row in 0..16_usize {
+        nodes.push(function_of_two(rt, table, 0, row)?)?;
+    }
+    Ok(())
+}
+
+fn node_at(nodes: &[Node], row: usize) -> Node {
+    match nodes.get(row) {
+        Some(node) => *node,
+        None => Node::False,
+    }
+}
+
+// Each pair of functions of two variables, whose conjunction is the node of the function.
+fn each_pair(rt: &impl Abort, alloc: Global, reversed: bool) -> Result<(), Fail> {
+    let formula = no_clauses(alloc, 2);
+    let room = room_of("100 10000, 100000 999")?;
+    let mut table = open(alloc, &formula, &order(reversed), &room)?;
+    let mut nodes = Vec::new(alloc);
+    all_functions(rt, &mut table, &mut nodes)?;
+    let mut cache = AndCache::new(alloc, 1)?;
+    each_pair_of(rt, &mut table, &mut cache, nodes.as_slice())
+}
+
+fn each_pair_of(
+    rt: &impl Abort,
+    table: &mut Table<ProofText>,
+    cache: &mut AndCache,
+    nodes: &[Node],
+) -> Result<(), Fail>
+    requires in_step { IsTrue table.old.book.in_step }
+    requires tied { IsTied table.old.graph table.old.book.state }
+    requires fits { Fits table.old.graph table.old.book.state.live (entries cache.old) }
+{
+    for pair in 0..256_usize {
+        let (i, j) = (pair >> 4, pair & 15);
+        let expected = node_at(nodes, i & j);
+        expect_conjunction(
+            rt,
+            table,
+            cache,
+            node_at(nodes, i),
+            node_at(nodes, j),
+            expected,
+        )?;
+    }
+    Ok(())
+}
+
+/// All pairs of functions of two variables, in both orders.
+#[test]
+fn all_pairs(rt: HostRuntime) -> Result<(), Fail> {
+    each_pair(&rt, rt.alloc(), false)?;
+    each_pair(&rt, rt.alloc(), true)
+}
+
+// The order of three variables that three digits write; the natural one where another text is given.
+fn order_of_three(digits: &str) -> [u32; 3]
+    ensures order { IsOrder result }
+    ensures three { length result ≡ 3 }
+{
+    match digits {
+        "132" => three(1, 3, 2),
+        "213" => three(2, 1, 3),
+        "231" => three(2, 3, 1),
+        "312" => three(3, 1, 2),
+        "321" => three(3, 2, 1),
+        _ => three(1, 2, 3),
+    }
+}
+
+fn three(first: u32, second: u32, third: u32) -> [u32; 3]
+    requires positive { (0 < first) × (0 < second) × (0 < third) }
+    requires small { (first ≤ 3) × (second ≤ 3) × (third ≤ 3) }
+    requires apart { (first ≢ second) × (first ≢ third) × (second ≢ third) }
+    ensures order { IsOrder result }
+    ensures three { length result ≡ 3 }
+{
+    [first, second, third]
+}
+
+// The nodes of two functions of three variables and of their conjunction.
+fn three_functions(
+    rt: &impl Abort,
+    table: &mut Table<ProofText>,
+    first: usize,
+    second: usize,
+) -> Result<[Node; 3], TableError>
+    requires in_step { IsTrue table.old.book.in_step }
+    requires tied { IsTied table.old.graph table.old.book.state }
+    ensures in_step { OnOk result (IsTrue table.new.book.in_step) }
+    ensures tied { OnOk result (IsTied table.new.graph table.new.book.state) }
+{
+    let u = function_of_three(rt, table, first)?;
+    let v = function_of_three(rt, table, second)?;
+    let w = function_of_three(rt, table, first & second)?;
+    Ok([u, v, w])
+}
+
+fn expect_pair(
+    rt: &impl Abort,
+    alloc: Global,
+    table: &mut Table<ProofText>,
+    first: usize,
+    second: usize,
+) -> Result<(), TableError>
+    requires in_step { IsTrue table.old.book.in_step }
+    requires tied { IsTied table.old.graph table.old.book.state }
+    ensures in_step { OnOk result (IsTrue table.new.book.in_step) }
+    ensures tied { OnOk result (IsTied table.new.graph table.new.book.state) }
+{
+    let [u, v, w] = three_functions(rt, table, first, second)?;
+    let mut cache = AndCache::new(alloc, 1)?;
+    expect_conjunction(rt, table, &mut cache, u, v, w)
+}
+
+// The functions of three variables that are tried: the variables, their parity, majority and choice, exactly one of
+// them, equal ones, a clause and a product.
+fn function_row(place: usize) -> usize {
+    match place {
+        0 => 0b1111_0000,
+        1 => 0b1100_1100,
+        2 => 0b1010_1010,
+        3 => 0b1001_0110,
+        4 => 0b1110_1000,
+        5 => 0b1100_1010,
+        6 => 0b0001_0110,
+        7 => 0b1000_0001,
+        8 => 0b1101_1111,
+        _ => 0b0010_0000,
+    }
+}
+
+fn each_pair_of_three(rt: &impl Abort, alloc: Global, digits: &str) -> Result<(), Fail> {
+    let formula = no_clauses(alloc, 3);
+    let room = room_of("1000 100000, 100000 999")?;
+    let mut table = open(alloc, &formula, &order_of_three(digits), &room)?;
+    for pair in 0..100_usize {
+        let first = function_row(pair / 10);
+        let second = function_row(pair % 10);
+        expect_pair(rt, alloc, &mut table, first, second)?;
+    }
+    Ok(())
+}
+
+/// Pairs of functions of three variables, in each order.
+#[test]
+fn pairs_of_three(rt: HostRuntime) -> Result<(), Fail> {
+    for digits in "123 132 213 231 312 321".split_whitespace() {
+        each_pair_of_three(&rt, rt.alloc(), digits)?;
+    }
+    Ok(())
+}
+
+// What is told of a script on a table over a formula without clauses.
+fn script_told(rt: &impl Abort, alloc: Global, script: &str) -> Result<String, Fail> {
+    let formula = no_clauses(alloc, 2);
+    let room = room_of("100 10000, 1000 999")?;
+    told(alloc, play(rt, alloc, &formula, false, &room, script)?)
+}
+
+// A row is a script, and what is told of it.
+fn expect_script(rt: &impl Abort, alloc: Global, row: &str) -> Result<(), Fail> {
+    let (script, expected) = row.split_once(';').ok_or("no script")?;
+    let found = script_told(rt, alloc, script)?;
+    assert_eq!(rt; found.as_str(), expected, "{script}");
+    Ok(())
+}
+
+// The second variable and its negation are a and b, each where the first one is false c and d, and both by the first one e.
+const LINES: &str = "1TF 1FT 0Ta 0Tb 0ab | cd cd ab dc ae ja;\
+    done;a0=1TF b0=1FT c0=0Ta d0=0Tb e0=0ab f20=0TF f20=0TF F16 f24=0TF j29=0aF j0=0aF;7 29 true;\
+    1 3 -2 0 0/2 -3 2 0 -1 0/3 4 2 0 0/4 -4 -2 0 -3 0/5 5 -1 0 0/6 5 1 -3 0 0/7 -5 1 3 0 -5 -6 0/\
+    8 6 -1 0 0/9 6 1 -4 0 0/10 -6 1 4 0 -8 -9 0/11 7 -1 -3 0 0/12 7 1 -4 0 0/13 -7 -1 3 0 -11 -12 0/\
+    14 -7 1 4 0 -11 -12 0/15 -2 -3 -4 0 4 0/16 -3 -4 0 15 2 0/17 8 -1 0 0/18 -8 1 0 -17 0/\
+    19 -1 -5 -6 8 0 17 0/20 -5 -6 8 0 19 7 10 16 0/21 -2 -4 -3 0 4 0/22 -4 -3 0 21 2 0/\
+    23 -1 -6 -5 8 0 17 0/24 -6 -5 8 0 23 10 7 22 0/25 9 -1 -3 0 0/26 -9 -1 3 0 -25 0/27 -9 1 0 -25 0/\
+    28 -1 -3 -7 9 0 25 0/29 -3 -7 9 0 28 14 16 0/";
+
+/// Equal high children, which are True; a result that is False; a result in the cache; the operands in the other
+/// order; an operand that is a child of the other; a result that is an operand.
+#[test]
+fn lines(rt: HostRuntime) -> Result<(), Fail> {
+    expect_script(&rt, rt.alloc(), LINES)
+}
+
+const COINCIDENCES: &str = "1TF 0aT 0Ta 0TF | bc da db;\
+    done;a0=1TF b0=0aT c0=0Ta d0=0TF a12=1TF f17=0aF f19=0aF;5 19 true;\
+    1 3 -2 0 0/2 -3 2 0 -1 0/3 4 -1 -3 0 0/4 4 1 0 0/5 -4 -1 3 0 -3 -4 0/6 5 -1 0 0/7 5 1 -3 0 0/\
+    8 -5 1 3 0 -6 -7 0/9 6 -1 0 0/10 -6 1 0 -9 0/11 -1 -4 -5 3 0 5 0/12 -4 -5 3 0 11 8 0/\
+    13 7 -1 -3 0 0/14 -7 -1 3 0 -13 0/15 -7 1 0 -13 0/16 -1 -6 -3 7 0 13 0/17 -6 -3 7 0 16 10 0/\
+    18 -1 -6 -4 7 0 13 5 0/19 -6 -4 7 0 18 10 0/";
+
+/// A result that is a child of both operands; an operand that is the level's variable, and the other below it; that
+/// variable and a node with a child True.
+#[test]
+fn coincidences(rt: HostRuntime) -> Result<(), Fail> {
+    expect_script(&rt, rt.alloc(), COINCIDENCES)
+}
+
+// A row is a room, and how the first conjunction of the lines ends.
+fn expect_end(rt: &impl Abort, alloc: Global, row: &str) -> Result<(), Fail> {
+    let (room, expected) = row.split_once(';').ok_or("no room")?;
+    let formula = no_clauses(alloc, 2);
+    let script = "1TF 1FT 0Ta 0Tb 0ab | cd";
+    let played = play(rt, alloc, &formula, false, &room_of(room)?, script)?;
+    let found = end_of(alloc, &played.refused)?;
+    assert_eq!(rt; found.as_str(), expected, "{room}");
+    Ok(())
+}
+
+const LIMITS: &str = "\
+6 20, 20 999;done
+5 20, 20 999;the nodes are used up
+6 19, 20 999;the clause numbers are used up
+6 17, 20 999;the clause numbers are used up
+6 14, 20 999;the clause numbers are used up
+6 20, 19 999;a write of the proof failed
+6 20, 14 999;a write of the proof failed";
+
+/// The limits of nodes and of numbers, met and missed by one, and a write that fails.
+#[test]
+fn limits(rt: HostRuntime) -> Result<(), Fail> {
+    for row in LIMITS.lines() {
+        expect_end(&rt, rt.alloc(), row)?;
+    }
+    Ok(())
+}

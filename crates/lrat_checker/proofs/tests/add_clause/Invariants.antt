@@ -1,5 +1,0 @@
-use Rattle.std.proofs.Common.{◌≡◌}
-use Rattle.lrat_checker.proofs.tests.add_clause.Given as goal
-
-abbrev pub invariant-loop-word : goal.invariant-loop-word
-invariant-loop-word g l = record { vars : l.formula.vars ≡ 4; clauses : l.formula.clauses ≡ l.fn.formula.clauses }

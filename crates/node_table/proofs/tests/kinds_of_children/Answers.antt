@@ -1,7 +1,0 @@
-use Rattle.std.proofs.Common.{ap}
-use Rattle.host_io.specs.declared.role.Role.TheVariants.{ProofOut}
-use Rattle.host_io.specs.Channel.{Channel}
-use Rattle.node_table.proofs.tests.kinds_of_children.Goals as goal
-
-pub create-requires-clause-unnamed : goal.create-requires-clause-unnamed
-create-requires-clause-unnamed g c = ap (λ (channel : Channel). channel.name) (c.new-host.ensures.channels ProofOut)

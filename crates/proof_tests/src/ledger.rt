@@ -1,0 +1,405 @@
+// What no clause of the ledger shows: that calls succeed where there is memory, the bytes of a proof, and its errors.
+ghost use Rattle.std.specs.Prelude.{◌≡◌, ◌≢◌, ◌<◌, ◌≤◌, ◌+◌, pos, negsuc, [], ◌∷◌, length, true, None, Some, IfOk, IfErr, OnOk, IsTrue};
+ghost use Rattle.cnf_base.specs.ProofText.{max_id};
+ghost use Rattle.lrat_rules.specs.State.{start, clause_at};
+
+use crate::support::{cut, lines_of, literals_in};
+use clause_ledger::{Ledger, LedgerError};
+use cnf_base::{Cnf, CnfBuilder, Id, Lit, OutOfMemory};
+use host_io::{Failed, Host, HostSink, MemoryHost, Role, Sink};
+use lrat_rules::{conflict_law, live_law, start_law};
+use std::alloc::Global;
+use std::process::Abort;
+use std::test::Fail;
+
+// Takes so many calls, and fails at each later one.
+#[derive(Drop)]
+struct FailingSink {
+    calls: usize,
+    bytes: Vec<u8>,
+    flushed: usize,
+    faults: u64,
+}
+
+impl FailingSink {
+    fn new(alloc: Global, calls: usize) -> Self
+        ensures { result.bytes.items ≡ [] }
+    {
+        FailingSink {
+            calls,
+            bytes: Vec::new(alloc),
+            flushed: 0,
+            faults: 0,
+        }
+    }
+
+    // What was written.
+    fn text(&self) -> &str {
+        str::from_utf8(self.bytes.as_slice()).unwrap_or("no text")
+    }
+}
+
+impl Sink for FailingSink {
+    ghost tells = { true };
+
+    ghost channel = { λ s. record { name = None; faults = s.faults; taken = []; left = []; written = s.bytes.items; flushed = s.flushed } };
+
+    ghost beside = { λ _. record { lenders = []; rest = None } };
+
+    fn write(&mut self, bytes: &[u8]) -> Result<usize, Failed> {
+        if self.calls == 0 || self.bytes.extend_from_slice(bytes).is_err() {
+            self.faults = self.faults.saturating_add(1);
+            return Err(Failed);
+        }
+        self.calls -= 1;
+        Ok(bytes.len())
+    }
+
+    fn flush(&mut self) -> Result<(), Failed> {
+        if self.calls == 0 {
+            self.faults = self.faults.saturating_add(1);
+            return Err(Failed);
+        }
+        self.calls -= 1;
+        self.flushed = self.bytes.len();
+        Ok(())
+    }
+}
+
+// The formula of the clauses 'x1' and 'not x1'.
+fn opposite_units(alloc: Global) -> Result<Cnf, Fail>
+    ensures { IfOk result (λ formula. formula.clauses ≡ (pos 1 ∷ []) ∷ (negsuc 0 ∷ []) ∷ []) }
+{
+    let x1 = Lit::new(1).ok_or("no literal")?;
+    let mut builder = CnfBuilder::new(alloc, 1);
+    builder.push_lit(x1)?;
+    builder.end_clause()?;
+    builder.push_lit(x1.negated())?;
+    builder.end_clause()?;
+    Ok(builder.finish())
+}
+
+// The formula of one clause without literals.
+fn empty_clause(alloc: Global) -> Result<Cnf, OutOfMemory>
+    ensures { IfOk result (λ formula. formula.clauses ≡ [] ∷ []) }
+{
+    let mut builder = CnfBuilder::new(alloc, 0);
+    builder.end_clause()?;
+    Ok(builder.finish())
+}
+
+fn open<S: Sink + Drop>(
+    alloc: Global,
+    formula: &Cnf,
+    sink: S,
+    max_ids: u64,
+) -> Result<Ledger<S>, OutOfMemory>
+    requires limit { max_ids ≤ max_id }
+    requires fresh { IsTrue S.tells → (S.channel sink).written ≡ [] }
+    ensures { IfOk result (λ ledger. ledger ≡ record { sink = sink; state = start formula.now.clauses; limit = max_ids; in_step = true; spare = ledger.spare }) }
+{
+    match Ledger::open(alloc, formula, sink, max_ids) {
+        Ok(ledger) => Ok(ledger),
+        Err((_, e)) => Err(e),
+    }
+}
+
+// Over one clause without literals, with a sink that takes so many calls.
+fn open_on_empty_clause(
+    alloc: Global,
+    calls: usize,
+    max_ids: u64,
+) -> Result<Ledger<FailingSink>, OutOfMemory>
+    requires { max_ids ≤ max_id }
+    ensures state { IfOk result (λ ledger. ledger.state ≡ start ([] ∷ [])) }
+    ensures one { IfOk result (λ ledger. clause_at ledger.state.live 1 ≡ Some []) }
+    ensures in_step { IfOk result (λ ledger. IsTrue ledger.in_step) }
+{
+    start_law();
+    let formula = empty_clause(alloc)?;
+    open(alloc, &formula, FailingSink::new(alloc, calls), max_ids)
+}
+
+// The greatest number, how many are left, and whether the ledger is in step.
+fn expect_counts<S: Sink + Drop>(
+    rt: &impl Abort,
+    alloc: Global,
+    ledger: &Ledger<S>,
+    wanted: &str,
+) -> Result<(), Fail> {
+    let (last, left, in_step) = (ledger.last_id(), ledger.ids_left(), ledger.is_in_step());
+    assert_eq!(rt;
+        format!(in alloc; "{last} {left} {in_step}")?.as_str(),
+        wanted
+    );
+    Ok(())
+}
+
+// The clause of a number, a row of both.
+fn expect_clause<S: Sink + Drop>(
+    rt: &impl Abort,
+    alloc: Global,
+    ledger: &Ledger<S>,
+    row: &str,
+) -> Result<(), Fail> {
+    let (id, wanted) = cut(row)?;
+    let clause = ledger.clause(Id(id.parse::<u64>()?));
+    assert_eq!(rt; format!(in alloc; "{clause:?}")?.as_str(), wanted, "{id}");
+    Ok(())
+}
+
+fn expect_clauses<S: Sink + Drop>(
+    rt: &impl Abort,
+    alloc: Global,
+    ledger: &Ledger<S>,
+    rows: &str,
+) -> Result<(), Fail> {
+    for row in rows.lines() {
+        expect_clause(rt, alloc, ledger, row)?;
+    }
+    Ok(())
+}
+
+fn expect_written(rt: &impl Abort, ledger: Ledger<FailingSink>, wanted: &str) -> Result<(), Fail> {
+    let sink = ledger.close();
+    assert_eq!(rt; sink.text(), wanted);
+    Ok(())
+}
+
+// Adds the empty clause to 'x1' and 'not x1'.
+fn refute<S: Sink + Drop>(ledger: &mut Ledger<S>) -> Result<Id, LedgerError>
+    requires in_step { IsTrue ledger.old.in_step }
+    requires state { ledger.old.state ≡ start ((pos 1 ∷ []) ∷ (negsuc 0 ∷ []) ∷ []) }
+{
+    start_law();
+    ledger.add(&[], &[Id(1), Id(2)])
+}
+
+const REFUTED: &str = "\
+0;None
+1;Some([Lit { value: 1 }])
+2;Some([Lit { value: -1 }])
+3;Some([])
+4;None";
+
+// The same, with the clauses by their numbers before and after.
+fn expect_refuted<S: Sink + Drop>(rt: &impl Abort, alloc: Global, sink: S) -> Result<(), Fail>
+    requires { IsTrue S.tells → (S.channel sink).written ≡ [] }
+{
+    let formula = opposite_units(alloc)?;
+    let mut ledger = open(alloc, &formula, sink, 4)?;
+    expect_counts(rt, alloc, &ledger, "2 2 true")?;
+    expect_clause(rt, alloc, &ledger, "3;None")?;
+    assert_eq!(rt; refute(&mut ledger), Ok(Id(3)));
+    expect_counts(rt, alloc, &ledger, "3 1 true")?;
+    expect_clauses(rt, alloc, &ledger, REFUTED)
+}
+
+/// A proof in a file.
+#[test]
+fn proof_file(rt: HostRuntime) -> Result<(), Fail> {
+    let mut host = MemoryHost::new(rt.alloc());
+    host.create(Role::ProofOut, "proof")?;
+    let sink = HostSink::new(&mut host, Role::ProofOut);
+    expect_refuted(&rt, rt.alloc(), sink)?;
+    assert_eq!(rt; host.file("proof"), Some(b"3 0 1 2 0\n".as_slice()));
+    Ok(())
+}
+
+// Adds the empty clause to a formula that has it: the answer of `add` and, where that was Ok, of `finish`; and whether
+// the ledger is in step.
+fn add_and_finish<S: Sink + Drop>(alloc: Global, ledger: &mut Ledger<S>) -> Result<String, Fail>
+    requires in_step { IsTrue ledger.old.in_step }
+    requires one { clause_at ledger.old.state.live 1 ≡ Some [] }
+{
+    conflict_law();
+    let added = ledger.add(&[], &[Id(1)]);
+    let finished = match added {
+        Ok(_) => Some(ledger.finish()),
+        Err(_) => None,
+    };
+    let in_step = ledger.is_in_step();
+    Ok(format!(in alloc; "{added:?} {finished:?} {in_step}")?)
+}
+
+// The same, and then how much of what was written is flushed, how many calls failed, and what was written.
+fn outcome(alloc: Global, max_ids: u32, calls: usize) -> Result<String, Fail> {
+    let mut ledger = open_on_empty_clause(alloc, calls, max_ids as u64)?;
+    let answers = add_and_finish(alloc, &mut ledger)?;
+    let sink = ledger.close();
+    let (flushed, faults, written) = (sink.flushed, sink.faults, sink.text());
+    Ok(format!(in alloc; "{answers} {flushed} {faults} [{written}]")?)
+}
+
+// The number limit, how many calls the sink takes, and what comes of it.
+const OUTCOMES: &str = "\
+2;2;Ok(Id(2)) Some(Ok(())) true 8 0 [2 0 1 0/]
+1;2;Err(IdLimit) None true 0 0 []
+0;0;Err(IdLimit) None true 0 0 []
+2;0;Err(WriteFault) None false 0 1 []
+2;1;Ok(Id(2)) Some(Err(WriteFault)) false 0 1 [2 0 1 0/]";
+
+fn expect_outcome(rt: &impl Abort, alloc: Global, row: &str) -> Result<(), Fail> {
+    let (max_ids, row) = cut(row)?;
+    let (calls, wanted) = cut(row)?;
+    let outcome = outcome(alloc, max_ids.parse::<u32>()?, calls.parse::<usize>()?)?;
+    let wanted = lines_of(alloc, wanted)?;
+    assert_eq!(rt; outcome.as_str(), wanted.as_str());
+    Ok(())
+}
+
+/// The number limit exactly met and missed by one, and a sink that fails at each of its calls.
+#[test]
+fn limits_and_faults(rt: HostRuntime) -> Result<(), Fail> {
+    for row in OUTCOMES.lines() {
+        expect_outcome(&rt, rt.alloc(), row)?;
+    }
+    Ok(())
+}
+
+fn literal(number: i32) -> Result<Lit, Fail>
+    ensures { IfOk result (λ literal. literal ≡ number) }
+{
+    Ok(Lit::new(number).ok_or("no literal")?)
+}
+
+// Defines x3 by x2 over a formula of the empty clause: first without candidates, then with the first as its candidate.
+fn define_both<S: Sink + Drop>(
+    ledger: &mut Ledger<S>,
+    x2: Lit,
+    x3: Lit,
+) -> Result<(Id, Id), LedgerError>
+    requires x2 { x2 ≡ pos 2 }
+    requires x3 { x3 ≡ pos 3 }
+    requires in_step { IsTrue ledger.old.in_step }
+    requires state { ledger.old.state ≡ start ([] ∷ []) }
+{
+    start_law();
+    live_law();
+    let first = ledger.define(&[x3, x2.negated()], &[])?;
+    let second = ledger.define(&[x3.negated(), x2], &[Id(2)])?;
+    Ok((first, second))
+}
+
+fn expect_definitions<S: Sink + Drop>(
+    rt: &impl Abort,
+    alloc: Global,
+    ledger: &mut Ledger<S>,
+) -> Result<(), Fail>
+    requires in_step { IsTrue ledger.old.in_step }
+    requires state { ledger.old.state ≡ start ([] ∷ []) }
+{
+    let ids = define_both(ledger, literal(2)?, literal(3)?);
+    assert_eq!(rt;
+        format!(in alloc; "{ids:?}")?.as_str(),
+        "Ok((Id(2), Id(3)))"
+    );
+    expect_clause(
+        rt,
+        alloc,
+        ledger,
+        "2;Some([Lit { value: 3 }, Lit { value: -2 }])",
+    )?;
+    expect_counts(rt, alloc, ledger, "3 0 true")
+}
+
+/// A definition without candidates, and one whose candidate it is.
+#[test]
+fn definitions(rt: HostRuntime) -> Result<(), Fail> {
+    let mut ledger = open_on_empty_clause(rt.alloc(), 2, 3)?;
+    expect_definitions(&rt, rt.alloc(), &mut ledger)?;
+    expect_written(&rt, ledger, "2 3 -2 0 0\n3 -3 2 0 -2 0\n")
+}
+
+// Adds a short clause for which there is room, with the empty clause 1 as its hint: memory isn't wanting.
+fn add_short<S: Sink + Drop>(ledger: &mut Ledger<S>, clause: &[Lit]) -> Result<Id, LedgerError>
+    requires in_step { IsTrue ledger.old.in_step }
+    requires one { clause_at ledger.old.state.live 1 ≡ Some [] }
+    requires top { 1 ≤ ledger.old.state.top }
+    requires short { length clause.now ≤ 4 }
+    requires room { 0 < ledger.old.spare }
+    ensures memory { IfErr result (λ e. e ≢ LedgerError.OutOfMemory) }
+    ensures in_step { OnOk result (IsTrue ledger.new.in_step) }
+    ensures one { OnOk result (clause_at ledger.new.state.live 1 ≡ Some []) }
+    ensures top { OnOk result (1 ≤ ledger.new.state.top) }
+    ensures spare { ledger.old.spare ≤ ledger.new.spare + 1 }
+{
+    conflict_law();
+    live_law();
+    ledger.add(clause, &[Id(1)])
+}
+
+// Adds four short clauses for which there is room.
+fn add_four<S: Sink + Drop>(ledger: &mut Ledger<S>, literals: &[Lit]) -> Result<(), LedgerError>
+    requires in_step { IsTrue ledger.old.in_step }
+    requires one { clause_at ledger.old.state.live 1 ≡ Some [] }
+    requires top { 1 ≤ ledger.old.state.top }
+    requires four { length literals.now ≡ 4 }
+    requires room { 4 ≤ ledger.old.spare }
+    ensures memory { IfErr result (λ e. e ≢ LedgerError.OutOfMemory) }
+{
+    add_short(ledger, literals)?;
+    add_short(ledger, &literals[1..])?;
+    add_short(ledger, literals)?;
+    add_short(ledger, &[])?;
+    Ok(())
+}
+
+// Room for four clauses, and then four of at most four literals.
+fn fill_room<S: Sink + Drop>(
+    rt: &impl Abort,
+    alloc: Global,
+    ledger: &mut Ledger<S>,
+    literals: &[Lit],
+) -> Result<(), Fail>
+    requires in_step { IsTrue ledger.old.in_step }
+    requires one { clause_at ledger.old.state.live 1 ≡ Some [] }
+    requires top { 1 ≤ ledger.old.state.top }
+{
+    assert_eq!(rt; literals.len(), 4);
+    ledger.reserve(4)?;
+    expect_counts(rt, alloc, ledger, "1 4 true")?;
+    add_four(ledger, literals)?;
+    Ok(())
+}
+
+const FILLED: &str = "\
+2;Some([Lit { value: 1 }, Lit { value: -2 }, Lit { value: 3 }, Lit { value: -4 }])
+5;Some([])";
+
+fn expect_filled<S: Sink + Drop>(
+    rt: &impl Abort,
+    alloc: Global,
+    ledger: &mut Ledger<S>,
+) -> Result<(), Fail> {
+    assert_eq!(rt; ledger.reserve(usize::MAX), Err(OutOfMemory));
+    expect_counts(rt, alloc, ledger, "5 0 true")?;
+    expect_clauses(rt, alloc, ledger, FILLED)
+}
+
+/// Reserved room is enough, and what can't be reserved changes nothing.
+#[test]
+fn reserved_room(rt: HostRuntime) -> Result<(), Fail> {
+    let alloc = rt.alloc();
+    let literals = literals_in(alloc, "1 -2 3 -4")?;
+    let mut ledger = open_on_empty_clause(alloc, 4, 5)?;
+    fill_room(&rt, alloc, &mut ledger, literals.as_slice())?;
+    expect_filled(&rt, alloc, &mut ledger)?;
+    let written = "2 1 -2 3 -4 0 1 0\n3 -2 3 -4 0 1 0\n4 1 -2 3 -4 0 1 0\n5 0 1 0\n";
+    expect_written(&rt, ledger, written)
+}
+
+#[test]
+fn error_texts(rt: HostRuntime) -> Result<(), Fail> {
+    let (limit, memory, fault) = (
+        LedgerError::IdLimit,
+        LedgerError::OutOfMemory,
+        LedgerError::WriteFault,
+    );
+    let text = format!(in rt.alloc(); "{limit}, {memory}, {fault}")?;
+    assert_eq!(rt;
+        text.as_str(),
+        "the clause numbers are used up, out of memory, a write of the proof failed"
+    );
+    Ok(())
+}

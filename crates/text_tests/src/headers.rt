@@ -1,0 +1,146 @@
+// dimacs_reader: texts and what they are, read in pieces of one byte, of three, and whole. The expected answers are those
+// of the format's rules.
+use crate::support::{push_clauses, text_of};
+use cnf_base::Cnf;
+use dimacs_reader::{CnfKind, read_cnf};
+use host_io::SliceSource;
+use std::alloc::{AllocError, Global};
+use std::process::Abort;
+use std::test::Fail;
+
+// A text, and the number of its variables with its clauses, or the first refusal.
+const TEXTS: &str = "p cnf 0 0/;0:
+p cnf 0 1/0/;0: 0
+p cnf 2 1/1 -1 0/;2: 1 -1 0
+p cnf 2 2\r/1\r/c note\r/2 0\r/-1 0\r/%\r/0\r/;2: 1 2 0 -1 0
+c/ p\tcnf/ 3 /3/1 -2 0 2/-3 0 3 0;3: 1 -2 0 2 -3 0 3 0
+p cnf 1 3/1 1 0 1 1 0 0/;1: 1 1 0 1 1 0 0
+p cnf 1 1/1 0/%/x;1: 1 0
+p cnf 007 1/-0007 00/;7: -7 0
+p cnf 1000000 0;1000000:
+p cnf 2 1/1 2/;line 3: NoEndingZero
+p cnf 1 1/1 0/x/;line 3: BadToken";
+
+// A text whose last byte is not read: that read would fail. The byte behind the deciding token was read.
+const DECIDED: &str = "q 1;line 1: NoHeader
+p dnf 1;line 1: BadHeader
+p cnf x 1;line 1: BadHeader
+p cnf 1000001 1;line 1: Limit
+p cnf 1 x 1;line 1: BadHeader
+p cnf 1 10000001 1;line 1: Limit
+p cnf 1 1/x 1;line 2: BadToken
+p cnf 1 1/2 1;line 2: LiteralRange
+p cnf 1 1/1 0 0 1;line 2: TooManyClauses
+p cnf 1 1/1 % 1;line 2: NoEndingZero
+p cnf 1 1/% 1;line 2: ClauseMissing
+p cnf 1 1/1 0/% 1;1: 1 0";
+
+const KINDS: &str =
+    "1 NoHeader 2 BadHeader 3 BadToken 4 LiteralRange 5 TooManyClauses 6 ClauseMissing 7 NoEndingZero 8 Limit ";
+
+fn spelled(alloc: Global, formula: &Cnf) -> Result<String, AllocError> {
+    let vars = formula.vars();
+    let mut out = format!(in alloc; "{vars}:")?;
+    push_clauses(&mut out, formula)?;
+    Ok(out)
+}
+
+fn answer(alloc: Global, source: &mut SliceSource) -> Result<String, AllocError> {
+    match read_cnf(alloc, source) {
+        Ok(formula) => spelled(alloc, &formula),
+        Err(error) => format!(in alloc; "{error}"),
+    }
+}
+
+// The answer and the number of reads that failed.
+fn expect_answer(
+    rt: &impl Abort,
+    alloc: Global,
+    source: &mut SliceSource,
+    wanted: &str,
+    faults: u64,
+) -> Result<(), Fail> {
+    let given = answer(alloc, source)?;
+    let is_wanted = given.as_str() == wanted;
+    assert!(rt;
+        is_wanted && source.faults() == faults,
+        "{given} for {wanted}"
+    );
+    Ok(())
+}
+
+fn expect_in_pieces(rt: &impl Abort, alloc: Global, row: &str, piece: usize) -> Result<(), Fail> {
+    let (text, wanted) = row.split_once(';').ok_or("no answer")?;
+    let text = text_of(alloc, text)?;
+    let mut source = SliceSource::new(text.as_bytes(), piece);
+    expect_answer(rt, alloc, &mut source, wanted, 0)
+}
+
+#[test]
+fn judges_texts(rt: HostRuntime) -> Result<(), Fail> {
+    for row in TEXTS.lines() {
+        expect_in_pieces(&rt, rt.alloc(), row, 1)?;
+        expect_in_pieces(&rt, rt.alloc(), row, 3)?;
+        expect_in_pieces(&rt, rt.alloc(), row, usize::MAX)?;
+    }
+    Ok(())
+}
+
+#[test]
+fn a_token_of_ten_million_bytes(rt: HostRuntime) -> Result<(), Fail> {
+    let text = vec![in rt.alloc(); b'1'; 10_000_000]?;
+    let mut source = SliceSource::new(text.as_slice(), usize::MAX);
+    expect_answer(&rt, rt.alloc(), &mut source, "line 1: NoHeader", 0)
+}
+
+// A read with so many bytes left fails.
+fn expect_failing(
+    rt: &impl Abort,
+    alloc: Global,
+    row: &str,
+    left: usize,
+    faults: u64,
+) -> Result<(), Fail> {
+    let (text, wanted) = row.split_once(';').ok_or("no answer")?;
+    let text = text_of(alloc, text)?;
+    let mut source = SliceSource::new(text.as_bytes(), 1);
+    source.fail_at(Some(left));
+    expect_answer(rt, alloc, &mut source, wanted, faults)
+}
+
+#[test]
+fn a_read_fails(rt: HostRuntime) -> Result<(), Fail> {
+    let row = "p cnf 2 2/1 -2 0/2 0/;a read failed";
+    for left in 0..21 {
+        expect_failing(&rt, rt.alloc(), row, left, 1)?;
+    }
+    Ok(())
+}
+
+#[test]
+fn reads_no_further(rt: HostRuntime) -> Result<(), Fail> {
+    for row in DECIDED.lines() {
+        expect_failing(&rt, rt.alloc(), row, 1, 0)?;
+    }
+    Ok(())
+}
+
+fn push_kind(out: &mut String, kind: CnfKind) -> Result<(), AllocError> {
+    let number = kind.number();
+    write!(out, "{number} {kind} ")
+}
+
+#[test]
+fn kinds_have_their_numbers(rt: HostRuntime) -> Result<(), Fail> {
+    let mut out = String::new(rt.alloc());
+    push_kind(&mut out, CnfKind::NoHeader)?;
+    push_kind(&mut out, CnfKind::BadHeader)?;
+    push_kind(&mut out, CnfKind::BadToken)?;
+    push_kind(&mut out, CnfKind::LiteralRange)?;
+    push_kind(&mut out, CnfKind::TooManyClauses)?;
+    push_kind(&mut out, CnfKind::ClauseMissing)?;
+    push_kind(&mut out, CnfKind::NoEndingZero)?;
+    push_kind(&mut out, CnfKind::Limit)?;
+    assert_eq!(rt; out.as_str(), KINDS);
+    Ok(())
+}
