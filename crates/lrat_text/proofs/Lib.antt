@@ -3,3 +3,4 @@ pub mod DraftLemmas
 pub mod Zero
 pub mod Lines
 pub mod Overlong
+pub mod Settled

@@ -1,5 +1,7 @@
 // lrat_write: lines come out byte for byte as the format has them, and what is written where a call of the sink fails.
-ghost use Rattle.std.specs.Prelude.{◌<◌};
+ghost use Rattle.std.specs.Prelude.{◌≡◌, ◌<◌};
+ghost use Rattle.std.specs.List.{list_all};
+ghost use Rattle.cnf_base.specs.ProofText.{is_id};
 
 use crate::support::{expect_text, failing_host, outcome};
 use cnf_base::{Id, Lit};
@@ -87,6 +89,13 @@ fn additions(rt: HostRuntime) -> Result<(), Fail> {
     Ok(())
 }
 
+fn are_ids(ids: &[Id]) -> bool
+    ensures { result ≡ list_all is_id ids.now }
+{
+    ids.iter()
+        .all(|id| id.get() > 0 && id.get() <= 999999999999999999)
+}
+
 fn expect_definition(
     rt: &impl Abort,
     alloc: Global,
@@ -98,14 +107,11 @@ fn expect_definition(
 {
     let (rest, wanted) = row.rsplit_once(';').ok_or("no line")?;
     let line = read_parts(alloc, rest)?;
-    assert!(rt;
-        line.ids
-            .iter()
-            .all(|id| id.get() > 0 && id.get() <= 999999999999999999)
-    );
+    let ids = line.ids.as_slice();
+    assert!(rt; are_ids(ids));
     let mut host = failing_host(alloc, piece, call)?;
     let mut sink = HostSink::new(&mut host, Role::Out);
-    let is_written = write_define(&mut sink, line.id, &line.literals, &line.ids).is_ok();
+    let is_written = write_define(&mut sink, line.id, &line.literals, ids).is_ok();
     let given = outcome(alloc, &host, is_written)?;
     expect_text(rt, alloc, given.as_str(), wanted)
 }
