@@ -111,11 +111,11 @@ impl<S: Sink + Drop> Ledger<S> {
         ensures only_writes { OnlyWrites (S.channel self.old.sink) (S.channel self.new.sink) }
         ensures beside { S.beside self.new.sink ≡ S.beside self.old.sink }
     {
+        let id = self.keep(clause)?;
         one_more_step_law();
         strict_addition_law();
         live_law();
         literals_in_range(clause);
-        let id = self.keep(clause)?;
         match write_add(&mut self.sink, id, clause, hints) {
             Ok(()) => Ok(id),
             Err(_) => Err(self.fault()),
@@ -151,11 +151,11 @@ impl<S: Sink + Drop> Ledger<S> {
         ensures only_writes { OnlyWrites (S.channel self.old.sink) (S.channel self.new.sink) }
         ensures beside { S.beside self.new.sink ≡ S.beside self.old.sink }
     {
+        let id = self.keep(clause)?;
         one_more_step_law();
         definition_law();
         live_law();
         literals_in_range(clause);
-        let id = self.keep(clause)?;
         match write_define(&mut self.sink, id, clause, candidates) {
             Ok(()) => Ok(id),
             Err(_) => Err(self.fault()),

@@ -2,11 +2,12 @@
 ghost use Rattle.std.specs.Prelude.{◌≡◌, ◌+◌, ◌<◌, [], length, OnOk};
 
 use crate::support::{cut, lines_of, literal_of};
-use cnf_base::{Cnf, CnfBuilder, Id};
+use cnf_base::{Cnf, CnfBuilder, Id, Step};
 use host_io::SliceSource;
 use lrat_checker::{CheckError, Judge, check};
+use lrat_rules::Reason;
 use lrat_text::StepReader;
-use std::alloc::Global;
+use std::alloc::{AllocError, Global};
 use std::process::Abort;
 use std::test::Fail;
 
@@ -118,11 +119,8 @@ fn expect_fault(
     failing.fail_at(Some(left));
     let answer = check(alloc, formula, &mut failing);
     let faults = failing.faults();
-    assert_eq!(rt;
-        format!(in alloc; "{answer:?} {faults}")?.as_str(),
-        wanted,
-        "{left} bytes left"
-    );
+    let text = format!(in alloc; "{answer:?} {faults}")?;
+    assert_eq!(rt; text.as_str(), wanted);
     Ok(())
 }
 
@@ -140,22 +138,28 @@ fn failing_reads(rt: HostRuntime) -> Result<(), Fail> {
     expect_fault(&rt, alloc, &formula, proof, 0, wanted)
 }
 
-// Takes a step: its line and why it isn't good, and then the clauses 3 and 1.
+// The clauses 3 and 1, behind the line of a step and why it isn't good.
+fn state_text(
+    alloc: Global,
+    judge: &Judge,
+    line: u64,
+    fault: Option<Reason>,
+) -> Result<String, AllocError> {
+    let (third, first) = (judge.clause(Id(3)), judge.clause(Id(1)));
+    format!(in alloc; "{line} {fault:?} {third:?} {first:?}")
+}
+
 fn expect_step(
     rt: &impl Abort,
     alloc: Global,
-    reader: &mut StepReader,
-    proof: &mut SliceSource<'_>,
     judge: &mut Judge,
+    step: Option<(Step, u64)>,
     wanted: &str,
 ) -> Result<(), Fail> {
-    let (step, line) = reader.next(proof)?.ok_or("no step")?;
+    let (step, line) = step.ok_or("no step")?;
     let fault = judge.step(&step)?;
-    let (third, first) = (judge.clause(Id(3)), judge.clause(Id(1)));
-    assert_eq!(rt;
-        format!(in alloc; "{line} {fault:?} {third:?} {first:?}")?.as_str(),
-        wanted
-    );
+    let text = state_text(alloc, judge, line, fault)?;
+    assert_eq!(rt; text.as_str(), wanted);
     Ok(())
 }
 
@@ -163,17 +167,20 @@ const STEPS: &str = "\
 1 None Some([Lit { value: 2 }]) Some([Lit { value: 1 }, Lit { value: 2 }])
 2 None None Some([Lit { value: 1 }, Lit { value: 2 }])";
 
-#[test]
-fn live_clauses(rt: HostRuntime) -> Result<(), Fail> {
-    let alloc = rt.alloc();
-    let formula = formula_of(&rt, alloc, "1 2 / -1")?;
-    let mut judge = Judge::open(alloc, &formula)?;
+fn expect_steps(rt: &impl Abort, alloc: Global, judge: &mut Judge) -> Result<(), Fail> {
     let mut reader = StepReader::new(alloc, 100);
     let mut proof = SliceSource::new(b"3 2 0 2 1 0\n3 d 3 0\n", 1);
     for wanted in STEPS.lines() {
-        expect_step(&rt, alloc, &mut reader, &mut proof, &mut judge, wanted)?;
+        expect_step(rt, alloc, judge, reader.next(&mut proof)?, wanted)?;
     }
     Ok(())
+}
+
+#[test]
+fn live_clauses(rt: HostRuntime) -> Result<(), Fail> {
+    let formula = formula_of(&rt, rt.alloc(), "1 2 / -1")?;
+    let mut judge = Judge::open(rt.alloc(), &formula)?;
+    expect_steps(&rt, rt.alloc(), &mut judge)
 }
 
 #[test]
