@@ -6,7 +6,8 @@ ghost use Rattle.lrat_rules.specs.State.{start};
 
 use crate::script::{Played, play, told};
 use crate::support::{ProofText, Room, is_known, one_clause, open, order, room_of};
-use cnf_base::{Cnf, CnfBuilder, Id};
+use clause_ledger::Ledger;
+use cnf_base::{CnfBuilder, Id};
 use lrat_rules::{conflict_law, start_law};
 use node_table::{Node, Table, TableError};
 use std::alloc::Global;
@@ -184,23 +185,19 @@ fn failing_writes(rt: HostRuntime) -> Result<(), Fail> {
     Ok(())
 }
 
-// A formula of two variables whose one clause is empty.
-fn empty_clause(alloc: Global) -> Result<Cnf, Fail>
-    ensures { IfOk result (λ formula. formula.clauses ≡ [] ∷ []) }
-{
-    let mut builder = CnfBuilder::new(alloc, 2);
-    builder.end_clause()?;
-    Ok(builder.finish())
-}
-
 // Justifies the empty clause by the empty clause of the formula.
 fn justified(alloc: Global) -> Result<String, Fail> {
     start_law();
     conflict_law();
-    let formula = empty_clause(alloc)?;
+    let mut builder = CnfBuilder::new(alloc, 2);
+    builder.end_clause()?;
+    let formula = builder.finish();
     let mut table = open(alloc, &formula, &order(true), &room_of("0 2, 9 9")?)?;
-    let id = table.justify(&[], &[Id(1)])?.0;
-    let ledger = table.into_ledger();
+    let id = table.justify(&[], &[Id(1)])?;
+    ledger_told(alloc, id.0, table.into_ledger())
+}
+
+fn ledger_told(alloc: Global, id: u64, ledger: Ledger<ProofText>) -> Result<String, Fail> {
     let last = ledger.last_id();
     let in_step = ledger.is_in_step();
     let lines = ledger.close().lines(alloc)?;
