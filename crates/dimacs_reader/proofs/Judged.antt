@@ -1,5 +1,6 @@
 -- What two calls say together of the answer: the second decides it, of the bytes that follow those of the first.
-use Rattle.std.proofs.Common.{◌≡◌, ℕ, false, List, None, Result, refl, sym, subst}
+use Rattle.std.proofs.Common.{◌≡◌, ℕ, false, List, None, Result, Ok, Err, refl, sym, ap, subst}
+use Rattle.std.specs.Result.{IsErrAnd}
 use Rattle.std.specs.Prelude.{codes}
 use Rattle.host_io.specs.Channel.{Channel}
 use Rattle.cnf_base.specs.Formula.{Formula, Draft}
@@ -7,9 +8,13 @@ use Rattle.cnf_base.specs.Number.{signed_number}
 use Rattle.cnf_base.specs.Text.{Word}
 use Rattle.text_scan.specs.Items.{Items, next_word}
 use Rattle.text_scan.specs.Decides.{Decides, Decides-then}
+use Rattle.text_scan.specs.Scan.{Gives}
+use Rattle.text_scan.specs.declared.scanner.ScanError.{ScanError}
+use Rattle.text_scan.specs.declared.scanner.ScanError.TheVariants.{ReadFault as ScanFault, TooLong as ScanTooLong}
 use Rattle.dimacs_reader.specs.declared.error.CnfError.{CnfError}
-use Rattle.dimacs_reader.specs.Answers.{Answers}
-use Rattle.dimacs_reader.specs.Body.{answer_of}
+use Rattle.dimacs_reader.specs.declared.error.CnfError.TheVariants.{Refused, ReadFault, TooLong, OutOfMemory}
+use Rattle.dimacs_reader.specs.Answers.{Answers, error_of}
+use Rattle.dimacs_reader.specs.Body.{Takes, answer_of}
 use Rattle.dimacs_reader.specs.Cnf.{CnfText, formula, refusal, overlong, is_word, with_read, offence_of, body}
 
 -- the answer that says what a text is
@@ -29,3 +34,22 @@ pub goes_on : (word : Word) (items : Items) (count new_count : ℕ) (draft new_d
     → offence_of (signed_number word.bytes) count draft ≡ None → new_draft ≡ with_read (signed_number word.bytes) draft → new_count ≡ count
     → body (next_word word items) count draft ≡ body items new_count new_draft
 goes_on word items count new_count draft new_draft percent none new_is count_is = rw (percent, none, new_is, count_is) refl
+
+-- an error that was handed on
+pub error_is : {E : Type 0} (r : Result Formula E) (e : E) → IsErrAnd r (λ f. f ≡ e) → r ≡ Err e
+error_is (Ok value) e h = absurd h
+error_is (Err f) e h = ap Err h
+
+-- one of the scanner
+pub error_answers : (r : Result Formula CnfError) (e : ScanError) (line count : ℕ) (draft : Draft) (before after : Items) → r ≡ Err (error_of e)
+    → Gives (Err e) line before after → Answers r (body before count draft)
+error_answers r ScanFault line count draft before after r_is q = rw r_is tt
+error_answers r ScanTooLong line count draft before after r_is q = rw (r_is, q.0) refl
+
+-- a token that offends, or want of memory
+pub take_answers : (r : Result Formula CnfError) (e : CnfError) (word : Word) (items : Items) (count : ℕ) (draft new : Draft) → r ≡ Err e → is_word (codes "%") word.bytes ≡ false
+    → Takes {T = Unit {0}} (Err e) (offence_of (signed_number word.bytes) count draft) word.line (with_read (signed_number word.bytes) draft) new → Answers r (body (next_word word items) count draft)
+take_answers r (Refused kind at) word items count draft new r_is percent takes = rw (r_is, percent, takes.0, takes.1) refl
+take_answers r ReadFault word items count draft new r_is percent takes = absurd takes
+take_answers r TooLong word items count draft new r_is percent takes = absurd takes
+take_answers r OutOfMemory word items count draft new r_is percent takes = rw r_is tt

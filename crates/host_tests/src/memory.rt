@@ -2,6 +2,7 @@
 ghost use Rattle.std.specs.Prelude.{◌≡◌, None, IfOk};
 ghost use Rattle.host_io.specs.declared.role.Role.{Role};
 ghost use Rattle.host_io.specs.Files.{IsInput, IsCreated};
+ghost use Rattle.host_io.specs.Failing as failing;
 ghost use Rattle.host_io.specs.Memory.{channel_of, fresh};
 
 use crate::calls::{loaded, put_twice};
@@ -110,17 +111,30 @@ fn reads_fail_by_plan(rt: HostRuntime) -> Result<(), Fail> {
     Ok(())
 }
 
+// Two calls that fail.
+fn two_fails(alloc: Global) -> Result<Vec<(Role, u64)>, OutOfMemory> {
+    let mut fails = Vec::new(alloc);
+    fails.push((Role::Made, 1))?;
+    fails.push((Role::ProofOut, 3))?;
+    Ok(fails)
+}
+
+// What is told of two puts, what was written, and the file.
+fn written_by_plan(alloc: Global, mut host: FailingHost) -> Result<String, AllocError>
+    requires { (any : Role) → (failing.channel_of host any).name ≡ None }
+{
+    let puts = put_twice(&mut host, Role::ProofOut, "a", b"xyz", b"yz");
+    let output = text(Some(host.output(Role::ProofOut)));
+    let file = text(host.file("a"));
+    format!(in alloc; "{puts:?} {output} {file}")
+}
+
 /// The second byte's write fails.
 #[test]
 fn writes_fail_by_plan(rt: HostRuntime) -> Result<(), Fail> {
-    let fails = vec![in rt.alloc(); (Role::Made, 1), (Role::ProofOut, 3)]?;
-    let mut host = FailingHost::new(two_files(rt.alloc())?, fails, 1);
-    let puts = put_twice(&mut host, Role::ProofOut, "a", b"xyz", b"yz");
-    let (output, file) = (
-        text(Some(host.output(Role::ProofOut))),
-        text(host.file("a")),
-    );
-    let given = format!(in rt.alloc(); "{puts:?} {output} {file}")?;
+    let fails = two_fails(rt.alloc())?;
+    let host = FailingHost::new(two_files(rt.alloc())?, fails, 1);
+    let given = written_by_plan(rt.alloc(), host)?;
     assert_eq!(rt; given.as_str(), "Ok(false) xyz xyz");
     Ok(())
 }

@@ -1,19 +1,19 @@
 -- What a call gives once a line is judged: the first of the steps ahead.
-use Rattle.std.proofs.Common.{◌≡◌, ℕ, Bool, true, false, List, Option, Some, None, Result, Ok, Err, ◌==◌, ◌&&◌, if◌then◌else◌, refl, sym, ◌∙◌, ap, subst}
+use Rattle.std.proofs.Common.{◌≡◌, ◌≤◌, arith, ℕ, Bool, true, false, List, Option, Some, None, Result, Ok, Err, ◌==◌, ◌&&◌, if◌then◌else◌, refl, sym, ◌∙◌, ap, subst}
 use Rattle.std.specs.Prelude.{nat_lt}
 use Rattle.std.proofs.lemmas.Bool.{and_parts}
 use Rattle.host_io.specs.Channel.{Channel}
 use Rattle.cnf_base.specs.declared.step.Step.{Step}
 use Rattle.cnf_base.specs.Text.{Word}
-use Rattle.text_scan.specs.Items.{the_end, too_long, next_word}
+use Rattle.text_scan.specs.Items.{Items, the_end, too_long, next_word}
 use Rattle.text_scan.specs.Scan.{ahead}
 use Rattle.text_scan.specs.Decides.{Decides, Decides-then}
 use Rattle.lrat_text.specs.declared.error.StepError.{StepError}
 use Rattle.lrat_text.specs.declared.error.StepError.TheVariants.{Syntax, ReadFault, TooLong, OutOfMemory}
 use Rattle.lrat_text.specs.declared.reader.Status.TheVariants.{Reading, Ended, Failed}
 use Rattle.lrat_text.specs.Steps.{Steps, overlong, next_step, step_then}
-use Rattle.lrat_text.specs.Draft.{no_draft, draft_of_word, is_open, judged, drafted}
-use Rattle.lrat_text.specs.Reader.{Reader, Gives, Settles, steps_in, steps_ahead, is_under}
+use Rattle.lrat_text.specs.Draft.{DraftLine, no_draft, draft_of_word, with_token, is_open, judged, drafted}
+use Rattle.lrat_text.specs.Reader.{Reader, Gives, Settles, steps_in, steps_ahead, open_count, is_under}
 
 abbrev Answer : Type 0
 Answer = Result (Option (Step × ℕ)) StepError
@@ -86,3 +86,15 @@ pub call_gives : {a b c : Channel} {Q : List ℕ → List ℕ → Type 0} (r : A
 call_gives r old mid new reading first second ends =
     Decides-then (λ bytes more. Gives r new.line (steps_ahead old bytes) (steps_ahead new more)) first second (λ bytes middle more p q.
     subst (λ s. Gives r new.line s (steps_ahead new more)) (sym (ap (λ s. steps_in s old bytes) reading ∙ p)) (ends middle more q))
+
+-- a token of the line that is begun, or the first of one
+pub token_goes : (draft : DraftLine) (word : Word) (items : Items) → (is_open draft ≡ true → (draft.line == word.line) ≡ true)
+    → drafted (next_word word items) draft ≡ drafted items (with_token draft word)
+token_goes draft word items same =
+    elim (is_open draft) as (λ b. is_open draft ≡ b → drafted (next_word word items) draft ≡ drafted items (with_token draft word)) [
+      | true ↦ λ h. rw (h, same h) refl
+      | false ↦ λ h. rw h refl
+    ] refl
+
+pub open_small : (draft : DraftLine) → open_count draft ≤ 1
+open_small draft = elim (is_open draft) as (λ b. (if b then 1 else 0) ≤ 1) [ true ↦ omega arith | false ↦ omega arith ]
