@@ -1,7 +1,9 @@
 -- A step appends what the test lets through of one literal more.
-use Rattle.std.proofs.Common.{Vec, ◌≡◌, ℕ, ◌+◌, ◌<◌, Bool, not, ℤ, List, [], ◌∷◌, ◌++◌, length, get_or, take, cond, int_eq, append_assoc, sym, ap, ◌∙◌}
+use Rattle.std.proofs.Common.{Vec, ◌≡◌, ℕ, ◌+◌, ◌<◌, Bool, not, ℤ, List, [], ◌∷◌, ◌++◌, length, get_or, take, cond, int_eq, append_assoc, Ok, Err, arith, sym, ap, ◌∙◌}
 use Rattle.std.specs.List.{filter}
-use Rattle.std.proofs.lemmas.List.{append-nil, take_all, take_more}
+use Rattle.std.specs.Prelude.{Result}
+use Rattle.std.specs.Result.{OnErr}
+use Rattle.std.proofs.lemmas.List.{append-nil, take_all, take_more, take-append-le}
 use Rattle.std.proofs.lemmas.List.Elements.{filter-append}
 use Rattle.lrat_rules.proofs.chain.push_others.Goals as goal
 use Rattle.lrat_rules.proofs.chain.push_others.Goals.{then-ne+in_ok-push, else-ne}
@@ -27,3 +29,15 @@ pub returns-clause-ok : goal.returns-clause-ok
 returns-clause-ok c =
     c.loop-literal.invariant
     ∙ ap (λ front. c.args.literals.now.items ++ filter (λ x. not (int_eq x c.args.other_than)) front) (take_all c.loop-literal.literal-index c.args.clause.now c.loop-literal-test.false)
+
+pub returns-in_err-push-clause-err : goal.returns-in_err-push-clause-err
+returns-in_err-push-clause-err c =
+    let old = c.args.literals.now.items in
+    let front : take (length old) c.push.new.self.items ≡ old =
+    ap (take (length old)) (c.in_err-push.ensures.items ∙ c.loop-literal.invariant)
+    ∙ take-append-le (length old) old (filter (λ x. not (int_eq x c.args.other_than)) (take c.loop-literal.literal-index c.args.clause.now)) (omega arith)
+    ∙ take_all (length old) old (omega arith) in
+    if_error c.from_residual.result front where
+      if_error : {T E P : Type 0} (r : Result T E) → P → OnErr r P
+      if_error (Ok x) p = tt
+      if_error (Err e) p = p

@@ -1,5 +1,5 @@
 -- Nothing is a candidate of the first definition, and just the first one is a candidate of the second.
-use Rattle.std.proofs.Common.{◌≡◌, ℕ, ◌+◌, ◌<◌, ◌≤◌, false, ◌||◌, ℤ, pos, negsuc, neg_ℤ, List, [], ◌∷◌, length, None, Some, inl, inr, refl, sym, ◌∙◌, ap, subst, arith, if◌then◌else◌, ◌==◌}
+use Rattle.std.proofs.Common.{◌≡◌, ℕ, ◌+◌, ◌<◌, false, ◌||◌, ℤ, pos, negsuc, neg_ℤ, List, [], ◌∷◌, length, None, Some, inl, inr, refl, sym, ◌∙◌, ap, subst, arith, if◌then◌else◌, ◌==◌}
 use Rattle.std.specs.List.{list_any}
 use Rattle.std.proofs.lemmas.Bool.{cases_eq, cases_lt, ne_eqb}
 use Rattle.lrat_rules.specs.State.{State, Live, start, clause_at}
