@@ -151,10 +151,17 @@ fn each_pair(rt: &impl Abort, alloc: Global, reversed: bool) -> Result<(), Fail>
     let formula = no_clauses(alloc, 2);
     let room = room_of("100 10000, 100000 999")?;
     let mut table = open(alloc, &formula, &order(reversed), &room)?;
+    each_pair_on(rt, alloc, &mut table)
+}
+
+fn each_pair_on(rt: &impl Abort, alloc: Global, table: &mut Table<ProofText>) -> Result<(), Fail>
+    requires in_step { IsTrue table.old.book.in_step }
+    requires tied { IsTied table.old.graph table.old.book.state }
+{
     let mut nodes = Vec::new(alloc);
-    all_functions(rt, &mut table, &mut nodes)?;
+    all_functions(rt, table, &mut nodes)?;
     let mut cache = AndCache::new(alloc, 1)?;
-    each_pair_of(rt, &mut table, &mut cache, nodes.as_slice())
+    each_pair_of(rt, table, &mut cache, nodes.as_slice())
 }
 
 fn each_pair_of(

@@ -199,3 +199,66 @@ returns-in_err-write_one-2-clause-stays g c failed =
     let two = Grows-reached state c.write_one.new.ledger.state c.write_one-2.new.ledger.state (clause_of (Of c.args.u ∷ Of c.args.x ∷ c.negated-2.result ∷ [])) one c.in_ok-lu.ensures.written in
     let three = Grows-reached state c.write_one-2.new.ledger.state c.write_one-3.new.ledger.state (clause_of (Of c.negated-not_u.result ∷ Of c.negated-not_x.result ∷ c.args.high.now ∷ [])) two c.in_ok-write_one.ensures.written in
     (Grows-reached state c.write_one-3.new.ledger.state c.write_one-4.new.ledger.state (clause_of (Of c.negated-not_u.result ∷ Of c.args.x ∷ c.args.low.now ∷ [])) three (c.in_err-write_one-2.ensures.fault_state refl)).clauses
+
+pub returns-in_err-hu-clause-limit : goal.returns-in_err-hu-clause-limit
+returns-in_err-hu-clause-limit g c = c.in_err-hu.ensures.limit
+
+pub returns-in_err-hu-clause-beside : goal.returns-in_err-hu-clause-beside
+returns-in_err-hu-clause-beside g c = c.in_err-hu.ensures.beside
+
+pub returns-in_err-hu-clause-out_of_step : goal.returns-in_err-hu-clause-out_of_step
+returns-in_err-hu-clause-out_of_step g c failed = c.in_err-hu.ensures.out_of_step refl
+
+pub returns-in_err-hu-clause-cut : goal.returns-in_err-hu-clause-cut
+returns-in_err-hu-clause-cut g c clauses proof told failed = c.in_err-hu.ensures.cut clauses proof told refl
+
+pub returns-in_err-lu-clause-limit : goal.returns-in_err-lu-clause-limit
+returns-in_err-lu-clause-limit g c = c.in_err-lu.ensures.limit ∙ c.in_ok-hu.ensures.limit
+
+pub returns-in_err-lu-clause-beside : goal.returns-in_err-lu-clause-beside
+returns-in_err-lu-clause-beside g c = c.in_err-lu.ensures.beside ∙ c.in_ok-hu.ensures.beside
+
+pub returns-in_err-lu-clause-out_of_step : goal.returns-in_err-lu-clause-out_of_step
+returns-in_err-lu-clause-out_of_step g c failed = c.in_err-lu.ensures.out_of_step refl
+
+pub returns-in_err-lu-clause-cut : goal.returns-in_err-lu-clause-cut
+returns-in_err-lu-clause-cut g c clauses proof told failed = c.in_err-lu.ensures.cut clauses (c.in_ok-hu.ensures.kept clauses proof) told refl
+
+pub returns-in_err-write_one-clause-limit : goal.returns-in_err-write_one-clause-limit
+returns-in_err-write_one-clause-limit g c = c.in_err-write_one.ensures.limit ∙ (c.in_ok-lu.ensures.limit ∙ c.in_ok-hu.ensures.limit)
+
+pub returns-in_err-write_one-clause-beside : goal.returns-in_err-write_one-clause-beside
+returns-in_err-write_one-clause-beside g c = c.in_err-write_one.ensures.beside ∙ (c.in_ok-lu.ensures.beside ∙ c.in_ok-hu.ensures.beside)
+
+pub returns-in_err-write_one-clause-out_of_step : goal.returns-in_err-write_one-clause-out_of_step
+returns-in_err-write_one-clause-out_of_step g c failed = c.in_err-write_one.ensures.out_of_step refl
+
+pub returns-in_err-write_one-clause-cut : goal.returns-in_err-write_one-clause-cut
+returns-in_err-write_one-clause-cut g c clauses proof told failed = c.in_err-write_one.ensures.cut clauses (c.in_ok-lu.ensures.kept clauses (c.in_ok-hu.ensures.kept clauses proof)) told refl
+
+pub returns-in_err-write_one-2-clause-limit : goal.returns-in_err-write_one-2-clause-limit
+returns-in_err-write_one-2-clause-limit g c = c.in_err-write_one-2.ensures.limit ∙ (c.in_ok-write_one.ensures.limit ∙ (c.in_ok-lu.ensures.limit ∙ c.in_ok-hu.ensures.limit))
+
+pub returns-in_err-write_one-2-clause-beside : goal.returns-in_err-write_one-2-clause-beside
+returns-in_err-write_one-2-clause-beside g c = c.in_err-write_one-2.ensures.beside ∙ (c.in_ok-write_one.ensures.beside ∙ (c.in_ok-lu.ensures.beside ∙ c.in_ok-hu.ensures.beside))
+
+pub returns-in_err-write_one-2-clause-out_of_step : goal.returns-in_err-write_one-2-clause-out_of_step
+returns-in_err-write_one-2-clause-out_of_step g c failed = c.in_err-write_one-2.ensures.out_of_step refl
+
+pub returns-in_err-write_one-2-clause-cut : goal.returns-in_err-write_one-2-clause-cut
+returns-in_err-write_one-2-clause-cut g c clauses proof told failed = c.in_err-write_one-2.ensures.cut clauses (c.in_ok-write_one.ensures.kept clauses (c.in_ok-lu.ensures.kept clauses (c.in_ok-hu.ensures.kept clauses proof))) told refl
+
+pub returns-clause-limit : goal.returns-clause-limit
+returns-clause-limit g c = c.in_ok-write_one-2.ensures.limit ∙ (c.in_ok-write_one.ensures.limit ∙ (c.in_ok-lu.ensures.limit ∙ c.in_ok-hu.ensures.limit))
+
+pub returns-clause-beside : goal.returns-clause-beside
+returns-clause-beside g c = c.in_ok-write_one-2.ensures.beside ∙ (c.in_ok-write_one.ensures.beside ∙ (c.in_ok-lu.ensures.beside ∙ c.in_ok-hu.ensures.beside))
+
+pub returns-clause-unfailed : goal.returns-clause-unfailed
+returns-clause-unfailed g c = c.in_ok-write_one-2.ensures.unfailed ∙ (c.in_ok-write_one.ensures.unfailed ∙ (c.in_ok-lu.ensures.unfailed ∙ c.in_ok-hu.ensures.unfailed))
+
+pub returns-clause-in_step : goal.returns-clause-in_step
+returns-clause-in_step g c = c.in_ok-write_one-2.ensures.in_step
+
+pub returns-clause-kept : goal.returns-clause-kept
+returns-clause-kept g c clauses proof = c.in_ok-write_one-2.ensures.kept clauses (c.in_ok-write_one.ensures.kept clauses (c.in_ok-lu.ensures.kept clauses (c.in_ok-hu.ensures.kept clauses proof)))

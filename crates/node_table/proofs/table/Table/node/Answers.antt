@@ -1,8 +1,10 @@
-use Rattle.std.proofs.Common.{◌≡◌, ◌<◌, ℕ, Bool, true, false, Some, subst}
+use Rattle.std.proofs.Common.{◌≡◌, ◌<◌, ℕ, Bool, true, false, Some, refl, subst}
 use Rattle.node_table.specs.declared.node.Branch.{Branch}
 use Rattle.node_table.specs.Diagram.{branch_at, next_variable}
 use Rattle.node_table.specs.Table.{TableState, IsWanted}
 use Rattle.node_table.proofs.Outcome.{outcome_children, outcome_only, outcome_both}
+use Rattle.node_table.proofs.Justified.{same_extends}
+use Rattle.node_table.specs.HandedOn.{no_error}
 use Rattle.node_table.proofs.table.Table.node.Goals as goal
 
 not_both : (b : Bool) → b ≡ true → b ≡ false → ⊥
@@ -76,3 +78,69 @@ returns-clause-made g c wanted = c.make.ensures.made
 
 pub returns-clause-lines : goal.returns-clause-lines
 returns-clause-lines g c told wanted = c.make.ensures.lines told
+
+pub returns-then-same_node-clause-tied : goal.returns-then-same_node-clause-tied
+returns-then-same_node-clause-tied g c whole = c.requires.tied
+
+pub returns-then-same_node-clause-extends : goal.returns-then-same_node-clause-extends
+returns-then-same_node-clause-extends g c whole = same_extends c.args.self.now.graph c.args.self.now.book.state c.requires.tied
+
+pub returns-then-same_node-clause-write_fault : goal.returns-then-same_node-clause-write_fault
+returns-then-same_node-clause-write_fault g c is = absurd (no_error is)
+
+pub returns-then-same_node-clause-out_of_step : goal.returns-then-same_node-clause-out_of_step
+returns-then-same_node-clause-out_of_step g c is = absurd (no_error is)
+
+pub returns-then-same_node-clause-stays : goal.returns-then-same_node-clause-stays
+returns-then-same_node-clause-stays g c is = absurd (no_error is)
+
+pub returns-then-same_node-clause-cut : goal.returns-then-same_node-clause-cut
+returns-then-same_node-clause-cut g c clauses proof told is = absurd (no_error is)
+
+pub returns-then-same_node-clause-kept : goal.returns-then-same_node-clause-kept
+returns-then-same_node-clause-kept g c clauses proof whole = proof
+
+pub returns-then-same_node-clause-in_step : goal.returns-then-same_node-clause-in_step
+returns-then-same_node-clause-in_step g c whole = c.requires.in_step
+
+pub returns-then-same_node-clause-limits : goal.returns-then-same_node-clause-limits
+returns-then-same_node-clause-limits g c = (refl, refl)
+
+pub returns-then-same_node-clause-unfailed : goal.returns-then-same_node-clause-unfailed
+returns-then-same_node-clause-unfailed g c whole = refl
+
+pub returns-then-same_node-clause-beside : goal.returns-then-same_node-clause-beside
+returns-then-same_node-clause-beside g c = refl
+
+pub returns-in-Some-clause-tied : goal.returns-in-Some-clause-tied
+returns-in-Some-clause-tied g c whole = c.requires.tied
+
+pub returns-in-Some-clause-extends : goal.returns-in-Some-clause-extends
+returns-in-Some-clause-extends g c whole = same_extends c.args.self.now.graph c.args.self.now.book.state c.requires.tied
+
+pub returns-in-Some-clause-write_fault : goal.returns-in-Some-clause-write_fault
+returns-in-Some-clause-write_fault g c is = absurd (no_error is)
+
+pub returns-in-Some-clause-out_of_step : goal.returns-in-Some-clause-out_of_step
+returns-in-Some-clause-out_of_step g c is = absurd (no_error is)
+
+pub returns-in-Some-clause-stays : goal.returns-in-Some-clause-stays
+returns-in-Some-clause-stays g c is = absurd (no_error is)
+
+pub returns-in-Some-clause-cut : goal.returns-in-Some-clause-cut
+returns-in-Some-clause-cut g c clauses proof told is = absurd (no_error is)
+
+pub returns-in-Some-clause-kept : goal.returns-in-Some-clause-kept
+returns-in-Some-clause-kept g c clauses proof whole = proof
+
+pub returns-in-Some-clause-in_step : goal.returns-in-Some-clause-in_step
+returns-in-Some-clause-in_step g c whole = c.requires.in_step
+
+pub returns-in-Some-clause-limits : goal.returns-in-Some-clause-limits
+returns-in-Some-clause-limits g c = (refl, refl)
+
+pub returns-in-Some-clause-unfailed : goal.returns-in-Some-clause-unfailed
+returns-in-Some-clause-unfailed g c whole = refl
+
+pub returns-in-Some-clause-beside : goal.returns-in-Some-clause-beside
+returns-in-Some-clause-beside g c = refl
