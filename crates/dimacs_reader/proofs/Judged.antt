@@ -6,7 +6,7 @@ use Rattle.host_io.specs.Channel.{Channel}
 use Rattle.cnf_base.specs.Formula.{Formula, Draft}
 use Rattle.cnf_base.specs.Number.{signed_number}
 use Rattle.cnf_base.specs.Text.{Word}
-use Rattle.text_scan.specs.Items.{Items, next_word}
+use Rattle.text_scan.specs.Items.{Items, too_long, next_word}
 use Rattle.text_scan.specs.Decides.{Decides, Decides-then}
 use Rattle.text_scan.specs.Scan.{Gives}
 use Rattle.text_scan.specs.declared.scanner.ScanError.{ScanError}
@@ -53,3 +53,9 @@ take_answers r (Refused kind at) word items count draft new r_is percent takes =
 take_answers r ReadFault word items count draft new r_is percent takes = absurd takes
 take_answers r TooLong word items count draft new r_is percent takes = absurd takes
 take_answers r OutOfMemory word items count draft new r_is percent takes = rw r_is tt
+
+-- the same of a reader that tells of a text too long wherever the scanner does
+pub first_error : (reads : Items → CnfText) → ((line : ℕ) → reads (too_long line) ≡ overlong) → (r : Result Formula CnfError) (e : ScanError) (line : ℕ) (before after : Items)
+    → r ≡ Err (error_of e) → Gives (Err e) line before after → Answers r (reads before)
+first_error reads long r ScanFault line before after r_is q = rw r_is tt
+first_error reads long r ScanTooLong line before after r_is q = rw (r_is, q.0) (long line)
