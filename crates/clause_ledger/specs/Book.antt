@@ -1,11 +1,12 @@
 -- A ledger as callers see it, and what its proof has to do with its clauses.
 use Rattle.std.specs.Prelude.{◌≡◌, ◌<◌, ◌≤◌, ◌+◌, ◌++◌, ℕ, Bool, ℤ, List, [], Some, IsTrue, length, take, slice_index_or, refl}
 use Rattle.std.specs.Coded.{Coded, code_by, coded×, coded_ℕ, coded_bool}
+use Rattle.cnf_base.specs.declared.step.Step.{Step}
 use Rattle.cnf_base.specs.declared.step.Step.TheVariants.{Add}
 use Rattle.cnf_base.specs.ProofText.{line_of_step}
 use Rattle.host_io.specs.Channel.{Channel, Rose}
 use Rattle.lrat_rules.specs.State.{State, state_code, clause_at, with_clause}
-use Rattle.lrat_rules.specs.Run.{Spells}
+use Rattle.lrat_rules.specs.Derivation.{IsDerivation, text_of}
 use Rattle.lrat_write.specs.Emitted.{bare_groups}
 
 -- its sink, its live clauses with the greatest number, the greatest number allowed, whether no write failed yet, and
@@ -23,10 +24,12 @@ book_code {S} code =
     code_by (S × (State × (ℕ × (Bool × ℕ)))) (coded× code (coded× state_code (coded× coded_ℕ (coded× coded_bool coded_ℕ)))) (λ b. (b.sink, (b.state, (b.limit, (b.in_step, b.spare)))))
     (λ p. record { sink = p.0; state = p.1.0; limit = p.1.1.0; in_step = p.1.1.1.0; spare = p.1.1.1.1 }) (λ _. refl)
 
--- The sink's bytes spell good steps from the formula's clauses to this state, in which these clauses stand under
--- 1, 2, .. and no number is above the greatest.
+-- A derivation leads from the formula's clauses to this state, and the sink's bytes are exactly its written form. The
+-- formula's clauses stand under 1, 2, .. and no number is above the greatest.
 pub record IsProofOf (clauses : List (List ℤ)) (tells : Bool) (channel : Channel) (state : State) : Type 0 where
-  pub spelled : IsTrue tells → Spells clauses channel.written state
+  pub steps : List Step
+  pub derived : IsDerivation clauses steps state
+  pub text : IsTrue tells → channel.written ≡ text_of steps
   pub formula : (i : ℕ) → i < length clauses → clause_at state.live (i + 1) ≡ Some (slice_index_or clauses i [])
   pub numbers : (id : ℕ) (clause : List ℤ) → clause_at state.live id ≡ Some clause → (0 < id) × (id ≤ state.top)
   pub from_formula : length clauses ≤ state.top

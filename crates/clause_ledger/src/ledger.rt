@@ -5,14 +5,14 @@ ghost use Rattle.cnf_base.specs.ProofText.{max_id};
 ghost use Rattle.host_io.specs.Channel.{Rose, Flushes};
 ghost use Rattle.lrat_rules.specs.State.{start, clause_at};
 ghost use Rattle.lrat_rules.specs.Strict.{RefutesStrictly, IsDefinition};
-ghost use Rattle.lrat_rules.specs.Run.{IsCutProof};
+ghost use Rattle.lrat_rules.specs.Derivation.{IsCutProof};
 ghost use Rattle.clause_ledger.specs.Book.{IsProofOf, OnlyWrites, IsTorn, next_line, definition_line, with_next};
 
 use crate::error::LedgerError;
 use crate::live::LiveClauses;
 use cnf_base::{Cnf, Id, Lit, OutOfMemory, literals_in_range};
 use host_io::Sink;
-use lrat_rules::{definition_law, live_law, one_more_step_law, start_law, strict_addition_law};
+use lrat_rules::{definition_law, derivation_law, live_law, start_law, strict_addition_law};
 use lrat_write::{write_add, write_define};
 use std::alloc::Global;
 use std::marker::Model;
@@ -55,6 +55,7 @@ impl<S: Sink + Drop> Ledger<S> {
         ensures proof { IfOk result (λ ledger. IsProofOf formula.now.clauses S.tells (S.channel ledger.sink) ledger.state) }
         ensures refused { IfErr result (λ back. back.0 ≡ sink) }
     {
+        derivation_law();
         start_law();
         formula.is_formula();
         match start_clauses(alloc, formula) {
@@ -104,18 +105,18 @@ impl<S: Sink + Drop> Ledger<S> {
         ensures out_of_step { IsErrOf result LedgerError.WriteFault → self.new.in_step ≡ false }
         ensures fault_state { IsErrOf result LedgerError.WriteFault → self.new.state ≡ with_next self.old.state clause.now }
         ensures cut { (clauses : List (List ℤ)) → IsProofOf clauses S.tells (S.channel self.old.sink) self.old.state → IsTrue S.tells
-            → IsErrOf result LedgerError.WriteFault → IsCutProof clauses (S.channel self.new.sink).written }
+            → IsErrOf result LedgerError.WriteFault → IsCutProof clauses (S.channel self.new.sink).written self.old.state self.new.state }
 
         // no failed write is told as anything else
         ensures unfailed { result ≢ Err LedgerError.WriteFault → (S.channel self.new.sink).faults ≡ (S.channel self.old.sink).faults }
         ensures only_writes { OnlyWrites (S.channel self.old.sink) (S.channel self.new.sink) }
         ensures beside { S.beside self.new.sink ≡ S.beside self.old.sink }
     {
-        let id = self.keep(clause)?;
-        one_more_step_law();
+        derivation_law();
         strict_addition_law();
         live_law();
         literals_in_range(clause);
+        let id = self.keep(clause)?;
         match write_add(&mut self.sink, id, clause, hints) {
             Ok(()) => Ok(id),
             Err(_) => Err(self.fault()),
@@ -145,17 +146,17 @@ impl<S: Sink + Drop> Ledger<S> {
         ensures out_of_step { IsErrOf result LedgerError.WriteFault → self.new.in_step ≡ false }
         ensures fault_state { IsErrOf result LedgerError.WriteFault → self.new.state ≡ with_next self.old.state clause.now }
         ensures cut { (clauses : List (List ℤ)) → IsProofOf clauses S.tells (S.channel self.old.sink) self.old.state → IsTrue S.tells
-            → IsErrOf result LedgerError.WriteFault → IsCutProof clauses (S.channel self.new.sink).written }
+            → IsErrOf result LedgerError.WriteFault → IsCutProof clauses (S.channel self.new.sink).written self.old.state self.new.state }
 
         ensures unfailed { result ≢ Err LedgerError.WriteFault → (S.channel self.new.sink).faults ≡ (S.channel self.old.sink).faults }
         ensures only_writes { OnlyWrites (S.channel self.old.sink) (S.channel self.new.sink) }
         ensures beside { S.beside self.new.sink ≡ S.beside self.old.sink }
     {
-        let id = self.keep(clause)?;
-        one_more_step_law();
+        derivation_law();
         definition_law();
         live_law();
         literals_in_range(clause);
+        let id = self.keep(clause)?;
         match write_define(&mut self.sink, id, clause, candidates) {
             Ok(()) => Ok(id),
             Err(_) => Err(self.fault()),

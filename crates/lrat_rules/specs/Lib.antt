@@ -2,6 +2,7 @@ pub mod State
 pub mod Chain
 pub mod Addition
 pub mod Run
+pub mod Derivation
 pub mod Strict
 pub mod Soundness
 pub mod Marks

@@ -1,5 +1,5 @@
 -- What the state that a proof leads to tells of the solver's run: how many extension variables are in use.
-use Rattle.std.specs.Prelude.{ℕ, ℤ, nat_abs, List, [], Option, None, Some, map, nat_lt}
+use Rattle.std.specs.Prelude.{ℕ, ◌≤◌, ℤ, nat_abs, List, [], Option, None, Some, map, nat_lt}
 use Rattle.std.specs.List.{filter, flat_map}
 use Rattle.std.specs.Ordering.{nat_cmp}
 use Rattle.std.specs.FinMap as map
@@ -22,3 +22,9 @@ extension_variables vars live = set.from_list (filter (nat_lt vars) (live_variab
 -- how many there are
 abbrev pub in_use : ℕ → State → ℕ
 in_use vars state = set.len (extension_variables vars state.live)
+
+-- A state keeps within these limits: no number is above the first, and at most so many extension variables are in use
+-- as the second says.
+pub record IsWithin (vars max_ids max_nodes : ℕ) (state : State) : Type 0 where
+  pub numbers : state.top ≤ max_ids
+  pub nodes : in_use vars state ≤ max_nodes

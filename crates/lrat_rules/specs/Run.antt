@@ -66,20 +66,3 @@ pub record Refutes (clauses : List (List ℤ)) (bytes : List ℕ) : Type 0 where
 pub record Spells (clauses : List (List ℤ)) (bytes : List ℕ) (state : State) : Type 0 where
   pub whole : IsTrue (are_whole_lines bytes)
   pub reached : run (start clauses) (proof_lines bytes) ≡ Reached state
-
--- the front of a line of a step that is good at this state
-pub record IsCutLine (state : State) (bytes : List ℕ) : Type 0 where
-  pub step : Step
-  pub good : step_fault state step ≡ None
-  pub printable : IsTrue (is_printable step)
-  pub rest : List ℕ
-  pub line : line_of_step step ≡ bytes ++ rest
-
--- a proof that was cut short: whole lines to some state, and then the front of one good line
-pub record IsCutProof (clauses : List (List ℤ)) (bytes : List ℕ) : Type 0 where
-  pub whole : List ℕ
-  pub cut : List ℕ
-  pub parts : bytes ≡ whole ++ cut
-  pub state : State
-  pub spelled : Spells clauses whole state
-  pub line : IsCutLine state cut

@@ -1,14 +1,15 @@
 // Laws of the rules, over everything: functions without work, whose clauses the crates above cite by a call.
-ghost use Rattle.std.specs.Prelude.{◌≡◌, ◌<◌, ◌+◌, ◌||◌, ◌++◌, ℕ, ℤ, List, [], ◌∷◌, map, length, None, Some, IsTrue, is_some, slice_index_or, if◌then◌else◌, ◌==◌};
-ghost use Rattle.std.specs.List.{list_all};
+ghost use Rattle.std.specs.Prelude.{◌≡◌, ◌≤◌, ◌<◌, ◌+◌, ◌||◌, ◌++◌, ℕ, ℤ, List, [], ◌∷◌, map, length, None, Some, IsTrue, IsFalse, is_some, slice_index_or, if◌then◌else◌, ◌==◌};
+ghost use Rattle.std.specs.List.{list_all, list_any};
 ghost use Rattle.cnf_base.specs.declared.step.Step.{Step};
-ghost use Rattle.cnf_base.specs.ProofText.{proof_lines, line_of_step, is_printable, are_whole_lines};
+ghost use Rattle.cnf_base.specs.ProofText.{proof_lines, line_of_step, is_printable, are_whole_lines, is_empty};
 ghost use Rattle.cnf_base.specs.Truth.{AreClausesOf};
 ghost use Rattle.lrat_rules.specs.Marks.{in_use};
 ghost use Rattle.lrat_rules.specs.State.{State, Live, clause_at, start, with_clause};
 ghost use Rattle.lrat_rules.specs.Chain.{Closes, literals_of};
 ghost use Rattle.lrat_rules.specs.Addition.{fault};
 ghost use Rattle.lrat_rules.specs.Strict.{RefutesStrictly, IsDefinition};
+ghost use Rattle.lrat_rules.specs.Derivation.{IsDerivation, IsWritten, deletes_added, text_of};
 ghost use Rattle.lrat_rules.specs.Run.{Reached, Refutes, Spells, run, step_fault, after_step, step_adds_empty, adds_empty_clause};
 
 /// An addition by a strict refutation is good: its hints close, and each of them names a live clause.
@@ -44,16 +45,6 @@ pub fn live_law()
     ensures { (live : Live) (id other : ℕ) (clause : List ℤ) → clause_at (with_clause live id clause) other ≡ (if other == id then Some clause else clause_at live other) }
 {}
 
-/// The line of a good step on a text of good steps leads one step on.
-pub fn one_more_step_law()
-    ensures spells { (clauses : List (List ℤ)) (bytes : List ℕ) (state : State) (step : Step) → Spells clauses bytes state → step_fault state step ≡ None
-        → IsTrue (is_printable step) → Spells clauses (bytes ++ line_of_step step) (after_step state step) }
-    ensures adds_empty { (bytes : List ℕ) (step : Step) → IsTrue (are_whole_lines bytes) → IsTrue (is_printable step)
-        → adds_empty_clause (bytes ++ line_of_step step) ≡ (adds_empty_clause bytes || step_adds_empty step) }
-{
-    cnf_base::one_more_line_law();
-}
-
 /// A text of good steps one of which adds the empty clause is verified; and a verified text is such a text.
 pub fn refuted_law()
     ensures refutes { (clauses : List (List ℤ)) (bytes : List ℕ) (state : State) → Spells clauses bytes state → IsTrue (adds_empty_clause bytes) → Refutes clauses bytes }
@@ -61,7 +52,25 @@ pub fn refuted_law()
     ensures adds_empty { (clauses : List (List ℤ)) (bytes : List ℕ) → Refutes clauses bytes → IsTrue (adds_empty_clause bytes) }
 {}
 
-/// At the start no extension variable is in use.
+/// A derivation, one step more, and its written form, which spells it.
+pub fn derivation_law()
+    ensures none { (clauses : List (List ℤ)) → IsDerivation clauses [] (start clauses) }
+    ensures one_more { (clauses : List (List ℤ)) (steps : List Step) (state : State) (step : Step) → IsDerivation clauses steps state → step_fault state step ≡ None
+        → IsTrue (is_printable step) → IsTrue (deletes_added (length clauses) state step) → IsDerivation clauses (steps ++ step ∷ []) (after_step state step) }
+    ensures text { (steps : List Step) (step : Step) → text_of (steps ++ step ∷ []) ≡ text_of steps ++ line_of_step step }
+    ensures spells { (clauses : List (List ℤ)) (bytes : List ℕ) (state : State) → IsWritten clauses bytes state → Spells clauses bytes state }
+    // A step that adds the empty clause; and a live clause without literals, which was added or is the formula's.
+    ensures refutes_by_step { (clauses : List (List ℤ)) (steps : List Step) (state : State) → IsDerivation clauses steps state → IsTrue (list_any step_adds_empty steps)
+        → Refutes clauses (text_of steps) }
+    ensures refutes { (clauses : List (List ℤ)) (bytes : List ℕ) (state : State) (id : ℕ) → IsWritten clauses bytes state → IsFalse (list_any is_empty clauses)
+        → clause_at state.live id ≡ Some [] → Refutes clauses bytes }
+{
+    cnf_base::one_more_line_law();
+}
+
+/// Extension variables in use: none at the start, and no fewer where there are more live clauses.
 pub fn marks_law()
-    ensures { (vars : ℕ) (clauses : List (List ℤ)) → AreClausesOf vars clauses → in_use vars (start clauses) ≡ 0 }
+    ensures start { (vars : ℕ) (clauses : List (List ℤ)) → AreClausesOf vars clauses → in_use vars (start clauses) ≡ 0 }
+    ensures fewer { (vars : ℕ) (few more : State) → ((id : ℕ) (clause : List ℤ) → clause_at few.live id ≡ Some clause → clause_at more.live id ≡ Some clause)
+        → in_use vars few ≤ in_use vars more }
 {}

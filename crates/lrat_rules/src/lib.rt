@@ -12,7 +12,7 @@ mod soundness;
 pub use chain::{Chain, effect_on};
 pub use examples::{refutation_example, resolvent_example};
 pub use laws::{
-    conflict_law, definition_law, live_law, marks_law, one_more_step_law, refuted_law, start_law,
+    conflict_law, definition_law, derivation_law, live_law, marks_law, refuted_law, start_law,
     strict_addition_law,
 };
 pub use outcome::{Effect, Reason};

@@ -1,12 +1,13 @@
 // The soundness law: what good steps keep, and that a verified text refutes the formula.
-ghost use Rattle.std.specs.Prelude.{◌≡◌, ℕ, ℤ, List, IsTrue, None};
+ghost use Rattle.std.specs.Prelude.{◌≡◌, ℕ, ℤ, List, [], IsTrue, None, Some};
 ghost use Rattle.cnf_base.specs.declared.list.Group.{Group};
 ghost use Rattle.cnf_base.specs.declared.step.Step.{Step};
 ghost use Rattle.cnf_base.specs.Truth.{Assignment, Satisfies, AreClausesOf};
 ghost use Rattle.cnf_base.specs.ProofText.{Line, proof_lines};
-ghost use Rattle.lrat_rules.specs.State.{State, Live, start, with_clause, without_clauses, SatisfiesLive};
+ghost use Rattle.lrat_rules.specs.State.{State, Live, clause_at, start, with_clause, without_clauses, SatisfiesLive};
 ghost use Rattle.lrat_rules.specs.Chain.{Closes, literals_of};
 ghost use Rattle.lrat_rules.specs.Addition.{fault};
+ghost use Rattle.lrat_rules.specs.Derivation.{IsDerivation};
 ghost use Rattle.lrat_rules.specs.Run.{run, after_step, Reached, Refutes};
 ghost use Rattle.lrat_rules.specs.Soundness.{LiveHasNoZero, step_has_no_zero, lines_have_no_zero, SatisfiesUpToPivot};
 
@@ -32,4 +33,7 @@ pub fn soundness_law()
     // A verified text: nothing satisfies the formula.
     ensures refuted { (vars : ℕ) (clauses : List (List ℤ)) (bytes : List ℕ) → AreClausesOf vars clauses → Refutes clauses bytes
         → (a : Assignment) → Satisfies a clauses → ⊥ }
+    // A derivation of a live clause without literals, however it is written: nothing satisfies the formula.
+    ensures derived { (vars : ℕ) (clauses : List (List ℤ)) (steps : List Step) (state : State) (id : ℕ) → AreClausesOf vars clauses → IsDerivation clauses steps state
+        → clause_at state.live id ≡ Some [] → (a : Assignment) → Satisfies a clauses → ⊥ }
 {}
