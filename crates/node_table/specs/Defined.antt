@@ -1,6 +1,6 @@
 -- The defining clauses of a node in the proof: its extension variable holds where the child that its variable chooses
 -- does. (Bryant, Heule: Generating Extended Resolution Proofs with a BDD-Based SAT Solver, 2021, section 4.)
-use Rattle.std.specs.Prelude.{◌≡◌, ◌≢◌, ◌<◌, ◌==◌, IsTrue, nat_abs, ℕ, ◌+◌, Bool, true, false, not, ℤ, pos, List, [], ◌∷◌, ◌++◌, Option, None, Some, if◌then◌else◌}
+use Rattle.std.specs.Prelude.{◌≡◌, ◌≢◌, ◌<◌, ◌==◌, IsTrue, nat_abs, ℕ, ◌+◌, Bool, true, false, not, ◌||◌, ℤ, pos, List, [], ◌∷◌, ◌++◌, Option, None, Some, if◌then◌else◌}
 use Rattle.std.specs.Option.{option_to_list}
 use Rattle.std.specs.List.{list_any}
 use Rattle.std.specs.Ordering.{int_eq}
@@ -64,6 +64,14 @@ defs_from high low first = record {
 
 abbrev pub defs_of : Branch → Defs
 defs_of branch = defs_from branch.high branch.low branch.first
+
+-- the number is that of one of a node's clauses
+abbrev pub is_given : Option ℕ → ℕ → Bool
+is_given None id = false
+is_given (Some own) id = own == id
+
+abbrev pub is_defined_by : Defs → ℕ → Bool
+is_defined_by defs id = is_given defs.hu id || is_given defs.lu id || is_given defs.hd id || is_given defs.ld id
 
 -- how many there are
 abbrev pub definition_count : Node → Node → ℕ

@@ -95,10 +95,6 @@ pub record IsNew (old new : Graph) (key : ℕ) (branch : Branch) : Type 0 where
   pub unused : branch_at old key ≡ None
   pub joined : new ≡ with_branch old key branch
 
--- the extension variable of the next node: they are given in the order in which nodes are made
-abbrev pub next_variable : Graph → ℕ
-next_variable graph = levels graph + 1 + map.len graph.nodes
-
 -- The nodes of a graph stay as they are in another one, which may have more.
 pub record KeepsNodes (old new : Graph) : Type 0 where
   pub order : new.order ≡ old.order

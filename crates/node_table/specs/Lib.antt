@@ -8,5 +8,6 @@ pub mod Table
 pub mod Just
 pub mod Progress
 pub mod Made
+pub mod Laws
 pub mod HandedOn
 pub mod Refused

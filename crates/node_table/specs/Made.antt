@@ -1,14 +1,19 @@
 -- What an operation may leave in a graph: nodes of parts of the function that it is asked for, reachable from its
 -- result.
-use Rattle.std.specs.Prelude.{◌≡◌, ◌⊎◌, Bool, List, [], ◌∷◌, Option, None, Some, IsTrue, if◌then◌else◌}
+use Rattle.std.specs.Prelude.{◌≡◌, ◌⊎◌, ℕ, Bool, List, [], ◌∷◌, Option, None, Some, IsTrue, if◌then◌else◌}
 use Rattle.node_table.specs.declared.node.Node.{Node}
+use Rattle.node_table.specs.declared.node.Node.TheVariants.{Inner}
 use Rattle.node_table.specs.declared.node.Branch.{Branch}
-use Rattle.node_table.specs.Diagram.{Graph, branch_of, is_node}
+use Rattle.node_table.specs.Diagram.{Graph, branch_at, branch_of, is_node}
 use Rattle.node_table.specs.Value.{Levels, value_of, IsSubfunction}
 
--- each node is one of the old graph, or its function is a subfunction of this one
+-- the inner node of a key
+abbrev pub inner : ℕ → Node
+inner key = Inner (record { index = key })
+
+-- each node is as it was in the old graph, or its function is a subfunction of this one
 pub record MakesOnly (old new : Graph) (function : Levels → Bool) : Type 0 where
-  pub each : (node : Node) → IsTrue (is_node new node) → IsTrue (is_node old node) ⊎ IsSubfunction function (λ a. value_of new a node)
+  pub each : (key : ℕ) (branch : Branch) → branch_at new key ≡ Some branch → (branch_at old key ≡ Some branch) ⊎ IsSubfunction function (λ a. value_of new a (inner key))
 
 -- the high or the low child of a node; a constant is its own
 abbrev pub child_of : Bool → Node → Option Branch → Node
@@ -25,9 +30,14 @@ pub record Reaches (graph : Graph) (node other : Node) : Type 0 where
   pub path : List Bool
   pub ends : end_of graph node path ≡ other
 
--- each node is one of the old graph, or reachable from this one
+-- each node is as it was in the old graph, or reachable from this one
 pub record ReachesNew (old new : Graph) (root : Node) : Type 0 where
-  pub each : (node : Node) → IsTrue (is_node new node) → IsTrue (is_node old node) ⊎ Reaches new root node
+  pub each : (key : ℕ) (branch : Branch) → branch_at new key ≡ Some branch → (branch_at old key ≡ Some branch) ⊎ Reaches new root (inner key)
+
+-- what is reachable from a node is as it was
+pub record KeepsFrom (old new : Graph) (node : Node) : Type 0 where
+  pub order : new.order ≡ old.order
+  pub nodes : (key : ℕ) (branch : Branch) → Reaches old node (inner key) → branch_at old key ≡ Some branch → branch_at new key ≡ Some branch
 
 -- A subfunction of this function is that of no node, so of no constant.
 pub record LacksPart (graph : Graph) (function : Levels → Bool) : Type 0 where

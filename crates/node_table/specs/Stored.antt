@@ -22,6 +22,10 @@ pub record ArePlaces (order places : List ℕ) : Type 0 where
 pub record AreNumbered (graph : Graph) : Type 0 where
   pub variable : (key : ℕ) (branch : Branch) → branch_at graph key ≡ Some branch → branch.variable ≡ levels graph + 1 + key
 
+-- the extension variable of the next node: they are given in the order in which nodes are made
+abbrev pub next_variable : Graph → ℕ
+next_variable graph = levels graph + 1 + map.len graph.nodes
+
 -- the numbers of defining clauses are within those of proofs
 pub record HaveFirsts (graph : Graph) : Type 0 where
   pub within : (key : ℕ) (branch : Branch) → branch_at graph key ≡ Some branch → branch.first ≤ max_id + 1

@@ -1,8 +1,8 @@
 -- A table as its callers see it, and what its calls do.
-use Rattle.std.specs.Prelude.{◌≡◌, ◌≢◌, ℕ, ◌≤◌, ◌+◌, pos, List, Some, Result, Err, IsTrue, refl}
-use Rattle.std.specs.Coded.{Coded, code_by, coded×, coded_ℕ}
+use Rattle.std.specs.Prelude.{◌≡◌, ◌≢◌, ℕ, ◌<◌, ◌≤◌, ◌+◌, ◌*◌, ◌++◌, pos, List, Some, Result, Err, IsTrue, refl}
+use Rattle.std.specs.Coded.{Coded, code_by, coded×, coded_ℕ, coded_list}
 use Rattle.std.specs.FinMap as map
-use Rattle.lrat_rules.specs.State.{State}
+use Rattle.lrat_rules.specs.State.{State, Live}
 use Rattle.clause_ledger.specs.Book.{Book, book_code}
 use Rattle.node_table.specs.declared.node.Node.{Node}
 use Rattle.node_table.specs.declared.node.Node.TheVariants.{Inner}
@@ -10,23 +10,43 @@ use Rattle.node_table.specs.declared.node.NodeKey.{NodeKey}
 use Rattle.node_table.specs.declared.node.Branch.{Branch}
 use Rattle.node_table.specs.declared.error.TableError.{TableError}
 use Rattle.node_table.specs.declared.error.TableError.TheVariants.{WriteFault}
-use Rattle.node_table.specs.Diagram.{Graph, graph_code, IsNew, branch_at, is_node, level_of, high_at, low_at, variable_at, next_variable}
-use Rattle.node_table.specs.Defined.{Definition, atom_of, definitions, with_definitions}
-
--- its nodes, its ledger, and the greatest number of inner nodes
-pub record TableState (S : Type 0) : Type 0 where
-  pub graph : Graph
-  pub book : Book S
-  pub max_nodes : ℕ
-
-abbrev pub table_code : {S : Type 0} → Coded S → Coded (TableState S)
-table_code {S} code =
-    code_by (Graph × (Book S × ℕ)) (coded× graph_code (coded× (book_code code) coded_ℕ)) (λ t. (t.graph, (t.book, t.max_nodes)))
-    (λ p. record { graph = p.0; book = p.1.0; max_nodes = p.1.1 }) (λ _. refl)
+use Rattle.node_table.specs.Diagram.{Graph, graph_code, IsNew, KeepsNodes, branch_at, is_node, levels, level_of, high_at, low_at, variable_at}
+use Rattle.node_table.specs.Defined.{Definition, IsUnused, atom_of, definitions, with_definitions}
+use Rattle.node_table.specs.Tied.{IsTied, AreRetired, GivesNumbers, KeepsClauses}
 
 -- how many inner nodes are live
 abbrev pub live_nodes : Graph → ℕ
 live_nodes graph = map.len graph.nodes
+
+-- its nodes, its ledger, the greatest number of inner nodes, and the retired clauses, which are to be deleted
+pub record TableState (S : Type 0) : Type 0 where
+  pub graph : Graph
+  pub book : Book S
+  pub max_nodes : ℕ
+  pub retired : List ℕ
+
+abbrev pub table_code : {S : Type 0} → Coded S → Coded (TableState S)
+table_code {S} code =
+    code_by (Graph × (Book S × (ℕ × List ℕ))) (coded× graph_code (coded× (book_code code) (coded× coded_ℕ (coded_list coded_ℕ)))) (λ t. (t.graph, (t.book, (t.max_nodes, t.retired))))
+    (λ p. record { graph = p.0; book = p.1.0; max_nodes = p.1.1.0; retired = p.1.1.1 }) (λ _. refl)
+
+-- Sound: in step with its proof, its nodes tied to live clauses, and what is retired may be deleted.
+pub record IsSound {S : Type 0} (table : TableState S) : Type 0 where
+  pub in_step : IsTrue table.book.in_step
+  pub tied : IsTied table.graph table.book.state
+  pub retired : AreRetired table.graph table.book.state.live table.retired
+
+-- Nodes and live clauses stay, new clauses come under the next numbers, and retired ones stay retired.
+pub record Extends {S : Type 0} (old new : TableState S) : Type 0 where
+  pub nodes : KeepsNodes old.graph new.graph
+  pub clauses : KeepsClauses old.book.state.live new.book.state.live
+  pub numbers : GivesNumbers old.book.state new.book.state
+  pub more : List ℕ
+  pub retired : new.retired ≡ old.retired ++ more
+
+-- At most four numbers were given for each new node, and so many more.
+abbrev pub AddsAtMost : {S : Type 0} → ℕ → TableState S → TableState S → Type 0
+AddsAtMost justified old new = new.book.state.top + 4 * live_nodes old.graph ≤ old.book.state.top + 4 * live_nodes new.graph + justified
 
 -- a node whose cofactors at this level are these children
 pub record HasChildren (graph : Graph) (level : ℕ) (high low node : Node) : Type 0 where
@@ -44,20 +64,26 @@ pub record IsWanted (graph : Graph) (level : ℕ) (high low : Node) : Type 0 whe
   pub differ : high ≢ low
   pub missing : IsMissing graph level high low
 
--- the new node, and its defining clauses
-abbrev pub new_branch : Graph → State → ℕ → Node → Node → Branch
-new_branch graph state level high low = record { level = level; variable = next_variable graph; high = high; low = low; first = state.top + 1 }
+-- a variable that may become a new node's: it is above the formula's, and in no live clause
+pub record IsFree (graph : Graph) (live : Live) (variable : ℕ) : Type 0 where
+  pub above : levels graph < variable
+  pub unused : IsUnused live variable
 
-abbrev pub node_definitions : Graph → State → ℕ → Node → Node → List Definition
-node_definitions graph state level high low =
-    definitions (pos (next_variable graph)) (pos (variable_at graph level)) (atom_of graph high) (atom_of graph low) (state.top + 1)
+-- the new node of this extension variable, and its defining clauses
+abbrev pub new_branch : State → ℕ → Node → Node → ℕ → Branch
+new_branch state level high low variable = record { level = level; variable = variable; high = high; low = low; first = state.top + 1 }
 
--- The node was made, under a new key, and its definitions stand under the next numbers.
-pub record IsMade {S : Type 0} (old new : TableState S) (level : ℕ) (high low node : Node) : Type 0 where
+abbrev pub node_definitions : Graph → State → ℕ → Node → Node → ℕ → List Definition
+node_definitions graph state level high low variable =
+    definitions (pos variable) (pos (variable_at graph level)) (atom_of graph high) (atom_of graph low) (state.top + 1)
+
+-- The node was made with this free variable, under a new key, and its definitions stand under the next numbers.
+pub record IsMade {S : Type 0} (old new : TableState S) (level : ℕ) (high low : Node) (variable : ℕ) (node : Node) : Type 0 where
+  pub free : IsFree old.graph old.book.state.live variable
   pub key : NodeKey
   pub named : node ≡ Inner key
-  pub joined : IsNew old.graph new.graph key.index (new_branch old.graph old.book.state level high low)
-  pub defined : new.book.state ≡ with_definitions old.book.state (node_definitions old.graph old.book.state level high low)
+  pub joined : IsNew old.graph new.graph key.index (new_branch old.book.state level high low variable)
+  pub defined : new.book.state ≡ with_definitions old.book.state (node_definitions old.graph old.book.state level high low variable)
 
 -- nothing changed but for the room that is reserved
 abbrev pub IsSame : {S : Type 0} → TableState S → TableState S → Type 0

@@ -1,12 +1,12 @@
 -- What nodes and live clauses have to do with each other. (Bryant, Heule: Generating Extended Resolution Proofs with a
 -- BDD-Based SAT Solver, 2021, section 4.)
-use Rattle.std.specs.Prelude.{◌≡◌, ◌⊎◌, ℕ, ◌<◌, ◌≤◌, ℤ, nat_abs, List, Some, IsTrue, is_some}
+use Rattle.std.specs.Prelude.{◌≡◌, ◌⊎◌, ℕ, ◌<◌, ◌≤◌, ℤ, nat_abs, List, Some, Contains, IsTrue, IsFalse, is_some, length, slice_index_or}
 use Rattle.std.specs.List.{list_any}
 use Rattle.std.specs.Ordering.{int_eq}
 use Rattle.lrat_rules.specs.State.{State, Live, clause_at}
 use Rattle.node_table.specs.declared.node.Branch.{Branch}
 use Rattle.node_table.specs.Diagram.{Graph, IsReduced, IsOrder, KeepsNodes, branch_at, levels}
-use Rattle.node_table.specs.Defined.{IsDefined}
+use Rattle.node_table.specs.Defined.{IsDefined, defs_of, is_defined_by}
 
 -- an extension variable is that of a node
 pub record IsOwned (graph : Graph) (variable : ℕ) : Type 0 where
@@ -38,13 +38,8 @@ pub record GivesNumbers (old new : State) : Type 0 where
   pub next : (id : ℕ) → IsTrue (is_some (clause_at new.live id)) → IsTrue (is_some (clause_at old.live id)) ⊎ (old.top < id)
   pub each : (id : ℕ) → old.top < id → id ≤ new.top → IsTrue (is_some (clause_at new.live id))
 
--- Nodes and live clauses stay as they are.
-pub record Stays (old_graph new_graph : Graph) (old new : State) : Type 0 where
-  pub nodes : KeepsNodes old_graph new_graph
-  pub clauses : KeepsClauses old.live new.live
-
--- Nodes and live clauses stay, and new clauses come under the next numbers.
-pub record Extends (old_graph new_graph : Graph) (old new : State) : Type 0 where
-  pub nodes : KeepsNodes old_graph new_graph
-  pub clauses : KeepsClauses old.live new.live
-  pub numbers : GivesNumbers old new
+-- Retired clauses are live, each once, and none of them defines a node.
+pub record AreRetired (graph : Graph) (live : Live) (retired : List ℕ) : Type 0 where
+  pub stand : (id : ℕ) → Contains retired id → IsTrue (is_some (clause_at live id))
+  pub justified : (id key : ℕ) (branch : Branch) → Contains retired id → branch_at graph key ≡ Some branch → IsFalse (is_defined_by (defs_of branch) id)
+  pub once : (first second : ℕ) → first < length retired → second < length retired → slice_index_or retired first 0 ≡ slice_index_or retired second 0 → first ≡ second

@@ -4,7 +4,8 @@
 ghost use Rattle.std.specs.Prelude.{◌≡◌, ◌≤◌, ◌<◌, ◌+◌, ◌++◌, ℤ, List, Some, IsTrue, IsErr, OnOk, IfOk, IfErr, false, is_some, length, take};
 ghost use Rattle.std.specs.Option.{option_to_list};
 ghost use Rattle.cnf_base.specs.ProofText.{given_if};
-ghost use Rattle.lrat_rules.specs.Run.{IsCutProof};
+ghost use Rattle.lrat_rules.specs.State.{State};
+ghost use Rattle.lrat_rules.specs.Derivation.{IsCutProof};
 ghost use Rattle.lrat_rules.specs.Strict.{IsDefinition};
 ghost use Rattle.hint_chain.specs.Atoms.{clause_of};
 ghost use Rattle.clause_ledger.specs.Book.{IsProofOf, IsTorn, OnlyWrites};
@@ -44,7 +45,7 @@ pub fn write_definitions<S: Sink + Drop>(
     ensures out_of_step { IsErr result → ledger.new.in_step ≡ false }
     ensures stays { IsErr result → KeepsClauses ledger.old.state.live ledger.new.state.live }
     ensures cut { (clauses : List (List ℤ)) → IsProofOf clauses S.tells (S.channel ledger.old.sink) ledger.old.state → IsTrue S.tells
-        → IsErr result → IsCutProof clauses (S.channel ledger.new.sink).written }
+        → IsErr result → (before : State) × IsCutProof clauses (S.channel ledger.new.sink).written before ledger.new.state × KeepsClauses before.live ledger.new.state.live }
 
     ensures unfailed { OnOk result ((S.channel ledger.new.sink).faults ≡ (S.channel ledger.old.sink).faults) }
     ensures only_writes { OnlyWrites (S.channel ledger.old.sink) (S.channel ledger.new.sink) }
@@ -103,7 +104,7 @@ fn write_one<S: Sink + Drop>(
     ensures out_of_step { IsErr result → ledger.new.in_step ≡ false }
     ensures fault_state { IsErr result → ledger.new.state ≡ with_some ledger.old.state (clause_of atoms.now) }
     ensures cut { (clauses : List (List ℤ)) → IsProofOf clauses S.tells (S.channel ledger.old.sink) ledger.old.state → IsTrue S.tells
-        → IsErr result → IsCutProof clauses (S.channel ledger.new.sink).written }
+        → IsErr result → IsCutProof clauses (S.channel ledger.new.sink).written ledger.old.state ledger.new.state }
 
     ensures unfailed { OnOk result ((S.channel ledger.new.sink).faults ≡ (S.channel ledger.old.sink).faults) }
     ensures only_writes { OnlyWrites (S.channel ledger.old.sink) (S.channel ledger.new.sink) }

@@ -5,9 +5,9 @@ ghost use Rattle.std.specs.Option.{option_copied};
 ghost use Rattle.std.specs.FinMap as map;
 ghost use Rattle.cnf_base.specs.Truth.{assignment_of};
 ghost use Rattle.cnf_base.specs.ProofText.{max_id};
-ghost use Rattle.node_table.specs.Diagram.{Graph, IsOrder, IsReduced, IsBelow, FitsIn, IsNew, next_variable, branch_at, branch_of, is_node, levels, variable_at, with_branch};
+ghost use Rattle.node_table.specs.Diagram.{Graph, IsOrder, IsReduced, IsBelow, FitsIn, IsNew, branch_at, branch_of, is_node, levels, variable_at, with_branch};
 ghost use Rattle.node_table.specs.Value.{value_of, by_level, IsChosen};
-ghost use Rattle.node_table.specs.Stored.{graph_of, ArePlaces};
+ghost use Rattle.node_table.specs.Stored.{graph_of, ArePlaces, next_variable};
 ghost use Rattle.node_table.specs.Defined.{atom_of, atom_in};
 ghost use Rattle.node_table.specs.declared.node.Branch.{Branch as BranchValue};
 
@@ -55,8 +55,8 @@ impl Diagram {
         })
     }
 
-    /// Its nodes are reduced and ordered.
-    pub fn is_reduced(&self)
+    /// For the prover alone: its nodes are reduced and ordered.
+    pub fn diagram_law(&self)
         ensures reduced { IsReduced self.now }
         ensures ordered { IsOrder self.now.order }
         ensures few_levels { levels self.now ≤ 1000000 }

@@ -15,8 +15,8 @@ mod table;
 pub use diagram::Diagram;
 pub use error::TableError;
 pub use laws::{
-    canonical_law, cofactor_law, growth_law, in_use_law, missing_law, opening_law, progress_law,
-    reach_law, subfunction_law,
+    canonical_law, cofactor_law, growth_law, in_use_law, kept_law, missing_law, opening_law,
+    reach_law, steps_law, subfunction_law,
 };
 pub use node::{Branch, Defs, Just, Node, NodeKey};
 pub use table::Table;

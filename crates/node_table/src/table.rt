@@ -5,19 +5,18 @@ ghost use Rattle.std.specs.Option.{option_copied, option_map};
 ghost use Rattle.std.specs.FinMap as map;
 ghost use Rattle.cnf_base.specs.Truth.{assignment_of, AreClausesOf};
 ghost use Rattle.lrat_rules.specs.State.{start};
-ghost use Rattle.lrat_rules.specs.Run.{IsCutProof};
 ghost use Rattle.lrat_rules.specs.Strict.{RefutesStrictly};
-ghost use Rattle.clause_ledger.specs.Book.{IsProofOf, IsTorn, OnlyWrites, next_line, with_next};
+ghost use Rattle.clause_ledger.specs.Book.{IsTorn, next_line, with_next};
 ghost use Rattle.node_table.specs.declared.node.Branch.{Branch as BranchValue};
-ghost use Rattle.node_table.specs.declared.node.Node.{Node as NodeValue};
-ghost use Rattle.node_table.specs.declared.node.Node.TheVariants.{Inner};
 ghost use Rattle.node_table.specs.declared.error.TableError.TheVariants.{NodeLimit, IdLimit, WriteFault};
 ghost use Rattle.node_table.specs.Diagram.{Graph, IsOrder, IsReduced, IsBelow, branch_at, branch_of, is_node, levels, level_of, high_at, low_at, variable_at};
 ghost use Rattle.node_table.specs.Value.{value_of, by_level};
 ghost use Rattle.node_table.specs.Defined.{IsDefined, atom_of, defs_of, definition_count, definition_lines, is_false_node, is_true_node, literal_of_branch};
 ghost use Rattle.cnf_base.specs.ProofText.{given_if, max_id};
-ghost use Rattle.node_table.specs.Tied.{IsTied, IsOverNodes, Extends, Stays};
-ghost use Rattle.node_table.specs.Table.{TableState, HasChildren, IsMissing, IsWanted, IsMade, IsSame, UnlessTorn, live_nodes, node_definitions};
+ghost use Rattle.node_table.specs.Tied.{IsOverNodes};
+ghost use Rattle.node_table.specs.Table.{TableState, IsSound, HasChildren, IsMissing, IsWanted, IsFree, IsMade, IsSame, UnlessTorn, live_nodes, node_definitions};
+ghost use Rattle.node_table.specs.Progress.{Steps, error_of};
+ghost use Rattle.node_table.specs.Made.{inner};
 
 use crate::define::write_definitions;
 use crate::diagram::{Diagram, positive, same_node};
@@ -39,14 +38,14 @@ pub struct Table<S: Sink + Drop> {
 }
 
 impl<S: Sink + Drop> Model for Table<S> {
-    ghost use Rattle.std.specs.Prelude.{◌≤◌};
+    ghost use Rattle.std.specs.Prelude.{◌≤◌, []};
     ghost use Rattle.node_table.specs.Table.{TableState, table_code, live_nodes};
 
     ghost Value = { TableState S };
 
     ghost coded = { table_code S.code };
 
-    ghost view = { λ t. record { graph = t.diagram; book = t.ledger; max_nodes = t.max_nodes } };
+    ghost view = { λ t. record { graph = t.diagram; book = t.ledger; max_nodes = t.max_nodes; retired = [] } };
 
     ghost invariant = { λ t. (t.max_nodes ≤ 100000000) × (live_nodes t.diagram ≤ t.max_nodes) };
 }
@@ -63,7 +62,7 @@ impl<S: Sink + Drop> Table<S> {
         requires order { IsOrder order.now }
         requires few_levels { length order.now ≤ 1000000 }
         requires few_nodes { max_nodes ≤ 100000000 }
-        ensures opened { IfOk result (λ table. table ≡ record { graph = record { order = order.now; nodes = map.empty }; book = ledger; max_nodes = max_nodes }) }
+        ensures opened { IfOk result (λ table. table ≡ record { graph = record { order = order.now; nodes = map.empty }; book = ledger; max_nodes = max_nodes; retired = [] }) }
         ensures refused { IfErr result (λ back. back.0 ≡ ledger) }
     {
         match Diagram::new(alloc, order) {
@@ -76,7 +75,7 @@ impl<S: Sink + Drop> Table<S> {
     pub fn new(ledger: Ledger<S>, diagram: Diagram, max_nodes: u32) -> Self
         requires few { max_nodes ≤ 100000000 }
         requires empty { diagram.nodes ≡ map.empty }
-        ensures { result ≡ record { graph = diagram; book = ledger; max_nodes = max_nodes } }
+        ensures { result ≡ record { graph = diagram; book = ledger; max_nodes = max_nodes; retired = [] } }
     {
         Table {
             diagram,
@@ -85,65 +84,57 @@ impl<S: Sink + Drop> Table<S> {
         }
     }
 
-    /// Its nodes are reduced, over an order of the variables.
-    pub fn is_reduced(&self)
+    /// For the prover alone: its nodes are reduced, over an order of the variables, and no more than are allowed.
+    pub fn table_law(&self)
         ensures reduced { IsReduced self.now.graph }
         ensures ordered { IsOrder self.now.graph.order }
         ensures few_levels { levels self.now.graph ≤ 1000000 }
+        ensures few_nodes { live_nodes self.now.graph ≤ self.now.max_nodes }
     {
-        self.diagram.is_reduced();
+        let _ = self.max_nodes;
+        self.diagram.diagram_law();
     }
 
     /// How many inner nodes are live, at most as many as are allowed.
     pub fn live(&self) -> u32
-        ensures value { result ≡ live_nodes self.now.graph }
-        ensures few { live_nodes self.now.graph ≤ self.now.max_nodes }
+        ensures { result ≡ live_nodes self.now.graph }
     {
-        let _ = self.max_nodes;
         self.diagram.len()
     }
 
     /// The node whose cofactors at this level are these children: the child where they are equal, else the node that
-    /// is there already, or a new one with its defining clauses.
+    /// is there already, or a new one with its defining clauses. A refusal, but for a failed write, changes nothing.
     pub fn node(&mut self, level: u32, high: Node, low: Node) -> Result<Node, TableError>
-        requires in_step { IsTrue self.old.book.in_step }
-        requires tied { IsTied self.old.graph self.old.book.state }
+        requires sound { IsSound self.old }
         requires level { level < levels self.old.graph }
         requires high { IsBelow self.old.graph level high }
         requires low { IsBelow self.old.graph level low }
         ensures children { IfOk result (λ node. HasChildren self.new.graph level high low node) }
-        ensures tied { UnlessTorn result (IsTied self.new.graph self.new.book.state) }
-        ensures extends { UnlessTorn result (Extends self.old.graph self.new.graph self.old.book.state self.new.book.state) }
+        ensures steps { Steps S.tells (S.channel self.old.book.sink) (S.channel self.new.book.sink) self.old self.new 0 (error_of result) }
+        // No other node is new, however the call ends.
+        ensures only { (key : ℕ) (branch : BranchValue) → branch_at self.new.graph key ≡ Some branch
+            → (branch_at self.old.graph key ≡ Some branch) ⊎ HasChildren self.new.graph level high low (inner key) }
+        ensures given { UnlessTorn result ((key : ℕ) (branch : BranchValue) → branch_at self.new.graph key ≡ Some branch
+            → (branch_at self.old.graph key ≡ Some branch) ⊎ (result ≡ Ok (inner key))) }
         // Equal children give the child and a known node itself, and nothing is written.
         ensures equal { high ≡ low → (result ≡ Ok high) × (self.new ≡ self.old) }
         ensures known { (key : ℕ) (branch : BranchValue) → branch_at self.old.graph key ≡ Some branch → branch.level ≡ level → branch.high ≡ high → branch.low ≡ low
-            → (result ≡ Ok (Inner (record { index = key }))) × (self.new ≡ self.old) }
-        ensures made { IsWanted self.old.graph level high low → IfOk result (λ node. IsMade self.old self.new level high low node) }
-        // No other node is new.
-        ensures only { UnlessTorn result ((other : NodeValue) → IsTrue (is_node self.new.graph other) → IsTrue (is_node self.old.graph other) ⊎ (result ≡ Ok other)) }
-        // The limits, tried in this order. A node that is refused changes nothing.
+            → (result ≡ Ok (inner key)) × (self.new ≡ self.old) }
+        // A node that is wanted is made by its definitions.
+        ensures made { IsWanted self.old.graph level high low → IfOk result (λ node. (variable : ℕ) × IsMade self.old self.new level high low variable node
+            × (IsTrue S.tells → (S.channel self.new.book.sink).written
+            ≡ (S.channel self.old.book.sink).written ++ definition_lines self.old.book.state (node_definitions self.old.graph self.old.book.state level high low variable))) }
+        ensures torn { result ≡ Err WriteFault → (variable : ℕ) × IsFree self.old.graph self.old.book.state.live variable
+            × IsTorn S.tells (S.channel self.old.book.sink) (S.channel self.new.book.sink)
+            (definition_lines self.old.book.state (node_definitions self.old.graph self.old.book.state level high low variable)) }
+        // The limits, tried in this order.
         ensures node_limit { (result ≡ Err NodeLimit) ↔ (IsWanted self.old.graph level high low × (self.old.max_nodes ≤ live_nodes self.old.graph)) }
         ensures id_limit { (result ≡ Err IdLimit) ↔ (IsWanted self.old.graph level high low × (live_nodes self.old.graph < self.old.max_nodes)
             × (self.old.book.limit < self.old.book.state.top + definition_count high low)) }
         ensures refused { IfErr result (λ e. e ≢ WriteFault → IsSame self.old self.new) }
-        // The proof.
-        ensures lines { IsTrue S.tells → IsWanted self.old.graph level high low → OnOk result ((S.channel self.new.book.sink).written
-            ≡ (S.channel self.old.book.sink).written ++ definition_lines self.old.book.state (node_definitions self.old.graph self.old.book.state level high low)) }
-        ensures kept { (clauses : List (List ℤ)) → IsProofOf clauses S.tells (S.channel self.old.book.sink) self.old.book.state
-            → UnlessTorn result (IsProofOf clauses S.tells (S.channel self.new.book.sink) self.new.book.state) }
-        ensures write_fault { result ≡ Err WriteFault → IsTorn S.tells (S.channel self.old.book.sink) (S.channel self.new.book.sink)
-            (definition_lines self.old.book.state (node_definitions self.old.graph self.old.book.state level high low)) }
-        ensures cut { (clauses : List (List ℤ)) → IsProofOf clauses S.tells (S.channel self.old.book.sink) self.old.book.state → IsTrue S.tells
-            → result ≡ Err WriteFault → IsCutProof clauses (S.channel self.new.book.sink).written }
-        ensures out_of_step { result ≡ Err WriteFault → self.new.book.in_step ≡ false }
-        ensures stays { result ≡ Err WriteFault → Stays self.old.graph self.new.graph self.old.book.state self.new.book.state }
-        ensures in_step { UnlessTorn result (IsTrue self.new.book.in_step) }
-        ensures limits { (self.new.max_nodes ≡ self.old.max_nodes) × (self.new.book.limit ≡ self.old.book.limit) }
-        ensures unfailed { UnlessTorn result ((S.channel self.new.book.sink).faults ≡ (S.channel self.old.book.sink).faults) }
-        ensures only_writes { OnlyWrites (S.channel self.old.book.sink) (S.channel self.new.book.sink) }
         ensures beside { S.beside self.new.book.sink ≡ S.beside self.old.book.sink }
     {
-        self.diagram.is_reduced();
+        self.diagram.diagram_law();
         if same_node(high, low) {
             return Ok(high);
         }
@@ -153,36 +144,25 @@ impl<S: Sink + Drop> Table<S> {
         self.make(level, high, low)
     }
 
-    /// Adds a clause over the formula's variables and those of live nodes, with a strict refutation as its hints.
+    /// Adds a clause over the formula's variables and those of live nodes, with a strict refutation as its hints. A
+    /// refusal, but for a failed write, changes nothing.
     pub fn justify(&mut self, clause: &[Lit], hints: &[Id]) -> Result<Id, TableError>
-        requires in_step { IsTrue self.old.book.in_step }
-        requires tied { IsTied self.old.graph self.old.book.state }
+        requires sound { IsSound self.old }
         requires strict { RefutesStrictly self.old.book.state.live clause.now hints.now }
         requires over_nodes { IsOverNodes self.old.graph clause.now }
         ensures added { IfOk result (λ id. (id ≡ self.old.book.state.top + 1) × (self.new.book.state ≡ with_next self.old.book.state clause.now)) }
+        ensures steps { Steps S.tells (S.channel self.old.book.sink) (S.channel self.new.book.sink) self.old self.new 1 (error_of result) }
         ensures nodes { self.new.graph ≡ self.old.graph }
-        ensures tied { UnlessTorn result (IsTied self.new.graph self.new.book.state) }
-        ensures extends { UnlessTorn result (Extends self.old.graph self.new.graph self.old.book.state self.new.book.state) }
-        // The number limit comes first; it and want of memory change nothing.
+        ensures retired { self.new.retired ≡ self.old.retired }
+        ensures line { IsTrue S.tells → OnOk result ((S.channel self.new.book.sink).written ≡ (S.channel self.old.book.sink).written ++ next_line self.old.book.state clause.now hints.now) }
+        ensures torn { result ≡ Err WriteFault → IsTorn S.tells (S.channel self.old.book.sink) (S.channel self.new.book.sink)
+            (next_line self.old.book.state clause.now hints.now) }
         ensures id_limit { (result ≡ Err IdLimit) ↔ (self.old.book.limit ≤ self.old.book.state.top) }
         ensures no_node_limit { result ≢ Err NodeLimit }
         ensures refused { IfErr result (λ e. e ≢ WriteFault → IsSame self.old self.new) }
-        // The proof.
-        ensures line { IsTrue S.tells → OnOk result ((S.channel self.new.book.sink).written ≡ (S.channel self.old.book.sink).written ++ next_line self.old.book.state clause.now hints.now) }
-        ensures kept { (clauses : List (List ℤ)) → IsProofOf clauses S.tells (S.channel self.old.book.sink) self.old.book.state
-            → UnlessTorn result (IsProofOf clauses S.tells (S.channel self.new.book.sink) self.new.book.state) }
-        ensures write_fault { result ≡ Err WriteFault → IsTorn S.tells (S.channel self.old.book.sink) (S.channel self.new.book.sink)
-            (next_line self.old.book.state clause.now hints.now) }
-        ensures cut { (clauses : List (List ℤ)) → IsProofOf clauses S.tells (S.channel self.old.book.sink) self.old.book.state → IsTrue S.tells
-            → result ≡ Err WriteFault → IsCutProof clauses (S.channel self.new.book.sink).written }
-        ensures out_of_step { result ≡ Err WriteFault → self.new.book.in_step ≡ false }
-        ensures stays { result ≡ Err WriteFault → Stays self.old.graph self.new.graph self.old.book.state self.new.book.state }
-        ensures in_step { UnlessTorn result (IsTrue self.new.book.in_step) }
-        ensures limits { (self.new.max_nodes ≡ self.old.max_nodes) × (self.new.book.limit ≡ self.old.book.limit) }
-        ensures unfailed { UnlessTorn result ((S.channel self.new.book.sink).faults ≡ (S.channel self.old.book.sink).faults) }
-        ensures only_writes { OnlyWrites (S.channel self.old.book.sink) (S.channel self.new.book.sink) }
         ensures beside { S.beside self.new.book.sink ≡ S.beside self.old.book.sink }
     {
+        self.diagram.diagram_law();
         match self.ledger.add(clause, hints) {
             Ok(id) => Ok(id),
             Err(e) => Err(TableError::from(e)),
@@ -300,30 +280,23 @@ impl<S: Sink + Drop> Table<S> {
 
     // Makes a node that is wanted.
     fn make(&mut self, level: u32, high: Node, low: Node) -> Result<Node, TableError>
-        requires in_step { IsTrue self.old.book.in_step }
-        requires tied { IsTied self.old.graph self.old.book.state }
+        requires sound { IsSound self.old }
         requires level { level < levels self.old.graph }
         requires high { IsBelow self.old.graph level high }
         requires low { IsBelow self.old.graph level low }
         requires wanted { IsWanted self.old.graph level high low }
-        ensures made { IfOk result (λ node. IsMade self.old self.new level high low node) }
+        ensures steps { Steps S.tells (S.channel self.old.book.sink) (S.channel self.new.book.sink) self.old self.new 0 (error_of result) }
+        ensures only { (key : ℕ) (branch : BranchValue) → branch_at self.new.graph key ≡ Some branch
+            → (branch_at self.old.graph key ≡ Some branch) ⊎ HasChildren self.new.graph level high low (inner key) }
+        ensures made { IfOk result (λ node. (variable : ℕ) × IsMade self.old self.new level high low variable node
+            × (IsTrue S.tells → (S.channel self.new.book.sink).written
+            ≡ (S.channel self.old.book.sink).written ++ definition_lines self.old.book.state (node_definitions self.old.graph self.old.book.state level high low variable))) }
+        ensures torn { result ≡ Err WriteFault → (variable : ℕ) × IsFree self.old.graph self.old.book.state.live variable
+            × IsTorn S.tells (S.channel self.old.book.sink) (S.channel self.new.book.sink)
+            (definition_lines self.old.book.state (node_definitions self.old.graph self.old.book.state level high low variable)) }
         ensures node_limit { (result ≡ Err NodeLimit) ↔ (self.old.max_nodes ≤ live_nodes self.old.graph) }
         ensures id_limit { (result ≡ Err IdLimit) ↔ ((live_nodes self.old.graph < self.old.max_nodes) × (self.old.book.limit < self.old.book.state.top + definition_count high low)) }
         ensures refused { IfErr result (λ e. e ≢ WriteFault → IsSame self.old self.new) }
-        ensures lines { IsTrue S.tells → OnOk result ((S.channel self.new.book.sink).written
-            ≡ (S.channel self.old.book.sink).written ++ definition_lines self.old.book.state (node_definitions self.old.graph self.old.book.state level high low)) }
-        ensures kept { (clauses : List (List ℤ)) → IsProofOf clauses S.tells (S.channel self.old.book.sink) self.old.book.state
-            → UnlessTorn result (IsProofOf clauses S.tells (S.channel self.new.book.sink) self.new.book.state) }
-        ensures write_fault { result ≡ Err WriteFault → IsTorn S.tells (S.channel self.old.book.sink) (S.channel self.new.book.sink)
-            (definition_lines self.old.book.state (node_definitions self.old.graph self.old.book.state level high low)) }
-        ensures cut { (clauses : List (List ℤ)) → IsProofOf clauses S.tells (S.channel self.old.book.sink) self.old.book.state → IsTrue S.tells
-            → result ≡ Err WriteFault → IsCutProof clauses (S.channel self.new.book.sink).written }
-        ensures out_of_step { result ≡ Err WriteFault → self.new.book.in_step ≡ false }
-        ensures stays { result ≡ Err WriteFault → Stays self.old.graph self.new.graph self.old.book.state self.new.book.state }
-        ensures in_step { UnlessTorn result (IsTrue self.new.book.in_step) }
-        ensures limits { (self.new.max_nodes ≡ self.old.max_nodes) × (self.new.book.limit ≡ self.old.book.limit) }
-        ensures unfailed { UnlessTorn result ((S.channel self.new.book.sink).faults ≡ (S.channel self.old.book.sink).faults) }
-        ensures only_writes { OnlyWrites (S.channel self.old.book.sink) (S.channel self.new.book.sink) }
         ensures beside { S.beside self.new.book.sink ≡ S.beside self.old.book.sink }
     {
         if self.diagram.len() >= self.max_nodes {
