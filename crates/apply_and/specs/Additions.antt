@@ -5,11 +5,11 @@ use Rattle.node_table.specs.declared.node.Node.{Node}
 use Rattle.node_table.specs.declared.node.Just.{Just}
 use Rattle.node_table.specs.Diagram.{Graph, is_node}
 use Rattle.node_table.specs.Just.{IsJustified}
-use Rattle.apply_and.specs.declared.operands.Operands.{Operands}
-use Rattle.apply_and.specs.declared.parts.Side.{Side}
-use Rattle.apply_and.specs.declared.parts.Side.TheVariants.{High, Low}
-use Rattle.apply_and.specs.Conjunction.{conjunction_atoms}
-use Rattle.apply_and.specs.Sides.{cofactor_at}
+use Rattle.operations.specs.declared.operands.Operands.{Operands}
+use Rattle.operations.specs.declared.parts.Side.{Side}
+use Rattle.operations.specs.declared.parts.Side.TheVariants.{High, Low}
+use Rattle.operations.specs.Results.{conjunction_atoms}
+use Rattle.operations.specs.Sides.{cofactor_at}
 
 -- The result of one side is w's cofactor there, and its clause is justified.
 pub record IsSide (graph : Graph) (live : Live) (o : Operands) (w : Node) (side : Side) (found : Node × Just) : Type 0 where

@@ -1,5 +1,3 @@
-pub mod Operands
 pub mod Conjunction
 pub mod Cache
-pub mod Sides
 pub mod Additions

@@ -6,29 +6,26 @@ ghost use Rattle.std.specs.Prelude.{◌≡◌, ◌≢◌, ◌≤◌, ◌<◌, �
 ghost use Rattle.lrat_rules.specs.State.{clause_at};
 ghost use Rattle.hint_chain.specs.Atoms.{clause_of};
 ghost use Rattle.hint_chain.specs.Additions.{where_true};
-ghost use Rattle.node_table.specs.declared.error.TableError.TheVariants.{NodeLimit, IdLimit, WriteFault};
+ghost use Rattle.node_table.specs.declared.error.TableError.TheVariants.{NodeLimit};
 ghost use Rattle.node_table.specs.Diagram.{is_node, levels, variable_at, high_at, low_at};
-ghost use Rattle.node_table.specs.Tied.{IsTied};
-ghost use Rattle.node_table.specs.Table.{UnlessTorn};
+ghost use Rattle.node_table.specs.Table.{IsSound};
 ghost use Rattle.node_table.specs.declared.node.Just.TheVariants.{Trivial, Clause};
 ghost use Rattle.node_table.specs.Just.{IsJustified};
-ghost use Rattle.node_table.specs.Progress.{Continues, BreaksOff};
-ghost use Rattle.apply_and.specs.Operands.{AreSplit};
-ghost use Rattle.apply_and.specs.Conjunction.{conjunction_atoms};
+ghost use Rattle.node_table.specs.Progress.{Steps, error_of};
+ghost use Rattle.operations.specs.Operands.{AreSplit};
+ghost use Rattle.operations.specs.Results.{conjunction_atoms};
 ghost use Rattle.apply_and.specs.Additions.{AreSides, IsSide};
-ghost use Rattle.apply_and.specs.Cache.{IsNewJust};
-ghost use Rattle.apply_and.specs.declared.parts.Side.TheVariants.{High, Low};
+ghost use Rattle.operations.specs.Entries.{IsNewJust};
+ghost use Rattle.operations.specs.declared.parts.Side.TheVariants.{High, Low};
 
-use crate::operands::Operands;
-use crate::parts::{Side, down_part, just_part, up_part};
-use crate::steps::add;
 use cnf_base::{Id, Lit};
 use hint_chain::{
     Part, ShortClause, and_high, and_low, clause_law, clause_of, closing_law, conjunction_law,
     greedy_law,
 };
 use host_io::Sink;
-use node_table::{Just, Node, Table, TableError, growth_law, progress_law};
+use node_table::{Just, Node, Table, TableError, growth_law, steps_law};
+use operations::{Operands, Side, down_part, just_part, up_part};
 use std::alloc::Global;
 
 /// Justifies that w is the conjunction of the operands, where it is neither of them.
@@ -40,8 +37,7 @@ pub fn justify<S: Sink + Drop>(
     high: &(Node, Just),
     low: &(Node, Just),
 ) -> Result<Just, TableError>
-    requires in_step { IsTrue table.old.book.in_step }
-    requires tied { IsTied table.old.graph table.old.book.state }
+    requires sound { IsSound table.old }
     requires split { AreSplit table.old.graph operands.now }
     requires sides { AreSides table.old.graph table.old.book.state.live operands.now w high.now low.now }
     ensures justified { IfOk result (λ just. IsJustified table.new.book.state.live (conjunction_atoms table.new.graph operands.now.u operands.now.v w) just) }
@@ -50,13 +46,12 @@ pub fn justify<S: Sink + Drop>(
     ensures none_added { result ≡ Ok Trivial → table.new ≡ table.old }
     ensures two_added { (id : ℕ) → result ≡ Ok (Clause id) → (id ≡ table.old.book.state.top + 2) × (table.new.book.state.top ≡ id) }
     ensures nodes { table.new.graph ≡ table.old.graph }
-    ensures continues { UnlessTorn result (Continues S.tells (S.channel table.old.book.sink) (S.channel table.new.book.sink) table.old table.new) }
+    ensures steps { Steps S.tells (S.channel table.old.book.sink) (S.channel table.new.book.sink) table.old table.new 2 (error_of result) }
+    ensures retired { table.new.retired ≡ table.old.retired }
     ensures no_node_limit { result ≢ Err NodeLimit }
-    ensures id_limit { result ≡ Err IdLimit → table.new.book.limit < table.new.book.state.top + 4 }
-    ensures broken { result ≡ Err WriteFault → BreaksOff S.tells (S.channel table.old.book.sink) (S.channel table.new.book.sink) table.old table.new }
     ensures beside { S.beside table.new.book.sink ≡ S.beside table.old.book.sink }
 {
-    progress_law::<S>();
+    steps_law::<S>();
     growth_law();
     clause_law();
     let Some(clause) = conjunction_clause(table, operands, w) else {
@@ -89,18 +84,16 @@ fn add_high<S: Sink + Drop>(
     clause: &[Lit],
     high: &(Node, Just),
 ) -> Result<Part, TableError>
-    requires in_step { IsTrue table.old.book.in_step }
-    requires tied { IsTied table.old.graph table.old.book.state }
+    requires sound { IsSound table.old }
     requires split { AreSplit table.old.graph operands.now }
     requires side { IsSide table.old.graph table.old.book.state.live operands.now w High high.now }
     requires clause { clause_of (conjunction_atoms table.old.graph operands.now.u operands.now.v w) ≡ Some clause.now }
     ensures added { IfOk result (λ part. (part.clause ≡ neg_ℤ (pos (variable_at table.old.graph operands.now.level)) ∷ clause.now) × (clause_at table.new.book.state.live part.id ≡ Some part.clause)) }
     ensures number { IfOk result (λ part. table.new.book.state.top ≡ table.old.book.state.top + 1) }
     ensures nodes { table.new.graph ≡ table.old.graph }
-    ensures continues { UnlessTorn result (Continues S.tells (S.channel table.old.book.sink) (S.channel table.new.book.sink) table.old table.new) }
+    ensures steps { Steps S.tells (S.channel table.old.book.sink) (S.channel table.new.book.sink) table.old table.new 1 (error_of result) }
+    ensures retired { table.new.retired ≡ table.old.retired }
     ensures no_node_limit { result ≢ Err NodeLimit }
-    ensures id_limit { result ≡ Err IdLimit → table.new.book.limit < table.new.book.state.top + 4 }
-    ensures broken { result ≡ Err WriteFault → BreaksOff S.tells (S.channel table.old.book.sink) (S.channel table.new.book.sink) table.old table.new }
     ensures beside { S.beside table.new.book.sink ≡ S.beside table.old.book.sink }
 {
     closing_law();
@@ -116,7 +109,7 @@ fn add_high<S: Sink + Drop>(
         just_part(table, &high.1),
     ];
     let hints = and_high(alloc, long.as_slice(), parts);
-    let id = add(table, long.as_slice(), hints.as_slice())?;
+    let id = table.justify(long.as_slice(), hints.as_slice())?;
     Ok(Part::new(id, long.as_slice()))
 }
 
@@ -130,8 +123,7 @@ fn add_low<S: Sink + Drop>(
     first: Part,
     low: &(Node, Just),
 ) -> Result<Id, TableError>
-    requires in_step { IsTrue table.old.book.in_step }
-    requires tied { IsTied table.old.graph table.old.book.state }
+    requires sound { IsSound table.old }
     requires split { AreSplit table.old.graph operands.now }
     requires side { IsSide table.old.graph table.old.book.state.live operands.now w Low low.now }
     requires clause { clause_of (conjunction_atoms table.old.graph operands.now.u operands.now.v w) ≡ Some clause.now }
@@ -140,10 +132,9 @@ fn add_low<S: Sink + Drop>(
     ensures added { IfOk result (λ id. clause_at table.new.book.state.live id ≡ Some clause.now) }
     ensures number { IfOk result (λ id. (id ≡ table.old.book.state.top + 1) × (table.new.book.state.top ≡ id)) }
     ensures nodes { table.new.graph ≡ table.old.graph }
-    ensures continues { UnlessTorn result (Continues S.tells (S.channel table.old.book.sink) (S.channel table.new.book.sink) table.old table.new) }
+    ensures steps { Steps S.tells (S.channel table.old.book.sink) (S.channel table.new.book.sink) table.old table.new 1 (error_of result) }
+    ensures retired { table.new.retired ≡ table.old.retired }
     ensures no_node_limit { result ≢ Err NodeLimit }
-    ensures id_limit { result ≡ Err IdLimit → table.new.book.limit < table.new.book.state.top + 4 }
-    ensures broken { result ≡ Err WriteFault → BreaksOff S.tells (S.channel table.old.book.sink) (S.channel table.new.book.sink) table.old table.new }
     ensures beside { S.beside table.new.book.sink ≡ S.beside table.old.book.sink }
 {
     closing_law();
@@ -159,7 +150,7 @@ fn add_low<S: Sink + Drop>(
         just_part(table, &low.1),
     ];
     let hints = and_low(alloc, clause, parts);
-    add(table, clause, hints.as_slice())
+    table.justify(clause, hints.as_slice())
 }
 
 // A clause with one literal before it.

@@ -51,7 +51,7 @@ fn place<S: Sink + Drop>(table: &Table<S>, literal: Lit) -> Placed
     ensures literal { literal_at table.now.graph result ≡ literal }
     ensures level { result.level < levels table.now.graph }
 {
-    table.is_reduced();
+    table.table_law();
     let negative = literal.is_negative();
     match table.level(literal.var()) {
         Some(level) => Placed { level, negative },

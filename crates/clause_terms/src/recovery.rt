@@ -38,7 +38,7 @@ fn walk<S: Sink + Drop>(table: &Table<S>, node: Node, values: &mut Vec<bool>)
     ensures least { IsLeast (levels table.now.graph) (λ a. value_of table.now.graph a node) (levels_of table.now.graph values.new.items) }
 {
     cofactor_law();
-    table.is_reduced();
+    table.table_law();
     let mut node = node;
     'down: while let Some((level, high, low)) = table.parts(node) {
         if is_false(low) {

@@ -4,11 +4,11 @@ ghost use Rattle.std.specs.Prelude.{◌≡◌, ◌≢◌, ◌<◌, ◌≤◌, �
 ghost use Rattle.std.specs.List.{list_any};
 ghost use Rattle.std.specs.List.Sorted.{IsNonDecreasingBy};
 ghost use Rattle.node_table.specs.declared.node.Node.TheVariants.{True};
-ghost use Rattle.node_table.specs.declared.error.TableError.TheVariants.{NodeLimit, IdLimit, WriteFault};
+ghost use Rattle.node_table.specs.declared.error.TableError.TheVariants.{NodeLimit};
 ghost use Rattle.node_table.specs.Diagram.{IsBelow, branch_of, levels};
 ghost use Rattle.node_table.specs.Made.{LacksPart, MakesOnly};
-ghost use Rattle.node_table.specs.Table.{HasChildren, UnlessTorn, live_nodes};
-ghost use Rattle.node_table.specs.Progress.{Continues, BreaksOff};
+ghost use Rattle.node_table.specs.Table.{HasChildren, IsSound};
+ghost use Rattle.node_table.specs.Progress.{Steps, error_of};
 ghost use Rattle.node_table.specs.Tied.{IsTied};
 ghost use Rattle.node_table.specs.Value.{Levels, value_of};
 ghost use Rattle.clause_terms.specs.declared.placed.Placed.{Placed as PlacedValue};
@@ -20,7 +20,7 @@ use cnf_base::{Id, Lit, OutOfMemory};
 use hint_chain::{UnitPart, unit_path_law};
 use host_io::Sink;
 use node_table::{
-    Node, Table, TableError, cofactor_law, growth_law, missing_law, progress_law, subfunction_law,
+    Node, Table, TableError, cofactor_law, growth_law, missing_law, steps_law, subfunction_law,
 };
 
 /// The diagram of the literals from this place on, over that of those behind it. A repetition adds nothing.
@@ -31,23 +31,20 @@ pub fn take_literal<S: Sink + Drop>(
     below: Node,
     path: &mut Vec<UnitPart>,
 ) -> Result<Node, TableError>
-    requires in_step { IsTrue table.old.book.in_step }
-    requires tied { IsTied table.old.graph table.old.book.state }
+    requires sound { IsSound table.old }
     requires index { i < length placed.now }
     requires levels { IsTrue (are_of_levels table.old.graph placed.now) }
     requires sorted { IsNonDecreasingBy (λ (p : PlacedValue). p.level) placed.now }
     requires signs { HasNoOpposites placed.now }
     requires diagram { IsDiagramOf table.old.graph table.old.book.state.live (drop (i + 1) placed.now) below (reverse path.old.items) }
     ensures diagram { IfOk result (λ node. IsDiagramOf table.new.graph table.new.book.state.live (drop i placed.now) node (reverse path.new.items)) }
-    ensures made { UnlessTorn result (MakesOnly table.old.graph table.new.graph (placed_function (drop i placed.now))) }
+    ensures made { MakesOnly table.old.graph table.new.graph (placed_function (drop i placed.now)) }
     ensures lacks { result ≡ Err NodeLimit → LacksPart table.new.graph (placed_function (drop i placed.now)) }
-    ensures continues { UnlessTorn result (Continues S.tells (S.channel table.old.book.sink) (S.channel table.new.book.sink) table.old table.new) }
-    ensures node_limit { result ≡ Err NodeLimit → table.new.max_nodes ≤ live_nodes table.new.graph }
-    ensures id_limit { result ≡ Err IdLimit → table.new.book.limit < table.new.book.state.top + 4 }
-    ensures broken { result ≡ Err WriteFault → BreaksOff S.tells (S.channel table.old.book.sink) (S.channel table.new.book.sink) table.old table.new }
+    ensures steps { Steps S.tells (S.channel table.old.book.sink) (S.channel table.new.book.sink) table.old table.new 0 (error_of result) }
+    ensures retired { table.new.retired ≡ table.old.retired }
     ensures beside { S.beside table.new.book.sink ≡ S.beside table.old.book.sink }
 {
-    progress_law::<S>();
+    steps_law::<S>();
     subfunction_law();
     unit_path_law();
     if is_repeated(placed, i) {
@@ -75,21 +72,18 @@ fn add_literal<S: Sink + Drop>(
     below: Node,
     path: &mut Vec<UnitPart>,
 ) -> Result<Node, TableError>
-    requires in_step { IsTrue table.old.book.in_step }
-    requires tied { IsTied table.old.graph table.old.book.state }
+    requires sound { IsSound table.old }
     requires level { placed.now.level < levels table.old.graph }
     requires below { IsBelow table.old.graph placed.now.level below }
     requires not_true { below ≢ True }
     ensures diagram { (more : List PlacedValue) → IsBefore placed.now.level more → IsDiagramOf table.old.graph table.old.book.state.live more below (reverse path.old.items)
         → IfOk result (λ node. IsDiagramOf table.new.graph table.new.book.state.live (placed.now ∷ more) node (reverse path.new.items)) }
     ensures made { (more : List PlacedValue) → ((a : Levels) → value_of table.old.graph a below ≡ list_any (placed_holds a) more)
-        → UnlessTorn result (MakesOnly table.old.graph table.new.graph (placed_function (placed.now ∷ more))) }
+        → MakesOnly table.old.graph table.new.graph (placed_function (placed.now ∷ more)) }
     ensures lacks { (more : List PlacedValue) → ((a : Levels) → value_of table.old.graph a below ≡ list_any (placed_holds a) more)
         → result ≡ Err NodeLimit → LacksPart table.new.graph (placed_function (placed.now ∷ more)) }
-    ensures continues { UnlessTorn result (Continues S.tells (S.channel table.old.book.sink) (S.channel table.new.book.sink) table.old table.new) }
-    ensures node_limit { result ≡ Err NodeLimit → table.new.max_nodes ≤ live_nodes table.new.graph }
-    ensures id_limit { result ≡ Err IdLimit → table.new.book.limit < table.new.book.state.top + 4 }
-    ensures broken { result ≡ Err WriteFault → BreaksOff S.tells (S.channel table.old.book.sink) (S.channel table.new.book.sink) table.old table.new }
+    ensures steps { Steps S.tells (S.channel table.old.book.sink) (S.channel table.new.book.sink) table.old table.new 0 (error_of result) }
+    ensures retired { table.new.retired ≡ table.old.retired }
     ensures beside { S.beside table.new.book.sink ≡ S.beside table.old.book.sink }
 {
     growth_law();
@@ -107,19 +101,16 @@ fn literal_node<S: Sink + Drop>(
     placed: &Placed,
     below: Node,
 ) -> Result<Node, TableError>
-    requires in_step { IsTrue table.old.book.in_step }
-    requires tied { IsTied table.old.graph table.old.book.state }
+    requires sound { IsSound table.old }
     requires level { placed.now.level < levels table.old.graph }
     requires below { IsBelow table.old.graph placed.now.level below }
     ensures children { IfOk result (λ node. HasChildren table.new.graph placed.now.level (high_of placed.now below) (low_of placed.now below) node) }
     ensures made { (more : List PlacedValue) → ((a : Levels) → value_of table.old.graph a below ≡ list_any (placed_holds a) more)
-        → UnlessTorn result (MakesOnly table.old.graph table.new.graph (placed_function (placed.now ∷ more))) }
+        → MakesOnly table.old.graph table.new.graph (placed_function (placed.now ∷ more)) }
     ensures lacks { (more : List PlacedValue) → ((a : Levels) → value_of table.old.graph a below ≡ list_any (placed_holds a) more)
         → result ≡ Err NodeLimit → LacksPart table.new.graph (placed_function (placed.now ∷ more)) }
-    ensures continues { UnlessTorn result (Continues S.tells (S.channel table.old.book.sink) (S.channel table.new.book.sink) table.old table.new) }
-    ensures node_limit { result ≡ Err NodeLimit → table.new.max_nodes ≤ live_nodes table.new.graph }
-    ensures id_limit { result ≡ Err IdLimit → table.new.book.limit < table.new.book.state.top + 4 }
-    ensures broken { result ≡ Err WriteFault → BreaksOff S.tells (S.channel table.old.book.sink) (S.channel table.new.book.sink) table.old table.new }
+    ensures steps { Steps S.tells (S.channel table.old.book.sink) (S.channel table.new.book.sink) table.old table.new 0 (error_of result) }
+    ensures retired { table.new.retired ≡ table.old.retired }
     ensures beside { S.beside table.new.book.sink ≡ S.beside table.old.book.sink }
 {
     growth_law();

@@ -5,16 +5,15 @@ ghost use Rattle.std.specs.List.{list_all};
 ghost use Rattle.std.specs.List.Sorted.{IsNonDecreasingBy};
 ghost use Rattle.cnf_base.specs.Truth.{clause_holds, is_literal_of};
 ghost use Rattle.lrat_rules.specs.State.{clause_at};
-ghost use Rattle.node_table.specs.declared.error.TableError.TheVariants.{NodeLimit, IdLimit, OutOfMemory, WriteFault};
+ghost use Rattle.node_table.specs.declared.error.TableError.TheVariants.{NodeLimit, OutOfMemory};
 ghost use Rattle.node_table.specs.declared.node.Node.TheVariants.{True};
 ghost use Rattle.node_table.specs.declared.node.Just.TheVariants.{Trivial, Clause};
 ghost use Rattle.node_table.specs.Defined.{atom_of};
 ghost use Rattle.node_table.specs.Diagram.{levels};
 ghost use Rattle.node_table.specs.Just.{IsJustified};
 ghost use Rattle.node_table.specs.Made.{LacksPart, MakesOnly};
-ghost use Rattle.node_table.specs.Progress.{Continues, BreaksOff};
-ghost use Rattle.node_table.specs.Table.{UnlessTorn, live_nodes};
-ghost use Rattle.node_table.specs.Tied.{IsTied};
+ghost use Rattle.node_table.specs.Progress.{Steps, error_of};
+ghost use Rattle.node_table.specs.Table.{IsSound};
 ghost use Rattle.clause_terms.specs.declared.placed.Placed.{Placed as PlacedValue};
 ghost use Rattle.clause_terms.specs.ClauseDiagram.{IsDiagramOf};
 ghost use Rattle.clause_terms.specs.Placed.{placed_function, are_of_levels, HasNoOpposites};
@@ -27,7 +26,7 @@ use cnf_base::{Id, Lit};
 use hint_chain::{UnitPart, unit_hints, unit_law, unit_path_law};
 use host_io::Sink;
 use lrat_rules::live_law;
-use node_table::{Just, Node, Table, TableError, progress_law, subfunction_law};
+use node_table::{Just, Node, Table, TableError, steps_law, subfunction_law};
 use std::alloc::Global;
 
 /// The term of a clause of the formula, which is live under the number `input`. A clause with both signs of a variable
@@ -38,28 +37,25 @@ pub fn push_clause<S: Sink + Drop>(
     clause: &[Lit],
     input: Id,
 ) -> Result<(Node, Just), TableError>
-    requires in_step { IsTrue table.old.book.in_step }
-    requires tied { IsTied table.old.graph table.old.book.state }
+    requires sound { IsSound table.old }
     requires live { clause_at table.old.book.state.live input ≡ Some clause.now }
     requires variables { IsTrue (list_all (is_literal_of (levels table.old.graph)) clause.now) }
     requires some { clause.now ≢ [] }
     ensures term { IfOk result (λ found. IsTerm table.new.graph table.new.book.state.live (λ a. clause_holds a clause.now) found.0 found.1) }
-    // The unit is the last clause.
+    // The unit is the last clause. However the call ends, each node that was made is of a part of the clause.
     ensures last { IfOk result (λ found. (id : ℕ) → found.1 ≡ Clause id → id ≡ table.new.book.state.top) }
-    ensures made { UnlessTorn result (MakesOnly table.old.graph table.new.graph (clause_function table.old.graph.order clause.now)) }
-    ensures continues { UnlessTorn result (Continues S.tells (S.channel table.old.book.sink) (S.channel table.new.book.sink) table.old table.new) }
+    ensures made { MakesOnly table.old.graph table.new.graph (clause_function table.old.graph.order clause.now) }
+    ensures steps { Steps S.tells (S.channel table.old.book.sink) (S.channel table.new.book.sink) table.old table.new 1 (error_of result) }
+    ensures retired { table.new.retired ≡ table.old.retired }
     ensures tautology { IsTautology clause.now → (table.new ≡ table.old) × IfOk result (λ found. (found.0 ≡ True) × (found.1 ≡ Trivial)) × IfErr result (λ e. e ≡ OutOfMemory) }
-    // The limits, each where it is met, and a failed write. A node of a part of the clause is refused for want of room.
-    ensures node_limit { result ≡ Err NodeLimit → table.new.max_nodes ≤ live_nodes table.new.graph }
+    // Where the nodes are used up, some part of the clause is the function of none.
     ensures lacks { result ≡ Err NodeLimit → LacksPart table.new.graph (clause_function table.old.graph.order clause.now) }
-    ensures id_limit { result ≡ Err IdLimit → table.new.book.limit < table.new.book.state.top + 4 }
-    ensures broken { result ≡ Err WriteFault → BreaksOff S.tells (S.channel table.old.book.sink) (S.channel table.new.book.sink) table.old table.new }
     ensures beside { S.beside table.new.book.sink ≡ S.beside table.old.book.sink }
 {
-    progress_law::<S>();
+    steps_law::<S>();
     subfunction_law();
     unit_path_law();
-    table.is_reduced();
+    table.table_law();
     let placed = in_order(alloc, table, clause)?;
     if has_opposites(placed.as_slice()) {
         return Ok((Node::True, Just::Trivial));
@@ -75,21 +71,18 @@ fn build<S: Sink + Drop>(
     table: &mut Table<S>,
     placed: &[Placed],
 ) -> Result<(Node, Vec<UnitPart>), TableError>
-    requires in_step { IsTrue table.old.book.in_step }
-    requires tied { IsTied table.old.graph table.old.book.state }
+    requires sound { IsSound table.old }
     requires levels { IsTrue (are_of_levels table.old.graph placed.now) }
     requires sorted { IsNonDecreasingBy (λ (p : PlacedValue). p.level) placed.now }
     requires signs { HasNoOpposites placed.now }
     ensures diagram { IfOk result (λ found. IsDiagramOf table.new.graph table.new.book.state.live placed.now found.0 found.1.items) }
-    ensures made { UnlessTorn result (MakesOnly table.old.graph table.new.graph (placed_function placed.now)) }
+    ensures made { MakesOnly table.old.graph table.new.graph (placed_function placed.now) }
     ensures lacks { result ≡ Err NodeLimit → LacksPart table.new.graph (placed_function placed.now) }
-    ensures continues { UnlessTorn result (Continues S.tells (S.channel table.old.book.sink) (S.channel table.new.book.sink) table.old table.new) }
-    ensures node_limit { result ≡ Err NodeLimit → table.new.max_nodes ≤ live_nodes table.new.graph }
-    ensures id_limit { result ≡ Err IdLimit → table.new.book.limit < table.new.book.state.top + 4 }
-    ensures broken { result ≡ Err WriteFault → BreaksOff S.tells (S.channel table.old.book.sink) (S.channel table.new.book.sink) table.old table.new }
+    ensures steps { Steps S.tells (S.channel table.old.book.sink) (S.channel table.new.book.sink) table.old table.new 0 (error_of result) }
+    ensures retired { table.new.retired ≡ table.old.retired }
     ensures beside { S.beside table.new.book.sink ≡ S.beside table.old.book.sink }
 {
-    progress_law::<S>();
+    steps_law::<S>();
     subfunction_law();
     let mut node = Node::False;
     let mut path = Vec::new(alloc);
@@ -110,19 +103,17 @@ fn add_unit<S: Sink + Drop>(
     path: &[UnitPart],
     input: Id,
 ) -> Result<Id, TableError>
-    requires in_step { IsTrue table.old.book.in_step }
-    requires tied { IsTied table.old.graph table.old.book.state }
+    requires sound { IsSound table.old }
     requires path { HasUnitPath table.old.graph table.old.book.state.live node path.now input }
     ensures proved { IfOk result (λ id. IsJustified table.new.book.state.live (atom_of table.new.graph node ∷ []) (Clause id)) }
     ensures one { IfOk result (λ id. (id ≡ table.old.book.state.top + 1) × (id ≡ table.new.book.state.top)) }
     ensures nodes { table.new.graph ≡ table.old.graph }
-    ensures continues { UnlessTorn result (Continues S.tells (S.channel table.old.book.sink) (S.channel table.new.book.sink) table.old table.new) }
+    ensures steps { Steps S.tells (S.channel table.old.book.sink) (S.channel table.new.book.sink) table.old table.new 1 (error_of result) }
+    ensures retired { table.new.retired ≡ table.old.retired }
     ensures no_node_limit { result ≢ Err NodeLimit }
-    ensures id_limit { result ≡ Err IdLimit → table.new.book.limit < table.new.book.state.top + 4 }
-    ensures broken { result ≡ Err WriteFault → BreaksOff S.tells (S.channel table.old.book.sink) (S.channel table.new.book.sink) table.old table.new }
     ensures beside { S.beside table.new.book.sink ≡ S.beside table.old.book.sink }
 {
-    progress_law::<S>();
+    steps_law::<S>();
     unit_law();
     live_law();
     let hints = unit_hints(alloc, path, input)?;

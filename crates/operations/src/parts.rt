@@ -9,7 +9,7 @@ ghost use Rattle.node_table.specs.Diagram.{branch_of, is_node, high_at, low_at};
 ghost use Rattle.node_table.specs.Defined.{atom_of, clause_named, defs_of};
 ghost use Rattle.node_table.specs.Tied.{IsTied};
 ghost use Rattle.node_table.specs.Just.{IsJustified};
-ghost use Rattle.apply_and.specs.Sides.{false_literal, cofactor_at, up_of, down_of};
+ghost use Rattle.operations.specs.Sides.{false_literal, cofactor_at, up_of, down_of};
 
 use cnf_base::Id;
 use hint_chain::{Part, clause_law};

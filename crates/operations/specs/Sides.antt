@@ -3,8 +3,8 @@ use Rattle.std.specs.Prelude.{ℕ, ℤ, neg_ℤ, pos, Option}
 use Rattle.node_table.specs.declared.node.Node.{Node}
 use Rattle.node_table.specs.declared.node.Defs.{Defs}
 use Rattle.node_table.specs.Diagram.{Graph, high_at, low_at, variable_at}
-use Rattle.apply_and.specs.declared.parts.Side.{Side}
-use Rattle.apply_and.specs.declared.parts.Side.TheVariants.{High, Low}
+use Rattle.operations.specs.declared.parts.Side.{Side}
+use Rattle.operations.specs.declared.parts.Side.TheVariants.{High, Low}
 
 -- the literal of a level's variable that is false on this side
 abbrev pub false_literal : Side → Graph → ℕ → ℤ

@@ -1,7 +1,8 @@
-// The operands of a conjunction, split by the earlier of their variables.
+// The two operands of an operation, split by the earlier of their variables. (Bryant: Graph-Based Algorithms for Boolean
+// Function Manipulation, 1986, section 4.3: apply.)
 ghost use Rattle.std.specs.Prelude.{◌≡◌, ◌≢◌, ◌≤◌, IsTrue};
 ghost use Rattle.node_table.specs.Diagram.{IsReduced, is_node};
-ghost use Rattle.apply_and.specs.Operands.{AreSplit, IsInner};
+ghost use Rattle.operations.specs.Operands.{AreSplit, IsInner};
 
 use host_io::Sink;
 use node_table::{Node, Table};

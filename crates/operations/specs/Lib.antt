@@ -1,0 +1,4 @@
+pub mod Operands
+pub mod Sides
+pub mod Results
+pub mod Entries
