@@ -15,8 +15,8 @@ text_of = option_map (λ s. s.now)
 
 -- the command with its values
 abbrev pub command_of : Asked → Command
-command_of (asked.Solve files limits) = Solve files.formula.now files.proof.now limits
-command_of (asked.Check files) = Check files.formula.now files.proof.now
+command_of (asked.Solve files limits) = Solve (record { file = files.formula.now; proof = files.proof.now; limits = limits })
+command_of (asked.Check files) = Check (record { file = files.formula.now; proof = files.proof.now })
 
 -- what a refusal of the parser is, by its kind
 abbrev pub IsRefusalOf : ErrorKind → Refusal → Type 0
