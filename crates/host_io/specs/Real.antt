@@ -1,5 +1,5 @@
--- What a host over the real system tells: what the device of each role is connected to, how many bytes passed there, and
--- counts of faults, and no byte.
+-- What a host over the real system tells: what the device of each role reaches, how many bytes passed there, and counts
+-- of faults, and no byte.
 use Rattle.std.specs.Prelude.{◌≡◌, ℕ, ◌+◌, ◌-◌, ◌^◌, min, List, [], length, Option, None, Some, Result, IsFalse, IsOk, IsErr, IfOk, OnOk, OnErr, IfSome, slice_index_or}
 use Rattle.host_io.specs.declared.source.Failed.{Failed}
 use Rattle.host_io.specs.declared.role.Role.{Role}
@@ -39,9 +39,13 @@ pub record Counted : Type 0 where
   pub device : Connected
   pub faults : ℕ
 
+-- no byte passed yet
+abbrev pub no_traffic : Traffic
+no_traffic = record { taken = 0; written = 0; flushed = 0 }
+
 -- a device that was not opened
 abbrev pub closed : Connected
-closed = record { target = None; traffic = record { taken = 0; written = 0; flushed = 0 } }
+closed = record { target = None; traffic = no_traffic }
 
 -- a role that was not met yet
 abbrev pub unmet : Counted
@@ -67,7 +71,7 @@ wrote n traffic = record traffic { written = more traffic.written n }
 abbrev pub all_flushed : Traffic → Traffic
 all_flushed traffic = record traffic { flushed = traffic.written }
 
--- the channel that tells no byte
+-- The channel that tells no byte. A role's name is that of the file that its device reaches.
 abbrev pub quiet : Counted → Channel
 quiet role = record { name = name_of role.device.target; faults = role.faults; taken = []; left = []; written = []; flushed = 0 }
 
@@ -99,10 +103,11 @@ abbrev pub Reaches : Role → Option Target → Type 0
 Reaches role None = ⊥
 Reaches role (Some target) = MayReach role target
 
--- There is a device for each role, and it reaches nothing that the role may not.
+-- There is a device for each role. It reaches nothing that the role may not, and no byte passed before it reached something.
 pub record IsConnected (roles : List Counted) : Type 0 where
   pub all : length roles ≡ 8
   pub fits : (role : Role) → IfSome (device_of roles role).target (MayReach role)
+  pub idle : (role : Role) → (device_of roles role).target ≡ None → traffic_of roles role ≡ no_traffic
 
 -- A call of one role changes no other's device, name or count.
 abbrev pub OthersCounted : Role → List Counted → List Counted → Type 0

@@ -12,6 +12,7 @@ use std::io::{BufReader, BufWriter, ErrorKind, Read, Stderr, Stdout, Write};
 // The bytes that are read or written at a time.
 const BUFFER: usize = 65536;
 
+// A stream of the system.
 #[derive(Drop)]
 pub(crate) enum Port {
     Closed,
@@ -21,34 +22,54 @@ pub(crate) enum Port {
     Stderr(BufWriter<Stderr>),
 }
 
-// The file of this name, opened.
-pub(crate) fn open(rt: &HostRuntime, name: &str) -> io::Result<Port>
-    ensures { IfOk result (λ port. target_of port ≡ Some (Opened name.now)) }
-{
-    let copy = name.as_bytes().to_vec(rt.alloc())?;
-    let file = File::open(rt, name)?;
-    Ok(Port::Input(copy, BufReader::with_capacity(rt.alloc(), BUFFER, file)?))
+// The handle of the system, which only this file can use.
+#[derive(Drop)]
+pub(crate) struct System {
+    rt: HostRuntime,
 }
 
-// The file of this name, created.
-pub(crate) fn create(rt: &HostRuntime, name: &str) -> io::Result<Port>
-    ensures { IfOk result (λ port. target_of port ≡ Some (Created name.now)) }
-{
-    let copy = name.as_bytes().to_vec(rt.alloc())?;
-    let file = File::create(rt, name)?;
-    Ok(Port::Output(copy, BufWriter::with_capacity(rt.alloc(), BUFFER, file)?))
-}
+impl System {
+    pub(crate) fn new(rt: HostRuntime) -> Self {
+        System { rt }
+    }
 
-pub(crate) fn standard_output(rt: &HostRuntime) -> io::Result<Port>
-    ensures { IfOk result (λ port. target_of port ≡ Some StandardOutput) }
-{
-    Ok(Port::Stdout(BufWriter::with_capacity(rt.alloc(), BUFFER, rt.stdout())?))
-}
+    // The file of this name, opened.
+    pub(crate) fn open(&self, name: &str) -> io::Result<Port>
+        ensures { IfOk result (λ port. target_of port ≡ Some (Opened name.now)) }
+    {
+        let copy = name.as_bytes().to_vec(self.rt.alloc())?;
+        let file = File::open(&self.rt, name)?;
+        Ok(Port::Input(
+            copy,
+            BufReader::with_capacity(self.rt.alloc(), BUFFER, file)?,
+        ))
+    }
 
-pub(crate) fn standard_error(rt: &HostRuntime) -> io::Result<Port>
-    ensures { IfOk result (λ port. target_of port ≡ Some StandardError) }
-{
-    Ok(Port::Stderr(BufWriter::with_capacity(rt.alloc(), BUFFER, rt.stderr())?))
+    // The file of this name, created.
+    pub(crate) fn create(&self, name: &str) -> io::Result<Port>
+        ensures { IfOk result (λ port. target_of port ≡ Some (Created name.now)) }
+    {
+        let copy = name.as_bytes().to_vec(self.rt.alloc())?;
+        let file = File::create(&self.rt, name)?;
+        Ok(Port::Output(
+            copy,
+            BufWriter::with_capacity(self.rt.alloc(), BUFFER, file)?,
+        ))
+    }
+
+    pub(crate) fn standard_output(&self) -> io::Result<Port>
+        ensures { IfOk result (λ port. target_of port ≡ Some StandardOutput) }
+    {
+        let stream = BufWriter::with_capacity(self.rt.alloc(), BUFFER, self.rt.stdout())?;
+        Ok(Port::Stdout(stream))
+    }
+
+    pub(crate) fn standard_error(&self) -> io::Result<Port>
+        ensures { IfOk result (λ port. target_of port ≡ Some StandardError) }
+    {
+        let stream = BufWriter::with_capacity(self.rt.alloc(), BUFFER, self.rt.stderr())?;
+        Ok(Port::Stderr(stream))
+    }
 }
 
 impl Port {

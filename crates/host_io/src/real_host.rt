@@ -3,13 +3,12 @@
 ghost use Rattle.std.specs.Prelude.{◌≡◌, ◌≢◌, false, None, Some, length, IfOk, IfSome, IsOk};
 ghost use Rattle.host_io.specs.declared.role.Role.{Role};
 ghost use Rattle.host_io.specs.Channel.{Reads, Writes, Flushes, Counts};
-ghost use Rattle.host_io.specs.Files.{IsInput, IsCreated, IsWritable, Kept, Opens};
-ghost use Rattle.host_io.specs.Real.{quiet_channel, quiet_files, device_of, Opened, Created, MayReach, OthersCounted, Connects, Moves, FlushesDevice, name_of, took, wrote, traffic_of};
+ghost use Rattle.host_io.specs.Files.{IsInput, IsCreated, IsNamedFirst, IsWritable, IsIdle, Kept, Opens};
+ghost use Rattle.host_io.specs.Real.{unmet, counted_of, quiet_channel, quiet_files, device_of, no_traffic, Opened, Created, MayReach, OthersCounted, Connects, Moves, FlushesDevice, name_of, took, wrote, traffic_of};
 ghost use Rattle.host_io.specs.Port.{target_of};
 
 use crate::host::Host;
-use crate::port;
-use crate::port::Port;
+use crate::port::{Port, System};
 use crate::real_role::RealRole;
 use crate::role::{Role, place};
 use crate::source::Failed;
@@ -20,7 +19,7 @@ use std::marker::Model;
 /// written reaches the system when the buffer is full, or at a flush.
 #[derive(Drop)]
 pub struct RealHost {
-    rt: HostRuntime,
+    system: System,
     roles: [RealRole; 8],
 }
 
@@ -36,13 +35,14 @@ impl Model for RealHost {
 }
 
 impl RealHost {
-    /// No role has a name, and no fault was met.
+    /// No role has a name, no fault was met, and no byte passed.
     pub fn new(rt: HostRuntime) -> Self
         ensures unnamed { (role : Role) → (quiet_channel result role).name ≡ None }
         ensures faults { (role : Role) → (quiet_channel result role).faults ≡ 0 }
+        ensures unmet { (role : Role) → counted_of result role ≡ unmet }
     {
         RealHost {
-            rt,
+            system: System::new(rt),
             roles: [
                 RealRole::new(),
                 RealRole::new(),
@@ -66,7 +66,7 @@ impl RealHost {
         if !self.roles[place(role)].is_closed() {
             return Ok(());
         }
-        match standard(&self.rt, role) {
+        match standard(&self.system, role) {
             Ok(port) => {
                 self.roles[place(role)].connect(port);
                 Ok(())
@@ -77,13 +77,13 @@ impl RealHost {
 }
 
 // The port of a role that needs no name.
-fn standard(rt: &HostRuntime, role: Role) -> io::Result<Port>
+fn standard(system: &System, role: Role) -> io::Result<Port>
     ensures reached { IfOk result (λ port. IfSome (target_of port) (MayReach role)) }
     ensures unnamed { IfOk result (λ port. name_of (target_of port) ≡ None) }
 {
     match role {
-        Role::Out => port::standard_output(rt),
-        Role::Err => port::standard_error(rt),
+        Role::Out => system.standard_output(),
+        Role::Err => system.standard_error(),
         _ => Ok(Port::Closed),
     }
 }
@@ -96,7 +96,12 @@ impl Host for RealHost {
     ghost files = { quiet_files };
 
     #[inline(always)]
-    fn unnamed_law(&self) {}
+    fn unnamed_law(&self)
+        ensures idle { (role : Role) → IsNamedFirst role → (quiet_channel self.now role).name ≡ None → IsIdle (quiet_channel self.now role) }
+        ensures no_traffic { (role : Role) → (device_of self.now role).target ≡ None → traffic_of self.now role ≡ no_traffic }
+    {
+        let _ = &self.roles;
+    }
 
     fn open_read(&mut self, role: Role, name: &str) -> Result<(), Failed>
         requires input { IsInput role }
@@ -105,7 +110,7 @@ impl Host for RealHost {
         ensures kept { Kept role None (quiet_channel self.old) (quiet_channel self.new) (quiet_files self.old) (quiet_files self.new) }
         ensures connects { Connects role (Opened name.now) self.old self.new result }
     {
-        match port::open(&self.rt, name) {
+        match self.system.open(name) {
             Ok(port) => {
                 self.roles[place(role)].connect(port);
                 Ok(())
@@ -121,7 +126,7 @@ impl Host for RealHost {
         ensures kept { Kept role (quiet_channel self.new role).name (quiet_channel self.old) (quiet_channel self.new) (quiet_files self.old) (quiet_files self.new) }
         ensures connects { Connects role (Created name.now) self.old self.new result }
     {
-        match port::create(&self.rt, name) {
+        match self.system.create(name) {
             Ok(port) => {
                 self.roles[place(role)].connect(port);
                 Ok(())
