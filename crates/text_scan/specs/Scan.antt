@@ -44,6 +44,12 @@ is_faulted Ended = false
 is_faulted Overlong = false
 is_faulted Faulted = true
 
+abbrev pub is_overlong : Status → Bool
+is_overlong Reading = false
+is_overlong Ended = false
+is_overlong Overlong = true
+is_overlong Faulted = false
+
 -- how many more tokens can be given at most, so that a loop over them ends whatever the source does
 abbrev pub fuel_in : Status → ℕ → ℕ
 fuel_in Reading room = room + 1
@@ -70,11 +76,12 @@ GivesSoFar (Ok None) old new bytes = ⊤
 GivesSoFar (Err TooLong) old new bytes = ⊤
 GivesSoFar (Err ReadFault) old new bytes = so_far old bytes ≡ too_long new.lex.line
 
--- A token was given: its line is answered, fewer can come, and no read failed.
+-- A token was given: its line is answered, fewer can come, no read failed, and the text isn't too long so far.
 pub record GaveWord (word : Word) (old new : Scan) : Type 0 where
   pub line : new.line ≡ word.line
   pub less : fuel new < fuel old
   pub sound : is_faulted new.status ≡ false
+  pub fits : is_overlong new.status ≡ false
 
 -- What a call makes of the scanner, whatever the source does: after the end or an error it has stopped.
 abbrev pub Moves : Result (Option Word) ScanError → Scan → Scan → Type 0
