@@ -35,11 +35,11 @@ HasHeader (next_word word items) vars count after = (is_word (codes "p") word.by
 -- What the header, or its rest, is: good, with these numbers, so that the body begins; or the text is refused in it,
 -- or ends by 'too long'. It takes no memory.
 abbrev pub Begins : Result BodyState CnfError → CnfText → (ℕ → ℕ → Type 0) → Type 0
-Begins (Ok state) text IsGood = IsGood state.draft.vars state.count × (state.draft ≡ no_clauses state.draft.vars)
-Begins (Err (Refused kind line)) text IsGood = text ≡ refusal kind line
-Begins (Err TooLong) text IsGood = text ≡ overlong
-Begins (Err ReadFault) text IsGood = ⊤
-Begins (Err OutOfMemory) text IsGood = ⊥
+Begins (Ok state) text Good = Good state.draft.vars state.count × (state.draft ≡ no_clauses state.draft.vars)
+Begins (Err (Refused kind line)) text Good = text ≡ refusal kind line
+Begins (Err TooLong) text Good = text ≡ overlong
+Begins (Err ReadFault) text Good = ⊤
+Begins (Err OutOfMemory) text Good = ⊥
 
 -- What these bytes, which were taken, decide of a text as its front: it is what its body is. Where a read failed, they
 -- decide nothing yet.
