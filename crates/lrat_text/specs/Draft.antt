@@ -1,6 +1,6 @@
 -- A line as it is read: which kind of step it is, its first number, and the numbers behind, nothing where a token is
 -- none.
-use Rattle.std.specs.Prelude.{ℕ, Bool, true, false, ℤ, List, [], ◌∷◌, ◌++◌, Option, None, Some, nat_lt, ◌==◌, if◌then◌else◌}
+use Rattle.std.specs.Prelude.{ℕ, Bool, true, false, ℤ, List, [], ◌∷◌, ◌++◌, Option, None, Some, is_some, nat_lt, ◌==◌, if◌then◌else◌}
 use Rattle.std.specs.Option.{option_map, option_and_then}
 use Rattle.cnf_base.specs.declared.step.Step.{Step}
 use Rattle.cnf_base.specs.Number.{plain_number}
@@ -44,6 +44,10 @@ draft_with_in Deletes draft word = draft_as draft Deletes (with_given draft.numb
 
 abbrev pub draft_with : DraftLine → Word → DraftLine
 draft_with draft word = draft_with_in draft.kind draft word
+
+-- all of its tokens so far are numbers
+abbrev pub has_numbers : DraftLine → Bool
+has_numbers draft = is_some draft.numbers
 
 -- the step that the line spells, if it spells one
 abbrev pub judged_in : Kind → ℕ → List ℤ → Option Step

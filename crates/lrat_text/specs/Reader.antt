@@ -1,5 +1,5 @@
 -- A reader of steps as its callers see it, and what a call gives.
-use Rattle.std.specs.Prelude.{◌≡◌, ℕ, ◌+◌, ◌<◌, Bool, true, false, List, Option, None, Some, Result, Ok, Err, ⊤, ◌&&◌, nat_lt, if◌then◌else◌}
+use Rattle.std.specs.Prelude.{◌≡◌, ℕ, ◌+◌, ◌<◌, Bool, true, false, List, Option, None, Some, is_some, Result, Ok, Err, IsTrue, ⊤, ◌&&◌, nat_lt, if◌then◌else◌}
 use Rattle.cnf_base.specs.declared.step.Step.{Step}
 use Rattle.text_scan.specs.Scan.{Scan, ahead, fuel as scan_fuel}
 use Rattle.lrat_text.specs.declared.error.StepError.{StepError}
@@ -77,13 +77,13 @@ last_answer (Failed error) = Err error
 abbrev pub is_under : Reader → Bool
 is_under reader = is_open reader.draft && nat_lt reader.draft.line reader.scan.line
 
--- the line that is begun was judged
+-- the line that is begun was judged; memory is wanted only where it spells a step
 abbrev pub Judges : Result Step StepError → Reader → Reader → Type 0
 Judges (Ok step) old new = (judged old.draft ≡ Some step) × (new ≡ record old { line = old.draft.line })
 Judges (Err (Syntax at)) old new = (judged old.draft ≡ None) × (at ≡ old.draft.line) × (new ≡ record old { status = Failed (Syntax at) })
 Judges (Err TooLong) old new = ⊥
 Judges (Err ReadFault) old new = ⊥
-Judges (Err OutOfMemory) old new = new ≡ record old { status = Failed OutOfMemory }
+Judges (Err OutOfMemory) old new = IsTrue (is_some (judged old.draft)) × (new ≡ record old { status = Failed OutOfMemory })
 
 -- it was judged and is given, and this line is begun now
 abbrev pub Settles : Result (Option (Step × ℕ)) StepError → DraftLine → Reader → Reader → Type 0
@@ -92,4 +92,4 @@ Settles (Ok None) next old new = ⊥
 Settles (Err (Syntax at)) next old new = (judged old.draft ≡ None) × (at ≡ old.draft.line) × (new ≡ record old { status = Failed (Syntax at) })
 Settles (Err TooLong) next old new = ⊥
 Settles (Err ReadFault) next old new = ⊥
-Settles (Err OutOfMemory) next old new = new ≡ record old { status = Failed OutOfMemory }
+Settles (Err OutOfMemory) next old new = IsTrue (is_some (judged old.draft)) × (new ≡ record old { status = Failed OutOfMemory })
