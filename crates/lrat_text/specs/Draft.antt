@@ -1,5 +1,5 @@
--- A line as it is read: which kind of step it is, its first number, and the numbers behind, nothing where a token is
--- none.
+-- A line as it is read: which kind of step it is, its first number, and the numbers behind, nothing where a token or
+-- the first one is none.
 use Rattle.std.specs.Prelude.{ℕ, Bool, true, false, ℤ, List, [], ◌∷◌, ◌++◌, Option, None, Some, is_some, nat_lt, ◌==◌, if◌then◌else◌}
 use Rattle.std.specs.Option.{option_map, option_and_then}
 use Rattle.cnf_base.specs.declared.step.Step.{Step}
@@ -22,8 +22,16 @@ pub record DraftLine : Type 0 where
 abbrev pub no_draft : DraftLine
 no_draft = record { line = 0; kind = Empty; id = None; numbers = Some [] }
 
+-- these numbers behind a first token, where that is a number
+abbrev pub behind : Option ℕ → Option (List ℤ) → Option (List ℤ)
+behind None numbers = None
+behind (Some id) numbers = numbers
+
+abbrev pub draft_from : ℕ → Option ℕ → DraftLine
+draft_from line id = record { line = line; kind = Begun; id = id; numbers = behind id (Some []) }
+
 abbrev pub draft_of_word : Word → DraftLine
-draft_of_word word = record { line = word.line; kind = Begun; id = option_map capped (plain_number word.bytes); numbers = Some [] }
+draft_of_word word = draft_from word.line (option_map capped (plain_number word.bytes))
 
 -- one more number behind
 abbrev pub with_given : Option (List ℤ) → Option ℤ → Option (List ℤ)

@@ -26,7 +26,7 @@ pub struct Draft {
     line: u64,
     kind: Kind,
     id: Option<u64>,
-    // whether a token behind the first is no number
+    // whether a token is no number
     broken: bool,
     numbers: Vec<i64>,
 }
@@ -92,7 +92,7 @@ impl Draft {
         self.line = token.line();
         self.kind = Kind::Begun;
         self.id = plain_number(token);
-        self.broken = false;
+        self.broken = self.id.is_none();
         self.numbers.clear();
     }
 

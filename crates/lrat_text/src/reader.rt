@@ -5,7 +5,7 @@ ghost use Rattle.text_scan.specs.Decides.{Decides, OnlyReads};
 ghost use Rattle.lrat_text.specs.declared.error.StepError.TheVariants.{ReadFault, TooLong, OutOfMemory};
 ghost use Rattle.lrat_text.specs.declared.reader.Status.TheVariants.{Reading, Ended, Failed};
 ghost use Rattle.lrat_text.specs.Steps.{steps};
-ghost use Rattle.lrat_text.specs.Draft.{no_draft, draft_of_word, is_open, with_token};
+ghost use Rattle.lrat_text.specs.Draft.{no_draft, draft_of_word, has_numbers, is_open, with_token};
 ghost use Rattle.lrat_text.specs.Reader.{Gives, Moves, steps_ahead, is_reading, last_answer, is_under, Judges, Settles};
 
 use crate::draft::Draft;
@@ -82,6 +82,8 @@ impl StepReader {
             Rose (S.channel source.old).faults (S.channel source.new).faults }
         // No failed read is told as anything else.
         ensures unfailed { result ≢ Err ReadFault → (S.channel source.new).faults ≡ (S.channel source.old).faults }
+        // Memory is wanted only for a line whose tokens so far are numbers.
+        ensures memory { result ≡ Err OutOfMemory → is_reading self.old.status ≡ true → IsTrue (has_numbers self.new.draft) }
         // Once it has stopped, nothing changes.
         ensures stopped_answer { is_reading self.old.status ≡ false → result ≡ last_answer self.old.status }
         ensures stopped_reader { is_reading self.old.status ≡ false → self.new ≡ self.old }
@@ -104,6 +106,7 @@ impl StepReader {
         ensures moves { Moves result self.old self.new }
         ensures fault { result ≡ Err ReadFault → Rose (S.channel source.old).faults (S.channel source.new).faults }
         ensures unfailed { result ≢ Err ReadFault → (S.channel source.new).faults ≡ (S.channel source.old).faults }
+        ensures memory { result ≡ Err OutOfMemory → IsTrue (has_numbers self.new.draft) }
         ensures reads { OnlyReads (S.channel source.old) (S.channel source.new) }
         ensures beside { S.beside source.new ≡ S.beside source.old }
     {
@@ -131,6 +134,8 @@ impl StepReader {
         ensures ok { OnOk result (self.new ≡ record self.old { draft = with_token self.old.draft token.now }) }
         ensures err { OnErr result (result ≡ Err OutOfMemory) }
         ensures stopped { OnErr result (self.new.status ≡ Failed OutOfMemory) }
+        ensures memory { OnErr result (IsTrue (has_numbers (with_token self.old.draft token.now))) }
+        ensures kept { OnErr result (IsTrue (has_numbers self.new.draft)) }
         ensures line { self.new.line ≡ self.old.line }
     {
         if !self.draft.is_open() {
