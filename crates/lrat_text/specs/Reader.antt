@@ -1,12 +1,12 @@
 -- A reader of steps as its callers see it, and what a call gives.
-use Rattle.std.specs.Prelude.{◌≡◌, ℕ, ◌+◌, ◌<◌, Bool, true, false, List, Option, None, Some, is_some, Result, Ok, Err, IsTrue, ⊤, ◌&&◌, nat_lt, if◌then◌else◌}
+use Rattle.std.specs.Prelude.{◌≡◌, ℕ, ◌+◌, ◌<◌, Bool, true, false, List, ◌++◌, Option, None, Some, is_some, Result, Ok, Err, IsTrue, ⊤, ◌&&◌, nat_lt, if◌then◌else◌}
 use Rattle.cnf_base.specs.declared.step.Step.{Step}
-use Rattle.text_scan.specs.Scan.{Scan, ahead, fuel as scan_fuel}
+use Rattle.text_scan.specs.Scan.{Scan, ahead, so_far as scan_so_far, is_reading as is_scanning, fuel as scan_fuel}
 use Rattle.lrat_text.specs.declared.error.StepError.{StepError}
 use Rattle.lrat_text.specs.declared.error.StepError.TheVariants.{Syntax, ReadFault, TooLong, OutOfMemory}
 use Rattle.lrat_text.specs.declared.reader.Status.{Status}
 use Rattle.lrat_text.specs.declared.reader.Status.TheVariants.{Reading, Ended, Failed}
-use Rattle.lrat_text.specs.Steps.{Steps, no_more, overlong, no_step, next_step}
+use Rattle.lrat_text.specs.Steps.{Steps, no_more, overlong, no_step, next_step, broken_off}
 use Rattle.lrat_text.specs.Draft.{DraftLine, is_open, judged, drafted}
 
 -- The scanner, the line that isn't ended, whether it still reads, and the line that it answers.
@@ -27,6 +27,10 @@ steps_in (Failed OutOfMemory) reader more = drafted (ahead reader.scan more) rea
 
 abbrev pub steps_ahead : Reader → List ℕ → Steps
 steps_ahead reader more = steps_in reader.status reader more
+
+-- the steps that the bytes taken decide where these follow them, if all of them are the front of a longer text
+abbrev pub so_far : Reader → List ℕ → Steps
+so_far reader more = drafted (broken_off (scan_so_far reader.scan more)) reader.draft
 
 abbrev pub is_reading : Status → Bool
 is_reading Reading = true
@@ -54,6 +58,17 @@ Gives (Err (Syntax at)) line before after = (before ≡ no_step at) × (after �
 Gives (Err TooLong) line before after = (before ≡ overlong) × (after ≡ overlong)
 Gives (Err ReadFault) line before after = ⊤
 Gives (Err OutOfMemory) line before after = ⊤
+
+-- What the bytes that a call took decide as the front of a longer text: the step is the first, unless the end of the
+-- text ended its line. Where a read failed, they decided none: no line that was ended is left.
+abbrev pub GivesSoFar : Result (Option (Step × ℕ)) StepError → Reader → Reader → List ℕ → Type 0
+GivesSoFar (Ok (Some (step, at))) old new bytes =
+    is_scanning new.scan.status ≡ true → (is_scanning old.scan.status ≡ true) × ((more : List ℕ) → so_far old (bytes ++ more) ≡ next_step step at (so_far new more))
+GivesSoFar (Ok None) old new bytes = ⊤
+GivesSoFar (Err (Syntax at)) old new bytes = ⊤
+GivesSoFar (Err TooLong) old new bytes = ⊤
+GivesSoFar (Err ReadFault) old new bytes = (is_scanning old.scan.status ≡ true) × (so_far old bytes ≡ overlong)
+GivesSoFar (Err OutOfMemory) old new bytes = ⊤
 
 -- A step was given: its line is answered, the reader reads on, and fewer can come.
 pub record GaveStep (at : ℕ) (old new : Reader) : Type 0 where
