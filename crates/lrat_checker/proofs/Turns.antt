@@ -1,5 +1,5 @@
 -- What the reader's next answer says to the verdict on the steps ahead.
-use Rattle.std.proofs.Common.{◌≡◌, ℕ, Bool, true, ◌||◌, List, ◌++◌, Option, None, Some, Ok, Err, refl, sym, ◌∙◌, ap, subst}
+use Rattle.std.proofs.Common.{◌≡◌, ℕ, Bool, true, false, ◌||◌, List, ◌++◌, Option, None, Some, Ok, Err, refl, sym, ◌∙◌, ap, subst}
 use Rattle.std.specs.Prelude.{Result}
 use Rattle.cnf_base.specs.declared.step.Step.{Step}
 use Rattle.lrat_text.specs.declared.error.StepError.{StepError}
@@ -14,7 +14,13 @@ use Rattle.lrat_checker.specs.declared.verdict.Verdict.TheVariants.{Refused}
 use Rattle.lrat_checker.specs.declared.verdict.CheckError.{CheckError}
 use Rattle.lrat_checker.specs.declared.verdict.CheckError.TheVariants.{ReadFault as CheckFault}
 use Rattle.lrat_checker.specs.declared.verdict.Verdict.{Verdict}
+use Rattle.std.specs.Prelude.{IsTrue}
+use Rattle.lrat_checker.specs.Memory.{may_want_memory, steps_may_want_memory}
 use Rattle.lrat_checker.specs.TextVerdict.{end_verdict, error_answer, judged, steps_verdict, Answers}
+
+or_true : (b : Bool) → (b || true) ≡ true
+or_true true = refl
+or_true false = refl
 
 module _ (state : State) (has_empty : Bool) (line : ℕ) (before after : Steps) (answer : Result (Option (Step × ℕ)) StepError) (gives : Gives answer line before after) where
   pub at_end : answer ≡ Ok None → steps_verdict state has_empty before ≡ Some (end_verdict has_empty line)
@@ -70,6 +76,15 @@ good_so_far state has_empty answer old new bytes gives step at next behind e goo
 pub fault_so_far : (answer : Result (Option (Step × ℕ)) StepError) (old new : Reader) (bytes : List ℕ) → GivesSoFar answer old new bytes → answer ≡ Err ReadFault
     → (is_scanning old.scan.status ≡ true) × (so_far old bytes ≡ overlong)
 fault_so_far answer old new bytes gives e = subst (λ r. GivesSoFar r old new bytes) e gives
+
+-- where a later step may want memory, and this one is good, they may together
+pub later_wants : (state : State) (answer : Result (Option (Step × ℕ)) StepError) (line : ℕ) (before after : Steps) → Gives answer line before after
+    → (step : Step) (at : ℕ) (next : State) → answer ≡ Ok (Some (step, at)) → step_fault state step ≡ None → next ≡ after_step state step
+    → IsTrue (steps_may_want_memory next after) → IsTrue (steps_may_want_memory state before)
+later_wants state answer line before after gives step at next e good moved wants =
+    let given : before ≡ next_step step at after = subst (λ r. Gives r line before after) e gives in
+    let later : steps_may_want_memory (after_step state step) after ≡ true = rw (← moved) wants in
+    rw (given, good, later) (or_true (may_want_memory state step))
 
 -- only a failed read is answered as one
 pub read_fault_alone : (error : StepError) → error_answer error ≡ Err CheckFault → error ≡ ReadFault

@@ -4,8 +4,10 @@ use Rattle.cnf_base.specs.declared.list.Group.{Group}
 use Rattle.cnf_base.specs.declared.step.Step.{Step}
 use Rattle.cnf_base.specs.declared.step.Step.TheVariants.{Add, Delete}
 use Rattle.cnf_base.specs.ProofText.{is_empty}
+use Rattle.lrat_text.specs.Steps.{Steps, no_more, overlong, no_step, next_step}
 use Rattle.lrat_rules.specs.State.{State, Live, clause_at}
 use Rattle.lrat_rules.specs.Chain.{FalseSet, literals_of, effect, is_unit, Outcome, Open, Closed, Bad}
+use Rattle.lrat_rules.specs.Run.{step_fault, after_step}
 use Rattle.lrat_rules.specs.Addition.{if_live, holds_negated, has_other, is_blocked_by, with_candidate, group_fault, fault}
 
 -- The first of these hints forces a literal, which is kept. Where it forces none, no later hint is taken.
@@ -46,3 +48,11 @@ abbrev pub may_want_memory : State → Step → Bool
 may_want_memory state (Add id clause hints groups) =
     nat_lt state.top id && (judging_keeps state.live clause hints || is_none (fault state id clause hints groups))
 may_want_memory state (Delete id ids) = false
+
+-- one of these steps may want memory, and those before it are good
+abbrev pub steps_may_want_memory : State → Steps → Bool
+steps_may_want_memory state (no_more line) = false
+steps_may_want_memory state overlong = false
+steps_may_want_memory state (no_step line) = false
+steps_may_want_memory state (next_step step line steps) =
+    may_want_memory state step || (is_none (step_fault state step) && steps_may_want_memory (after_step state step) steps)

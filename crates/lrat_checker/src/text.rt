@@ -5,7 +5,8 @@ ghost use Rattle.text_scan.specs.Decides.{gained, Decides, OnlyReads};
 ghost use Rattle.lrat_text.specs.declared.reader.Status.TheVariants.{Reading};
 ghost use Rattle.lrat_text.specs.Reader.{steps_ahead, so_far};
 ghost use Rattle.lrat_rules.specs.Run.{step_adds_empty};
-ghost use Rattle.lrat_checker.specs.declared.verdict.CheckError.TheVariants.{ReadFault};
+ghost use Rattle.lrat_checker.specs.declared.verdict.CheckError.TheVariants.{ReadFault, OutOfMemory};
+ghost use Rattle.lrat_checker.specs.Memory.{steps_may_want_memory};
 ghost use Rattle.lrat_checker.specs.TextVerdict.{end_verdict, error_answer, steps_verdict, text_verdict, verdict_so_far, Answers};
 
 use crate::judge::Judge;
@@ -49,6 +50,9 @@ fn judge_steps<S: Source>(
     requires { reader.old.status ≡ Reading }
     ensures decides { IsTrue S.tells → Decides (S.channel source.old) (S.channel source.new)
         (λ bytes more. Answers result (steps_verdict judge.old false (steps_ahead reader.old bytes))) }
+    // unless the reader wanted memory, a step did
+    ensures memory { IsTrue S.tells → result ≡ Err OutOfMemory → reader.new.status ≡ Reading →
+        Decides (S.channel source.old) (S.channel source.new) (λ bytes more. IsTrue (steps_may_want_memory judge.old (steps_ahead reader.old bytes))) }
     ensures undecided { IsTrue S.tells → result ≡ Err ReadFault →
         steps_verdict judge.old false (so_far reader.old (gained (S.channel source.old) (S.channel source.new))) ≡ None }
     ensures fault { result ≡ Err ReadFault → Rose (S.channel source.old).faults (S.channel source.new).faults }

@@ -6,7 +6,7 @@ use Rattle.lrat_text.specs.declared.error.StepError.TheVariants.{ReadFault}
 use Rattle.lrat_text.specs.Reader.{GaveStep, is_reading, steps_ahead, so_far}
 use Rattle.lrat_rules.specs.Run.{step_fault, after_step}
 use Rattle.lrat_checker.specs.TextVerdict.{end_verdict, error_answer, steps_verdict, Answers}
-use Rattle.lrat_checker.proofs.Turns.{at_end, at_error, at_good_step, good_so_far, fault_so_far, read_fault_alone}
+use Rattle.lrat_checker.proofs.Turns.{at_end, at_error, at_good_step, good_so_far, fault_so_far, later_wants, read_fault_alone}
 use Rattle.lrat_checker.proofs.text.judge_steps.Goals as goal
 
 pub returns-in-Ok-None-clause-decides : goal.returns-in-Ok-None-clause-decides
@@ -52,6 +52,10 @@ steps-preserved g c =
           (λ bytes middle more before gives. before
           ∙ at_good_step c.steps.judge c.steps.has_empty _ _ _ _ gives c.in-Ok-Some.step c.in-Ok-Some.line c.step.new.self c.or_adds_empty-has_empty.result
           (ap Ok c.in-Ok-Some.field-0-is) is_good moved c.or_adds_empty-has_empty.ensures);
+      memory = λ told.
+          Decides-then _ (c.steps.invariant.memory told) (c.in-Ok-Some.ensures.gives told)
+          (λ bytes middle more before gives wants. before
+          (later_wants c.steps.judge _ _ _ _ gives c.in-Ok-Some.step c.in-Ok-Some.line c.step.new.self (ap Ok c.in-Ok-Some.field-0-is) is_good moved wants));
       so_far = λ told scanning.
           let good = good_so_far c.steps.judge c.steps.has_empty _ c.steps.reader c.next.new.self _ (c.in-Ok-Some.ensures.so_far told (ap is_reading c.steps.invariant.reading))
           c.in-Ok-Some.step c.in-Ok-Some.line c.step.new.self c.or_adds_empty-has_empty.result (ap Ok c.in-Ok-Some.field-0-is) is_good moved c.or_adds_empty-has_empty.ensures scanning in
@@ -75,6 +79,10 @@ steps-preserved-in-None g c =
           (λ bytes middle more before gives. before
           ∙ at_good_step c.steps.judge c.steps.has_empty _ _ _ _ gives c.in-Ok-Some.step c.in-Ok-Some.line c.step.new.self c.or_adds_empty-has_empty.result
           (ap Ok c.in-Ok-Some.field-0-is) is_good moved c.or_adds_empty-has_empty.ensures);
+      memory = λ told.
+          Decides-then _ (c.steps.invariant.memory told) (c.in-Ok-Some.ensures.gives told)
+          (λ bytes middle more before gives wants. before
+          (later_wants c.steps.judge _ _ _ _ gives c.in-Ok-Some.step c.in-Ok-Some.line c.step.new.self (ap Ok c.in-Ok-Some.field-0-is) is_good moved wants));
       so_far = λ told scanning.
           let good = good_so_far c.steps.judge c.steps.has_empty _ c.steps.reader c.next.new.self _ (c.in-Ok-Some.ensures.so_far told (ap is_reading c.steps.invariant.reading))
           c.in-Ok-Some.step c.in-Ok-Some.line c.step.new.self c.or_adds_empty-has_empty.result (ap Ok c.in-Ok-Some.field-0-is) is_good moved c.or_adds_empty-has_empty.ensures scanning in
