@@ -1,9 +1,9 @@
 use Rattle.std.proofs.Common.{◌≡◌, Some, ◌∙◌, ap, arith}
-use Rattle.node_table.specs.Diagram.{Graph, branch_at, next_variable}
-use Rattle.node_table.specs.Stored.{graph_of}
+use Rattle.node_table.specs.Diagram.{Graph, branch_at}
+use Rattle.node_table.specs.Stored.{graph_of, next_variable}
 use Rattle.node_table.proofs.Keyed.{len-keyed}
 use Rattle.node_table.proofs.Pushed.{stored_within}
-use Rattle.node_table.proofs.diagram.Diagram.is_reduced.Goals as goal
+use Rattle.node_table.proofs.diagram.Diagram.diagram_law.Goals as goal
 
 pub returns-clause-next : goal.returns-clause-next
 returns-clause-next c key branch is =
