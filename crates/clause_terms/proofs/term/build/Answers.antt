@@ -1,4 +1,4 @@
-use Rattle.std.proofs.Common.{◌∙◌, Err, ap, ◌-◌, drop, arith}
+use Rattle.std.proofs.Common.{◌∙◌, None, Err, ap, ◌-◌, drop, arith}
 use Rattle.node_table.specs.Value.{IsSubfunction}
 use Rattle.node_table.specs.declared.error.TableError.TheVariants.{NodeLimit}
 use Rattle.clause_terms.specs.Placed.{placed_function}
@@ -34,6 +34,7 @@ literals-preserved g c =
     let old = c.args.table.now in
     let mid = c.literals.table in
     let new = c.take_literal.new.table in
+    let channel = g.S.Sink.channel in
     let part : IsSubfunction (placed_function placed) (placed_function (drop (c.literals.i - 1) placed)) =
     later_part c.subfunction_law.ensures (c.literals.i - 1) placed (omega (arith, c.literals.invariant.within, c.literals-test.true)) c.requires.sorted c.requires.signs in
     record {
@@ -42,7 +43,7 @@ literals-preserved g c =
       made = c.subfunction_law.ensures.made_further old.graph mid.graph new.graph c.literals.invariant.steps.leaves.sound.tied.reduced c.in_ok-node.ensures.steps.extends.nodes
           (placed_function placed) c.literals.invariant.made
           (c.subfunction_law.ensures.made_for_part mid.graph new.graph (placed_function placed) (placed_function (drop (c.literals.i - 1) placed)) part c.in_ok-node.ensures.made);
-      steps = c.steps_law.ensures.further _ _ _ old mid new 0 0 _ c.literals.invariant.steps c.in_ok-node.ensures.steps;
+      steps = c.steps_law.ensures.further (channel old.book.sink) (channel mid.book.sink) (channel new.book.sink) old mid new 0 0 None c.literals.invariant.steps c.in_ok-node.ensures.steps;
       retired = c.in_ok-node.ensures.retired ∙ c.literals.invariant.retired;
       beside = c.in_ok-node.ensures.beside ∙ c.literals.invariant.beside;
     }
