@@ -9,6 +9,7 @@ use Rattle.node_table.specs.declared.node.Node.TheVariants.{True, Inner}
 use Rattle.node_table.specs.declared.node.Branch.{Branch}
 use Rattle.node_table.specs.Diagram.{Graph, IsOrder, IsReduced, KeepsNodes, branch_at, branch_of, is_node, levels, variable_at}
 use Rattle.node_table.specs.Defined.{IsDefined}
+use Rattle.node_table.specs.Laws.{Cofactors, Growth}
 use Rattle.node_table.specs.Tied.{KeepsClauses}
 use Rattle.node_table.specs.Table.{HasChildren}
 use Rattle.clause_terms.specs.declared.placed.Placed.{Placed}
@@ -17,7 +18,7 @@ use Rattle.clause_terms.specs.ClauseDiagram.{IsBefore, IsTopNode, IsDiagramOf, h
 use Rattle.clause_terms.proofs.Inner.{inner_of}
 use Rattle.clause_terms.proofs.Links.{positive_literal, positive_next, positive_last, negative_literal, negative_next, negative_last}
 use Rattle.clause_terms.proofs.TopStep.{LastLaw, OnTopLaw, KeptLaw, IsPartOf, top_step}
-use Rattle.clause_terms.proofs.StepValue.{CofactorLaw, GrowthLaw, value_step}
+use Rattle.clause_terms.proofs.StepValue.{value_step}
 
 children_differ : (negative : Bool) (below : Node) → below ≢ True → (if negative then below else True) ≢ (if negative then True else below)
 children_differ true below not_true = not_true
@@ -49,12 +50,12 @@ part_is new more b defined positive below true is_high is_low = record {
   next = λ key branch e at. negative_next more new b defined positive key branch (is_high ∙ e) at;
 }
 
-pub added : LastLaw → OnTopLaw → KeptLaw → CofactorLaw → GrowthLaw → (old new : Graph) (live more : Live) → IsReduced old → IsReduced new → IsOrder new.order
+pub added : LastLaw → OnTopLaw → KeptLaw → Cofactors → Growth → (old new : Graph) (live more : Live) → IsReduced old → IsReduced new → IsOrder new.order
     → KeepsNodes old new → KeepsClauses live more → ((key : ℕ) (branch : Branch) → branch_at new key ≡ Some branch → IsDefined more new branch)
     → (p : Placed) (placed : List Placed) → IsBefore p.level placed → (below node : Node) (path : List UnitPart) → p.level < levels old
     → IsTrue (is_node old below) → below ≢ True → IsDiagramOf old live placed below path → HasChildren new p.level (high_of p below) (low_of p below) node
     → IsDiagramOf new more (p ∷ placed) node (part_of new p (branch_of new node) ∷ path)
-added last on_top kept cofactor growth old new live more old_reduced reduced ordered keeps clauses defined p placed before below node path level below_stands not_true diagram has =
+added last on_top kept cofactors growth old new live more old_reduced reduced ordered keeps clauses defined p placed before below node path level below_stands not_true diagram has =
     let inner = inner_of new p.level (high_of p below) (low_of p below) node (children_differ p.negative below not_true) has in
     let b = inner.branch in
     let small : p.level < levels new = subst (λ (order : List ℕ). p.level < length order) (sym keeps.order) level in
@@ -67,10 +68,10 @@ added last on_top kept cofactor growth old new live more old_reduced reduced ord
     placed path before diagram.top in
     let found : branch_of new node ≡ Some b = ap (branch_of new) inner.named ∙ inner.stands in
     record {
-      value = value_step cofactor growth old new old_reduced reduced keeps p placed below node below_stands diagram.value has;
+      value = value_step cofactors growth old new old_reduced reduced keeps p placed below node below_stands diagram.value has;
       top = subst (λ n. IsTopNode new more p.level (map (literal_at new) (p ∷ placed)) n (part_of new p (branch_of new node) ∷ path)) (sym inner.named)
           (subst (λ o. IsTopNode new more p.level (map (literal_at new) (p ∷ placed)) (Inner inner.key) (part_of new p o ∷ path)) (sym found) top);
     }
 
-pub reverse_more : {X : Type 0} (xs : List X) (x : X) → reverse (xs ++ x ∷ []) ≡ x ∷ reverse xs
-reverse_more xs x = reverse-append xs (x ∷ [])
+pub reverse_more : {X : Type 0} (old new : List X) (x y : X) → new ≡ old ++ x ∷ [] → x ≡ y → reverse new ≡ y ∷ reverse old
+reverse_more old new x y more same = ap reverse more ∙ reverse-append old (x ∷ []) ∙ ap (λ first. first ∷ reverse old) same

@@ -5,17 +5,12 @@ use Rattle.std.specs.Prelude.{nat_lt, if◌then◌else◌}
 use Rattle.std.specs.List.{list_any}
 use Rattle.std.specs.List.Sorted.{IsNonDecreasingBy}
 use Rattle.std.proofs.lemmas.Bool.{cases_lt, lt-ltb, le-ltb, cond-true, cond-false}
+use Rattle.node_table.specs.Laws.{Subfunctions}
 use Rattle.node_table.specs.Value.{Levels, fixed_to, IsSubfunction}
 use Rattle.clause_terms.specs.declared.placed.Placed.{Placed}
 use Rattle.clause_terms.specs.Placed.{placed_holds, placed_function, HasNoOpposites}
 use Rattle.clause_terms.proofs.Ordered.{not_held, later_signs}
 use Rattle.clause_terms.proofs.Taken.{or_again}
-
-abbrev pub SameFunctionLaw : Type 0
-SameFunctionLaw = (f : Levels → Bool) → IsSubfunction f f
-
-abbrev pub FurtherPartLaw : Type 0
-FurtherPartLaw = (f g h : Levels → Bool) → IsSubfunction f g → IsSubfunction g h → IsSubfunction f h
 
 abbrev Sorted : List Placed → Type 0
 Sorted placed = IsNonDecreasingBy (λ (p : Placed). p.level) placed
@@ -34,9 +29,9 @@ agree_from a b level agree q (r ∷ rest) sorted above =
     (λ i. first i || more i)
 
 -- the rest, with the first literal's level fixed so that it is false
-rest_part : SameFunctionLaw → (p q : Placed) (rest : List Placed) → Sorted (p ∷ q ∷ rest) → HasNoOpposites (p ∷ q ∷ rest)
+rest_part : Subfunctions → (p q : Placed) (rest : List Placed) → Sorted (p ∷ q ∷ rest) → HasNoOpposites (p ∷ q ∷ rest)
     → IsSubfunction (placed_function (p ∷ q ∷ rest)) (placed_function (q ∷ rest))
-rest_part same p q rest sorted none =
+rest_part parts p q rest sorted none =
     let up : p.level ≤ q.level = sorted 0 1 p (omega arith) (omega arith) in
     elim (cases_lt p.level q.level) [
       | inl less ↦ record {
@@ -56,15 +51,15 @@ rest_part same p q rest sorted none =
           let alike : (a : Levels) → placed_holds a p ≡ placed_holds a q = λ a i. if negative i then not (a (level i)) else a (level i) in
           subst (λ (g : Levels → Bool). IsSubfunction (placed_function (p ∷ q ∷ rest)) g)
           (λ i a. (ap (λ t. t || list_any (placed_holds a) (q ∷ rest)) (alike a) ∙ sym (or_again (placed_holds a q) (list_any (placed_holds a) rest))) i)
-          (same (placed_function (p ∷ q ∷ rest)))
+          (parts.same (placed_function (p ∷ q ∷ rest)))
     ]
 
-pub later_part : SameFunctionLaw → FurtherPartLaw → (i : ℕ) (placed : List Placed) → i < length placed → Sorted placed → HasNoOpposites placed
+pub later_part : Subfunctions → (i : ℕ) (placed : List Placed) → i < length placed → Sorted placed → HasNoOpposites placed
     → IsSubfunction (placed_function placed) (placed_function (drop i placed))
-later_part same further i [] small sorted none = absurd (omega (arith, small))
-later_part same further zero (p ∷ rest) small sorted none = same (placed_function (p ∷ rest))
-later_part same further (suc i) (p ∷ []) small sorted none = absurd (omega (arith, small))
-later_part same further (suc i) (p ∷ q ∷ rest) small sorted none =
-    further (placed_function (p ∷ q ∷ rest)) (placed_function (q ∷ rest)) (placed_function (drop i (q ∷ rest)))
-    (rest_part same p q rest sorted none)
-    (later_part same further i (q ∷ rest) (omega (arith, small)) (later_sorted p (q ∷ rest) sorted) (later_signs p (q ∷ rest) none))
+later_part parts i [] small sorted none = absurd (omega (arith, small))
+later_part parts zero (p ∷ rest) small sorted none = parts.same (placed_function (p ∷ rest))
+later_part parts (suc i) (p ∷ []) small sorted none = absurd (omega (arith, small))
+later_part parts (suc i) (p ∷ q ∷ rest) small sorted none =
+    parts.further (placed_function (p ∷ q ∷ rest)) (placed_function (q ∷ rest)) (placed_function (drop i (q ∷ rest)))
+    (rest_part parts p q rest sorted none)
+    (later_part parts i (q ∷ rest) (omega (arith, small)) (later_sorted p (q ∷ rest) sorted) (later_signs p (q ∷ rest) none))

@@ -6,14 +6,10 @@ use Rattle.node_table.specs.declared.node.Node.{Node}
 use Rattle.node_table.specs.declared.node.Node.TheVariants.{False, True, Inner}
 use Rattle.node_table.specs.declared.node.Branch.{Branch}
 use Rattle.node_table.specs.Diagram.{Graph, IsReduced, IsBelow, branch_at, branch_of, is_node, levels, level_of, level_in, high_at, low_at, child_in}
+use Rattle.node_table.specs.Laws.{Cofactors}
 use Rattle.node_table.specs.Value.{Levels, value_of}
 use Rattle.clause_terms.specs.Recovery.{IsLeast}
 use Rattle.clause_terms.specs.Walk.{IsDown}
-
--- what node_table's laws say of cofactors at a level
-abbrev pub CofactorLaw : Type 0
-CofactorLaw = (graph : Graph) → IsReduced graph → (a : Levels) (level : ℕ) (node : Node) → is_node graph node ≡ true
-    → value_of graph a node ≡ (if a level then value_of graph a (high_at graph level node) else value_of graph a (low_at graph level node))
 
 -- a node that has a branch: its level, its children, and its value by them
 pub record HasBranch (graph : Graph) (node : Node) (b : Branch) : Type 0 where
@@ -27,10 +23,10 @@ pub record HasBranch (graph : Graph) (node : Node) (b : Branch) : Type 0 where
 at_own : (level : ℕ) (x y : Node) → (if level == level then x else y) ≡ x
 at_own level x y = ap (λ t. if t then x else y) (eq-eqb level level refl)
 
-pub has_branch : CofactorLaw → (graph : Graph) → IsReduced graph → (node : Node) → is_node graph node ≡ true → (b : Branch) → branch_of graph node ≡ Some b → HasBranch graph node b
-has_branch law graph reduced False stands b at = absurd (let e : None ≡ Some b = at in cc)
-has_branch law graph reduced True stands b at = absurd (let e : None ≡ Some b = at in cc)
-has_branch law graph reduced (Inner key) stands b at = record {
+pub has_branch : Cofactors → (graph : Graph) → IsReduced graph → (node : Node) → is_node graph node ≡ true → (b : Branch) → branch_of graph node ≡ Some b → HasBranch graph node b
+has_branch cofactors graph reduced False stands b at = absurd (let e : None ≡ Some b = at in cc)
+has_branch cofactors graph reduced True stands b at = absurd (let e : None ≡ Some b = at in cc)
+has_branch cofactors graph reduced (Inner key) stands b at = record {
   here = ap (level_in (levels graph)) at;
   small = reduced.level key.index b at;
   high = reduced.high key.index b at;
@@ -39,7 +35,7 @@ has_branch law graph reduced (Inner key) stands b at = record {
   value = λ a.
       let high : high_at graph b.level (Inner key) ≡ b.high = ap (child_in (λ x. x.high) b.level (Inner key)) at ∙ at_own b.level b.high (Inner key) in
       let low : low_at graph b.level (Inner key) ≡ b.low = ap (child_in (λ x. x.low) b.level (Inner key)) at ∙ at_own b.level b.low (Inner key) in
-      law graph reduced a b.level (Inner key) stands ∙ (λ i. if a b.level then value_of graph a (high i) else value_of graph a (low i));
+      cofactors.value graph reduced a b.level (Inner key) stands ∙ (λ i. if a b.level then value_of graph a (high i) else value_of graph a (low i));
 }
 
 chosen_high : (t x y : Bool) → t ≡ true → (if t then x else y) ≡ x

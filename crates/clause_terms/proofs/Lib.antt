@@ -12,3 +12,4 @@ pub mod ClauseTerm
 pub mod ClauseParts
 pub mod MadeNodes
 pub mod LackedPart
+pub mod Handed

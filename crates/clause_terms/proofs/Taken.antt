@@ -1,18 +1,22 @@
 -- The next literal of a list that is sorted by levels: a repetition adds nothing, any other comes before the rest.
-use Rattle.std.proofs.Common.{◌≡◌, ◌≢◌, ℕ, ◌<◌, ◌+◌, Bool, true, false, ◌||◌, ℤ, pos, List, ◌∷◌, length, map, drop, int_eq, refl, sym, ap, ◌∙◌, subst, arith, inl, inr}
-use Rattle.std.specs.Prelude.{slice_index_or}
+use Rattle.std.proofs.Common.{◌≡◌, ◌≢◌, ℕ, ◌<◌, ◌+◌, Bool, true, false, ◌||◌, ℤ, pos, List, [], ◌∷◌, Option, is_some, length, map, drop, int_eq, refl, sym, ap, ◌∙◌, subst, arith, inl, inr}
+use Rattle.std.specs.Prelude.{nat_lt, slice_index_or}
 use Rattle.std.specs.List.{list_any}
 use Rattle.std.specs.List.Sorted.{IsNonDecreasingBy}
-use Rattle.std.proofs.lemmas.Bool.{cases_lt}
+use Rattle.std.proofs.lemmas.Bool.{cases_lt, ltb-true}
 use Rattle.std.proofs.lemmas.List.{drop_more, drop_all}
+use Rattle.std.proofs.lemmas.List.Elements.{All-get_or}
+use Rattle.std.proofs.lemmas.List.Sums.{AllPass-from_list_all}
 use Rattle.lrat_rules.specs.State.{Live}
 use Rattle.lrat_rules.specs.Chain.{literals_of}
 use Rattle.hint_chain.specs.declared.unit.UnitPart.{UnitPart}
 use Rattle.hint_chain.specs.Units.{IsUnitPath}
 use Rattle.node_table.specs.declared.node.Node.{Node}
-use Rattle.node_table.specs.Diagram.{Graph}
+use Rattle.node_table.specs.declared.node.Node.TheVariants.{False, True, Inner}
+use Rattle.node_table.specs.declared.node.Branch.{Branch}
+use Rattle.node_table.specs.Diagram.{Graph, IsBelow, level_in, levels}
 use Rattle.clause_terms.specs.declared.placed.Placed.{Placed}
-use Rattle.clause_terms.specs.Placed.{literal_at, placed_holds, HasNoOpposites}
+use Rattle.clause_terms.specs.Placed.{literal_at, placed_holds, HasNoOpposites, are_of_levels}
 use Rattle.clause_terms.specs.ClauseDiagram.{IsBefore, IsDiagramOf}
 
 abbrev pub SameSetLaw : Type 0
@@ -66,3 +70,24 @@ before_rest placed i d small sorted other = elim (cases_lt (i + 1) (length place
       (let differ = other more in omega (arith, differ, sorted i (i + 1) d (omega arith) more))
   | inr done ↦ subst (λ (list : List Placed). IsBefore (slice_index_or placed i d).level list) (sym (drop_all (i + 1) placed done)) tt
 ]
+
+pub level_within : (graph : Graph) (placed : List Placed) (i : ℕ) (d : Placed) → i < length placed → are_of_levels graph placed ≡ true → (slice_index_or placed i d).level < levels graph
+level_within graph placed i d small of_levels =
+    ltb-true (slice_index_or placed i d).level (levels graph)
+    (All-get_or (λ (p : Placed). nat_lt p.level (levels graph) ≡ true) placed i d small (AllPass-from_list_all (λ (p : Placed). nat_lt p.level (levels graph)) placed of_levels))
+
+-- the diagram of later literals stands below, and is never True
+pub below_first : (graph : Graph) (live : Live) (level : ℕ) → level < levels graph → (placed : List Placed) → IsBefore level placed → (node : Node) (path : List UnitPart)
+    → IsDiagramOf graph live placed node path → IsBelow graph level node
+below_first graph live level small [] before node path diagram = subst (IsBelow graph level) (sym diagram.top.0) (record { stands = refl; below = small })
+below_first graph live level small (first ∷ placed) before node path diagram =
+    let top = diagram.top in
+    let less : level < top.branch.level = omega (arith, before, top.of_level) in
+    subst (IsBelow graph level) (sym top.named) (record {
+      stands = ap is_some top.stands;
+      below = subst (λ (o : Option Branch). level < level_in (levels graph) o) (sym top.stands) less;
+    })
+
+pub never_true : (graph : Graph) (live : Live) (placed : List Placed) (node : Node) (path : List UnitPart) → IsDiagramOf graph live placed node path → node ≢ True
+never_true graph live [] node path diagram is = let other : False ≡ True = sym diagram.top.0 ∙ is in cc
+never_true graph live (first ∷ placed) node path diagram is = let other : Inner diagram.top.key ≡ True = sym diagram.top.named ∙ is in cc

@@ -118,7 +118,9 @@ fn literal_node<S: Sink + Drop>(
     subfunction_law();
     missing_law();
     let (high, low) = children(placed, below);
-    table.node(placed.level, high, low)
+    let node = table.node(placed.level, high, low);
+    table.table_law();
+    node
 }
 
 fn push_part(

@@ -9,5 +9,5 @@ returns-in-None-clause-literal g c =
     let x = nat_abs c.args.literal in
     let n = levels c.args.table.now.graph in
     let parts = and_parts (nat_lt 0 x) (nat_le x n) c.requires.variable in
-    let there = c.is_reduced.ensures.ordered.each x (ltb-true 0 x parts.0) (leb-true x n parts.1) in
+    let there = c.table_law.ensures.ordered.each x (ltb-true 0 x parts.0) (leb-true x n parts.1) in
     absurd (c.in-None.ensures there.0 there.1 (there.2 ∙ sym c.var.ensures.value))

@@ -13,7 +13,7 @@ pub down-smaller-then-is_false : goal.down-smaller-then-is_false
 down-smaller-then-is_false g c =
     let graph = c.args.table.now.graph in
     let found = c.in-Some.ensures in
-    let has = has_branch c.cofactor_law.ensures.value graph c.is_reduced.ensures.reduced c.down.node c.down.invariant.1.stands found.0 found.1 in
+    let has = has_branch c.cofactor_law.ensures graph c.table_law.ensures.reduced c.down.node c.down.invariant.1.stands found.0 found.1 in
     subst (λ (n : Node). levels graph - level_of graph n < levels graph - level_of graph c.down.node) (sym found.3) (omega (arith, has.here, has.high.below, has.small))
 
 pub down-preserved-then-is_false : goal.down-preserved-then-is_false
@@ -21,10 +21,10 @@ down-preserved-then-is_false g c =
     let graph = c.args.table.now.graph in
     let found = c.in-Some.ensures in
     let b = found.0 in
-    let reduced = c.is_reduced.ensures.reduced in
-    let ordered = c.is_reduced.ensures.ordered in
+    let reduced = c.table_law.ensures.reduced in
+    let ordered = c.table_law.ensures.ordered in
     let values = c.down.values.items in
-    let has = has_branch c.cofactor_law.ensures.value graph reduced c.down.node c.down.invariant.1.stands b found.1 in
+    let has = has_branch c.cofactor_law.ensures graph reduced c.down.node c.down.invariant.1.stands b found.1 in
     let place : slice_index_or c.order.result.now c.in-Some.level 0 ≡ variable_at graph b.level = (λ i. slice_index_or (c.order.ensures.value i) (found.2 i) 0) in
     let no_low : b.low ≡ False = sym found.4 ∙ c.is_false.ensures.0 c.if-is_false.true in
     let down : IsDown graph (levels_of graph (slice_set values (variable_at graph b.level - 1) true)) c.args.node b.high =
@@ -39,7 +39,7 @@ pub down-smaller : goal.down-smaller
 down-smaller g c =
     let graph = c.args.table.now.graph in
     let found = c.in-Some.ensures in
-    let has = has_branch c.cofactor_law.ensures.value graph c.is_reduced.ensures.reduced c.down.node c.down.invariant.1.stands found.0 found.1 in
+    let has = has_branch c.cofactor_law.ensures graph c.table_law.ensures.reduced c.down.node c.down.invariant.1.stands found.0 found.1 in
     subst (λ (n : Node). levels graph - level_of graph n < levels graph - level_of graph c.down.node) (sym found.4) (omega (arith, has.here, has.low.below, has.small))
 
 pub down-preserved : goal.down-preserved
@@ -47,8 +47,8 @@ down-preserved g c =
     let graph = c.args.table.now.graph in
     let found = c.in-Some.ensures in
     let b = found.0 in
-    let reduced = c.is_reduced.ensures.reduced in
-    let has = has_branch c.cofactor_law.ensures.value graph reduced c.down.node c.down.invariant.1.stands b found.1 in
+    let reduced = c.table_law.ensures.reduced in
+    let has = has_branch c.cofactor_law.ensures graph reduced c.down.node c.down.invariant.1.stands b found.1 in
     let some : b.low ≢ False = λ is. (let yes_false : c.is_false.result ≡ true = c.is_false.ensures.1 (found.4 ∙ is) in let not_false : c.is_false.result ≡ false = c.if-is_false.false in cc) in (
       c.down.invariant.0,
       subst (λ (n : Node). IsDown graph (levels_of graph c.down.values.items) c.args.node n) (sym found.4)

@@ -1,16 +1,29 @@
-use Rattle.std.proofs.Common.{◌≡◌, ◌+◌, List, ◌∷◌, drop, reverse, false, sym, subst, refl}
+use Rattle.std.proofs.Common.{◌≡◌, ◌+◌, List, ◌∷◌, drop, reverse, false, sym, subst}
 use Rattle.std.specs.Prelude.{IfOk, slice_index_or}
 use Rattle.std.proofs.lemmas.List.{drop_more}
 use Rattle.node_table.specs.Made.{LacksPart, MakesOnly}
 use Rattle.clause_terms.specs.declared.placed.Placed.{Placed}
 use Rattle.clause_terms.specs.Placed.{placed_function}
 use Rattle.clause_terms.specs.ClauseDiagram.{IsDiagramOf}
-use Rattle.clause_terms.proofs.Taken.{skipped, before_rest}
+use Rattle.clause_terms.proofs.Taken.{skipped, before_rest, level_within, below_first, never_true}
 use Rattle.node_table.specs.HandedOn.{no_error}
 use Rattle.clause_terms.proofs.step.take_literal.Goals as goal
 
 abbrev no_placed : Placed
 no_placed = record { level = 0; negative = false }
+
+pub add_literal-requires-clause-below : goal.add_literal-requires-clause-below
+add_literal-requires-clause-below g c =
+    let placed = c.args.placed.now in
+    let graph = c.args.table.now.graph in
+    below_first graph c.args.table.now.book.state.live (slice_index_or placed c.args.i no_placed).level
+    (level_within graph placed c.args.i no_placed c.requires.index c.requires.levels) (drop (c.args.i + 1) placed)
+    (before_rest placed c.args.i no_placed c.requires.index c.requires.sorted (c.is_repeated.ensures.other c.if-is_repeated.false no_placed))
+    c.args.below (reverse c.args.path.now.items) c.requires.diagram
+
+pub add_literal-requires-clause-not_true : goal.add_literal-requires-clause-not_true
+add_literal-requires-clause-not_true g c =
+    never_true c.args.table.now.graph c.args.table.now.book.state.live (drop (c.args.i + 1) c.args.placed.now) c.args.below (reverse c.args.path.now.items) c.requires.diagram
 
 pub returns-then-is_repeated-clause-diagram : goal.returns-then-is_repeated-clause-diagram
 returns-then-is_repeated-clause-diagram g c =
@@ -19,11 +32,11 @@ returns-then-is_repeated-clause-diagram g c =
     c.args.below (reverse c.args.path.now.items) c.requires.diagram
 
 pub returns-clause-made : goal.returns-clause-made
-returns-clause-made g c whole =
+returns-clause-made g c =
     let placed = c.args.placed.now in
     let rest : drop c.args.i placed ≡ slice_index_or placed c.args.i no_placed ∷ drop (c.args.i + 1) placed = drop_more placed c.args.i no_placed c.requires.index in
     subst (λ (list : List Placed). MakesOnly c.args.table.now.graph c.add_literal.new.table.graph (placed_function list)) (sym rest)
-    (c.add_literal.ensures.made (drop (c.args.i + 1) placed) c.requires.diagram.value whole)
+    (c.add_literal.ensures.made (drop (c.args.i + 1) placed) c.requires.diagram.value)
 
 pub returns-clause-lacks : goal.returns-clause-lacks
 returns-clause-lacks g c full =
@@ -41,37 +54,16 @@ returns-clause-diagram g c =
     (c.add_literal.ensures.diagram (drop (c.args.i + 1) placed) before c.requires.diagram)
 
 pub returns-then-is_repeated-clause-made : goal.returns-then-is_repeated-clause-made
-returns-then-is_repeated-clause-made g c whole = c.subfunction_law.ensures.none_made c.args.table.now.graph (placed_function (drop c.args.i c.args.placed.now))
+returns-then-is_repeated-clause-made g c = c.subfunction_law.ensures.none_made c.args.table.now.graph (placed_function (drop c.args.i c.args.placed.now))
 
-pub returns-then-is_repeated-clause-continues : goal.returns-then-is_repeated-clause-continues
-returns-then-is_repeated-clause-continues g c whole = c.progress_law.ensures.same c.args.table.now c.requires.tied c.requires.in_step
-
-pub returns-then-is_repeated-clause-node_limit : goal.returns-then-is_repeated-clause-node_limit
-returns-then-is_repeated-clause-node_limit g c is = absurd (no_error is)
+pub returns-then-is_repeated-clause-steps : goal.returns-then-is_repeated-clause-steps
+returns-then-is_repeated-clause-steps g c = c.steps_law.ensures.none c.args.table.now c.requires.sound
 
 pub returns-then-is_repeated-clause-lacks : goal.returns-then-is_repeated-clause-lacks
 returns-then-is_repeated-clause-lacks g c is = absurd (no_error is)
 
-pub returns-then-is_repeated-clause-id_limit : goal.returns-then-is_repeated-clause-id_limit
-returns-then-is_repeated-clause-id_limit g c is = absurd (no_error is)
-
-pub returns-then-is_repeated-clause-broken : goal.returns-then-is_repeated-clause-broken
-returns-then-is_repeated-clause-broken g c is = absurd (no_error is)
-
-pub returns-then-is_repeated-clause-beside : goal.returns-then-is_repeated-clause-beside
-returns-then-is_repeated-clause-beside g c = refl
-
-pub returns-clause-continues : goal.returns-clause-continues
-returns-clause-continues g c = c.add_literal.ensures.continues
-
-pub returns-clause-node_limit : goal.returns-clause-node_limit
-returns-clause-node_limit g c = c.add_literal.ensures.node_limit
-
-pub returns-clause-id_limit : goal.returns-clause-id_limit
-returns-clause-id_limit g c = c.add_literal.ensures.id_limit
-
-pub returns-clause-broken : goal.returns-clause-broken
-returns-clause-broken g c = c.add_literal.ensures.broken
+pub returns-clause-steps : goal.returns-clause-steps
+returns-clause-steps g c = c.add_literal.ensures.steps
 
 pub returns-clause-beside : goal.returns-clause-beside
 returns-clause-beside g c = c.add_literal.ensures.beside

@@ -1,5 +1,13 @@
-use Rattle.node_table.specs.Refused.{ids_used_by_clause}
+use Rattle.std.proofs.Common.{arith}
+use Rattle.node_table.specs.declared.error.TableError.TheVariants.{OutOfMemory}
+use Rattle.clause_terms.proofs.Handed.{steps_handed_on}
 use Rattle.clause_terms.proofs.term.add_unit.Goals as goal
+
+pub returns-in_err-hints-clause-steps : goal.returns-in_err-hints-clause-steps
+returns-in_err-hints-clause-steps g c =
+    let table = c.args.table.now in
+    steps_handed_on _ OutOfMemory c.from_residual.ensures.1
+    (c.steps_law.ensures.at_most _ _ table table 0 1 _ (omega arith) (c.steps_law.ensures.no_memory table c.requires.sound))
 
 pub returns-clause-nodes : goal.returns-clause-nodes
 returns-clause-nodes g c = c.justify.ensures.nodes
@@ -7,31 +15,8 @@ returns-clause-nodes g c = c.justify.ensures.nodes
 pub returns-clause-no_node_limit : goal.returns-clause-no_node_limit
 returns-clause-no_node_limit g c = c.justify.ensures.no_node_limit
 
-pub returns-clause-id_limit : goal.returns-clause-id_limit
-returns-clause-id_limit g c is = ids_used_by_clause c.args.table.now c.justify.new.self c.justify.result c.justify.ensures.refused is (c.justify.ensures.id_limit.0 is)
-
-pub returns-clause-continues : goal.returns-clause-continues
-returns-clause-continues g c whole = record {
-  tied = c.justify.ensures.tied whole;
-  extends = c.justify.ensures.extends whole;
-  in_step = c.justify.ensures.in_step whole;
-  kept = λ clauses proof. c.justify.ensures.kept clauses proof whole;
-  max_nodes = c.justify.ensures.limits.0;
-  limit = c.justify.ensures.limits.1;
-  unfailed = c.justify.ensures.unfailed whole;
-  writes = c.justify.ensures.only_writes;
-}
-
-pub returns-clause-broken : goal.returns-clause-broken
-returns-clause-broken g c is = record {
-  rose = (c.justify.ensures.write_fault is).rose;
-  cut = λ clauses proof told. c.justify.ensures.cut clauses proof told is;
-  out_of_step = c.justify.ensures.out_of_step is;
-  stays = c.justify.ensures.stays is;
-  max_nodes = c.justify.ensures.limits.0;
-  limit = c.justify.ensures.limits.1;
-  writes = c.justify.ensures.only_writes;
-}
+pub returns-clause-steps : goal.returns-clause-steps
+returns-clause-steps g c = c.justify.ensures.steps
 
 pub returns-clause-beside : goal.returns-clause-beside
 returns-clause-beside g c = c.justify.ensures.beside

@@ -1,21 +1,21 @@
-use Rattle.std.proofs.Common.{◌≡◌, ◌∙◌, ℕ, Err, refl, ap, List, [], ◌∷◌, sym, subst}
+use Rattle.std.proofs.Common.{◌≡◌, ◌∙◌, ℕ, Err, ap, List, [], ◌∷◌, sym, subst, arith}
 use Rattle.hint_chain.specs.declared.unit.UnitPart.{UnitPart}
-use Rattle.node_table.specs.declared.error.TableError.TheVariants.{NodeLimit, IdLimit, OutOfMemory, WriteFault}
+use Rattle.node_table.specs.declared.error.TableError.TheVariants.{NodeLimit, OutOfMemory}
 use Rattle.node_table.specs.declared.node.Just.TheVariants.{Clause}
 use Rattle.node_table.specs.Defined.{atom_of}
 use Rattle.node_table.specs.Diagram.{Graph}
 use Rattle.node_table.specs.Just.{IsJustified}
 use Rattle.node_table.specs.Made.{MakesOnly}
-use Rattle.node_table.specs.Progress.{Continues}
 use Rattle.cnf_base.specs.Truth.{clause_holds}
 use Rattle.clause_terms.specs.Placed.{placed_function, AreInOrder}
 use Rattle.clause_terms.specs.Term.{clause_function, IsTerm, HasUnitPath}
 use Rattle.clause_terms.proofs.Ordered.{no_tautology, same_function}
 use Rattle.clause_terms.proofs.MadeNodes.{by_values}
 use Rattle.clause_terms.proofs.ClauseTerm.{still_in_order, unit_path, clause_term, true_term}
-use Rattle.node_table.specs.HandedOn.{no_error, came_from, other_cause, no_answer}
+use Rattle.node_table.specs.HandedOn.{no_error, came_from, no_answer}
+use Rattle.clause_terms.proofs.Handed.{steps_handed_on}
 use Rattle.clause_terms.proofs.LackedPart.{lacked_by_values}
-use Rattle.node_table.specs.Refused.{memory_not_nodes, memory_not_ids, memory_not_fault}
+use Rattle.node_table.specs.Refused.{memory_not_nodes}
 use Rattle.clause_terms.proofs.term.push_clause.Goals as goal
 
 same_clause : (id other : ℕ) → Clause id ≡ Clause other → id ≡ other
@@ -25,13 +25,13 @@ pub returns-then-has_opposites-clause-term : goal.returns-then-has_opposites-cla
 returns-then-has_opposites-clause-term g c =
     let placed = c.as_slice.result.now in
     let in_order : AreInOrder c.args.table.now.graph c.args.clause.now placed = subst (AreInOrder c.args.table.now.graph c.args.clause.now) (sym c.as_slice.ensures.value) c.in_ok-placed.ensures in
-    true_term c.args.table.now.graph c.is_reduced.ensures.ordered c.args.table.now.book.state.live c.args.clause.now placed in_order (c.has_opposites.ensures.holds c.if-has_opposites.true)
+    true_term c.args.table.now.graph c.table_law.ensures.ordered c.args.table.now.book.state.live c.args.clause.now placed in_order (c.has_opposites.ensures.holds c.if-has_opposites.true)
 
 pub returns-in_err-node-clause-tautology : goal.returns-in_err-node-clause-tautology
 returns-in_err-node-clause-tautology g c tautology =
     let placed = c.as_slice.result.now in
     let in_order : AreInOrder c.args.table.now.graph c.args.clause.now placed = subst (AreInOrder c.args.table.now.graph c.args.clause.now) (sym c.as_slice.ensures.value) c.in_ok-placed.ensures in
-    absurd (no_tautology c.args.table.now.graph c.is_reduced.ensures.ordered c.args.clause.now placed in_order (c.has_opposites.ensures.none c.if-has_opposites.false) tautology)
+    absurd (no_tautology c.args.table.now.graph c.table_law.ensures.ordered c.args.clause.now placed in_order (c.has_opposites.ensures.none c.if-has_opposites.false) tautology)
 
 pub add_unit-requires-clause-path : goal.add_unit-requires-clause-path
 add_unit-requires-clause-path g c =
@@ -40,51 +40,46 @@ add_unit-requires-clause-path g c =
     let placed = c.as_slice-2.result.now in
     let clause = c.args.clause.now in
     let in_order : AreInOrder old.graph clause placed = subst (AreInOrder old.graph clause) (sym c.as_slice-2.ensures.value) c.in_ok-placed.ensures in
-    let grown : Continues g.S.Sink.tells (g.S.Sink.channel old.book.sink) (g.S.Sink.channel mid.book.sink) old mid = c.in_ok-node.ensures.continues no_error in
+    let steps = c.in_ok-node.ensures.steps in
     subst (λ (path : List UnitPart). HasUnitPath mid.graph mid.book.state.live c.in_ok-node.node path c.args.input) (sym c.as_slice-3.ensures.value)
     (unit_path c.unit_path_law.ensures.same_set mid.graph mid.book.state.live clause placed c.in_ok-node.node c.in_ok-node.path.items c.args.input
-    (still_in_order old.graph mid.graph grown.extends.nodes.order clause placed in_order) c.requires.some c.in_ok-node.ensures.diagram
-    (grown.extends.clauses c.args.input clause c.requires.live))
+    (still_in_order old.graph mid.graph steps.extends.nodes.order clause placed in_order) c.requires.some c.in_ok-node.ensures.diagram
+    (steps.extends.clauses c.args.input clause c.requires.live))
 
 pub returns-in_err-node-clause-made : goal.returns-in_err-node-clause-made
-returns-in_err-node-clause-made g c whole =
+returns-in_err-node-clause-made g c =
     let clause = c.args.clause.now in
     let placed = c.as_slice-2.result.now in
     let in_order : AreInOrder c.args.table.now.graph clause placed = subst (AreInOrder c.args.table.now.graph clause) (sym c.as_slice-2.ensures.value) c.in_ok-placed.ensures in
     by_values c.args.table.now.graph c.build.new.table.graph (placed_function placed) (clause_function c.args.table.now.graph.order clause)
-    (λ a. sym (same_function c.args.table.now.graph c.is_reduced.ensures.ordered clause placed in_order a))
-    (c.in_err-node.ensures.made (other_cause _ c.in_err-node.field-0.0 WriteFault c.from_residual-in_err-node.ensures.1 whole))
+    (λ a. sym (same_function c.args.table.now.graph c.table_law.ensures.ordered clause placed in_order a))
+    c.in_err-node.ensures.made
 
 pub returns-in_err-id-clause-made : goal.returns-in_err-id-clause-made
-returns-in_err-id-clause-made g c whole =
+returns-in_err-id-clause-made g c =
     let old = c.args.table.now.graph in
     let clause = c.args.clause.now in
     let placed = c.as_slice-2.result.now in
     let in_order : AreInOrder old clause placed = subst (AreInOrder old clause) (sym c.as_slice-2.ensures.value) c.in_ok-placed.ensures in
     subst (λ (new : Graph). MakesOnly old new (clause_function old.order clause)) (sym c.in_err-id.ensures.nodes)
-    (by_values old c.build.new.table.graph (placed_function placed) (clause_function old.order clause) (λ a. sym (same_function old c.is_reduced.ensures.ordered clause placed in_order a))
-    (c.in_ok-node.ensures.made no_error))
+    (by_values old c.build.new.table.graph (placed_function placed) (clause_function old.order clause) (λ a. sym (same_function old c.table_law.ensures.ordered clause placed in_order a))
+    c.in_ok-node.ensures.made)
 
 pub returns-clause-made : goal.returns-clause-made
-returns-clause-made g c whole =
+returns-clause-made g c =
     let old = c.args.table.now.graph in
     let clause = c.args.clause.now in
     let placed = c.as_slice-2.result.now in
     let in_order : AreInOrder old clause placed = subst (AreInOrder old clause) (sym c.as_slice-2.ensures.value) c.in_ok-placed.ensures in
     subst (λ (new : Graph). MakesOnly old new (clause_function old.order clause)) (sym c.in_ok-id.ensures.nodes)
-    (by_values old c.build.new.table.graph (placed_function placed) (clause_function old.order clause) (λ a. sym (same_function old c.is_reduced.ensures.ordered clause placed in_order a))
-    (c.in_ok-node.ensures.made no_error))
-
-pub returns-in_err-id-clause-continues : goal.returns-in_err-id-clause-continues
-returns-in_err-id-clause-continues g c whole =
-    c.progress_law.ensures.further _ _ _ _ _ _ (c.in_ok-node.ensures.continues no_error)
-    (c.in_err-id.ensures.continues (other_cause _ c.in_err-id.field-0.0 WriteFault c.from_residual-in_err-id.ensures.1 whole))
+    (by_values old c.build.new.table.graph (placed_function placed) (clause_function old.order clause) (λ a. sym (same_function old c.table_law.ensures.ordered clause placed in_order a))
+    c.in_ok-node.ensures.made)
 
 pub returns-in_err-id-clause-tautology : goal.returns-in_err-id-clause-tautology
 returns-in_err-id-clause-tautology g c tautology =
     let placed = c.as_slice.result.now in
     let in_order : AreInOrder c.args.table.now.graph c.args.clause.now placed = subst (AreInOrder c.args.table.now.graph c.args.clause.now) (sym c.as_slice.ensures.value) c.in_ok-placed.ensures in
-    absurd (no_tautology c.args.table.now.graph c.is_reduced.ensures.ordered c.args.clause.now placed in_order (c.has_opposites.ensures.none c.if-has_opposites.false) tautology)
+    absurd (no_tautology c.args.table.now.graph c.table_law.ensures.ordered c.args.clause.now placed in_order (c.has_opposites.ensures.none c.if-has_opposites.false) tautology)
 
 pub returns-clause-term : goal.returns-clause-term
 returns-clause-term g c =
@@ -96,24 +91,20 @@ returns-clause-term g c =
     let node = c.in_ok-node.node in
     let id = c.in_ok-id.id in
     let in_order : AreInOrder old.graph clause placed = subst (AreInOrder old.graph clause) (sym c.as_slice-2.ensures.value) c.in_ok-placed.ensures in
-    let grown : Continues g.S.Sink.tells (g.S.Sink.channel old.book.sink) (g.S.Sink.channel mid.book.sink) old mid = c.in_ok-node.ensures.continues no_error in
-    let there = still_in_order old.graph mid.graph grown.extends.nodes.order clause placed in_order in
+    let steps = c.in_ok-node.ensures.steps in
+    let there = still_in_order old.graph mid.graph steps.extends.nodes.order clause placed in_order in
     let path : HasUnitPath mid.graph mid.book.state.live node c.in_ok-node.path.items c.args.input =
     unit_path c.unit_path_law.ensures.same_set mid.graph mid.book.state.live clause placed node c.in_ok-node.path.items c.args.input
-    there c.requires.some c.in_ok-node.ensures.diagram (grown.extends.clauses c.args.input clause c.requires.live) in
+    there c.requires.some c.in_ok-node.ensures.diagram (steps.extends.clauses c.args.input clause c.requires.live) in
     subst (λ (graph : Graph). IsTerm graph new.book.state.live (λ a. clause_holds a clause) node (Clause id)) (sym c.in_ok-id.ensures.nodes)
-    (clause_term mid.graph grown.tied.ordered mid.book.state.live new.book.state.live clause placed node c.in_ok-node.path.items there c.in_ok-node.ensures.diagram path.branch path.stands id
+    (clause_term mid.graph steps.leaves.sound.tied.ordered mid.book.state.live new.book.state.live clause placed node c.in_ok-node.path.items there c.in_ok-node.ensures.diagram path.branch path.stands id
     (subst (λ (graph : Graph). IsJustified new.book.state.live (atom_of graph node ∷ []) (Clause id)) c.in_ok-id.ensures.nodes c.in_ok-id.ensures.proved))
-
-pub returns-clause-continues : goal.returns-clause-continues
-returns-clause-continues g c whole =
-    c.progress_law.ensures.further _ _ _ _ _ _ (c.in_ok-node.ensures.continues no_error) (c.in_ok-id.ensures.continues no_error)
 
 pub returns-clause-tautology : goal.returns-clause-tautology
 returns-clause-tautology g c tautology =
     let placed = c.as_slice.result.now in
     let in_order : AreInOrder c.args.table.now.graph c.args.clause.now placed = subst (AreInOrder c.args.table.now.graph c.args.clause.now) (sym c.as_slice.ensures.value) c.in_ok-placed.ensures in
-    absurd (no_tautology c.args.table.now.graph c.is_reduced.ensures.ordered c.args.clause.now placed in_order (c.has_opposites.ensures.none c.if-has_opposites.false) tautology)
+    absurd (no_tautology c.args.table.now.graph c.table_law.ensures.ordered c.args.clause.now placed in_order (c.has_opposites.ensures.none c.if-has_opposites.false) tautology)
 
 pub returns-in_err-node-clause-lacks : goal.returns-in_err-node-clause-lacks
 returns-in_err-node-clause-lacks g c full =
@@ -121,7 +112,7 @@ returns-in_err-node-clause-lacks g c full =
     let clause = c.args.clause.now in
     let placed = c.as_slice-2.result.now in
     let in_order : AreInOrder old clause placed = subst (AreInOrder old clause) (sym c.as_slice-2.ensures.value) c.in_ok-placed.ensures in
-    lacked_by_values c.build.new.table.graph (placed_function placed) (clause_function old.order clause) (λ a. sym (same_function old c.is_reduced.ensures.ordered clause placed in_order a))
+    lacked_by_values c.build.new.table.graph (placed_function placed) (clause_function old.order clause) (λ a. sym (same_function old c.table_law.ensures.ordered clause placed in_order a))
     (c.in_err-node.ensures.lacks (ap Err (came_from _ c.in_err-node.field-0.0 NodeLimit c.from_residual-in_err-node.ensures.1 full)))
 
 pub returns-clause-last : goal.returns-clause-last
@@ -133,76 +124,26 @@ returns-in_err-node-clause-term g c = no_answer _ c.in_err-node.field-0.0 _ c.fr
 pub returns-in_err-node-clause-last : goal.returns-in_err-node-clause-last
 returns-in_err-node-clause-last g c = no_answer _ c.in_err-node.field-0.0 _ c.from_residual-in_err-node.ensures.1
 
-pub returns-in_err-node-clause-id_limit : goal.returns-in_err-node-clause-id_limit
-returns-in_err-node-clause-id_limit g c is = c.in_err-node.ensures.id_limit (ap Err (came_from _ c.in_err-node.field-0.0 IdLimit c.from_residual-in_err-node.ensures.1 is))
-
-pub returns-in_err-node-clause-continues : goal.returns-in_err-node-clause-continues
-returns-in_err-node-clause-continues g c whole = c.in_err-node.ensures.continues (other_cause _ c.in_err-node.field-0.0 WriteFault c.from_residual-in_err-node.ensures.1 whole)
-
-pub returns-in_err-node-clause-node_limit : goal.returns-in_err-node-clause-node_limit
-returns-in_err-node-clause-node_limit g c is = c.in_err-node.ensures.node_limit (ap Err (came_from _ c.in_err-node.field-0.0 NodeLimit c.from_residual-in_err-node.ensures.1 is))
-
-pub returns-in_err-node-clause-broken : goal.returns-in_err-node-clause-broken
-returns-in_err-node-clause-broken g c is = c.in_err-node.ensures.broken (ap Err (came_from _ c.in_err-node.field-0.0 WriteFault c.from_residual-in_err-node.ensures.1 is))
-
-pub returns-in_err-node-clause-beside : goal.returns-in_err-node-clause-beside
-returns-in_err-node-clause-beside g c = c.in_err-node.ensures.beside
-
 pub returns-in_err-id-clause-term : goal.returns-in_err-id-clause-term
 returns-in_err-id-clause-term g c = no_answer _ c.in_err-id.field-0.0 _ c.from_residual-in_err-id.ensures.1
 
 pub returns-in_err-id-clause-last : goal.returns-in_err-id-clause-last
 returns-in_err-id-clause-last g c = no_answer _ c.in_err-id.field-0.0 _ c.from_residual-in_err-id.ensures.1
 
-pub returns-in_err-id-clause-id_limit : goal.returns-in_err-id-clause-id_limit
-returns-in_err-id-clause-id_limit g c is = c.in_err-id.ensures.id_limit (ap Err (came_from _ c.in_err-id.field-0.0 IdLimit c.from_residual-in_err-id.ensures.1 is))
-
-pub returns-in_err-id-clause-node_limit : goal.returns-in_err-id-clause-node_limit
-returns-in_err-id-clause-node_limit g c is = absurd (c.in_err-id.ensures.no_node_limit (ap Err (came_from _ c.in_err-id.field-0.0 NodeLimit c.from_residual-in_err-id.ensures.1 is)))
-
 pub returns-in_err-id-clause-lacks : goal.returns-in_err-id-clause-lacks
 returns-in_err-id-clause-lacks g c is = absurd (c.in_err-id.ensures.no_node_limit (ap Err (came_from _ c.in_err-id.field-0.0 NodeLimit c.from_residual-in_err-id.ensures.1 is)))
-
-pub returns-in_err-id-clause-broken : goal.returns-in_err-id-clause-broken
-returns-in_err-id-clause-broken g c is =
-    c.progress_law.ensures.broken _ _ _ _ _ _ (c.in_ok-node.ensures.continues no_error)
-    (c.in_err-id.ensures.broken (ap Err (came_from _ c.in_err-id.field-0.0 WriteFault c.from_residual-in_err-id.ensures.1 is)))
 
 pub returns-in_err-id-clause-beside : goal.returns-in_err-id-clause-beside
 returns-in_err-id-clause-beside g c = c.in_err-id.ensures.beside ∙ c.in_ok-node.ensures.beside
 
 pub returns-then-has_opposites-clause-made : goal.returns-then-has_opposites-clause-made
-returns-then-has_opposites-clause-made g c whole = c.subfunction_law.ensures.none_made c.args.table.now.graph (clause_function c.args.table.now.graph.order c.args.clause.now)
-
-pub returns-then-has_opposites-clause-continues : goal.returns-then-has_opposites-clause-continues
-returns-then-has_opposites-clause-continues g c whole = c.progress_law.ensures.same c.args.table.now c.requires.tied c.requires.in_step
-
-pub returns-then-has_opposites-clause-node_limit : goal.returns-then-has_opposites-clause-node_limit
-returns-then-has_opposites-clause-node_limit g c is = absurd (no_error is)
+returns-then-has_opposites-clause-made g c = c.subfunction_law.ensures.none_made c.args.table.now.graph (clause_function c.args.table.now.graph.order c.args.clause.now)
 
 pub returns-then-has_opposites-clause-lacks : goal.returns-then-has_opposites-clause-lacks
 returns-then-has_opposites-clause-lacks g c is = absurd (no_error is)
 
-pub returns-then-has_opposites-clause-id_limit : goal.returns-then-has_opposites-clause-id_limit
-returns-then-has_opposites-clause-id_limit g c is = absurd (no_error is)
-
-pub returns-then-has_opposites-clause-broken : goal.returns-then-has_opposites-clause-broken
-returns-then-has_opposites-clause-broken g c is = absurd (no_error is)
-
-pub returns-clause-node_limit : goal.returns-clause-node_limit
-returns-clause-node_limit g c is = absurd (no_error is)
-
 pub returns-clause-lacks : goal.returns-clause-lacks
 returns-clause-lacks g c is = absurd (no_error is)
-
-pub returns-clause-id_limit : goal.returns-clause-id_limit
-returns-clause-id_limit g c is = absurd (no_error is)
-
-pub returns-clause-broken : goal.returns-clause-broken
-returns-clause-broken g c is = absurd (no_error is)
-
-pub returns-then-has_opposites-clause-beside : goal.returns-then-has_opposites-clause-beside
-returns-then-has_opposites-clause-beside g c = refl
 
 pub returns-clause-beside : goal.returns-clause-beside
 returns-clause-beside g c = c.in_ok-id.ensures.beside ∙ c.in_ok-node.ensures.beside
@@ -214,22 +155,40 @@ pub returns-in_err-placed-clause-last : goal.returns-in_err-placed-clause-last
 returns-in_err-placed-clause-last g c = no_answer _ OutOfMemory _ c.from_residual.ensures.1
 
 pub returns-in_err-placed-clause-made : goal.returns-in_err-placed-clause-made
-returns-in_err-placed-clause-made g c whole = c.subfunction_law.ensures.none_made c.args.table.now.graph (clause_function c.args.table.now.graph.order c.args.clause.now)
-
-pub returns-in_err-placed-clause-continues : goal.returns-in_err-placed-clause-continues
-returns-in_err-placed-clause-continues g c whole = c.progress_law.ensures.same c.args.table.now c.requires.tied c.requires.in_step
-
-pub returns-in_err-placed-clause-node_limit : goal.returns-in_err-placed-clause-node_limit
-returns-in_err-placed-clause-node_limit g c is = absurd (memory_not_nodes _ c.from_residual.ensures.1 is)
+returns-in_err-placed-clause-made g c = c.subfunction_law.ensures.none_made c.args.table.now.graph (clause_function c.args.table.now.graph.order c.args.clause.now)
 
 pub returns-in_err-placed-clause-lacks : goal.returns-in_err-placed-clause-lacks
 returns-in_err-placed-clause-lacks g c is = absurd (memory_not_nodes _ c.from_residual.ensures.1 is)
 
-pub returns-in_err-placed-clause-id_limit : goal.returns-in_err-placed-clause-id_limit
-returns-in_err-placed-clause-id_limit g c is = absurd (memory_not_ids _ c.from_residual.ensures.1 is)
+pub add_unit-requires-clause-sound : goal.add_unit-requires-clause-sound
+add_unit-requires-clause-sound g c = c.in_ok-node.ensures.steps.leaves.sound
 
-pub returns-in_err-placed-clause-broken : goal.returns-in_err-placed-clause-broken
-returns-in_err-placed-clause-broken g c is = absurd (memory_not_fault _ c.from_residual.ensures.1 is)
+pub returns-in_err-placed-clause-steps : goal.returns-in_err-placed-clause-steps
+returns-in_err-placed-clause-steps g c =
+    let table = c.args.table.now in
+    steps_handed_on _ OutOfMemory c.from_residual.ensures.1
+    (c.steps_law.ensures.at_most _ _ table table 0 1 _ (omega arith) (c.steps_law.ensures.no_memory table c.requires.sound))
 
-pub returns-in_err-placed-clause-beside : goal.returns-in_err-placed-clause-beside
-returns-in_err-placed-clause-beside g c = refl
+pub returns-then-has_opposites-clause-steps : goal.returns-then-has_opposites-clause-steps
+returns-then-has_opposites-clause-steps g c =
+    let table = c.args.table.now in
+    c.steps_law.ensures.at_most _ _ table table 0 1 _ (omega arith) (c.steps_law.ensures.none table c.requires.sound)
+
+pub returns-in_err-node-clause-steps : goal.returns-in_err-node-clause-steps
+returns-in_err-node-clause-steps g c =
+    steps_handed_on _ c.in_err-node.field-0.0 c.from_residual-in_err-node.ensures.1
+    (c.steps_law.ensures.at_most _ _ _ _ 0 1 _ (omega arith) c.in_err-node.ensures.steps)
+
+pub returns-in_err-id-clause-steps : goal.returns-in_err-id-clause-steps
+returns-in_err-id-clause-steps g c =
+    steps_handed_on _ c.in_err-id.field-0.0 c.from_residual-in_err-id.ensures.1
+    (c.steps_law.ensures.further _ _ _ _ _ _ 0 1 _ c.in_ok-node.ensures.steps c.in_err-id.ensures.steps)
+
+pub returns-clause-steps : goal.returns-clause-steps
+returns-clause-steps g c = c.steps_law.ensures.further _ _ _ _ _ _ 0 1 _ c.in_ok-node.ensures.steps c.in_ok-id.ensures.steps
+
+pub returns-in_err-id-clause-retired : goal.returns-in_err-id-clause-retired
+returns-in_err-id-clause-retired g c = c.in_err-id.ensures.retired ∙ c.in_ok-node.ensures.retired
+
+pub returns-clause-retired : goal.returns-clause-retired
+returns-clause-retired g c = c.in_ok-id.ensures.retired ∙ c.in_ok-node.ensures.retired
