@@ -1,6 +1,7 @@
 -- A run's beginning and its end, over the ledger.
 use Rattle.std.specs.Prelude.{◌≡◌, ◌≢◌, ◌⊎◌, ◌≤◌, ℕ, Bool, List, [], length, Result, Err, IfOk, IsTrue}
 use Rattle.std.specs.List.{list_all}
+use Rattle.cnf_base.specs.Truth.{AreClausesOf}
 use Rattle.cnf_base.specs.Formula.{Formula}
 use Rattle.host_io.specs.Channel.{Channel, Rose}
 use Rattle.lrat_rules.specs.State.{start}
@@ -15,8 +16,9 @@ use Rattle.term_runner.specs.Clauses.{is_tautology}
 use Rattle.term_runner.specs.Ends.{Says, Shows}
 use Rattle.term_runner.specs.Proofs.{IsBroken, KeepsWithin}
 
--- a ledger as it was opened over a formula: its clauses are live, and nothing was written
+-- a ledger as it was opened over a formula: its clauses, over its variables, are live, and nothing was written
 pub record IsOpened {S : Type 0} (tells : Bool) (channel : Channel) (formula : Formula) (max_ids : ℕ) (book : Book S) : Type 0 where
+  pub literals : AreClausesOf formula.vars formula.clauses
   pub state : book.state ≡ start formula.clauses
   pub limit : book.limit ≡ max_ids
   pub in_step : IsTrue book.in_step

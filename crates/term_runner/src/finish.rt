@@ -21,7 +21,7 @@ use clause_ledger::Ledger;
 use clause_terms::Model;
 use cnf_base::Id;
 use host_io::Sink;
-use lrat_rules::{conflict_law, derivation_law, marks_law, soundness_law};
+use lrat_rules::{conflict_law, derivation_law, marks_law, start_law, strict_addition_law};
 use node_table::TableError;
 
 /// Flushes the proof of an outcome. It isn't flushed where memory ran out or a write failed before.
@@ -35,7 +35,6 @@ pub fn finish<S: Sink + Drop>(
         → Ends S.tells before (S.channel ledger.new.sink) formula order moves limits result }
     ensures beside { S.beside ledger.new.sink ≡ S.beside ledger.old.sink }
 {
-    derivation_law();
     let last_id = ledger.last_id();
     let outcome = found?;
     flush(ledger, Ok(Run { outcome, last_id }))
@@ -66,7 +65,7 @@ pub fn refute<S: Sink + Drop>(ledger: &mut Ledger<S>, number: usize) -> Result<R
         → Ends S.tells (S.channel ledger.old.sink) (S.channel ledger.new.sink) formula order moves limits result }
     ensures beside { S.beside ledger.new.sink ≡ S.beside ledger.old.sink }
 {
-    soundness_law();
+    start_law();
     marks_law();
     let found = add_empty(ledger, Id(number as u64));
     finish(ledger, outcome_of(found))
@@ -96,6 +95,7 @@ fn add_empty<S: Sink + Drop>(ledger: &mut Ledger<S>, hint: Id) -> Result<Option<
     ensures beside { S.beside ledger.new.sink ≡ S.beside ledger.old.sink }
 {
     conflict_law();
+    strict_addition_law();
     derivation_law();
     ledger.add(&[], &[hint])?;
     Ok(None)

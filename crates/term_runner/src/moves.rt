@@ -110,6 +110,7 @@ fn conjoin<S: Sink + Drop>(
 {
     growth_law();
     steps_law::<S>();
+    entry_law::<S>();
     let Some(v) = stack.pop() else {
         unreachable!();
     };
