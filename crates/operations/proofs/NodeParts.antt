@@ -10,9 +10,9 @@ use Rattle.node_table.specs.declared.node.NodeKey.{NodeKey}
 use Rattle.node_table.specs.declared.node.Branch.{Branch}
 use Rattle.node_table.specs.Diagram.{Graph, IsReduced, branch_at, branch_of, is_node, levels, child_in, variable_at}
 use Rattle.node_table.specs.Defined.{IsDefined, atom_of, atom_in, clause_named, defs_of}
-use Rattle.apply_and.specs.declared.parts.Side.{Side}
-use Rattle.apply_and.specs.declared.parts.Side.TheVariants.{High, Low}
-use Rattle.apply_and.specs.Sides.{false_literal, cofactor_at, up_of, down_of}
+use Rattle.operations.specs.declared.parts.Side.{Side}
+use Rattle.operations.specs.declared.parts.Side.TheVariants.{High, Low}
+use Rattle.operations.specs.Sides.{false_literal, cofactor_at, up_of, down_of}
 
 -- an inner node of the graph, by its key
 pub record IsAt (graph : Graph) (node : Node) : Type 0 where

@@ -1,9 +1,9 @@
 use Rattle.std.proofs.Common.{◌≡◌, ◌≤◌, ℕ, length, sym, ap, ◌∙◌, arith, inl}
 use Rattle.hint_chain.specs.Atoms.{clause_of, down_clause}
 use Rattle.node_table.specs.Defined.{atom_of, clause_named}
-use Rattle.apply_and.specs.Sides.{false_literal, cofactor_at, down_of}
-use Rattle.apply_and.proofs.NodeParts.{down_given, nonzero_node, cofactor_stands}
-use Rattle.apply_and.proofs.parts.down_part.Goals as goal
+use Rattle.operations.specs.Sides.{false_literal, cofactor_at, down_of}
+use Rattle.operations.proofs.NodeParts.{down_given, nonzero_node, cofactor_stands}
+use Rattle.operations.proofs.parts.down_part.Goals as goal
 
 at_most_four : (n : ℕ) → n ≤ 3 → n ≤ 4
 at_most_four n three = omega arith
