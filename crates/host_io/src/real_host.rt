@@ -1,6 +1,6 @@
-// A host over the real system. No clause can say which bytes reach or leave it, so it tells names and counts
-// alone, and is trusted for the bytes.
-ghost use Rattle.std.specs.Prelude.{◌≡◌, ◌≢◌, false, None, Some, length, IfOk, IfSome, IsOk};
+// A host over the real system. No clause can say which bytes reach or leave it, so it tells names and faults, and
+// how many bytes pass at which device; for the bytes the calls of the system are trusted.
+ghost use Rattle.std.specs.Prelude.{◌≡◌, ◌≢◌, false, None, length, IfOk, IfSome};
 ghost use Rattle.host_io.specs.declared.role.Role.{Role};
 ghost use Rattle.host_io.specs.Channel.{Reads, Writes, Flushes, Counts};
 ghost use Rattle.host_io.specs.Files.{IsInput, IsCreated, IsNamedFirst, IsWritable, IsIdle, Kept, Opens};
