@@ -19,7 +19,7 @@ use std::test::Fail;
 // are live, and the lines.
 fn pushed(alloc: Global, clause: &str, room: &str) -> Result<String, Fail> {
     let formula = one_clause(alloc, clause)?;
-    formula.is_formula();
+    formula.formula_law();
     let mut table = open(alloc, &formula, &order(false), &room_of(room)?)?;
     let term = push(alloc, &mut table, &formula);
     let end = term_told(alloc, &table, term)?;
@@ -39,7 +39,7 @@ fn push(
     requires one { length formula.now.clauses ≡ 1 }
 {
     start_law();
-    formula.is_formula();
+    formula.formula_law();
     let literals = formula.clause(1);
     if literals.is_empty() {
         return Ok((Node::False, Just::Trivial));

@@ -46,7 +46,7 @@ pub fn read_cnf<S: Source>(alloc: Global, source: &mut S) -> Result<Cnf, CnfErro
     let mut scanner = Scanner::new(b'c', MAX_BYTES);
     let body = read_header(alloc, &mut scanner, source)?;
     let cnf = read_body(body, &mut scanner, source)?;
-    cnf.is_formula();
+    cnf.formula_law();
     Ok(cnf)
 }
 

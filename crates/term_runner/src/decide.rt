@@ -48,7 +48,7 @@ pub fn decide<S: Sink + Drop>(
     ensures beside { S.beside table.new.book.sink ≡ S.beside table.old.book.sink }
 {
     steps_law::<S>();
-    formula.is_formula();
+    formula.formula_law();
     if are_tautologies(formula) {
         let model = recover(alloc, table, Node::True)?;
         return Ok(Some(model));

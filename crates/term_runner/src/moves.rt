@@ -82,7 +82,7 @@ fn push<S: Sink + Drop>(
     ensures beside { S.beside table.new.book.sink ≡ S.beside table.old.book.sink }
 {
     growth_law();
-    formula.is_formula();
+    formula.formula_law();
     let clause = formula.clause(number as usize);
     let found = push_clause(alloc, table, clause, Id(number as u64))?;
     put(stack, found.0, found.1)

@@ -66,7 +66,7 @@ pub fn run_plan_into<S: Sink + Drop>(
     opening_law();
     in_use_law();
     canonical_law();
-    formula.is_formula();
+    formula.formula_law();
     let Ok(live) = start_clauses(alloc, formula) else {
         return Err(RunError::OutOfMemory);
     };

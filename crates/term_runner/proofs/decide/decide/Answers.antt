@@ -11,7 +11,7 @@ returns-then-are_tautologies-clause-found g c =
     let formula = c.args.formula.now in
     let graph = c.args.table.now.graph in
     recovered formula graph c.args.plan.now c.requires.plan c.requires.joins c.requires.ready.vars True
-    (λ a. sym (true_after_all formula a (all_hold formula a (tautologies_satisfied a formula.vars formula.clauses c.is_formula.ensures.literals (sym c.are_tautologies.ensures ∙ c.if-are_tautologies.true))) c.args.plan.now no_stage c.requires.plan.last c.requires.joins refl c.requires.plan.possible))
+    (λ a. sym (true_after_all formula a (all_hold formula a (tautologies_satisfied a formula.vars formula.clauses c.formula_law.ensures.literals (sym c.are_tautologies.ensures ∙ c.if-are_tautologies.true))) c.args.plan.now no_stage c.requires.plan.last c.requires.joins refl c.requires.plan.possible))
     c.in_ok-model.model c.in_ok-model.ensures.one_each c.in_ok-model.ensures.least
 
 pub returns-then-are_tautologies-clause-leaves : goal.returns-then-are_tautologies-clause-leaves

@@ -23,7 +23,7 @@ push_clause-requires-clause-live g c =
 
 pub push_clause-requires-clause-variables : goal.push_clause-requires-clause-variables
 push_clause-requires-clause-variables g c =
-    input_literals c.args.formula.now c.args.table.now c.requires.ready.0 c.requires.ready.1 c.args.number c.requires.from_one c.requires.to_len c.clause-clause.result.now c.clause-clause.ensures c.is_formula.ensures.literals
+    input_literals c.args.formula.now c.args.table.now c.requires.ready.0 c.requires.ready.1 c.args.number c.requires.from_one c.requires.to_len c.clause-clause.result.now c.clause-clause.ensures c.formula_law.ensures.literals
 
 pub push_clause-requires-clause-some : goal.push_clause-requires-clause-some
 push_clause-requires-clause-some g c =

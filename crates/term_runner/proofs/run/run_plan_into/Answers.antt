@@ -19,7 +19,7 @@ returns-in_default-clause-ends g c =
     let tells = g.S.Sink.tells in
     let channel : Channel = g.S.Sink.channel c.args.sink.now in
     let proof = proof_at_start c.start_law.ensures.clauses c.start_law.ensures.none_at_zero c.start_law.ensures.none_above c.derivation_law.ensures.none formula.clauses tells channel c.requires.fresh in
-    nothing_ends tells channel channel formula c.args.order.now c.args.plan.now c.args.limits (whole_at_start c.marks_law.ensures.start formula c.args.limits c.is_formula.ensures.literals tells channel proof) refl refl refl
+    nothing_ends tells channel channel formula c.args.order.now c.args.plan.now c.args.limits (whole_at_start c.marks_law.ensures.start formula c.args.limits c.formula_law.ensures.literals tells channel proof) refl refl refl
 
 pub returns-in-Some-clause-ends : goal.returns-in-Some-clause-ends
 returns-in-Some-clause-ends g c =
@@ -28,7 +28,7 @@ returns-in-Some-clause-ends g c =
     let same : ledger.sink.now ≡ c.args.sink.now = ap (λ (b : Book (MutBor g.row.S.Denot)). b.sink.now) c.new-ledger.ensures in
     let fresh : IsTrue g.S.Sink.tells → (g.S.Sink.channel ledger.sink.now).written ≡ [] = λ t. ap (λ (s : g.row.S.Denot). (g.S.Sink.channel s).written) same ∙ c.requires.fresh t in
     let proof = proof_at_start c.start_law.ensures.clauses c.start_law.ensures.none_at_zero c.start_law.ensures.none_above c.derivation_law.ensures.none formula.clauses g.S.Sink.tells (g.S.Sink.channel ledger.sink.now) fresh in
-    let opened = opened_at g.S.Sink.tells (g.S.Sink.channel ledger.sink.now) formula c.args.limits.max_ids ledger c.is_formula.ensures.literals
+    let opened = opened_at g.S.Sink.tells (g.S.Sink.channel ledger.sink.now) formula c.args.limits.max_ids ledger c.formula_law.ensures.literals
     (ap (λ (b : Book (MutBor g.row.S.Denot)). b.state) c.new-ledger.ensures ∙ c.in-Ok.ensures) (ap (λ (b : Book (MutBor g.row.S.Denot)). b.limit) c.new-ledger.ensures)
     (ap (λ (b : Book (MutBor g.row.S.Denot)). b.in_step) c.new-ledger.ensures) proof fresh in
     subst (λ (s : g.row.S.Denot). Ends g.S.Sink.tells (g.S.Sink.channel c.args.sink.now) (g.S.Sink.channel s) formula c.args.order.now c.args.plan.now c.args.limits c.refute-result.result) (search rules)
@@ -42,7 +42,7 @@ returns-in_default-new-clause-ends g c =
     let channel : Channel = g.S.Sink.channel c.args.sink.now in
     let proof = proof_at_start c.start_law.ensures.clauses c.start_law.ensures.none_at_zero c.start_law.ensures.none_above c.derivation_law.ensures.none formula.clauses tells channel c.requires.fresh in
     subst (λ (s : g.row.S.Denot). Ends tells channel (g.S.Sink.channel s) formula c.args.order.now c.args.plan.now c.args.limits _) (search rules)
-    (nothing_ends tells channel channel formula c.args.order.now c.args.plan.now c.args.limits (whole_at_start c.marks_law.ensures.start formula c.args.limits c.is_formula.ensures.literals tells channel proof) refl refl refl)
+    (nothing_ends tells channel channel formula c.args.order.now c.args.plan.now c.args.limits (whole_at_start c.marks_law.ensures.start formula c.args.limits c.formula_law.ensures.literals tells channel proof) refl refl refl)
 
 pub decide-found-requires-clause-ready : goal.decide-found-requires-clause-ready
 decide-found-requires-clause-ready g c =
@@ -55,7 +55,7 @@ decide-found-requires-clause-ready g c =
     (ap (λ (b : Book (MutBor g.row.S.Denot)). b.state) (book ∙ c.new-ledger.ensures) ∙ c.in-Ok.ensures)
     (ap (λ (b : Book (MutBor g.row.S.Denot)). b.in_step) (book ∙ c.new-ledger.ensures))
     (ap (λ (t : TableState (MutBor g.row.S.Denot)). t.retired) c.new-table.ensures)
-    c.as_slice.ensures.order c.requires.order c.is_formula.ensures.literals c.in_default-first_empty.ensures
+    c.as_slice.ensures.order c.requires.order c.formula_law.ensures.literals c.in_default-first_empty.ensures
 
 pub returns-clause-ends : goal.returns-clause-ends
 returns-clause-ends g c =
@@ -64,7 +64,7 @@ returns-clause-ends g c =
     let moves = c.args.plan.now in
     let limits = c.args.limits in
     let tells = g.S.Sink.tells in
-    let literals = c.is_formula.ensures.literals in
+    let literals = c.formula_law.ensures.literals in
     let table = c.new-table.result in
     let new = c.decide-found.new.table in
     let found = c.decide-found.result in

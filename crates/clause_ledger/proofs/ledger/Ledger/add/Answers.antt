@@ -13,7 +13,7 @@ returns-in-Ok-clause-kept g c clauses proof =
     let state = c.args.self.now.state in
     let good : fault state (state.top + 1) c.args.clause.now c.args.hints.now [] ≡ None = c.strict_addition_law.ensures.good state (state.top + 1) c.args.clause.now c.args.hints.now (omega arith) c.requires.strict in
     let printable : is_printable (Add (state.top + 1) c.args.clause.now c.args.hints.now []) ≡ true =
-    hints_printable state.live state.top c.in_ok-id.ensures.numbers c.in_ok-id.ensures.next c.args.clause.now c.literals_in_range.ensures c.args.hints.now
+    hints_printable state.live state.top c.in_ok-id.ensures.numbers c.in_ok-id.ensures.next c.args.clause.now c.in_ok-id.ensures.range c.args.hints.now
     (c.strict_addition_law.ensures.live state.live c.args.clause.now c.args.hints.now c.requires.strict) in
     let now = c.self.view_is ∙ c.in_ok-id.ensures.kept.1 in
     let sink = ap (λ (b : Book _). b.sink) now in
@@ -26,7 +26,7 @@ returns-in-Err-clause-cut g c clauses proof t fault_is =
     let state = c.args.self.now.state in
     let good : fault state (state.top + 1) c.args.clause.now c.args.hints.now [] ≡ None = c.strict_addition_law.ensures.good state (state.top + 1) c.args.clause.now c.args.hints.now (omega arith) c.requires.strict in
     let printable : is_printable (Add (state.top + 1) c.args.clause.now c.args.hints.now []) ≡ true =
-    hints_printable state.live state.top c.in_ok-id.ensures.numbers c.in_ok-id.ensures.next c.args.clause.now c.literals_in_range.ensures c.args.hints.now
+    hints_printable state.live state.top c.in_ok-id.ensures.numbers c.in_ok-id.ensures.next c.args.clause.now c.in_ok-id.ensures.range c.args.hints.now
     (c.strict_addition_law.ensures.live state.live c.args.clause.now c.args.hints.now c.requires.strict) in
     let now = c.self.view_is ∙ c.in_ok-id.ensures.kept.1 in
     let sink = ap (λ (b : Book _). b.sink) now in

@@ -19,7 +19,7 @@ returns-in-Ok-clause-kept g c clauses proof =
     let state = c.args.self.now.state in
     let good : fault state (state.top + 1) c.args.clause.now [] (bare_groups c.args.candidates.now) ≡ None = c.definition_law.ensures state (state.top + 1) c.args.clause.now c.args.candidates.now (omega arith) c.requires.definition in
     let printable : is_printable (Add (state.top + 1) c.args.clause.now [] (bare_groups c.args.candidates.now)) ≡ true =
-    candidates_printable state.live state.top c.in_ok-id.ensures.numbers c.in_ok-id.ensures.next c.args.clause.now c.literals_in_range.ensures c.args.candidates.now c.requires.definition in
+    candidates_printable state.live state.top c.in_ok-id.ensures.numbers c.in_ok-id.ensures.next c.args.clause.now c.in_ok-id.ensures.range c.args.candidates.now c.requires.definition in
     let now = c.self.view_is ∙ c.in_ok-id.ensures.kept.1 in
     let sink = ap (λ (b : Book _). b.sink) now in
     subst (λ (s : State). IsProofOf clauses g.S.Sink.tells (g.S.Sink.channel c.write_define.new.sink) s) (sym (ap (λ (b : Book _). b.state) now))
@@ -31,7 +31,7 @@ returns-in-Err-clause-cut g c clauses proof t fault_is =
     let state = c.args.self.now.state in
     let good : fault state (state.top + 1) c.args.clause.now [] (bare_groups c.args.candidates.now) ≡ None = c.definition_law.ensures state (state.top + 1) c.args.clause.now c.args.candidates.now (omega arith) c.requires.definition in
     let printable : is_printable (Add (state.top + 1) c.args.clause.now [] (bare_groups c.args.candidates.now)) ≡ true =
-    candidates_printable state.live state.top c.in_ok-id.ensures.numbers c.in_ok-id.ensures.next c.args.clause.now c.literals_in_range.ensures c.args.candidates.now c.requires.definition in
+    candidates_printable state.live state.top c.in_ok-id.ensures.numbers c.in_ok-id.ensures.next c.args.clause.now c.in_ok-id.ensures.range c.args.candidates.now c.requires.definition in
     let now = c.self.view_is ∙ c.in_ok-id.ensures.kept.1 in
     let sink = ap (λ (b : Book _). b.sink) now in
     let front = c.in-Err.ensures.writes.failed t refl in
