@@ -19,8 +19,7 @@ use apply_and::AndCache;
 use clause_terms::{Model, recover};
 use cnf_base::Cnf;
 use host_io::Sink;
-use node_table::{Node, Table, TableError, growth_law, steps_law};
-use operations::entry_law;
+use node_table::{Node, Table, TableError, steps_law};
 use schedule_plan::Plan;
 use std::alloc::Global;
 
@@ -76,8 +75,6 @@ fn run_moves<S: Sink + Drop>(
     ensures beside { S.beside table.new.book.sink ≡ S.beside table.old.book.sink }
 {
     steps_law::<S>();
-    entry_law::<S>();
-    growth_law();
     let mut cache = AndCache::new(alloc, capacity)?;
     let mut stack: Vec<Held> = Vec::new(alloc);
     'moves: for i in 0..plan.len() {

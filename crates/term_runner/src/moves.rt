@@ -51,7 +51,6 @@ pub fn take_move<S: Sink + Drop>(
         → result ≡ Err NodeLimit → LacksPart table.new.graph (top_function formula.now table.old.graph.order next.stack) }
     ensures beside { S.beside table.new.book.sink ≡ S.beside table.old.book.sink }
 {
-    steps_law::<S>();
     entry_law::<S>();
     growth_law();
     match step {
