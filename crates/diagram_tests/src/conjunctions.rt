@@ -1,8 +1,8 @@
 // Conjunctions: their values under each assignment, and the lines of their proofs, worked out by hand.
-ghost use Rattle.std.specs.Prelude.{◌≡◌, ◌≢◌, ◌<◌, ◌≤◌, [], length, OnOk, IsTrue};
+ghost use Rattle.std.specs.Prelude.{◌≡◌, ◌≢◌, ◌<◌, ◌≤◌, [], length, OnOk};
 ghost use Rattle.cnf_base.specs.Truth.{AreClausesOf};
 ghost use Rattle.node_table.specs.Diagram.{IsOrder};
-ghost use Rattle.node_table.specs.Tied.{IsTied};
+ghost use Rattle.node_table.specs.Table.{IsSound};
 ghost use Rattle.apply_and.specs.Cache.{Fits, entries};
 
 use crate::script::{conjoin, end_of, play, told};
@@ -33,10 +33,8 @@ fn function_of_one(
     level: u32,
     row: usize,
 ) -> Result<Node, TableError>
-    requires in_step { IsTrue table.old.book.in_step }
-    requires tied { IsTied table.old.graph table.old.book.state }
-    ensures in_step { OnOk result (IsTrue table.new.book.in_step) }
-    ensures tied { OnOk result (IsTied table.new.graph table.new.book.state) }
+    requires sound { IsSound table.old }
+    ensures sound { OnOk result (IsSound table.new) }
 {
     make(
         rt,
@@ -56,10 +54,8 @@ fn function_of_two(
     row: usize,
 ) -> Result<Node, TableError>
     requires small { level ≤ 1 }
-    requires in_step { IsTrue table.old.book.in_step }
-    requires tied { IsTied table.old.graph table.old.book.state }
-    ensures in_step { OnOk result (IsTrue table.new.book.in_step) }
-    ensures tied { OnOk result (IsTied table.new.graph table.new.book.state) }
+    requires sound { IsSound table.old }
+    ensures sound { OnOk result (IsSound table.new) }
 {
     let high = function_of_one(rt, table, level + 1, row >> 2)?;
     let low = function_of_one(rt, table, level + 1, row & 3)?;
@@ -72,10 +68,8 @@ fn function_of_three(
     table: &mut Table<ProofText>,
     row: usize,
 ) -> Result<Node, TableError>
-    requires in_step { IsTrue table.old.book.in_step }
-    requires tied { IsTied table.old.graph table.old.book.state }
-    ensures in_step { OnOk result (IsTrue table.new.book.in_step) }
-    ensures tied { OnOk result (IsTied table.new.graph table.new.book.state) }
+    requires sound { IsSound table.old }
+    ensures sound { OnOk result (IsSound table.new) }
 {
     let high = function_of_two(rt, table, 1, row >> 4)?;
     let low = function_of_two(rt, table, 1, row & 15)?;
@@ -107,11 +101,9 @@ fn expect_conjunction(
     v: Node,
     expected: Node,
 ) -> Result<(), TableError>
-    requires in_step { IsTrue table.old.book.in_step }
-    requires tied { IsTied table.old.graph table.old.book.state }
+    requires sound { IsSound table.old }
     requires fits { Fits table.old.graph table.old.book.state.live (entries cache.old) }
-    ensures in_step { OnOk result (IsTrue table.new.book.in_step) }
-    ensures tied { OnOk result (IsTied table.new.graph table.new.book.state) }
+    ensures sound { OnOk result (IsSound table.new) }
     ensures fits { OnOk result (Fits table.new.graph table.new.book.state.live (entries cache.new)) }
 {
     let (w, _) = conjoin(rt, table, cache, u, v)?;
@@ -128,10 +120,8 @@ fn all_functions(
     table: &mut Table<ProofText>,
     nodes: &mut Vec<Node>,
 ) -> Result<(), Fail>
-    requires in_step { IsTrue table.old.book.in_step }
-    requires tied { IsTied table.old.graph table.old.book.state }
-    ensures in_step { OnOk result (IsTrue table.new.book.in_step) }
-    ensures tied { OnOk result (IsTied table.new.graph table.new.book.state) }
+    requires sound { IsSound table.old }
+    ensures sound { OnOk result (IsSound table.new) }
 {
     for row in 0..16_usize {
         nodes.push(function_of_two(rt, table, 0, row)?)?;
@@ -155,8 +145,7 @@ fn each_pair(rt: &impl Abort, alloc: Global, reversed: bool) -> Result<(), Fail>
 }
 
 fn each_pair_on(rt: &impl Abort, alloc: Global, table: &mut Table<ProofText>) -> Result<(), Fail>
-    requires in_step { IsTrue table.old.book.in_step }
-    requires tied { IsTied table.old.graph table.old.book.state }
+    requires sound { IsSound table.old }
 {
     let mut nodes = Vec::new(alloc);
     all_functions(rt, table, &mut nodes)?;
@@ -170,8 +159,7 @@ fn each_pair_of(
     cache: &mut AndCache,
     nodes: &[Node],
 ) -> Result<(), Fail>
-    requires in_step { IsTrue table.old.book.in_step }
-    requires tied { IsTied table.old.graph table.old.book.state }
+    requires sound { IsSound table.old }
     requires fits { Fits table.old.graph table.old.book.state.live (entries cache.old) }
 {
     for pair in 0..256_usize {
@@ -228,10 +216,8 @@ fn three_functions(
     first: usize,
     second: usize,
 ) -> Result<[Node; 3], TableError>
-    requires in_step { IsTrue table.old.book.in_step }
-    requires tied { IsTied table.old.graph table.old.book.state }
-    ensures in_step { OnOk result (IsTrue table.new.book.in_step) }
-    ensures tied { OnOk result (IsTied table.new.graph table.new.book.state) }
+    requires sound { IsSound table.old }
+    ensures sound { OnOk result (IsSound table.new) }
 {
     let u = function_of_three(rt, table, first)?;
     let v = function_of_three(rt, table, second)?;
@@ -246,10 +232,8 @@ fn expect_pair(
     first: usize,
     second: usize,
 ) -> Result<(), TableError>
-    requires in_step { IsTrue table.old.book.in_step }
-    requires tied { IsTied table.old.graph table.old.book.state }
-    ensures in_step { OnOk result (IsTrue table.new.book.in_step) }
-    ensures tied { OnOk result (IsTied table.new.graph table.new.book.state) }
+    requires sound { IsSound table.old }
+    ensures sound { OnOk result (IsSound table.new) }
 {
     let [u, v, w] = three_functions(rt, table, first, second)?;
     let mut cache = AndCache::new(alloc, 1)?;

@@ -1,9 +1,9 @@
 // Clauses as terms. The lines are worked out by hand, from the last literal up: the clauses of each node, and at the end the
 // unit with its hints from the top node down.
-ghost use Rattle.std.specs.Prelude.{◌≡◌, ◌≤◌, IfOk, IsTrue, length};
+ghost use Rattle.std.specs.Prelude.{◌≡◌, ◌≤◌, IfOk, length};
 ghost use Rattle.cnf_base.specs.Truth.{AreClausesOf};
 ghost use Rattle.lrat_rules.specs.State.{start};
-ghost use Rattle.node_table.specs.Tied.{IsTied};
+ghost use Rattle.node_table.specs.Table.{IsSound};
 
 use crate::script::{end_of, number};
 use crate::support::{ProofText, is_known, one_clause, open, order, room_of};
@@ -33,8 +33,7 @@ fn push(
     table: &mut Table<ProofText>,
     formula: &Cnf,
 ) -> Result<(Node, Just), TableError>
-    requires in_step { IsTrue table.old.book.in_step }
-    requires tied { IsTied table.old.graph table.old.book.state }
+    requires sound { IsSound table.old }
     requires start { table.old.book.state ≡ start formula.now.clauses }
     requires variables { length table.old.graph.order ≡ formula.now.vars }
     requires one { length formula.now.clauses ≡ 1 }
