@@ -1,5 +1,5 @@
 // Conjunctions: their values under each assignment, and the lines of their proofs, worked out by hand.
-ghost use Rattle.std.specs.Prelude.{◌≡◌, ◌≢◌, ◌<◌, ◌≤◌, [], length, OnOk, IsTrue};
+ghost use Rattle.std.specs.Prelude.{◌≡◌, ◌≢◌, ◌<◌, ◌≤◌, [], length, OnOk};
 ghost use Rattle.cnf_base.specs.Truth.{AreClausesOf};
 ghost use Rattle.node_table.specs.Diagram.{IsOrder};
 ghost use Rattle.node_table.specs.Table.{IsSound};

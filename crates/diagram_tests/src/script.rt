@@ -1,7 +1,7 @@
 // Scripts for a table: the nodes to make, and behind a bar the pairs to conjoin. A word as '0Ta' makes the node of level 0
 // with the children True and a, a word as 'cd' conjoins c and d. Each result is named by the next letter from a on, or by
 // the first one that it has already.
-ghost use Rattle.std.specs.Prelude.{◌≡◌, OnOk, IsTrue, length};
+ghost use Rattle.std.specs.Prelude.{◌≡◌, OnOk, length};
 ghost use Rattle.cnf_base.specs.Truth.{AreClausesOf};
 ghost use Rattle.node_table.specs.Table.{IsSound};
 ghost use Rattle.operations.specs.Entries.{Fits};

@@ -1,6 +1,6 @@
 // Clauses as terms. The lines are worked out by hand, from the last literal up: the clauses of each node, and at the end the
 // unit with its hints from the top node down.
-ghost use Rattle.std.specs.Prelude.{◌≡◌, ◌≤◌, IfOk, IsTrue, length};
+ghost use Rattle.std.specs.Prelude.{◌≡◌, ◌≤◌, IfOk, length};
 ghost use Rattle.cnf_base.specs.Truth.{AreClausesOf};
 ghost use Rattle.lrat_rules.specs.State.{start};
 ghost use Rattle.node_table.specs.Table.{IsSound};
