@@ -1,5 +1,5 @@
 -- One good line more keeps the proof, and the front of one leaves a proof that was cut short.
-use Rattle.std.proofs.Common.{◌≡◌, ℕ, ◌+◌, ◌≤◌, Bool, true, ◌&&◌, ℤ, List, [], ◌∷◌, ◌++◌, take, drop, Option, Some, None, inl, inr, refl, sym, ◌∙◌, ap, subst, arith, eq-eqb}
+use Rattle.std.proofs.Common.{◌≡◌, ℕ, ◌+◌, ◌≤◌, Bool, true, ◌&&◌, ℤ, List, [], ◌∷◌, ◌++◌, length, take, drop, Option, Some, None, inl, inr, refl, sym, ◌∙◌, ap, arith, eq-eqb}
 use Rattle.std.proofs.lemmas.Bool.{and_parts, and_from, or_left, or_right, lt-ltb, le-leb, ne_eqb, cases_eq}
 use Rattle.std.proofs.lemmas.List.{take-append-drop}
 use Rattle.std.specs.Prelude.{IsTrue, is_some, nat_lt, nat_le, if◌then◌else◌, ◌==◌}
@@ -13,9 +13,10 @@ use Rattle.host_io.specs.Channel.{Channel}
 use Rattle.lrat_rules.specs.State.{State, Live, clause_at, with_clause}
 use Rattle.lrat_rules.specs.Addition.{holds_negated, if_live, is_candidate, fault}
 use Rattle.lrat_rules.specs.Strict.{IsDefinition}
-use Rattle.lrat_rules.specs.Run.{Spells, IsCutProof, step_fault, after_step}
+use Rattle.lrat_rules.specs.Run.{step_fault, after_step}
+use Rattle.lrat_rules.specs.Derivation.{IsDerivation, IsCutProof, deletes_added, text_of}
 use Rattle.lrat_write.specs.Emitted.{bare_groups}
-use Rattle.clause_ledger.specs.Book.{IsProofOf, with_next}
+use Rattle.clause_ledger.specs.Book.{IsProofOf, IsWritten-IsProofOf, with_next}
 use Rattle.clause_ledger.proofs.Rows.{AreNumbers}
 
 -- live numbers are in range
@@ -82,47 +83,50 @@ LiveLaw = (live : Live) (id other : ℕ) (clause : List ℤ) → clause_at (with
 at_other : LiveLaw → (live : Live) (id other : ℕ) (clause : List ℤ) → (other ≡ id → ⊥) → clause_at (with_clause live id clause) other ≡ clause_at live other
 at_other law live id other clause ne = law live id other clause ∙ ap (λ b. if b then Some clause else clause_at live other) (ne_eqb other id ne)
 
-pub next_kept : {clauses : List (List ℤ)} {tells : Bool} {before after : Channel} (state : State) (clause : List ℤ) → LiveLaw → IsProofOf clauses tells before state
-    → (IsTrue tells → Spells clauses after.written (with_next state clause)) → IsProofOf clauses tells after (with_next state clause)
-next_kept {clauses = clauses} state clause law proof spelled = record {
-  spelled = spelled;
-  formula = λ i lt. at_other law state.live (state.top + 1) (i + 1) clause (λ same. omega (arith, proof.from_formula)) ∙ proof.formula i lt;
-  numbers = λ id other is.
-      elim (cases_eq id (state.top + 1)) [
-        | inl same ↦ (omega arith, omega arith)
-        | inr differ ↦ let range = proof.numbers id other (sym (at_other law state.live (state.top + 1) id clause differ) ∙ is) in (range.0, omega (arith, range.1))
-      ];
-  from_formula = omega (arith, proof.from_formula);
-}
+-- a derivation with one good step more, and its written form
+abbrev pub MoreLaw : Type 0
+MoreLaw = (clauses : List (List ℤ)) (steps : List Step) (state : State) (step : Step) → IsDerivation clauses steps state → step_fault state step ≡ None
+    → IsTrue (is_printable step) → IsTrue (deletes_added (length clauses) state step) → IsDerivation clauses (steps ++ step ∷ []) (after_step state step)
 
--- the line of a good step on a text of good steps leads one step on
-abbrev pub SpellsLaw : Type 0
-SpellsLaw = (clauses : List (List ℤ)) (bytes : List ℕ) (state : State) (step : Step) → Spells clauses bytes state → step_fault state step ≡ None → IsTrue (is_printable step)
-    → Spells clauses (bytes ++ line_of_step step) (after_step state step)
+abbrev pub TextLaw : Type 0
+TextLaw = (steps : List Step) (step : Step) → text_of (steps ++ step ∷ []) ≡ text_of steps ++ line_of_step step
 
 module _ (state : State) (clause : List ℤ) (hints : List ℕ) (groups : List Group) (good : fault state (state.top + 1) clause hints groups ≡ None)
     (printable : is_printable (Add (state.top + 1) clause hints groups) ≡ true) where
+  abbrev step : Step
+  step = Add (state.top + 1) clause hints groups
+
   -- the whole line of a good addition under the next number
-  pub addition_kept : LiveLaw → SpellsLaw → {clauses : List (List ℤ)} {tells : Bool} {before after : Channel} → IsProofOf clauses tells before state
-      → (IsTrue tells → after.written ≡ before.written ++ line_of_step (Add (state.top + 1) clause hints groups)) → IsProofOf clauses tells after (with_next state clause)
-  addition_kept law spells {clauses = clauses} {before = before} proof wrote =
-      next_kept state clause law proof (λ t. subst (λ (bytes : List ℕ). Spells clauses bytes (with_next state clause)) (sym (wrote t))
-      (spells clauses before.written state (Add (state.top + 1) clause hints groups) (proof.spelled t) good printable))
+  pub addition_kept : LiveLaw → MoreLaw → TextLaw → {clauses : List (List ℤ)} {tells : Bool} {before after : Channel} → IsProofOf clauses tells before state
+      → (IsTrue tells → after.written ≡ before.written ++ line_of_step step) → IsProofOf clauses tells after (with_next state clause)
+  addition_kept law more text {clauses = clauses} proof wrote = record {
+    steps = proof.steps ++ step ∷ [];
+    derived = more clauses proof.steps state step proof.derived good printable refl;
+    text = λ t. wrote t ∙ ap (λ (bytes : List ℕ). bytes ++ line_of_step step) (proof.text t) ∙ sym (text proof.steps step);
+    formula = λ i lt. at_other law state.live (state.top + 1) (i + 1) clause (λ same. omega (arith, proof.from_formula)) ∙ proof.formula i lt;
+    numbers = λ id other is.
+        elim (cases_eq id (state.top + 1)) [
+          | inl same ↦ (omega arith, omega arith)
+          | inr differ ↦ let range = proof.numbers id other (sym (at_other law state.live (state.top + 1) id clause differ) ∙ is) in (range.0, omega (arith, range.1))
+        ];
+    from_formula = omega (arith, proof.from_formula);
+  }
 
   -- a front of it
   pub addition_cut : {clauses : List (List ℤ)} {tells : Bool} {before : Channel} → IsProofOf clauses tells before state → IsTrue tells
-      → (n : ℕ) (written : List ℕ) → written ≡ before.written ++ take n (line_of_step (Add (state.top + 1) clause hints groups)) → IsCutProof clauses written
+      → (n : ℕ) (written : List ℕ) → written ≡ before.written ++ take n (line_of_step step) → IsCutProof clauses written state (with_next state clause)
   addition_cut {before = before} proof t n written is = record {
     whole = before.written;
-    cut = take n (line_of_step (Add (state.top + 1) clause hints groups));
+    cut = take n (line_of_step step);
     parts = is;
-    state = state;
-    spelled = proof.spelled t;
+    written = IsWritten-IsProofOf proof t;
     line = record {
-      step = Add (state.top + 1) clause hints groups;
+      step = step;
       good = good;
       printable = printable;
-      rest = drop n (line_of_step (Add (state.top + 1) clause hints groups));
-      line = sym (take-append-drop n (line_of_step (Add (state.top + 1) clause hints groups)));
+      deletions = refl;
+      leads = refl;
+      rest = drop n (line_of_step step);
+      line = sym (take-append-drop n (line_of_step step));
     };
   }

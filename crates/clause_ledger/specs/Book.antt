@@ -6,7 +6,7 @@ use Rattle.cnf_base.specs.declared.step.Step.TheVariants.{Add}
 use Rattle.cnf_base.specs.ProofText.{line_of_step}
 use Rattle.host_io.specs.Channel.{Channel, Rose}
 use Rattle.lrat_rules.specs.State.{State, state_code, clause_at, with_clause}
-use Rattle.lrat_rules.specs.Derivation.{IsDerivation, text_of}
+use Rattle.lrat_rules.specs.Derivation.{IsDerivation, IsWritten, text_of}
 use Rattle.lrat_write.specs.Emitted.{bare_groups}
 
 -- its sink, its live clauses with the greatest number, the greatest number allowed, whether no write failed yet, and
@@ -33,6 +33,11 @@ pub record IsProofOf (clauses : List (List ℤ)) (tells : Bool) (channel : Chann
   pub formula : (i : ℕ) → i < length clauses → clause_at state.live (i + 1) ≡ Some (slice_index_or clauses i [])
   pub numbers : (id : ℕ) (clause : List ℤ) → clause_at state.live id ≡ Some clause → (0 < id) × (id ≤ state.top)
   pub from_formula : length clauses ≤ state.top
+
+-- where the sink tells what was written, this is the written form of a derivation
+pub IsWritten-IsProofOf : {clauses : List (List ℤ)} {tells : Bool} {channel : Channel} {state : State} → IsProofOf clauses tells channel state → IsTrue tells
+    → IsWritten clauses channel.written state
+IsWritten-IsProofOf proof t = record { steps = proof.steps; derived = proof.derived; text = proof.text t }
 
 -- a call of a ledger touches nothing of its sink but what is written, and the counts of faults never fall
 pub record OnlyWrites (before after : Channel) : Type 0 where

@@ -1,7 +1,9 @@
 // The ledger: live clauses, and the lines that made them.
 ghost use Rattle.std.specs.Prelude.{◌≡◌, ◌≢◌, ◌<◌, ◌≤◌, ◌+◌, ◌-◌, ◌++◌, ◌↔◌, ℕ, ℤ, List, [], Some, true, false, IsTrue, OnOk, IfOk, IfErr, IsErrOf, OnErr, is_ok, length};
 ghost use Rattle.std.specs.Option.{option_copied};
-ghost use Rattle.cnf_base.specs.ProofText.{max_id};
+ghost use Rattle.std.specs.List.{list_all};
+ghost use Rattle.cnf_base.specs.Truth.{is_literal_of};
+ghost use Rattle.cnf_base.specs.ProofText.{max_id, max_literal};
 ghost use Rattle.host_io.specs.Channel.{Rose, Flushes};
 ghost use Rattle.lrat_rules.specs.State.{start, clause_at};
 ghost use Rattle.lrat_rules.specs.Strict.{RefutesStrictly, IsDefinition};
@@ -10,7 +12,7 @@ ghost use Rattle.clause_ledger.specs.Book.{IsProofOf, OnlyWrites, IsTorn, next_l
 
 use crate::error::LedgerError;
 use crate::live::LiveClauses;
-use cnf_base::{Cnf, Id, Lit, OutOfMemory, literals_in_range};
+use cnf_base::{Cnf, Id, Lit, OutOfMemory};
 use host_io::Sink;
 use lrat_rules::{definition_law, derivation_law, live_law, start_law, strict_addition_law};
 use lrat_write::{write_add, write_define};
@@ -57,7 +59,7 @@ impl<S: Sink + Drop> Ledger<S> {
     {
         derivation_law();
         start_law();
-        formula.is_formula();
+        formula.formula_law();
         match start_clauses(alloc, formula) {
             Ok(live) => Ok(Ledger::new(live, sink, max_ids)),
             Err(e) => Err((sink, e)),
@@ -115,7 +117,6 @@ impl<S: Sink + Drop> Ledger<S> {
         derivation_law();
         strict_addition_law();
         live_law();
-        literals_in_range(clause);
         let id = self.keep(clause)?;
         match write_add(&mut self.sink, id, clause, hints) {
             Ok(()) => Ok(id),
@@ -155,7 +156,6 @@ impl<S: Sink + Drop> Ledger<S> {
         derivation_law();
         definition_law();
         live_law();
-        literals_in_range(clause);
         let id = self.keep(clause)?;
         match write_define(&mut self.sink, id, clause, candidates) {
             Ok(()) => Ok(id),
@@ -237,6 +237,7 @@ impl<S: Sink + Drop> Ledger<S> {
         ensures unchanged { OnErr result (self.new ≡ self.old) }
         ensures memory { IsErrOf result LedgerError.OutOfMemory → length clause.now ≤ 4 → self.old.spare ≡ 0 }
         ensures next { OnOk result (self.old.state.top + 1 ≤ max_id) }
+        ensures range { OnOk result (IsTrue (list_all (is_literal_of max_literal) clause.now)) }
         ensures numbers { (id : ℕ) (clause : List ℤ) → clause_at self.old.state.live id ≡ Some clause → (0 < id) × (id ≤ self.old.state.top) }
     {
         let top = self.live.top();

@@ -1,7 +1,10 @@
 // Live clauses by their numbers, which are consecutive, stored flat: one row of literals and one of the clauses'
 // ends, so that a clause costs no allocation. Place i of the ends is that of clause i + 1.
-ghost use Rattle.std.specs.Prelude.{◌≡◌, ◌+◌, ◌-◌, ◌<◌, ◌≤◌, ℕ, ℤ, List, [], None, Some, OnOk, OnErr, ◌++◌, ◌∷◌, length, slice_range, slice_index};
+ghost use Rattle.std.specs.Prelude.{◌≡◌, ◌+◌, ◌-◌, ◌<◌, ◌≤◌, ℕ, ℤ, List, [], None, Some, OnOk, OnErr, ◌++◌, ◌∷◌, IsTrue, length, slice_range, slice_index, vec_len, vec_capacity};
+ghost use Rattle.std.specs.List.{list_all};
 ghost use Rattle.std.specs.Option.{option_copied};
+ghost use Rattle.cnf_base.specs.Truth.{is_literal_of};
+ghost use Rattle.cnf_base.specs.ProofText.{max_literal};
 ghost use Rattle.cnf_base.specs.Formula.{start_at};
 ghost use Rattle.clause_ledger.specs.Book.{with_next};
 ghost use Rattle.clause_ledger.specs.Rows.{AreRows, Stored, spare_of};
@@ -59,6 +62,7 @@ impl LiveClauses {
         ensures spare { OnOk result (length clause.now ≤ 4 → self.old.spare ≤ self.new.spare + 1) }
         ensures err { OnErr result (self.new ≡ self.old) }
         ensures full { OnErr result (length clause.now ≤ 4 → self.old.spare ≡ 0) }
+        ensures range { OnOk result (IsTrue (list_all (is_literal_of max_literal) clause.now)) }
     {
         start_law();
         push_row(&mut self.literals, &mut self.ends, clause)?;
@@ -100,12 +104,26 @@ fn push_row(literals: &mut Vec<Lit>, ends: &mut Vec<u64>, clause: &[Lit]) -> Res
     ensures err { OnErr result ((literals.new.items ≡ literals.old.items) × (ends.new.items ≡ ends.old.items)) }
     ensures err_spare { OnErr result (spare_of literals.new ends.new ≡ spare_of literals.old ends.old) }
     ensures full { OnErr result (length clause.now ≤ 4 → spare_of literals.old ends.old ≡ 0) }
+    ensures range { OnOk result (IsTrue (list_all (is_literal_of max_literal) clause.now)) }
 {
     literals.reserve(clause.len())?;
     ends.reserve(1)?;
-    literals.extend_from_slice(clause)?;
+    copy(literals, clause);
     ends.push_reserved(literals.as_slice().len() as u64);
     Ok(())
+}
+
+// Copies a clause into the room that is there. The type of a literal gives its range.
+fn copy(literals: &mut Vec<Lit>, clause: &[Lit])
+    requires room { vec_len literals.old + length clause.now ≤ vec_capacity literals.old }
+    ensures items { literals.new.items ≡ literals.old.items ++ clause.now }
+    ensures capacity { vec_capacity literals.new ≡ vec_capacity literals.old }
+    ensures range { IsTrue (list_all (is_literal_of max_literal) clause.now) }
+{
+    for literal in clause {
+        let _var = literal.var();
+        literals.push_reserved(*literal);
+    }
 }
 
 // The clause at a place of the ends.

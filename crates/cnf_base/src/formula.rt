@@ -72,8 +72,8 @@ impl Cnf {
         true
     }
 
-    /// What every formula meets: its limits, and that its literals are of its variables.
-    pub fn is_formula(&self)
+    /// For the prover alone: what every formula meets, its limits, and that its literals are of its variables.
+    pub fn formula_law(&self)
         ensures { IsFormula self.now }
     {
         let _vars = self.vars;

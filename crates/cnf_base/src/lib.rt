@@ -8,7 +8,6 @@ mod laws;
 mod list;
 mod literal;
 mod memory;
-mod range;
 mod step;
 
 pub use examples::{number_examples, proof_example, step_examples, token_examples};
@@ -17,5 +16,4 @@ pub use laws::{front_of_line_law, number_laws, one_more_line_law, step_line_law,
 pub use list::{Group, GroupList, Id, IdList, Items, LitList};
 pub use literal::Lit;
 pub use memory::OutOfMemory;
-pub use range::literals_in_range;
 pub use step::Step;

@@ -10,15 +10,25 @@ use Rattle.cnf_base.specs.Number.{numeral_value}
 use Rattle.schedule_plan.specs.declared.limits.Limits.{Limits}
 use Rattle.command_line.specs.Parser.{the_app}
 
--- decide this formula's file within limits and write the proof to that one, or judge the proof in that one over it
+-- to decide the formula in a file within limits, and to write the proof to another one
+pub record ToSolve : Type 0 where
+  pub file : Text
+  pub proof : Text
+  pub limits : Limits
+
+-- to judge the proof in a file over the formula in another one
+pub record ToCheck : Type 0 where
+  pub file : Text
+  pub proof : Text
+
 pub data Command : Type 0 where
-  Solve : Text → Text → Limits → Command
-  Check : Text → Text → Command
+  Solve : ToSolve → Command
+  Check : ToCheck → Command
 
 -- the formula's file
 abbrev pub formula_file : Command → Text
-formula_file (Solve file proof limits) = file
-formula_file (Check file proof) = file
+formula_file (Solve task) = task.file
+formula_file (Check task) = task.file
 
 -- the limits where the words give none
 abbrev pub default_limits : Limits
@@ -26,8 +36,8 @@ default_limits = record { cache = 1000000; max_nodes = 10000000; max_ids = 10000
 
 -- the limits that a command runs within
 abbrev pub limits_of : Command → Limits
-limits_of (Solve file proof limits) = limits
-limits_of (Check file proof) = default_limits
+limits_of (Solve task) = task.limits
+limits_of (Check task) = default_limits
 
 -- what words may mean: a command, the wish for help, or nothing that the program does
 pub data Meaning : Type 0 where
@@ -69,12 +79,12 @@ limits_given nodes ids = limits_with (number_given default_limits.max_nodes 1000
 
 -- two files, and limits to solve within
 abbrev pub to_solve : Option (Text × Text) → Option Limits → Meaning
-to_solve (Some names) (Some limits) = Asks (Solve names.0 names.1 limits)
+to_solve (Some names) (Some limits) = Asks (Solve (record { file = names.0; proof = names.1; limits = limits }))
 to_solve _ _ = Misuse
 
 -- two files to check
 abbrev pub to_check : Option (Text × Text) → Meaning
-to_check (Some names) = Asks (Check names.0 names.1)
+to_check (Some names) = Asks (Check (record { file = names.0; proof = names.1 }))
 to_check None = Misuse
 
 abbrev pub solve_means : List Row → Meaning

@@ -1,5 +1,5 @@
 -- What reading the words answers.
-use Rattle.std.specs.Prelude.{◌≡◌, ◌≢◌, ℕ, List, ⊤, Option, option_map}
+use Rattle.std.specs.Prelude.{◌≡◌, ◌≢◌, ◌⊎◌, ℕ, List, ⊤, Option, option_map}
 use Rattle.std.specs.Borrow.{Bor}
 use Rattle.clap.specs.declared.error.ErrorKind.{ErrorKind}
 use Rattle.clap.specs.declared.error.ErrorKind.TheVariants as kind
@@ -15,14 +15,14 @@ text_of = option_map (λ s. s.now)
 
 -- the command with its values
 abbrev pub command_of : Asked → Command
-command_of (asked.Solve files limits) = Solve files.formula.now files.proof.now limits
-command_of (asked.Check files) = Check files.formula.now files.proof.now
+command_of (asked.Solve files limits) = Solve (record { file = files.formula.now; proof = files.proof.now; limits = limits })
+command_of (asked.Check files) = Check (record { file = files.formula.now; proof = files.proof.now })
 
--- what a refusal of the parser is, by its kind
+-- What a refusal of the parser is, by its kind. Memory may run out in the parser, or where the text of help is made.
 abbrev pub IsRefusalOf : ErrorKind → Refusal → Type 0
 IsRefusalOf k (refusal.Help text) = k ≡ kind.DisplayHelp
 IsRefusalOf k refusal.Usage = (k ≢ kind.OutOfMemory) × (refusal_means k ≡ Misuse)
-IsRefusalOf k refusal.OutOfMemory = ⊤
+IsRefusalOf k refusal.OutOfMemory = (k ≡ kind.OutOfMemory) ⊎ (k ≡ kind.DisplayHelp)
 
 -- the words may mean this refusal; want of memory is free
 abbrev pub IsRefusal : List (List ℕ) → Refusal → Type 0

@@ -6,6 +6,7 @@ ghost use Rattle.std.specs.Iterator.Runs.{WholeRun};
 ghost use Rattle.clap.specs.Words.{found_of, kind_of, rows_of, subcommand_rows_of};
 ghost use Rattle.schedule_plan.specs.Limits.{AreLimits};
 ghost use Rattle.command_line.specs.Command.{Asks, Misuse, check_means, command, command_means, limits_of, solve_means, taken_means, two_names};
+ghost use Rattle.command_line.specs.declared.words.Refusal.TheVariants.{Usage};
 ghost use Rattle.command_line.specs.Reading.{IsRefusal, IsRefusalOf, command_of, text_of};
 
 use crate::limits::limits_given;
@@ -52,16 +53,24 @@ pub fn read_words(alloc: Global, words: &[String]) -> Result<Asked<'_>, Refusal>
         return Err(Refusal::OutOfMemory);
     };
     match parser.try_get_matches_from(words) {
-        Ok(matches) => match asked_of(&matches) {
-            Some(asked) => Ok(asked),
-            None => Err(Refusal::Usage),
-        },
+        Ok(matches) => asked_of(&matches),
         Err(error) => Err(refusal_of(alloc, &error)),
     }
 }
 
-// What the words that the parser took ask for.
-fn asked_of<'a>(matches: &ArgMatches<'a>) -> Option<Asked<'a>>
+// What the words that the parser took ask for; else they are faulty, whatever memory there is.
+fn asked_of<'a>(matches: &ArgMatches<'a>) -> Result<Asked<'a>, Refusal>
+    ensures meant { MatchResult result (λ asked. taken_means (subcommand_rows_of matches.now) ≡ Asks (command_of asked))
+        (λ refusal. (refusal ≡ Usage) × (taken_means (subcommand_rows_of matches.now) ≡ Misuse)) }
+    ensures limits { IfOk result (λ asked. AreLimits (limits_of (command_of asked))) }
+{
+    match subcommand_of(matches) {
+        Some(asked) => Ok(asked),
+        None => Err(Refusal::Usage),
+    }
+}
+
+fn subcommand_of<'a>(matches: &ArgMatches<'a>) -> Option<Asked<'a>>
     ensures meant { MatchOption result (taken_means (subcommand_rows_of matches.now) ≡ Misuse)
         (λ asked. taken_means (subcommand_rows_of matches.now) ≡ Asks (command_of asked)) }
     ensures limits { IfSome result (λ asked. AreLimits (limits_of (command_of asked))) }

@@ -2,8 +2,9 @@
 ghost use Rattle.std.specs.Prelude.{◌≡◌, ◌≢◌, ◌<◌, ◌≤◌, [], length, OnOk, IsTrue};
 ghost use Rattle.cnf_base.specs.Truth.{AreClausesOf};
 ghost use Rattle.node_table.specs.Diagram.{IsOrder};
-ghost use Rattle.node_table.specs.Tied.{IsTied};
-ghost use Rattle.apply_and.specs.Cache.{Fits, entries};
+ghost use Rattle.node_table.specs.Table.{IsSound};
+ghost use Rattle.operations.specs.Entries.{Fits};
+ghost use Rattle.apply_and.specs.Cache.{entries};
 
 use crate::script::{conjoin, end_of, play, told};
 use crate::support::{ProofText, is_known, make, open, order, room_of};
@@ -33,10 +34,8 @@ fn function_of_one(
     level: u32,
     row: usize,
 ) -> Result<Node, TableError>
-    requires in_step { IsTrue table.old.book.in_step }
-    requires tied { IsTied table.old.graph table.old.book.state }
-    ensures in_step { OnOk result (IsTrue table.new.book.in_step) }
-    ensures tied { OnOk result (IsTied table.new.graph table.new.book.state) }
+    requires sound { IsSound table.old }
+    ensures sound { OnOk result (IsSound table.new) }
 {
     make(
         rt,
@@ -56,10 +55,8 @@ fn function_of_two(
     row: usize,
 ) -> Result<Node, TableError>
     requires small { level ≤ 1 }
-    requires in_step { IsTrue table.old.book.in_step }
-    requires tied { IsTied table.old.graph table.old.book.state }
-    ensures in_step { OnOk result (IsTrue table.new.book.in_step) }
-    ensures tied { OnOk result (IsTied table.new.graph table.new.book.state) }
+    requires sound { IsSound table.old }
+    ensures sound { OnOk result (IsSound table.new) }
 {
     let high = function_of_one(rt, table, level + 1, row >> 2)?;
     let low = function_of_one(rt, table, level + 1, row & 3)?;
@@ -72,10 +69,8 @@ fn function_of_three(
     table: &mut Table<ProofText>,
     row: usize,
 ) -> Result<Node, TableError>
-    requires in_step { IsTrue table.old.book.in_step }
-    requires tied { IsTied table.old.graph table.old.book.state }
-    ensures in_step { OnOk result (IsTrue table.new.book.in_step) }
-    ensures tied { OnOk result (IsTied table.new.graph table.new.book.state) }
+    requires sound { IsSound table.old }
+    ensures sound { OnOk result (IsSound table.new) }
 {
     let high = function_of_two(rt, table, 1, row >> 4)?;
     let low = function_of_two(rt, table, 1, row & 15)?;
@@ -107,12 +102,10 @@ fn expect_conjunction(
     v: Node,
     expected: Node,
 ) -> Result<(), TableError>
-    requires in_step { IsTrue table.old.book.in_step }
-    requires tied { IsTied table.old.graph table.old.book.state }
-    requires fits { Fits table.old.graph table.old.book.state.live (entries cache.old) }
-    ensures in_step { OnOk result (IsTrue table.new.book.in_step) }
-    ensures tied { OnOk result (IsTied table.new.graph table.new.book.state) }
-    ensures fits { OnOk result (Fits table.new.graph table.new.book.state.live (entries cache.new)) }
+    requires sound { IsSound table.old }
+    requires fits { Fits table.old (entries cache.old) }
+    ensures sound { OnOk result (IsSound table.new) }
+    ensures fits { OnOk result (Fits table.new (entries cache.new)) }
 {
     let (w, _) = conjoin(rt, table, cache, u, v)?;
     assert!(rt;
@@ -128,10 +121,8 @@ fn all_functions(
     table: &mut Table<ProofText>,
     nodes: &mut Vec<Node>,
 ) -> Result<(), Fail>
-    requires in_step { IsTrue table.old.book.in_step }
-    requires tied { IsTied table.old.graph table.old.book.state }
-    ensures in_step { OnOk result (IsTrue table.new.book.in_step) }
-    ensures tied { OnOk result (IsTied table.new.graph table.new.book.state) }
+    requires sound { IsSound table.old }
+    ensures sound { OnOk result (IsSound table.new) }
 {
     for row in 0..16_usize {
         nodes.push(function_of_two(rt, table, 0, row)?)?;
@@ -155,8 +146,7 @@ fn each_pair(rt: &impl Abort, alloc: Global, reversed: bool) -> Result<(), Fail>
 }
 
 fn each_pair_on(rt: &impl Abort, alloc: Global, table: &mut Table<ProofText>) -> Result<(), Fail>
-    requires in_step { IsTrue table.old.book.in_step }
-    requires tied { IsTied table.old.graph table.old.book.state }
+    requires sound { IsSound table.old }
 {
     let mut nodes = Vec::new(alloc);
     all_functions(rt, table, &mut nodes)?;
@@ -170,9 +160,8 @@ fn each_pair_of(
     cache: &mut AndCache,
     nodes: &[Node],
 ) -> Result<(), Fail>
-    requires in_step { IsTrue table.old.book.in_step }
-    requires tied { IsTied table.old.graph table.old.book.state }
-    requires fits { Fits table.old.graph table.old.book.state.live (entries cache.old) }
+    requires sound { IsSound table.old }
+    requires fits { Fits table.old (entries cache.old) }
 {
     for pair in 0..256_usize {
         let (i, j) = (pair >> 4, pair & 15);
@@ -228,10 +217,8 @@ fn three_functions(
     first: usize,
     second: usize,
 ) -> Result<[Node; 3], TableError>
-    requires in_step { IsTrue table.old.book.in_step }
-    requires tied { IsTied table.old.graph table.old.book.state }
-    ensures in_step { OnOk result (IsTrue table.new.book.in_step) }
-    ensures tied { OnOk result (IsTied table.new.graph table.new.book.state) }
+    requires sound { IsSound table.old }
+    ensures sound { OnOk result (IsSound table.new) }
 {
     let u = function_of_three(rt, table, first)?;
     let v = function_of_three(rt, table, second)?;
@@ -246,10 +233,8 @@ fn expect_pair(
     first: usize,
     second: usize,
 ) -> Result<(), TableError>
-    requires in_step { IsTrue table.old.book.in_step }
-    requires tied { IsTied table.old.graph table.old.book.state }
-    ensures in_step { OnOk result (IsTrue table.new.book.in_step) }
-    ensures tied { OnOk result (IsTied table.new.graph table.new.book.state) }
+    requires sound { IsSound table.old }
+    ensures sound { OnOk result (IsSound table.new) }
 {
     let [u, v, w] = three_functions(rt, table, first, second)?;
     let mut cache = AndCache::new(alloc, 1)?;

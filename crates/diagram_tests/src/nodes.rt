@@ -23,7 +23,7 @@ fn played(
     script: &str,
 ) -> Result<Played, Fail> {
     let formula = one_clause(alloc, "1 2")?;
-    formula.is_formula();
+    formula.formula_law();
     play(rt, alloc, &formula, reversed, room, script)
 }
 

@@ -31,7 +31,7 @@ fn ran(alloc: Global, formula: &Cnf, room: &Room) -> Result<Result<Run, RunError
     Ok(result)
 }
 
-// How a run ended: the last number where it has an answer.
+// How a run ended: the last number where the formula was decided.
 fn end_of(alloc: Global, ended: &Result<Run, RunError>) -> Result<String, Fail> {
     match ended {
         Ok(run) => answer_of(alloc, run),
@@ -47,6 +47,8 @@ fn answer_of(alloc: Global, run: &Run) -> Result<String, Fail> {
             let values = values(alloc, model.as_slice())?;
             Ok(format!(in alloc; "{values} {last}")?)
         }
+        Outcome::NodeLimit => Ok(format!(in alloc; "the nodes are used up")?),
+        Outcome::IdLimit => Ok(format!(in alloc; "the clause numbers are used up")?),
     }
 }
 

@@ -3,8 +3,9 @@
 // the first one that it has already.
 ghost use Rattle.std.specs.Prelude.{◌≡◌, OnOk, IsTrue, length};
 ghost use Rattle.cnf_base.specs.Truth.{AreClausesOf};
-ghost use Rattle.node_table.specs.Tied.{IsTied};
-ghost use Rattle.apply_and.specs.Cache.{Fits, entries};
+ghost use Rattle.node_table.specs.Table.{IsSound};
+ghost use Rattle.operations.specs.Entries.{Fits};
+ghost use Rattle.apply_and.specs.Cache.{entries};
 
 use crate::support::{ProofText, Room, is_known, make, open, order};
 use apply_and::{AndCache, and};
@@ -57,8 +58,7 @@ fn take_script(
     results: &mut Vec<Named>,
     script: &str,
 ) -> Result<(), TableError>
-    requires in_step { IsTrue table.old.book.in_step }
-    requires tied { IsTied table.old.graph table.old.book.state }
+    requires sound { IsSound table.old }
 {
     let (made, joined) = halves(script);
     make_all(rt, table, results, made)?;
@@ -79,10 +79,8 @@ fn make_all(
     results: &mut Vec<Named>,
     words: &str,
 ) -> Result<(), TableError>
-    requires in_step { IsTrue table.old.book.in_step }
-    requires tied { IsTied table.old.graph table.old.book.state }
-    ensures in_step { OnOk result (IsTrue table.new.book.in_step) }
-    ensures tied { OnOk result (IsTied table.new.graph table.new.book.state) }
+    requires sound { IsSound table.old }
+    ensures sound { OnOk result (IsSound table.new) }
 {
     for word in words.split_whitespace() {
         let (level, high, low) = children(results.as_slice(), word);
@@ -99,9 +97,8 @@ fn join_all(
     results: &mut Vec<Named>,
     words: &str,
 ) -> Result<(), TableError>
-    requires in_step { IsTrue table.old.book.in_step }
-    requires tied { IsTied table.old.graph table.old.book.state }
-    requires fits { Fits table.old.graph table.old.book.state.live (entries cache.old) }
+    requires sound { IsSound table.old }
+    requires fits { Fits table.old (entries cache.old) }
 {
     for word in words.split_whitespace() {
         let (u, v) = operands(results.as_slice(), word);
@@ -119,12 +116,10 @@ pub fn conjoin(
     u: Node,
     v: Node,
 ) -> Result<(Node, u64), TableError>
-    requires in_step { IsTrue table.old.book.in_step }
-    requires tied { IsTied table.old.graph table.old.book.state }
-    requires fits { Fits table.old.graph table.old.book.state.live (entries cache.old) }
-    ensures in_step { OnOk result (IsTrue table.new.book.in_step) }
-    ensures tied { OnOk result (IsTied table.new.graph table.new.book.state) }
-    ensures fits { OnOk result (Fits table.new.graph table.new.book.state.live (entries cache.new)) }
+    requires sound { IsSound table.old }
+    requires fits { Fits table.old (entries cache.old) }
+    ensures sound { OnOk result (IsSound table.new) }
+    ensures fits { OnOk result (Fits table.new (entries cache.new)) }
 {
     assert!(rt; is_known(table, u));
     assert!(rt; is_known(table, v));

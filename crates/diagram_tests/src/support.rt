@@ -3,7 +3,7 @@ ghost use Rattle.std.specs.Prelude.{◌≡◌, ◌≤◌, ◌+◌, [], length, n
 ghost use Rattle.cnf_base.specs.Truth.{AreClausesOf};
 ghost use Rattle.lrat_rules.specs.State.{start};
 ghost use Rattle.node_table.specs.Diagram.{IsBelow, IsOrder, is_node};
-ghost use Rattle.node_table.specs.Tied.{IsTied};
+ghost use Rattle.node_table.specs.Table.{IsSound};
 
 use clause_ledger::Ledger;
 use cnf_base::{Cnf, CnfBuilder, Lit};
@@ -165,8 +165,7 @@ pub fn open(
     requires order { IsOrder order.now }
     requires few { length order.now ≤ 3 }
     ensures order { IfOk result (λ table. table.graph.order ≡ order.now) }
-    ensures in_step { IfOk result (λ table. IsTrue table.book.in_step) }
-    ensures tied { IfOk result (λ table. IsTied table.graph table.book.state) }
+    ensures sound { IfOk result (λ table. IsSound table) }
     ensures start { IfOk result (λ table. table.book.state ≡ start formula.now.clauses) }
 {
     opening_law();
@@ -214,10 +213,8 @@ pub fn make(
     high: Node,
     low: Node,
 ) -> Result<Node, TableError>
-    requires in_step { IsTrue table.old.book.in_step }
-    requires tied { IsTied table.old.graph table.old.book.state }
-    ensures in_step { OnOk result (IsTrue table.new.book.in_step) }
-    ensures tied { OnOk result (IsTied table.new.graph table.new.book.state) }
+    requires sound { IsSound table.old }
+    ensures sound { OnOk result (IsSound table.new) }
 {
     assert!(rt; (level as usize) < table.order().len());
     assert!(rt; is_below(table, level, high));

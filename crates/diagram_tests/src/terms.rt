@@ -3,7 +3,7 @@
 ghost use Rattle.std.specs.Prelude.{◌≡◌, ◌≤◌, IfOk, IsTrue, length};
 ghost use Rattle.cnf_base.specs.Truth.{AreClausesOf};
 ghost use Rattle.lrat_rules.specs.State.{start};
-ghost use Rattle.node_table.specs.Tied.{IsTied};
+ghost use Rattle.node_table.specs.Table.{IsSound};
 
 use crate::script::{end_of, number};
 use crate::support::{ProofText, is_known, one_clause, open, order, room_of};
@@ -19,7 +19,7 @@ use std::test::Fail;
 // are live, and the lines.
 fn pushed(alloc: Global, clause: &str, room: &str) -> Result<String, Fail> {
     let formula = one_clause(alloc, clause)?;
-    formula.is_formula();
+    formula.formula_law();
     let mut table = open(alloc, &formula, &order(false), &room_of(room)?)?;
     let term = push(alloc, &mut table, &formula);
     let end = term_told(alloc, &table, term)?;
@@ -33,14 +33,13 @@ fn push(
     table: &mut Table<ProofText>,
     formula: &Cnf,
 ) -> Result<(Node, Just), TableError>
-    requires in_step { IsTrue table.old.book.in_step }
-    requires tied { IsTied table.old.graph table.old.book.state }
+    requires sound { IsSound table.old }
     requires start { table.old.book.state ≡ start formula.now.clauses }
     requires variables { length table.old.graph.order ≡ formula.now.vars }
     requires one { length formula.now.clauses ≡ 1 }
 {
     start_law();
-    formula.is_formula();
+    formula.formula_law();
     let literals = formula.clause(1);
     if literals.is_empty() {
         return Ok((Node::False, Just::Trivial));

@@ -1,20 +1,20 @@
 -- What two calls say together of the answer: the second decides it, of the bytes that follow those of the first.
-use Rattle.std.proofs.Common.{◌≡◌, ℕ, false, List, None, Result, Ok, Err, refl, sym, ap, subst}
+use Rattle.std.proofs.Common.{◌≡◌, ℕ, false, List, ◌++◌, None, Result, Ok, Err, refl, sym, ◌∙◌, ap, subst}
 use Rattle.std.specs.Result.{IsErrAnd}
 use Rattle.std.specs.Prelude.{codes}
 use Rattle.host_io.specs.Channel.{Channel}
 use Rattle.cnf_base.specs.Formula.{Formula, Draft}
 use Rattle.cnf_base.specs.Number.{signed_number}
 use Rattle.cnf_base.specs.Text.{Word}
-use Rattle.text_scan.specs.Items.{Items, too_long, next_word}
-use Rattle.text_scan.specs.Decides.{Decides, Decides-then}
+use Rattle.text_scan.specs.Items.{Items, next_word}
+use Rattle.text_scan.specs.Decides.{gained, Decides, Decides-then, gained-then}
 use Rattle.text_scan.specs.Scan.{Gives}
 use Rattle.text_scan.specs.declared.scanner.ScanError.{ScanError}
 use Rattle.text_scan.specs.declared.scanner.ScanError.TheVariants.{ReadFault as ScanFault, TooLong as ScanTooLong}
 use Rattle.dimacs_reader.specs.declared.error.CnfError.{CnfError}
 use Rattle.dimacs_reader.specs.declared.error.CnfError.TheVariants.{Refused, ReadFault, TooLong, OutOfMemory}
 use Rattle.dimacs_reader.specs.Answers.{Answers, error_of}
-use Rattle.dimacs_reader.specs.Body.{Takes, answer_of}
+use Rattle.dimacs_reader.specs.Body.{Takes, Passes, pass_none, pass_one, answer_of}
 use Rattle.dimacs_reader.specs.Cnf.{CnfText, formula, refusal, overlong, is_word, with_read, offence_of, body}
 
 -- the answer that says what a text is
@@ -36,7 +36,7 @@ pub goes_on : (word : Word) (items : Items) (count new_count : ℕ) (draft new_d
 goes_on word items count new_count draft new_draft percent none new_is count_is = rw (percent, none, new_is, count_is) refl
 
 -- an error that was handed on
-pub error_is : {E : Type 0} (r : Result Formula E) (e : E) → IsErrAnd r (λ f. f ≡ e) → r ≡ Err e
+pub error_is : {A E : Type 0} (r : Result A E) (e : E) → IsErrAnd r (λ f. f ≡ e) → r ≡ Err e
 error_is (Ok value) e h = absurd h
 error_is (Err f) e h = ap Err h
 
@@ -54,8 +54,13 @@ take_answers r ReadFault word items count draft new r_is percent takes = absurd 
 take_answers r TooLong word items count draft new r_is percent takes = absurd takes
 take_answers r OutOfMemory word items count draft new r_is percent takes = rw r_is tt
 
--- the same of a reader that tells of a text too long wherever the scanner does
-pub first_error : (reads : Items → CnfText) → ((line : ℕ) → reads (too_long line) ≡ overlong) → (r : Result Formula CnfError) (e : ScanError) (line : ℕ) (before after : Items)
-    → r ≡ Err (error_of e) → Gives (Err e) line before after → Answers r (reads before)
-first_error reads long r ScanFault line before after r_is q = rw r_is tt
-first_error reads long r ScanTooLong line before after r_is q = rw (r_is, q.0) (long line)
+-- behind good tokens the body is what it was
+pub passes_same : {count : ℕ} {all : Items} {start : Draft} {items : Items} {draft : Draft} → Passes count all start items draft → body all count start ≡ body items count draft
+passes_same pass_none = refl
+passes_same {count} (pass_one {word} {items} {draft} before good) =
+    passes_same before ∙ goes_on word items count count draft (with_read (signed_number word.bytes) draft) good.goes_on good.unoffending refl refl
+
+-- Where those bytes decide nothing that follow others, both together don't.
+pub undecided_behind : {a b c : Channel} {P Q : List ℕ → List ℕ → Type 0} (text rest : List ℕ → CnfText) → Decides a b P → Decides b c Q
+    → ((more : List ℕ) → text (gained a b ++ more) ≡ rest more) → rest (gained b c) ≡ overlong → text (gained a c) ≡ overlong
+undecided_behind {b = b} {c = c} text rest first second front last = ap text (gained-then first second) ∙ front (gained b c) ∙ last

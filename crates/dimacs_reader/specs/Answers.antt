@@ -1,13 +1,16 @@
 -- Which answers a text allows.
 use Rattle.std.specs.Prelude.{◌≡◌, ℕ, Result, Ok, Err, ⊤}
 use Rattle.cnf_base.specs.Formula.{Formula}
+use Rattle.text_scan.specs.Items.{Items}
 use Rattle.text_scan.specs.declared.scanner.ScanError.{ScanError}
 use Rattle.text_scan.specs.declared.scanner.ScanError.TheVariants.{ReadFault as ScanFault, TooLong as ScanTooLong}
 use Rattle.dimacs_reader.specs.declared.error.CnfError.{CnfError}
 use Rattle.dimacs_reader.specs.declared.error.CnfError.TheVariants.{Refused, ReadFault, TooLong, OutOfMemory}
 use Rattle.dimacs_reader.specs.declared.error.CnfKind.{CnfKind}
 use Rattle.dimacs_reader.specs.declared.error.CnfKind.TheVariants.{NoHeader, BadHeader, BadToken, LiteralRange, TooManyClauses, ClauseMissing, NoEndingZero, Limit}
+use Rattle.dimacs_reader.specs.Body.{Wants, no_clauses}
 use Rattle.dimacs_reader.specs.Cnf.{CnfText, formula, refusal, overlong}
+use Rattle.dimacs_reader.specs.Header.{HasHeader}
 
 -- The answer is what the text is. A failed read and want of memory say nothing of it.
 abbrev pub Answers : Result Formula CnfError → CnfText → Type 0
@@ -16,6 +19,15 @@ Answers (Err (Refused kind line)) text = text ≡ refusal kind line
 Answers (Err TooLong) text = text ≡ overlong
 Answers (Err ReadFault) text = ⊤
 Answers (Err OutOfMemory) text = ⊤
+
+-- Memory may be wanted for a text of these items: it has a good header, and behind it a number that offends nothing.
+pub record WantsMemory (all : Items) : Type 0 where
+  pub vars : ℕ
+  pub count : ℕ
+  pub rest : Items
+  pub header : HasHeader all vars count rest
+  pub after : Items
+  pub wants : Wants count rest (no_clauses vars) after
 
 -- the number of a kind
 abbrev pub number_of : CnfKind → ℕ

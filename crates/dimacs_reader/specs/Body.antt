@@ -1,15 +1,41 @@
 -- The body of a text as it is read: what is announced, and the draft so far.
-use Rattle.std.specs.Prelude.{◌≡◌, ℕ, ◌≤◌, length, Option, None, Some, Result, Ok, Err, ⊤}
+use Rattle.std.specs.Prelude.{◌≡◌, ℕ, ◌≤◌, false, [], length, Option, None, Some, Result, Ok, Err, codes, ⊤}
 use Rattle.cnf_base.specs.Formula.{Formula, Draft}
+use Rattle.cnf_base.specs.Number.{signed_number}
+use Rattle.cnf_base.specs.Text.{Word}
+use Rattle.text_scan.specs.Items.{Items, next_word}
 use Rattle.dimacs_reader.specs.declared.error.CnfError.{CnfError}
 use Rattle.dimacs_reader.specs.declared.error.CnfError.TheVariants.{Refused, ReadFault, TooLong, OutOfMemory}
 use Rattle.dimacs_reader.specs.declared.error.CnfKind.{CnfKind}
-use Rattle.dimacs_reader.specs.Cnf.{CnfText, formula, refusal, overlong, max_vars, max_clauses, max_literals, literals_of}
+use Rattle.dimacs_reader.specs.Cnf.{CnfText, formula, refusal, overlong, max_vars, max_clauses, max_literals, literals_of, is_word, with_read, offence_of}
 
 -- how many clauses are announced, and what was read of them
 pub record BodyState : Type 0 where
   pub count : ℕ
   pub draft : Draft
+
+-- before the first token of the body
+abbrev pub no_clauses : ℕ → Draft
+no_clauses vars = record { vars = vars; clauses = []; begun = [] }
+
+-- a token that neither ends the clauses nor offends, after this draft
+pub record IsGood (word : Word) (count : ℕ) (draft : Draft) : Type 0 where
+  pub goes_on : is_word (codes "%") word.bytes ≡ false
+  pub unoffending : offence_of (signed_number word.bytes) count draft ≡ None
+
+-- Of all these items the first tokens are good, each after the draft of those before it; then come those items, and
+-- that is the draft.
+pub data Passes (count : ℕ) (all : Items) (start : Draft) : Items → Draft → Type 0 where
+  pass_none : Passes count all start all start
+  pass_one : {word : Word} {items : Items} {draft : Draft} → Passes count all start (next_word word items) draft → IsGood word count draft
+      → Passes count all start items (with_read (signed_number word.bytes) draft)
+
+-- Memory was wanted for a number: all tokens before those items are good, and there is at least one.
+pub record Wants (count : ℕ) (all : Items) (start : Draft) (after : Items) : Type 0 where
+  pub word : Word
+  pub draft : Draft
+  pub passed : Passes count all start (next_word word after) draft
+  pub good : IsGood word count draft
 
 -- the counters are those of the draft, and within the limits
 pub record IsBody (vars count ended begun literals : ℕ) (draft : Draft) : Type 0 where

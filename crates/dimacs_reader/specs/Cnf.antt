@@ -6,7 +6,7 @@ use Rattle.std.specs.Prelude.{ℕ, zero, suc, ◌+◌, Bool, ◌&&◌, ℤ, pos,
 use Rattle.std.specs.Str.{bytes_eq}
 use Rattle.cnf_base.specs.Formula.{Formula, Draft}
 use Rattle.cnf_base.specs.Number.{is_short, plain_number, signed_number}
-use Rattle.text_scan.specs.Items.{Items, the_end, too_long, next_word, items}
+use Rattle.text_scan.specs.Items.{Items, the_end, too_long, next_word, items_of_front, items}
 use Rattle.dimacs_reader.specs.declared.error.CnfKind.{CnfKind}
 use Rattle.dimacs_reader.specs.declared.error.CnfKind.TheVariants.{NoHeader, BadHeader, BadToken, LiteralRange, TooManyClauses, ClauseMissing, NoEndingZero, Limit}
 
@@ -115,3 +115,8 @@ cnf_of (next_word word items) = if is_word (codes "p") word.bytes then after_p i
 -- a whole text (99 is `c`)
 abbrev pub cnf : List ℕ → CnfText
 cnf bytes = cnf_of (items 99 max_bytes bytes)
+
+-- What the front of a text decides, whatever comes after it. A token with no byte after it in the front isn't judged
+-- yet, and `overlong` says that nothing is decided so far.
+abbrev pub cnf_so_far : List ℕ → CnfText
+cnf_so_far bytes = cnf_of (items_of_front 99 bytes)

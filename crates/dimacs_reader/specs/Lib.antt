@@ -1,3 +1,4 @@
 pub mod Cnf
+pub mod Header
 pub mod Answers
 pub mod Body

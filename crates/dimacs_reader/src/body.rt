@@ -2,13 +2,13 @@
 ghost use Rattle.std.specs.Prelude.{◌≡◌, ◌≢◌, ◌<◌, ◌≤◌, [], true, false, nat_abs, length, None, Some, Err, IsTrue, OnOk, OnErr, codes};
 ghost use Rattle.cnf_base.specs.Number.{signed_number};
 ghost use Rattle.host_io.specs.Channel.{Rose};
-ghost use Rattle.text_scan.specs.Decides.{Decides, OnlyReads};
-ghost use Rattle.text_scan.specs.Scan.{ahead, is_faulted};
+ghost use Rattle.text_scan.specs.Decides.{gained, Decides, OnlyReads};
+ghost use Rattle.text_scan.specs.Scan.{ahead, so_far, is_reading, is_overlong, is_faulted};
 ghost use Rattle.dimacs_reader.specs.declared.error.CnfError.TheVariants.{ReadFault, OutOfMemory};
 ghost use Rattle.dimacs_reader.specs.Answers.{Answers};
-ghost use Rattle.dimacs_reader.specs.Body.{Takes, answer_of};
+ghost use Rattle.dimacs_reader.specs.Body.{Takes, Wants, answer_of};
 ghost use Rattle.text_scan.specs.Capped.{cap};
-ghost use Rattle.dimacs_reader.specs.Cnf.{max_vars, max_clauses, max_literals, literals_of, is_word, with_number, with_read, offence_of, text_end, body as body_text};
+ghost use Rattle.dimacs_reader.specs.Cnf.{overlong, max_vars, max_clauses, max_literals, literals_of, is_word, with_number, with_read, offence_of, text_end, body as body_text};
 
 use crate::error::{CnfError, CnfKind};
 use cnf_base::{Cnf, CnfBuilder, Lit};
@@ -166,6 +166,13 @@ pub fn read_body<S: Source>(
     requires { is_faulted scanner.old.status ≡ false }
     ensures decides { IsTrue S.tells → Decides (S.channel source.old) (S.channel source.new)
         (λ bytes more. Answers result (body_text (ahead scanner.old bytes) body.count body.draft)) }
+    // a read fails only where the bytes taken decide nothing yet
+    ensures undecided { IsTrue S.tells → result ≡ Err ReadFault → (is_reading scanner.old.status ≡ true)
+        × (body_text (so_far scanner.old (gained (S.channel source.old) (S.channel source.new))) body.count body.draft ≡ overlong) }
+    // want of memory never stands for a refusal, nor for a text that is too long
+    ensures memory { IsTrue S.tells → result ≡ Err OutOfMemory → Decides (S.channel source.old) (S.channel source.new)
+        (λ bytes more. Wants body.count (ahead scanner.old bytes) body.draft (ahead scanner.new more)) }
+    ensures memory_within { result ≡ Err OutOfMemory → is_overlong scanner.new.status ≡ false }
     ensures fault { result ≡ Err ReadFault → Rose (S.channel source.old).faults (S.channel source.new).faults }
     ensures unfailed { result ≢ Err ReadFault → (S.channel source.new).faults ≡ (S.channel source.old).faults }
     ensures reads { OnlyReads (S.channel source.old) (S.channel source.new) }

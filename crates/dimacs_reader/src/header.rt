@@ -2,11 +2,13 @@
 ghost use Rattle.std.specs.Prelude.{◌≡◌, ◌≢◌, ◌≤◌, false, Err, IsTrue, IfOk};
 ghost use Rattle.cnf_base.specs.Formula.{IsFormula};
 ghost use Rattle.host_io.specs.Channel.{Rose};
-ghost use Rattle.text_scan.specs.Decides.{Decides, OnlyReads};
-ghost use Rattle.text_scan.specs.Scan.{ahead, is_faulted};
-ghost use Rattle.dimacs_reader.specs.declared.error.CnfError.TheVariants.{ReadFault};
-ghost use Rattle.dimacs_reader.specs.Answers.{Answers};
-ghost use Rattle.dimacs_reader.specs.Cnf.{max_vars, cnf, cnf_of, after_p, after_format, after_vars};
+ghost use Rattle.text_scan.specs.Decides.{gained, Decides, OnlyReads};
+ghost use Rattle.text_scan.specs.Scan.{ahead, so_far, is_faulted};
+ghost use Rattle.text_scan.specs.Items.{items};
+ghost use Rattle.dimacs_reader.specs.declared.error.CnfError.TheVariants.{ReadFault, OutOfMemory};
+ghost use Rattle.dimacs_reader.specs.Answers.{Answers, WantsMemory};
+ghost use Rattle.dimacs_reader.specs.Header.{HasHeader, HasFormat, HasVars, HasCount, Begins, BeginsSoFar};
+ghost use Rattle.dimacs_reader.specs.Cnf.{max_bytes, max_vars, overlong, cnf, cnf_so_far, cnf_of, after_p, after_format, after_vars};
 
 use crate::body::{Body, is_word, read_body};
 use crate::error::{CnfError, CnfKind};
@@ -31,14 +33,20 @@ pub fn read_cnf<S: Source>(alloc: Global, source: &mut S) -> Result<Cnf, CnfErro
     ensures fault { result ≡ Err ReadFault → Rose (S.channel source.old).faults (S.channel source.new).faults }
     // no failed read is told as anything else
     ensures unfailed { result ≢ Err ReadFault → (S.channel source.new).faults ≡ (S.channel source.old).faults }
+    // a read fails only where the bytes taken decide nothing yet
+    ensures undecided { IsTrue S.tells → result ≡ Err ReadFault → cnf_so_far (gained (S.channel source.old) (S.channel source.new)) ≡ overlong }
+    // memory is wanted only for a token that offends nothing, behind a header within the limits
+    ensures memory { IsTrue S.tells → result ≡ Err OutOfMemory → Decides (S.channel source.old) (S.channel source.new)
+        (λ bytes more. WantsMemory (items 99 max_bytes bytes)) }
     ensures formula { IfOk result IsFormula }
 
     ensures reads { OnlyReads (S.channel source.old) (S.channel source.new) }
     ensures beside { S.beside source.new ≡ S.beside source.old }
 {
     let mut scanner = Scanner::new(b'c', MAX_BYTES);
-    let cnf = read_header(alloc, &mut scanner, source)?;
-    cnf.is_formula();
+    let body = read_header(alloc, &mut scanner, source)?;
+    let cnf = read_body(body, &mut scanner, source)?;
+    cnf.formula_law();
     Ok(cnf)
 }
 
@@ -46,10 +54,14 @@ fn read_header<S: Source>(
     alloc: Global,
     scanner: &mut Scanner,
     source: &mut S,
-) -> Result<Cnf, CnfError>
+) -> Result<Body, CnfError>
     requires { is_faulted scanner.old.status ≡ false }
     ensures decides { IsTrue S.tells → Decides (S.channel source.old) (S.channel source.new)
-        (λ bytes more. Answers result (cnf_of (ahead scanner.old bytes))) }
+        (λ bytes more. Begins result (cnf_of (ahead scanner.old bytes)) (λ vars count. HasHeader (ahead scanner.old bytes) vars count (ahead scanner.new more))) }
+    ensures so_far { IsTrue S.tells → BeginsSoFar result scanner.old scanner.new (λ more. cnf_of (so_far scanner.old more))
+        (gained (S.channel source.old) (S.channel source.new)) }
+    ensures memory { result ≢ Err OutOfMemory }
+    ensures sound { IfOk result (λ _. is_faulted scanner.new.status ≡ false) }
     ensures fault { result ≡ Err ReadFault → Rose (S.channel source.old).faults (S.channel source.new).faults }
     ensures unfailed { result ≢ Err ReadFault → (S.channel source.new).faults ≡ (S.channel source.old).faults }
     ensures reads { OnlyReads (S.channel source.old) (S.channel source.new) }
@@ -71,10 +83,14 @@ fn read_format<S: Source>(
     alloc: Global,
     scanner: &mut Scanner,
     source: &mut S,
-) -> Result<Cnf, CnfError>
+) -> Result<Body, CnfError>
     requires { is_faulted scanner.old.status ≡ false }
     ensures decides { IsTrue S.tells → Decides (S.channel source.old) (S.channel source.new)
-        (λ bytes more. Answers result (after_p (ahead scanner.old bytes))) }
+        (λ bytes more. Begins result (after_p (ahead scanner.old bytes)) (λ vars count. HasFormat (ahead scanner.old bytes) vars count (ahead scanner.new more))) }
+    ensures so_far { IsTrue S.tells → BeginsSoFar result scanner.old scanner.new (λ more. after_p (so_far scanner.old more))
+        (gained (S.channel source.old) (S.channel source.new)) }
+    ensures memory { result ≢ Err OutOfMemory }
+    ensures sound { IfOk result (λ _. is_faulted scanner.new.status ≡ false) }
     ensures fault { result ≡ Err ReadFault → Rose (S.channel source.old).faults (S.channel source.new).faults }
     ensures unfailed { result ≢ Err ReadFault → (S.channel source.new).faults ≡ (S.channel source.old).faults }
     ensures reads { OnlyReads (S.channel source.old) (S.channel source.new) }
@@ -96,10 +112,14 @@ fn read_vars<S: Source>(
     alloc: Global,
     scanner: &mut Scanner,
     source: &mut S,
-) -> Result<Cnf, CnfError>
+) -> Result<Body, CnfError>
     requires { is_faulted scanner.old.status ≡ false }
     ensures decides { IsTrue S.tells → Decides (S.channel source.old) (S.channel source.new)
-        (λ bytes more. Answers result (after_format (ahead scanner.old bytes))) }
+        (λ bytes more. Begins result (after_format (ahead scanner.old bytes)) (λ vars count. HasVars (ahead scanner.old bytes) vars count (ahead scanner.new more))) }
+    ensures so_far { IsTrue S.tells → BeginsSoFar result scanner.old scanner.new (λ more. after_format (so_far scanner.old more))
+        (gained (S.channel source.old) (S.channel source.new)) }
+    ensures memory { result ≢ Err OutOfMemory }
+    ensures sound { IfOk result (λ _. is_faulted scanner.new.status ≡ false) }
     ensures fault { result ≡ Err ReadFault → Rose (S.channel source.old).faults (S.channel source.new).faults }
     ensures unfailed { result ≢ Err ReadFault → (S.channel source.new).faults ≡ (S.channel source.old).faults }
     ensures reads { OnlyReads (S.channel source.old) (S.channel source.new) }
@@ -124,11 +144,16 @@ fn read_count<S: Source>(
     vars: u32,
     scanner: &mut Scanner,
     source: &mut S,
-) -> Result<Cnf, CnfError>
+) -> Result<Body, CnfError>
     requires few_vars { vars ≤ max_vars }
     requires sound { is_faulted scanner.old.status ≡ false }
     ensures decides { IsTrue S.tells → Decides (S.channel source.old) (S.channel source.new)
-        (λ bytes more. Answers result (after_vars vars (ahead scanner.old bytes))) }
+        (λ bytes more. Begins result (after_vars vars (ahead scanner.old bytes))
+        (λ same count. (same ≡ vars) × HasCount (ahead scanner.old bytes) count (ahead scanner.new more))) }
+    ensures so_far { IsTrue S.tells → BeginsSoFar result scanner.old scanner.new (λ more. after_vars vars (so_far scanner.old more))
+        (gained (S.channel source.old) (S.channel source.new)) }
+    ensures memory { result ≢ Err OutOfMemory }
+    ensures sound { IfOk result (λ _. is_faulted scanner.new.status ≡ false) }
     ensures fault { result ≡ Err ReadFault → Rose (S.channel source.old).faults (S.channel source.new).faults }
     ensures unfailed { result ≢ Err ReadFault → (S.channel source.new).faults ≡ (S.channel source.old).faults }
     ensures reads { OnlyReads (S.channel source.old) (S.channel source.new) }
@@ -142,7 +167,7 @@ fn read_count<S: Source>(
                 if count > MAX_CLAUSES {
                     return Err(CnfError::Refused(CnfKind::Limit, token.line()));
                 }
-                read_body(Body::new(alloc, vars, count as u32), scanner, source)
+                Ok(Body::new(alloc, vars, count as u32))
             }
         },
     }

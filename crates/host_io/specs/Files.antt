@@ -42,6 +42,10 @@ IsCreated Made = ⊤
 IsCreated Out = ⊥
 IsCreated Err = ⊥
 
+-- all roles but standard output and standard error are used under a name only
+abbrev pub IsNamedFirst : Role → Type 0
+IsNamedFirst role = IsInput role ⊎ IsCreated role
+
 -- A role of this name may be written and flushed: standard output and standard error always, a created one once it has its name.
 abbrev pub IsWritable : Role → Option (List ℕ) → Type 0
 IsWritable Cnf name = ⊥

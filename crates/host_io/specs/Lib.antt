@@ -4,4 +4,5 @@ pub mod Beside
 pub mod Memory
 pub mod Failing
 pub mod Real
+pub mod Port
 pub mod Slice

@@ -1,10 +1,10 @@
 -- What a host in memory holds: the files that were added, the newest first, and a channel for each role.
-use Rattle.std.specs.Prelude.{◌≡◌, ◌≢◌, ◌⊎◌, ℕ, ◌+◌, ◌-◌, ◌^◌, min, List, [], ◌∷◌, Option, None, Some, length, slice_index_or, if◌then◌else◌}
+use Rattle.std.specs.Prelude.{◌≡◌, ◌≢◌, ℕ, ◌+◌, ◌-◌, ◌^◌, min, List, [], ◌∷◌, Option, None, Some, length, slice_index_or, if◌then◌else◌}
 use Rattle.std.specs.Str.{bytes_eq}
 use Rattle.host_io.specs.declared.role.Role.{Role}
 use Rattle.host_io.specs.declared.role.Role.TheVariants.{ProofOut, Made}
 use Rattle.host_io.specs.Channel.{Channel}
-use Rattle.host_io.specs.Files.{Files, code_of, IsInput, IsCreated, IsIdle}
+use Rattle.host_io.specs.Files.{Files, code_of, IsNamedFirst, IsIdle}
 use Rattle.host_io.specs.Beside.{is_named}
 
 pub record Memory : Type 0 where
@@ -21,10 +21,6 @@ faulted channel = record channel { faults = min (channel.faults + 1) (2 ^ 64 - 1
 
 abbrev pub channel_of : Memory → Role → Channel
 channel_of memory role = slice_index_or memory.streams (code_of role) fresh
-
--- all roles but standard output and standard error are used under a name only
-abbrev pub IsNamedFirst : Role → Type 0
-IsNamedFirst role = IsInput role ⊎ IsCreated role
 
 -- There is a channel for each role, and one that wants a name and has none has not been used.
 pub record IsSettled (streams : List Channel) : Type 0 where

@@ -1,95 +1,96 @@
-// What a role of the real host reads from or writes to, through a buffer.
-ghost use Rattle.std.specs.Prelude.{◌<◌, ◌≤◌, length, IfOk};
+// What a role of the real host reads from or writes to: a port of the system, and how many bytes passed there.
+ghost use Rattle.std.specs.Prelude.{◌≡◌, ◌≢◌, ◌<◌, ◌≤◌, ◌↔◌, None, length, IsTrue, IsOk, IfOk, OnOk, OnErr};
+ghost use Rattle.host_io.specs.Real.{closed, took, wrote, all_flushed};
+ghost use Rattle.host_io.specs.Port.{target_of};
 
-use std::alloc::Global;
-use std::fs::File;
-use std::io;
-use std::io::{BufReader, BufWriter, ErrorKind, Read, Stderr, Stdout, Write};
-
-// The bytes that are read or written at a time.
-const BUFFER: usize = 65536;
-
-// What is written to.
-#[derive(Drop)]
-pub(crate) enum Target {
-    File(File),
-    Out(Stdout),
-    Err(Stderr),
-}
-
-impl Write for Target {
-    fn write(&mut self, bytes: &[u8]) -> io::Result<usize> {
-        match self {
-            Target::File(file) => file.write(bytes),
-            Target::Out(out) => out.write(bytes),
-            Target::Err(err) => err.write(bytes),
-        }
-    }
-
-    fn flush(&mut self) -> io::Result<()> {
-        match self {
-            Target::File(file) => file.flush(),
-            Target::Out(out) => out.flush(),
-            Target::Err(err) => err.flush(),
-        }
-    }
-}
+use crate::port::Port;
+use crate::source::Failed;
+use std::marker::Model;
 
 #[derive(Drop)]
-pub(crate) enum Device {
-    Closed,
-    Input(BufReader<File>),
-    Output(BufWriter<Target>),
+pub(crate) struct Device {
+    port: Port,
+    taken: u64,
+    written: u64,
+    flushed: u64,
+}
+
+impl Model for Device {
+    ghost use Rattle.host_io.specs.Real.{Connected};
+
+    ghost Value = { Connected };
+
+    ghost use Rattle.host_io.specs.Port.{target_of};
+
+    ghost view = { λ d. record { target = target_of d.port; traffic = record { taken = d.taken; written = d.written; flushed = d.flushed } } };
 }
 
 impl Device {
-    pub(crate) fn input(alloc: Global, file: File) -> io::Result<Device> {
-        Ok(Device::Input(BufReader::with_capacity(alloc, BUFFER, file)?))
-    }
-
-    pub(crate) fn output(alloc: Global, target: Target) -> io::Result<Device> {
-        Ok(Device::Output(BufWriter::with_capacity(alloc, BUFFER, target)?))
-    }
-
-    // A call that a signal broke off is made again.
-    pub(crate) fn read(&mut self, buf: &mut [u8]) -> io::Result<usize>
-        ensures { IfOk result (λ n. n ≤ length buf.old) }
+    pub(crate) fn new() -> Self
+        ensures { result ≡ closed }
     {
-        let Device::Input(input) = self else {
-            return Err(io::Error::from(ErrorKind::NotConnected));
-        };
-        for _ in 0..u64::MAX {
-            match input.read(buf) {
-                Err(e) if e.kind() == ErrorKind::Interrupted => {}
-                outcome => return outcome,
-            }
+        Device {
+            port: Port::Closed,
+            taken: 0,
+            written: 0,
+            flushed: 0,
         }
-        Err(io::Error::from(ErrorKind::Interrupted))
     }
 
-    // The same, and a write that takes nothing of a piece that isn't empty is a fault.
-    pub(crate) fn write(&mut self, bytes: &[u8]) -> io::Result<usize>
+    pub(crate) fn is_closed(&self) -> bool
+        ensures { IsTrue result ↔ self.now.target ≡ None }
+    {
+        matches!(&self.port, Port::Closed)
+    }
+
+    /// Takes this port.
+    pub(crate) fn connect(&mut self, port: Port)
+        ensures { self.new ≡ record self.old { target = target_of port } }
+    {
+        self.port = port;
+    }
+
+    pub(crate) fn read(&mut self, buf: &mut [u8]) -> Result<usize, Failed>
+        ensures count { IfOk result (λ n. n ≤ length buf.old) }
+        ensures ok { IfOk result (λ n. self.new ≡ record self.old { traffic = took n self.old.traffic }) }
+        ensures err { OnErr result (self.new ≡ self.old) }
+        ensures open { IsOk result → self.old.target ≢ None }
+    {
+        match self.port.read(buf) {
+            Ok(count) => {
+                self.taken = self.taken.saturating_add(count as u64);
+                Ok(count)
+            }
+            Err(_) => Err(Failed),
+        }
+    }
+
+    pub(crate) fn write(&mut self, bytes: &[u8]) -> Result<usize, Failed>
         ensures count { IfOk result (λ n. n ≤ length bytes.now) }
         ensures progress { IfOk result (λ n. 0 < length bytes.now → 0 < n) }
+        ensures ok { IfOk result (λ n. self.new ≡ record self.old { traffic = wrote n self.old.traffic }) }
+        ensures err { OnErr result (self.new ≡ self.old) }
+        ensures open { IsOk result → self.old.target ≢ None }
     {
-        let Device::Output(output) = self else {
-            return Err(io::Error::from(ErrorKind::NotConnected));
-        };
-        for _ in 0..u64::MAX {
-            match output.write(bytes) {
-                Err(e) if e.kind() == ErrorKind::Interrupted => {}
-                Ok(0) if !bytes.is_empty() => break,
-                outcome => return outcome,
+        match self.port.write(bytes) {
+            Ok(count) => {
+                self.written = self.written.saturating_add(count as u64);
+                Ok(count)
             }
+            Err(_) => Err(Failed),
         }
-        Err(io::Error::from(ErrorKind::WriteZero))
     }
 
-    // Writes out the buffer.
-    pub(crate) fn flush(&mut self) -> io::Result<()> {
-        match self {
-            Device::Output(output) => output.flush(),
-            _ => Ok(()),
+    pub(crate) fn flush(&mut self) -> Result<(), Failed>
+        ensures ok { OnOk result (self.new ≡ record self.old { traffic = all_flushed self.old.traffic }) }
+        ensures err { OnErr result (self.new ≡ self.old) }
+    {
+        match self.port.flush() {
+            Ok(()) => {
+                self.flushed = self.written;
+                Ok(())
+            }
+            Err(_) => Err(Failed),
         }
     }
 }

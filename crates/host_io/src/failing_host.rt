@@ -4,7 +4,7 @@ ghost use Rattle.std.specs.Prelude.{◌≡◌, ◌<◌, ◌≤◌, ◌≢◌, tr
 ghost use Rattle.std.specs.Option.{option_copied};
 ghost use Rattle.host_io.specs.declared.role.Role.{Role};
 ghost use Rattle.host_io.specs.Channel.{Channel, Reads, Writes, Flushes};
-ghost use Rattle.host_io.specs.Files.{IsInput, IsCreated, IsIdle, IsWritable, Kept, Opens, same_role};
+ghost use Rattle.host_io.specs.Files.{IsInput, IsCreated, IsWritable, Kept, Opens, same_role};
 ghost use Rattle.host_io.specs.Memory as memory;
 ghost use Rattle.host_io.specs.Failing.{Failing, GoesByPlan, channel_of, files_of, calls_of, next_call, is_listed};
 
@@ -85,7 +85,6 @@ impl FailingHost {
         ensures err { OnErr result (channel_of self.new role ≡ memory.faulted (channel_of self.old role)) }
         ensures no_less { (channel_of self.old role).faults ≤ (channel_of self.new role).faults }
         ensures kept { Kept role None (channel_of self.old) (channel_of self.new) (files_of self.old) (files_of self.new) }
-        ensures unused { OnErr result (memory.IsNamedFirst role → (channel_of self.old role).name ≡ None → IsIdle (channel_of self.old role)) }
         ensures some { 0 < self.new.piece }
     {
         let number = self.calls[place(role)].saturating_add(1);
@@ -104,6 +103,11 @@ impl Host for FailingHost {
 
     ghost files = { files_of };
 
+    #[inline(always)]
+    fn unnamed_law(&self) {
+        self.base.unnamed_law();
+    }
+
     fn open_read(&mut self, role: Role, name: &str) -> Result<(), Failed>
         requires input { IsInput role }
         requires unnamed { (channel_of self.old role).name ≡ None }
@@ -112,6 +116,7 @@ impl Host for FailingHost {
         ensures kept { Kept role None (channel_of self.old) (channel_of self.new) (files_of self.old) (files_of self.new) }
         ensures plan { GoesByPlan self.old self.new role result }
     {
+        self.unnamed_law();
         self.begin(role)?;
         self.base.open_read(role, name)
     }
@@ -123,6 +128,7 @@ impl Host for FailingHost {
         ensures kept { Kept role (channel_of self.new role).name (channel_of self.old) (channel_of self.new) (files_of self.old) (files_of self.new) }
         ensures plan { GoesByPlan self.old self.new role result }
     {
+        self.unnamed_law();
         self.begin(role)?;
         self.base.create(role, name)
     }

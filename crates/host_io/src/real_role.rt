@@ -1,26 +1,26 @@
-// One role of the real host: its name, its count of faults and its device.
-ghost use Rattle.std.specs.Prelude.{◌≡◌, ◌≤◌, false, Some, length};
+// One role of the real host: its device, whose file gives its name, and its count of faults.
+ghost use Rattle.std.specs.Prelude.{◌≡◌, ◌≢◌, ◌≤◌, ◌↔◌, false, None, length, IsTrue, IsOk, IfOk, OnOk, OnErr};
 ghost use Rattle.host_io.specs.Channel.{Reads, Writes, Flushes};
-ghost use Rattle.host_io.specs.Real.{unmet, missed, quiet};
+ghost use Rattle.host_io.specs.Real.{unmet, missed, took, wrote, all_flushed, quiet};
+ghost use Rattle.host_io.specs.Port.{target_of};
 
 use crate::device::Device;
+use crate::port::Port;
 use crate::source::Failed;
 use std::marker::Model;
 
 #[derive(Drop)]
 pub(crate) struct RealRole {
-    name: Option<Vec<u8>>,
-    faults: u64,
     device: Device,
+    faults: u64,
 }
 
 impl Model for RealRole {
-    ghost use Rattle.std.specs.Option.{option_map};
     ghost use Rattle.host_io.specs.Real.{Counted};
 
     ghost Value = { Counted };
 
-    ghost view = { λ r. record { name = option_map (λ name. name.items) r.name; faults = r.faults } };
+    ghost view = { λ r. record { device = r.device; faults = r.faults } };
 }
 
 impl RealRole {
@@ -28,29 +28,22 @@ impl RealRole {
         ensures { result ≡ unmet }
     {
         RealRole {
-            name: None,
+            device: Device::new(),
             faults: 0,
-            device: Device::Closed,
         }
     }
 
-    /// Takes this name and device.
-    pub(crate) fn open(&mut self, name: Vec<u8>, device: Device)
-        ensures { self.new ≡ record self.old { name = Some name.items } }
+    pub(crate) fn is_closed(&self) -> bool
+        ensures { IsTrue result ↔ self.now.device.target ≡ None }
     {
-        self.name = Some(name);
-        self.device = device;
+        self.device.is_closed()
     }
 
-    pub(crate) fn is_closed(&self) -> bool {
-        matches!(&self.device, Device::Closed)
-    }
-
-    /// Takes this device.
-    pub(crate) fn connect(&mut self, device: Device)
-        ensures { self.new ≡ self.old }
+    /// Takes this port.
+    pub(crate) fn connect(&mut self, port: Port)
+        ensures { self.new ≡ record self.old { device = record self.old.device { target = target_of port } } }
     {
-        self.device = device;
+        self.device.connect(port);
     }
 
     /// Counts a fault.
@@ -63,7 +56,10 @@ impl RealRole {
     }
 
     pub(crate) fn read(&mut self, buf: &mut [u8]) -> Result<usize, Failed>
-        ensures { Reads false (quiet self.old) (quiet self.new) (length buf.old) buf.new result }
+        ensures reads { Reads false (quiet self.old) (quiet self.new) (length buf.old) buf.new result }
+        ensures ok { IfOk result (λ n. self.new.device ≡ record self.old.device { traffic = took n self.old.device.traffic }) }
+        ensures err { OnErr result (self.new.device ≡ self.old.device) }
+        ensures open { IsOk result → self.old.device.target ≢ None }
     {
         match self.device.read(buf) {
             Ok(count) => Ok(count),
@@ -72,7 +68,10 @@ impl RealRole {
     }
 
     pub(crate) fn write(&mut self, bytes: &[u8]) -> Result<usize, Failed>
-        ensures { Writes false (quiet self.old) (quiet self.new) bytes.now result }
+        ensures writes { Writes false (quiet self.old) (quiet self.new) bytes.now result }
+        ensures ok { IfOk result (λ n. self.new.device ≡ record self.old.device { traffic = wrote n self.old.device.traffic }) }
+        ensures err { OnErr result (self.new.device ≡ self.old.device) }
+        ensures open { IsOk result → self.old.device.target ≢ None }
     {
         match self.device.write(bytes) {
             Ok(count) => Ok(count),
@@ -81,7 +80,9 @@ impl RealRole {
     }
 
     pub(crate) fn flush(&mut self) -> Result<(), Failed>
-        ensures { Flushes false (quiet self.old) (quiet self.new) result }
+        ensures flushes { Flushes false (quiet self.old) (quiet self.new) result }
+        ensures ok { OnOk result (self.new.device ≡ record self.old.device { traffic = all_flushed self.old.device.traffic }) }
+        ensures err { OnErr result (self.new.device ≡ self.old.device) }
     {
         match self.device.flush() {
             Ok(()) => Ok(()),

@@ -6,6 +6,8 @@ mod by_value;
 #[cfg(test)]
 mod calls;
 #[cfg(test)]
+mod law;
+#[cfg(test)]
 mod memory;
 #[cfg(test)]
 mod real;

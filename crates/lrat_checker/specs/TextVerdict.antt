@@ -3,7 +3,7 @@
 use Rattle.std.specs.Prelude.{◌≡◌, ℕ, Bool, false, ◌||◌, ℤ, List, Option, None, Some, Result, Ok, Err, ⊤, if◌then◌else◌}
 use Rattle.lrat_text.specs.declared.error.StepError.{StepError}
 use Rattle.lrat_text.specs.declared.error.StepError.TheVariants.{Syntax as BadLine, ReadFault as FailedRead, TooLong as LongText, OutOfMemory as NoMemory}
-use Rattle.lrat_text.specs.Steps.{Steps, no_more, overlong, no_step, next_step, steps}
+use Rattle.lrat_text.specs.Steps.{Steps, no_more, overlong, no_step, next_step, steps, steps_so_far}
 use Rattle.lrat_rules.specs.declared.outcome.Reason.{Reason}
 use Rattle.lrat_rules.specs.declared.outcome.Reason.TheVariants.{Syntax, NoEmptyClause}
 use Rattle.lrat_rules.specs.State.{State, start}
@@ -38,6 +38,11 @@ steps_verdict state has_empty (next_step step line steps) =
 -- the verdict of a text, nothing where it is too long and no line under the limit is bad
 abbrev pub text_verdict : List (List ℤ) → List ℕ → Option Verdict
 text_verdict clauses bytes = steps_verdict (start clauses) false (steps max_bytes bytes)
+
+-- The verdict that the front of a longer text decides, whatever comes after it: some line of it is bad, and a token of
+-- a later line has come. Nothing where none is bad so far.
+abbrev pub verdict_so_far : List (List ℤ) → List ℕ → Option Verdict
+verdict_so_far clauses bytes = steps_verdict (start clauses) false (steps_so_far bytes)
 
 -- the answer that tells the rules' verdict
 abbrev pub verdict_as : Option (ℕ × Reason) → Verdict

@@ -1,10 +1,10 @@
 // When an addition is good: its number is greater than all earlier ones, and its hints refute the clause's negation,
 // or its first literal, the pivot, has a refutation for each candidate. (LRAT: RUP and RAT steps.)
-ghost use Rattle.std.specs.Prelude.{◌≡◌, ◌<◌, None, IfOk, OnErr};
-ghost use Rattle.lrat_rules.specs.Chain.{literals_of};
+ghost use Rattle.std.specs.Prelude.{◌≡◌, ◌<◌, None, IfOk, OnErr, IsTrue};
 ghost use Rattle.lrat_rules.specs.Addition.{fault, fault_after_hints};
 ghost use Rattle.lrat_rules.specs.FalseLiterals.{set_of, before_of};
 ghost use Rattle.lrat_checker.specs.Ends.{outcome_at};
+ghost use Rattle.lrat_checker.specs.Memory.{judging_keeps, kept_after_hints};
 
 use crate::groups::resolvents_fault;
 use crate::hints::{HintsEnd, run_hints};
@@ -23,7 +23,8 @@ pub fn addition_fault(
     groups: &[Group],
 ) -> Result<Option<Reason>, OutOfMemory>
     ensures fault { IfOk result (λ answer. answer ≡ fault (record { live = live.now; top = top }) id clause.now hints.now groups.now) }
-    ensures memory { OnErr result (top < id) }
+    ensures number { OnErr result (top < id) }
+    ensures memory { OnErr result (IsTrue (judging_keeps live.now clause.now hints.now)) }
 {
     if id.get() <= top.get() {
         return Ok(Some(Reason::IdNotGreater));
@@ -42,7 +43,8 @@ fn fault_after_hints(
     end: HintsEnd,
 ) -> Result<Option<Reason>, OutOfMemory>
     requires { before_of chain.old ≡ None }
-    ensures { IfOk result (λ answer. answer ≡ fault_after_hints live.now clause.now groups.now (outcome_at (set_of chain.old) end)) }
+    ensures fault { IfOk result (λ answer. answer ≡ fault_after_hints live.now clause.now groups.now (outcome_at (set_of chain.old) end)) }
+    ensures memory { OnErr result (IsTrue (kept_after_hints live.now clause.now groups.now (outcome_at (set_of chain.old) end))) }
 {
     match end {
         HintsEnd::BadHint(reason) => Ok(Some(reason)),

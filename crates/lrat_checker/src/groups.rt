@@ -1,9 +1,10 @@
 // The resolvents of an addition: each candidate, a live clause with the pivot's negation, is blocked, or a group of
 // hints refutes its resolvent with the added clause. (LRAT: resolution asymmetric tautologies.)
-ghost use Rattle.std.specs.Prelude.{◌≡◌, None, IfOk, OnOk};
+ghost use Rattle.std.specs.Prelude.{◌≡◌, None, IfOk, OnOk, OnErr, IsTrue};
 ghost use Rattle.lrat_rules.specs.Chain.{chain as chain_of};
 ghost use Rattle.lrat_rules.specs.Addition.{with_candidate, outcome_fault, group_fault, groups_fault, resolvents_fault};
 ghost use Rattle.lrat_rules.specs.FalseLiterals.{set_of, before_of};
+ghost use Rattle.lrat_checker.specs.Memory.{candidate_keeps, group_keeps, groups_keep};
 
 use crate::hints::{HintsEnd, run_hints};
 use crate::live::LiveClauses;
@@ -18,7 +19,8 @@ pub fn resolvents_fault(
     groups: &[Group],
 ) -> Result<Option<Reason>, OutOfMemory>
     requires { before_of chain.old ≡ None }
-    ensures { IfOk result (λ fault. fault ≡ resolvents_fault live.now (set_of chain.old) pivot groups.now) }
+    ensures fault { IfOk result (λ fault. fault ≡ resolvents_fault live.now (set_of chain.old) pivot groups.now) }
+    ensures memory { OnErr result (IsTrue (groups_keep live.now (set_of chain.old) pivot groups.now)) }
 {
     if let Some(reason) = groups_fault(live, chain, pivot, groups)? {
         return Ok(Some(reason));
@@ -41,6 +43,7 @@ fn groups_fault(
     ensures fault { IfOk result (λ fault. fault ≡ groups_fault live.now (set_of chain.old) pivot groups.now) }
     ensures same_set { OnOk result (set_of chain.new ≡ set_of chain.old) }
     ensures no_group { OnOk result (before_of chain.new ≡ None) }
+    ensures memory { OnErr result (IsTrue (groups_keep live.now (set_of chain.old) pivot groups.now)) }
 {
     for group in groups {
         if let Some(reason) = group_fault(live, chain, pivot, group)? {
@@ -61,6 +64,7 @@ fn group_fault(
     ensures fault { IfOk result (λ fault. fault ≡ group_fault live.now (set_of chain.old) pivot group.now) }
     ensures same_set { OnOk result (set_of chain.new ≡ set_of chain.old) }
     ensures no_group { OnOk result (before_of chain.new ≡ None) }
+    ensures memory { OnErr result (IsTrue (group_keeps live.now (set_of chain.old) pivot group.now)) }
 {
     let Some(clause) = live.clause(group.id) else {
         return Ok(Some(Reason::GroupStray));
@@ -87,6 +91,7 @@ fn candidate_fault(
     ensures fault { IfOk result (λ fault. fault ≡ outcome_fault (chain_of live.now (with_candidate (set_of chain.old) pivot clause.now) hints.now)) }
     ensures same_set { OnOk result (set_of chain.new ≡ set_of chain.old) }
     ensures no_group { OnOk result (before_of chain.new ≡ None) }
+    ensures memory { OnErr result (IsTrue (candidate_keeps live.now (set_of chain.old) pivot clause.now hints.now)) }
 {
     chain.open_group(clause, pivot)?;
     let end = run_hints(live, chain, hints)?;

@@ -1,9 +1,10 @@
 // A run over hints: each names a live clause, which under the false literals so far is a conflict, forces a literal,
 // or is bad. (LRAT: reverse unit propagation with hints.)
-ghost use Rattle.std.specs.Prelude.{◌≡◌, IfOk, OnOk};
+ghost use Rattle.std.specs.Prelude.{◌≡◌, IfOk, OnOk, OnErr, IsTrue};
 ghost use Rattle.lrat_rules.specs.Chain.{chain as chain_of};
 ghost use Rattle.lrat_rules.specs.FalseLiterals.{set_of, before_of};
 ghost use Rattle.lrat_checker.specs.Ends.{outcome_at};
+ghost use Rattle.lrat_checker.specs.Memory.{forces_literal};
 
 use crate::live::LiveClauses;
 use cnf_base::{Id, OutOfMemory};
@@ -28,6 +29,7 @@ pub fn run_hints(
 ) -> Result<HintsEnd, OutOfMemory>
     ensures outcome { IfOk result (λ end. chain_of live.now (set_of chain.old) hints.now ≡ outcome_at (set_of chain.new) end) }
     ensures same_group { OnOk result (before_of chain.new ≡ before_of chain.old) }
+    ensures memory { OnErr result (IsTrue (forces_literal live.now (set_of chain.old) hints.now)) }
 {
     for hint in hints {
         let Some(clause) = live.clause(*hint) else {

@@ -1,7 +1,8 @@
 // The judge of a proof's steps. It keeps the live clauses, the greatest number, and the memory of one chain of hints.
-ghost use Rattle.std.specs.Prelude.{◌≡◌, ◌<◌, IfOk, OnErr, IfNone, OnSome, IsTrue};
+ghost use Rattle.std.specs.Prelude.{◌≡◌, IfOk, OnErr, IfNone, OnSome, IsTrue};
 ghost use Rattle.std.specs.FinMap as map;
 ghost use Rattle.std.specs.Option.{option_copied};
+ghost use Rattle.cnf_base.specs.declared.step.Step.TheVariants.{Add};
 ghost use Rattle.lrat_rules.specs.State.{start, clause_at, with_clause, numbered_from};
 ghost use Rattle.lrat_rules.specs.Addition.{fault};
 ghost use Rattle.lrat_rules.specs.Run.{step_fault, after_step};
@@ -49,7 +50,8 @@ impl Judge {
         ensures good { IfOk result (λ fault. IfNone fault (self.new ≡ after_step self.old step.now)) }
         ensures bad { IfOk result (λ fault. OnSome fault (self.new ≡ self.old)) }
         ensures err { OnErr result (self.new ≡ self.old) }
-        // A deletion, and an addition whose number isn't greater, want no memory.
+        // A deletion, and an addition whose number isn't greater, want no memory; an addition wants it for the literals
+        // that are kept while it is judged, and where it is good.
         ensures memory { OnErr result (IsTrue (may_want_memory self.old step.now)) }
     {
         match step {
@@ -84,7 +86,7 @@ impl Judge {
         ensures good { IfOk result (λ answer. IfNone answer (self.new ≡ record { live = with_clause self.old.live id clause.now; top = id })) }
         ensures bad { IfOk result (λ answer. OnSome answer (self.new ≡ self.old)) }
         ensures err { OnErr result (self.new ≡ self.old) }
-        ensures memory { OnErr result (self.old.top < id) }
+        ensures memory { OnErr result (IsTrue (may_want_memory self.old (Add id clause.now hints.now groups.now))) }
     {
         let fault = addition_fault(
             &self.live,

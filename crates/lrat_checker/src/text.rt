@@ -1,12 +1,13 @@
 // The check of a proof text: a reader gives its steps in turn, and a judge takes them.
-ghost use Rattle.std.specs.Prelude.{◌≡◌, ◌≢◌, ◌||◌, false, Err, IsTrue};
+ghost use Rattle.std.specs.Prelude.{◌≡◌, ◌≢◌, ◌||◌, false, None, Err, IsTrue};
 ghost use Rattle.host_io.specs.Channel.{Rose};
-ghost use Rattle.text_scan.specs.Decides.{Decides, OnlyReads};
+ghost use Rattle.text_scan.specs.Decides.{gained, Decides, OnlyReads};
 ghost use Rattle.lrat_text.specs.declared.reader.Status.TheVariants.{Reading};
-ghost use Rattle.lrat_text.specs.Reader.{steps_ahead};
+ghost use Rattle.lrat_text.specs.Reader.{steps_ahead, so_far};
 ghost use Rattle.lrat_rules.specs.Run.{step_adds_empty};
-ghost use Rattle.lrat_checker.specs.declared.verdict.CheckError.TheVariants.{ReadFault};
-ghost use Rattle.lrat_checker.specs.TextVerdict.{end_verdict, error_answer, steps_verdict, text_verdict, Answers};
+ghost use Rattle.lrat_checker.specs.declared.verdict.CheckError.TheVariants.{ReadFault, OutOfMemory};
+ghost use Rattle.lrat_checker.specs.Memory.{steps_may_want_memory};
+ghost use Rattle.lrat_checker.specs.TextVerdict.{end_verdict, error_answer, steps_verdict, text_verdict, verdict_so_far, Answers};
 
 use crate::judge::Judge;
 use crate::verdict::{CheckError, Verdict};
@@ -25,6 +26,9 @@ pub fn check<S: Source>(alloc: Global, formula: &Cnf, source: &mut S) -> Result<
     // The answer is that of the bytes that were taken and whatever may follow them, so of the whole text.
     ensures decides { IsTrue S.tells → Decides (S.channel source.old) (S.channel source.new)
         (λ bytes more. Answers result (text_verdict formula.now.clauses bytes)) }
+    // a read fails only where the bytes taken decide nothing yet
+    ensures undecided { IsTrue S.tells → result ≡ Err ReadFault →
+        verdict_so_far formula.now.clauses (gained (S.channel source.old) (S.channel source.new)) ≡ None }
     ensures fault { result ≡ Err ReadFault → Rose (S.channel source.old).faults (S.channel source.new).faults }
     // no failed read is told as anything else
     ensures unfailed { result ≢ Err ReadFault → (S.channel source.new).faults ≡ (S.channel source.old).faults }
@@ -46,6 +50,11 @@ fn judge_steps<S: Source>(
     requires { reader.old.status ≡ Reading }
     ensures decides { IsTrue S.tells → Decides (S.channel source.old) (S.channel source.new)
         (λ bytes more. Answers result (steps_verdict judge.old false (steps_ahead reader.old bytes))) }
+    // unless the reader wanted memory, a step did
+    ensures memory { IsTrue S.tells → result ≡ Err OutOfMemory → reader.new.status ≡ Reading →
+        Decides (S.channel source.old) (S.channel source.new) (λ bytes more. IsTrue (steps_may_want_memory judge.old (steps_ahead reader.old bytes))) }
+    ensures undecided { IsTrue S.tells → result ≡ Err ReadFault →
+        steps_verdict judge.old false (so_far reader.old (gained (S.channel source.old) (S.channel source.new))) ≡ None }
     ensures fault { result ≡ Err ReadFault → Rose (S.channel source.old).faults (S.channel source.new).faults }
     ensures unfailed { result ≢ Err ReadFault → (S.channel source.new).faults ≡ (S.channel source.old).faults }
     ensures reads { OnlyReads (S.channel source.old) (S.channel source.new) }

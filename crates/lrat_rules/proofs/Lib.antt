@@ -7,6 +7,8 @@ pub mod Resolvents
 pub mod SoundSteps
 pub mod Refuted
 pub mod MoreLines
+pub mod Derivations
 pub mod Samples
 pub mod Passes
 pub mod MarksAtStart
+pub mod FewerMarks

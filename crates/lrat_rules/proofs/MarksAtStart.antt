@@ -1,13 +1,13 @@
 -- At the start no extension variable is in use.
-use Rattle.std.proofs.Common.{◌≡◌, ℕ, ◌+◌, ◌<◌, ◌≤◌, Bool, true, false, ◌&&◌, cond, ℤ, List, [], ◌∷◌, ◌++◌, Option, None, Some, nat_cmp, refl, sym, ap, ◌∙◌, arith}
-use Rattle.std.specs.Prelude.{nat_abs, nat_lt, nat_le, map, IsTrue}
+use Rattle.std.proofs.Common.{◌≡◌, ℕ, true, false, cond, ℤ, List, [], ◌∷◌, ◌++◌, None, Some, nat_cmp, refl, ap, ◌∙◌}
+use Rattle.std.specs.Prelude.{nat_abs, nat_lt, nat_le, map}
 use Rattle.std.specs.List.{filter, flat_map, list_all}
 use Rattle.std.specs.FinMap as finmap
 use Rattle.std.specs.FinSet as finset
 use Rattle.std.proofs.lemmas.Bool.{and_parts, leb-true, le-ltb}
 use Rattle.cnf_base.specs.Truth.{is_literal_of, AreClausesOf}
 use Rattle.lrat_rules.specs.State.{Live, clause_at, start}
-use Rattle.lrat_rules.specs.Marks.{variables_of, live_variables, in_use}
+use Rattle.lrat_rules.specs.Marks.{variables_of, in_use}
 use Rattle.lrat_rules.proofs.SoundSteps.{LivePass, LivePass-start}
 
 -- the variables above vars of the first items and of the others

@@ -15,7 +15,7 @@ use Rattle.lrat_rules.specs.Soundness.{is_nonzero, has_no_zero, LiveHasNoZero, s
 use Rattle.lrat_rules.proofs.Tests.{list_all_each, list_all_weaken}
 use Rattle.lrat_rules.proofs.SoundSteps.{LivePass-start, IsModel, run-sound}
 
-has_no_zero-literals : (vars : ℕ) (clause : List ℤ) → list_all (is_literal_of vars) clause ≡ true → has_no_zero clause ≡ true
+pub has_no_zero-literals : (vars : ℕ) (clause : List ℤ) → list_all (is_literal_of vars) clause ≡ true → has_no_zero clause ≡ true
 has_no_zero-literals vars clause h = list_all_weaken (is_literal_of vars) is_nonzero clause (λ x l. (and_parts (nat_lt 0 (nat_abs x)) _ l).0) h
 
 and_then_no_zero : {X : Type 0} (f : X → Option Step) (o : Option X) → ((x : X) → line_has_no_zero (f x) ≡ true) → line_has_no_zero (option_and_then f o) ≡ true
@@ -76,9 +76,12 @@ pub LiveHasNoZero-start : (vars : ℕ) (clauses : List (List ℤ)) → AreClause
 LiveHasNoZero-start vars clauses ranges =
     LivePass-start has_no_zero clauses (list_all_weaken (list_all (is_literal_of vars)) has_no_zero clauses (has_no_zero-literals vars) ranges)
 
+-- an assignment that satisfies the formula is a model of the live clauses at the start
+pub start_model : (vars : ℕ) (clauses : List (List ℤ)) → AreClausesOf vars clauses → (a : Assignment) → Satisfies a clauses → IsModel a (start clauses).live
+start_model vars clauses ranges a satisfies = record { nonzero = LiveHasNoZero-start vars clauses ranges; satisfied = LivePass-start (clause_holds a) clauses satisfies }
+
 pub unsatisfiable : (vars : ℕ) (clauses : List (List ℤ)) (bytes : List ℕ) → AreClausesOf vars clauses → Refutes clauses bytes → (a : Assignment) → Satisfies a clauses → ⊥
 unsatisfiable vars clauses bytes ranges refutes a satisfies =
     let verified = IsVerifiedRun-Refutes clauses bytes refutes in
-    let model : IsModel a (start clauses).live = record { nonzero = LiveHasNoZero-start vars clauses ranges; satisfied = LivePass-start (clause_holds a) clauses satisfies } in
-    let survives = run-sound a (start clauses) verified.state (proof_lines bytes) model (proof_lines_no_zero bytes) verified.reached in
+    let survives = run-sound a (start clauses) verified.state (proof_lines bytes) (start_model vars clauses ranges a satisfies) (proof_lines_no_zero bytes) verified.reached in
     both_ways (adds_empty_clause bytes) survives.no_empty verified.empty

@@ -17,6 +17,10 @@ use Rattle.lrat_rules.specs.Chain.{FalseSet, literals_of, chain, Outcome, Open, 
 abbrev pub holds_negated : ℤ → List ℤ → Bool
 holds_negated pivot clause = list_any (int_eq (neg_ℤ pivot)) clause
 
+-- the clause has a literal other than the pivot's negation
+abbrev pub has_other : ℤ → List ℤ → Bool
+has_other pivot clause = list_any (λ x. not (int_eq x (neg_ℤ pivot))) clause
+
 -- some literal other than the pivot's negation has its negation among the false ones
 abbrev pub is_blocked_by : FalseSet → ℤ → List ℤ → Bool
 is_blocked_by n pivot clause = list_any (λ x. not (int_eq x (neg_ℤ pivot)) && n (neg_ℤ x)) clause

@@ -1,12 +1,12 @@
 -- A proof as a run of steps from the formula's clauses, and the verdict on a text. (Cruz-Filipe, Heule, Hunt,
 -- Kaufmann, Schneider-Kamp: Efficient Certified RAT Verification, CADE 2017.) That lines behind the empty clause are
 -- judged too is this project's own rule.
-use Rattle.std.specs.Prelude.{◌≡◌, ℕ, Bool, false, ℤ, List, [], ◌∷◌, ◌++◌, Option, None, Some, IsTrue, if◌then◌else◌}
+use Rattle.std.specs.Prelude.{◌≡◌, ℕ, Bool, false, ℤ, List, [], ◌∷◌, Option, None, Some, IsTrue, if◌then◌else◌}
 use Rattle.std.specs.List.{list_any}
 use Rattle.cnf_base.specs.declared.step.Step.{Step}
 use Rattle.cnf_base.specs.declared.step.Step.TheVariants.{Add, Delete}
 use Rattle.cnf_base.specs.Text.{end_line}
-use Rattle.cnf_base.specs.ProofText.{Line, proof_lines, line_of_step, is_printable, is_empty, are_whole_lines}
+use Rattle.cnf_base.specs.ProofText.{Line, proof_lines, is_empty, are_whole_lines}
 use Rattle.lrat_rules.specs.declared.outcome.Reason.{Reason}
 use Rattle.lrat_rules.specs.declared.outcome.Reason.TheVariants.{Syntax, NoEmptyClause}
 use Rattle.lrat_rules.specs.State.{State, start, with_clause, without_clauses}

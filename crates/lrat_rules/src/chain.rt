@@ -2,11 +2,11 @@
 // and under those of a candidate while its group is open. (Cruz-Filipe, Heule, Hunt, Kaufmann, Schneider-Kamp:
 // Efficient Certified RAT Verification, CADE 2017.) The literals stand in a plain list, in the order in which they
 // became false, so that the end of a group cuts off what it added.
-ghost use Rattle.std.specs.Prelude.{◌≡◌, ◌&&◌, ◌++◌, not, neg_ℤ, IsTrue, false, None, Some, OnOk, OnErr, IfOk, take, length};
-ghost use Rattle.std.specs.List.{filter};
+ghost use Rattle.std.specs.Prelude.{◌≡◌, ◌<◌, ◌&&◌, ◌++◌, not, neg_ℤ, IsTrue, false, None, Some, OnOk, OnErr, IfOk, take, length};
+ghost use Rattle.std.specs.List.{filter, list_any};
 ghost use Rattle.std.specs.Ordering.{int_eq};
 ghost use Rattle.lrat_rules.specs.Chain.{literals_of, effect, is_unit};
-ghost use Rattle.lrat_rules.specs.Addition.{is_blocked_by, with_candidate};
+ghost use Rattle.lrat_rules.specs.Addition.{is_blocked_by, has_other, with_candidate};
 ghost use Rattle.lrat_rules.specs.FalseLiterals.{set_of, before_of, is_open, set_after, SameSets};
 
 use crate::outcome::Effect;
@@ -50,6 +50,8 @@ impl Chain {
         ensures set { OnOk result (set_of self.new ≡ literals_of clause.now) }
         ensures no_group { OnOk result (before_of self.new ≡ None) }
         ensures err { OnErr result (SameSets self.old self.new) }
+        // The empty clause wants no memory.
+        ensures memory { OnErr result (0 < length clause.now) }
     {
         self.literals.reserve(clause.len())?;
         self.opened = None;
@@ -90,6 +92,8 @@ impl Chain {
         ensures set { OnOk result (set_of self.new ≡ with_candidate (set_of self.old) pivot clause.now) }
         ensures group { OnOk result (before_of self.new ≡ Some (set_of self.old)) }
         ensures err { OnErr result (SameSets self.old self.new) }
+        // A candidate that has only the pivot's negation wants no memory.
+        ensures memory { OnErr result (IsTrue (has_other pivot clause.now)) }
     {
         let count = self.literals.len();
         let negated = pivot.negated();
@@ -154,6 +158,7 @@ fn blocks(literals: &[Lit], negated_pivot: Lit, literal: Lit) -> bool
 fn push_others(literals: &mut Vec<Lit>, clause: &[Lit], other_than: Lit) -> Result<(), OutOfMemory>
     ensures ok { OnOk result (literals.new.items ≡ literals.old.items ++ filter (λ x. not (int_eq x other_than)) clause.now) }
     ensures err { OnErr result (take (length literals.old.items) literals.new.items ≡ literals.old.items) }
+    ensures memory { OnErr result (IsTrue (list_any (λ x. not (int_eq x other_than)) clause.now)) }
 {
     for literal in clause {
         if *literal != other_than {

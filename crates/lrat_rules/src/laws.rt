@@ -1,8 +1,8 @@
 // Laws of the rules, over everything: functions without work, whose clauses the crates above cite by a call.
-ghost use Rattle.std.specs.Prelude.{◌≡◌, ◌≤◌, ◌<◌, ◌+◌, ◌||◌, ◌++◌, ℕ, ℤ, List, [], ◌∷◌, map, length, None, Some, IsTrue, IsFalse, is_some, slice_index_or, if◌then◌else◌, ◌==◌};
+ghost use Rattle.std.specs.Prelude.{◌≡◌, ◌≤◌, ◌<◌, ◌+◌, ◌++◌, ℕ, ℤ, List, [], ◌∷◌, map, length, None, Some, IsTrue, IsFalse, is_some, slice_index_or, if◌then◌else◌, ◌==◌};
 ghost use Rattle.std.specs.List.{list_all, list_any};
 ghost use Rattle.cnf_base.specs.declared.step.Step.{Step};
-ghost use Rattle.cnf_base.specs.ProofText.{proof_lines, line_of_step, is_printable, are_whole_lines, is_empty};
+ghost use Rattle.cnf_base.specs.ProofText.{proof_lines, line_of_step, is_printable, is_empty};
 ghost use Rattle.cnf_base.specs.Truth.{AreClausesOf};
 ghost use Rattle.lrat_rules.specs.Marks.{in_use};
 ghost use Rattle.lrat_rules.specs.State.{State, Live, clause_at, start, with_clause};

@@ -9,7 +9,7 @@ use Rattle.lrat_text.specs.declared.draft.Kind.TheVariants.{Empty, Begun, Adds, 
 use Rattle.text_scan.specs.Capped.{capped, capped_ℤ}
 use Rattle.lrat_text.specs.Numbers.{positive, signed_word, plain_word, deletion_from, addition_by}
 use Rattle.lrat_text.specs.Steps.{step_then, steps_after, steps_of, row_of_word}
-use Rattle.lrat_text.specs.Draft.{DraftLine, no_draft, draft_of_word, with_given, draft_with, judged, judged_in, is_open, is_open_kind, drafted}
+use Rattle.lrat_text.specs.Draft.{DraftLine, no_draft, behind, draft_from, draft_of_word, with_given, draft_with, judged, judged_in, is_open, is_open_kind, drafted}
 use Rattle.lrat_text.proofs.Cut.{all_given-map, addition_by-capped, deletion_from-capped}
 
 -- the draft of the tokens of a line
@@ -19,10 +19,13 @@ kind_of word = if is_delete_word word then Deletes else Adds
 abbrev numbers_of : List ℕ → List (List ℕ) → Option (List ℤ)
 numbers_of word words = if is_delete_word word then all_given (map plain_word words) else all_given (map signed_word (word ∷ words))
 
+abbrev as_draft : ℕ → Option ℕ → Kind → Option (List ℤ) → DraftLine
+as_draft line id kind numbers = record { line = line; kind = kind; id = id; numbers = numbers }
+
 abbrev pub draft_of : ℕ → List (List ℕ) → DraftLine
 draft_of line [] = record { line = line; kind = Empty; id = None; numbers = Some [] }
-draft_of line (word ∷ []) = record { line = line; kind = Begun; id = option_map capped (plain_number word); numbers = Some [] }
-draft_of line (word ∷ next ∷ words) = record { line = line; kind = kind_of next; id = option_map capped (plain_number word); numbers = numbers_of next words }
+draft_of line (word ∷ []) = draft_from line (option_map capped (plain_number word))
+draft_of line (word ∷ next ∷ words) = as_draft line (option_map capped (plain_number word)) (kind_of next) (behind (option_map capped (plain_number word)) (numbers_of next words))
 
 all_given-push : (f : List ℕ → Option ℤ) (words : List (List ℕ)) (word : List ℕ) → all_given (map f (words ++ word ∷ [])) ≡ with_given (all_given (map f words)) (f word)
 all_given-push f [] word = elim (f word) as (λ x. all_given (x ∷ []) ≡ with_given (Some []) x) [ None ↦ refl | Some x ↦ refl ]
@@ -36,25 +39,31 @@ all_given-push f (next ∷ words) word = elim (f next) as (λ x. all_given (x �
 ]
 
 -- one more token
-abbrev as_draft : ℕ → Option ℕ → Kind → Option (List ℤ) → DraftLine
-as_draft line id kind numbers = record { line = line; kind = kind; id = id; numbers = numbers }
+second_token : (line : ℕ) (id : Option ℕ) (word : Word) → as_draft line id (kind_of word.bytes) (behind id (numbers_of word.bytes [])) ≡ draft_with (draft_from line id) word
+second_token line None word = elim (is_delete_word word.bytes) as (λ b. as_draft line None (if b then Deletes else Adds) None
+    ≡ (if b then as_draft line None Deletes None else as_draft line None Adds None)) [ true ↦ refl | false ↦ refl ]
+second_token line (Some id) word =
+    elim (is_delete_word word.bytes) as (λ b. as_draft line (Some id) (if b then Deletes else Adds) (if b then Some [] else all_given (signed_word word.bytes ∷ []))
+    ≡ (if b then as_draft line (Some id) Deletes (Some []) else as_draft line (Some id) Adds (with_given (Some []) (signed_word word.bytes)))) [
+      | true ↦ refl
+      | false ↦ ap (as_draft line (Some id) Adds) (all_given-push signed_word [] word.bytes)
+    ]
+
+later_token : (line : ℕ) (id : Option ℕ) (next : List ℕ) (words : List (List ℕ)) (word : Word)
+    → as_draft line id (kind_of next) (behind id (numbers_of next (words ++ word.bytes ∷ []))) ≡ draft_with (as_draft line id (kind_of next) (behind id (numbers_of next words))) word
+later_token line None next words word =
+    elim (is_delete_word next) as (λ b. as_draft line None (if b then Deletes else Adds) None ≡ draft_with (as_draft line None (if b then Deletes else Adds) None) word) [ true ↦ refl | false ↦ refl ]
+later_token line (Some id) next words word =
+    elim (is_delete_word next) as (λ b. as_draft line (Some id) (if b then Deletes else Adds)
+    (if b then all_given (map plain_word (words ++ word.bytes ∷ [])) else all_given (map signed_word (next ∷ (words ++ word.bytes ∷ []))))
+    ≡ draft_with (as_draft line (Some id) (if b then Deletes else Adds) (if b then all_given (map plain_word words) else all_given (map signed_word (next ∷ words)))) word) [
+      | true ↦ ap (as_draft line (Some id) Deletes) (all_given-push plain_word words word.bytes)
+      | false ↦ ap (as_draft line (Some id) Adds) (all_given-push signed_word (next ∷ words) word.bytes)
+    ]
 
 pub draft_of-push : (line : ℕ) (first : List ℕ) (words : List (List ℕ)) (word : Word) → draft_of line (first ∷ (words ++ word.bytes ∷ [])) ≡ draft_with (draft_of line (first ∷ words)) word
-draft_of-push line first [] word =
-    let id : Option ℕ = option_map capped (plain_number first) in
-    elim (is_delete_word word.bytes) as (λ b. as_draft line id (if b then Deletes else Adds) (if b then Some [] else all_given (signed_word word.bytes ∷ []))
-    ≡ (if b then as_draft line id Deletes (Some []) else as_draft line id Adds (with_given (Some []) (signed_word word.bytes)))) [
-      | true ↦ refl
-      | false ↦ ap (as_draft line id Adds) (all_given-push signed_word [] word.bytes)
-    ]
-draft_of-push line first (next ∷ words) word =
-    let id : Option ℕ = option_map capped (plain_number first) in
-    elim (is_delete_word next) as (λ b. as_draft line id (if b then Deletes else Adds)
-    (if b then all_given (map plain_word (words ++ word.bytes ∷ [])) else all_given (map signed_word (next ∷ (words ++ word.bytes ∷ []))))
-    ≡ draft_with (as_draft line id (if b then Deletes else Adds) (if b then all_given (map plain_word words) else all_given (map signed_word (next ∷ words)))) word) [
-      | true ↦ ap (as_draft line id Deletes) (all_given-push plain_word words word.bytes)
-      | false ↦ ap (as_draft line id Adds) (all_given-push signed_word (next ∷ words) word.bytes)
-    ]
+draft_of-push line first [] word = second_token line (option_map capped (plain_number first)) word
+draft_of-push line first (next ∷ words) word = later_token line (option_map capped (plain_number first)) next words word
 
 pub draft_of-open : (line : ℕ) (first : List ℕ) (words : List (List ℕ)) → is_open (draft_of line (first ∷ words)) ≡ true
 draft_of-open line first [] = refl
@@ -82,8 +91,8 @@ plain_part id words =
     ]
 
 pub judged-is : (line : ℕ) (first : List ℕ) (words : List (List ℕ)) → judged (draft_of line (first ∷ words)) ≡ step_of (first ∷ words)
-judged-is line first [] = elim (plain_number first) as (λ (n : Option ℕ). option_and_then (λ id. option_and_then (judged_in Begun id) (Some [])) (option_map capped n) ≡ option_and_then (λ id. step_with id []) n) [ None ↦ refl | Some id ↦ refl ]
-judged-is line first (next ∷ words) = elim (plain_number first) as (λ (n : Option ℕ). option_and_then (λ id. option_and_then (judged_in (kind_of next) id) (numbers_of next words)) (option_map capped n) ≡ option_and_then (λ id. step_with id (next ∷ words)) n) [
+judged-is line first [] = elim (plain_number first) as (λ (n : Option ℕ). option_and_then (λ id. option_and_then (judged_in Begun id) (behind (option_map capped n) (Some []))) (option_map capped n) ≡ option_and_then (λ id. step_with id []) n) [ None ↦ refl | Some id ↦ refl ]
+judged-is line first (next ∷ words) = elim (plain_number first) as (λ (n : Option ℕ). option_and_then (λ id. option_and_then (judged_in (kind_of next) id) (behind (option_map capped n) (numbers_of next words))) (option_map capped n) ≡ option_and_then (λ id. step_with id (next ∷ words)) n) [
   | None ↦ refl
   | Some id ↦ elim (is_delete_word next) as (λ b. option_and_then (judged_in (if b then Deletes else Adds) (capped id)) (if b then all_given (map plain_word words) else all_given (map signed_word (next ∷ words)))
       ≡ (if b then option_and_then (λ numbers. option_and_then (deletion_of id) (split_at (λ n. n == 0) numbers)) (all_given (map plain_number words))

@@ -4,3 +4,4 @@ pub mod Zero
 pub mod Lines
 pub mod Overlong
 pub mod Settled
+pub mod SoFar

@@ -1,6 +1,6 @@
--- A line as it is read: which kind of step it is, its first number, and the numbers behind, nothing where a token is
--- none.
-use Rattle.std.specs.Prelude.{ℕ, Bool, true, false, ℤ, List, [], ◌∷◌, ◌++◌, Option, None, Some, nat_lt, ◌==◌, if◌then◌else◌}
+-- A line as it is read: which kind of step it is, its first number, and the numbers behind, nothing where a token or
+-- the first one is none.
+use Rattle.std.specs.Prelude.{ℕ, Bool, true, false, ℤ, List, [], ◌∷◌, ◌++◌, Option, None, Some, is_some, nat_lt, ◌==◌, if◌then◌else◌}
 use Rattle.std.specs.Option.{option_map, option_and_then}
 use Rattle.cnf_base.specs.declared.step.Step.{Step}
 use Rattle.cnf_base.specs.Number.{plain_number}
@@ -22,8 +22,16 @@ pub record DraftLine : Type 0 where
 abbrev pub no_draft : DraftLine
 no_draft = record { line = 0; kind = Empty; id = None; numbers = Some [] }
 
+-- these numbers behind a first token, where that is a number
+abbrev pub behind : Option ℕ → Option (List ℤ) → Option (List ℤ)
+behind None numbers = None
+behind (Some id) numbers = numbers
+
+abbrev pub draft_from : ℕ → Option ℕ → DraftLine
+draft_from line id = record { line = line; kind = Begun; id = id; numbers = behind id (Some []) }
+
 abbrev pub draft_of_word : Word → DraftLine
-draft_of_word word = record { line = word.line; kind = Begun; id = option_map capped (plain_number word.bytes); numbers = Some [] }
+draft_of_word word = draft_from word.line (option_map capped (plain_number word.bytes))
 
 -- one more number behind
 abbrev pub with_given : Option (List ℤ) → Option ℤ → Option (List ℤ)
@@ -44,6 +52,10 @@ draft_with_in Deletes draft word = draft_as draft Deletes (with_given draft.numb
 
 abbrev pub draft_with : DraftLine → Word → DraftLine
 draft_with draft word = draft_with_in draft.kind draft word
+
+-- all of its tokens so far are numbers
+abbrev pub has_numbers : DraftLine → Bool
+has_numbers draft = is_some draft.numbers
 
 -- the step that the line spells, if it spells one
 abbrev pub judged_in : Kind → ℕ → List ℤ → Option Step

@@ -1,12 +1,12 @@
 -- A reader of steps as its callers see it, and what a call gives.
-use Rattle.std.specs.Prelude.{◌≡◌, ℕ, ◌+◌, ◌<◌, Bool, true, false, List, Option, None, Some, Result, Ok, Err, ⊤, ◌&&◌, nat_lt, if◌then◌else◌}
+use Rattle.std.specs.Prelude.{◌≡◌, ℕ, ◌+◌, ◌<◌, Bool, true, false, List, ◌++◌, Option, None, Some, is_some, Result, Ok, Err, IsTrue, ⊤, ◌&&◌, nat_lt, if◌then◌else◌}
 use Rattle.cnf_base.specs.declared.step.Step.{Step}
-use Rattle.text_scan.specs.Scan.{Scan, ahead, fuel as scan_fuel}
+use Rattle.text_scan.specs.Scan.{Scan, ahead, so_far as scan_so_far, is_reading as is_scanning, fuel as scan_fuel}
 use Rattle.lrat_text.specs.declared.error.StepError.{StepError}
 use Rattle.lrat_text.specs.declared.error.StepError.TheVariants.{Syntax, ReadFault, TooLong, OutOfMemory}
 use Rattle.lrat_text.specs.declared.reader.Status.{Status}
 use Rattle.lrat_text.specs.declared.reader.Status.TheVariants.{Reading, Ended, Failed}
-use Rattle.lrat_text.specs.Steps.{Steps, no_more, overlong, no_step, next_step}
+use Rattle.lrat_text.specs.Steps.{Steps, no_more, overlong, no_step, next_step, broken_off}
 use Rattle.lrat_text.specs.Draft.{DraftLine, is_open, judged, drafted}
 
 -- The scanner, the line that isn't ended, whether it still reads, and the line that it answers.
@@ -27,6 +27,10 @@ steps_in (Failed OutOfMemory) reader more = drafted (ahead reader.scan more) rea
 
 abbrev pub steps_ahead : Reader → List ℕ → Steps
 steps_ahead reader more = steps_in reader.status reader more
+
+-- the steps that the bytes taken decide where these follow them, if all of them are the front of a longer text
+abbrev pub so_far : Reader → List ℕ → Steps
+so_far reader more = drafted (broken_off (scan_so_far reader.scan more)) reader.draft
 
 abbrev pub is_reading : Status → Bool
 is_reading Reading = true
@@ -55,6 +59,17 @@ Gives (Err TooLong) line before after = (before ≡ overlong) × (after ≡ over
 Gives (Err ReadFault) line before after = ⊤
 Gives (Err OutOfMemory) line before after = ⊤
 
+-- What the bytes that a call took decide as the front of a longer text: the step is the first, unless the end of the
+-- text ended its line. Where a read failed, they decided none: no line that was ended is left.
+abbrev pub GivesSoFar : Result (Option (Step × ℕ)) StepError → Reader → Reader → List ℕ → Type 0
+GivesSoFar (Ok (Some (step, at))) old new bytes =
+    is_scanning new.scan.status ≡ true → (is_scanning old.scan.status ≡ true) × ((more : List ℕ) → so_far old (bytes ++ more) ≡ next_step step at (so_far new more))
+GivesSoFar (Ok None) old new bytes = ⊤
+GivesSoFar (Err (Syntax at)) old new bytes = ⊤
+GivesSoFar (Err TooLong) old new bytes = ⊤
+GivesSoFar (Err ReadFault) old new bytes = (is_scanning old.scan.status ≡ true) × (so_far old bytes ≡ overlong)
+GivesSoFar (Err OutOfMemory) old new bytes = ⊤
+
 -- A step was given: its line is answered, the reader reads on, and fewer can come.
 pub record GaveStep (at : ℕ) (old new : Reader) : Type 0 where
   pub line : new.line ≡ at
@@ -77,13 +92,13 @@ last_answer (Failed error) = Err error
 abbrev pub is_under : Reader → Bool
 is_under reader = is_open reader.draft && nat_lt reader.draft.line reader.scan.line
 
--- the line that is begun was judged
+-- the line that is begun was judged; memory is wanted only where it spells a step
 abbrev pub Judges : Result Step StepError → Reader → Reader → Type 0
 Judges (Ok step) old new = (judged old.draft ≡ Some step) × (new ≡ record old { line = old.draft.line })
 Judges (Err (Syntax at)) old new = (judged old.draft ≡ None) × (at ≡ old.draft.line) × (new ≡ record old { status = Failed (Syntax at) })
 Judges (Err TooLong) old new = ⊥
 Judges (Err ReadFault) old new = ⊥
-Judges (Err OutOfMemory) old new = new ≡ record old { status = Failed OutOfMemory }
+Judges (Err OutOfMemory) old new = IsTrue (is_some (judged old.draft)) × (new ≡ record old { status = Failed OutOfMemory })
 
 -- it was judged and is given, and this line is begun now
 abbrev pub Settles : Result (Option (Step × ℕ)) StepError → DraftLine → Reader → Reader → Type 0
@@ -92,4 +107,4 @@ Settles (Ok None) next old new = ⊥
 Settles (Err (Syntax at)) next old new = (judged old.draft ≡ None) × (at ≡ old.draft.line) × (new ≡ record old { status = Failed (Syntax at) })
 Settles (Err TooLong) next old new = ⊥
 Settles (Err ReadFault) next old new = ⊥
-Settles (Err OutOfMemory) next old new = new ≡ record old { status = Failed OutOfMemory }
+Settles (Err OutOfMemory) next old new = IsTrue (is_some (judged old.draft)) × (new ≡ record old { status = Failed OutOfMemory })

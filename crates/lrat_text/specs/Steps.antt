@@ -5,7 +5,7 @@ use Rattle.std.specs.List.{filter}
 use Rattle.cnf_base.specs.declared.step.Step.{Step}
 use Rattle.cnf_base.specs.Text.{Word, Row, end_line}
 use Rattle.cnf_base.specs.ProofText.{Line, line_of_row, proof_lines}
-use Rattle.text_scan.specs.Items.{Items, the_end, too_long, next_word, items}
+use Rattle.text_scan.specs.Items.{Items, the_end, too_long, next_word, items_of_front, items}
 
 -- Each step with its line. In the end the line of the end, that the text is longer than the limit, or the line that
 -- spells no step, behind which nothing is given.
@@ -60,6 +60,17 @@ steps_of items = steps_after items (record { line = 0; words = [] })
 -- a whole proof text, of which as many bytes are looked at as the limit says (99 is `c`)
 abbrev pub steps : ℕ → List ℕ → Steps
 steps limit bytes = steps_of (items 99 limit bytes)
+
+-- These items where a text breaks off: at a limit on line 0 no line is ended but by a token of another line.
+abbrev pub broken_off : Items → Items
+broken_off (the_end line) = too_long 0
+broken_off (too_long line) = too_long 0
+broken_off (next_word word items) = next_word word (broken_off items)
+
+-- The steps that the front of a longer text decides, whatever comes after it: a line is judged once the first token of
+-- a later one has come. `overlong` says that nothing more is decided so far.
+abbrev pub steps_so_far : List ℕ → Steps
+steps_so_far bytes = steps_of (broken_off (items_of_front 99 bytes))
 
 -- the lines whose line ends stand among so many bytes of the text: those before the line on which these bytes end
 abbrev pub lines_within : ℕ → List ℕ → List Line

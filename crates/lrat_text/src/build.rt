@@ -1,5 +1,5 @@
 // From the numbers of a line to its step.
-ghost use Rattle.std.specs.Prelude.{◌≡◌, true, pos, slice_index_or, [], ◌∷◌, ◌++◌, ◌+◌, ◌<◌, ◌≤◌, ◌^◌, ℤ, nat_abs, List, map, take, drop, length, Option, None, Some, Ok, OnOk, IsTrue, IfSome};
+ghost use Rattle.std.specs.Prelude.{◌≡◌, true, pos, slice_index_or, [], ◌∷◌, ◌++◌, ◌+◌, ◌<◌, ◌≤◌, ◌^◌, ℤ, nat_abs, List, map, take, drop, length, Option, None, Some, Ok, OnOk, OnErr, IsTrue, IfSome, is_some};
 ghost use Rattle.std.specs.List.{list_all};
 ghost use Rattle.std.specs.Option.{option_map};
 ghost use Rattle.cnf_base.specs.Truth.{is_literal_of};
@@ -134,9 +134,10 @@ fn groups(alloc: Global, numbers: &[i64]) -> Result<GroupList, OutOfMemory>
     Ok(groups)
 }
 
-/// The addition that these numbers behind an identifier spell, if they spell one.
+/// The addition that these numbers behind an identifier spell, if they spell one. Memory is wanted only for that.
 pub fn addition(alloc: Global, id: u64, numbers: &[i64]) -> Result<Option<Step>, OutOfMemory>
-    ensures { OnOk result (result ≡ Ok (addition_by id numbers.now)) }
+    ensures step { OnOk result (result ≡ Ok (addition_by id numbers.now)) }
+    ensures memory { OnErr result (IsTrue (is_some (addition_by id numbers.now))) }
 {
     let Some(end) = first_zero(numbers) else {
         return Ok(None);
@@ -161,7 +162,8 @@ fn addition_of(
     hints: &[i64],
     rest: &[i64],
 ) -> Result<Option<Step>, OutOfMemory>
-    ensures { OnOk result (result ≡ Ok (addition_of id literals.now (hints.now, rest.now))) }
+    ensures step { OnOk result (result ≡ Ok (addition_of id literals.now (hints.now, rest.now))) }
+    ensures memory { OnErr result (IsTrue (is_some (addition_of id literals.now (hints.now, rest.now)))) }
 {
     if !(is_id(id) && are_literals(literals) && are_hints(hints) && rest.is_empty()) {
         return Ok(None);
@@ -174,9 +176,10 @@ fn addition_of(
     }))
 }
 
-/// The deletion that these numbers behind the `d` spell, if they spell one.
+/// The deletion that these numbers behind the `d` spell, if they spell one. Memory is wanted only for that.
 pub fn deletion(alloc: Global, id: u64, numbers: &[i64]) -> Result<Option<Step>, OutOfMemory>
-    ensures { OnOk result (result ≡ Ok (deletion_from id numbers.now)) }
+    ensures step { OnOk result (result ≡ Ok (deletion_from id numbers.now)) }
+    ensures memory { OnErr result (IsTrue (is_some (deletion_from id numbers.now))) }
 {
     let Some(end) = first_zero(numbers) else {
         return Ok(None);
@@ -190,7 +193,8 @@ fn deletion_with(
     ids: &[i64],
     rest: &[i64],
 ) -> Result<Option<Step>, OutOfMemory>
-    ensures { OnOk result (result ≡ Ok (deletion_with id (ids.now, rest.now))) }
+    ensures step { OnOk result (result ≡ Ok (deletion_with id (ids.now, rest.now))) }
+    ensures memory { OnErr result (IsTrue (is_some (deletion_with id (ids.now, rest.now)))) }
 {
     if !(id <= MAX_ID && are_hints(ids) && rest.is_empty()) {
         return Ok(None);

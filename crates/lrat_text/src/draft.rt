@@ -1,9 +1,9 @@
 // One line as it is read, token by token.
-ghost use Rattle.std.specs.Prelude.{◌≡◌, ◌≤◌, [], None, Some, Ok, OnOk, OnErr, Option};
+ghost use Rattle.std.specs.Prelude.{◌≡◌, ◌≤◌, [], None, Some, Ok, OnOk, OnErr, Option, IsTrue, is_some};
 ghost use Rattle.std.specs.Option.{option_map};
 ghost use Rattle.cnf_base.specs.ProofText.{is_delete_word};
 ghost use Rattle.lrat_text.specs.declared.draft.Kind.TheVariants.{Empty};
-ghost use Rattle.lrat_text.specs.Draft.{no_draft, draft_of_word, draft_with, with_given, draft_as, judged, is_open};
+ghost use Rattle.lrat_text.specs.Draft.{no_draft, draft_of_word, draft_with, with_given, draft_as, has_numbers, judged, is_open};
 
 use crate::build::{addition, deletion};
 use cnf_base::{OutOfMemory, Step};
@@ -26,7 +26,7 @@ pub struct Draft {
     line: u64,
     kind: Kind,
     id: Option<u64>,
-    // whether a token behind the first is no number
+    // whether a token is no number
     broken: bool,
     numbers: Vec<i64>,
 }
@@ -92,14 +92,16 @@ impl Draft {
         self.line = token.line();
         self.kind = Kind::Begun;
         self.id = plain_number(token);
-        self.broken = false;
+        self.broken = self.id.is_none();
         self.numbers.clear();
     }
 
-    /// Takes one more token of the line.
+    /// Takes one more token of the line. Memory is wanted only where all tokens so far are numbers.
     #[inline(always)]
     pub fn take(&mut self, token: &Token) -> Result<(), OutOfMemory>
-        ensures { OnOk result (self.new ≡ draft_with self.old token.now) }
+        ensures ok { OnOk result (self.new ≡ draft_with self.old token.now) }
+        ensures memory { OnErr result (IsTrue (has_numbers (draft_with self.old token.now))) }
+        ensures kept { OnErr result (IsTrue (has_numbers self.new)) }
     {
         match self.kind {
             Kind::Empty => Ok(()),
@@ -118,18 +120,25 @@ impl Draft {
 
     #[inline(always)]
     fn put(&mut self, number: Option<i64>) -> Result<(), OutOfMemory>
-        ensures { OnOk result (self.new ≡ draft_as self.old self.old.kind (with_given self.old.numbers number)) }
+        ensures ok { OnOk result (self.new ≡ draft_as self.old self.old.kind (with_given self.old.numbers number)) }
+        ensures memory { OnErr result (IsTrue (is_some (with_given self.old.numbers number))) }
+        ensures kept { OnErr result (IsTrue (has_numbers self.new)) }
     {
         match number {
             None => self.broken = true,
-            Some(number) => self.numbers.push(number)?,
+            Some(number) => {
+                if !self.broken {
+                    self.numbers.push(number)?;
+                }
+            }
         }
         Ok(())
     }
 
-    /// The step that the line spells, if it spells one.
+    /// The step that the line spells, if it spells one. Memory is wanted only for that.
     pub fn step(&self, alloc: Global) -> Result<Option<Step>, OutOfMemory>
-        ensures { OnOk result (result ≡ Ok (judged self.now)) }
+        ensures step { OnOk result (result ≡ Ok (judged self.now)) }
+        ensures memory { OnErr result (IsTrue (is_some (judged self.now))) }
     {
         let Some(id) = self.id else {
             return Ok(None);

@@ -1,12 +1,12 @@
 // The reader: tokens from a scanner, gathered line by line.
 ghost use Rattle.std.specs.Prelude.{◌≡◌, ◌≢◌, ℕ, ◌+◌, ◌^◌, ◌<◌, true, false, List, None, Ok, Err, IsTrue, OnOk, OnErr};
 ghost use Rattle.host_io.specs.Channel.{Rose};
-ghost use Rattle.text_scan.specs.Decides.{Decides, OnlyReads};
+ghost use Rattle.text_scan.specs.Decides.{gained, Decides, OnlyReads};
 ghost use Rattle.lrat_text.specs.declared.error.StepError.TheVariants.{ReadFault, TooLong, OutOfMemory};
 ghost use Rattle.lrat_text.specs.declared.reader.Status.TheVariants.{Reading, Ended, Failed};
-ghost use Rattle.lrat_text.specs.Steps.{steps};
-ghost use Rattle.lrat_text.specs.Draft.{no_draft, draft_of_word, is_open, with_token};
-ghost use Rattle.lrat_text.specs.Reader.{Gives, Moves, steps_ahead, is_reading, last_answer, is_under, Judges, Settles};
+ghost use Rattle.lrat_text.specs.Steps.{steps, steps_so_far};
+ghost use Rattle.lrat_text.specs.Draft.{no_draft, draft_of_word, has_numbers, is_open, with_token};
+ghost use Rattle.lrat_text.specs.Reader.{Gives, GivesSoFar, Moves, steps_ahead, so_far, is_reading, last_answer, is_under, Judges, Settles};
 
 use crate::draft::Draft;
 use crate::error::StepError;
@@ -52,6 +52,7 @@ impl StepReader {
     pub fn new(alloc: Global, limit: u64) -> StepReader
         requires { limit + 1 < 2 ^ 64 }
         ensures steps { (bytes : List ℕ) → steps_ahead result bytes ≡ steps limit bytes }
+        ensures so_far { (bytes : List ℕ) → so_far result bytes ≡ steps_so_far bytes }
         ensures reading { result.status ≡ Reading }
         ensures line { result.line ≡ 1 }
     {
@@ -77,11 +78,16 @@ impl StepReader {
         // The answer is the next of the steps of the bytes that were taken and whatever may follow them.
         ensures gives { IsTrue S.tells → Decides (S.channel source.old) (S.channel source.new)
             (λ bytes more. Gives result self.new.line (steps_ahead self.old bytes) (steps_ahead self.new more)) }
+        // A read fails only where no line that was ended is left.
+        ensures so_far { IsTrue S.tells → is_reading self.old.status ≡ true →
+            GivesSoFar result self.old self.new (gained (S.channel source.old) (S.channel source.new)) }
         ensures moves { Moves result self.old self.new }
         ensures fault { result ≡ Err ReadFault → is_reading self.old.status ≡ true →
             Rose (S.channel source.old).faults (S.channel source.new).faults }
         // No failed read is told as anything else.
         ensures unfailed { result ≢ Err ReadFault → (S.channel source.new).faults ≡ (S.channel source.old).faults }
+        // Memory is wanted only for a line whose tokens so far are numbers.
+        ensures memory { result ≡ Err OutOfMemory → is_reading self.old.status ≡ true → IsTrue (has_numbers self.new.draft) }
         // Once it has stopped, nothing changes.
         ensures stopped_answer { is_reading self.old.status ≡ false → result ≡ last_answer self.old.status }
         ensures stopped_reader { is_reading self.old.status ≡ false → self.new ≡ self.old }
@@ -101,9 +107,11 @@ impl StepReader {
         requires { self.old.status ≡ Reading }
         ensures gives { IsTrue S.tells → Decides (S.channel source.old) (S.channel source.new)
             (λ bytes more. Gives result self.new.line (steps_ahead self.old bytes) (steps_ahead self.new more)) }
+        ensures so_far { IsTrue S.tells → GivesSoFar result self.old self.new (gained (S.channel source.old) (S.channel source.new)) }
         ensures moves { Moves result self.old self.new }
         ensures fault { result ≡ Err ReadFault → Rose (S.channel source.old).faults (S.channel source.new).faults }
         ensures unfailed { result ≢ Err ReadFault → (S.channel source.new).faults ≡ (S.channel source.old).faults }
+        ensures memory { result ≡ Err OutOfMemory → IsTrue (has_numbers self.new.draft) }
         ensures reads { OnlyReads (S.channel source.old) (S.channel source.new) }
         ensures beside { S.beside source.new ≡ S.beside source.old }
     {
@@ -131,6 +139,8 @@ impl StepReader {
         ensures ok { OnOk result (self.new ≡ record self.old { draft = with_token self.old.draft token.now }) }
         ensures err { OnErr result (result ≡ Err OutOfMemory) }
         ensures stopped { OnErr result (self.new.status ≡ Failed OutOfMemory) }
+        ensures memory { OnErr result (IsTrue (has_numbers (with_token self.old.draft token.now))) }
+        ensures kept { OnErr result (IsTrue (has_numbers self.new.draft)) }
         ensures line { self.new.line ≡ self.old.line }
     {
         if !self.draft.is_open() {
@@ -156,6 +166,8 @@ impl StepReader {
     // The last line, if one is begun, or the end.
     fn give_at_end(&mut self) -> Result<Option<(Step, u64)>, StepError>
         requires { self.old.status ≡ Reading }
+        ensures same_scan { self.new.scan ≡ self.old.scan }
+        ensures unfailed { result ≢ Err ReadFault }
         ensures last { is_open self.old.draft ≡ true → Settles result no_draft self.old self.new }
         ensures ended { is_open self.old.draft ≡ false → result ≡ Ok None }
         ensures stopped { is_open self.old.draft ≡ false → self.new ≡ record self.old { status = Ended; line = self.old.scan.line } }
@@ -173,6 +185,8 @@ impl StepReader {
     // The last line whose end stands under the limit, if it isn't given yet; else that the text is too long.
     fn give_at_limit(&mut self) -> Result<Option<(Step, u64)>, StepError>
         requires { self.old.status ≡ Reading }
+        ensures same_scan { self.new.scan ≡ self.old.scan }
+        ensures unfailed { result ≢ Err ReadFault }
         ensures last { is_under self.old ≡ true → Settles result no_draft self.old self.new }
         ensures over { is_under self.old ≡ false → result ≡ Err TooLong }
         ensures stopped { is_under self.old ≡ false → self.new ≡ record self.old { status = Failed TooLong } }

@@ -19,7 +19,7 @@ use Rattle.node_table.proofs.Grown.{KeepsNodes-joined}
 abbrev pub IsAboveAll : Graph → ℕ → Type 0
 IsAboveAll graph next = (key : ℕ) (branch : Branch) → branch_at graph key ≡ Some branch → branch.variable < next
 
-unused : (graph : Graph) (state : State) → IsTied graph state → (next : ℕ) → levels graph < next → IsAboveAll graph next → IsUnused state.live next
+pub unused : (graph : Graph) (state : State) → IsTied graph state → (next : ℕ) → levels graph < next → IsAboveAll graph next → IsUnused state.live next
 unused graph state tied next above all id clause at literal among same =
     let owned = tied.over_nodes id clause at literal among (omega (arith, above, same)) in
     omega (arith, all owned.key owned.branch owned.stands, owned.own, same)

@@ -8,6 +8,15 @@ use Rattle.node_table.specs.Diagram.{Graph, IsReduced, IsBelow, FitsIn, KeepsNod
 use Rattle.node_table.proofs.Keyed.{branch_at-with_branch}
 use Rattle.node_table.proofs.Values.{branch_of_node, level_of-inner}
 
+pub KeepsNodes-none : (graph : Graph) → KeepsNodes graph graph
+KeepsNodes-none graph = record { order = refl; nodes = λ key branch is. is }
+
+pub KeepsNodes-further : (one two three : Graph) → KeepsNodes one two → KeepsNodes two three → KeepsNodes one three
+KeepsNodes-further one two three first second = record {
+  order = second.order ∙ first.order;
+  nodes = λ key branch is. second.nodes key branch (first.nodes key branch is);
+}
+
 levels-kept : (old new : Graph) → KeepsNodes old new → levels new ≡ levels old
 levels-kept old new keeps = ap length keeps.order
 

@@ -19,6 +19,12 @@ pub mod Opened
 pub mod InUse
 pub mod InUseSame
 pub mod Progressed
+pub mod KeptFrom
+pub mod Retired
+pub mod Fronts
+pub mod CallSteps
+pub mod Making
+pub mod Justifying
 pub mod Subfunctions
 pub mod Reached
 pub mod Missing

@@ -1,4 +1,4 @@
--- A node that was made leaves the table tied and extended: the node is reduced and defined, and no other variable came.
+-- A node that was made leaves the table tied: the node is reduced and defined, and no other variable came.
 use Rattle.std.proofs.Common.{◌≡◌, ℕ, zero, suc, ◌+◌, ◌<◌, ◌≤◌, Bool, true, false, ℤ, pos, negsuc, List, [], ◌∷◌, length, Option, None, Some, is_some, refl, sym, ap, ◌∙◌, subst, arith, inl, inr}
 use Rattle.std.specs.Prelude.{nat_abs, neg_ℤ, not, slice_index_or}
 use Rattle.cnf_base.specs.ProofText.{given_if}
@@ -9,13 +9,13 @@ use Rattle.hint_chain.specs.Atoms.{neg_atom, clause_of, high_up, low_up, high_do
 use Rattle.node_table.specs.declared.node.Node.{Node}
 use Rattle.node_table.specs.declared.node.Node.TheVariants.{False, True, Inner}
 use Rattle.node_table.specs.declared.node.Branch.{Branch}
-use Rattle.node_table.specs.Diagram.{Graph, IsBelow, KeepsNodes, FitsIn, branch_at, is_node, levels, variable_at, with_branch, next_variable}
-use Rattle.node_table.specs.Defined.{IsDefined, atom_of, atom_in, clause_named, is_false_node, is_true_node, one_if, with_definitions}
-use Rattle.node_table.specs.Tied.{IsTied, IsOwned, IsOverNodes, Extends}
+use Rattle.node_table.specs.Diagram.{Graph, IsBelow, KeepsNodes, FitsIn, branch_at, is_node, levels, variable_at, with_branch}
+use Rattle.node_table.specs.Defined.{IsDefined, atom_of, atom_in, clause_named, is_false_node, is_true_node, one_if, definition_count, with_some, with_definitions}
+use Rattle.node_table.specs.Tied.{IsTied, IsOwned, IsOverNodes}
 use Rattle.node_table.specs.Table.{IsWanted, new_branch, node_definitions}
 use Rattle.node_table.proofs.Values.{branch_of_node}
 use Rattle.node_table.proofs.Grown.{is_node-kept, IsReduced-joined, KeepsNodes-joined, joined_at, joined_cases}
-use Rattle.node_table.proofs.Stands.{IsOverAtom, FourStand, each_some, four_stand, over_clause}
+use Rattle.node_table.proofs.Stands.{IsOverAtom, FourStand, each_some, four_stand, over_clause, top_some}
 
 -- Which of the clauses there are. The atom of a node is Never for False alone, and Always for True alone.
 pub some_up : (graph : Graph) (u x : ℤ) (node : Node) → is_node graph node ≡ true → is_some (clause_of (Of u ∷ Of x ∷ neg_atom (atom_of graph node) ∷ [])) ≡ not (is_false_node node)
@@ -98,14 +98,14 @@ over_neg graph (Of own) over literal is above =
     subst (IsOwned graph) size (over own refl (omega (arith, above, size)))
 
 -- the four clauses of a new node stand under its numbers
-new_is_defined : (graph : Graph) (state after : State) (level : ℕ) (high low : Node) → is_node graph high ≡ true → is_node graph low ≡ true
-    → FourStand state (clause_of (high_up (pos (next_variable graph)) (pos (variable_at graph level)) (atom_of graph high)))
-    (clause_of (low_up (pos (next_variable graph)) (pos (variable_at graph level)) (atom_of graph low)))
-    (clause_of (high_down (pos (next_variable graph)) (pos (variable_at graph level)) (atom_of graph high)))
-    (clause_of (low_down (pos (next_variable graph)) (pos (variable_at graph level)) (atom_of graph low))) after
-    → IsDefined after.live graph (new_branch graph state level high low)
-new_is_defined graph state after level high low high_stands low_stands four =
-    let u = pos (next_variable graph) in
+new_is_defined : (graph : Graph) (state after : State) (level : ℕ) (high low : Node) (variable : ℕ) → is_node graph high ≡ true → is_node graph low ≡ true
+    → FourStand state (clause_of (high_up (pos variable) (pos (variable_at graph level)) (atom_of graph high)))
+    (clause_of (low_up (pos variable) (pos (variable_at graph level)) (atom_of graph low)))
+    (clause_of (high_down (pos variable) (pos (variable_at graph level)) (atom_of graph high)))
+    (clause_of (low_down (pos variable) (pos (variable_at graph level)) (atom_of graph low))) after
+    → IsDefined after.live graph (new_branch state level high low variable)
+new_is_defined graph state after level high low variable high_stands low_stands four =
+    let u = pos variable in
     let y = pos (variable_at graph level) in
     let first = state.top + 1 in
     let p1 = some_up graph u (neg_ℤ y) high high_stands in
@@ -119,19 +119,16 @@ new_is_defined graph state after level high low high_stands low_stands four =
       ld = (λ i. clause_named after.live (given_if (sym p4 i) (first + one_if (sym p1 i) + one_if (sym p2 i) + one_if (sym p3 i)))) ∙ four.four;
     }
 
-abbrev pub IsTiedAndExtends : Graph → Graph → State → State → Type 0
-IsTiedAndExtends old new state after = IsTied new after × Extends old new state after
-
 pub made_is_tied : (old : Graph) (state : State) → IsTied old state → (level : ℕ) (high low : Node) → level < levels old → IsBelow old level high → IsBelow old level low → IsWanted old level high low
-    → ((key : ℕ) (b : Branch) → branch_at old key ≡ Some b → b.variable < next_variable old)
+    → (variable : ℕ) → levels old < variable → ((key : ℕ) (b : Branch) → branch_at old key ≡ Some b → b.variable < variable)
     → (key : ℕ) → branch_at old key ≡ None
-    → IsTiedAndExtends old (with_branch old key (new_branch old state level high low)) state (with_definitions state (node_definitions old state level high low))
-made_is_tied old state tied level high low small high_below low_below wanted own key unused =
-    let branch = new_branch old state level high low in
+    → IsTied (with_branch old key (new_branch state level high low variable)) (with_definitions state (node_definitions old state level high low variable))
+made_is_tied old state tied level high low small high_below low_below wanted variable above own key unused =
+    let branch = new_branch state level high low variable in
     let new = with_branch old key branch in
-    let after = with_definitions state (node_definitions old state level high low) in
+    let after = with_definitions state (node_definitions old state level high low variable) in
     let keeps = KeepsNodes-joined old key branch unused in
-    let u = pos (next_variable old) in
+    let u = pos variable in
     let y = pos (variable_at old level) in
     let fits : FitsIn old branch = record {
       level = small;
@@ -142,29 +139,54 @@ made_is_tied old state tied level high low small high_below low_below wanted own
     } in
     let four = four_stand state tied.numbers (clause_of (high_up u y (atom_of old high))) (clause_of (low_up u y (atom_of old low)))
     (clause_of (high_down u y (atom_of old high))) (clause_of (low_down u y (atom_of old low))) in
-    let owned : IsOwned new (next_variable old) = record { key = key; branch = branch; stands = joined_at old key branch; own = refl } in
+    let owned : IsOwned new variable = record { key = key; branch = branch; stands = joined_at old key branch; own = refl } in
     let over_u : IsOverAtom new (Of u) = over_own new u owned in
     let variable_small : variable_at old level ≤ levels old = (tied.ordered.within level small).1 in
     let over_y : IsOverAtom new (Of y) = over_input new y variable_small in
     let over_not_y : IsOverAtom new (Of (neg_ℤ y)) = over_neg new (Of y) over_y in
     let over_not_u : IsOverAtom new (Of (neg_ℤ u)) = over_neg new (Of u) over_u in
     let over_high : IsOverAtom new (atom_of old high) = subst (IsOverAtom new) (atom_of-kept old new keeps high high_below.stands) (over_node new high (is_node-kept old new keeps high high_below.stands)) in
-    let over_low : IsOverAtom new (atom_of old low) = subst (IsOverAtom new) (atom_of-kept old new keeps low low_below.stands) (over_node new low (is_node-kept old new keeps low low_below.stands)) in (
-      record {
-        reduced = IsReduced-joined old tied.reduced key branch unused fits (omega arith) (λ other b is same. omega (arith, own other b is, same));
-        ordered = tied.ordered;
-        defined = λ other b is. elim (joined_cases old key branch other b is) [
-          | inl here ↦ subst (IsDefined after.live new) (sym here.1)
-              (IsDefined-kept old new keeps after.live after.live (λ id clause at. at) branch high_below.stands low_below.stands (new_is_defined old state after level high low high_below.stands low_below.stands four))
-          | inr there ↦ IsDefined-kept old new keeps state.live after.live four.grows.clauses b (tied.reduced.high other b there).stands (tied.reduced.low other b there).stands (tied.defined other b there)
-        ];
-        over_nodes =
-            each_some (IsOverNodes new) _ (clause_of (low_down u y (atom_of old low))) (over_clause new (low_down u y (atom_of old low)) (over_not_u, (over_y, (over_low, tt))))
-            (each_some (IsOverNodes new) _ (clause_of (high_down u y (atom_of old high))) (over_clause new (high_down u y (atom_of old high)) (over_not_u, (over_not_y, (over_high, tt))))
-            (each_some (IsOverNodes new) _ (clause_of (low_up u y (atom_of old low))) (over_clause new (low_up u y (atom_of old low)) (over_u, (over_y, (over_neg new (atom_of old low) over_low, tt))))
-            (each_some (IsOverNodes new) state (clause_of (high_up u y (atom_of old high))) (over_clause new (high_up u y (atom_of old high)) (over_u, (over_not_y, (over_neg new (atom_of old high) over_high, tt))))
-            (λ id clause at. IsOverNodes-kept old new keeps clause (tied.over_nodes id clause at)))));
-        numbers = four.grows.numbers;
-      },
-      record { nodes = keeps; clauses = four.grows.clauses; numbers = four.grows.gives },
-    )
+    let over_low : IsOverAtom new (atom_of old low) = subst (IsOverAtom new) (atom_of-kept old new keeps low low_below.stands) (over_node new low (is_node-kept old new keeps low low_below.stands)) in
+    record {
+      reduced = IsReduced-joined old tied.reduced key branch unused fits above (λ other b is same. omega (arith, own other b is, same));
+      ordered = tied.ordered;
+      defined = λ other b is. elim (joined_cases old key branch other b is) [
+        | inl here ↦ subst (IsDefined after.live new) (sym here.1)
+            (IsDefined-kept old new keeps after.live after.live (λ id clause at. at) branch high_below.stands low_below.stands (new_is_defined old state after level high low variable high_below.stands low_below.stands four))
+        | inr there ↦ IsDefined-kept old new keeps state.live after.live four.grows.clauses b (tied.reduced.high other b there).stands (tied.reduced.low other b there).stands (tied.defined other b there)
+      ];
+      over_nodes =
+          each_some (IsOverNodes new) _ (clause_of (low_down u y (atom_of old low))) (over_clause new (low_down u y (atom_of old low)) (over_not_u, (over_y, (over_low, tt))))
+          (each_some (IsOverNodes new) _ (clause_of (high_down u y (atom_of old high))) (over_clause new (high_down u y (atom_of old high)) (over_not_u, (over_not_y, (over_high, tt))))
+          (each_some (IsOverNodes new) _ (clause_of (low_up u y (atom_of old low))) (over_clause new (low_up u y (atom_of old low)) (over_u, (over_y, (over_neg new (atom_of old low) over_low, tt))))
+          (each_some (IsOverNodes new) state (clause_of (high_up u y (atom_of old high))) (over_clause new (high_up u y (atom_of old high)) (over_u, (over_not_y, (over_neg new (atom_of old high) over_high, tt))))
+          (λ id clause at. IsOverNodes-kept old new keeps clause (tied.over_nodes id clause at)))));
+      numbers = four.grows.numbers;
+    }
+
+at_most_one : (b : Bool) → one_if b ≤ 1
+at_most_one true = omega arith
+at_most_one false = omega arith
+
+at_most_four : (a b c d : ℕ) → a ≤ 1 → b ≤ 1 → c ≤ 1 → d ≤ 1 → a + b + c + d ≤ 4
+at_most_four a b c d one two three four = omega (arith, one, two, three, four)
+
+pub few_definitions : (high low : Node) → definition_count high low ≤ 4
+few_definitions high low =
+    at_most_four (one_if (not (is_false_node high))) (one_if (not (is_false_node low))) (one_if (not (is_true_node high))) (one_if (not (is_true_node low)))
+    (at_most_one (not (is_false_node high))) (at_most_one (not (is_false_node low))) (at_most_one (not (is_true_node high))) (at_most_one (not (is_true_node low)))
+
+-- so many numbers are given for them
+pub definitions_top : (graph : Graph) (state : State) (level : ℕ) (high low : Node) (variable : ℕ) → is_node graph high ≡ true → is_node graph low ≡ true
+    → (with_definitions state (node_definitions graph state level high low variable)).top ≡ state.top + definition_count high low
+definitions_top graph state level high low variable high_stands low_stands =
+    let u = pos variable in
+    let y = pos (variable_at graph level) in
+    let one = with_some state (clause_of (high_up u y (atom_of graph high))) in
+    let two = with_some one (clause_of (low_up u y (atom_of graph low))) in
+    let three = with_some two (clause_of (high_down u y (atom_of graph high))) in
+    let hu = top_some state (clause_of (high_up u y (atom_of graph high))) ∙ ap (λ b. state.top + one_if b) (some_up graph u (neg_ℤ y) high high_stands) in
+    let lu = top_some one (clause_of (low_up u y (atom_of graph low))) ∙ ap (λ b. one.top + one_if b) (some_up graph u y low low_stands) in
+    let hd = top_some two (clause_of (high_down u y (atom_of graph high))) ∙ ap (λ b. two.top + one_if b) (some_down graph (neg_ℤ u) (neg_ℤ y) high high_stands) in
+    let ld = top_some three (clause_of (low_down u y (atom_of graph low))) ∙ ap (λ b. three.top + one_if b) (some_down graph (neg_ℤ u) y low low_stands) in
+    omega (arith, hu, lu, hd, ld)

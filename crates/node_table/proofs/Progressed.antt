@@ -1,14 +1,19 @@
--- Calls one after another: what was kept by both is kept.
-use Rattle.std.proofs.Common.{◌≡◌, ℕ, Bool, true, is_some, refl, ap, ◌∙◌, arith, inl, inr, Option, None, Some}
+-- Calls one after another: what both kept is kept, and what they added adds up.
+use Rattle.std.proofs.Common.{◌≡◌, ◌+◌, ◌≤◌, ℕ, Bool, true, is_some, refl, sym, ap, ◌∙◌, subst, arith, inl, inr, List, [], ◌++◌, length, Option, None, Some}
 use Rattle.std.proofs.lemmas.Bool.{cases_lt}
+use Rattle.std.proofs.lemmas.List.{append_assoc, append-nil}
 use Rattle.host_io.specs.Channel.{Channel}
 use Rattle.lrat_rules.specs.State.{State, Live, clause_at}
+use Rattle.lrat_rules.specs.Marks.{IsWithin, in_use}
 use Rattle.clause_ledger.specs.Book.{OnlyWrites}
-use Rattle.node_table.specs.Diagram.{Graph, KeepsNodes}
-use Rattle.node_table.specs.Tied.{IsTied, KeepsClauses, GivesNumbers, Extends, Stays}
-use Rattle.node_table.specs.Table.{TableState}
-use Rattle.node_table.specs.Progress.{Continues, BreaksOff}
-use Rattle.node_table.proofs.Justified.{same_extends}
+use Rattle.node_table.specs.declared.error.TableError.{TableError}
+use Rattle.node_table.specs.declared.error.TableError.TheVariants.{NodeLimit, IdLimit, OutOfMemory, WriteFault}
+use Rattle.node_table.specs.Diagram.{levels}
+use Rattle.node_table.specs.Tied.{KeepsClauses, GivesNumbers}
+use Rattle.node_table.specs.Table.{TableState, IsSound, Extends}
+use Rattle.node_table.specs.Progress.{Continues, BreaksOff, Leaves, Steps, number_limit}
+use Rattle.node_table.proofs.Grown.{KeepsNodes-none, KeepsNodes-further}
+use Rattle.node_table.proofs.Stands.{Grows-none}
 
 OnlyWrites-same : (channel : Channel) → OnlyWrites channel channel
 OnlyWrites-same channel = record { flushed = refl; taken = refl; left = refl; name = refl; faults = omega arith }
@@ -20,12 +25,6 @@ OnlyWrites-further one two three first second = record {
   left = second.left ∙ first.left;
   name = second.name ∙ first.name;
   faults = omega (arith, first.faults, second.faults);
-}
-
-KeepsNodes-further : (one two three : Graph) → KeepsNodes one two → KeepsNodes two three → KeepsNodes one three
-KeepsNodes-further one two three first second = record {
-  order = second.order ∙ first.order;
-  nodes = λ key branch is. second.nodes key branch (first.nodes key branch is);
 }
 
 some_of : {A : Type 0} (o : Option A) → is_some o ≡ true → (x : A) × (o ≡ Some x)
@@ -48,53 +47,117 @@ GivesNumbers-further one two three keeps first second = record {
   ];
 }
 
-Extends-further : (one two three : Graph) (first second third : State) → Extends one two first second → Extends two three second third → Extends one three first third
-Extends-further one two three first second third before after = record {
-  nodes = KeepsNodes-further one two three before.nodes after.nodes;
-  clauses = λ id clause is. after.clauses id clause (before.clauses id clause is);
-  numbers = GivesNumbers-further first second third after.clauses before.numbers after.numbers;
-}
+≤-further : (a b c : ℕ) → a ≤ b → b ≤ c → a ≤ c
+≤-further a b c first second = omega (arith, first, second)
 
-Stays-further : (one two three : Graph) (first second third : State) → Extends one two first second → Stays two three second third → Stays one three first third
-Stays-further one two three first second third before after = record {
-  nodes = KeepsNodes-further one two three before.nodes after.nodes;
-  clauses = λ id clause is. after.clauses id clause (before.clauses id clause is);
-}
+module _ {S : Type 0} where
+  pub Extends-further : (old mid new : TableState S) → Extends old mid → Extends mid new → Extends old new
+  Extends-further old mid new first second = record {
+    nodes = KeepsNodes-further old.graph mid.graph new.graph first.nodes second.nodes;
+    clauses = λ id clause is. second.clauses id clause (first.clauses id clause is);
+    numbers = GivesNumbers-further old.book.state mid.book.state new.book.state second.clauses first.numbers second.numbers;
+    more = first.more ++ second.more;
+    retired = second.retired ∙ ap (λ (ids : List ℕ). ids ++ second.more) first.retired ∙ append_assoc old.retired first.more second.more;
+  }
 
-pub Continues-same : (S : Type 0) (tells : Bool) (channel : Channel) (table : TableState S) → IsTied table.graph table.book.state → table.book.in_step ≡ true
-    → Continues tells channel channel table table
-Continues-same S tells channel table tied step = record {
-  tied = tied;
-  extends = same_extends table.graph table.book.state tied;
-  in_step = step;
-  kept = λ clauses is. is;
-  max_nodes = refl;
-  limit = refl;
-  unfailed = refl;
-  writes = OnlyWrites-same channel;
-}
+  pub Extends-none : (table : TableState S) → IsSound table → Extends table table
+  Extends-none table sound =
+      let grows = Grows-none table.book.state sound.tied.numbers in
+      record {
+        nodes = KeepsNodes-none table.graph;
+        clauses = grows.clauses;
+        numbers = grows.gives;
+        more = [];
+        retired = sym (append-nil table.retired);
+      }
 
-pub Continues-further : (S : Type 0) (tells : Bool) (first second third : Channel) (old mid new : TableState S) → Continues tells first second old mid
-    → Continues tells second third mid new → Continues tells first third old new
-Continues-further S tells first second third old mid new before after = record {
-  tied = after.tied;
-  extends = Extends-further old.graph mid.graph new.graph old.book.state mid.book.state new.book.state before.extends after.extends;
-  in_step = after.in_step;
-  kept = λ clauses is. after.kept clauses (before.kept clauses is);
-  max_nodes = after.max_nodes ∙ before.max_nodes;
-  limit = after.limit ∙ before.limit;
-  unfailed = after.unfailed ∙ before.unfailed;
-  writes = OnlyWrites-further first second third before.writes after.writes;
-}
+  IsWithin-further : (old mid : TableState S) → mid.graph.order ≡ old.graph.order → mid.max_nodes ≡ old.max_nodes → number_limit mid ≤ number_limit old → (state : State)
+      → IsWithin (levels mid.graph) (number_limit mid) mid.max_nodes state → IsWithin (levels old.graph) (number_limit old) old.max_nodes state
+  IsWithin-further old mid order nodes less state within = record {
+    numbers = ≤-further state.top (number_limit mid) (number_limit old) within.numbers less;
+    nodes = subst (λ (o : List ℕ). in_use (length o) state ≤ old.max_nodes) order (subst (λ (n : ℕ). in_use (levels mid.graph) state ≤ n) nodes within.nodes);
+  }
 
-pub BreaksOff-after : (S : Type 0) (tells : Bool) (first second third : Channel) (old mid new : TableState S) → Continues tells first second old mid
-    → BreaksOff tells second third mid new → BreaksOff tells first third old new
-BreaksOff-after S tells first second third old mid new before after = record {
-  rose = omega (arith, before.writes.faults, after.rose);
-  cut = λ clauses is. after.cut clauses (before.kept clauses is);
-  out_of_step = after.out_of_step;
-  stays = Stays-further old.graph mid.graph new.graph old.book.state mid.book.state new.book.state before.extends after.stays;
-  max_nodes = after.max_nodes ∙ before.max_nodes;
-  limit = after.limit ∙ before.limit;
-  writes = OnlyWrites-further first second third before.writes after.writes;
-}
+  -- so far within the limit: the limit is as far as before
+  limit_further : (old mid : TableState S) → mid.book.limit ≡ old.book.limit → mid.book.state.top ≤ number_limit old → number_limit mid ≤ number_limit old
+  limit_further old mid same within = omega (arith, same, within)
+
+  module _ (tells : Bool) where
+    pub Continues-none : (channel : Channel) (table : TableState S) → IsSound table → Continues tells channel channel table table
+    Continues-none channel table sound = record {
+      sound = sound;
+      order = refl;
+      kept = λ clauses is. is;
+      max_nodes = refl;
+      limit = refl;
+      no_less = omega arith;
+      numbers = omega arith;
+      unfailed = refl;
+      writes = OnlyWrites-same channel;
+    }
+
+    pub Continues-further : (first second third : Channel) (old mid new : TableState S) → Continues tells first second old mid
+        → Continues tells second third mid new → Continues tells first third old new
+    Continues-further first second third old mid new before after =
+        let within = limit_further old mid before.limit before.numbers in
+        record {
+          sound = after.sound;
+          order = after.order ∙ before.order;
+          kept = λ clauses is. after.kept clauses (before.kept clauses is);
+          max_nodes = after.max_nodes ∙ before.max_nodes;
+          limit = after.limit ∙ before.limit;
+          no_less = omega (arith, before.no_less, after.no_less);
+          numbers = ≤-further new.book.state.top (number_limit mid) (number_limit old) after.numbers within;
+          unfailed = after.unfailed ∙ before.unfailed;
+          writes = OnlyWrites-further first second third before.writes after.writes;
+        }
+
+    BreaksOff-after : (first second third : Channel) (old mid new : TableState S) → Continues tells first second old mid
+        → BreaksOff tells second third mid new → BreaksOff tells first third old new
+    BreaksOff-after first second third old mid new before after =
+        let within = limit_further old mid before.limit before.numbers in
+        record {
+          rose = omega (arith, before.writes.faults, after.rose);
+          cut = λ clauses is told.
+              let cut = after.cut clauses (before.kept clauses is) told in
+              record {
+                before = cut.before;
+                cut = cut.cut;
+                within_before = IsWithin-further old mid before.order before.max_nodes within cut.before cut.within_before;
+                within_after = IsWithin-further old mid before.order before.max_nodes within new.book.state cut.within_after;
+              };
+          out_of_step = after.out_of_step;
+          order = after.order ∙ before.order;
+          max_nodes = after.max_nodes ∙ before.max_nodes;
+          limit = after.limit ∙ before.limit;
+          no_less = omega (arith, before.no_less, after.no_less);
+          numbers = ≤-further new.book.state.top (number_limit mid) (number_limit old) after.numbers within;
+          writes = OnlyWrites-further first second third before.writes after.writes;
+        }
+
+    leaves_further : (first second third : Channel) (old mid new : TableState S) (error : Option TableError) → Continues tells first second old mid
+        → Leaves tells second third mid new error → Leaves tells first third old new error
+    leaves_further first second third old mid new None before after = Continues-further first second third old mid new before after
+    leaves_further first second third old mid new (Some NodeLimit) before after = (Continues-further first second third old mid new before after.0, after.1)
+    leaves_further first second third old mid new (Some IdLimit) before after = (Continues-further first second third old mid new before after.0, after.1)
+    leaves_further first second third old mid new (Some OutOfMemory) before after = Continues-further first second third old mid new before after
+    leaves_further first second third old mid new (Some WriteFault) before after = BreaksOff-after first second third old mid new before after
+
+    pub Steps-further : (first second third : Channel) (old mid new : TableState S) (few more : ℕ) (error : Option TableError) → Steps tells first second old mid few None
+        → Steps tells second third mid new more error → Steps tells first third old new (few + more) error
+    Steps-further first second third old mid new few more error before after = record {
+      leaves = leaves_further first second third old mid new error before.leaves after.leaves;
+      extends = Extends-further old mid new before.extends after.extends;
+      adds = omega (arith, before.adds, after.adds);
+    }
+
+    pub Steps-at_most : (before after : Channel) (old new : TableState S) (few more : ℕ) (error : Option TableError) → few ≤ more
+        → Steps tells before after old new few error → Steps tells before after old new more error
+    Steps-at_most before after old new few more error less steps = record { leaves = steps.leaves; extends = steps.extends; adds = omega (arith, less, steps.adds) }
+
+    -- nothing was changed
+    pub Steps-none : (channel : Channel) (table : TableState S) → IsSound table → Steps tells channel channel table table 0 None
+    Steps-none channel table sound = record { leaves = Continues-none channel table sound; extends = Extends-none table sound; adds = omega arith }
+
+    pub Steps-no_memory : (channel : Channel) (table : TableState S) → IsSound table → Steps tells channel channel table table 0 (Some OutOfMemory)
+    Steps-no_memory channel table sound = record { leaves = Continues-none channel table sound; extends = Extends-none table sound; adds = omega arith }

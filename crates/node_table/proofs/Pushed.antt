@@ -4,8 +4,8 @@ use Rattle.std.specs.FinMap as map
 use Rattle.std.proofs.lemmas.Option.{slice_get_past, slice_get_within}
 use Rattle.cnf_base.specs.ProofText.{max_id}
 use Rattle.node_table.specs.declared.node.Branch.{Branch}
-use Rattle.node_table.specs.Diagram.{IsReduced, FitsIn, branch_at, levels, with_branch, next_variable}
-use Rattle.node_table.specs.Stored.{graph_of, IsStored, AreNumbered, HaveFirsts}
+use Rattle.node_table.specs.Diagram.{IsReduced, FitsIn, branch_at, levels, with_branch}
+use Rattle.node_table.specs.Stored.{graph_of, IsStored, AreNumbered, HaveFirsts, next_variable}
 use Rattle.node_table.proofs.Keyed.{branch_at-graph_of, len-keyed, graph_of-push}
 use Rattle.node_table.proofs.Grown.{IsReduced-joined, joined_cases}
 

@@ -6,7 +6,7 @@ use Rattle.node_table.specs.declared.node.Node.{Node}
 use Rattle.node_table.specs.declared.node.Node.TheVariants.{False, True, Inner}
 use Rattle.node_table.specs.declared.node.Branch.{Branch}
 use Rattle.node_table.specs.Diagram.{Graph, IsReduced, KeepsNodes, branch_of, is_node, high_at, low_at, child_in}
-use Rattle.node_table.specs.Made.{Reaches, ReachesNew, child_of, end_of}
+use Rattle.node_table.specs.Made.{Reaches, ReachesNew, child_of, end_of, inner}
 use Rattle.node_table.proofs.Values.{branch_of_node}
 use Rattle.node_table.proofs.Grown.{is_node-kept}
 use Rattle.node_table.proofs.Kept.{branch_of-kept}
@@ -25,7 +25,7 @@ Reaches-further graph u v w first second = record {
 }
 
 -- a node reaches its cofactors
-Reaches-child : (graph : Graph) (to_high : Bool) (node : Node) (b : Branch) → branch_of graph node ≡ Some b → Reaches graph node (child_of to_high node (Some b))
+pub Reaches-child : (graph : Graph) (to_high : Bool) (node : Node) (b : Branch) → branch_of graph node ≡ Some b → Reaches graph node (child_of to_high node (Some b))
 Reaches-child graph to_high node b at = record { path = to_high ∷ []; ends = ap (child_of to_high node) at }
 
 Reaches-cofactor : (graph : Graph) (to_high : Bool) (level : ℕ) (node : Node) → Reaches graph node (child_in (λ b. child_of to_high node (Some b)) level node (branch_of graph node))
@@ -49,7 +49,7 @@ one_stands : (graph : Graph) → (to_high : Bool) (high low : Node) → is_node 
 one_stands graph true high low first second = first
 one_stands graph false high low first second = second
 
-child_stands : (graph : Graph) → IsReduced graph → (to_high : Bool) (node : Node) → is_node graph node ≡ true → is_node graph (child_of to_high node (branch_of graph node)) ≡ true
+pub child_stands : (graph : Graph) → IsReduced graph → (to_high : Bool) (node : Node) → is_node graph node ≡ true → is_node graph (child_of to_high node (branch_of graph node)) ≡ true
 child_stands graph reduced to_high False is = refl
 child_stands graph reduced to_high True is = refl
 child_stands graph reduced to_high (Inner key) is =
@@ -69,19 +69,21 @@ Reaches-kept old new reduced keeps node other is reaches = record { path = reach
 
 -- a call that makes no node
 pub ReachesNew-same : (graph : Graph) (root : Node) → ReachesNew graph graph root
-ReachesNew-same graph root = record { each = λ node is. inl is }
+ReachesNew-same graph root = record { each = λ key b at. inl at }
 
 -- Two calls, and a third one whose result reaches those of both.
 pub ReachesNew-joined : (old one two new : Graph) → IsReduced one → IsReduced two → KeepsNodes one two → KeepsNodes two new → (high low root : Node)
     → is_node one high ≡ true → is_node two low ≡ true → ReachesNew old one high → ReachesNew one two low → ReachesNew two new root
     → Reaches new root high → Reaches new root low → ReachesNew old new root
 ReachesNew-joined old one two new reduced_one reduced_two first second high low root high_stands low_stands by_high by_low by_root to_high to_low = record {
-  each = λ node is. elim (by_root.each node is) [
+  each = λ key b at. elim (by_root.each key b at) [
     | inr own ↦ inr own
-    | inl in_two ↦ elim (by_low.each node in_two) [
-      | inr own ↦ inr (Reaches-further new root low node to_low (Reaches-kept two new reduced_two second low node low_stands own))
-      | inl in_one ↦ elim (by_high.each node in_one) [
-        | inr own ↦ inr (Reaches-further new root high node to_high (Reaches-kept two new reduced_two second high node (is_node-kept one two first high high_stands) (Reaches-kept one two reduced_one first high node high_stands own)))
+    | inl in_two ↦ elim (by_low.each key b in_two) [
+      | inr own ↦ inr (Reaches-further new root low (inner key) to_low (Reaches-kept two new reduced_two second low (inner key) low_stands own))
+      | inl in_one ↦ elim (by_high.each key b in_one) [
+        | inr own ↦
+            let in_two : Reaches two high (inner key) = Reaches-kept one two reduced_one first high (inner key) high_stands own in
+            inr (Reaches-further new root high (inner key) to_high (Reaches-kept two new reduced_two second high (inner key) (is_node-kept one two first high high_stands) in_two))
         | inl before ↦ inl before
       ]
     ]

@@ -113,7 +113,7 @@ named_kept : (old new : Live) → KeepsClauses old new → (o : Option (List ℤ
 named_kept old new keeps None id is = refl
 named_kept old new keeps (Some clause) id is = keeps id clause is
 
-top_some : (state : State) (o : Option (List ℤ)) → (with_some state o).top ≡ state.top + one_if (is_some o)
+pub top_some : (state : State) (o : Option (List ℤ)) → (with_some state o).top ≡ state.top + one_if (is_some o)
 top_some state None = omega arith
 top_some state (Some clause) = refl
 

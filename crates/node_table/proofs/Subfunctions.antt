@@ -1,12 +1,12 @@
 -- Subfunctions: that they are transitive, that cofactors are ones, and which nodes calls make one after another.
-use Rattle.std.proofs.Common.{◌≡◌, ◌<◌, ◌≤◌, ◌+◌, ℕ, Bool, true, false, refl, sym, ap, ◌∙◌, arith, inl, inr, ◌⊎◌}
+use Rattle.std.proofs.Common.{◌≡◌, ◌<◌, ◌≤◌, ◌+◌, ℕ, Bool, true, false, is_some, refl, sym, ap, ◌∙◌, arith, inl, inr, ◌⊎◌}
 use Rattle.std.specs.Prelude.{if◌then◌else◌, nat_lt}
 use Rattle.std.proofs.lemmas.Bool.{cases_lt}
 use Rattle.std.proofs.lemmas.Bool.Decides.{nat_tests}
 use Rattle.node_table.specs.declared.node.Node.{Node}
 use Rattle.node_table.specs.Diagram.{Graph, IsReduced, IsBelow, KeepsNodes, is_node, levels, level_of, high_at, low_at}
 use Rattle.node_table.specs.Value.{Levels, value_of, fixed_to, IsSubfunction}
-use Rattle.node_table.specs.Made.{MakesOnly}
+use Rattle.node_table.specs.Made.{MakesOnly, inner}
 use Rattle.node_table.proofs.Canonical.{value-agree}
 use Rattle.node_table.proofs.Kept.{value-split, value-kept, cofactors-below}
 
@@ -73,16 +73,20 @@ module _ (graph : Graph) (reduced : IsReduced graph) (level : ℕ) where
 
 -- a call that makes no node
 pub MakesOnly-same : (graph : Graph) (f : Levels → Bool) → MakesOnly graph graph f
-MakesOnly-same graph f = record { each = λ node is. inl is }
+MakesOnly-same graph f = record { each = λ key b at. inl at }
 
 -- one call after another
 pub MakesOnly-further : (old mid new : Graph) → IsReduced mid → KeepsNodes mid new → (f : Levels → Bool) → MakesOnly old mid f → MakesOnly mid new f → MakesOnly old new f
 MakesOnly-further old mid new reduced keeps f first second = record {
-  each = λ node is. elim (second.each node is) [
+  each = λ key b at. elim (second.each key b at) [
     | inr own ↦ inr own
-    | inl there ↦ elim (first.each node there) [
+    | inl there ↦ elim (first.each key b there) [
       | inl before ↦ inl before
-      | inr own ↦ inr (record { level = own.level; fixed = own.fixed; same = λ a. value-kept mid new reduced keeps a node there ∙ own.same a })
+      | inr own ↦ inr (record {
+        level = own.level;
+        fixed = own.fixed;
+        same = λ a. value-kept mid new reduced keeps a (inner key) (ap is_some there) ∙ own.same a;
+      })
     ]
   ];
 }
@@ -90,8 +94,8 @@ MakesOnly-further old mid new reduced keeps f first second = record {
 -- what a part of a function makes is made for the whole
 pub MakesOnly-part : (old new : Graph) (f g : Levels → Bool) → IsSubfunction f g → MakesOnly old new g → MakesOnly old new f
 MakesOnly-part old new f g part only = record {
-  each = λ node is. elim (only.each node is) [
+  each = λ key b at. elim (only.each key b at) [
     | inl before ↦ inl before
-    | inr own ↦ inr (Subfunction-further f g (λ a. value_of new a node) part own)
+    | inr own ↦ inr (Subfunction-further f g (λ a. value_of new a (inner key)) part own)
   ];
 }

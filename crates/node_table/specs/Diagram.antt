@@ -1,6 +1,6 @@
 -- Reduced ordered binary decision diagrams: a set of nodes over an order of the variables. (Bryant: Graph-Based
 -- Algorithms for Boolean Function Manipulation, 1986.)
-use Rattle.std.specs.Prelude.{◌≡◌, ◌≢◌, ◌<◌, ◌+◌, ℕ, zero, suc, Bool, true, List, length, Option, None, Some, IsTrue, is_some, refl, slice_index_or, if◌then◌else◌, ◌==◌}
+use Rattle.std.specs.Prelude.{◌≡◌, ◌≢◌, ◌<◌, ℕ, zero, suc, Bool, true, List, length, Option, None, Some, IsTrue, is_some, refl, slice_index_or, if◌then◌else◌, ◌==◌}
 use Rattle.std.specs.Coded.{Coded, code_by, coded×, coded_ℕ, coded_list}
 use Rattle.std.specs.Ordering.{nat_cmp}
 use Rattle.std.specs.FinMap as map

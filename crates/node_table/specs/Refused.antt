@@ -6,7 +6,6 @@ use Rattle.node_table.specs.declared.node.Node.{Node}
 use Rattle.node_table.specs.declared.error.TableError.{TableError}
 use Rattle.node_table.specs.declared.error.TableError.TheVariants.{NodeLimit, IdLimit, OutOfMemory, WriteFault}
 use Rattle.node_table.specs.HandedOn.{came_from}
-use Rattle.node_table.specs.Diagram.{Graph}
 use Rattle.node_table.specs.Defined.{definition_count, one_if, is_false_node, is_true_node}
 use Rattle.node_table.specs.Table.{TableState, IsSame, live_nodes}
 

@@ -5,7 +5,7 @@ use Rattle.std.specs.List.{list_any}
 use Rattle.std.specs.Ordering.{int_eq}
 use Rattle.lrat_rules.specs.State.{State, Live, clause_at}
 use Rattle.node_table.specs.declared.node.Branch.{Branch}
-use Rattle.node_table.specs.Diagram.{Graph, IsReduced, IsOrder, KeepsNodes, branch_at, levels}
+use Rattle.node_table.specs.Diagram.{Graph, IsReduced, IsOrder, branch_at, levels}
 use Rattle.node_table.specs.Defined.{IsDefined, defs_of, is_defined_by}
 
 -- an extension variable is that of a node

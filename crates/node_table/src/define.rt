@@ -1,7 +1,7 @@
 // The defining clauses of a new node on the proof: those from the children up to the node, then those from the node
 // down, whose candidates are the first ones. (Bryant, Heule: Generating Extended Resolution Proofs with a BDD-Based
 // SAT Solver, 2021, section 4.)
-ghost use Rattle.std.specs.Prelude.{◌≡◌, ◌≤◌, ◌<◌, ◌+◌, ◌++◌, ℤ, List, Some, IsTrue, IsErr, OnOk, IfOk, IfErr, false, is_some, length, take};
+ghost use Rattle.std.specs.Prelude.{◌≡◌, ◌≤◌, ◌<◌, ◌+◌, ◌++◌, ℕ, ℤ, List, Some, IsTrue, IsErr, OnOk, IfOk, IfErr, false, is_some, length, take};
 ghost use Rattle.std.specs.Option.{option_to_list};
 ghost use Rattle.cnf_base.specs.ProofText.{given_if};
 ghost use Rattle.lrat_rules.specs.State.{State};
@@ -38,14 +38,16 @@ pub fn write_definitions<S: Sink + Drop>(
         → OnOk result (IsProofOf clauses S.tells (S.channel ledger.new.sink) ledger.new.state) }
     ensures in_step { OnOk result (IsTrue ledger.new.in_step) }
     ensures limit { ledger.new.limit ≡ ledger.old.limit }
+    // However the call ends, a front of the definitions stands.
+    ensures front { (n : ℕ) × (ledger.new.state ≡ with_definitions ledger.old.state (take n (definitions u x high.now low.now (ledger.old.state.top + 1)))) }
 
     ensures error { IfErr result (λ e. e ≡ WriteFault) }
     ensures write_fault { IsErr result → IsTorn S.tells (S.channel ledger.old.sink) (S.channel ledger.new.sink)
         (definition_lines ledger.old.state (definitions u x high.now low.now (ledger.old.state.top + 1))) }
     ensures out_of_step { IsErr result → ledger.new.in_step ≡ false }
-    ensures stays { IsErr result → KeepsClauses ledger.old.state.live ledger.new.state.live }
     ensures cut { (clauses : List (List ℤ)) → IsProofOf clauses S.tells (S.channel ledger.old.sink) ledger.old.state → IsTrue S.tells
-        → IsErr result → (before : State) × IsCutProof clauses (S.channel ledger.new.sink).written before ledger.new.state × KeepsClauses before.live ledger.new.state.live }
+        → IsErr result → (before : State) × IsCutProof clauses (S.channel ledger.new.sink).written before ledger.new.state
+        × KeepsClauses before.live ledger.new.state.live × (before.top ≤ ledger.new.state.top) }
 
     ensures unfailed { OnOk result ((S.channel ledger.new.sink).faults ≡ (S.channel ledger.old.sink).faults) }
     ensures only_writes { OnlyWrites (S.channel ledger.old.sink) (S.channel ledger.new.sink) }

@@ -26,6 +26,7 @@ use clause_ledger::Ledger;
 use cnf_base::{Id, Lit, OutOfMemory};
 use hint_chain::Atom;
 use host_io::Sink;
+use lrat_rules::marks_law;
 use std::alloc::Global;
 use std::marker::Model;
 
@@ -134,7 +135,6 @@ impl<S: Sink + Drop> Table<S> {
         ensures refused { IfErr result (λ e. e ≢ WriteFault → IsSame self.old self.new) }
         ensures beside { S.beside self.new.book.sink ≡ S.beside self.old.book.sink }
     {
-        self.diagram.diagram_law();
         if same_node(high, low) {
             return Ok(high);
         }
@@ -162,7 +162,7 @@ impl<S: Sink + Drop> Table<S> {
         ensures refused { IfErr result (λ e. e ≢ WriteFault → IsSame self.old self.new) }
         ensures beside { S.beside self.new.book.sink ≡ S.beside self.old.book.sink }
     {
-        self.diagram.diagram_law();
+        marks_law();
         match self.ledger.add(clause, hints) {
             Ok(id) => Ok(id),
             Err(e) => Err(TableError::from(e)),
@@ -299,6 +299,7 @@ impl<S: Sink + Drop> Table<S> {
         ensures refused { IfErr result (λ e. e ≢ WriteFault → IsSame self.old self.new) }
         ensures beside { S.beside self.new.book.sink ≡ S.beside self.old.book.sink }
     {
+        marks_law();
         if self.diagram.len() >= self.max_nodes {
             return Err(TableError::NodeLimit);
         }

@@ -1,0 +1,3 @@
+pub mod NodeParts
+pub mod Splits
+pub mod Kept

@@ -1,6 +1,6 @@
 -- The computed caches as one list: what operations found before. A clause that an entry names is live and not retired,
 -- and no two entries name one clause. (Brace, Rudell, Bryant: Efficient Implementation of a BDD Package, DAC 1990.)
-use Rattle.std.specs.Prelude.{◌≡◌, ◌⊎◌, ◌<◌, ◌≤◌, ◌≢◌, ℕ, List, [], Contains, IsTrue}
+use Rattle.std.specs.Prelude.{◌≡◌, ◌⊎◌, ◌<◌, ◌≤◌, ℕ, List, [], Contains, IsTrue}
 use Rattle.lrat_rules.specs.State.{State, Live}
 use Rattle.node_table.specs.declared.node.Node.{Node}
 use Rattle.node_table.specs.declared.node.Just.{Just}
@@ -61,8 +61,13 @@ pub record HaveSame (one other : List Entry) : Type 0 where
   pub there : (entry : Entry) → Contains one entry → Contains other entry
   pub back : (entry : Entry) → Contains other entry → Contains one entry
 
--- What growth leaves of entries: they still fit where nothing of theirs was retired, and so do fewer of them.
+-- What growth leaves of entries: they still fit where nothing of theirs was retired, and so do fewer of them, and one
+-- more whose clause came since.
 pub record Fitting (S : Type 0) : Type 0 where
   pub none : (table : TableState S) → Fits table []
   pub kept : (old new : TableState S) (entries : List Entry) → IsSound old → Extends old new → new.retired ≡ old.retired → Fits old entries → Fits new entries
   pub fewer : (table : TableState S) (few more : List Entry) → ((entry : Entry) → Contains few entry → Contains more entry) → Fits table more → Fits table few
+  pub one : (old new : TableState S) (entry : Entry) → IsSound old → Extends old new → FitsEntry old.graph old.book.state.live entry → FitsEntry new.graph new.book.state.live entry
+  pub more : (old new : TableState S) (before after : List Entry) (found : Entry) → IsSound old → Extends old new → new.retired ≡ old.retired → Fits old before
+      → FitsEntry new.graph new.book.state.live found → IsNewJust old.book.state new.book.state (just_of found)
+      → ((entry : Entry) → Contains after entry → (entry ≡ found) ⊎ Contains before entry) → Fits new after

@@ -1,6 +1,6 @@
 -- What operations find: a node with the function asked for, and where a clause says so on the proof, why it holds.
 -- (Bryant, Heule: Generating Extended Resolution Proofs with a BDD-Based SAT Solver, 2021, sections 4.2 and 4.3.)
-use Rattle.std.specs.Prelude.{◌≡◌, ◌⊎◌, ◌≤◌, ◌&&◌, ◌||◌, ◌==◌, ℕ, Bool, true, false, List, IsTrue, if◌then◌else◌}
+use Rattle.std.specs.Prelude.{◌≡◌, ◌≤◌, ◌&&◌, ◌||◌, ◌==◌, ℕ, Bool, true, false, List, IsTrue, if◌then◌else◌}
 use Rattle.lrat_rules.specs.State.{Live}
 use Rattle.hint_chain.specs.declared.atom.Atom.{Atom}
 use Rattle.hint_chain.specs.Additions.{conjunction, implication}

@@ -2,6 +2,7 @@
 ghost use Rattle.operations.specs.Entries.{Fitting};
 ghost use Rattle.operations.specs.Operands.{Splitting};
 
+use hint_chain::clause_law;
 use host_io::Sink;
 use node_table::{cofactor_law, growth_law};
 
@@ -17,5 +18,6 @@ pub fn operand_law()
 pub fn entry_law<S: Sink + Drop>()
     ensures { Fitting S }
 {
+    clause_law();
     growth_law();
 }

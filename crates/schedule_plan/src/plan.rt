@@ -40,7 +40,7 @@ impl Plan {
         ensures moves { IfOk result (λ plan. plan ≡ conjoin (length formula.now.clauses)) }
         ensures admissible { IfOk result (IsAdmissible formula.now) }
     {
-        formula.is_formula();
+        formula.formula_law();
         let mut moves = Vec::new(alloc);
         for i in 0..formula.len() {
             push_clause(&mut moves, i as u32)?;

@@ -1,5 +1,5 @@
--- The answers of `solve`, when they are true, and their texts on standard output.
-use Rattle.std.specs.Prelude.{ℕ, List, length}
+-- The answers of `solve`: how a formula is decided, when an outcome holds, and its text on standard output.
+use Rattle.std.specs.Prelude.{◌≡◌, ℕ, List, Option, length}
 use Rattle.cnf_base.specs.Formula.{Formula}
 use Rattle.schedule_plan.specs.Order.{natural}
 use Rattle.schedule_plan.specs.Plan.{conjoin}
@@ -7,44 +7,44 @@ use Rattle.schedule_plan.specs.declared.plan.Move.{Move}
 use Rattle.schedule_plan.specs.declared.limits.Limits.{Limits}
 use Rattle.term_runner.specs.declared.outcome.Outcome.{Outcome}
 use Rattle.term_runner.specs.declared.outcome.Outcome.TheVariants as outcome
-use Rattle.term_runner.specs.Proofs.{Refutation, NodesAreUsed, NumbersAreUsed}
-use Rattle.term_runner.specs.Needs.{NeedsMore}
-use Rattle.term_runner.specs.Recovered.{IsRecovered}
+use Rattle.term_runner.specs.Ends.{Says, Shows}
 use Rattle.answer_text.specs.Status.{sat_text, unsat_line, node_limit_text, id_limit_text}
+use Rattle.command_line.specs.Command.{Command, limits_asked}
+use Rattle.solver_cli.specs.declared.status.Why.{Why}
 use Rattle.solver_cli.specs.declared.status.Why.TheVariants.{NodeLimit, IdLimit}
 use Rattle.solver_cli.specs.declared.status.Status.{Status}
 use Rattle.solver_cli.specs.declared.status.Status.TheVariants.{Sat, Unsat, Unknown}
-use Rattle.solver_cli.specs.declared.answer.Answer.{Answer}
-use Rattle.solver_cli.specs.declared.answer.Answer.TheVariants.{Satisfiable, Unsatisfiable, NodesUsed, NumbersUsed}
 
--- the order of the variables, and the plan: the clauses are conjoined one by one
-abbrev pub order_of : Formula → List ℕ
-order_of formula = natural formula.vars
+-- The words and the texts give this order of the variables and this plan: the variables by rising number, and the clauses
+-- conjoined one by one.
+pub record IsScheduled (problem : Formula) (order : List ℕ) (moves : List Move) : Type 0 where
+  pub ordered : order ≡ natural problem.vars
+  pub planned : moves ≡ conjoin (length problem.clauses)
 
-abbrev pub plan_of : Formula → List Move
-plan_of formula = conjoin (length formula.clauses)
+-- the outcome is true of the formula, and the proof that was written shows it
+pub record Holds (limits : Limits) (problem : Formula) (order : List ℕ) (moves : List Move) (bytes : List ℕ) (found : Outcome) : Type 0 where
+  pub says : Says problem order moves limits found
+  pub shows : Shows problem limits bytes found
 
--- what a run of the plan found, as an answer
-abbrev pub answer_of : Outcome → Answer
-answer_of (outcome.Sat values) = Satisfiable values
-answer_of outcome.Unsat = Unsatisfiable
+-- the text of an outcome within limits
+abbrev pub outcome_text : Limits → Outcome → List ℕ
+outcome_text limits (outcome.Sat values) = sat_text values
+outcome_text limits outcome.Unsat = unsat_line
+outcome_text limits outcome.NodeLimit = node_limit_text limits.max_nodes
+outcome_text limits outcome.IdLimit = id_limit_text limits.max_ids
 
--- the answer is true of the formula and the proof that was written, under these limits
-abbrev pub Holds : Limits → Formula → List ℕ → Answer → Type 0
-Holds limits formula bytes (Satisfiable values) = IsRecovered formula (order_of formula) (plan_of formula) values
-Holds limits formula bytes Unsatisfiable = Refutation formula.clauses bytes
-Holds limits formula bytes NodesUsed = NodesAreUsed formula limits.max_nodes bytes × NeedsMore formula (order_of formula) (plan_of formula) limits.max_nodes
-Holds limits formula bytes NumbersUsed = NumbersAreUsed formula limits.max_ids bytes
+-- what is printed for it on standard output, for what the words ask, the formula and the proof
+abbrev pub answer_text : Option Command → Formula → List ℕ → Outcome → List ℕ
+answer_text asked problem bytes found = outcome_text (limits_asked asked) found
 
--- its text on standard output
-abbrev pub answer_text : Limits → Answer → List ℕ
-answer_text limits (Satisfiable values) = sat_text values
-answer_text limits Unsatisfiable = unsat_line
-answer_text limits NodesUsed = node_limit_text limits.max_nodes
-answer_text limits NumbersUsed = id_limit_text limits.max_ids
+-- the status of a run that printed it
+abbrev pub status_of : Outcome → Status
+status_of (outcome.Sat values) = Sat
+status_of outcome.Unsat = Unsat
+status_of outcome.NodeLimit = Unknown NodeLimit
+status_of outcome.IdLimit = Unknown IdLimit
 
-abbrev pub status_of : Answer → Status
-status_of (Satisfiable values) = Sat
-status_of Unsatisfiable = Unsat
-status_of NodesUsed = Unknown NodeLimit
-status_of NumbersUsed = Unknown IdLimit
+-- the outcome at a limit
+abbrev pub outcome_at : Why → Outcome
+outcome_at NodeLimit = outcome.NodeLimit
+outcome_at IdLimit = outcome.IdLimit

@@ -6,6 +6,8 @@ use Rattle.dimacs_reader.specs.declared.error.CnfError.TheVariants.{Refused, Rea
 use Rattle.host_io.specs.declared.role.Role.TheVariants.{Cnf, ProofIn}
 use Rattle.lrat_checker.specs.declared.verdict.CheckError.{CheckError}
 use Rattle.lrat_checker.specs.declared.verdict.CheckError.TheVariants.{ReadFault as CheckReadFault, TooLong as CheckTooLong, OutOfMemory as CheckOutOfMemory}
+use Rattle.term_runner.specs.declared.error.RunError.{RunError}
+use Rattle.term_runner.specs.declared.error.RunError.TheVariants.{OutOfMemory as RunOutOfMemory, WriteFault as RunWriteFault}
 use Rattle.solver_cli.specs.declared.status.Status.{Status}
 use Rattle.solver_cli.specs.declared.status.Status.TheVariants.{Sat, Unsat, Unknown, Verified, NotVerified, Help, Usage, CnfRefused, TooLong, ReadFault, WriteFault, OutOfMemory}
 
@@ -33,3 +35,7 @@ abbrev pub status_of_check : CheckError → Status
 status_of_check CheckReadFault = ReadFault
 status_of_check CheckTooLong = TooLong ProofIn
 status_of_check CheckOutOfMemory = OutOfMemory
+
+abbrev pub status_of_run : RunError → Status
+status_of_run RunOutOfMemory = OutOfMemory
+status_of_run RunWriteFault = WriteFault

@@ -2,66 +2,42 @@
 use Rattle.std.specs.Prelude.{◌≡◌, ◌≢◌, ◌⊎◌, ◌≤◌, ◌++◌, ℕ, Bool, List, [], None, Some, Result, Ok, Err, length, IsTrue, IsFalse, IsOk, IsErr, IfOk, ℤ, ⊤}
 use Rattle.std.specs.List.{list_any}
 use Rattle.cnf_base.specs.Formula.{Formula, IsFormula}
-use Rattle.host_io.specs.declared.role.Role.TheVariants.{Cnf}
 use Rattle.host_io.specs.declared.source.Failed.{Failed}
 use Rattle.host_io.specs.Channel.{Channel, Rose}
 use Rattle.host_io.specs.Files.{Files}
 use Rattle.text_scan.specs.Decides.{gained}
 use Rattle.dimacs_reader.specs.Cnf.{CnfText, formula, refusal, overlong, cnf}
+use Rattle.dimacs_reader.specs.declared.error.CnfError.{CnfError}
+use Rattle.dimacs_reader.specs.declared.error.CnfError.TheVariants.{Refused, ReadFault, TooLong, OutOfMemory}
 use Rattle.lrat_checker.specs.TextVerdict.{text_verdict, Answers}
 use Rattle.lrat_checker.specs.declared.verdict.Verdict.{Verdict}
 use Rattle.lrat_checker.specs.declared.verdict.CheckError.{CheckError}
 use Rattle.lrat_checker.specs.declared.verdict.CheckError.TheVariants.{ReadFault as CheckReadFault}
 use Rattle.schedule_plan.specs.Plan.{IsAdmissible}
 use Rattle.schedule_plan.specs.declared.plan.Move.{Move}
-use Rattle.term_runner.specs.Moves.{quantifies}
 use Rattle.schedule_plan.specs.declared.limits.Limits.{Limits}
+use Rattle.term_runner.specs.Moves.{quantifies}
+use Rattle.term_runner.specs.Ends.{Says, Shows}
 use Rattle.term_runner.specs.Proofs.{IsProof, IsProofSoFar}
-use Rattle.solver_cli.specs.Answer.{Holds, order_of, plan_of}
+use Rattle.term_runner.specs.declared.outcome.Outcome.{Outcome}
+use Rattle.term_runner.specs.declared.error.RunError.{RunError}
+use Rattle.term_runner.specs.declared.error.RunError.TheVariants.{WriteFault as Torn}
+use Rattle.solver_cli.specs.Answer.{IsScheduled}
 use Rattle.solver_cli.specs.ErrorText.{error_text}
-use Rattle.solver_cli.specs.declared.answer.Answer.{Answer}
 use Rattle.solver_cli.specs.declared.status.Status.{Status}
-use Rattle.solver_cli.specs.declared.status.Status.TheVariants.{Sat, Unsat, Unknown, Verified, NotVerified, Help, Usage, CnfRefused, TooLong, ReadFault, WriteFault, OutOfMemory}
 
 -- the answer of reading is what the text says; where it refuses, so do the bytes taken
-abbrev pub IsRead : Result Formula Status → CnfText → CnfText → Type 0
+abbrev pub IsRead : Result Formula CnfError → CnfText → CnfText → Type 0
 IsRead (Ok problem) whole taken = whole ≡ formula problem
-IsRead (Err Sat) whole taken = ⊥
-IsRead (Err Unsat) whole taken = ⊥
-IsRead (Err (Unknown why)) whole taken = ⊥
-IsRead (Err Verified) whole taken = ⊥
-IsRead (Err (NotVerified line reason)) whole taken = ⊥
-IsRead (Err Help) whole taken = ⊥
-IsRead (Err Usage) whole taken = ⊥
-IsRead (Err (CnfRefused kind line)) whole taken = (whole ≡ refusal kind line) × (taken ≡ refusal kind line)
-IsRead (Err (TooLong role)) whole taken = (role ≡ Cnf) × (whole ≡ overlong) × (taken ≡ overlong)
+IsRead (Err (Refused kind line)) whole taken = (whole ≡ refusal kind line) × (taken ≡ refusal kind line)
+IsRead (Err TooLong) whole taken = (whole ≡ overlong) × (taken ≡ overlong)
 IsRead (Err ReadFault) whole taken = ⊤
-IsRead (Err WriteFault) whole taken = ⊥
 IsRead (Err OutOfMemory) whole taken = ⊤
 
--- only these statuses come of reading
-abbrev pub IsReadStatus : Status → Type 0
-IsReadStatus Sat = ⊥
-IsReadStatus Unsat = ⊥
-IsReadStatus (Unknown why) = ⊥
-IsReadStatus Verified = ⊥
-IsReadStatus (NotVerified line reason) = ⊥
-IsReadStatus Help = ⊥
-IsReadStatus Usage = ⊥
-IsReadStatus (CnfRefused kind line) = ⊤
-IsReadStatus (TooLong role) = role ≡ Cnf
-IsReadStatus ReadFault = ⊤
-IsReadStatus WriteFault = ⊥
-IsReadStatus OutOfMemory = ⊤
-
-abbrev pub IfErrStatus : Result Formula Status → Type 0
-IfErrStatus (Ok problem) = IsFormula problem
-IfErrStatus (Err status) = IsReadStatus status
-
 -- the opened formula's file was read
-pub record ReadsFormula (tells : Bool) (old new : Channel) (result : Result Formula Status) : Type 0 where
+pub record ReadsFormula (tells : Bool) (old new : Channel) (result : Result Formula CnfError) : Type 0 where
   pub read : IsTrue tells → IsRead result (cnf old.left) (cnf (gained old new))
-  pub statuses : IfErrStatus result
+  pub formula : IfOk result IsFormula
   pub fault : result ≡ Err ReadFault → Rose old.faults new.faults
   pub unfailed : result ≢ Err ReadFault → new.faults ≡ old.faults
   pub written : new.written ≡ old.written
@@ -70,9 +46,9 @@ pub record ReadsFormula (tells : Bool) (old new : Channel) (result : Result Form
   pub faults : old.faults ≤ new.faults
 
 -- the formula's file was opened and read
-pub record TakesFormula (tells : Bool) (old new : Channel) (files : Files) (file : List ℕ) (result : Result Formula Status) : Type 0 where
+pub record TakesFormula (tells : Bool) (old new : Channel) (files : Files) (file : List ℕ) (result : Result Formula CnfError) : Type 0 where
   pub read : IsTrue tells → (result ≡ Err ReadFault) ⊎ ((bytes : List ℕ) × (files file ≡ Some bytes) × IsRead result (cnf bytes) (cnf (gained old new)))
-  pub statuses : IfErrStatus result
+  pub formula : IfOk result IsFormula
   pub fault : result ≡ Err ReadFault → Rose old.faults new.faults
   pub unfailed : result ≢ Err ReadFault → new.faults ≡ old.faults
   pub name : (new.name ≡ Some file) ⊎ (new.name ≡ None)
@@ -107,39 +83,22 @@ pub record OnlyWritten (old new : Channel) : Type 0 where
   pub name : new.name ≡ old.name
   pub faults : old.faults ≤ new.faults
 
--- only these statuses come of deciding a formula and writing its proof
-abbrev pub IsProofStatus : Result Answer Status → Type 0
-IsProofStatus (Ok answer) = ⊤
-IsProofStatus (Err Sat) = ⊥
-IsProofStatus (Err Unsat) = ⊥
-IsProofStatus (Err (Unknown why)) = ⊥
-IsProofStatus (Err Verified) = ⊥
-IsProofStatus (Err (NotVerified line reason)) = ⊥
-IsProofStatus (Err Help) = ⊥
-IsProofStatus (Err Usage) = ⊥
-IsProofStatus (Err (CnfRefused kind line)) = ⊥
-IsProofStatus (Err (TooLong role)) = ⊥
-IsProofStatus (Err ReadFault) = ⊥
-IsProofStatus (Err WriteFault) = ⊤
-IsProofStatus (Err OutOfMemory) = ⊤
-
--- how a formula is decided: its order and its plan
-pub record IsScheduled (problem : Formula) (order : List ℕ) (moves : List Move) : Type 0 where
-  pub ordered : order ≡ order_of problem
-  pub planned : moves ≡ plan_of problem
+-- a schedule that may be run
+pub record IsRunnable (problem : Formula) (order : List ℕ) (moves : List Move) : Type 0 where
+  pub scheduled : IsScheduled problem order moves
   pub admissible : IsAdmissible problem moves
   pub joins : IsFalse (list_any quantifies moves)
 
--- A formula was decided, and its proof written: whole lines, flushed where the formula was decided; a line that is cut
--- short only after a failed write.
-pub record WritesProof (tells : Bool) (old new : Channel) (problem : Formula) (limits : Limits) (result : Result Answer Status) : Type 0 where
-  pub answer : IsTrue tells → IfOk result (Holds limits problem new.written)
-  pub whole : result ≢ Err WriteFault → IsTrue tells → IsProof problem.clauses new.written
-  pub so_far : IsTrue tells → IsProofSoFar problem.clauses new.written
+-- A formula was decided, and its proof written: exactly the lines of good steps, within the limits, flushed where the
+-- formula was decided; a line that is cut short only after a failed write.
+pub record WritesProof (tells : Bool) (old new : Channel) (problem : Formula) (order : List ℕ) (moves : List Move) (limits : Limits) (result : Result Outcome RunError) : Type 0 where
+  pub says : IfOk result (Says problem order moves limits)
+  pub shows : IsTrue tells → IfOk result (Shows problem limits new.written)
+  pub whole : result ≢ Err Torn → IsTrue tells → IsProof problem limits new.written
+  pub so_far : IsTrue tells → IsProofSoFar problem limits new.written
   pub flushed : IsOk result → IsTrue tells → new.flushed ≡ length new.written
-  pub fault : result ≡ Err WriteFault → Rose old.faults new.faults
-  pub unfailed : result ≢ Err WriteFault → new.faults ≡ old.faults
-  pub statuses : IsProofStatus result
+  pub fault : result ≡ Err Torn → Rose old.faults new.faults
+  pub unfailed : result ≢ Err Torn → new.faults ≡ old.faults
   pub only : OnlyWritten old new
 
 -- The status's text was written on standard error and flushed, or, where a call failed, a front of it was written.

@@ -1,11 +1,11 @@
 -- What `check` answers to the proof that `solve` left.
 use Rattle.std.specs.Prelude.{◌≡◌, ◌⊎◌, ◌<◌, ℕ, List, Some, length, IsTrue, ⊤}
-use Rattle.host_io.specs.declared.role.Role.TheVariants.{Cnf, ProofIn, ProofOut, Out}
+use Rattle.host_io.specs.declared.role.Role.TheVariants.{ProofIn, ProofOut}
 use Rattle.lrat_checker.specs.TextVerdict.{max_bytes}
 use Rattle.solver_cli.specs.declared.status.Status.{Status}
 use Rattle.solver_cli.specs.declared.status.Status.TheVariants.{Sat, Unsat, Unknown, Verified, NotVerified, Help, Usage, CnfRefused, TooLong, ReadFault, WriteFault, OutOfMemory}
-use Rattle.command_line.specs.Command.{Command, Check, formula_file, command}
-use Rattle.solver_cli.specs.Headline.{Run, written_in, HasFault}
+use Rattle.command_line.specs.Command.{Command, ToCheck, Check, formula_file, command}
+use Rattle.solver_cli.specs.Headline.{Run, written_in, InputFailed, OutputFailed}
 
 -- One run found a formula unsatisfiable. Another judges a proof over the same text of a formula, and the proof's file
 -- holds the bytes that the first run wrote as its proof.
@@ -15,11 +15,10 @@ pub record ChecksSolved (solved checked : Run) : Type 0 where
   pub unsatisfiable : solved.status ≡ Unsat
   pub solve : Command
   pub solve_asked : command solved.words ≡ Some solve
-  pub file : List ℕ
-  pub proof : List ℕ
-  pub check_asked : command checked.words ≡ Some (Check file proof)
-  pub same_formula : checked.files file ≡ solved.files (formula_file solve)
-  pub same_proof : checked.files proof ≡ Some (written_in solved ProofOut)
+  pub task : ToCheck
+  pub check_asked : command checked.words ≡ Some (Check task)
+  pub same_formula : checked.files task.file ≡ solved.files (formula_file solve)
+  pub same_proof : checked.files task.proof ≡ Some (written_in solved ProofOut)
 
 -- How the run that judges these bytes may end: they are verified, unless memory ran out, they are more than are looked
 -- at, or a call of the host failed.
@@ -33,6 +32,6 @@ MayEnd run bytes Help = ⊥
 MayEnd run bytes Usage = ⊥
 MayEnd run bytes (CnfRefused kind line) = ⊥
 MayEnd run bytes (TooLong role) = (role ≡ ProofIn) × (max_bytes < length bytes)
-MayEnd run bytes ReadFault = HasFault run Cnf ⊎ HasFault run ProofIn
-MayEnd run bytes WriteFault = HasFault run ProofOut ⊎ HasFault run Out
+MayEnd run bytes ReadFault = InputFailed run
+MayEnd run bytes WriteFault = OutputFailed run
 MayEnd run bytes OutOfMemory = ⊤

@@ -9,14 +9,17 @@ use Rattle.host_io.specs.Files.{Files, Opens}
 use Rattle.lrat_checker.specs.declared.verdict.Verdict.{Verdict}
 use Rattle.lrat_checker.specs.declared.verdict.CheckError.{CheckError}
 use Rattle.schedule_plan.specs.declared.limits.Limits.{Limits}
-use Rattle.solver_cli.specs.declared.answer.Answer.{Answer}
 use Rattle.solver_cli.specs.declared.status.Status.{Status}
 use Rattle.solver_cli.specs.declared.status.Status.TheVariants.{Help, Usage, WriteFault, OutOfMemory}
 use Rattle.schedule_plan.specs.declared.limits.Limits.{Limits}
-use Rattle.solver_cli.specs.Answer.{answer_text, status_of}
+use Rattle.term_runner.specs.declared.outcome.Outcome.{Outcome}
+use Rattle.term_runner.specs.declared.error.RunError.{RunError}
+use Rattle.dimacs_reader.specs.declared.error.CnfError.{CnfError}
+use Rattle.schedule_plan.specs.declared.plan.Move.{Move}
+use Rattle.solver_cli.specs.Answer.{IsScheduled, outcome_text, status_of}
 use Rattle.solver_cli.specs.Verdict.{verdict_text, status_of_verdict}
-use Rattle.solver_cli.specs.ExitCode.{status_of_check}
-use Rattle.command_line.specs.Command.{Solve, Check, AsksHelp, Misuse, MayMean, command}
+use Rattle.solver_cli.specs.ExitCode.{status_of_check, status_of_error, status_of_run}
+use Rattle.command_line.specs.Command.{ToSolve, ToCheck, Solve, Check, AsksHelp, Misuse, MayMean, command}
 use Rattle.solver_cli.specs.Phases.{TakesFormula, JudgesProof, WritesProof, PutsText}
 
 -- the formula's file, the proof that is judged, the proof that is written, and standard output
@@ -56,10 +59,12 @@ pub record Helped (tells : Bool) (words : List (List ℕ)) (old new : Streams) (
 
 -- the formula was not taken
 pub record Untaken (tells : Bool) (old new : Streams) (files : Files) (file : List ℕ) (status : Status) : Type 0 where
-  pub takes : TakesFormula tells old.cnf new.cnf files file (Err status)
+  pub error : CnfError
+  pub takes : TakesFormula tells old.cnf new.cnf files file (Err error)
   pub judged : new.judged ≡ old.judged
   pub proof : new.proof ≡ old.proof
   pub out : new.out ≡ old.out
+  pub ends : status ≡ status_of_error error
 
 -- memory ran out while the plan was made
 pub record Unplanned (tells : Bool) (old new : Streams) (files : Files) (file : List ℕ) (status : Status) : Type 0 where
@@ -89,14 +94,19 @@ pub record Undecided (tells : Bool) (old new : Streams) (files : Files) (file pr
   pub created_answer : Result ⊤ Failed
   pub done : IsOk created_answer
   pub opens : Opens old.proof created proof_file created_answer
-  pub writes : WritesProof tells created new.proof problem limits (Err status)
+  pub order : List ℕ
+  pub moves : List Move
+  pub scheduled : IsScheduled problem order moves
+  pub error : RunError
+  pub writes : WritesProof tells created new.proof problem order moves limits (Err error)
   pub judged : new.judged ≡ old.judged
   pub out : new.out ≡ old.out
+  pub ends : status ≡ status_of_run error
 
 -- how printing an answer ends the run
-abbrev pub status_after : Answer → Result ⊤ Failed → Status
-status_after answer (Ok x) = status_of answer
-status_after answer (Err e) = WriteFault
+abbrev pub status_after : Outcome → Result ⊤ Failed → Status
+status_after outcome (Ok x) = status_of outcome
+status_after outcome (Err e) = WriteFault
 
 -- it was decided, and the answer was printed or not
 pub record Answered (tells : Bool) (old new : Streams) (files : Files) (file proof_file : List ℕ) (limits : Limits) (status : Status) : Type 0 where
@@ -106,12 +116,15 @@ pub record Answered (tells : Bool) (old new : Streams) (files : Files) (file pro
   pub created_answer : Result ⊤ Failed
   pub done : IsOk created_answer
   pub opens : Opens old.proof created proof_file created_answer
-  pub answer : Answer
-  pub writes : WritesProof tells created new.proof problem limits (Ok answer)
+  pub order : List ℕ
+  pub moves : List Move
+  pub scheduled : IsScheduled problem order moves
+  pub outcome : Outcome
+  pub writes : WritesProof tells created new.proof problem order moves limits (Ok outcome)
   pub judged : new.judged ≡ old.judged
   pub printed : Result ⊤ Failed
-  pub puts : PutsText tells old.out new.out (answer_text limits answer) printed
-  pub ends : status ≡ status_after answer printed
+  pub puts : PutsText tells old.out new.out (outcome_text limits outcome) printed
+  pub ends : status ≡ status_after outcome printed
 
 -- how far `solve` came, under these limits
 abbrev pub Came : Bool → Streams → Streams → Files → List ℕ → List ℕ → Limits → Status → Type 0
@@ -153,18 +166,15 @@ CameToCheck tells old new files file proof status = Untaken tells old new files 
 
 -- `solve` was tried
 pub record Tried (tells : Bool) (words : List (List ℕ)) (old new : Streams) (files : Files) (status : Status) : Type 0 where
-  pub file : List ℕ
-  pub proof : List ℕ
-  pub limits : Limits
-  pub asked : command words ≡ Some (Solve file proof limits)
-  pub came : Came tells old new files file proof limits status
+  pub task : ToSolve
+  pub asked : command words ≡ Some (Solve task)
+  pub came : Came tells old new files task.file task.proof task.limits status
 
 -- `check` was tried
 pub record Checked (tells : Bool) (words : List (List ℕ)) (old new : Streams) (files : Files) (status : Status) : Type 0 where
-  pub file : List ℕ
-  pub proof : List ℕ
-  pub asked : command words ≡ Some (Check file proof)
-  pub came : CameToCheck tells old new files file proof status
+  pub task : ToCheck
+  pub asked : command words ≡ Some (Check task)
+  pub came : CameToCheck tells old new files task.file task.proof status
 
 abbrev pub Stages : Bool → List (List ℕ) → Streams → Streams → Files → Status → Type 0
 Stages tells words old new files status = Misused words old new status ⊎ (Helped tells words old new status ⊎ (Tried tells words old new files status ⊎ Checked tells words old new files status))

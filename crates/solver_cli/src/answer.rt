@@ -1,47 +1,18 @@
-// The answers to a formula.
+// How a run ends that printed an outcome.
 ghost use Rattle.std.specs.Prelude.{◌≡◌};
 ghost use Rattle.solver_cli.specs.Answer.{status_of};
 
 use crate::status::{Status, Why};
-use term_runner::{Model, Outcome};
+use term_runner::Outcome;
 
-/// What was found of a formula.
-#[derive(Debug, Drop)]
-pub enum Answer {
-    /// These values satisfy it.
-    Satisfiable(Model),
-    /// No assignment does, and the proof says so.
-    Unsatisfiable,
-    /// Undecided: the nodes allowed are used.
-    NodesUsed,
-    /// Undecided: the clause numbers allowed are used.
-    NumbersUsed,
-}
-
-impl Answer {
-    /// The status of a run that printed this answer.
-    pub fn status(&self) -> Status
-        ensures { result ≡ status_of self.now }
-    {
-        match self {
-            Answer::Satisfiable(_) => Status::Sat,
-            Answer::Unsatisfiable => Status::Unsat,
-            Answer::NodesUsed => Status::Unknown(Why::NodeLimit),
-            Answer::NumbersUsed => Status::Unknown(Why::IdLimit),
-        }
-    }
-}
-
-impl From<Outcome> for Answer {
-    ghost use Rattle.std.specs.Prelude.{◌≡◌};
-    ghost use Rattle.solver_cli.specs.Answer.{answer_of};
-
-    ghost from_gives = { λ outcome answer. answer ≡ answer_of outcome };
-
-    fn from(outcome: Outcome) -> Answer {
-        match outcome {
-            Outcome::Sat(values) => Answer::Satisfiable(values),
-            Outcome::Unsat => Answer::Unsatisfiable,
-        }
+/// The status of a run that printed this outcome.
+pub fn status_of(outcome: &Outcome) -> Status
+    ensures { result ≡ status_of outcome.now }
+{
+    match outcome {
+        Outcome::Sat(_) => Status::Sat,
+        Outcome::Unsat => Status::Unsat,
+        Outcome::NodeLimit => Status::Unknown(Why::NodeLimit),
+        Outcome::IdLimit => Status::Unknown(Why::IdLimit),
     }
 }

@@ -4,33 +4,29 @@ ghost use Rattle.host_io.specs.declared.role.Role.TheVariants.{Cnf as CnfRole};
 ghost use Rattle.host_io.specs.Files.{Kept};
 ghost use Rattle.solver_cli.specs.Phases.{TakesFormula, ReadsFormula};
 
-use crate::status::Status;
 use cnf_base::Cnf;
-use dimacs_reader::read_cnf;
+use dimacs_reader::{CnfError, read_cnf};
 use host_io::{Host, HostSource, Role, beside_kept};
 use std::alloc::Global;
 
-/// Opens the file of this name and reads the formula, or says how the run ends.
-pub fn take_formula<H: Host>(alloc: Global, host: &mut H, name: &str) -> Result<Cnf, Status>
+/// Opens the file of this name and reads the formula.
+pub fn take_formula<H: Host>(alloc: Global, host: &mut H, name: &str) -> Result<Cnf, CnfError>
     requires { (H.channel host.old CnfRole).name ≡ None }
     ensures takes { TakesFormula H.tells (H.channel host.old CnfRole) (H.channel host.new CnfRole) (H.files host.old) name.now result }
     ensures kept { Kept CnfRole None (H.channel host.old) (H.channel host.new) (H.files host.old) (H.files host.new) }
 {
     if host.open_read(Role::Cnf, name).is_err() {
-        return Err(Status::ReadFault);
+        return Err(CnfError::ReadFault);
     }
     read_formula(alloc, host)
 }
 
-fn read_formula<H: Host>(alloc: Global, host: &mut H) -> Result<Cnf, Status>
+fn read_formula<H: Host>(alloc: Global, host: &mut H) -> Result<Cnf, CnfError>
     requires { (H.channel host.old CnfRole).name ≢ None }
     ensures reads { ReadsFormula H.tells (H.channel host.old CnfRole) (H.channel host.new CnfRole) result }
     ensures kept { Kept CnfRole None (H.channel host.old) (H.channel host.new) (H.files host.old) (H.files host.new) }
 {
     beside_kept::<H>();
     let mut source = HostSource::new(host, Role::Cnf);
-    match read_cnf(alloc, &mut source) {
-        Ok(formula) => Ok(formula),
-        Err(e) => Err(Status::from(e)),
-    }
+    read_cnf(alloc, &mut source)
 }

@@ -3,22 +3,22 @@ ghost use Rattle.std.specs.Prelude.{◌≡◌};
 ghost use Rattle.host_io.specs.declared.role.Role.TheVariants.{Out};
 ghost use Rattle.host_io.specs.Channel.{WritesAll};
 ghost use Rattle.host_io.specs.Files.{Kept};
-ghost use Rattle.solver_cli.specs.Answer.{answer_text};
+ghost use Rattle.solver_cli.specs.Answer.{outcome_text};
 ghost use Rattle.solver_cli.specs.Phases.{PutsText};
 
-use crate::answer::Answer;
 use answer_text::{write_id_limit, write_node_limit, write_sat, write_unsat};
 use host_io::{Failed, Host, HostSink, Role, Sink, beside_kept, write_all};
 use schedule_plan::Limits;
+use term_runner::Outcome;
 
 /// Prints the answer that was found within these limits, and flushes standard output.
-pub fn put_answer<H: Host>(host: &mut H, answer: &Answer, limits: Limits) -> Result<(), Failed>
-    ensures puts { PutsText H.tells (H.channel host.old Out) (H.channel host.new Out) (answer_text limits answer.now) result }
+pub fn put_answer<H: Host>(host: &mut H, outcome: &Outcome, limits: Limits) -> Result<(), Failed>
+    ensures puts { PutsText H.tells (H.channel host.old Out) (H.channel host.new Out) (outcome_text limits outcome.now) result }
     ensures kept { Kept Out (H.channel host.old Out).name (H.channel host.old) (H.channel host.new) (H.files host.old) (H.files host.new) }
 {
     beside_kept::<H>();
     let mut sink = HostSink::new(host, Role::Out);
-    print_answer(&mut sink, answer, limits)
+    print_answer(&mut sink, outcome, limits)
 }
 
 /// Prints this text and flushes standard output.
@@ -39,22 +39,22 @@ fn print_text<S: Sink>(sink: &mut S, text: &str) -> Result<(), Failed>
     sink.flush()
 }
 
-fn print_answer<S: Sink>(sink: &mut S, answer: &Answer, limits: Limits) -> Result<(), Failed>
-    ensures puts { PutsText S.tells (S.channel sink.old) (S.channel sink.new) (answer_text limits answer.now) result }
+fn print_answer<S: Sink>(sink: &mut S, outcome: &Outcome, limits: Limits) -> Result<(), Failed>
+    ensures puts { PutsText S.tells (S.channel sink.old) (S.channel sink.new) (outcome_text limits outcome.now) result }
     ensures beside { S.beside sink.new ≡ S.beside sink.old }
 {
-    write_answer(sink, answer, limits)?;
+    write_answer(sink, outcome, limits)?;
     sink.flush()
 }
 
-fn write_answer<S: Sink>(sink: &mut S, answer: &Answer, limits: Limits) -> Result<(), Failed>
-    ensures writes { WritesAll S.tells (S.channel sink.old) (S.channel sink.new) (answer_text limits answer.now) result }
+fn write_answer<S: Sink>(sink: &mut S, outcome: &Outcome, limits: Limits) -> Result<(), Failed>
+    ensures writes { WritesAll S.tells (S.channel sink.old) (S.channel sink.new) (outcome_text limits outcome.now) result }
     ensures beside { S.beside sink.new ≡ S.beside sink.old }
 {
-    match answer {
-        Answer::Satisfiable(values) => write_sat(sink, values.as_slice()),
-        Answer::Unsatisfiable => write_unsat(sink),
-        Answer::NodesUsed => write_node_limit(sink, u64::from(limits.max_nodes)),
-        Answer::NumbersUsed => write_id_limit(sink, limits.max_ids),
+    match outcome {
+        Outcome::Sat(values) => write_sat(sink, values.as_slice()),
+        Outcome::Unsat => write_unsat(sink),
+        Outcome::NodeLimit => write_node_limit(sink, u64::from(limits.max_nodes)),
+        Outcome::IdLimit => write_id_limit(sink, limits.max_ids),
     }
 }

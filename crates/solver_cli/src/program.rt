@@ -9,6 +9,7 @@ ghost use Rattle.schedule_plan.specs.Limits.{AreLimits};
 ghost use Rattle.solver_cli.specs.Headline.{Promises};
 ghost use Rattle.solver_cli.specs.Stages.{Came, CameToCheck, ShowsHelp, Stages, streams_of};
 
+use crate::answer::status_of;
 use crate::complaint::complain;
 use crate::formula::take_formula;
 use crate::judgement::judge;
@@ -60,7 +61,7 @@ fn solve<H: Host>(alloc: Global, asked: &FileNames<'_>, limits: Limits, host: &m
 {
     let formula = match take_formula(alloc, host, asked.formula) {
         Ok(formula) => formula,
-        Err(status) => return status,
+        Err(error) => return Status::from(error),
     };
     let Ok((order, plan)) = schedule(alloc, &formula) else {
         return Status::OutOfMemory;
@@ -68,12 +69,12 @@ fn solve<H: Host>(alloc: Global, asked: &FileNames<'_>, limits: Limits, host: &m
     if host.create(HostRole::ProofOut, asked.proof).is_err() {
         return Status::WriteFault;
     }
-    let answer = match prove(alloc, host, &formula, &order, &plan, limits) {
-        Ok(answer) => answer,
-        Err(status) => return status,
+    let outcome = match prove(alloc, host, &formula, &order, &plan, limits) {
+        Ok(outcome) => outcome,
+        Err(error) => return Status::from(error),
     };
-    match put_answer(host, &answer, limits) {
-        Ok(()) => answer.status(),
+    match put_answer(host, &outcome, limits) {
+        Ok(()) => status_of(&outcome),
         Err(_) => Status::WriteFault,
     }
 }
@@ -87,7 +88,7 @@ fn check<H: Host>(alloc: Global, asked: &FileNames<'_>, host: &mut H) -> Status
 {
     let problem = match take_formula(alloc, host, asked.formula) {
         Ok(problem) => problem,
-        Err(status) => return status,
+        Err(error) => return Status::from(error),
     };
     let verdict = match judge(alloc, host, &problem, asked.proof) {
         Ok(verdict) => verdict,
@@ -115,8 +116,10 @@ pub fn run<H: Host>(alloc: Global, words: &[String], host: &mut H) -> Status
 {
     soundness_law();
     check_law();
+    host.unnamed_law();
     let status = work(alloc, words, host);
     complain(host, status);
+    host.unnamed_law();
     status
 }
 

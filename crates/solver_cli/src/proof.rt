@@ -3,10 +3,8 @@ ghost use Rattle.std.specs.Prelude.{◌≡◌, ◌≢◌, [], IfOk, None};
 ghost use Rattle.host_io.specs.declared.role.Role.TheVariants.{ProofOut};
 ghost use Rattle.host_io.specs.Files.{Kept};
 ghost use Rattle.schedule_plan.specs.Limits.{AreLimits};
-ghost use Rattle.solver_cli.specs.Phases.{IsScheduled, WritesProof};
+ghost use Rattle.solver_cli.specs.Phases.{IsRunnable, WritesProof};
 
-use crate::answer::Answer;
-use crate::status::Status;
 use cnf_base::{Cnf, OutOfMemory};
 use host_io::{Host, HostSink, Role, Sink, beside_kept};
 use schedule_plan::{Order, Plan};
@@ -15,7 +13,7 @@ use term_runner::{Limits, Outcome, RunError, conjoining_law, run_plan_into};
 
 /// How a formula is decided: the variables in their natural order, the clauses conjoined one by one.
 pub fn schedule(alloc: Global, formula: &Cnf) -> Result<(Order, Plan), OutOfMemory>
-    ensures { IfOk result (λ made. IsScheduled formula.now made.0 made.1) }
+    ensures { IfOk result (λ made. IsRunnable formula.now made.0 made.1) }
 {
     conjoining_law();
     let order = Order::natural(alloc, formula.vars())?;
@@ -31,12 +29,12 @@ pub fn prove<H: Host>(
     order: &Order,
     plan: &Plan,
     limits: Limits,
-) -> Result<Answer, Status>
+) -> Result<Outcome, RunError>
     requires created { (H.channel host.old ProofOut).name ≢ None }
     requires fresh { (H.channel host.old ProofOut).written ≡ [] }
-    requires scheduled { IsScheduled formula.now order.now plan.now }
+    requires runnable { IsRunnable formula.now order.now plan.now }
     requires limits { AreLimits limits }
-    ensures writes { WritesProof H.tells (H.channel host.old ProofOut) (H.channel host.new ProofOut) formula.now limits result }
+    ensures writes { WritesProof H.tells (H.channel host.old ProofOut) (H.channel host.new ProofOut) formula.now order.now plan.now limits result }
     ensures kept { Kept ProofOut (H.channel host.old ProofOut).name (H.channel host.old) (H.channel host.new) (H.files host.old) (H.files host.new) }
 {
     beside_kept::<H>();
@@ -51,18 +49,13 @@ fn decide<S: Sink + Drop>(
     plan: &Plan,
     limits: Limits,
     sink: &mut S,
-) -> Result<Answer, Status>
+) -> Result<Outcome, RunError>
     requires fresh { (S.channel sink.old).written ≡ [] }
-    requires scheduled { IsScheduled formula.now order.now plan.now }
+    requires runnable { IsRunnable formula.now order.now plan.now }
     requires limits { AreLimits limits }
-    ensures writes { WritesProof S.tells (S.channel sink.old) (S.channel sink.new) formula.now limits result }
+    ensures writes { WritesProof S.tells (S.channel sink.old) (S.channel sink.new) formula.now order.now plan.now limits result }
     ensures beside { S.beside sink.new ≡ S.beside sink.old }
 {
-    match run_plan_into(alloc, formula, order, plan, limits, sink) {
-        Ok(run) => Ok(Answer::from(run.outcome)),
-        Err(RunError::NodeLimit) => Ok(Answer::NodesUsed),
-        Err(RunError::IdLimit) => Ok(Answer::NumbersUsed),
-        Err(RunError::OutOfMemory) => Err(Status::OutOfMemory),
-        Err(RunError::WriteFault) => Err(Status::WriteFault),
-    }
+    let run = run_plan_into(alloc, formula, order, plan, limits, sink)?;
+    Ok(run.outcome)
 }

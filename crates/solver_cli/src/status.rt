@@ -6,6 +6,7 @@ use dimacs_reader::{CnfError, CnfKind};
 use host_io::Role;
 use lrat_checker::CheckError;
 use lrat_rules::Reason;
+use term_runner::RunError;
 
 /// Why a formula was left undecided.
 #[derive(Clone, Copy, Debug, PartialEq, Eq)]
@@ -89,6 +90,19 @@ impl From<CheckError> for Status {
             CheckError::ReadFault => Status::ReadFault,
             CheckError::TooLong => Status::TooLong(Role::ProofIn),
             CheckError::OutOfMemory => Status::OutOfMemory,
+        }
+    }
+}
+
+impl From<RunError> for Status {
+    ghost use Rattle.solver_cli.specs.ExitCode.{status_of_run};
+
+    ghost from_gives = { λ e status. status ≡ status_of_run e };
+
+    fn from(e: RunError) -> Status {
+        match e {
+            RunError::OutOfMemory => Status::OutOfMemory,
+            RunError::WriteFault => Status::WriteFault,
         }
     }
 }

@@ -1,180 +1,156 @@
 -- How a run ends, by what its moves led to and by the flush.
-use Rattle.std.proofs.Common.{◌≡◌, ◌≢◌, ◌≤◌, ℕ, Bool, List, length, Result, Ok, Err, refl, sym, ap, ◌∙◌, subst, arith, inl, inr}
+use Rattle.std.proofs.Common.{◌≡◌, ◌≢◌, ◌≤◌, ℕ, Bool, true, false, ℤ, List, length, Option, None, Some, Result, Ok, Err, refl, sym, ap, ◌∙◌, subst, arith, inl, inr}
 use Rattle.std.specs.Prelude.{IsTrue, IfOk}
 use Rattle.std.specs.List.{list_all}
 use Rattle.cnf_base.specs.Formula.{Formula}
 use Rattle.host_io.specs.Channel.{Channel, Rose}
-use Rattle.clause_ledger.specs.Book.{Book}
+use Rattle.lrat_rules.specs.State.{State}
+use Rattle.lrat_rules.specs.Derivation.{IsWritten}
+use Rattle.clause_ledger.specs.Book.{Book, IsProofOf}
 use Rattle.node_table.specs.declared.error.TableError.{TableError}
 use Rattle.node_table.specs.declared.error.TableError.TheVariants as table
 use Rattle.schedule_plan.specs.declared.plan.Move.{Move}
 use Rattle.term_runner.specs.declared.error.RunError.{RunError}
-use Rattle.term_runner.specs.declared.error.RunError.TheVariants.{NodeLimit, IdLimit, OutOfMemory, WriteFault}
+use Rattle.term_runner.specs.declared.error.RunError.TheVariants.{OutOfMemory, WriteFault}
 use Rattle.schedule_plan.specs.declared.limits.Limits.{Limits}
 use Rattle.term_runner.specs.declared.outcome.Outcome.{Outcome}
-use Rattle.term_runner.specs.declared.outcome.Outcome.TheVariants.{Unsat}
+use Rattle.term_runner.specs.declared.outcome.Outcome.TheVariants.{Unsat, Sat, NodeLimit, IdLimit}
 use Rattle.term_runner.specs.declared.outcome.Run.{Run}
 use Rattle.term_runner.specs.Clauses.{is_tautology}
-use Rattle.term_runner.specs.Proofs.{IsProof, LeadsTo, Refutation, NodesAreUsed, NumbersAreUsed}
-use Rattle.term_runner.specs.Needs.{NeedsMore}
-use Rattle.term_runner.specs.Ends.{Ends, IsFound}
+use Rattle.term_runner.specs.Proofs.{IsProof, LeadsTo}
+use Rattle.term_runner.specs.Ends.{Ends, Says, Shows, outcome_of}
 use Rattle.term_runner.specs.Opened.{IsFlushed, Leads}
 
+-- what the bytes of a proof are
+pub written_of : (clauses : List (List ℤ)) (tells : Bool) (channel : Channel) (state : State) → IsProofOf clauses tells channel state → IsTrue tells → IsWritten clauses channel.written state
+written_of clauses tells channel state proof t = record { steps = proof.steps; derived = proof.derived; text = proof.text t }
+
+-- a fact of each outcome that the moves may come to
+pub by_outcome : (P : Outcome → Type 0) (found : Result (Option (List Bool)) TableError) → (found ≡ Ok None → P Unsat) → ((values : List Bool) → found ≡ Ok (Some values) → P (Sat values))
+    → (found ≡ Err table.NodeLimit → P NodeLimit) → (found ≡ Err table.IdLimit → P IdLimit) → IfOk (outcome_of found) P
+by_outcome P (Ok None) unsat sat nodes numbers = unsat refl
+by_outcome P (Ok (Some values)) unsat sat nodes numbers = sat values refl
+by_outcome P (Err table.NodeLimit) unsat sat nodes numbers = nodes refl
+by_outcome P (Err table.IdLimit) unsat sat nodes numbers = numbers refl
+by_outcome P (Err table.OutOfMemory) unsat sat nodes numbers = tt
+by_outcome P (Err table.WriteFault) unsat sat nodes numbers = tt
+
+-- a write fault is one of the moves'
+pub torn_of : (found : Result (Option (List Bool)) TableError) → outcome_of found ≡ Err WriteFault → found ≡ Err table.WriteFault
+torn_of (Ok None) is = let e : ◌≡◌ {A = Result Outcome RunError} (Ok Unsat) (Err WriteFault) = is in cc
+torn_of (Ok (Some values)) is = let e : ◌≡◌ {A = Result Outcome RunError} (Ok (Sat values)) (Err WriteFault) = is in cc
+torn_of (Err table.NodeLimit) is = let e : ◌≡◌ {A = Result Outcome RunError} (Ok NodeLimit) (Err WriteFault) = is in cc
+torn_of (Err table.IdLimit) is = let e : ◌≡◌ {A = Result Outcome RunError} (Ok IdLimit) (Err WriteFault) = is in cc
+torn_of (Err table.OutOfMemory) is = let e : ◌≡◌ {A = Result Outcome RunError} (Err OutOfMemory) (Err WriteFault) = is in cc
+torn_of (Err table.WriteFault) is = refl
+
+pub whole_of : (found : Result (Option (List Bool)) TableError) → outcome_of found ≢ Err WriteFault → found ≢ Err table.WriteFault
+whole_of found whole is = whole (ap outcome_of is)
+
 module _ (tells : Bool) (before mid after : Channel) (formula : Formula) (order : List ℕ) (moves : List Move) (limits : Limits) where
-  -- what the bytes show before the flush
-  pub record Shown (found : Result Run RunError) : Type 0 where
-    pub unsat : IsTrue tells → IfOk found (λ run. run.outcome ≡ Unsat → Refutation formula.clauses mid.written)
-    pub sat : IfOk found (λ run. IsFound formula order moves run.outcome)
-    pub last : IsTrue tells → IfOk found (λ run. LeadsTo formula.clauses mid.written run.last_id)
-    pub nodes : found ≡ Err NodeLimit → IsTrue tells → NodesAreUsed formula limits.max_nodes mid.written
-    pub needs : found ≡ Err NodeLimit → NeedsMore formula order moves limits.max_nodes
-    pub numbers : found ≡ Err IdLimit → IsTrue tells → NumbersAreUsed formula limits.max_ids mid.written
-    pub whole : IsTrue tells → IsProof formula.clauses mid.written
+  -- what stands of a run before the flush
+  pub record Shown (run : Run) : Type 0 where
+    pub says : Says formula order moves limits run.outcome
+    pub shows : IsTrue tells → Shows formula limits mid.written run.outcome
+    pub last : IsTrue tells → LeadsTo formula limits mid.written run.last_id
     pub tautologies : IsTrue (list_all is_tautology formula.clauses) → mid.written ≡ before.written
     pub name : mid.name ≡ before.name
     pub unfailed : mid.faults ≡ before.faults
 
-  stays : (found : Result Run RunError) → Shown found → found ≢ Err WriteFault → after.written ≡ mid.written → after.name ≡ mid.name → after.faults ≡ mid.faults
-      → (IsTrue tells → after.flushed ≡ length after.written) → Ends tells before after formula order moves limits found
-  stays found shown whole written name unfailed flushed = record {
-    unsat = λ t. subst (λ (b : List ℕ). IfOk found (λ run. run.outcome ≡ Unsat → Refutation formula.clauses b)) (sym written) (shown.unsat t);
-    sat = shown.sat;
-    last = λ t. subst (λ (b : List ℕ). IfOk found (λ run. LeadsTo formula.clauses b run.last_id)) (sym written) (shown.last t);
-    nodes = λ e t. subst (λ (b : List ℕ). NodesAreUsed formula limits.max_nodes b) (sym written) (shown.nodes e t);
-    needs = shown.needs;
-    numbers = λ e t. subst (λ (b : List ℕ). NumbersAreUsed formula limits.max_ids b) (sym written) (shown.numbers e t);
-    fault = λ e. absurd (whole e);
+  stays : (run : Run) → Shown run → after.written ≡ mid.written → after.name ≡ mid.name → after.faults ≡ mid.faults → (IsTrue tells → after.flushed ≡ length after.written)
+      → Ends tells before after formula order moves limits (Ok run)
+  stays run shown written name unfailed flushed = record {
+    says = shown.says;
+    shows = λ t. subst (λ (b : List ℕ). Shows formula limits b run.outcome) (sym written) (shown.shows t);
+    last = λ t. subst (λ (b : List ℕ). LeadsTo formula limits b run.last_id) (sym written) (shown.last t);
+    whole = λ _ t. subst (λ (b : List ℕ). IsProof formula limits b) (sym written) (shown.last t).proof;
+    so_far = λ t. inl (subst (λ (b : List ℕ). IsProof formula limits b) (sym written) (shown.last t).proof);
+    flushed = λ _ t. flushed t;
+    fault = λ e. cc;
     unfailed = λ _. unfailed ∙ shown.unfailed;
-    whole = λ _ t. subst (λ (b : List ℕ). IsProof formula.clauses b) (sym written) (shown.whole t);
-    so_far = λ t. inl (subst (λ (b : List ℕ). IsProof formula.clauses b) (sym written) (shown.whole t));
-    flushed = λ _ _ t. flushed t;
     tautologies = λ all. written ∙ shown.tautologies all;
     name = name ∙ shown.name;
     faults = omega (arith, unfailed, shown.unfailed);
   }
 
-  fails : (found : Result Run RunError) → Shown found → after.written ≡ mid.written → after.name ≡ mid.name → mid.faults ≤ after.faults
-      → Rose mid.faults after.faults → Ends tells before after formula order moves limits (Err WriteFault)
-  fails found shown written name faults rose = record {
-    unsat = λ t. tt;
-    sat = tt;
+  fails : (run : Run) → Shown run → after.written ≡ mid.written → after.name ≡ mid.name → mid.faults ≤ after.faults → Rose mid.faults after.faults
+      → Ends tells before after formula order moves limits (Err WriteFault)
+  fails run shown written name faults rose = record {
+    says = tt;
+    shows = λ t. tt;
     last = λ t. tt;
-    nodes = λ e. cc;
-    needs = λ e. cc;
-    numbers = λ e. cc;
+    whole = λ no t. absurd (no refl);
+    so_far = λ t. inl (subst (λ (b : List ℕ). IsProof formula limits b) (sym written) (shown.last t).proof);
+    flushed = λ ok t. absurd (let e : false ≡ true = ok in cc);
     fault = λ e. omega (arith, rose, shown.unfailed);
     unfailed = λ no. absurd (no refl);
-    whole = λ no t. absurd (no refl);
-    so_far = λ t. inl (subst (λ (b : List ℕ). IsProof formula.clauses b) (sym written) (shown.whole t));
-    flushed = λ no _ t. absurd (no refl);
     tautologies = λ all. written ∙ shown.tautologies all;
     name = name ∙ shown.name;
     faults = omega (arith, faults, shown.unfailed);
   }
 
-  pub flushed_ends : (found result : Result Run RunError) → IsFlushed tells mid after found result → Shown found → found ≢ Err WriteFault → Ends tells before after formula order moves limits result
-  flushed_ends found result flushes shown whole = elim flushes.ends [
-    | inl same ↦ subst (λ (r : Result Run RunError). Ends tells before after formula order moves limits r) (sym same.0) (stays found shown whole flushes.written flushes.name same.2 same.1)
-    | inr broke ↦ subst (λ (r : Result Run RunError). Ends tells before after formula order moves limits r) (sym broke.0) (fails found shown flushes.written flushes.name flushes.faults broke.1)
+  pub flushed_ends : (run : Run) (result : Result Run RunError) → IsFlushed tells mid after (Ok run) result → Shown run → Ends tells before after formula order moves limits result
+  flushed_ends run result flushes shown = elim flushes.ends [
+    | inl same ↦ subst (λ (r : Result Run RunError). Ends tells before after formula order moves limits r) (sym same.0) (stays run shown flushes.written flushes.name same.2 same.1)
+    | inr broke ↦ subst (λ (r : Result Run RunError). Ends tells before after formula order moves limits r) (sym broke.0) (fails run shown flushes.written flushes.name flushes.faults broke.1)
   ]
 
   module _ {S : Type 0} (book : Book S) where
-    proof_of : (outcome : Result Outcome TableError) → Leads tells before mid formula order moves limits book outcome → outcome ≢ Err table.WriteFault → IsTrue tells → IsProof formula.clauses mid.written
-    proof_of outcome leads whole t = record { state = book.state; spelled = (leads.proof whole).spelled t }
+    proof_of : (found : Result Outcome RunError) → Leads tells before mid formula order moves limits book found → found ≢ Err WriteFault → IsTrue tells → IsProof formula limits mid.written
+    proof_of found leads whole t = record { state = book.state; written = written_of formula.clauses tells mid book.state (leads.proof whole) t; within = leads.within whole }
 
-    pub ok_shown : (found : Outcome) (last : ℕ) → Leads tells before mid formula order moves limits book (Ok found) → last ≡ book.state.top → Shown (Ok (record { outcome = found; last_id = last }))
-    ok_shown found last leads top = record {
-      unsat = λ t e. leads.unsat (ap Ok e) t;
-      sat = leads.sat;
-      last = λ t. record { state = book.state; spelled = (leads.proof (λ e. cc)).spelled t; top = sym top };
-      nodes = λ e. cc;
-      needs = λ e. cc;
-      numbers = λ e. cc;
-      whole = proof_of (Ok found) leads (λ e. cc);
+    pub outcome_shown : (outcome : Outcome) (last : ℕ) → Leads tells before mid formula order moves limits book (Ok outcome) → last ≡ book.state.top → Shown (record { outcome = outcome; last_id = last })
+    unfolding proof_of
+    outcome_shown outcome last leads top = record {
+      says = leads.says;
+      shows = leads.shows;
+      last = λ t. record { proof = proof_of (Ok outcome) leads (λ e. cc) t; top = sym top };
       tautologies = leads.tautologies;
       name = leads.name;
       unfailed = leads.unfailed (λ e. cc);
     }
 
-    pub nodes_shown : Leads tells before mid formula order moves limits book (Err table.NodeLimit) → Shown (Err NodeLimit)
-    nodes_shown leads = record {
-      unsat = λ t. tt;
-      sat = tt;
+    -- without an outcome nothing is flushed
+    pub failure_ends : (error : RunError) → Leads tells before mid formula order moves limits book (Err error) → Ends tells before mid formula order moves limits (Err error)
+    failure_ends OutOfMemory leads = record {
+      says = tt;
+      shows = λ t. tt;
       last = λ t. tt;
-      nodes = λ e t. leads.nodes refl t;
-      needs = λ e. leads.needs refl;
-      numbers = λ e. cc;
-      whole = proof_of (Err table.NodeLimit) leads (λ e. cc);
-      tautologies = leads.tautologies;
-      name = leads.name;
-      unfailed = leads.unfailed (λ e. cc);
-    }
-
-    pub numbers_shown : Leads tells before mid formula order moves limits book (Err table.IdLimit) → Shown (Err IdLimit)
-    numbers_shown leads = record {
-      unsat = λ t. tt;
-      sat = tt;
-      last = λ t. tt;
-      nodes = λ e. cc;
-      needs = λ e. cc;
-      numbers = λ e t. leads.numbers refl t;
-      whole = proof_of (Err table.IdLimit) leads (λ e. cc);
-      tautologies = leads.tautologies;
-      name = leads.name;
-      unfailed = leads.unfailed (λ e. cc);
-    }
-
-    pub memory_ends : Leads tells before mid formula order moves limits book (Err table.OutOfMemory) → Ends tells before mid formula order moves limits (Err OutOfMemory)
-    memory_ends leads = record {
-      unsat = λ t. tt;
-      sat = tt;
-      last = λ t. tt;
-      nodes = λ e. cc;
-      needs = λ e. cc;
-      numbers = λ e. cc;
+      whole = λ _ t. proof_of (Err OutOfMemory) leads (λ e. cc) t;
+      so_far = λ t. inl (proof_of (Err OutOfMemory) leads (λ e. cc) t);
+      flushed = λ ok t. absurd (let e : false ≡ true = ok in cc);
       fault = λ e. cc;
       unfailed = λ _. leads.unfailed (λ e. cc);
-      whole = λ _ t. proof_of (Err table.OutOfMemory) leads (λ e. cc) t;
-      so_far = λ t. inl (proof_of (Err table.OutOfMemory) leads (λ e. cc) t);
-      flushed = λ _ no t. absurd (no refl);
       tautologies = leads.tautologies;
       name = leads.name;
       faults = leads.faults;
     }
-
-    pub fault_ends : Leads tells before mid formula order moves limits book (Err table.WriteFault) → Ends tells before mid formula order moves limits (Err WriteFault)
-    fault_ends leads = record {
-      unsat = λ t. tt;
-      sat = tt;
+    failure_ends WriteFault leads = record {
+      says = tt;
+      shows = λ t. tt;
       last = λ t. tt;
-      nodes = λ e. cc;
-      needs = λ e. cc;
-      numbers = λ e. cc;
+      whole = λ no t. absurd (no refl);
+      so_far = λ t. inr (leads.broken refl t);
+      flushed = λ ok t. absurd (let e : false ≡ true = ok in cc);
       fault = λ e. leads.fault refl;
       unfailed = λ no. absurd (no refl);
-      whole = λ no t. absurd (no refl);
-      so_far = λ t. inr (leads.cut refl t);
-      flushed = λ no _ t. absurd (no refl);
       tautologies = leads.tautologies;
       name = leads.name;
       faults = leads.faults;
     }
 
 -- the end where memory ran out before the moves
-pub nothing_ends : (tells : Bool) (before after : Channel) (formula : Formula) (order : List ℕ) (moves : List Move) (limits : Limits) → (IsTrue tells → IsProof formula.clauses after.written)
+pub nothing_ends : (tells : Bool) (before after : Channel) (formula : Formula) (order : List ℕ) (moves : List Move) (limits : Limits) → (IsTrue tells → IsProof formula limits after.written)
     → after.written ≡ before.written → after.name ≡ before.name → after.faults ≡ before.faults → Ends tells before after formula order moves limits (Err OutOfMemory)
 nothing_ends tells before after formula order moves limits whole written name unfailed = record {
-  unsat = λ t. tt;
-  sat = tt;
+  says = tt;
+  shows = λ t. tt;
   last = λ t. tt;
-  nodes = λ e. cc;
-  needs = λ e. cc;
-  numbers = λ e. cc;
-  fault = λ e. cc;
-  unfailed = λ _. unfailed;
   whole = λ _ t. whole t;
   so_far = λ t. inl (whole t);
-  flushed = λ _ no t. absurd (no refl);
+  flushed = λ ok t. absurd (let e : false ≡ true = ok in cc);
+  fault = λ e. cc;
+  unfailed = λ _. unfailed;
   tautologies = λ all. written;
   name = name;
   faults = omega (arith, unfailed);

@@ -7,10 +7,10 @@ use Rattle.cnf_base.specs.Formula.{Formula}
 use Rattle.lrat_rules.specs.State.{clause_at}
 use Rattle.node_table.specs.Diagram.{levels}
 use Rattle.node_table.specs.Table.{TableState}
-use Rattle.apply_and.specs.Cache.{Entry}
+use Rattle.operations.specs.Entries.{Entry}
 use Rattle.term_runner.specs.Held.{IsReady}
 use Rattle.term_runner.proofs.Plans.{at_each}
-use Rattle.term_runner.proofs.Emptied.{full_at}
+use Rattle.term_runner.proofs.FirstEmpty.{full_at}
 
 module _ {S : Type 0} (formula : Formula) (table : TableState S) (kept : List Entry) (ready : IsReady formula table kept) (number : ℕ) (from_one : 1 ≤ number) (to_len : number ≤ length formula.clauses)
     (clause : List ℤ) (is : clause ≡ slice_index_or formula.clauses (number - 1) []) where

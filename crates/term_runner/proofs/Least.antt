@@ -1,5 +1,5 @@
 -- The assignment that is recovered from the last term's node.
-use Rattle.std.proofs.Common.{◌≡◌, Bool, true, List, length, sym, ◌∙◌}
+use Rattle.std.proofs.Common.{◌≡◌, ℕ, Bool, true, List, length, sym, ap, ◌∙◌}
 use Rattle.std.specs.Prelude.{IsFalse}
 use Rattle.std.specs.List.{list_any}
 use Rattle.cnf_base.specs.Truth.{Assignment, assignment_of}
@@ -8,12 +8,12 @@ use Rattle.node_table.specs.declared.node.Node.{Node}
 use Rattle.node_table.specs.Diagram.{Graph, levels}
 use Rattle.node_table.specs.Value.{by_level, value_of}
 use Rattle.schedule_plan.specs.declared.plan.Move.{Move}
-use Rattle.schedule_plan.specs.Plan.{IsAdmissible}
+use Rattle.schedule_plan.specs.Plan.{IsAdmissible, Term}
 use Rattle.clause_terms.specs.Recovery.{IsLeast}
 use Rattle.clause_terms.specs.Walk.{levels_of}
 use Rattle.term_runner.specs.Moves.{quantifies}
-use Rattle.term_runner.specs.Recovered.{IsRecovered, stack_holds}
-use Rattle.term_runner.proofs.Plans.{satisfied_by_stack}
+use Rattle.term_runner.specs.Recovered.{IsRecovered, stack_holds, set_all_back}
+use Rattle.term_runner.proofs.Plans.{no_trail, satisfied_by_stack}
 
 pub recovered : (formula : Formula) (graph : Graph) (moves : List Move) (plan : IsAdmissible formula moves) → IsFalse (list_any quantifies moves) → levels graph ≡ formula.vars
     → (node : Node) → ((a : Assignment) → value_of graph (by_level graph.order a) node ≡ stack_holds formula a plan.last.stack)
@@ -24,9 +24,11 @@ recovered formula graph moves plan joins vars node same values one_each least =
       one_each = one_each ∙ vars;
       last = plan.last;
       reached = plan.possible;
+      first = assignment_of values;
       least = record {
         satisfies = holds;
         least = λ other true_of place small earlier at. least.least (by_level graph.order other) (same other ∙ true_of) place small earlier at;
       };
+      recovered = λ variable. ap (λ (trail : List (ℕ × Term)). set_all_back formula (assignment_of values) trail variable) (sym (no_trail formula moves plan.last joins plan.possible));
       satisfied = satisfied_by_stack formula moves plan.last joins plan.possible plan.all_pushed (assignment_of values) holds;
     }

@@ -2,7 +2,6 @@ pub mod Ending
 pub mod OneLine
 pub mod FirstEmpty
 pub mod Tautologies
-pub mod Emptied
 pub mod Plans
 pub mod Units
 pub mod Least
@@ -13,3 +12,5 @@ pub mod Taking
 pub mod Between
 pub mod Opening
 pub mod Planned
+pub mod Parts
+pub mod Leaving

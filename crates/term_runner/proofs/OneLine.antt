@@ -1,24 +1,29 @@
 -- The line that refutes a formula with an empty clause.
-use Rattle.std.proofs.Common.{◌≡◌, ◌≢◌, ℕ, ◌<◌, ◌≤◌, ◌++◌, Bool, true, false, List, ℤ, [], ◌∷◌, length, Result, Ok, Err, refl, sym, ap, ◌∙◌, subst, arith}
-use Rattle.std.specs.Prelude.{IsTrue, IsOk, IfOk, nat_lt, nat_le, ◌&&◌, ◌||◌}
+use Rattle.std.proofs.Common.{◌≡◌, ◌≢◌, ℕ, ◌+◌, ◌<◌, ◌≤◌, ◌++◌, Bool, true, false, List, ℤ, [], ◌∷◌, length, Option, None, Some, Result, Ok, Err, refl, sym, ap, ◌∙◌, subst, arith, inl, inr}
+use Rattle.std.specs.Prelude.{◌↔◌, IsTrue, IsOk, IfOk, IfErr, nat_lt, nat_le, ◌&&◌}
 use Rattle.std.specs.List.{list_all}
-use Rattle.std.proofs.lemmas.Bool.{and_from, lt-ltb, le-leb}
+use Rattle.std.proofs.lemmas.Bool.{and_from, cases_lt, lt-ltb, le-leb}
+use Rattle.std.proofs.lemmas.List.Folds.{list_all-append}
+use Rattle.cnf_base.specs.Truth.{AreClausesOf, is_literal_of}
 use Rattle.cnf_base.specs.Formula.{Formula}
 use Rattle.cnf_base.specs.declared.step.Step.TheVariants.{Add}
 use Rattle.cnf_base.specs.ProofText.{is_id, is_printable, max_id}
 use Rattle.host_io.specs.Channel.{Channel, Rose}
-use Rattle.lrat_rules.specs.State.{State}
-use Rattle.lrat_rules.specs.Run.{Refutes, Spells, IsCutProof}
-use Rattle.clause_ledger.specs.Book.{Book, IsProofOf, OnlyWrites, next_line}
+use Rattle.lrat_rules.specs.State.{State, start, with_clause}
+use Rattle.lrat_rules.specs.Derivation.{IsCutProof}
+use Rattle.lrat_rules.specs.Marks.{in_use}
+use Rattle.lrat_rules.specs.Run.{Refutes}
+use Rattle.clause_ledger.specs.Book.{Book, IsProofOf, OnlyWrites, next_line, with_next}
 use Rattle.node_table.specs.declared.error.TableError.{TableError}
-use Rattle.node_table.specs.declared.error.TableError.TheVariants.{NodeLimit, IdLimit, WriteFault}
+use Rattle.node_table.specs.declared.error.TableError.TheVariants as table
 use Rattle.schedule_plan.specs.declared.plan.Move.{Move}
 use Rattle.schedule_plan.specs.declared.limits.Limits.{Limits}
-use Rattle.term_runner.specs.declared.outcome.Outcome.{Outcome}
-use Rattle.term_runner.specs.declared.outcome.Outcome.TheVariants.{Unsat, Sat}
 use Rattle.term_runner.specs.Clauses.{is_tautology, has_empty_clause, first_empty}
-use Rattle.term_runner.specs.Ends.{IsFound}
+use Rattle.term_runner.specs.Proofs.{KeepsWithin}
+use Rattle.term_runner.specs.Ends.{Says, Shows, outcome_of}
 use Rattle.term_runner.specs.Opened.{IsOpened, Leads}
+use Rattle.term_runner.proofs.Ending.{by_outcome, torn_of, whole_of, written_of}
+use Rattle.term_runner.proofs.FirstEmpty.{none_satisfies}
 
 -- the line of the empty clause by one hint can be read again
 pub one_hint_printable : (id hint : ℕ) → 0 < id → id ≤ max_id → 0 < hint → hint ≤ max_id → is_printable (Add id [] (hint ∷ []) []) ≡ true
@@ -26,10 +31,6 @@ one_hint_printable id hint some small some_hint small_hint =
     let number : is_id id ≡ true = and_from (nat_lt 0 id) (nat_le id max_id) (lt-ltb 0 id some) (le-leb id max_id small) in
     let one : is_id hint ≡ true = and_from (nat_lt 0 hint) (nat_le hint max_id) (lt-ltb 0 hint some_hint) (le-leb hint max_id small_hint) in
     and_from ((is_id id && true) && (is_id hint && true)) true (and_from (is_id id && true) (is_id hint && true) (and_from (is_id id) true number refl) (and_from (is_id hint) true one refl)) refl
-
-pub or_true : (b : Bool) → (b || true) ≡ true
-or_true true = refl
-or_true false = refl
 
 -- an empty clause is no tautology
 pub empty_is_open : (clauses : List (List ℤ)) → has_empty_clause clauses ≡ true → list_all is_tautology clauses ≡ false
@@ -41,56 +42,122 @@ empty_is_open ((x ∷ rest) ∷ more) has = (λ k. is_tautology (x ∷ rest) && 
     and_false true = refl
     and_false false = refl
 
+abbrev pub Unused : Type 0
+Unused = (vars : ℕ) (clauses : List (List ℤ)) → AreClausesOf vars clauses → in_use vars (start clauses) ≡ 0
+
+abbrev pub Appended : Type 0
+Appended = (clauses : List (List ℤ)) (clause : List ℤ) → start (clauses ++ clause ∷ []) ≡ record { live = with_clause (start clauses).live (length clauses + 1) clause; top = length clauses + 1 }
+
+-- the limits are kept at the start, and with the empty clause under the next number where one is left
+pub start_within : Unused → (formula : Formula) (limits : Limits) → AreClausesOf formula.vars formula.clauses → KeepsWithin formula limits (start formula.clauses)
+start_within unused formula limits literals = record {
+  numbers = omega arith;
+  nodes = omega (arith, unused formula.vars formula.clauses literals);
+}
+
+next_within : Unused → Appended → (formula : Formula) (limits : Limits) → AreClausesOf formula.vars formula.clauses → length formula.clauses < limits.max_ids → KeepsWithin formula limits (with_next (start formula.clauses) [])
+next_within unused appended formula limits literals room =
+    let more : AreClausesOf formula.vars (formula.clauses ++ [] ∷ []) =
+    list_all-append (list_all (is_literal_of formula.vars)) formula.clauses ([] ∷ []) ∙ and_from (list_all (list_all (is_literal_of formula.vars)) formula.clauses) true literals refl in
+    let none = unused formula.vars (formula.clauses ++ [] ∷ []) more in
+    record {
+      numbers = omega (arith, room);
+      nodes = subst (λ (s : State). in_use formula.vars s ≤ limits.max_nodes) (appended formula.clauses []) (omega (arith, none));
+    }
+
 -- what the addition of the empty clause left
-pub record Added {S : Type 0} (tells : Bool) (before after : Channel) (hint : ℕ) (old new : Book S) (result : Result Outcome TableError) : Type 0 where
-  pub found : IfOk result (λ outcome. outcome ≡ Unsat)
+pub record Added {S : Type 0} (tells : Bool) (before after : Channel) (hint : ℕ) (old new : Book S) (result : Result (Option (List Bool)) TableError) : Type 0 where
+  pub found : IfOk result (λ found. (found ≡ None) × (new.state ≡ with_next old.state []))
   pub refutes : (clauses : List (List ℤ)) → IsProofOf clauses tells before old.state → IsTrue tells → IsOk result → Refutes clauses after.written
   pub line : IsTrue tells → IsOk result → after.written ≡ before.written ++ next_line old.state [] (hint ∷ [])
-  pub in_step : result ≢ Err WriteFault → IsTrue new.in_step
-  pub kept : (clauses : List (List ℤ)) → IsProofOf clauses tells before old.state → result ≢ Err WriteFault → IsProofOf clauses tells after new.state
-  pub cut : (clauses : List (List ℤ)) → IsProofOf clauses tells before old.state → IsTrue tells → result ≡ Err WriteFault → IsCutProof clauses after.written
-  pub fault : result ≡ Err WriteFault → Rose before.faults after.faults
-  pub unfailed : result ≢ Err WriteFault → after.faults ≡ before.faults
-  pub no_node_limit : result ≢ Err NodeLimit
-  pub id_limit : result ≡ Err IdLimit → (old.limit ≤ old.state.top) × (after ≡ before)
+  pub in_step : result ≢ Err table.WriteFault → IsTrue new.in_step
+  pub kept : (clauses : List (List ℤ)) → IsProofOf clauses tells before old.state → result ≢ Err table.WriteFault → IsProofOf clauses tells after new.state
+  pub cut : (clauses : List (List ℤ)) → IsProofOf clauses tells before old.state → IsTrue tells → result ≡ Err table.WriteFault → IsCutProof clauses after.written old.state new.state
+  pub fault_state : result ≡ Err table.WriteFault → new.state ≡ with_next old.state []
+  pub fault : result ≡ Err table.WriteFault → Rose before.faults after.faults
+  pub unfailed : result ≢ Err table.WriteFault → after.faults ≡ before.faults
+  pub no_node_limit : result ≢ Err table.NodeLimit
+  pub id_limit : (result ≡ Err table.IdLimit) ↔ (old.limit ≤ old.state.top)
+  pub refused : IfErr result (λ e. e ≢ table.WriteFault → new.state ≡ old.state)
   pub only_writes : OnlyWrites before after
 
-found_fits : (formula : Formula) (order : List ℕ) (moves : List Move) (result : Result Outcome TableError) → IfOk result (λ outcome. outcome ≡ Unsat) → IfOk result (IsFound formula order moves)
-found_fits formula order moves (Ok Unsat) is = tt
-found_fits formula order moves (Ok (Sat values)) is = absurd (let e : ◌≡◌ {A = Outcome} (Sat values) Unsat = is in cc)
-found_fits formula order moves (Err e) is = tt
+module _ {S : Type 0} (unused : Unused) (appended : Appended) (tells : Bool) (before after : Channel) (hint : ℕ) (old new : Book S) (result : Result (Option (List Bool)) TableError)
+    (added : Added tells before after hint old new result) (formula : Formula) (order : List ℕ) (moves : List Move) (limits : Limits) (opened : IsOpened tells before formula limits.max_ids old)
+    (first : hint ≡ first_empty formula.clauses) (has : IsTrue (has_empty_clause formula.clauses)) where
+  top_at_start : old.state.top ≡ length formula.clauses
+  top_at_start = ap (λ (s : State). s.top) opened.state
 
-ok_of : (result : Result Outcome TableError) (found : Outcome) → result ≡ Ok found → IsOk result
-ok_of (Ok x) found is = refl
-ok_of (Err e) found is = cc
+  -- a number was left unless that was told
+  room_of : result ≢ Err table.IdLimit → length formula.clauses < limits.max_ids
+  room_of given = elim (cases_lt old.state.top old.limit) [
+    | inl less ↦ omega (arith, less, top_at_start, opened.limit)
+    | inr more ↦ absurd (given (added.id_limit.1 more))
+  ]
 
-pub added_leads : {S : Type 0} (tells : Bool) (before after : Channel) (hint : ℕ) (old new : Book S) (result : Result Outcome TableError) → Added tells before after hint old new result
-    → (formula : Formula) (order : List ℕ) (moves : List Move) (limits : Limits) → IsOpened tells before formula limits.max_ids old → hint ≡ first_empty formula.clauses → IsTrue (has_empty_clause formula.clauses)
-    → Leads tells before after formula order moves limits new result
-added_leads tells before after hint old new result added formula order moves limits opened first has = record {
-  in_step = added.in_step;
-  proof = λ whole. added.kept formula.clauses opened.proof whole;
-  cut = λ is t. added.cut formula.clauses opened.proof t is;
-  unsat = λ is t. record {
-    refutes = added.refutes formula.clauses opened.proof t (ok_of result Unsat is);
-    at_once = λ _. added.line t (ok_of result Unsat is) ∙ (λ k. opened.fresh t k ++ next_line (opened.state k) [] (first k ∷ []));
-  };
-  sat = found_fits formula order moves result added.found;
-  nodes = λ is. absurd (added.no_node_limit is);
-  needs = λ is. absurd (added.no_node_limit is);
-  numbers = λ is t.
-      let limit = added.id_limit is in
-      let top : old.state.top ≡ length formula.clauses = ap (λ (s : State). s.top) opened.state in
-      record {
-        some_open = empty_is_open formula.clauses has;
-        state = old.state;
-        spelled = subst (λ (ch : Channel). Spells formula.clauses ch.written old.state) (sym limit.1) (opened.proof.spelled t);
-        used = omega (arith, limit.0, opened.limit);
-        at_once = λ _. omega (arith, limit.0, opened.limit, top);
-      };
-  fault = added.fault;
-  unfailed = added.unfailed;
-  tautologies = λ all. absurd (let e : true ≡ false = sym all ∙ empty_is_open formula.clauses has in cc);
-  name = added.only_writes.name;
-  faults = added.only_writes.faults;
-}
+  same_within : new.state ≡ old.state → KeepsWithin formula limits new.state
+  same_within same = subst (λ (s : State). KeepsWithin formula limits s) (sym (same ∙ opened.state)) (start_within unused formula limits opened.literals)
+
+  more_within : new.state ≡ with_next old.state [] → result ≢ Err table.IdLimit → KeepsWithin formula limits new.state
+  more_within is given =
+      subst (λ (s : State). KeepsWithin formula limits s) (sym (is ∙ (λ k. with_next (opened.state k) []))) (next_within unused appended formula limits opened.literals (room_of given))
+
+  within_of : (r : Result (Option (List Bool)) TableError) → result ≡ r → r ≢ Err table.WriteFault → IfOk r (λ found. (found ≡ None) × (new.state ≡ with_next old.state []))
+      → IfErr r (λ e. e ≢ table.WriteFault → new.state ≡ old.state) → KeepsWithin formula limits new.state
+  within_of (Ok found) is whole ok refused = more_within ok.1 (λ e. let wrong : ◌≡◌ {A = Result (Option (List Bool)) TableError} (Ok found) (Err table.IdLimit) = sym is ∙ e in cc)
+  within_of (Err e) is whole ok refused = same_within (refused (λ torn. whole (ap Err torn)))
+
+  none_found : (values : List Bool) → result ≡ Ok (Some values) → ⊥
+  none_found values is = refuted (subst (λ (r : Result (Option (List Bool)) TableError). IfOk r (λ found. (found ≡ None) × (new.state ≡ with_next old.state []))) is added.found).0
+    where
+      refuted : Some values ≡ None → ⊥
+      refuted e = cc
+
+  ok_of : (r : Result (Option (List Bool)) TableError) (found : Option (List Bool)) → r ≡ Ok found → IsOk r
+  ok_of (Ok x) found is = refl
+  ok_of (Err e) found is = cc
+
+  refused_at_limit : result ≡ Err table.IdLimit → new.state ≡ old.state
+  refused_at_limit is = subst (λ (r : Result (Option (List Bool)) TableError). IfErr r (λ e. e ≢ table.WriteFault → new.state ≡ old.state)) is added.refused (λ e. cc)
+
+  pub added_leads : Leads tells before after formula order moves limits new (outcome_of result)
+  added_leads = record {
+    in_step = λ whole. added.in_step (whole_of result whole);
+    proof = λ whole. added.kept formula.clauses opened.proof (whole_of result whole);
+    within = λ whole. within_of result refl (whole_of result whole) added.found added.refused;
+    broken = λ is t.
+        let torn = torn_of result is in
+        record {
+          before = old.state;
+          after = new.state;
+          cut = added.cut formula.clauses opened.proof t torn;
+          within_before = subst (λ (s : State). KeepsWithin formula limits s) (sym opened.state) (start_within unused formula limits opened.literals);
+          within_after = more_within (added.fault_state torn) (λ e. two_causes (sym torn ∙ e));
+        };
+    says = by_outcome (Says formula order moves limits) result (λ _. none_satisfies formula.clauses has) (λ values is. absurd (none_found values is)) (λ is. absurd (added.no_node_limit is)) (λ _. tt);
+    shows = λ t.
+        by_outcome (Shows formula limits after.written) result
+        (λ is. record {
+          refutes = added.refutes formula.clauses opened.proof t (ok_of result None is);
+          at_once = λ _. added.line t (ok_of result None is) ∙ (λ k. opened.fresh t k ++ next_line (opened.state k) [] (first k ∷ []));
+        })
+        (λ values is. tt) (λ is. absurd (added.no_node_limit is))
+        (λ is.
+        let limit = added.id_limit.0 is in
+        let proof = added.kept formula.clauses opened.proof (λ e. two_causes (sym e ∙ is)) in
+        let same : new.state.top ≡ old.state.top = ap (λ (s : State). s.top) (refused_at_limit is) in
+        record {
+          some_open = empty_is_open formula.clauses has;
+          state = new.state;
+          written = written_of formula.clauses tells after new.state proof t;
+          used = omega (arith, limit, opened.limit, same);
+          at_once = λ _. omega (arith, limit, opened.limit, top_at_start);
+        });
+    fault = λ is. added.fault (torn_of result is);
+    unfailed = λ whole. added.unfailed (whole_of result whole);
+    tautologies = λ all. absurd (let e : true ≡ false = sym all ∙ empty_is_open formula.clauses has in cc);
+    name = added.only_writes.name;
+    faults = added.only_writes.faults;
+  }
+    where
+      two_causes : ◌≡◌ {A = Result (Option (List Bool)) TableError} (Err table.WriteFault) (Err table.IdLimit) → ⊥
+      two_causes e = cc

@@ -1,34 +1,49 @@
 -- From an opened ledger to the end of the moves.
-use Rattle.std.proofs.Common.{◌≡◌, ◌≢◌, ℕ, zero, suc, ◌+◌, ◌<◌, ◌≤◌, ◌⊎◌, Bool, true, false, ℤ, List, [], length, None, Some, Result, Ok, Err, refl, sym, ap, ◌∙◌, subst, arith, inl, inr}
-use Rattle.std.specs.Prelude.{IsTrue, IsFalse, IfOk}
-use Rattle.std.specs.List.{list_all}
+use Rattle.std.proofs.Common.{◌≡◌, ◌≢◌, ℕ, zero, suc, ◌+◌, ◌<◌, ◌≤◌, ◌⊎◌, Bool, true, false, ℤ, List, [], length, Option, None, Some, Result, Ok, Err, refl, sym, ap, ◌∙◌, subst, arith, inl, inr}
+use Rattle.std.specs.Prelude.{IsTrue, IsFalse, IfOk, MatchOption, slice_index_or}
+use Rattle.std.specs.List.{list_all, list_any}
 use Rattle.std.specs.FinMap as map
 use Rattle.std.proofs.lemmas.Bool.{cases_lt}
-use Rattle.cnf_base.specs.Truth.{AreClausesOf}
+use Rattle.cnf_base.specs.declared.step.Step.{Step}
+use Rattle.cnf_base.specs.Truth.{Assignment, AreClausesOf, Satisfies}
 use Rattle.cnf_base.specs.Formula.{Formula}
+use Rattle.cnf_base.specs.ProofText.{is_empty}
 use Rattle.host_io.specs.Channel.{Channel}
-use Rattle.lrat_rules.specs.State.{State, clause_at, start}
-use Rattle.lrat_rules.specs.Run.{Refutes, Spells, adds_empty_clause}
-use Rattle.lrat_rules.specs.Marks.{in_use}
+use Rattle.lrat_rules.specs.State.{State, Live, clause_at, start}
+use Rattle.lrat_rules.specs.Derivation.{IsDerivation, IsWritten}
+use Rattle.lrat_rules.specs.Run.{Refutes}
+use Rattle.lrat_rules.specs.Marks.{IsWithin, in_use}
 use Rattle.clause_ledger.specs.Book.{Book, IsProofOf}
 use Rattle.node_table.specs.declared.error.TableError.{TableError}
 use Rattle.node_table.specs.declared.error.TableError.TheVariants.{NodeLimit, IdLimit, OutOfMemory, WriteFault}
-use Rattle.node_table.specs.Diagram.{Graph, branch_at, levels}
-use Rattle.node_table.specs.Tied.{IsTied}
+use Rattle.node_table.specs.Diagram.{Graph, levels}
+use Rattle.node_table.specs.Tied.{IsTied, AreRetired}
 use Rattle.node_table.specs.Table.{TableState, live_nodes}
-use Rattle.node_table.specs.Progress.{Continues, BreaksOff}
+use Rattle.node_table.specs.Progress.{Continues, BreaksOff, Leaves, error_of, number_limit}
+use Rattle.node_table.specs.Laws.{Canonical}
 use Rattle.schedule_plan.specs.Order.{IsOrder}
 use Rattle.schedule_plan.specs.declared.plan.Move.{Move}
 use Rattle.schedule_plan.specs.declared.limits.Limits.{Limits}
-use Rattle.term_runner.specs.declared.outcome.Outcome.{Outcome}
-use Rattle.term_runner.specs.declared.outcome.Outcome.TheVariants.{Unsat}
 use Rattle.term_runner.specs.Clauses.{is_tautology, has_empty_clause}
-use Rattle.term_runner.specs.Ends.{IsFound}
+use Rattle.term_runner.specs.Proofs.{IsProof, KeepsWithin}
+use Rattle.term_runner.specs.Recovered.{IsRecovered}
+use Rattle.term_runner.specs.Ends.{Says, Shows, outcome_of}
 use Rattle.term_runner.specs.Held.{IsReady}
 use Rattle.term_runner.specs.Needs.{RunsShort}
 use Rattle.term_runner.specs.Opened.{IsOpened, Leads}
-use Rattle.term_runner.proofs.Planned.{needs_more}
-use Rattle.term_runner.proofs.Emptied.{StartClauses, NoneAtZero, NoneAbove, added_by_a_line}
+use Rattle.term_runner.proofs.Parts.{needs_more}
+use Rattle.term_runner.proofs.Leaving.{went_on}
+use Rattle.term_runner.proofs.Ending.{by_outcome, torn_of, whole_of, written_of}
+use Rattle.term_runner.proofs.OneLine.{Unused, start_within}
+
+abbrev pub StartClauses : Type 0
+StartClauses = (clauses : List (List ℤ)) (i : ℕ) → i < length clauses → clause_at (start clauses).live (i + 1) ≡ Some (slice_index_or clauses i [])
+
+abbrev pub NoneAtZero : Type 0
+NoneAtZero = (clauses : List (List ℤ)) → clause_at (start clauses).live 0 ≡ None
+
+abbrev pub NoneAbove : Type 0
+NoneAbove = (clauses : List (List ℤ)) (id : ℕ) → length clauses < id → clause_at (start clauses).live id ≡ None
 
 some_is_some : (clause : List ℤ) → None ≡ Some clause → ⊥
 some_is_some clause e = cc
@@ -41,18 +56,27 @@ numbered zero_law above clauses (suc id) clause at = elim (cases_lt (length clau
   | inr small ↦ (omega arith, small)
 ]
 
-pub proof_at_start : StartClauses → NoneAtZero → NoneAbove → ((clauses : List (List ℤ)) → Spells clauses [] (start clauses)) → (clauses : List (List ℤ)) (tells : Bool) (channel : Channel) → (IsTrue tells → channel.written ≡ [])
+pub proof_at_start : StartClauses → NoneAtZero → NoneAbove → ((clauses : List (List ℤ)) → IsDerivation clauses [] (start clauses)) → (clauses : List (List ℤ)) (tells : Bool) (channel : Channel) → (IsTrue tells → channel.written ≡ [])
     → IsProofOf clauses tells channel (start clauses)
-proof_at_start there zero_law above spells clauses tells channel fresh = record {
-  spelled = λ t. subst (λ (b : List ℕ). Spells clauses b (start clauses)) (sym (fresh t)) (spells clauses);
+proof_at_start there zero_law above none clauses tells channel fresh = record {
+  steps = [];
+  derived = none clauses;
+  text = fresh;
   formula = there clauses;
   numbers = numbered zero_law above clauses;
   from_formula = omega arith;
 }
 
-pub opened_at : {S : Type 0} (tells : Bool) (channel : Channel) (formula : Formula) (max_ids : ℕ) (book : Book S) → book.state ≡ start formula.clauses → book.limit ≡ max_ids → IsTrue book.in_step
+-- nothing was written yet
+pub whole_at_start : Unused → (formula : Formula) (limits : Limits) → AreClausesOf formula.vars formula.clauses → (tells : Bool) (channel : Channel) → IsProofOf formula.clauses tells channel (start formula.clauses) → IsTrue tells
+    → IsProof formula limits channel.written
+whole_at_start unused formula limits literals tells channel proof t =
+    record { state = start formula.clauses; written = written_of formula.clauses tells channel (start formula.clauses) proof t; within = start_within unused formula limits literals }
+
+pub opened_at : {S : Type 0} (tells : Bool) (channel : Channel) (formula : Formula) (max_ids : ℕ) (book : Book S) → AreClausesOf formula.vars formula.clauses → book.state ≡ start formula.clauses → book.limit ≡ max_ids → IsTrue book.in_step
     → IsProofOf formula.clauses tells channel (start formula.clauses) → (IsTrue tells → channel.written ≡ []) → IsOpened tells channel formula max_ids book
-opened_at tells channel formula max_ids book state limit in_step proof fresh = record {
+opened_at tells channel formula max_ids book literals state limit in_step proof fresh = record {
+  literals = literals;
   state = state;
   limit = limit;
   in_step = in_step;
@@ -62,97 +86,156 @@ opened_at tells channel formula max_ids book state limit in_step proof fresh = r
 
 -- a table over the opened ledger is ready
 pub ready_at : {S : Type 0} → StartClauses → ((order : List ℕ) (clauses : List (List ℤ)) → IsOrder order → AreClausesOf (length order) clauses → IsTied (record { order = order; nodes = map.empty }) (start clauses))
-    → (formula : Formula) (order : List ℕ) (table : TableState S) → table.graph ≡ record { order = order; nodes = map.empty } → table.book.state ≡ start formula.clauses → IsTrue table.book.in_step → IsOrder order → length order ≡ formula.vars
+    → ((order : List ℕ) (clauses : List (List ℤ)) → AreRetired (record { order = order; nodes = map.empty }) (start clauses).live [])
+    → (formula : Formula) (order : List ℕ) (table : TableState S) → table.graph ≡ record { order = order; nodes = map.empty } → table.book.state ≡ start formula.clauses → IsTrue table.book.in_step → table.retired ≡ [] → IsOrder order → length order ≡ formula.vars
     → AreClausesOf formula.vars formula.clauses → IsFalse (has_empty_clause formula.clauses) → IsReady formula table []
-ready_at there opening formula order table graph state in_step is_order vars literals none = record {
-  in_step = in_step;
-  tied = subst (λ (h : Graph). IsTied h table.book.state) (sym graph) (subst (λ (s : State). IsTied (record { order = order; nodes = map.empty }) s) (sym state)
-      (opening order formula.clauses is_order (subst (λ (v : ℕ). AreClausesOf v formula.clauses) (sym vars) literals)));
-  fits = record { each = λ entry has. absurd (omega (arith, has.1)) };
+ready_at there opening none_retired formula order table graph state in_step retired is_order vars literals none = record {
+  sound = record {
+    in_step = in_step;
+    tied = subst (λ (h : Graph). IsTied h table.book.state) (sym graph) (subst (λ (s : State). IsTied (record { order = order; nodes = map.empty }) s) (sym state)
+        (opening order formula.clauses is_order (subst (λ (v : ℕ). AreClausesOf v formula.clauses) (sym vars) literals)));
+    retired = subst (λ (ids : List ℕ). AreRetired table.graph table.book.state.live ids) (sym retired) (subst (λ (h : Graph). AreRetired h table.book.state.live []) (sym graph)
+        (subst (λ (s : State). AreRetired (record { order = order; nodes = map.empty }) s.live []) (sym state) (none_retired order formula.clauses)));
+  };
+  fits = record {
+    each = λ entry has. absurd (omega (arith, has.1));
+    unretired = λ entry id has names gone. omega (arith, has.1);
+    apart = λ one other id has also names named. absurd (omega (arith, has.1));
+  };
   inputs = λ i small. (λ k. clause_at (state k).live (i + 1)) ∙ there formula.clauses i small;
   vars = ap levels graph ∙ vars;
   none_empty = none;
 }
 
--- what the decision told
-pub record Decided {S : Type 0} (tells : Bool) (before after : Channel) (formula : Formula) (order : List ℕ) (moves : List Move) (old new : TableState S) (outcome : Result Outcome TableError) : Type 0 where
-  pub found : IfOk outcome (IsFound formula order moves)
-  pub refuted : outcome ≡ Ok Unsat → (id : ℕ) × (clause_at new.book.state.live id ≡ Some [])
-  pub continues : outcome ≢ Err WriteFault → Continues tells before after old new
-  pub node_limit : outcome ≡ Err NodeLimit → new.max_nodes ≤ live_nodes new.graph
-  pub short : outcome ≡ Err NodeLimit → RunsShort formula order moves old.graph new.graph
-  pub few : live_nodes new.graph ≤ new.max_nodes
-  pub id_limit : outcome ≡ Err IdLimit → new.book.limit < new.book.state.top + 4
-  pub open_clause : (outcome ≡ Err NodeLimit) ⊎ (outcome ≡ Err IdLimit) → IsFalse (list_all is_tautology formula.clauses)
-  pub tautologies : IsTrue (list_all is_tautology formula.clauses) → after.written ≡ before.written
-  pub broken : outcome ≡ Err WriteFault → BreaksOff tells before after old new
+-- a model, or a live clause without literals
+abbrev IsDecided : Formula → List ℕ → List Move → Live → Option (List Bool) → Type 0
+IsDecided formula order moves live found = MatchOption found ((id : ℕ) × (clause_at live id ≡ Some [])) (λ model. IsRecovered formula order moves model)
 
-either : (outcome : Result Outcome TableError) (X : Type 0) → (outcome ≢ Err WriteFault → X) → (outcome ≡ Err WriteFault → X) → X
+-- what the decision told
+pub record Decided {S : Type 0} (tells : Bool) (before after : Channel) (formula : Formula) (order : List ℕ) (moves : List Move) (old new : TableState S) (result : Result (Option (List Bool)) TableError) : Type 0 where
+  pub found : IfOk result (λ found. MatchOption found ((id : ℕ) × (clause_at new.book.state.live id ≡ Some [])) (λ model. IsRecovered formula order moves model))
+  pub leaves : Leaves tells before after old new (error_of result)
+  pub tautologies : IsTrue (list_all is_tautology formula.clauses) → after.written ≡ before.written
+  pub open_clause : (result ≡ Err NodeLimit) ⊎ (result ≡ Err IdLimit) → IsFalse (list_all is_tautology formula.clauses)
+  pub short : result ≡ Err NodeLimit → RunsShort formula order moves new.graph
+  pub few : live_nodes new.graph ≤ new.max_nodes
+
+either : (result : Result (Option (List Bool)) TableError) (X : Type 0) → (result ≢ Err WriteFault → X) → (result ≡ Err WriteFault → X) → X
 either (Ok found) X whole torn = whole (λ e. cc)
 either (Err NodeLimit) X whole torn = whole (λ e. cc)
 either (Err IdLimit) X whole torn = whole (λ e. cc)
 either (Err OutOfMemory) X whole torn = whole (λ e. cc)
 either (Err WriteFault) X whole torn = torn refl
 
-module _ {S : Type 0} (there : StartClauses) (zero_law : NoneAtZero) (above : NoneAbove)
-    (refutes : (clauses : List (List ℤ)) (bytes : List ℕ) (state : State) → Spells clauses bytes state → IsTrue (adds_empty_clause bytes) → Refutes clauses bytes)
-    (uses : (graph : Graph) (state : State) → IsTied graph state → in_use (levels graph) state ≡ live_nodes graph)
-    (tells : Bool) (before after : Channel) (formula : Formula) (order : List ℕ) (moves : List Move) (limits : Limits) (old new : TableState S) (outcome : Result Outcome TableError)
+abbrev pub DerivedEmpty : Type 0
+DerivedEmpty = (vars : ℕ) (clauses : List (List ℤ)) (steps : List Step) (state : State) (id : ℕ) → AreClausesOf vars clauses → IsDerivation clauses steps state
+    → clause_at state.live id ≡ Some [] → (a : Assignment) → Satisfies a clauses → ⊥
+
+abbrev pub WrittenEmpty : Type 0
+WrittenEmpty = (clauses : List (List ℤ)) (bytes : List ℕ) (state : State) (id : ℕ) → IsWritten clauses bytes state → IsFalse (list_any is_empty clauses) → clause_at state.live id ≡ Some [] → Refutes clauses bytes
+
+module _ {S : Type 0} (canonical : Canonical) (unsatisfied : DerivedEmpty) (refutes : WrittenEmpty) (uses : (graph : Graph) (state : State) → IsTied graph state → in_use (levels graph) state ≡ live_nodes graph)
+    (tells : Bool) (before after : Channel) (formula : Formula) (order : List ℕ) (moves : List Move) (limits : Limits) (old new : TableState S) (result : Result (Option (List Bool)) TableError)
     (opened : IsOpened tells before formula limits.max_ids old.book) (ready : IsReady formula old []) (few_nodes : old.max_nodes ≡ limits.max_nodes)
-    (none_yet : (key : ℕ) → branch_at old.graph key ≡ None) (in_order : old.graph.order ≡ order)
-    (decided : Decided tells before after formula order moves old new outcome) where
+    (decided : Decided tells before after formula order moves old new result) where
   has_none : (has : IsTrue (has_empty_clause formula.clauses)) → ⊥
   has_none has = let e : true ≡ false = sym has ∙ ready.none_empty in cc
 
-  spelled_new : outcome ≢ Err WriteFault → IsTrue tells → Spells formula.clauses after.written new.book.state
-  spelled_new whole t = ((decided.continues whole).kept formula.clauses opened.proof).spelled t
+  grown : result ≢ Err WriteFault → Continues tells before after old new
+  grown = went_on tells before after old new result decided.leaves
 
-  pub decided_leads : Leads tells before after formula order moves limits new.book outcome
+  torn : result ≡ Err WriteFault → BreaksOff tells before after old new
+  torn is = subst (λ (r : Result (Option (List Bool)) TableError). Leaves tells before after old new (error_of r)) is decided.leaves
+
+  at_node_limit : result ≡ Err NodeLimit → new.max_nodes ≤ live_nodes new.graph
+  at_node_limit is = (subst (λ (r : Result (Option (List Bool)) TableError). Leaves tells before after old new (error_of r)) is decided.leaves).1
+
+  at_id_limit : result ≡ Err IdLimit → new.book.limit < new.book.state.top + 4
+  at_id_limit is = (subst (λ (r : Result (Option (List Bool)) TableError). Leaves tells before after old new (error_of r)) is decided.leaves).1
+
+  proof_new : result ≢ Err WriteFault → IsProofOf formula.clauses tells after new.book.state
+  proof_new whole = (grown whole).kept formula.clauses opened.proof
+
+  top_at_start : old.book.state.top ≡ length formula.clauses
+  top_at_start = ap (λ (s : State). s.top) opened.state
+
+  -- the extension variables in use are as many as the nodes
+  used : (whole : result ≢ Err WriteFault) → in_use formula.vars new.book.state ≡ live_nodes new.graph
+  used whole =
+      let vars : levels new.graph ≡ formula.vars = ap length (grown whole).order ∙ ready.vars in
+      subst (λ (v : ℕ). in_use v new.book.state ≡ live_nodes new.graph) vars (uses new.graph new.book.state (grown whole).sound.tied)
+
+  within : (whole : result ≢ Err WriteFault) → KeepsWithin formula limits new.book.state
+  within whole = record {
+    numbers = omega (arith, (grown whole).numbers, top_at_start, opened.limit);
+    nodes = omega (arith, used whole, decided.few, (grown whole).max_nodes, few_nodes);
+  }
+
+  within_limits : (state : State) → IsWithin (levels old.graph) (number_limit old) old.max_nodes state → KeepsWithin formula limits state
+  within_limits state is = record {
+    numbers = omega (arith, is.numbers, top_at_start, opened.limit);
+    nodes = subst (λ (v : ℕ). in_use v state ≤ limits.max_nodes) ready.vars (subst (λ (n : ℕ). in_use (levels old.graph) state ≤ n) few_nodes is.nodes);
+  }
+
+  not_torn : (other : Result (Option (List Bool)) TableError) → result ≡ other → other ≢ Err WriteFault → result ≢ Err WriteFault
+  not_torn other is differs e = differs (sym is ∙ e)
+
+  found_in : (found : Option (List Bool)) → result ≡ Ok found → IsDecided formula order moves new.book.state.live found
+  found_in found is = subst (λ (r : Result (Option (List Bool)) TableError). IfOk r (IsDecided formula order moves new.book.state.live)) is decided.found
+
+  says : IfOk (outcome_of result) (Says formula order moves limits)
+  says = by_outcome (Says formula order moves limits) result
+      (λ is.
+      let proof = proof_new (not_torn (Ok None) is (λ e. cc)) in
+      let empty = found_in None is in
+      unsatisfied formula.vars formula.clauses proof.steps new.book.state empty.0 opened.literals proof.derived empty.1)
+      (λ values is. found_in (Some values) is)
+      (λ is.
+      let more = grown (not_torn (Err NodeLimit) is (λ e. cc)) in
+      needs_more canonical formula order moves new.graph more.sound.tied.reduced (decided.short is) limits.max_nodes (omega (arith, at_node_limit is, decided.few, more.max_nodes, few_nodes)))
+      (λ _. tt)
+
+  shows : IsTrue tells → IfOk (outcome_of result) (Shows formula limits after.written)
+  shows t = by_outcome (Shows formula limits after.written) result
+      (λ is.
+      let empty = found_in None is in
+      record {
+        refutes = refutes formula.clauses after.written new.book.state empty.0 (written_of formula.clauses tells after new.book.state (proof_new (not_torn (Ok None) is (λ e. cc))) t) ready.none_empty empty.1;
+        at_once = λ has. absurd (has_none has);
+      })
+      (λ values is. tt)
+      (λ is.
+      let whole = not_torn (Err NodeLimit) is (λ e. cc) in
+      record {
+        none_empty = ready.none_empty;
+        some_open = decided.open_clause (inl is);
+        state = new.book.state;
+        written = written_of formula.clauses tells after new.book.state (proof_new whole) t;
+        used = omega (arith, used whole, at_node_limit is, decided.few, (grown whole).max_nodes, few_nodes);
+      })
+      (λ is.
+      let whole = not_torn (Err IdLimit) is (λ e. cc) in
+      record {
+        some_open = decided.open_clause (inr is);
+        state = new.book.state;
+        written = written_of formula.clauses tells after new.book.state (proof_new whole) t;
+        used = omega (arith, at_id_limit is, (grown whole).limit, opened.limit);
+        at_once = λ has. absurd (has_none has);
+      })
+
+  pub decided_leads : Leads tells before after formula order moves limits new.book (outcome_of result)
   decided_leads = record {
-    in_step = λ whole. (decided.continues whole).in_step;
-    proof = λ whole. (decided.continues whole).kept formula.clauses opened.proof;
-    cut = λ is t. (decided.broken is).cut formula.clauses opened.proof t;
-    unsat = λ is t.
-        let whole : outcome ≢ Err WriteFault = λ e. let bad : ◌≡◌ {A = Result Outcome TableError} (Ok Unsat) (Err WriteFault) = sym is ∙ e in cc in
-        let empty = decided.refuted is in
-        record {
-          refutes = refutes formula.clauses after.written new.book.state (spelled_new whole t)
-              (added_by_a_line there zero_law above formula.clauses after.written new.book.state empty.0 ready.none_empty (spelled_new whole t) empty.1);
-          at_once = λ has. absurd (has_none has);
-        };
-    sat = decided.found;
-    nodes = λ is t.
-        let whole : outcome ≢ Err WriteFault = λ e. let bad : ◌≡◌ {A = Result Outcome TableError} (Err NodeLimit) (Err WriteFault) = sym is ∙ e in cc in
-        let grown = decided.continues whole in
-        let vars : levels new.graph ≡ formula.vars = ap length grown.extends.nodes.order ∙ ready.vars in
-        let full = decided.node_limit is in
-        record {
-          none_empty = ready.none_empty;
-          some_open = decided.open_clause (inl is);
-          state = new.book.state;
-          spelled = spelled_new whole t;
-          used = (λ k. in_use (sym vars k) new.book.state) ∙ uses new.graph new.book.state grown.tied ∙ omega (arith, full, decided.few, grown.max_nodes, few_nodes);
-        };
-    needs = λ is.
-        let whole : outcome ≢ Err WriteFault = λ e. let bad : ◌≡◌ {A = Result Outcome TableError} (Err NodeLimit) (Err WriteFault) = sym is ∙ e in cc in
-        let grown = decided.continues whole in
-        let full = decided.node_limit is in
-        needs_more formula order moves old.graph new.graph limits.max_nodes none_yet grown.tied.reduced (grown.extends.nodes.order ∙ in_order)
-        (omega (arith, full, decided.few, grown.max_nodes, few_nodes)) (decided.short is);
-    numbers = λ is t.
-        let whole : outcome ≢ Err WriteFault = λ e. let bad : ◌≡◌ {A = Result Outcome TableError} (Err IdLimit) (Err WriteFault) = sym is ∙ e in cc in
-        let grown = decided.continues whole in
-        let short = decided.id_limit is in
-        record {
-          some_open = decided.open_clause (inr is);
-          state = new.book.state;
-          spelled = spelled_new whole t;
-          used = omega (arith, short, grown.limit, opened.limit);
-          at_once = λ has. absurd (has_none has);
-        };
-    fault = λ is. (decided.broken is).rose;
-    unfailed = λ whole. (decided.continues whole).unfailed;
+    in_step = λ whole. (grown (whole_of result whole)).sound.in_step;
+    proof = λ whole. proof_new (whole_of result whole);
+    within = λ whole. within (whole_of result whole);
+    broken = λ is t.
+        let cut = (torn (torn_of result is)).cut formula.clauses opened.proof t in
+        record { before = cut.before; after = new.book.state; cut = cut.cut; within_before = within_limits cut.before cut.within_before; within_after = within_limits new.book.state cut.within_after };
+    says = says;
+    shows = shows;
+    fault = λ is. (torn (torn_of result is)).rose;
+    unfailed = λ whole. (grown (whole_of result whole)).unfailed;
     tautologies = decided.tautologies;
-    name = either outcome (after.name ≡ before.name) (λ whole. (decided.continues whole).writes.name) (λ is. (decided.broken is).writes.name);
-    faults = either outcome (before.faults ≤ after.faults) (λ whole. (decided.continues whole).writes.faults) (λ is. (decided.broken is).writes.faults);
+    name = either result (after.name ≡ before.name) (λ whole. (grown whole).writes.name) (λ is. (torn is).writes.name);
+    faults = either result (before.faults ≤ after.faults) (λ whole. (grown whole).writes.faults) (λ is. (torn is).writes.faults);
   }

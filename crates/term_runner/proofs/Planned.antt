@@ -1,26 +1,28 @@
 -- The nodes that a plan's moves make are of parts of its terms.
-use Rattle.std.proofs.Common.{◌≡◌, ℕ, zero, suc, ◌<◌, ◌⊎◌, true, false, ◌&&◌, List, [], ◌∷◌, take, Option, None, Some, is_some, Result, Ok, Err, refl, sym, ap, ◌∙◌, subst, arith, inl, inr, eq-eqb, ne_eqb}
-use Rattle.std.specs.Prelude.{IsTrue, IfErr, ◌==◌, if◌then◌else◌}
+use Rattle.std.proofs.Common.{◌≡◌, ℕ, zero, suc, ◌<◌, Bool, true, ◌&&◌, List, [], ◌∷◌, take, Option, None, Some, is_some, nat_cmp, Result, Ok, Err, refl, sym, ap, ◌∙◌, subst, arith, inl, inr, eq-eqb, ne_eqb}
+use Rattle.std.specs.Prelude.{IfErr, ◌==◌, if◌then◌else◌}
 use Rattle.std.specs.List.{slice_get}
 use Rattle.std.specs.Option.{option_and_then}
+use Rattle.std.specs.FinMap as finmap
 use Rattle.std.proofs.lemmas.List.Sums.{position_or_len_is}
 use Rattle.cnf_base.specs.Formula.{Formula}
 use Rattle.lrat_rules.specs.State.{Live}
 use Rattle.node_table.specs.declared.node.Node.{Node}
 use Rattle.node_table.specs.declared.node.Node.TheVariants.{False, True, Inner}
+use Rattle.node_table.specs.declared.node.Branch.{Branch}
 use Rattle.node_table.specs.declared.node.Just.{Just}
 use Rattle.node_table.specs.declared.error.TableError.{TableError}
 use Rattle.node_table.specs.declared.error.TableError.TheVariants.{NodeLimit, OutOfMemory}
 use Rattle.node_table.specs.Diagram.{Graph, IsOrder, IsReduced, KeepsNodes, branch_at, is_node, levels, variable_at}
 use Rattle.node_table.specs.Value.{Levels, branch_value, by_level, value_of, value_within}
-use Rattle.node_table.specs.Made.{LacksPart, MakesOnly}
-use Rattle.node_table.specs.Table.{live_nodes}
-use Rattle.node_table.proofs.Values.{branch_of_node}
+use Rattle.node_table.specs.Made.{LacksPart, MakesOnly, inner}
+use Rattle.node_table.specs.Laws.{Growth}
 use Rattle.schedule_plan.specs.declared.plan.Move.{Move}
 use Rattle.schedule_plan.specs.Plan.{Term, both, Stage, term_holds, after_move, after_moves, no_stage}
 use Rattle.clause_terms.specs.Term.{IsTerm, by_variable}
 use Rattle.apply_and.specs.Conjunction.{conjunction_of}
-use Rattle.term_runner.specs.Needs.{IsPlanned, NeedsMore, RunsShort, term_function, top_function}
+use Rattle.term_runner.specs.Needs.{IsPlanned, KeepsOrMakes, RunsShort, term_function, top_function}
+use Rattle.term_runner.proofs.Parts.{some_of}
 
 -- the nodes look at no other levels than those of the order
 module _ (graph : Graph) (reduced : IsReduced graph) (ordered : IsOrder graph.order) where
@@ -35,7 +37,7 @@ module _ (graph : Graph) (reduced : IsReduced graph) (ordered : IsOrder graph.or
   agree_within steps a b True is same = refl
   agree_within zero a b (Inner key) is same = refl
   agree_within (suc steps) a b (Inner key) is same =
-      let branch = branch_of_node graph key is in
+      let branch = some_of (branch_at graph key.index) is in
       let at = branch.1 in
       let same_high : value_within steps graph a branch.0.high ≡ value_within steps graph b branch.0.high = agree_within steps a b branch.0.high (reduced.high key.index branch.0 at).stands same in
       let same_low : value_within steps graph a branch.0.low ≡ value_within steps graph b branch.0.low = agree_within steps a b branch.0.low (reduced.low key.index branch.0 at).stands same in
@@ -74,52 +76,44 @@ moved_on formula (move ∷ moves) (suc i) step first stage next at front is = go
     go further None e = cc
     go further (Some later) e = further later e
 
-abbrev pub ValueLaw : Type 0
-ValueLaw = (old new : Graph) → IsReduced old → KeepsNodes old new → (a : Levels) (node : Node) → IsTrue (is_node old node) → value_of new a node ≡ value_of old a node
-
--- the nodes made so far, and those of one move more
-pub record AreMade (formula : Formula) (order : List ℕ) (moves : List Move) (old new : Graph) : Type 0 where
-  pub planned : (node : Node) → IsTrue (is_node new node) → IsTrue (is_node old node) ⊎ IsPlanned formula order moves (λ a. value_of new a node)
-
-pub none_made : (formula : Formula) (order : List ℕ) (moves : List Move) (graph : Graph) → AreMade formula order moves graph graph
-none_made formula order moves graph = record { planned = λ node is. inl is }
-
-pub more_made : ValueLaw → (formula : Formula) (order : List ℕ) (moves : List Move) (old mid new : Graph) → IsReduced mid → KeepsNodes mid new → AreMade formula order moves old mid
-    → (count : ℕ) (stage : Stage) → after_moves formula no_stage (take count moves) ≡ Some stage → MakesOnly mid new (top_function formula order stage.stack) → AreMade formula order moves old new
-more_made law formula order moves old mid new reduced keeps before count stage reached made = record {
-  planned = λ node is. elim (made.each node is) [
-    | inr part ↦ inr (record { count = count; stage = stage; reached = reached; is_part = part })
-    | inl there ↦ elim (before.planned node there) [
-      | inl first ↦ inl first
-      | inr part ↦ inr (subst (IsPlanned formula order moves) (λ k a. sym (law mid new reduced keeps a node there) k) part)
-    ]
+-- what was made of a function is kept, or a part of it
+pub keeps_or_makes : Growth → (old new : Graph) (function : Levels → Bool) → IsReduced old → KeepsNodes old new → MakesOnly old new function → KeepsOrMakes old new function
+keeps_or_makes growth old new function reduced keeps made = record {
+  each = λ key branch at. elim (made.each key branch at) [
+    | inl there ↦ inl (there, λ a. growth.value old new reduced keeps a (inner key) (ap is_some there))
+    | inr part ↦ inr part
   ];
 }
 
-pub runs_short : (formula : Formula) (order : List ℕ) (moves : List Move) (old new : Graph) → AreMade formula order moves old new
-    → (count : ℕ) (stage : Stage) → after_moves formula no_stage (take count moves) ≡ Some stage → LacksPart new (top_function formula order stage.stack) → RunsShort formula order moves old new
-runs_short formula order moves old new made count stage reached lacks = record {
+-- the nodes made so far, and those of one move more
+pub record AreMade (formula : Formula) (order : List ℕ) (moves : List Move) (graph : Graph) : Type 0 where
+  pub planned : (key : ℕ) (branch : Branch) → branch_at graph key ≡ Some branch → IsPlanned formula order moves (λ a. value_of graph a (inner key))
+
+pub none_made : (formula : Formula) (order : List ℕ) (moves : List Move) (graph : Graph) → graph.nodes ≡ finmap.empty → AreMade formula order moves graph
+none_made formula order moves graph empty = record {
+  planned = λ key branch at.
+      let e : None ≡ Some branch = sym (finmap.get-empty nat_cmp key) ∙ (λ k. finmap.get (sym empty k) key) ∙ at in absurd (absent branch e);
+}
+  where
+    absent : (branch : Branch) → None ≡ Some branch → ⊥
+    absent branch e = cc
+
+pub more_made : (formula : Formula) (order : List ℕ) (moves : List Move) (old new : Graph) → AreMade formula order moves old → (count : ℕ) (stage : Stage) → after_moves formula no_stage (take count moves) ≡ Some stage
+    → KeepsOrMakes old new (top_function formula order stage.stack) → AreMade formula order moves new
+more_made formula order moves old new before count stage reached made = record {
+  planned = λ key branch at. elim (made.each key branch at) [
+    | inl there ↦ subst (IsPlanned formula order moves) (λ k a. sym (there.1 a) k) (before.planned key branch there.0)
+    | inr part ↦ record { count = count; stage = stage; reached = reached; is_part = part }
+  ];
+}
+
+pub runs_short : (formula : Formula) (order : List ℕ) (moves : List Move) (graph : Graph) → AreMade formula order moves graph → (count : ℕ) (stage : Stage) → after_moves formula no_stage (take count moves) ≡ Some stage
+    → LacksPart graph (top_function formula order stage.stack) → RunsShort formula order moves graph
+runs_short formula order moves graph made count stage reached lacks = record {
   planned = made.planned;
   further = lacks.part;
   is_planned = record { count = count; stage = stage; reached = reached; is_part = lacks.is_part };
   nowhere = lacks.nowhere;
-}
-
--- where there was no node before
-pub needs_more : (formula : Formula) (order : List ℕ) (moves : List Move) (old new : Graph) (number : ℕ) → ((key : ℕ) → branch_at old key ≡ None) → IsReduced new → new.order ≡ order → live_nodes new ≡ number
-    → RunsShort formula order moves old new → NeedsMore formula order moves number
-needs_more formula order moves old new number none reduced in_order live short = record {
-  graph = new;
-  reduced = reduced;
-  in_order = in_order;
-  live = live;
-  planned = λ key branch at. elim (short.planned (Inner (record { index = key })) (ap is_some at)) [
-    | inl there ↦ absurd (let e : true ≡ false = sym there ∙ ap is_some (none key) in cc)
-    | inr part ↦ part
-  ];
-  further = short.further;
-  is_planned = short.is_planned;
-  nowhere = short.nowhere;
 }
 
 -- want of memory is no limit of nodes

@@ -65,17 +65,36 @@ said_after formula a stage next And joins said is =
     same.0 ∙ said ∙ sym (ap (pushed_hold formula a) same.1)
 said_after formula a stage next (Exists x) joins said is = absurd (let e : true ≡ false = joins in cc)
 
-pub said_after_all : (formula : Formula) (a : Assignment) (moves : List Move) (stage last : Stage) → list_any quantifies moves ≡ false → IsSaid formula a stage → after_moves formula stage moves ≡ Some last → IsSaid formula a last
-said_after_all formula a [] stage last joins said is = subst (IsSaid formula a) (inside stage last is) said
+-- what each move keeps, all of them keep
+kept_by_all : (formula : Formula) (P : Stage → Type 0) → ((stage next : Stage) (move : Move) → quantifies move ≡ false → P stage → after_move formula stage move ≡ Some next → P next)
+    → (moves : List Move) (stage last : Stage) → list_any quantifies moves ≡ false → P stage → after_moves formula stage moves ≡ Some last → P last
+kept_by_all formula P each [] stage last joins holds is = subst P (inside stage last is) holds
   where
     inside : (s t : Stage) → Some s ≡ Some t → s ≡ t
     inside s t e = cc
-said_after_all formula a (move ∷ moves) stage last joins said is = go (λ later. said_after_all formula a moves later last (or_parts (quantifies move) _ joins).1) (after_move formula stage move) refl is
+kept_by_all formula P each (move ∷ moves) stage last joins holds is = go (λ later. kept_by_all formula P each moves later last (or_parts (quantifies move) _ joins).1) (after_move formula stage move) refl is
   where
-    go : ((later : Stage) → IsSaid formula a later → after_moves formula later moves ≡ Some last → IsSaid formula a last)
-        → (o : Option Stage) → after_move formula stage move ≡ o → option_and_then (λ later. after_moves formula later moves) o ≡ Some last → IsSaid formula a last
+    go : ((later : Stage) → P later → after_moves formula later moves ≡ Some last → P last)
+        → (o : Option Stage) → after_move formula stage move ≡ o → option_and_then (λ later. after_moves formula later moves) o ≡ Some last → P last
     go rest None at e = cc
-    go rest (Some later) at e = rest later (said_after formula a stage later move (or_parts (quantifies move) _ joins).0 said at) e
+    go rest (Some later) at e = rest later (each stage later move (or_parts (quantifies move) _ joins).0 holds at) e
+
+-- the trail stays empty
+trail_after_and : (stage next : Stage) (stack : List Term) → after_and stage stack ≡ Some next → next.trail ≡ stage.trail
+trail_after_and stage next [] is = cc
+trail_after_and stage next (top ∷ []) is = cc
+trail_after_and stage next (top ∷ below ∷ rest) is = sym (ap (λ (s : Stage). s.trail) (inside _ next is))
+  where
+    inside : (s t : Stage) → Some s ≡ Some t → s ≡ t
+    inside s t e = cc
+
+trail_after : (formula : Formula) (stage next : Stage) (move : Move) → quantifies move ≡ false → stage.trail ≡ [] → after_move formula stage move ≡ Some next → next.trail ≡ []
+trail_after formula stage next (Push i) joins none is = ap (λ (s : Stage). s.trail) (pushed_of formula stage next i is).2 ∙ none
+trail_after formula stage next And joins none is = trail_after_and stage next stage.stack is ∙ none
+trail_after formula stage next (Exists x) joins none is = absurd (let e : true ≡ false = joins in cc)
+
+pub no_trail : (formula : Formula) (moves : List Move) (last : Stage) → list_any quantifies moves ≡ false → after_moves formula no_stage moves ≡ Some last → last.trail ≡ []
+no_trail formula moves last joins is = kept_by_all formula (λ (s : Stage). s.trail ≡ []) (trail_after formula) moves no_stage last joins refl is
 
 -- a pushed clause holds where all do
 holds_at : (formula : Formula) (a : Assignment) (pushed : List ℕ) (i : ℕ) → pushed_hold formula a pushed ≡ true → is_pushed pushed i ≡ true → clause_holds a (clause_of_number formula i) ≡ true
@@ -95,7 +114,7 @@ all_from test (clause ∷ more) each = and_from (test clause) _ (each 0 (omega a
 pub satisfied_by_stack : (formula : Formula) (moves : List Move) (last : Stage) → list_any quantifies moves ≡ false → after_moves formula no_stage moves ≡ Some last
     → ((i : ℕ) → 0 < i → i ≤ length formula.clauses → is_pushed last.pushed i ≡ true) → (a : Assignment) → stack_holds formula a last.stack ≡ true → Satisfies a formula.clauses
 satisfied_by_stack formula moves last joins reached all a holds =
-    let pushed : pushed_hold formula a last.pushed ≡ true = sym (said_after_all formula a moves no_stage last joins refl reached) ∙ holds in
+    let pushed : pushed_hold formula a last.pushed ≡ true = sym (kept_by_all formula (IsSaid formula a) (said_after formula a) moves no_stage last joins refl reached) ∙ holds in
     all_from (clause_holds a) formula.clauses (λ i small. subst (λ (k : ℕ). clause_holds a (slice_index_or formula.clauses k []) ≡ true) (one_less i) (holds_at formula a last.pushed (suc i) pushed (all (suc i) (omega arith) (omega (arith, small)))))
   where
     one_less : (i : ℕ) → suc i - 1 ≡ i
@@ -115,16 +134,7 @@ true_after formula a all stage next (Exists x) joins holds is = absurd (let e : 
 
 pub true_after_all : (formula : Formula) (a : Assignment) → AllHold formula a → (moves : List Move) (stage last : Stage) → list_any quantifies moves ≡ false → stack_holds formula a stage.stack ≡ true
     → after_moves formula stage moves ≡ Some last → stack_holds formula a last.stack ≡ true
-true_after_all formula a all [] stage last joins holds is = subst (λ (s : Stage). stack_holds formula a s.stack ≡ true) (inside stage last is) holds
-  where
-    inside : (s t : Stage) → Some s ≡ Some t → s ≡ t
-    inside s t e = cc
-true_after_all formula a all (move ∷ moves) stage last joins holds is = go (λ later. true_after_all formula a all moves later last (or_parts (quantifies move) _ joins).1) (after_move formula stage move) refl is
-  where
-    go : ((later : Stage) → stack_holds formula a later.stack ≡ true → after_moves formula later moves ≡ Some last → stack_holds formula a last.stack ≡ true)
-        → (o : Option Stage) → after_move formula stage move ≡ o → option_and_then (λ later. after_moves formula later moves) o ≡ Some last → stack_holds formula a last.stack ≡ true
-    go rest None at e = cc
-    go rest (Some later) at e = rest later (true_after formula a all stage later move (or_parts (quantifies move) _ joins).0 holds at) e
+true_after_all formula a all = kept_by_all formula (λ (s : Stage). stack_holds formula a s.stack ≡ true) (true_after formula a all)
 
 pub at_each : (test : List ℤ → Bool) (clauses : List (List ℤ)) → list_all test clauses ≡ true → (i : ℕ) → i < length clauses → test (slice_index_or clauses i []) ≡ true
 at_each test [] all i small = absurd (omega (arith, small))

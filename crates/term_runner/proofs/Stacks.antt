@@ -1,6 +1,6 @@
 -- The stacked terms, as nodes and clauses are added and moves are taken.
 use Rattle.std.proofs.Common.{◌≡◌, ◌≢◌, ℕ, suc, ◌+◌, ◌-◌, ◌≤◌, Bool, true, false, ◌&&◌, ℤ, List, [], ◌∷◌, ◌++◌, length, reverse, Some, Result, Ok, Err, refl, sym, ap, ◌∙◌, subst, arith}
-use Rattle.std.specs.Prelude.{IsTrue, IfOk, slice_index_or}
+use Rattle.std.specs.Prelude.{IfOk, slice_index_or}
 use Rattle.std.proofs.lemmas.List.{reverse-append}
 use Rattle.cnf_base.specs.Truth.{Assignment, clause_holds}
 use Rattle.cnf_base.specs.Formula.{Formula}
@@ -11,14 +11,15 @@ use Rattle.node_table.specs.declared.node.Node.{Node}
 use Rattle.node_table.specs.declared.node.Node.TheVariants.{False}
 use Rattle.node_table.specs.declared.node.Just.{Just}
 use Rattle.node_table.specs.declared.node.Just.TheVariants.{Trivial, Clause}
-use Rattle.node_table.specs.Diagram.{Graph, IsReduced, KeepsNodes, is_node, level_of}
-use Rattle.node_table.specs.Value.{Levels, by_level, value_of}
+use Rattle.node_table.specs.Diagram.{Graph, IsReduced, KeepsNodes, is_node}
+use Rattle.node_table.specs.Value.{by_level, value_of}
 use Rattle.node_table.specs.Defined.{atom_of}
-use Rattle.node_table.specs.Tied.{KeepsClauses, IsTied, Extends}
+use Rattle.node_table.specs.Tied.{KeepsClauses}
 use Rattle.node_table.specs.Just.{IsJustified}
-use Rattle.node_table.specs.Table.{TableState}
-use Rattle.apply_and.specs.Cache.{Entry, Fits}
-use Rattle.apply_and.specs.Conjunction.{Conjoined, conjunction_atoms}
+use Rattle.node_table.specs.Table.{TableState, IsSound, Extends}
+use Rattle.node_table.specs.Laws.{Growth}
+use Rattle.operations.specs.Entries.{Entry, Fits}
+use Rattle.operations.specs.Results.{Conjoined, conjunction_atoms}
 use Rattle.clause_terms.specs.Term.{IsTerm}
 use Rattle.schedule_plan.specs.Plan.{Term, input, both, term_holds}
 use Rattle.term_runner.specs.declared.held.Held.{Held}
@@ -26,13 +27,6 @@ use Rattle.term_runner.specs.Held.{IsHeld, AreHeld, IsReady, top_node}
 use Rattle.term_runner.specs.Recovered.{stack_holds}
 
 -- what stays as nodes and clauses are added
-pub record Growth : Type 0 where
-  pub stands : (old new : Graph) → KeepsNodes old new → (node : Node) → IsTrue (is_node old node) → IsTrue (is_node new node)
-  pub level : (old new : Graph) → KeepsNodes old new → (node : Node) → IsTrue (is_node old node) → level_of new node ≡ level_of old node
-  pub value : (old new : Graph) → IsReduced old → KeepsNodes old new → (a : Levels) (node : Node) → IsTrue (is_node old node) → value_of new a node ≡ value_of old a node
-  pub atom : (old new : Graph) → KeepsNodes old new → (node : Node) → IsTrue (is_node old node) → atom_of new node ≡ atom_of old node
-  pub justified : (old new : Live) → KeepsClauses old new → (atoms : List Atom) (just : Just) → IsJustified old atoms just → IsJustified new atoms just
-
 module _ (growth : Growth) (old new : Graph) (reduced : IsReduced old) (keeps : KeepsNodes old new) (live more : Live) (clauses : KeepsClauses live more) where
   pub justified_kept : (node : Node) → is_node old node ≡ true → (unit : Just) → IsJustified live (atom_of old node ∷ []) unit → IsJustified more (atom_of new node ∷ []) unit
   justified_kept node is unit proved =
@@ -93,11 +87,9 @@ false_refutes graph live node unit is proved = go unit (subst (λ (n : Node). Is
     go (Clause id) e = (id, e.1)
 
 -- the table is ready again after a call that went on
-pub ready_after : {S : Type 0} (formula : Formula) (old new : TableState S) (kept more : List Entry) → IsReady formula old kept → IsTrue new.book.in_step → IsTied new.graph new.book.state
-    → Extends old.graph new.graph old.book.state new.book.state → Fits new.graph new.book.state.live more → IsReady formula new more
-ready_after formula old new kept more ready in_step tied extends fits = record {
-  in_step = in_step;
-  tied = tied;
+pub ready_after : {S : Type 0} (formula : Formula) (old new : TableState S) (kept more : List Entry) → IsReady formula old kept → IsSound new → Extends old new → Fits new more → IsReady formula new more
+ready_after formula old new kept more ready sound extends fits = record {
+  sound = sound;
   fits = fits;
   inputs = λ i small. extends.clauses (i + 1) (slice_index_or formula.clauses i []) (ready.inputs i small);
   vars = ap length extends.nodes.order ∙ ready.vars;
@@ -134,7 +126,7 @@ pub held_one_kept : (growth : Growth) (old new : Graph) → IsReduced old → Ke
 held_one_kept growth old new reduced keeps live more clauses formula held term is =
     record { is = term_kept growth old new reduced keeps live more clauses (λ a. term_holds formula a term) held.node held.unit is.is; not_false = is.not_false }
 
--- an entry of the cache stays right
+-- a conjunction stays right
 module _ (growth : Growth) (old new : Graph) (reduced : IsReduced old) (keeps : KeepsNodes old new) (live more : Live) (clauses : KeepsClauses live more) where
   conjoined_kept : (u v w : Node) (just : Just) → is_node old u ≡ true → is_node old v ≡ true → Conjoined old live u v w just → Conjoined new more u v w just
   conjoined_kept u v w just is_u is_v conjoined = record {
@@ -149,15 +141,6 @@ module _ (growth : Growth) (old new : Graph) (reduced : IsReduced old) (keeps : 
     where
       same : conjunction_atoms old u v w ≡ conjunction_atoms new u v w
       same = (λ k. conjunction (sym (growth.atom old new keeps u is_u) k) (sym (growth.atom old new keeps v is_v) k) (sym (growth.atom old new keeps w conjoined.stands) k))
-
-  pub fits_kept : (kept : List Entry) → Fits old live kept → Fits new more kept
-  fits_kept kept fits = record {
-    each = λ entry has. let e = fits.each entry has in record {
-      first = growth.stands old new keeps entry.u e.first;
-      second = growth.stands old new keeps entry.v e.second;
-      conjoined = conjoined_kept entry.u entry.v entry.w entry.just e.first e.second e.conjoined;
-    };
-  }
 
 -- terms on the stack, though it is empty
 pub none_left : (formula : Formula) (graph : Graph) (live : Live) (old : List Held) → length old ≡ 0 → (term : Term) (terms : List Term) → AreHeld formula graph live (reverse old) (term ∷ terms) → ⊥

@@ -19,10 +19,12 @@ use Rattle.node_table.specs.declared.node.Branch.{Branch}
 use Rattle.node_table.specs.declared.node.Just.{Just}
 use Rattle.node_table.specs.declared.node.Just.TheVariants.{Trivial, Clause}
 use Rattle.node_table.specs.Diagram.{Graph, IsReduced, branch_at, is_node}
-use Rattle.node_table.specs.Value.{Levels, value_of}
+use Rattle.node_table.specs.Value.{value_of}
 use Rattle.node_table.specs.Defined.{atom_of, atom_in}
 use Rattle.node_table.specs.Just.{IsJustified}
-use Rattle.apply_and.specs.Conjunction.{Conjoined, conjunction_atoms}
+use Rattle.node_table.specs.Laws.{Canonical}
+use Rattle.operations.specs.Results.{Conjoined, conjunction_atoms}
+use Rattle.term_runner.proofs.Parts.{some_of}
 
 -- an inner node, with its branch
 pub record IsInner (graph : Graph) (node : Node) : Type 0 where
@@ -34,10 +36,6 @@ pub record IsInner (graph : Graph) (node : Node) : Type 0 where
 
 pub not_both : (b : Bool) → b ≡ true → b ≡ false → ⊥
 not_both b holds fails = cc
-
-some_of : (o : Option Branch) → is_some o ≡ true → (b : Branch) × (o ≡ Some b)
-some_of None is = absurd (let e : false ≡ true = is in cc)
-some_of (Some b) is = (b, refl)
 
 pub inner_of : (graph : Graph) (node : Node) → is_node graph node ≡ true → node ≢ False → node ≢ True → IsInner graph node
 inner_of graph False is not_false not_true = absurd (not_false refl)
@@ -53,9 +51,6 @@ above_zero graph reduced node inner = omega (arith, reduced.above inner.key.inde
 pub apart_of : (graph : Graph) → IsReduced graph → (u v : Node) (one : IsInner graph u) (other : IsInner graph v) → u ≢ v → one.branch.variable ≢ other.branch.variable
 apart_of graph reduced u v one other differ same =
     differ (one.named ∙ (λ k. Inner (record { index = reduced.apart one.key.index other.key.index one.branch other.branch one.stands other.stands same k })) ∙ sym other.named)
-
-abbrev pub Canonical : Type 0
-Canonical = (graph : Graph) → IsReduced graph → (u v : Node) → IsTrue (is_node graph u) → IsTrue (is_node graph v) → ((a : Levels) → value_of graph a u ≡ value_of graph a v) → u ≡ v
 
 and_true_left : (b c : Bool) → (b && c) ≡ true → b ≡ true
 and_true_left true c e = refl

@@ -1,42 +1,58 @@
 -- How a run of a plan ends, over the sink that takes its proof.
-use Rattle.std.specs.Prelude.{◌≡◌, ◌≢◌, ◌≤◌, ℕ, Bool, List, length, Result, Err, IfOk, IsTrue, ⊤}
+use Rattle.std.specs.Prelude.{◌≡◌, ◌≢◌, ◌≤◌, ℕ, Bool, List, length, Result, Ok, Err, Option, None, Some, IfOk, IsOk, IsTrue, ⊤}
 use Rattle.std.specs.List.{list_all}
 use Rattle.cnf_base.specs.Formula.{Formula}
 use Rattle.host_io.specs.Channel.{Channel, Rose}
 use Rattle.schedule_plan.specs.declared.plan.Move.{Move}
-use Rattle.term_runner.specs.declared.error.RunError.{RunError}
-use Rattle.term_runner.specs.declared.error.RunError.TheVariants.{NodeLimit, IdLimit, OutOfMemory, WriteFault}
 use Rattle.schedule_plan.specs.declared.limits.Limits.{Limits}
+use Rattle.node_table.specs.declared.error.TableError.{TableError}
+use Rattle.node_table.specs.declared.error.TableError.TheVariants as table
+use Rattle.term_runner.specs.declared.error.RunError.{RunError}
+use Rattle.term_runner.specs.declared.error.RunError.TheVariants.{OutOfMemory, WriteFault}
 use Rattle.term_runner.specs.declared.outcome.Outcome.{Outcome}
-use Rattle.term_runner.specs.declared.outcome.Outcome.TheVariants.{Unsat, Sat}
+use Rattle.term_runner.specs.declared.outcome.Outcome.TheVariants.{Unsat, Sat, NodeLimit, IdLimit}
 use Rattle.term_runner.specs.declared.outcome.Run.{Run}
 use Rattle.term_runner.specs.Clauses.{is_tautology}
-use Rattle.term_runner.specs.Proofs.{IsProof, IsProofSoFar, LeadsTo, Refutation, NodesAreUsed, NumbersAreUsed}
+use Rattle.term_runner.specs.Proofs.{AreUnsatisfiable, IsProof, IsProofSoFar, LeadsTo, Refutation, NodesAreUsed, NumbersAreUsed}
 use Rattle.term_runner.specs.Recovered.{IsRecovered}
 use Rattle.term_runner.specs.Needs.{NeedsMore}
 
--- the values of a satisfying outcome are recovered
-abbrev pub IsFound : Formula → List ℕ → List Move → Outcome → Type 0
-IsFound formula order moves Unsat = ⊤
-IsFound formula order moves (Sat values) = IsRecovered formula order moves values
+-- What an outcome says of the formula: no assignment satisfies it; these values, which are recovered, do; or the plan
+-- needs more nodes than are allowed.
+abbrev pub Says : Formula → List ℕ → List Move → Limits → Outcome → Type 0
+Says formula order moves limits Unsat = AreUnsatisfiable formula.clauses
+Says formula order moves limits (Sat values) = IsRecovered formula order moves values
+Says formula order moves limits NodeLimit = NeedsMore formula order moves limits.max_nodes
+Says formula order moves limits IdLimit = ⊤
 
--- Unsatisfiable only with a refutation in the proof's very bytes, satisfiable only with the recovered assignment, and
--- undecided only where the bytes show that the limit is reached, and, for nodes, where the plan needs more of them. A
--- write fault is answered exactly where a write or the flush failed. All that was written is a proof, but for a front
--- of one line after a failed write, and flushed unless a write failed or memory ran out. Where all clauses are
--- tautologies nothing is written.
+-- What the very bytes of the proof show of it: a refutation, or that the limit is reached.
+abbrev pub Shows : Formula → Limits → List ℕ → Outcome → Type 0
+Shows formula limits bytes Unsat = Refutation formula.clauses bytes
+Shows formula limits bytes (Sat values) = ⊤
+Shows formula limits bytes NodeLimit = NodesAreUsed formula limits.max_nodes bytes
+Shows formula limits bytes IdLimit = NumbersAreUsed formula limits.max_ids bytes
+
+-- what the moves come to, as an outcome or a failure: a limit is an outcome
+abbrev pub outcome_of : Result (Option (List Bool)) TableError → Result Outcome RunError
+outcome_of (Ok None) = Ok Unsat
+outcome_of (Ok (Some values)) = Ok (Sat values)
+outcome_of (Err table.NodeLimit) = Ok NodeLimit
+outcome_of (Err table.IdLimit) = Ok IdLimit
+outcome_of (Err table.OutOfMemory) = Err OutOfMemory
+outcome_of (Err table.WriteFault) = Err WriteFault
+
+-- An outcome is true of the formula, and shown by the very bytes of the proof. A write fault is answered exactly where a
+-- write or the flush failed. All that was written is a proof within the limits, but for a front of one line after a
+-- failed write, and flushed with an outcome. Where all clauses are tautologies nothing is written.
 pub record Ends (tells : Bool) (before after : Channel) (formula : Formula) (order : List ℕ) (moves : List Move) (limits : Limits) (result : Result Run RunError) : Type 0 where
-  pub unsat : IsTrue tells → IfOk result (λ run. run.outcome ≡ Unsat → Refutation formula.clauses after.written)
-  pub sat : IfOk result (λ run. IsFound formula order moves run.outcome)
-  pub last : IsTrue tells → IfOk result (λ run. LeadsTo formula.clauses after.written run.last_id)
-  pub nodes : result ≡ Err NodeLimit → IsTrue tells → NodesAreUsed formula limits.max_nodes after.written
-  pub needs : result ≡ Err NodeLimit → NeedsMore formula order moves limits.max_nodes
-  pub numbers : result ≡ Err IdLimit → IsTrue tells → NumbersAreUsed formula limits.max_ids after.written
+  pub says : IfOk result (λ run. Says formula order moves limits run.outcome)
+  pub shows : IsTrue tells → IfOk result (λ run. Shows formula limits after.written run.outcome)
+  pub last : IsTrue tells → IfOk result (λ run. LeadsTo formula limits after.written run.last_id)
+  pub whole : result ≢ Err WriteFault → IsTrue tells → IsProof formula limits after.written
+  pub so_far : IsTrue tells → IsProofSoFar formula limits after.written
+  pub flushed : IsOk result → IsTrue tells → after.flushed ≡ length after.written
   pub fault : result ≡ Err WriteFault → Rose before.faults after.faults
   pub unfailed : result ≢ Err WriteFault → after.faults ≡ before.faults
-  pub whole : result ≢ Err WriteFault → IsTrue tells → IsProof formula.clauses after.written
-  pub so_far : IsTrue tells → IsProofSoFar formula.clauses after.written
-  pub flushed : result ≢ Err WriteFault → result ≢ Err OutOfMemory → IsTrue tells → after.flushed ≡ length after.written
   pub tautologies : IsTrue (list_all is_tautology formula.clauses) → after.written ≡ before.written
   pub name : after.name ≡ before.name
   pub faults : before.faults ≤ after.faults

@@ -1,13 +1,12 @@
 -- A run between two moves: the table is ready, and its stack holds the plan's terms.
-use Rattle.std.specs.Prelude.{◌≡◌, ◌≢◌, ◌<◌, ◌+◌, ℕ, List, [], ◌∷◌, length, Some, IsTrue, IsFalse, slice_index_or}
+use Rattle.std.specs.Prelude.{◌≡◌, ◌≢◌, ◌<◌, ◌+◌, ℕ, List, [], ◌∷◌, length, Some, IsFalse, slice_index_or}
 use Rattle.cnf_base.specs.Formula.{Formula}
 use Rattle.lrat_rules.specs.State.{Live, clause_at}
 use Rattle.node_table.specs.declared.node.Node.{Node}
 use Rattle.node_table.specs.declared.node.Node.TheVariants.{False, True}
 use Rattle.node_table.specs.Diagram.{Graph, levels}
-use Rattle.node_table.specs.Tied.{IsTied}
-use Rattle.node_table.specs.Table.{TableState}
-use Rattle.apply_and.specs.Cache.{Entry, Fits}
+use Rattle.node_table.specs.Table.{TableState, IsSound}
+use Rattle.operations.specs.Entries.{Entry, Fits}
 use Rattle.clause_terms.specs.Term.{IsTerm}
 use Rattle.schedule_plan.specs.Plan.{Term, term_holds}
 use Rattle.term_runner.specs.declared.held.Held.{Held}
@@ -30,12 +29,11 @@ abbrev pub top_node : List Held → Node
 top_node [] = True
 top_node (held ∷ stack) = held.node
 
--- The table is tied and in step, the kept conjunctions fit it, and the clauses of the formula, none of them empty, are
--- live under 1, 2, ..
-pub record IsReady {S : Type 0} (formula : Formula) (state : TableState S) (kept : List Entry) : Type 0 where
-  pub in_step : IsTrue state.book.in_step
-  pub tied : IsTied state.graph state.book.state
-  pub fits : Fits state.graph state.book.state.live kept
-  pub inputs : (i : ℕ) → i < length formula.clauses → clause_at state.book.state.live (i + 1) ≡ Some (slice_index_or formula.clauses i [])
-  pub vars : levels state.graph ≡ formula.vars
+-- The table is sound, the kept conjunctions fit it, and the clauses of the formula, none of them empty, are live under
+-- 1, 2, ..
+pub record IsReady {S : Type 0} (formula : Formula) (table : TableState S) (kept : List Entry) : Type 0 where
+  pub sound : IsSound table
+  pub fits : Fits table kept
+  pub inputs : (i : ℕ) → i < length formula.clauses → clause_at table.book.state.live (i + 1) ≡ Some (slice_index_or formula.clauses i [])
+  pub vars : levels table.graph ≡ formula.vars
   pub none_empty : IsFalse (has_empty_clause formula.clauses)

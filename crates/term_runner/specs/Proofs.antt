@@ -1,26 +1,47 @@
--- What the bytes of a proof show: that they are good steps, that they refute the formula, or that a limit is reached.
-use Rattle.std.specs.Prelude.{◌≡◌, ◌⊎◌, ◌<◌, ◌≤◌, ◌+◌, ℕ, ℤ, List, length, IsTrue, IsFalse}
+-- What the bytes of a proof show: that they are exactly the lines of good steps within the limits, that they refute the
+-- formula, or that a limit is reached.
+use Rattle.std.specs.Prelude.{◌≡◌, ◌⊎◌, ◌<◌, ◌≤◌, ◌+◌, ℕ, ℤ, max, List, length, IsTrue, IsFalse}
 use Rattle.std.specs.List.{list_all}
+use Rattle.cnf_base.specs.Truth.{Assignment, Satisfies}
 use Rattle.cnf_base.specs.Formula.{Formula}
 use Rattle.lrat_rules.specs.State.{State}
-use Rattle.lrat_rules.specs.Run.{Spells, Refutes, IsCutProof}
-use Rattle.lrat_rules.specs.Marks.{in_use}
+use Rattle.lrat_rules.specs.Run.{Refutes}
+use Rattle.lrat_rules.specs.Derivation.{IsWritten, IsCutProof}
+use Rattle.lrat_rules.specs.Marks.{IsWithin, in_use}
+use Rattle.schedule_plan.specs.declared.limits.Limits.{Limits}
 use Rattle.term_runner.specs.Clauses.{is_tautology, has_empty_clause, one_line}
 
--- the bytes are whole lines, good steps from the formula's clauses
-pub record IsProof (clauses : List (List ℤ)) (bytes : List ℕ) : Type 0 where
+-- no assignment satisfies the clauses
+abbrev pub AreUnsatisfiable : List (List ℤ) → Type 0
+AreUnsatisfiable clauses = (a : Assignment) → Satisfies a clauses → ⊥
+
+-- The state keeps within the limits of a run: no number is above those of the formula and the greatest allowed, and no
+-- more extension variables are in use than nodes are allowed.
+abbrev pub KeepsWithin : Formula → Limits → State → Type 0
+KeepsWithin formula limits state = IsWithin formula.vars (max (length formula.clauses) limits.max_ids) limits.max_nodes state
+
+-- the bytes are exactly the lines of good steps from the formula's clauses, and keep within the limits
+pub record IsProof (formula : Formula) (limits : Limits) (bytes : List ℕ) : Type 0 where
   pub state : State
-  pub spelled : Spells clauses bytes state
+  pub written : IsWritten formula.clauses bytes state
+  pub within : KeepsWithin formula limits state
+
+-- The same but for the last line, of which a front stands: the limits are kept before it and behind it.
+pub record IsBroken (formula : Formula) (limits : Limits) (bytes : List ℕ) : Type 0 where
+  pub before : State
+  pub after : State
+  pub cut : IsCutProof formula.clauses bytes before after
+  pub within_before : KeepsWithin formula limits before
+  pub within_after : KeepsWithin formula limits after
 
 -- a proof, whole or cut short in its last line
-abbrev pub IsProofSoFar : List (List ℤ) → List ℕ → Type 0
-IsProofSoFar clauses bytes = IsProof clauses bytes ⊎ IsCutProof clauses bytes
+abbrev pub IsProofSoFar : Formula → Limits → List ℕ → Type 0
+IsProofSoFar formula limits bytes = IsProof formula limits bytes ⊎ IsBroken formula limits bytes
 
 -- they are a proof whose greatest number is this one
-pub record LeadsTo (clauses : List (List ℤ)) (bytes : List ℕ) (last : ℕ) : Type 0 where
-  pub state : State
-  pub spelled : Spells clauses bytes state
-  pub top : state.top ≡ last
+pub record LeadsTo (formula : Formula) (limits : Limits) (bytes : List ℕ) (last : ℕ) : Type 0 where
+  pub proof : IsProof formula limits bytes
+  pub top : proof.state.top ≡ last
 
 -- they refute the clauses, by one line where one of them is empty
 pub record Refutation (clauses : List (List ℤ)) (bytes : List ℕ) : Type 0 where
@@ -33,7 +54,7 @@ pub record NodesAreUsed (formula : Formula) (max_nodes : ℕ) (bytes : List ℕ)
   pub none_empty : IsFalse (has_empty_clause formula.clauses)
   pub some_open : IsFalse (list_all is_tautology formula.clauses)
   pub state : State
-  pub spelled : Spells formula.clauses bytes state
+  pub written : IsWritten formula.clauses bytes state
   pub used : in_use formula.vars state ≡ max_nodes
 
 -- The formula has some clause that is no tautology, and the proof's greatest number is less than four below the
@@ -41,6 +62,6 @@ pub record NodesAreUsed (formula : Formula) (max_nodes : ℕ) (bytes : List ℕ)
 pub record NumbersAreUsed (formula : Formula) (max_ids : ℕ) (bytes : List ℕ) : Type 0 where
   pub some_open : IsFalse (list_all is_tautology formula.clauses)
   pub state : State
-  pub spelled : Spells formula.clauses bytes state
+  pub written : IsWritten formula.clauses bytes state
   pub used : max_ids < state.top + 4
   pub at_once : IsTrue (has_empty_clause formula.clauses) → max_ids ≤ length formula.clauses

@@ -1,15 +1,9 @@
-// Why a run ended without an answer.
+// Why a run ended without an outcome.
 use thiserror::Error;
 
-/// Why a plan was not run to its end.
+/// Why a plan was not run to an outcome.
 #[derive(Clone, Copy, Debug, PartialEq, Eq, Error)]
 pub enum RunError {
-    /// The greatest number of nodes is in use.
-    #[error("the nodes are used up")]
-    NodeLimit,
-    /// Fewer than four clause numbers are left.
-    #[error("the clause numbers are used up")]
-    IdLimit,
     #[error("out of memory")]
     OutOfMemory,
     /// The proof could not be written or flushed.

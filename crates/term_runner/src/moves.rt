@@ -3,16 +3,18 @@
 ghost use Rattle.std.specs.Prelude.{◌≡◌, ◌≢◌, ◌≤◌, ◌<◌, ◌+◌, ◌++◌, ℕ, List, [], ◌∷◌, Err, Some, IsTrue, IfOk, IfErr, false, length, reverse};
 ghost use Rattle.lrat_rules.specs.State.{clause_at};
 ghost use Rattle.node_table.specs.declared.node.Node.TheVariants.{False};
-ghost use Rattle.node_table.specs.declared.error.TableError.TheVariants.{NodeLimit, IdLimit, OutOfMemory, WriteFault};
-ghost use Rattle.node_table.specs.Table.{UnlessTorn, live_nodes};
+ghost use Rattle.node_table.specs.declared.error.TableError.TheVariants.{NodeLimit, OutOfMemory};
+ghost use Rattle.node_table.specs.Diagram.{levels};
+ghost use Rattle.node_table.specs.Table.{IsSound, UnlessTorn};
 ghost use Rattle.node_table.specs.Made.{LacksPart, MakesOnly};
-ghost use Rattle.node_table.specs.Progress.{Continues, BreaksOff};
+ghost use Rattle.node_table.specs.Progress.{Leaves, Steps, error_of};
 ghost use Rattle.cnf_base.specs.Formula.{Formula};
-ghost use Rattle.node_table.specs.Tied.{IsTied};
-ghost use Rattle.apply_and.specs.Cache.{Entry, Fits, entries};
+ghost use Rattle.operations.specs.Entries.{Entry, Fits};
+ghost use Rattle.apply_and.specs.Conjunction.{most_additions};
+ghost use Rattle.apply_and.specs.Cache.{entries};
 ghost use Rattle.schedule_plan.specs.Plan.{Stage, Term as TermValue, after_move, both, input};
 ghost use Rattle.term_runner.specs.Moves.{quantifies};
-ghost use Rattle.term_runner.specs.Needs.{term_function, top_function};
+ghost use Rattle.term_runner.specs.Needs.{KeepsOrMakes, term_function, top_function};
 ghost use Rattle.term_runner.specs.Held.{AreHeld, IsReady};
 
 use crate::held::Held;
@@ -21,7 +23,8 @@ use apply_and::{AndCache, and};
 use clause_terms::push_clause;
 use cnf_base::{Cnf, Id};
 use host_io::Sink;
-use node_table::{Just, Node, Table, TableError, growth_law, progress_law};
+use node_table::{Just, Node, Table, TableError, growth_law, steps_law};
+use operations::entry_law;
 use schedule_plan::Move;
 use std::alloc::Global;
 
@@ -41,16 +44,14 @@ pub fn take_move<S: Sink + Drop>(
         → IfOk result (λ refuted. refuted ≡ false → AreHeld formula.now table.new.graph table.new.book.state.live (reverse stack.new.items) next.stack) }
     ensures refuted { IfOk result (λ refuted. IsTrue refuted → (id : ℕ) × (clause_at table.new.book.state.live id ≡ Some [])) }
     ensures ready { UnlessTorn result (IsReady formula.now table.new (entries cache.new)) }
-    ensures continues { UnlessTorn result (Continues S.tells (S.channel table.old.book.sink) (S.channel table.new.book.sink) table.old table.new) }
+    ensures leaves { Leaves S.tells (S.channel table.old.book.sink) (S.channel table.new.book.sink) table.old table.new (error_of result) }
     ensures made { (stage next : Stage) → AreHeld formula.now table.old.graph table.old.book.state.live (reverse stack.old.items) stage.stack → after_move formula.now stage step ≡ Some next
-        → UnlessTorn result (MakesOnly table.old.graph table.new.graph (top_function formula.now table.old.graph.order next.stack)) }
+        → KeepsOrMakes table.old.graph table.new.graph (top_function formula.now table.old.graph.order next.stack) }
     ensures lacks { (stage next : Stage) → AreHeld formula.now table.old.graph table.old.book.state.live (reverse stack.old.items) stage.stack → after_move formula.now stage step ≡ Some next
         → result ≡ Err NodeLimit → LacksPart table.new.graph (top_function formula.now table.old.graph.order next.stack) }
-    ensures node_limit { result ≡ Err NodeLimit → table.new.max_nodes ≤ live_nodes table.new.graph }
-    ensures id_limit { result ≡ Err IdLimit → table.new.book.limit < table.new.book.state.top + 4 }
-    ensures broken { result ≡ Err WriteFault → BreaksOff S.tells (S.channel table.old.book.sink) (S.channel table.new.book.sink) table.old table.new }
     ensures beside { S.beside table.new.book.sink ≡ S.beside table.old.book.sink }
 {
+    entry_law::<S>();
     growth_law();
     match step {
         Move::Push(number) => push(alloc, table, stack, formula, number),
@@ -73,16 +74,14 @@ fn push<S: Sink + Drop>(
     ensures held { (terms : List TermValue) → AreHeld formula.now table.old.graph table.old.book.state.live (reverse stack.old.items) terms
         → IfOk result (λ refuted. refuted ≡ false → AreHeld formula.now table.new.graph table.new.book.state.live (reverse stack.new.items) (input number ∷ terms)) }
     ensures refuted { IfOk result (λ refuted. IsTrue refuted → (id : ℕ) × (clause_at table.new.book.state.live id ≡ Some [])) }
-    ensures continues { UnlessTorn result (Continues S.tells (S.channel table.old.book.sink) (S.channel table.new.book.sink) table.old table.new) }
-    ensures made { UnlessTorn result (MakesOnly table.old.graph table.new.graph (term_function formula.now table.old.graph.order (input number))) }
+    ensures steps { Steps S.tells (S.channel table.old.book.sink) (S.channel table.new.book.sink) table.old table.new 1 (error_of result) }
+    ensures retired { table.new.retired ≡ table.old.retired }
+    ensures made { MakesOnly table.old.graph table.new.graph (term_function formula.now table.old.graph.order (input number)) }
     ensures lacks { result ≡ Err NodeLimit → LacksPart table.new.graph (term_function formula.now table.old.graph.order (input number)) }
-    ensures node_limit { result ≡ Err NodeLimit → table.new.max_nodes ≤ live_nodes table.new.graph }
-    ensures id_limit { result ≡ Err IdLimit → table.new.book.limit < table.new.book.state.top + 4 }
-    ensures broken { result ≡ Err WriteFault → BreaksOff S.tells (S.channel table.old.book.sink) (S.channel table.new.book.sink) table.old table.new }
     ensures beside { S.beside table.new.book.sink ≡ S.beside table.old.book.sink }
 {
     growth_law();
-    formula.is_formula();
+    formula.formula_law();
     let clause = formula.clause(number as usize);
     let found = push_clause(alloc, table, clause, Id(number as u64))?;
     put(stack, found.0, found.1)
@@ -94,26 +93,23 @@ fn conjoin<S: Sink + Drop>(
     cache: &mut AndCache,
     stack: &mut Vec<Held>,
 ) -> Result<bool, TableError>
-    requires in_step { IsTrue table.old.book.in_step }
-    requires tied { IsTied table.old.graph table.old.book.state }
-    requires fits { Fits table.old.graph table.old.book.state.live (entries cache.old) }
+    requires sound { IsSound table.old }
+    requires fits { Fits table.old (entries cache.old) }
     requires two { (formula : Formula) × (one other : TermValue) × (terms : List TermValue) × AreHeld formula table.old.graph table.old.book.state.live (reverse stack.old.items) (other ∷ one ∷ terms) }
     ensures held { (formula : Formula) (one other : TermValue) (terms : List TermValue) → AreHeld formula table.old.graph table.old.book.state.live (reverse stack.old.items) (other ∷ one ∷ terms)
         → IfOk result (λ refuted. refuted ≡ false → AreHeld formula table.new.graph table.new.book.state.live (reverse stack.new.items) (both one other ∷ terms)) }
     ensures refuted { IfOk result (λ refuted. IsTrue refuted → (id : ℕ) × (clause_at table.new.book.state.live id ≡ Some [])) }
-    ensures continues { UnlessTorn result (Continues S.tells (S.channel table.old.book.sink) (S.channel table.new.book.sink) table.old table.new) }
-    ensures fits { UnlessTorn result (Fits table.new.graph table.new.book.state.live (entries cache.new)) }
+    ensures steps { Steps S.tells (S.channel table.old.book.sink) (S.channel table.new.book.sink) table.old table.new (most_additions (levels table.old.graph) + 1) (error_of result) }
+    ensures fits { UnlessTorn result (Fits table.new (entries cache.new)) }
     ensures made { (formula : Formula) (one other : TermValue) (terms : List TermValue) → AreHeld formula table.old.graph table.old.book.state.live (reverse stack.old.items) (other ∷ one ∷ terms)
-        → UnlessTorn result (MakesOnly table.old.graph table.new.graph (term_function formula table.old.graph.order (both one other))) }
+        → MakesOnly table.old.graph table.new.graph (term_function formula table.old.graph.order (both one other)) }
     ensures lacks { (formula : Formula) (one other : TermValue) (terms : List TermValue) → AreHeld formula table.old.graph table.old.book.state.live (reverse stack.old.items) (other ∷ one ∷ terms)
         → result ≡ Err NodeLimit → LacksPart table.new.graph (term_function formula table.old.graph.order (both one other)) }
-    ensures node_limit { result ≡ Err NodeLimit → table.new.max_nodes ≤ live_nodes table.new.graph }
-    ensures id_limit { result ≡ Err IdLimit → table.new.book.limit < table.new.book.state.top + 4 }
-    ensures broken { result ≡ Err WriteFault → BreaksOff S.tells (S.channel table.old.book.sink) (S.channel table.new.book.sink) table.old table.new }
     ensures beside { S.beside table.new.book.sink ≡ S.beside table.old.book.sink }
 {
     growth_law();
-    progress_law::<S>();
+    steps_law::<S>();
+    entry_law::<S>();
     let Some(v) = stack.pop() else {
         unreachable!();
     };

@@ -10,12 +10,12 @@ use crate::decide::decide;
 use crate::error::RunError;
 use crate::finish::{finish, refute};
 use crate::open::first_empty;
-use crate::outcome::Run;
+use crate::outcome::{Run, outcome_of};
 use clause_ledger::{Ledger, start_clauses};
 use cnf_base::Cnf;
 use host_io::Sink;
-use lrat_rules::{refuted_law, start_law};
-use node_table::{Diagram, Table, in_use_law, opening_law};
+use lrat_rules::{derivation_law, marks_law, soundness_law, start_law};
+use node_table::{Diagram, Table, canonical_law, in_use_law, opening_law};
 use schedule_plan::{Limits, Order, Plan};
 use std::alloc::Global;
 
@@ -60,8 +60,13 @@ pub fn run_plan_into<S: Sink + Drop>(
     ensures beside { S.beside sink.new ≡ S.beside sink.old }
 {
     start_law();
-    refuted_law();
-    formula.is_formula();
+    derivation_law();
+    soundness_law();
+    marks_law();
+    opening_law();
+    in_use_law();
+    canonical_law();
+    formula.formula_law();
     let Ok(live) = start_clauses(alloc, formula) else {
         return Err(RunError::OutOfMemory);
     };
@@ -75,13 +80,11 @@ pub fn run_plan_into<S: Sink + Drop>(
         let _sink = ledger.close();
         return Err(RunError::OutOfMemory);
     };
-    opening_law();
-    in_use_law();
     let mut table = Table::new(ledger, diagram, limits.max_nodes);
-    let outcome = decide(alloc, &mut table, formula, plan, limits.cache);
-    let _ = table.live();
+    let found = decide(alloc, &mut table, formula, plan, limits.cache);
+    table.table_law();
     let mut ledger = table.into_ledger();
-    let result = finish(&mut ledger, outcome);
+    let result = finish(&mut ledger, outcome_of(found));
     let _sink = ledger.close();
     result
 }

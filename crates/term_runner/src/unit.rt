@@ -5,21 +5,20 @@ ghost use Rattle.node_table.specs.declared.node.Node.TheVariants.{False, True};
 ghost use Rattle.node_table.specs.declared.node.Just.TheVariants.{Trivial, Clause};
 ghost use Rattle.lrat_rules.specs.Strict.{RefutesStrictly};
 ghost use Rattle.hint_chain.specs.Atoms.{clause_of};
-ghost use Rattle.node_table.specs.declared.error.TableError.TheVariants.{NodeLimit, IdLimit, WriteFault};
+ghost use Rattle.node_table.specs.declared.error.TableError.TheVariants.{NodeLimit};
 ghost use Rattle.node_table.specs.Defined.{atom_of};
 ghost use Rattle.node_table.specs.Diagram.{is_node};
 ghost use Rattle.node_table.specs.Just.{IsJustified};
-ghost use Rattle.node_table.specs.Table.{UnlessTorn};
-ghost use Rattle.node_table.specs.Tied.{IsTied};
-ghost use Rattle.node_table.specs.Progress.{Continues, BreaksOff};
-ghost use Rattle.apply_and.specs.Conjunction.{Conjoined};
+ghost use Rattle.node_table.specs.Table.{IsSound};
+ghost use Rattle.node_table.specs.Progress.{Steps, error_of};
+ghost use Rattle.operations.specs.Results.{Conjoined};
 
 use crate::held::Held;
 use cnf_base::Id;
 use hint_chain::{clause_law, following_unit_law};
 use host_io::Sink;
 use lrat_rules::live_law;
-use node_table::{Just, Node, Table, TableError, canonical_law, progress_law};
+use node_table::{Just, Node, Table, TableError, canonical_law, steps_law};
 
 /// The unit of the node w, which is the conjunction of both terms' nodes.
 pub fn unit_of<S: Sink + Drop>(
@@ -29,8 +28,7 @@ pub fn unit_of<S: Sink + Drop>(
     w: Node,
     just: &Just,
 ) -> Result<Just, TableError>
-    requires in_step { IsTrue table.old.book.in_step }
-    requires tied { IsTied table.old.graph table.old.book.state }
+    requires sound { IsSound table.old }
     requires first { IsTrue (is_node table.old.graph u.now.node) }
     requires second { IsTrue (is_node table.old.graph v.now.node) }
     requires first_open { u.now.node ≢ False }
@@ -43,13 +41,12 @@ pub fn unit_of<S: Sink + Drop>(
     ensures own { (w ≡ u.now.node) ⊎ (w ≡ v.now.node) → table.new ≡ table.old }
     ensures number { w ≢ u.now.node → w ≢ v.now.node → IfOk result (λ unit. (unit ≡ Clause (table.old.book.state.top + 1)) × (table.new.book.state.top ≡ table.old.book.state.top + 1)) }
     ensures nodes { table.new.graph ≡ table.old.graph }
-    ensures continues { UnlessTorn result (Continues S.tells (S.channel table.old.book.sink) (S.channel table.new.book.sink) table.old table.new) }
+    ensures steps { Steps S.tells (S.channel table.old.book.sink) (S.channel table.new.book.sink) table.old table.new 1 (error_of result) }
+    ensures retired { table.new.retired ≡ table.old.retired }
     ensures no_node_limit { result ≢ Err NodeLimit }
-    ensures id_limit { result ≡ Err IdLimit → table.new.book.limit < table.new.book.state.top + 4 }
-    ensures broken { result ≡ Err WriteFault → BreaksOff S.tells (S.channel table.old.book.sink) (S.channel table.new.book.sink) table.old table.new }
     ensures beside { S.beside table.new.book.sink ≡ S.beside table.old.book.sink }
 {
-    progress_law::<S>();
+    steps_law::<S>();
     canonical_law();
     clause_law();
     following_unit_law();
@@ -89,18 +86,16 @@ fn clause_id(just: &Just) -> Option<Id>
 
 // Adds the clause of a node alone, the empty one where it is False.
 fn add_unit<S: Sink + Drop>(table: &mut Table<S>, w: Node, hints: &[Id]) -> Result<Just, TableError>
-    requires in_step { IsTrue table.old.book.in_step }
-    requires tied { IsTied table.old.graph table.old.book.state }
+    requires sound { IsSound table.old }
     requires stands { IsTrue (is_node table.old.graph w) }
     requires not_true { w ≢ True }
     requires strict { (clause : List ℤ) → clause_of (atom_of table.old.graph w ∷ []) ≡ Some clause → RefutesStrictly table.old.book.state.live clause hints.now }
     ensures unit { IfOk result (λ unit. IsJustified table.new.book.state.live (atom_of table.old.graph w ∷ []) unit) }
     ensures number { IfOk result (λ unit. (unit ≡ Clause (table.old.book.state.top + 1)) × (table.new.book.state.top ≡ table.old.book.state.top + 1)) }
     ensures nodes { table.new.graph ≡ table.old.graph }
-    ensures continues { UnlessTorn result (Continues S.tells (S.channel table.old.book.sink) (S.channel table.new.book.sink) table.old table.new) }
+    ensures steps { Steps S.tells (S.channel table.old.book.sink) (S.channel table.new.book.sink) table.old table.new 1 (error_of result) }
+    ensures retired { table.new.retired ≡ table.old.retired }
     ensures no_node_limit { result ≢ Err NodeLimit }
-    ensures id_limit { result ≡ Err IdLimit → table.new.book.limit < table.new.book.state.top + 4 }
-    ensures broken { result ≡ Err WriteFault → BreaksOff S.tells (S.channel table.old.book.sink) (S.channel table.new.book.sink) table.old table.new }
     ensures beside { S.beside table.new.book.sink ≡ S.beside table.old.book.sink }
 {
     live_law();

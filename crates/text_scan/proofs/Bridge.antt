@@ -7,8 +7,8 @@ use Rattle.std.specs.List.{filter, flat_map, list_any}
 use Rattle.cnf_base.specs.Text.{Word, Row, is_blank, is_line_end, has_bytes, pieces, begin_with, words_of, begins_with, row_of, rows_from, words_of_row, tokens, line_ends, end_line}
 use Rattle.text_scan.specs.declared.lexer.Mode.{Mode}
 use Rattle.text_scan.specs.declared.lexer.Mode.TheVariants.{LineStart, Comment, Words}
-use Rattle.text_scan.specs.Items.{Items, the_end, too_long, words_then, kept, ended_part, items}
-use Rattle.text_scan.specs.Lexer.{Lex, lex_start, items_from, after, word_with, given_at, word_then}
+use Rattle.text_scan.specs.Items.{Items, the_end, too_long, words_then, kept, ended_part, items_of_front, items}
+use Rattle.text_scan.specs.Lexer.{Lex, lex_start, items_from, front_from, after, word_with, given_at, word_then}
 
 -- Where in a line the next byte stands; of a token that has begun all its bytes.
 data Place : Type 0 where
@@ -311,6 +311,15 @@ ended_words_start comment bytes = elim (list_any is_blank bytes) as (λ b. list_
   | true ↦ λ some. rw (some) (sym (text_start comment 1 (ended_part bytes)))
   | false ↦ λ none. rw (none, ended_part-none bytes none) refl
 ] refl
+
+front_run : (bytes : List ℕ) (lex : Lex) → front_from lex bytes ≡ run lex bytes over
+front_run [] lex = refl
+front_run (byte ∷ bytes) lex = ap (given_at lex byte) (front_run bytes (after lex byte))
+
+pub front_from-start : (comment : ℕ) (bytes : List ℕ) → front_from (lex_start comment) bytes ≡ items_of_front comment bytes
+front_from-start comment bytes =
+    let e : (n : ℕ) → 1 + n ≡ n + 1 = λ n. omega arith in
+    front_run bytes (lex_start comment) ∙ run_over comment bytes at_start 1 ∙ rw (e (line_ends bytes), ended_words_start comment bytes) refl
 
 pub items_from-start : (comment limit : ℕ) (bytes : List ℕ) → items_from (lex_start comment) limit bytes ≡ items comment limit bytes
 items_from-start comment limit bytes =

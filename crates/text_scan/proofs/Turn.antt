@@ -4,7 +4,7 @@ use Rattle.std.specs.Prelude.{◌==◌, ◌&&◌, if◌then◌else◌}
 use Rattle.cnf_base.specs.Text.{is_blank, is_line_end, has_bytes}
 use Rattle.text_scan.specs.declared.lexer.Mode.TheVariants.{LineStart}
 use Rattle.text_scan.specs.Items.{Items, too_long, next_word}
-use Rattle.text_scan.specs.Lexer.{Lex, items_from, after, after_letter, ends_word, given_at, word_then}
+use Rattle.text_scan.specs.Lexer.{Lex, items_from, front_from, after, after_letter, ends_word, given_at, word_then}
 use Rattle.text_scan.specs.Scan.{Scan}
 use Rattle.text_scan.specs.Block.{IsBlock}
 use Rattle.text_scan.proofs.Block.{drop-take_cons}
@@ -12,6 +12,7 @@ use Rattle.text_scan.proofs.Block.{drop-take_cons}
 -- the items from here on are those from the old state on
 pub record IsTurn (old : Scan) (lex : Lex) (room : ℕ) (unread : List ℕ) : Type 0 where
   pub same : (more : List ℕ) → items_from old.lex old.room (old.unread ++ more) ≡ items_from lex room (unread ++ more)
+  pub front : (more : List ℕ) → front_from old.lex (old.unread ++ more) ≡ front_from lex (unread ++ more)
   pub count : room + length old.unread ≡ old.room + length unread
   pub shorter : length unread ≤ length old.unread
 
@@ -40,6 +41,13 @@ pub ending_byte : (lex : Lex) (room byte : ℕ) (bytes : List ℕ) → 0 < room 
 ending_byte lex room byte bytes some ends =
     under room (too_long lex.line) (given_at lex byte (items_from (after lex byte) (room - 1) bytes)) some
     ∙ ending_given (is_blank byte) lex.word lex.line (items_from (after lex byte) (room - 1) bytes) ends
+
+-- the same in the front of a longer text
+pub quiet_front : (lex : Lex) (byte : ℕ) (bytes : List ℕ) → ends_word lex byte ≡ false → front_from lex (byte ∷ bytes) ≡ front_from (after lex byte) bytes
+quiet_front lex byte bytes quiet = quiet_given (is_blank byte) lex.word lex.line (front_from (after lex byte) bytes) quiet
+
+pub ending_front : (lex : Lex) (byte : ℕ) (bytes : List ℕ) → ends_word lex byte ≡ true → front_from lex (byte ∷ bytes) ≡ next_word (record { bytes = lex.word; line = lex.line }) (front_from (after lex byte) bytes)
+ending_front lex byte bytes ends = ending_given (is_blank byte) lex.word lex.line (front_from (after lex byte) bytes) ends
 
 -- a byte is at most one more line
 pub line-after : (lex : Lex) (byte : ℕ) → (after lex byte).line ≤ lex.line + 1
@@ -74,6 +82,10 @@ module _ (old : Scan) (lex : Lex) (block : List ℕ) (at stop end room : ℕ) (t
         ∙ ap (λ bytes. items_from lex (room - at) (bytes ++ more)) cut
         ∙ quiet_byte lex (room - at) (get_or block at 0) (drop (at + 1) (take end block) ++ more) some_room quiet
         ∙ rw (room_left, is) refl;
+    front = λ more. turn.front more
+        ∙ ap (λ bytes. front_from lex (bytes ++ more)) cut
+        ∙ quiet_front lex (get_or block at 0) (drop (at + 1) (take end block) ++ more) quiet
+        ∙ rw is refl;
     count = counted;
     shorter = (let longer = ap length cut in omega (arith, longer, turn.shorter));
   }
@@ -85,6 +97,13 @@ module _ (old : Scan) (lex : Lex) (block : List ℕ) (at stop end room : ℕ) (t
       ∙ ap (λ bytes. items_from lex (room - at) (bytes ++ more)) cut
       ∙ ending_byte lex (room - at) (get_or block at 0) (drop (at + 1) (take end block) ++ more) some_room ends
       ∙ rw (room_left, is) refl
+
+  pub turn_ends_front : (next : Lex) → next ≡ after lex (get_or block at 0) → ends_word lex (get_or block at 0) ≡ true → (more : List ℕ) → front_from old.lex (old.unread ++ more)
+      ≡ next_word (record { bytes = lex.word; line = lex.line }) (front_from next (drop (at + 1) (take end block) ++ more))
+  turn_ends_front next is ends more = turn.front more
+      ∙ ap (λ bytes. front_from lex (bytes ++ more)) cut
+      ∙ ending_front lex (get_or block at 0) (drop (at + 1) (take end block) ++ more) ends
+      ∙ rw is refl
 
   pub less_room : room - (at + 1) < old.room
   less_room =

@@ -7,11 +7,11 @@ use Rattle.cnf_base.specs.Text.{Word, is_blank, is_line_end, has_bytes}
 use Rattle.text_scan.specs.declared.lexer.Mode.{Mode}
 use Rattle.text_scan.specs.declared.lexer.Mode.TheVariants.{LineStart, Comment, Words}
 use Rattle.text_scan.specs.Items.{next_word}
-use Rattle.text_scan.specs.Lexer.{Lex, items_from, after, begins_word, is_words, mode_with}
+use Rattle.text_scan.specs.Lexer.{Lex, items_from, front_from, after, begins_word, is_words, mode_with}
 use Rattle.text_scan.specs.Scan.{Scan}
 use Rattle.text_scan.specs.Block.{IsWordAhead}
 use Rattle.text_scan.proofs.Block.{take_take}
-use Rattle.text_scan.proofs.Turn.{quiet_byte, ending_byte}
+use Rattle.text_scan.proofs.Turn.{quiet_byte, ending_byte, quiet_front, ending_front}
 use Rattle.text_scan.proofs.Bridge.{blank_end, word_with-take}
 
 -- in a token of these bytes
@@ -51,6 +51,17 @@ letters_run (byte ∷ letters) comment line room word xs none fits =
     ∙ ap (λ lex. items_from lex (room - 1) (letters ++ xs)) (letter_in_word comment line word byte other)
     ∙ letters_run letters comment line (room - 1) (word ++ byte ∷ []) xs rest (omega arith)
     ∙ rw (e, append_assoc word (byte ∷ []) letters) refl
+
+letters_front : (letters : List ℕ) (comment line : ℕ) (word xs : List ℕ) → list_any is_blank letters ≡ false →
+    front_from (in_word comment line word) (letters ++ xs) ≡ front_from (in_word comment line (word ++ letters)) xs
+letters_front [] comment line word xs none = rw (append-nil word) refl
+letters_front (byte ∷ letters) comment line word xs none =
+    let other : is_blank byte ≡ false = or_left (is_blank byte) (list_any is_blank letters) none in
+    let rest : list_any is_blank letters ≡ false = or_right (is_blank byte) (list_any is_blank letters) none in
+    quiet_front (in_word comment line word) byte (letters ++ xs) (quiet byte (take 65 word) other)
+    ∙ ap (λ lex. front_from lex (letters ++ xs)) (letter_in_word comment line word byte other)
+    ∙ letters_front letters comment line (word ++ byte ∷ []) xs rest
+    ∙ rw (append_assoc word (byte ∷ []) letters) refl
 
 no_word : (word : List ℕ) → has_bytes word ≡ false → word ≡ []
 no_word [] none = refl
@@ -103,6 +114,22 @@ token_run lex byte letters blank room xs begins none is_one fits =
     ∙ ending_byte (in_word lex.comment lex.line (byte ∷ letters)) (room - 1 - length letters) blank xs (omega arith) (rw is_one refl)
     ∙ rw (e, after_blank lex.comment lex.line Words (take 65 (byte ∷ letters)) lex.word blank is_one) refl
 
+pub token_front : (lex : Lex) (byte : ℕ) (letters : List ℕ) (blank : ℕ) (xs : List ℕ) → begins_word lex byte ≡ true → list_any is_blank letters ≡ false → is_blank blank ≡ true →
+    front_from lex (byte ∷ (letters ++ blank ∷ xs))
+    ≡ next_word (record { bytes = take 65 (byte ∷ letters); line = lex.line }) (front_from (after (record { comment = lex.comment; mode = Words; line = lex.line; word = lex.word }) blank) xs)
+token_front lex byte letters blank xs begins none is_one =
+    quiet_front lex byte (letters ++ blank ∷ xs) (quiet byte lex.word (begins_other lex byte begins))
+    ∙ ap (λ l. front_from l (letters ++ blank ∷ xs)) (first_letter lex byte begins)
+    ∙ letters_front letters lex.comment lex.line (byte ∷ []) (blank ∷ xs) none
+    ∙ ending_front (in_word lex.comment lex.line (byte ∷ letters)) blank xs (rw is_one refl)
+    ∙ rw (after_blank lex.comment lex.line Words (take 65 (byte ∷ letters)) lex.word blank is_one) refl
+
+-- the token and the blank behind it stand at the front of what is unread
+cut_at_blank : (len : ℕ) (bytes more : List ℕ) → len < length bytes → bytes ++ more ≡ take len bytes ++ (get_or bytes len 0 ∷ (drop (suc len) bytes ++ more))
+cut_at_blank len bytes more within =
+    let split : bytes ≡ take len bytes ++ (get_or bytes len 0 ∷ drop (suc len) bytes) = sym (take-append-drop len bytes) ∙ ap (λ (l : List ℕ). take len bytes ++ l) (drop-cons bytes len 0 within) in
+    ap (λ (l : List ℕ). l ++ more) split ∙ append_assoc (take len bytes) (get_or bytes len 0 ∷ drop (suc len) bytes) more
+
 -- the same of what is unread
 unread_run : (lex : Lex) (room len : ℕ) (unread : List ℕ) → begins_word lex (get_or unread 0 0) ≡ true → list_any is_blank (take len unread) ≡ false → len < length unread → is_blank (get_or unread len 0) ≡ true → len < room → (more : List ℕ) →
     items_from lex room (unread ++ more)
@@ -112,15 +139,27 @@ unread_run lex room len [] begins none within is_one under more = absurd (omega 
 unread_run lex room zero (byte ∷ bytes) begins none within is_one under more = let other : is_blank byte ≡ false = begins_other lex byte begins in cc
 unread_run lex room (suc len) (byte ∷ bytes) begins none within is_one under more =
     let rest : list_any is_blank (take len bytes) ≡ false = or_right (is_blank byte) (list_any is_blank (take len bytes)) none in
-    let split : bytes ≡ take len bytes ++ (get_or bytes len 0 ∷ drop (suc len) bytes) = sym (take-append-drop len bytes) ∙ ap (λ (l : List ℕ). take len bytes ++ l) (drop-cons bytes len 0 (omega arith)) in
     let count : length (take len bytes) ≡ len = length-take len bytes ∙ omega arith in
-    let whole : bytes ++ more ≡ take len bytes ++ (get_or bytes len 0 ∷ (drop (suc len) bytes ++ more)) =
-    ap (λ (l : List ℕ). l ++ more) split ∙ append_assoc (take len bytes) (get_or bytes len 0 ∷ drop (suc len) bytes) more in
+    let whole : bytes ++ more ≡ take len bytes ++ (get_or bytes len 0 ∷ (drop (suc len) bytes ++ more)) = cut_at_blank len bytes more (omega arith) in
     let e : suc len + 1 ≡ suc (suc len) = omega arith in
     let f : room - (length (take len bytes) + 2) ≡ room - suc (suc len) = omega (arith, count) in
     ap (λ (l : List ℕ). items_from lex room (byte ∷ l)) whole
     ∙ token_run lex byte (take len bytes) (get_or bytes len 0) room (drop (suc len) bytes ++ more) begins rest is_one (omega (arith, count))
     ∙ rw (e, f) refl
+
+unread_front : (lex : Lex) (len : ℕ) (unread : List ℕ) → begins_word lex (get_or unread 0 0) ≡ true → list_any is_blank (take len unread) ≡ false → len < length unread → is_blank (get_or unread len 0) ≡ true → (more : List ℕ) →
+    front_from lex (unread ++ more)
+    ≡ next_word (record { bytes = take 65 (take len unread); line = lex.line })
+    (front_from (after (record { comment = lex.comment; mode = Words; line = lex.line; word = lex.word }) (get_or unread len 0)) (drop (len + 1) unread ++ more))
+unread_front lex len [] begins none within is_one more = absurd (omega arith)
+unread_front lex zero (byte ∷ bytes) begins none within is_one more = let other : is_blank byte ≡ false = begins_other lex byte begins in cc
+unread_front lex (suc len) (byte ∷ bytes) begins none within is_one more =
+    let rest : list_any is_blank (take len bytes) ≡ false = or_right (is_blank byte) (list_any is_blank (take len bytes)) none in
+    let whole : bytes ++ more ≡ take len bytes ++ (get_or bytes len 0 ∷ (drop (suc len) bytes ++ more)) = cut_at_blank len bytes more (omega arith) in
+    let e : suc len + 1 ≡ suc (suc len) = omega arith in
+    ap (λ (l : List ℕ). front_from lex (byte ∷ l)) whole
+    ∙ token_front lex byte (take len bytes) (get_or bytes len 0) (drop (suc len) bytes ++ more) begins rest is_one
+    ∙ rw e refl
 
 -- a whole token in a block is one step
 pub block_run : (scan : Scan) (lex : Lex) (block : List ℕ) (at end room len : ℕ) (word : Word) (next : Lex) → IsWordAhead scan word len → scan.lex ≡ lex → scan.unread ≡ drop at (take end block) → scan.room ≡ room - at → end ≤ length block
@@ -134,6 +173,17 @@ block_run scan lex block at end room len word next is lex_is unread_is room_is f
     let left : scan.room - (len + 1) ≡ room - (at + (len + 1)) = omega arith in
     unread_run scan.lex scan.room len scan.unread is.begins is.letters is.within is.blank is.under more
     ∙ rw (is.word_is, next_is, same, rest, left, lex_is) refl
+
+pub block_front : (scan : Scan) (lex : Lex) (block : List ℕ) (at end len : ℕ) (word : Word) (next : Lex) → IsWordAhead scan word len → scan.lex ≡ lex → scan.unread ≡ drop at (take end block) → end ≤ length block
+    → next ≡ after (record { comment = lex.comment; mode = Words; line = lex.line; word = lex.word }) (get_or block (at + len) 0) → (more : List ℕ) →
+    front_from scan.lex (scan.unread ++ more) ≡ next_word word (front_from next (drop (at + (len + 1)) (take end block) ++ more))
+block_front scan lex block at end len word next is lex_is unread_is fits next_is more =
+    let size : length scan.unread ≡ min end (length block) - at = ap length unread_is ∙ length-drop at (take end block) ∙ ap (λ n. n - at) (length-take end block) in
+    let within : at + len < end = omega (arith, is.within, size) in
+    let same : get_or scan.unread len 0 ≡ get_or block (at + len) 0 = ap (λ (l : List ℕ). get_or l len 0) unread_is ∙ get_or-drop at (take end block) len 0 ∙ get_or-take end block (at + len) 0 within in
+    let rest : drop (len + 1) scan.unread ≡ drop (at + (len + 1)) (take end block) = ap (drop (len + 1)) unread_is ∙ drop-drop (len + 1) at (take end block) in
+    unread_front scan.lex len scan.unread is.begins is.letters is.within is.blank more
+    ∙ rw (is.word_is, next_is, same, rest, lex_is) refl
 
 -- what is known of a window of the block is known of what is unread
 module _ (block : List ℕ) (at stop end len : ℕ) (before : at ≤ stop) (inside : stop ≤ end) (fits : end ≤ length block) (within : len < length (take (stop - at) (drop at block))) where

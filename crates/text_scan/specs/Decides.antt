@@ -28,6 +28,9 @@ pub record OnlyReads (old new : Channel) : Type 0 where
 
 -- The laws by which a reader joins its calls.
 
+pub gained-none : (channel : Channel) → gained channel channel ≡ []
+gained-none channel = ap (drop (length channel.taken)) (sym (append-nil channel.taken)) ∙ drop-append_seam channel.taken []
+
 pub OnlyReads-then : {a b c : Channel} → OnlyReads a b → OnlyReads b c → OnlyReads a c
 OnlyReads-then p q = record {
   written = q.written ∙ p.written;
@@ -83,6 +86,18 @@ Decides-then {a} {b} {c} {P} {Q} R first second joins =
     ap (λ (l : List ℕ). l ++ more) (front_nil h c.left empty) ∙ may (back_nil h c.left empty)
     in
     subst (λ (l : List ℕ). R l more) (sym (append_assoc g h more)) (joins (g ++ (h ++ more)) (h ++ more) more (first.holds (h ++ more) follows) (second.holds more may)))
+
+-- the bytes of one call after another
+pub gained-then : {a b c : Channel} {P Q : List ℕ → List ℕ → Type 0} → Decides a b P → Decides b c Q → gained a c ≡ gained a b ++ gained b c
+gained-then {a} {b} {c} first second =
+    ap (drop (length a.taken)) (second.taken ∙ ap (λ (l : List ℕ). l ++ gained b c) first.taken ∙ append_assoc a.taken (gained a b) (gained b c))
+    ∙ drop-append_seam a.taken (gained a b ++ gained b c)
+
+-- what is said of the bytes of the first call with any behind them, and of those behind them
+pub front-then : {T : Type 0} {a b c : Channel} {P Q : List ℕ → List ℕ → Type 0} (f g h : List ℕ → T) → Decides a b P → Decides b c Q
+    → ((more : List ℕ) → f (gained a b ++ more) ≡ g more) → ((more : List ℕ) → g (gained b c ++ more) ≡ h more) → (more : List ℕ) → f (gained a c ++ more) ≡ h more
+front-then {T} {a} {b} {c} f g h first second old new more =
+    ap (λ (l : List ℕ). f (l ++ more)) (gained-then first second) ∙ ap f (append_assoc (gained a b) (gained b c) more) ∙ old (gained b c ++ more) ∙ new more
 
 -- it holds of the whole text
 pub Decides-whole : {old new : Channel} {P : List ℕ → List ℕ → Type 0} → Decides old new P → P old.left new.left

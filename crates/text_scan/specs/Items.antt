@@ -25,10 +25,14 @@ abbrev pub ended_part : List ℕ → List ℕ
 ended_part [] = []
 ended_part (byte ∷ bytes) = if list_any is_blank (byte ∷ bytes) then byte ∷ ended_part bytes else []
 
--- The items of a text. One of more bytes than the limit is judged by as many bytes as the limit says, and a
--- token with no byte after it among those isn't given.
+-- The items of the front of a longer text. A token with no byte after it in the front isn't given, and in the place
+-- of what comes after them stands 'too long'.
+abbrev pub items_of_front : ℕ → List ℕ → Items
+items_of_front comment bytes = words_then (map kept (tokens comment (ended_part bytes))) (too_long (end_line bytes))
+
+-- The items of a text. One of more bytes than the limit is judged by as many bytes as the limit says.
 abbrev pub items : ℕ → ℕ → List ℕ → Items
 items comment limit bytes =
     if nat_le (length bytes) limit
     then words_then (map kept (tokens comment bytes)) (the_end (end_line bytes))
-    else words_then (map kept (tokens comment (ended_part (take limit bytes)))) (too_long (end_line (take limit bytes)))
+    else items_of_front comment (take limit bytes)

@@ -70,3 +70,8 @@ abbrev pub items_from : Lex → ℕ → List ℕ → Items
 items_from lex room [] = word_then lex.word lex.line (the_end lex.line)
 items_from lex room (byte ∷ bytes) =
     if room == 0 then too_long lex.line else given_at lex byte (items_from (after lex byte) (room - 1) bytes)
+
+-- the same of the front of a longer text
+abbrev pub front_from : Lex → List ℕ → Items
+front_from lex [] = too_long lex.line
+front_from lex (byte ∷ bytes) = given_at lex byte (front_from (after lex byte) bytes)

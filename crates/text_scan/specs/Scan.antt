@@ -1,12 +1,12 @@
 -- A scanner as its callers see it, and what a call gives.
-use Rattle.std.specs.Prelude.{◌≡◌, ℕ, ◌+◌, ◌<◌, Bool, true, false, List, ◌++◌, Option, None, Some, Result, Ok, Err}
+use Rattle.std.specs.Prelude.{◌≡◌, ℕ, ◌+◌, ◌<◌, Bool, true, false, List, ◌++◌, Option, None, Some, Result, Ok, Err, ⊤}
 use Rattle.cnf_base.specs.Text.{Word}
 use Rattle.text_scan.specs.declared.scanner.Status.{Status}
 use Rattle.text_scan.specs.declared.scanner.Status.TheVariants.{Reading, Ended, Overlong, Faulted}
 use Rattle.text_scan.specs.declared.scanner.ScanError.{ScanError}
 use Rattle.text_scan.specs.declared.scanner.ScanError.TheVariants.{ReadFault, TooLong}
 use Rattle.text_scan.specs.Items.{Items, the_end, too_long, next_word}
-use Rattle.text_scan.specs.Lexer.{Lex, items_from}
+use Rattle.text_scan.specs.Lexer.{Lex, items_from, front_from}
 
 -- What is known of the text up to the bytes that are taken and not yet looked at, how many of the bytes from there
 -- on are under the limit, whether it still reads, and the line that it answers.
@@ -27,6 +27,11 @@ ahead_in Faulted scan more = items_from scan.lex scan.room (scan.unread ++ more)
 abbrev pub ahead : Scan → List ℕ → Items
 ahead scan more = ahead_in scan.status scan more
 
+-- The items that the bytes taken give where these follow them, if all of them are the front of a longer text. A read
+-- may then follow.
+abbrev pub so_far : Scan → List ℕ → Items
+so_far scan more = front_from scan.lex (scan.unread ++ more)
+
 abbrev pub is_reading : Status → Bool
 is_reading Reading = true
 is_reading Ended = false
@@ -38,6 +43,12 @@ is_faulted Reading = false
 is_faulted Ended = false
 is_faulted Overlong = false
 is_faulted Faulted = true
+
+abbrev pub is_overlong : Status → Bool
+is_overlong Reading = false
+is_overlong Ended = false
+is_overlong Overlong = true
+is_overlong Faulted = false
 
 -- how many more tokens can be given at most, so that a loop over them ends whatever the source does
 abbrev pub fuel_in : Status → ℕ → ℕ
@@ -57,11 +68,20 @@ Gives (Ok None) line before after = (before ≡ the_end line) × (after ≡ the_
 Gives (Err TooLong) line before after = (before ≡ too_long line) × (after ≡ too_long line)
 Gives (Err ReadFault) line before after = before ≡ after
 
--- A token was given: its line is answered, fewer can come, and no read failed.
+-- What the bytes that a call took give as the front of a longer text: the token is the first of their items, unless the
+-- end of the text ended it. Where a read failed, they gave none yet.
+abbrev pub GivesSoFar : Result (Option Word) ScanError → Scan → Scan → List ℕ → Type 0
+GivesSoFar (Ok (Some word)) old new bytes = is_reading new.status ≡ true → (more : List ℕ) → so_far old (bytes ++ more) ≡ next_word word (so_far new more)
+GivesSoFar (Ok None) old new bytes = ⊤
+GivesSoFar (Err TooLong) old new bytes = ⊤
+GivesSoFar (Err ReadFault) old new bytes = so_far old bytes ≡ too_long new.lex.line
+
+-- A token was given: its line is answered, fewer can come, no read failed, and the text isn't too long so far.
 pub record GaveWord (word : Word) (old new : Scan) : Type 0 where
   pub line : new.line ≡ word.line
   pub less : fuel new < fuel old
   pub sound : is_faulted new.status ≡ false
+  pub fits : is_overlong new.status ≡ false
 
 -- What a call makes of the scanner, whatever the source does: after the end or an error it has stopped.
 abbrev pub Moves : Result (Option Word) ScanError → Scan → Scan → Type 0

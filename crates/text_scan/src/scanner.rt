@@ -4,11 +4,11 @@ ghost use Rattle.cnf_base.specs.Text.{has_bytes};
 ghost use Rattle.host_io.specs.Channel.{Rose};
 ghost use Rattle.text_scan.specs.declared.scanner.Status.TheVariants.{Reading, Ended, Overlong, Faulted};
 ghost use Rattle.text_scan.specs.declared.scanner.ScanError.TheVariants.{ReadFault};
-ghost use Rattle.text_scan.specs.Items.{items, the_end, too_long, next_word};
+ghost use Rattle.text_scan.specs.Items.{items, items_of_front, the_end, too_long, next_word};
 ghost use Rattle.text_scan.specs.Lexer.{items_from, word_then};
-ghost use Rattle.text_scan.specs.Scan.{ahead, is_reading, is_faulted, Gives, Moves, last_answer};
+ghost use Rattle.text_scan.specs.Scan.{ahead, so_far, is_reading, is_faulted, Gives, GivesSoFar, Moves, last_answer};
 ghost use Rattle.text_scan.specs.Block.{IsWordAhead};
-ghost use Rattle.text_scan.specs.Decides.{Decides, OnlyReads};
+ghost use Rattle.text_scan.specs.Decides.{gained, Decides, OnlyReads};
 
 use crate::lexer::{Lexer, letters};
 use crate::token::{SPACE, Token};
@@ -76,6 +76,7 @@ impl Scanner {
     pub fn new(comment: u8, limit: u64) -> Scanner
         requires { limit + 1 < 2 ^ 64 }
         ensures items { (bytes : List ℕ) → ahead result bytes ≡ items comment limit bytes }
+        ensures front { (bytes : List ℕ) → so_far result bytes ≡ items_of_front comment bytes }
         ensures reading { result.status ≡ Reading }
         ensures line { result.line ≡ 1 }
     {
@@ -96,6 +97,9 @@ impl Scanner {
     pub fn next<S: Source>(&mut self, source: &mut S) -> Result<Option<Token>, ScanError>
         ensures gives { IsTrue S.tells → Decides (S.channel source.old) (S.channel source.new)
             (λ bytes more. Gives result self.new.line (ahead self.old bytes) (ahead self.new more)) }
+        // A read fails only where the bytes taken give no token yet.
+        ensures so_far { IsTrue S.tells → is_reading self.old.status ≡ true →
+            GivesSoFar result self.old self.new (gained (S.channel source.old) (S.channel source.new)) }
         ensures moves { Moves result self.old self.new }
         ensures fault { result ≡ Err ReadFault → is_faulted self.old.status ≡ false →
             Rose (S.channel source.old).faults (S.channel source.new).faults }
@@ -130,6 +134,7 @@ impl Scanner {
         requires { self.old.status ≡ Reading }
         ensures gives { IsTrue S.tells → Decides (S.channel source.old) (S.channel source.new)
             (λ bytes more. Gives result self.new.line (ahead self.old bytes) (ahead self.new more)) }
+        ensures so_far { IsTrue S.tells → GivesSoFar result self.old self.new (gained (S.channel source.old) (S.channel source.new)) }
         ensures moves { Moves result self.old self.new }
         ensures fault { result ≡ Err ReadFault → Rose (S.channel source.old).faults (S.channel source.new).faults }
         ensures unfailed { result ≢ Err ReadFault → (S.channel source.new).faults ≡ (S.channel source.old).faults }
@@ -158,6 +163,8 @@ impl Scanner {
             ≡ next_word token (items_from self.new.lex self.new.room (self.new.unread ++ more))) }
         ensures none { IfNone result ((more : List ℕ) → items_from self.old.lex self.old.room (self.old.unread ++ more)
             ≡ items_from self.new.lex self.new.room (self.new.unread ++ more)) }
+        ensures found_so_far { IfSome result (λ token. (more : List ℕ) → so_far self.old more ≡ next_word token (so_far self.new more)) }
+        ensures none_so_far { IfNone result ((more : List ℕ) → so_far self.old more ≡ so_far self.new more) }
         ensures over { IfNone result (IsTrue (has_bytes self.new.unread) → self.new.room ≡ 0) }
         ensures room { self.new.room + length self.old.unread ≡ self.old.room + length self.new.unread }
         ensures progress { IfSome result (λ _. self.new.room < self.old.room) }
@@ -175,6 +182,7 @@ impl Scanner {
     fn whole_token(&mut self) -> Option<Token>
         ensures found { IfSome result (λ token. (more : List ℕ) → items_from self.old.lex self.old.room (self.old.unread ++ more)
             ≡ next_word token (items_from self.new.lex self.new.room (self.new.unread ++ more))) }
+        ensures found_so_far { IfSome result (λ token. (more : List ℕ) → so_far self.old more ≡ next_word token (so_far self.new more)) }
         ensures none { IfNone result (self.new ≡ self.old) }
         ensures room { self.new.room + length self.old.unread ≡ self.old.room + length self.new.unread }
         ensures progress { IfSome result (λ _. self.new.room < self.old.room) }
@@ -212,6 +220,8 @@ impl Scanner {
             ≡ next_word token (items_from self.new.lex self.new.room (self.new.unread ++ more))) }
         ensures none { IfNone result ((more : List ℕ) → items_from self.old.lex self.old.room (self.old.unread ++ more)
             ≡ items_from self.new.lex self.new.room (self.new.unread ++ more)) }
+        ensures found_so_far { IfSome result (λ token. (more : List ℕ) → so_far self.old more ≡ next_word token (so_far self.new more)) }
+        ensures none_so_far { IfNone result ((more : List ℕ) → so_far self.old more ≡ so_far self.new more) }
         ensures over { IfNone result (IsTrue (has_bytes self.new.unread) → self.new.room ≡ 0) }
         ensures room { self.new.room + length self.old.unread ≡ self.old.room + length self.new.unread }
         ensures progress { IfSome result (λ _. self.new.room < self.old.room) }
@@ -275,6 +285,8 @@ impl Scanner {
         requires used { self.old.unread ≡ [] }
         ensures same { IsTrue S.tells → Decides (S.channel source.old) (S.channel source.new)
             (λ bytes more. ahead self.old bytes ≡ ahead self.new more) }
+        ensures taken { IsTrue S.tells → self.new.unread ≡ gained (S.channel source.old) (S.channel source.new) }
+        ensures failed { OnErr result (self.new.unread ≡ []) }
         ensures ended { IsTrue S.tells → result ≡ Ok false → (S.channel source.new).left ≡ [] }
         ensures ended_unread { result ≡ Ok false → self.new.unread ≡ [] }
         ensures more { result ≡ Ok true → 0 < length self.new.unread }

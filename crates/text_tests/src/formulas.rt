@@ -36,7 +36,7 @@ fn described(
         .map(|byte| byte == b'+')
         .collect::<Vec<bool>>(alloc)?;
     assert_eq!(rt; values.len(), formula.vars() as usize);
-    formula.is_formula();
+    formula.formula_law();
     let is_true = formula.satisfied_by(&values);
     let (vars, is_empty) = (formula.vars(), formula.is_empty());
     let mut out = format!(in alloc; "{vars} {is_empty} {is_true}:")?;

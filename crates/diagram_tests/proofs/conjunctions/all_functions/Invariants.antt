@@ -1,6 +1,5 @@
-use Rattle.std.proofs.Common.{IsTrue}
-use Rattle.node_table.specs.Tied.{IsTied}
+use Rattle.node_table.specs.Table.{IsSound}
 use Rattle.diagram_tests.proofs.conjunctions.all_functions.Given as goal
 
 abbrev pub invariant-loop-row : goal.invariant-loop-row
-invariant-loop-row g l = IsTied l.table.graph l.table.book.state × IsTrue l.table.book.in_step
+invariant-loop-row g l = IsSound l.table

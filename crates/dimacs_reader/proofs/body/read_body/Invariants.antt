@@ -1,15 +1,19 @@
--- What the body is from here on is what it was from its start on.
-use Rattle.std.proofs.Common.{◌≡◌, false}
+-- All tokens so far are good, so what the body is from here on is what it was from its start on.
+use Rattle.std.proofs.Common.{◌≡◌, ℕ, List, ◌++◌, true, false}
 use Rattle.std.specs.Prelude.{IsTrue}
-use Rattle.text_scan.specs.Decides.{Decides, OnlyReads}
-use Rattle.text_scan.specs.Scan.{ahead, is_faulted, fuel}
+use Rattle.text_scan.specs.Decides.{gained, Decides, OnlyReads}
+use Rattle.text_scan.specs.Scan.{ahead, so_far, is_reading, is_faulted, fuel}
+use Rattle.dimacs_reader.specs.Body.{Passes}
 use Rattle.dimacs_reader.specs.Cnf.{body}
 use Rattle.dimacs_reader.proofs.body.read_body.Given as goal
 
 abbrev pub invariant-tokens : goal.invariant-tokens
 invariant-tokens g l = record {
-  same : IsTrue g.S.Source.tells → Decides (g.S.Source.channel l.fn.source) (g.S.Source.channel l.source)
-      (λ bytes more. body (ahead l.fn.scanner bytes) l.fn.body.count l.fn.body.draft ≡ body (ahead l.scanner more) l.body.count l.body.draft);
+  passed : IsTrue g.S.Source.tells → Decides (g.S.Source.channel l.fn.source) (g.S.Source.channel l.source)
+      (λ bytes more. Passes l.fn.body.count (ahead l.fn.scanner bytes) l.fn.body.draft (ahead l.scanner more) l.body.draft);
+  front : IsTrue g.S.Source.tells → is_reading l.scanner.status ≡ true → (is_reading l.fn.scanner.status ≡ true)
+      × ((more : List ℕ) → body (so_far l.fn.scanner (gained (g.S.Source.channel l.fn.source) (g.S.Source.channel l.source) ++ more)) l.fn.body.count l.fn.body.draft ≡ body (so_far l.scanner more) l.fn.body.count l.body.draft);
+  count : l.body.count ≡ l.fn.body.count;
   sound : is_faulted l.scanner.status ≡ false;
   reads : OnlyReads (g.S.Source.channel l.fn.source) (g.S.Source.channel l.source);
   unfailed : (g.S.Source.channel l.source).faults ≡ (g.S.Source.channel l.fn.source).faults;

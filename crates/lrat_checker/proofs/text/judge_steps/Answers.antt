@@ -1,12 +1,12 @@
 -- What the reader's next answer says to the verdict.
-use Rattle.std.proofs.Common.{◌≡◌, false, Some, None, Ok, Err, refl, sym, ◌∙◌, ap, subst, rules}
+use Rattle.std.proofs.Common.{◌≡◌, ℕ, List, false, Some, None, Ok, Err, refl, sym, ◌∙◌, ap, subst, rules}
 use Rattle.host_io.specs.Channel.{Rose}
-use Rattle.text_scan.specs.Decides.{OnlyReads-then, Decides-then}
+use Rattle.text_scan.specs.Decides.{gained, OnlyReads-then, Decides-then, gained-then, front-then}
 use Rattle.lrat_text.specs.declared.error.StepError.TheVariants.{ReadFault}
-use Rattle.lrat_text.specs.Reader.{GaveStep, is_reading, steps_ahead}
+use Rattle.lrat_text.specs.Reader.{GaveStep, is_reading, steps_ahead, so_far}
 use Rattle.lrat_rules.specs.Run.{step_fault, after_step}
 use Rattle.lrat_checker.specs.TextVerdict.{end_verdict, error_answer, steps_verdict, Answers}
-use Rattle.lrat_checker.proofs.Turns.{at_end, at_error, at_good_step, read_fault_alone}
+use Rattle.lrat_checker.proofs.Turns.{at_end, at_error, at_good_step, good_so_far, fault_so_far, later_wants, read_fault_alone}
 use Rattle.lrat_checker.proofs.text.judge_steps.Goals as goal
 
 pub returns-in-Ok-None-clause-decides : goal.returns-in-Ok-None-clause-decides
@@ -21,6 +21,15 @@ returns-in-Err-clause-decides g c = λ told.
     Decides-then (λ bytes more. Answers c.answer_to.result (steps_verdict c.args.judge.now false (steps_ahead c.args.reader.now bytes)))
     (c.steps.invariant.same told) (c.in-Err.ensures.gives told)
     (λ bytes middle more before gives. at_error c.steps.judge c.steps.has_empty _ _ _ _ gives _ before c.in-Err.error refl c.answer_to.result c.answer_to.ensures)
+
+pub returns-in-Err-clause-undecided : goal.returns-in-Err-clause-undecided
+returns-in-Err-clause-undecided g c = λ told is.
+    let bytes : List ℕ = gained (g.S.Source.channel c.steps.source) (g.S.Source.channel c.next.new.source) in
+    let failed : c.in-Err.error ≡ ReadFault = read_fault_alone c.in-Err.error (sym c.answer_to.ensures ∙ is) in
+    let none = fault_so_far _ c.steps.reader c.next.new.self bytes (c.in-Err.ensures.so_far told (ap is_reading c.steps.invariant.reading)) (ap Err failed) in
+    ap (λ l. steps_verdict c.args.judge.now false (so_far c.args.reader.now l)) (gained-then (c.steps.invariant.same told) (c.in-Err.ensures.gives told))
+    ∙ c.steps.invariant.so_far told none.0 bytes
+    ∙ ap (steps_verdict c.steps.judge c.steps.has_empty) none.1
 
 pub returns-in-Err-clause-fault : goal.returns-in-Err-clause-fault
 returns-in-Err-clause-fault g c = λ is.
@@ -43,6 +52,16 @@ steps-preserved g c =
           (λ bytes middle more before gives. before
           ∙ at_good_step c.steps.judge c.steps.has_empty _ _ _ _ gives c.in-Ok-Some.step c.in-Ok-Some.line c.step.new.self c.or_adds_empty-has_empty.result
           (ap Ok c.in-Ok-Some.field-0-is) is_good moved c.or_adds_empty-has_empty.ensures);
+      memory = λ told.
+          Decides-then _ (c.steps.invariant.memory told) (c.in-Ok-Some.ensures.gives told)
+          (λ bytes middle more before gives wants. before
+          (later_wants c.steps.judge _ _ _ _ gives c.in-Ok-Some.step c.in-Ok-Some.line c.step.new.self (ap Ok c.in-Ok-Some.field-0-is) is_good moved wants));
+      so_far = λ told scanning.
+          let good = good_so_far c.steps.judge c.steps.has_empty _ c.steps.reader c.next.new.self _ (c.in-Ok-Some.ensures.so_far told (ap is_reading c.steps.invariant.reading))
+          c.in-Ok-Some.step c.in-Ok-Some.line c.step.new.self c.or_adds_empty-has_empty.result (ap Ok c.in-Ok-Some.field-0-is) is_good moved c.or_adds_empty-has_empty.ensures scanning in
+          front-then (λ bytes. steps_verdict c.args.judge.now false (so_far c.args.reader.now bytes)) (λ bytes. steps_verdict c.steps.judge c.steps.has_empty (so_far c.steps.reader bytes))
+          (λ bytes. steps_verdict c.step.new.self c.or_adds_empty-has_empty.result (so_far c.next.new.self bytes))
+          (c.steps.invariant.same told) (c.in-Ok-Some.ensures.gives told) (c.steps.invariant.so_far told good.0) good.1;
       reading = gave.reading;
       reads = OnlyReads-then c.steps.invariant.reads c.next.ensures.reads;
       unfailed = c.in-Ok-Some.ensures.unfailed (λ e. cc) ∙ c.steps.invariant.unfailed;
@@ -60,6 +79,16 @@ steps-preserved-in-None g c =
           (λ bytes middle more before gives. before
           ∙ at_good_step c.steps.judge c.steps.has_empty _ _ _ _ gives c.in-Ok-Some.step c.in-Ok-Some.line c.step.new.self c.or_adds_empty-has_empty.result
           (ap Ok c.in-Ok-Some.field-0-is) is_good moved c.or_adds_empty-has_empty.ensures);
+      memory = λ told.
+          Decides-then _ (c.steps.invariant.memory told) (c.in-Ok-Some.ensures.gives told)
+          (λ bytes middle more before gives wants. before
+          (later_wants c.steps.judge _ _ _ _ gives c.in-Ok-Some.step c.in-Ok-Some.line c.step.new.self (ap Ok c.in-Ok-Some.field-0-is) is_good moved wants));
+      so_far = λ told scanning.
+          let good = good_so_far c.steps.judge c.steps.has_empty _ c.steps.reader c.next.new.self _ (c.in-Ok-Some.ensures.so_far told (ap is_reading c.steps.invariant.reading))
+          c.in-Ok-Some.step c.in-Ok-Some.line c.step.new.self c.or_adds_empty-has_empty.result (ap Ok c.in-Ok-Some.field-0-is) is_good moved c.or_adds_empty-has_empty.ensures scanning in
+          front-then (λ bytes. steps_verdict c.args.judge.now false (so_far c.args.reader.now bytes)) (λ bytes. steps_verdict c.steps.judge c.steps.has_empty (so_far c.steps.reader bytes))
+          (λ bytes. steps_verdict c.step.new.self c.or_adds_empty-has_empty.result (so_far c.next.new.self bytes))
+          (c.steps.invariant.same told) (c.in-Ok-Some.ensures.gives told) (c.steps.invariant.so_far told good.0) good.1;
       reading = gave.reading;
       reads = OnlyReads-then c.steps.invariant.reads c.next.ensures.reads;
       unfailed = c.in-Ok-Some.ensures.unfailed (λ e. cc) ∙ c.steps.invariant.unfailed;

@@ -1,16 +1,22 @@
 -- The verdict from here on is that from the start on.
-use Rattle.std.proofs.Common.{◌≡◌, false}
+use Rattle.std.proofs.Common.{◌≡◌, ℕ, List, ◌++◌, true, false}
 use Rattle.std.specs.Prelude.{IsTrue}
-use Rattle.text_scan.specs.Decides.{Decides, OnlyReads}
+use Rattle.text_scan.specs.Decides.{gained, Decides, OnlyReads}
+use Rattle.text_scan.specs.Scan.{is_reading as is_scanning}
 use Rattle.lrat_text.specs.declared.reader.Status.TheVariants.{Reading}
-use Rattle.lrat_text.specs.Reader.{steps_ahead, fuel}
+use Rattle.lrat_text.specs.Reader.{steps_ahead, so_far, fuel}
 use Rattle.lrat_checker.specs.TextVerdict.{steps_verdict}
+use Rattle.lrat_checker.specs.Memory.{steps_may_want_memory}
 use Rattle.lrat_checker.proofs.text.judge_steps.Given as goal
 
 abbrev pub invariant-steps : goal.invariant-steps
 invariant-steps g l = record {
   same : IsTrue g.S.Source.tells → Decides (g.S.Source.channel l.fn.source) (g.S.Source.channel l.source)
       (λ bytes more. steps_verdict l.fn.judge false (steps_ahead l.fn.reader bytes) ≡ steps_verdict l.judge l.has_empty (steps_ahead l.reader more));
+  memory : IsTrue g.S.Source.tells → Decides (g.S.Source.channel l.fn.source) (g.S.Source.channel l.source)
+      (λ bytes more. IsTrue (steps_may_want_memory l.judge (steps_ahead l.reader more)) → IsTrue (steps_may_want_memory l.fn.judge (steps_ahead l.fn.reader bytes)));
+  so_far : IsTrue g.S.Source.tells → is_scanning l.reader.scan.status ≡ true → (more : List ℕ)
+      → steps_verdict l.fn.judge false (so_far l.fn.reader (gained (g.S.Source.channel l.fn.source) (g.S.Source.channel l.source) ++ more)) ≡ steps_verdict l.judge l.has_empty (so_far l.reader more);
   reading : l.reader.status ≡ Reading;
   reads : OnlyReads (g.S.Source.channel l.fn.source) (g.S.Source.channel l.source);
   unfailed : (g.S.Source.channel l.source).faults ≡ (g.S.Source.channel l.fn.source).faults;

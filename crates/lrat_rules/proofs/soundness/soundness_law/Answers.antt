@@ -1,5 +1,6 @@
 use Rattle.lrat_rules.proofs.SoundSteps.{SatisfiesLive-Closes, SatisfiesUpToPivot-fault, LivePass-without_clauses, LivePass-start, LiveHasNoZero-step, LiveHasNoZero-run, run-sound}
 use Rattle.lrat_rules.proofs.Refuted.{proof_lines_no_zero, LiveHasNoZero-start, unsatisfiable}
+use Rattle.lrat_rules.proofs.Derivations.{unsatisfiable_derived}
 use Rattle.cnf_base.specs.Truth.{clause_holds}
 use Rattle.lrat_rules.proofs.soundness.soundness_law.Goals as goal
 
@@ -34,3 +35,6 @@ returns-clause-nonzero_text c = proof_lines_no_zero
 
 pub returns-clause-refuted : goal.returns-clause-refuted
 returns-clause-refuted c = unsatisfiable
+
+pub returns-clause-derived : goal.returns-clause-derived
+returns-clause-derived c = unsatisfiable_derived

@@ -4,12 +4,13 @@ use Rattle.lrat_rules.specs.State.{State}
 use Rattle.lrat_rules.specs.Strict.{IsDefinition}
 use Rattle.hint_chain.specs.declared.atom.Atom.{Atom}
 use Rattle.hint_chain.specs.declared.atom.Atom.TheVariants.{Of}
-use Rattle.hint_chain.specs.Atoms.{clause_of}
-use Rattle.node_table.specs.Defined.{one_if, is_always, ups_from}
+use Rattle.hint_chain.specs.Atoms.{clause_of, high_up, low_up, high_down, low_down}
+use Rattle.node_table.specs.Defined.{one_if, is_always, ups_from, with_some}
 use Rattle.node_table.proofs.DefineClauses.{is_some-clause_of}
 use Rattle.node_table.proofs.DefineGood.{IsStart, lu_definition, hd_definition, ld_definition, ups_are, top_after_hd}
 use Rattle.node_table.proofs.DefineSteps.{AreWritten-none, AreWritten-more, IsTorn-next, IsCallOf, hu_of, lu_of, hd_of, ld_of}
 use Rattle.node_table.proofs.Stands.{Grows-none, Grows-reached}
+use Rattle.node_table.proofs.Fronts.{cut_next}
 use Rattle.node_table.proofs.define.write_definitions.Goals as goal
 
 -- equal atoms give one clause
@@ -170,36 +171,6 @@ returns-clause-lines g c tells =
     let four = AreWritten-more three ld c.in_ok-write_one-2.ensures.written c.in_ok-write_one-2.ensures.lines c.in_ok-write_one-2.ensures.only_writes in
     four.lines tells
 
-pub returns-in_err-hu-clause-stays : goal.returns-in_err-hu-clause-stays
-returns-in_err-hu-clause-stays g c failed =
-    let state = c.args.ledger.now.state in
-    let none = Grows-none state c.last_id.ensures.numbers in
-    (Grows-reached state state c.write_one.new.ledger.state (clause_of (Of c.args.u ∷ Of c.negated-not_x.result ∷ c.negated.result ∷ [])) none (c.in_err-hu.ensures.fault_state refl)).clauses
-
-pub returns-in_err-lu-clause-stays : goal.returns-in_err-lu-clause-stays
-returns-in_err-lu-clause-stays g c failed =
-    let state = c.args.ledger.now.state in
-    let none = Grows-none state c.last_id.ensures.numbers in
-    let one = Grows-reached state state c.write_one.new.ledger.state (clause_of (Of c.args.u ∷ Of c.negated-not_x.result ∷ c.negated.result ∷ [])) none c.in_ok-hu.ensures.written in
-    (Grows-reached state c.write_one.new.ledger.state c.write_one-2.new.ledger.state (clause_of (Of c.args.u ∷ Of c.args.x ∷ c.negated-2.result ∷ [])) one (c.in_err-lu.ensures.fault_state refl)).clauses
-
-pub returns-in_err-write_one-clause-stays : goal.returns-in_err-write_one-clause-stays
-returns-in_err-write_one-clause-stays g c failed =
-    let state = c.args.ledger.now.state in
-    let none = Grows-none state c.last_id.ensures.numbers in
-    let one = Grows-reached state state c.write_one.new.ledger.state (clause_of (Of c.args.u ∷ Of c.negated-not_x.result ∷ c.negated.result ∷ [])) none c.in_ok-hu.ensures.written in
-    let two = Grows-reached state c.write_one.new.ledger.state c.write_one-2.new.ledger.state (clause_of (Of c.args.u ∷ Of c.args.x ∷ c.negated-2.result ∷ [])) one c.in_ok-lu.ensures.written in
-    (Grows-reached state c.write_one-2.new.ledger.state c.write_one-3.new.ledger.state (clause_of (Of c.negated-not_u.result ∷ Of c.negated-not_x.result ∷ c.args.high.now ∷ [])) two (c.in_err-write_one.ensures.fault_state refl)).clauses
-
-pub returns-in_err-write_one-2-clause-stays : goal.returns-in_err-write_one-2-clause-stays
-returns-in_err-write_one-2-clause-stays g c failed =
-    let state = c.args.ledger.now.state in
-    let none = Grows-none state c.last_id.ensures.numbers in
-    let one = Grows-reached state state c.write_one.new.ledger.state (clause_of (Of c.args.u ∷ Of c.negated-not_x.result ∷ c.negated.result ∷ [])) none c.in_ok-hu.ensures.written in
-    let two = Grows-reached state c.write_one.new.ledger.state c.write_one-2.new.ledger.state (clause_of (Of c.args.u ∷ Of c.args.x ∷ c.negated-2.result ∷ [])) one c.in_ok-lu.ensures.written in
-    let three = Grows-reached state c.write_one-2.new.ledger.state c.write_one-3.new.ledger.state (clause_of (Of c.negated-not_u.result ∷ Of c.negated-not_x.result ∷ c.args.high.now ∷ [])) two c.in_ok-write_one.ensures.written in
-    (Grows-reached state c.write_one-3.new.ledger.state c.write_one-4.new.ledger.state (clause_of (Of c.negated-not_u.result ∷ Of c.args.x ∷ c.args.low.now ∷ [])) three (c.in_err-write_one-2.ensures.fault_state refl)).clauses
-
 pub returns-in_err-hu-clause-limit : goal.returns-in_err-hu-clause-limit
 returns-in_err-hu-clause-limit g c = c.in_err-hu.ensures.limit
 
@@ -208,9 +179,6 @@ returns-in_err-hu-clause-beside g c = c.in_err-hu.ensures.beside
 
 pub returns-in_err-hu-clause-out_of_step : goal.returns-in_err-hu-clause-out_of_step
 returns-in_err-hu-clause-out_of_step g c failed = c.in_err-hu.ensures.out_of_step refl
-
-pub returns-in_err-hu-clause-cut : goal.returns-in_err-hu-clause-cut
-returns-in_err-hu-clause-cut g c clauses proof told failed = c.in_err-hu.ensures.cut clauses proof told refl
 
 pub returns-in_err-lu-clause-limit : goal.returns-in_err-lu-clause-limit
 returns-in_err-lu-clause-limit g c = c.in_err-lu.ensures.limit ∙ c.in_ok-hu.ensures.limit
@@ -221,9 +189,6 @@ returns-in_err-lu-clause-beside g c = c.in_err-lu.ensures.beside ∙ c.in_ok-hu.
 pub returns-in_err-lu-clause-out_of_step : goal.returns-in_err-lu-clause-out_of_step
 returns-in_err-lu-clause-out_of_step g c failed = c.in_err-lu.ensures.out_of_step refl
 
-pub returns-in_err-lu-clause-cut : goal.returns-in_err-lu-clause-cut
-returns-in_err-lu-clause-cut g c clauses proof told failed = c.in_err-lu.ensures.cut clauses (c.in_ok-hu.ensures.kept clauses proof) told refl
-
 pub returns-in_err-write_one-clause-limit : goal.returns-in_err-write_one-clause-limit
 returns-in_err-write_one-clause-limit g c = c.in_err-write_one.ensures.limit ∙ (c.in_ok-lu.ensures.limit ∙ c.in_ok-hu.ensures.limit)
 
@@ -233,9 +198,6 @@ returns-in_err-write_one-clause-beside g c = c.in_err-write_one.ensures.beside �
 pub returns-in_err-write_one-clause-out_of_step : goal.returns-in_err-write_one-clause-out_of_step
 returns-in_err-write_one-clause-out_of_step g c failed = c.in_err-write_one.ensures.out_of_step refl
 
-pub returns-in_err-write_one-clause-cut : goal.returns-in_err-write_one-clause-cut
-returns-in_err-write_one-clause-cut g c clauses proof told failed = c.in_err-write_one.ensures.cut clauses (c.in_ok-lu.ensures.kept clauses (c.in_ok-hu.ensures.kept clauses proof)) told refl
-
 pub returns-in_err-write_one-2-clause-limit : goal.returns-in_err-write_one-2-clause-limit
 returns-in_err-write_one-2-clause-limit g c = c.in_err-write_one-2.ensures.limit ∙ (c.in_ok-write_one.ensures.limit ∙ (c.in_ok-lu.ensures.limit ∙ c.in_ok-hu.ensures.limit))
 
@@ -244,9 +206,6 @@ returns-in_err-write_one-2-clause-beside g c = c.in_err-write_one-2.ensures.besi
 
 pub returns-in_err-write_one-2-clause-out_of_step : goal.returns-in_err-write_one-2-clause-out_of_step
 returns-in_err-write_one-2-clause-out_of_step g c failed = c.in_err-write_one-2.ensures.out_of_step refl
-
-pub returns-in_err-write_one-2-clause-cut : goal.returns-in_err-write_one-2-clause-cut
-returns-in_err-write_one-2-clause-cut g c clauses proof told failed = c.in_err-write_one-2.ensures.cut clauses (c.in_ok-write_one.ensures.kept clauses (c.in_ok-lu.ensures.kept clauses (c.in_ok-hu.ensures.kept clauses proof))) told refl
 
 pub returns-clause-limit : goal.returns-clause-limit
 returns-clause-limit g c = c.in_ok-write_one-2.ensures.limit ∙ (c.in_ok-write_one.ensures.limit ∙ (c.in_ok-lu.ensures.limit ∙ c.in_ok-hu.ensures.limit))
@@ -262,3 +221,101 @@ returns-clause-in_step g c = c.in_ok-write_one-2.ensures.in_step
 
 pub returns-clause-kept : goal.returns-clause-kept
 returns-clause-kept g c clauses proof = c.in_ok-write_one-2.ensures.kept clauses (c.in_ok-write_one.ensures.kept clauses (c.in_ok-lu.ensures.kept clauses (c.in_ok-hu.ensures.kept clauses proof)))
+
+pub returns-in_err-hu-clause-cut : goal.returns-in_err-hu-clause-cut
+returns-in_err-hu-clause-cut g c clauses proof told failed =
+    let state = c.args.ledger.now.state in
+    let none = Grows-none state c.last_id.ensures.numbers in
+    cut_next (clause_of (Of c.args.u ∷ Of c.negated-not_x.result ∷ c.negated.result ∷ [])) none (c.in_err-hu.ensures.cut clauses proof told refl) (c.in_err-hu.ensures.fault_state refl)
+
+pub returns-in_err-lu-clause-cut : goal.returns-in_err-lu-clause-cut
+returns-in_err-lu-clause-cut g c clauses proof told failed =
+    let state = c.args.ledger.now.state in
+    let none = Grows-none state c.last_id.ensures.numbers in
+    let one = Grows-reached state state c.write_one.new.ledger.state (clause_of (Of c.args.u ∷ Of c.negated-not_x.result ∷ c.negated.result ∷ [])) none c.in_ok-hu.ensures.written in
+    cut_next (clause_of (Of c.args.u ∷ Of c.args.x ∷ c.negated-2.result ∷ [])) one (c.in_err-lu.ensures.cut clauses (c.in_ok-hu.ensures.kept clauses proof) told refl) (c.in_err-lu.ensures.fault_state refl)
+
+pub returns-in_err-write_one-clause-cut : goal.returns-in_err-write_one-clause-cut
+returns-in_err-write_one-clause-cut g c clauses proof told failed =
+    let state = c.args.ledger.now.state in
+    let none = Grows-none state c.last_id.ensures.numbers in
+    let one = Grows-reached state state c.write_one.new.ledger.state (clause_of (Of c.args.u ∷ Of c.negated-not_x.result ∷ c.negated.result ∷ [])) none c.in_ok-hu.ensures.written in
+    let two = Grows-reached state c.write_one.new.ledger.state c.write_one-2.new.ledger.state (clause_of (Of c.args.u ∷ Of c.args.x ∷ c.negated-2.result ∷ [])) one c.in_ok-lu.ensures.written in
+    cut_next (clause_of (Of c.negated-not_u.result ∷ Of c.negated-not_x.result ∷ c.args.high.now ∷ [])) two (c.in_err-write_one.ensures.cut clauses (c.in_ok-lu.ensures.kept clauses (c.in_ok-hu.ensures.kept clauses proof)) told refl) (c.in_err-write_one.ensures.fault_state refl)
+
+pub returns-in_err-write_one-2-clause-cut : goal.returns-in_err-write_one-2-clause-cut
+returns-in_err-write_one-2-clause-cut g c clauses proof told failed =
+    let state = c.args.ledger.now.state in
+    let none = Grows-none state c.last_id.ensures.numbers in
+    let one = Grows-reached state state c.write_one.new.ledger.state (clause_of (Of c.args.u ∷ Of c.negated-not_x.result ∷ c.negated.result ∷ [])) none c.in_ok-hu.ensures.written in
+    let two = Grows-reached state c.write_one.new.ledger.state c.write_one-2.new.ledger.state (clause_of (Of c.args.u ∷ Of c.args.x ∷ c.negated-2.result ∷ [])) one c.in_ok-lu.ensures.written in
+    let three = Grows-reached state c.write_one-2.new.ledger.state c.write_one-3.new.ledger.state (clause_of (Of c.negated-not_u.result ∷ Of c.negated-not_x.result ∷ c.args.high.now ∷ [])) two c.in_ok-write_one.ensures.written in
+    cut_next (clause_of (Of c.negated-not_u.result ∷ Of c.args.x ∷ c.args.low.now ∷ [])) three (c.in_err-write_one-2.ensures.cut clauses (c.in_ok-write_one.ensures.kept clauses (c.in_ok-lu.ensures.kept clauses (c.in_ok-hu.ensures.kept clauses proof))) told refl) (c.in_err-write_one-2.ensures.fault_state refl)
+
+pub returns-in_err-hu-clause-front : goal.returns-in_err-hu-clause-front
+returns-in_err-hu-clause-front g c =
+    let state = c.args.ledger.now.state in
+    let u = c.args.u in
+    let x = c.args.x in
+    let high = c.args.high.now in
+    let hu : clause_of (Of u ∷ Of c.negated-not_x.result ∷ c.negated.result ∷ []) ≡ clause_of (high_up u x high) = clauses_alike refl c.negated-not_x.ensures c.negated.ensures in
+    (1, c.in_err-hu.ensures.fault_state refl ∙ ap (with_some state) hu)
+
+pub returns-in_err-lu-clause-front : goal.returns-in_err-lu-clause-front
+returns-in_err-lu-clause-front g c =
+    let state = c.args.ledger.now.state in
+    let u = c.args.u in
+    let x = c.args.x in
+    let high = c.args.high.now in
+    let low = c.args.low.now in
+    let hu : clause_of (Of u ∷ Of c.negated-not_x.result ∷ c.negated.result ∷ []) ≡ clause_of (high_up u x high) = clauses_alike refl c.negated-not_x.ensures c.negated.ensures in
+    let lu : clause_of (Of u ∷ Of x ∷ c.negated-2.result ∷ []) ≡ clause_of (low_up u x low) = clauses_alike refl refl c.negated-2.ensures in
+    let one : c.write_one.new.ledger.state ≡ with_some state (clause_of (high_up u x high)) = c.in_ok-hu.ensures.written ∙ ap (with_some state) hu in
+    (2, c.in_err-lu.ensures.fault_state refl ∙ (λ i. with_some (one i) (lu i)))
+
+pub returns-in_err-write_one-clause-front : goal.returns-in_err-write_one-clause-front
+returns-in_err-write_one-clause-front g c =
+    let state = c.args.ledger.now.state in
+    let u = c.args.u in
+    let x = c.args.x in
+    let high = c.args.high.now in
+    let low = c.args.low.now in
+    let hu : clause_of (Of u ∷ Of c.negated-not_x.result ∷ c.negated.result ∷ []) ≡ clause_of (high_up u x high) = clauses_alike refl c.negated-not_x.ensures c.negated.ensures in
+    let lu : clause_of (Of u ∷ Of x ∷ c.negated-2.result ∷ []) ≡ clause_of (low_up u x low) = clauses_alike refl refl c.negated-2.ensures in
+    let hd : clause_of (Of c.negated-not_u.result ∷ Of c.negated-not_x.result ∷ high ∷ []) ≡ clause_of (high_down u x high) = clauses_alike c.negated-not_u.ensures c.negated-not_x.ensures refl in
+    let one : c.write_one.new.ledger.state ≡ with_some state (clause_of (high_up u x high)) = c.in_ok-hu.ensures.written ∙ ap (with_some state) hu in
+    let two : c.write_one-2.new.ledger.state ≡ with_some (with_some state (clause_of (high_up u x high))) (clause_of (low_up u x low)) = c.in_ok-lu.ensures.written ∙ (λ i. with_some (one i) (lu i)) in
+    (3, c.in_err-write_one.ensures.fault_state refl ∙ (λ i. with_some (two i) (hd i)))
+
+pub returns-in_err-write_one-2-clause-front : goal.returns-in_err-write_one-2-clause-front
+returns-in_err-write_one-2-clause-front g c =
+    let state = c.args.ledger.now.state in
+    let u = c.args.u in
+    let x = c.args.x in
+    let high = c.args.high.now in
+    let low = c.args.low.now in
+    let hu : clause_of (Of u ∷ Of c.negated-not_x.result ∷ c.negated.result ∷ []) ≡ clause_of (high_up u x high) = clauses_alike refl c.negated-not_x.ensures c.negated.ensures in
+    let lu : clause_of (Of u ∷ Of x ∷ c.negated-2.result ∷ []) ≡ clause_of (low_up u x low) = clauses_alike refl refl c.negated-2.ensures in
+    let hd : clause_of (Of c.negated-not_u.result ∷ Of c.negated-not_x.result ∷ high ∷ []) ≡ clause_of (high_down u x high) = clauses_alike c.negated-not_u.ensures c.negated-not_x.ensures refl in
+    let ld : clause_of (Of c.negated-not_u.result ∷ Of x ∷ low ∷ []) ≡ clause_of (low_down u x low) = clauses_alike c.negated-not_u.ensures refl refl in
+    let one : c.write_one.new.ledger.state ≡ with_some state (clause_of (high_up u x high)) = c.in_ok-hu.ensures.written ∙ ap (with_some state) hu in
+    let two : c.write_one-2.new.ledger.state ≡ with_some (with_some state (clause_of (high_up u x high))) (clause_of (low_up u x low)) = c.in_ok-lu.ensures.written ∙ (λ i. with_some (one i) (lu i)) in
+    let three : c.write_one-3.new.ledger.state ≡ with_some (with_some (with_some state (clause_of (high_up u x high))) (clause_of (low_up u x low))) (clause_of (high_down u x high)) = c.in_ok-write_one.ensures.written ∙ (λ i. with_some (two i) (hd i)) in
+    (4, c.in_err-write_one-2.ensures.fault_state refl ∙ (λ i. with_some (three i) (ld i)))
+
+pub returns-clause-front : goal.returns-clause-front
+returns-clause-front g c =
+    let state = c.args.ledger.now.state in
+    let u = c.args.u in
+    let x = c.args.x in
+    let high = c.args.high.now in
+    let low = c.args.low.now in
+    let hu : clause_of (Of u ∷ Of c.negated-not_x.result ∷ c.negated.result ∷ []) ≡ clause_of (high_up u x high) = clauses_alike refl c.negated-not_x.ensures c.negated.ensures in
+    let lu : clause_of (Of u ∷ Of x ∷ c.negated-2.result ∷ []) ≡ clause_of (low_up u x low) = clauses_alike refl refl c.negated-2.ensures in
+    let hd : clause_of (Of c.negated-not_u.result ∷ Of c.negated-not_x.result ∷ high ∷ []) ≡ clause_of (high_down u x high) = clauses_alike c.negated-not_u.ensures c.negated-not_x.ensures refl in
+    let ld : clause_of (Of c.negated-not_u.result ∷ Of x ∷ low ∷ []) ≡ clause_of (low_down u x low) = clauses_alike c.negated-not_u.ensures refl refl in
+    let one : c.write_one.new.ledger.state ≡ with_some state (clause_of (high_up u x high)) = c.in_ok-hu.ensures.written ∙ ap (with_some state) hu in
+    let two : c.write_one-2.new.ledger.state ≡ with_some (with_some state (clause_of (high_up u x high))) (clause_of (low_up u x low)) = c.in_ok-lu.ensures.written ∙ (λ i. with_some (one i) (lu i)) in
+    let three : c.write_one-3.new.ledger.state ≡ with_some (with_some (with_some state (clause_of (high_up u x high))) (clause_of (low_up u x low))) (clause_of (high_down u x high)) =
+    c.in_ok-write_one.ensures.written ∙ (λ i. with_some (two i) (hd i)) in
+    (4, c.in_ok-write_one-2.ensures.written ∙ (λ i. with_some (three i) (ld i)))

@@ -1,26 +1,41 @@
-use Rattle.std.proofs.Common.{◌≡◌, ℕ, suc, ◌+◌, true, List, take, reverse, Some, Err, ap, sym, ◌∙◌, subst, arith}
+use Rattle.std.proofs.Common.{rules, ◌≡◌, ℕ, suc, ◌+◌, true, List, Option, take, reverse, Some, Err, refl, ap, sym, ◌∙◌, subst, arith}
 use Rattle.node_table.specs.declared.node.Node.{Node}
 use Rattle.node_table.specs.Diagram.{is_node}
 use Rattle.node_table.specs.Value.{by_level, value_of}
-use Rattle.node_table.specs.declared.error.TableError.TheVariants.{NodeLimit, IdLimit, WriteFault}
+use Rattle.node_table.specs.declared.error.TableError.TheVariants.{NodeLimit}
 use Rattle.node_table.specs.declared.error.TableError.{TableError}
-use Rattle.node_table.specs.Made.{LacksPart, MakesOnly}
+use Rattle.node_table.specs.Made.{LacksPart}
+use Rattle.node_table.specs.Progress.{Leaves}
+use Rattle.operations.specs.Entries.{Entry}
 use Rattle.schedule_plan.specs.Plan.{after_moves, no_stage}
-use Rattle.term_runner.specs.Needs.{top_function}
-use Rattle.term_runner.specs.Held.{top_node}
+use Rattle.term_runner.specs.Needs.{KeepsOrMakes, top_function}
+use Rattle.term_runner.specs.Held.{IsReady, top_node}
 use Rattle.term_runner.specs.Recovered.{IsRecovered}
-use Rattle.node_table.specs.HandedOn.{no_error, same_error, came_from, other_cause, no_answer, no_ok}
+use Rattle.node_table.specs.HandedOn.{no_error, came_from, no_answer}
 use Rattle.term_runner.proofs.Stacks.{top_stands, top_value}
-use Rattle.term_runner.proofs.Between.{at_last, joins_at, next_of, some_at}
+use Rattle.term_runner.proofs.Between.{at_first, at_last, joins_at, next_of, some_at}
 use Rattle.term_runner.proofs.Least.{recovered}
-use Rattle.term_runner.proofs.Planned.{moved_on, more_made, runs_short}
+use Rattle.term_runner.proofs.Leaving.{error_handed, leaves_after, memory_left}
+use Rattle.term_runner.proofs.Planned.{moved_on, more_made, none_made, runs_short}
 use Rattle.term_runner.proofs.decide.run_moves.Goals as goal
-
-two_causes : ◌≡◌ {A = TableError} NodeLimit WriteFault → ⊥
-two_causes is = cc
 
 pub unreachable-requires : goal.unreachable-requires
 unreachable-requires g c = some_at c.args.plan.now c.moves.i (omega (arith, c.moves-test.true, c.len-i-end.ensures)) (sym c.get.ensures ∙ c.in_default.is)
+
+pub moves-init : goal.moves-init
+moves-init g c =
+    let formula = c.args.formula.now in
+    let table = c.args.table.now in
+    record {
+      between = at_first formula c.args.plan.now table.graph table.book.state.live c.new-stack.result.items (search rules);
+      ready = subst (λ (kept : List Entry). IsReady formula table kept) (sym c.in_ok-cache.ensures.0) c.requires.ready;
+      continues = (c.steps_law.ensures.none table c.requires.ready.sound).leaves;
+      made = none_made formula table.graph.order c.args.plan.now table.graph c.requires.empty;
+      beside = refl;
+    }
+
+pub take_move-requires-clause-ready : goal.take_move-requires-clause-ready
+take_move-requires-clause-ready g c = c.moves.invariant.ready
 
 pub take_move-requires-clause-possible : goal.take_move-requires-clause-possible
 take_move-requires-clause-possible g c =
@@ -35,7 +50,6 @@ pub moves-preserved : goal.moves-preserved
 moves-preserved g c =
     let between = c.moves.invariant.between in
     let next = next_of c.args.formula.now c.args.plan.now c.moves.i between.stage c.requires.plan.last c.in-Some.step (sym c.get.ensures ∙ c.in-Some.is) (between.rest ∙ c.requires.plan.possible) in
-    let step_continues = c.in_ok-take_move.ensures.continues no_error in
     let moved : after_moves c.args.formula.now no_stage (take (suc c.moves.i) c.args.plan.now) ≡ Some next.next = moved_on c.args.formula.now c.args.plan.now c.moves.i c.in-Some.step no_stage between.stage next.next (sym c.get.ensures ∙ c.in-Some.is) between.front next.is in
     let shift : suc c.moves.i ≡ c.moves.i + 1 = omega arith in
     let front : after_moves c.args.formula.now no_stage (take (c.moves.i + 1) c.args.plan.now) ≡ Some next.next = subst (λ (n : ℕ). after_moves c.args.formula.now no_stage (take n c.args.plan.now) ≡ Some next.next) shift moved in
@@ -47,11 +61,10 @@ moves-preserved g c =
         held = c.in_ok-take_move.ensures.held between.stage next.next between.held next.is c.if-branch.false;
       };
       ready = c.in_ok-take_move.ensures.ready no_error;
-      continues = c.progress_law.ensures.further _ _ _ c.args.table.now c.moves.table c.take_move.new.table c.moves.invariant.continues (c.in_ok-take_move.ensures.continues no_error);
-      made = more_made c.growth_law.ensures.value c.args.formula.now c.args.table.now.graph.order c.args.plan.now c.args.table.now.graph c.moves.table.graph c.take_move.new.table.graph
-          c.moves.invariant.continues.tied.reduced step_continues.extends.nodes c.moves.invariant.made (suc c.moves.i) next.next moved
-          (subst (λ (order : List ℕ). MakesOnly c.moves.table.graph c.take_move.new.table.graph (top_function c.args.formula.now order next.next.stack)) c.moves.invariant.continues.extends.nodes.order
-          (c.in_ok-take_move.ensures.made between.stage next.next between.held next.is no_error));
+      continues = c.steps_law.ensures.go_on _ _ _ c.args.table.now c.moves.table c.take_move.new.table c.moves.invariant.continues c.in_ok-take_move.ensures.leaves;
+      made = more_made c.args.formula.now c.args.table.now.graph.order c.args.plan.now c.moves.table.graph c.take_move.new.table.graph c.moves.invariant.made (suc c.moves.i) next.next moved
+          (subst (λ (order : List ℕ). KeepsOrMakes c.moves.table.graph c.take_move.new.table.graph (top_function c.args.formula.now order next.next.stack)) c.moves.invariant.continues.order
+          (c.in_ok-take_move.ensures.made between.stage next.next between.held next.is));
       beside = c.in_ok-take_move.ensures.beside ∙ c.moves.invariant.beside;
     }
 
@@ -74,68 +87,64 @@ returns-clause-found g c =
     let table = c.moves.table in
     let formula = c.args.formula.now in
     let held = at_last formula c.args.plan.now c.moves.i table.graph table.book.state.live c.moves.stack.items c.requires.plan.last (omega (arith, c.moves-test.false, c.len-i-end.ensures)) c.requires.plan.possible c.moves.invariant.between in
-    subst (λ (order : List ℕ). IsRecovered formula order c.args.plan.now c.in_ok-model.model) c.moves.invariant.continues.extends.nodes.order
+    subst (λ (order : List ℕ). IsRecovered formula order c.args.plan.now c.in_ok-model.model) c.moves.invariant.continues.order
     (recovered formula table.graph c.args.plan.now c.requires.plan c.requires.joins c.moves.invariant.ready.vars c.top.result
     (λ a. (λ k. value_of table.graph (by_level table.graph.order a) ((c.top.ensures ∙ (λ m. top_node (reverse (c.as_slice.ensures.value m)))) k))
     ∙ top_value formula table.graph table.book.state.live (reverse c.moves.stack.items) c.requires.plan.last.stack held c.requires.plan.one_term a)
     c.in_ok-model.model c.in_ok-model.ensures.one_each c.in_ok-model.ensures.least)
 
-pub returns-in_err-take_move-clause-continues : goal.returns-in_err-take_move-clause-continues
-returns-in_err-take_move-clause-continues g c whole =
-    c.progress_law.ensures.further _ _ _ c.args.table.now c.moves.table c.take_move.new.table c.moves.invariant.continues
-    (c.in_err-take_move.ensures.continues (other_cause _ c.in_err-take_move.field-0.0 WriteFault c.from_residual-in_err-take_move.ensures.1 whole))
-
-pub returns-in_err-take_move-clause-broken : goal.returns-in_err-take_move-clause-broken
-returns-in_err-take_move-clause-broken g c is =
-    c.progress_law.ensures.broken _ _ _ c.args.table.now c.moves.table c.take_move.new.table c.moves.invariant.continues
-    (c.in_err-take_move.ensures.broken (ap Err (came_from _ c.in_err-take_move.field-0.0 WriteFault c.from_residual-in_err-take_move.ensures.1 is)))
-
-pub returns-in_err-take_move-clause-short : goal.returns-in_err-take_move-clause-short
-returns-in_err-take_move-clause-short g c is =
-    let between = c.moves.invariant.between in
-    let next = next_of c.args.formula.now c.args.plan.now c.moves.i between.stage c.requires.plan.last c.in-Some.step (sym c.get.ensures ∙ c.in-Some.is) (between.rest ∙ c.requires.plan.possible) in
-    let cause : c.in_err-take_move.field-0.0 ≡ NodeLimit = came_from _ c.in_err-take_move.field-0.0 NodeLimit c.from_residual-in_err-take_move.ensures.1 is in
-    let torn : c.in_err-take_move.field-0.0 ≡ WriteFault → ⊥ = λ e. two_causes (sym cause ∙ e) in
-    let step_continues = c.in_err-take_move.ensures.continues (λ e. torn (same_error e)) in
-    let moved : after_moves c.args.formula.now no_stage (take (suc c.moves.i) c.args.plan.now) ≡ Some next.next = moved_on c.args.formula.now c.args.plan.now c.moves.i c.in-Some.step no_stage between.stage next.next (sym c.get.ensures ∙ c.in-Some.is) between.front next.is in
-    let same_order = c.moves.invariant.continues.extends.nodes.order in
-    let made = more_made c.growth_law.ensures.value c.args.formula.now c.args.table.now.graph.order c.args.plan.now c.args.table.now.graph c.moves.table.graph c.take_move.new.table.graph
-    c.moves.invariant.continues.tied.reduced step_continues.extends.nodes c.moves.invariant.made (suc c.moves.i) next.next moved
-    (subst (λ (order : List ℕ). MakesOnly c.moves.table.graph c.take_move.new.table.graph (top_function c.args.formula.now order next.next.stack)) same_order
-    (c.in_err-take_move.ensures.made between.stage next.next between.held next.is (λ e. torn (same_error e)))) in
-    runs_short c.args.formula.now c.args.table.now.graph.order c.args.plan.now c.args.table.now.graph c.take_move.new.table.graph made (suc c.moves.i) next.next moved
-    (subst (λ (order : List ℕ). LacksPart c.take_move.new.table.graph (top_function c.args.formula.now order next.next.stack)) same_order
-    (c.in_err-take_move.ensures.lacks between.stage next.next between.held next.is (ap Err cause)))
-
-pub returns-in_err-take_move-clause-found : goal.returns-in_err-take_move-clause-found
-returns-in_err-take_move-clause-found g c = no_answer _ c.in_err-take_move.field-0.0 _ c.from_residual-in_err-take_move.ensures.1
-
-pub returns-in_err-take_move-clause-refuted : goal.returns-in_err-take_move-clause-refuted
-returns-in_err-take_move-clause-refuted g c is = absurd (no_ok _ c.in_err-take_move.field-0.0 _ c.from_residual-in_err-take_move.ensures.1 is)
-
-pub returns-in_err-take_move-clause-node_limit : goal.returns-in_err-take_move-clause-node_limit
-returns-in_err-take_move-clause-node_limit g c is = c.in_err-take_move.ensures.node_limit (ap Err (came_from _ c.in_err-take_move.field-0.0 NodeLimit c.from_residual-in_err-take_move.ensures.1 is))
-
-pub returns-in_err-take_move-clause-id_limit : goal.returns-in_err-take_move-clause-id_limit
-returns-in_err-take_move-clause-id_limit g c is = c.in_err-take_move.ensures.id_limit (ap Err (came_from _ c.in_err-take_move.field-0.0 IdLimit c.from_residual-in_err-take_move.ensures.1 is))
-
-pub returns-in_err-take_move-clause-beside : goal.returns-in_err-take_move-clause-beside
-returns-in_err-take_move-clause-beside g c = c.in_err-take_move.ensures.beside ∙ c.moves.invariant.beside
-
-pub returns-clause-continues : goal.returns-clause-continues
-returns-clause-continues g c whole = c.moves.invariant.continues
+pub returns-clause-leaves : goal.returns-clause-leaves
+returns-clause-leaves g c = c.moves.invariant.continues
 
 pub returns-clause-short : goal.returns-clause-short
 returns-clause-short g c is = absurd (no_error is)
 
-pub returns-clause-node_limit : goal.returns-clause-node_limit
-returns-clause-node_limit g c is = absurd (no_error is)
-
-pub returns-clause-id_limit : goal.returns-clause-id_limit
-returns-clause-id_limit g c is = absurd (no_error is)
-
-pub returns-clause-broken : goal.returns-clause-broken
-returns-clause-broken g c is = absurd (no_error is)
-
 pub returns-clause-beside : goal.returns-clause-beside
 returns-clause-beside g c = c.moves.invariant.beside
+
+pub returns-in_err-take_move-clause-found : goal.returns-in_err-take_move-clause-found
+returns-in_err-take_move-clause-found g c = no_answer _ c.in_err-take_move.field-0.0 _ c.from_residual-in_err-take_move.ensures.1
+
+pub returns-in_err-take_move-clause-leaves : goal.returns-in_err-take_move-clause-leaves
+returns-in_err-take_move-clause-leaves g c =
+    let old = c.args.table.now in
+    let mid = c.moves.table in
+    let new = c.take_move.new.table in
+    let channel = g.S.Sink.channel in
+    subst (λ (error : Option TableError). Leaves g.S.Sink.tells (channel old.book.sink) (channel new.book.sink) old new error)
+    (sym (error_handed _ c.in_err-take_move.field-0.0 c.from_residual-in_err-take_move.ensures.1))
+    (leaves_after g.S.Sink.tells channel c.steps_law.ensures (channel old.book.sink) (channel mid.book.sink) (channel new.book.sink) old mid new c.moves.invariant.continues (Some c.in_err-take_move.field-0.0) c.in_err-take_move.ensures.leaves)
+
+pub returns-in_err-take_move-clause-short : goal.returns-in_err-take_move-clause-short
+returns-in_err-take_move-clause-short g c is =
+    let formula = c.args.formula.now in
+    let plan = c.args.plan.now in
+    let order = c.args.table.now.graph.order in
+    let mid = c.moves.table.graph in
+    let new = c.take_move.new.table.graph in
+    let between = c.moves.invariant.between in
+    let next = next_of formula plan c.moves.i between.stage c.requires.plan.last c.in-Some.step (sym c.get.ensures ∙ c.in-Some.is) (between.rest ∙ c.requires.plan.possible) in
+    let cause : c.in_err-take_move.field-0.0 ≡ NodeLimit = came_from _ c.in_err-take_move.field-0.0 NodeLimit c.from_residual-in_err-take_move.ensures.1 is in
+    let moved : after_moves formula no_stage (take (suc c.moves.i) plan) ≡ Some next.next = moved_on formula plan c.moves.i c.in-Some.step no_stage between.stage next.next (sym c.get.ensures ∙ c.in-Some.is) between.front next.is in
+    let same_order = c.moves.invariant.continues.order in
+    let made = more_made formula order plan mid new c.moves.invariant.made (suc c.moves.i) next.next moved
+    (subst (λ (o : List ℕ). KeepsOrMakes mid new (top_function formula o next.next.stack)) same_order (c.in_err-take_move.ensures.made between.stage next.next between.held next.is)) in
+    runs_short formula order plan new made (suc c.moves.i) next.next moved
+    (subst (λ (o : List ℕ). LacksPart new (top_function formula o next.next.stack)) same_order (c.in_err-take_move.ensures.lacks between.stage next.next between.held next.is (ap Err cause)))
+
+pub returns-in_err-take_move-clause-beside : goal.returns-in_err-take_move-clause-beside
+returns-in_err-take_move-clause-beside g c = c.in_err-take_move.ensures.beside ∙ c.moves.invariant.beside
+
+pub returns-then-branch-clause-leaves : goal.returns-then-branch-clause-leaves
+returns-then-branch-clause-leaves g c =
+    c.steps_law.ensures.go_on _ _ _ c.args.table.now c.moves.table c.take_move.new.table c.moves.invariant.continues c.in_ok-take_move.ensures.leaves
+
+pub returns-then-branch-clause-beside : goal.returns-then-branch-clause-beside
+returns-then-branch-clause-beside g c = c.in_ok-take_move.ensures.beside ∙ c.moves.invariant.beside
+
+pub returns-in_err-model-clause-leaves : goal.returns-in_err-model-clause-leaves
+returns-in_err-model-clause-leaves g c =
+    let old = c.args.table.now in
+    let new = c.moves.table in
+    let channel = g.S.Sink.channel in
+    memory_left g.S.Sink.tells (channel old.book.sink) (channel new.book.sink) old new _ (search rules) c.moves.invariant.continues

@@ -11,6 +11,6 @@ invariant-moves g l = record {
   between : IsBetween l.formula l.plan l.i l.table.graph l.table.book.state.live l.stack.items;
   ready : IsReady l.formula l.table (entries l.cache);
   continues : Continues g.S.Sink.tells (g.S.Sink.channel l.fn.table.book.sink) (g.S.Sink.channel l.table.book.sink) l.fn.table l.table;
-  made : AreMade l.formula l.fn.table.graph.order l.plan l.fn.table.graph l.table.graph;
+  made : AreMade l.formula l.fn.table.graph.order l.plan l.table.graph;
   beside : g.S.Sink.beside l.table.book.sink ≡ g.S.Sink.beside l.fn.table.book.sink;
 }

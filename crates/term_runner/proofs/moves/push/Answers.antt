@@ -6,12 +6,16 @@ use Rattle.node_table.specs.Made.{LacksPart, MakesOnly}
 use Rattle.schedule_plan.specs.Plan.{input}
 use Rattle.clause_terms.specs.Term.{clause_function}
 use Rattle.term_runner.specs.Held.{AreHeld}
-use Rattle.node_table.specs.declared.error.TableError.TheVariants.{NodeLimit, IdLimit, WriteFault}
-use Rattle.node_table.specs.HandedOn.{no_error, came_from, other_cause, no_answer}
+use Rattle.node_table.specs.declared.error.TableError.TheVariants.{NodeLimit}
+use Rattle.node_table.specs.HandedOn.{came_from, no_answer}
 use Rattle.term_runner.proofs.Planned.{no_limit}
 use Rattle.term_runner.proofs.Inputs.{input_live, input_literals, input_some}
-use Rattle.term_runner.proofs.Stacks.{Growth, held_kept, pushed, clause_held, false_refutes, if_ok}
+use Rattle.term_runner.proofs.Leaving.{after_all, steps_handed}
+use Rattle.term_runner.proofs.Stacks.{held_kept, pushed, clause_held, false_refutes, if_ok}
 use Rattle.term_runner.proofs.moves.push.Goals as goal
+
+pub push_clause-requires-clause-sound : goal.push_clause-requires-clause-sound
+push_clause-requires-clause-sound g c = c.requires.ready.1.sound
 
 pub push_clause-requires-clause-live : goal.push_clause-requires-clause-live
 push_clause-requires-clause-live g c =
@@ -19,7 +23,7 @@ push_clause-requires-clause-live g c =
 
 pub push_clause-requires-clause-variables : goal.push_clause-requires-clause-variables
 push_clause-requires-clause-variables g c =
-    input_literals c.args.formula.now c.args.table.now c.requires.ready.0 c.requires.ready.1 c.args.number c.requires.from_one c.requires.to_len c.clause-clause.result.now c.clause-clause.ensures c.is_formula.ensures.literals
+    input_literals c.args.formula.now c.args.table.now c.requires.ready.0 c.requires.ready.1 c.args.number c.requires.from_one c.requires.to_len c.clause-clause.result.now c.clause-clause.ensures c.formula_law.ensures.literals
 
 pub push_clause-requires-clause-some : goal.push_clause-requires-clause-some
 push_clause-requires-clause-some g c =
@@ -27,17 +31,16 @@ push_clause-requires-clause-some g c =
 
 pub returns-clause-held : goal.returns-clause-held
 returns-clause-held g c terms are =
-    let growth : Growth = record { stands = c.growth_law.ensures.stands; level = c.growth_law.ensures.level; value = c.growth_law.ensures.value; atom = c.growth_law.ensures.atom; justified = c.growth_law.ensures.justified } in
     let old = c.args.table.now in
     let new = c.push_clause.new.table in
-    let grown = c.in_ok-found.ensures.continues no_error in
+    let extends = c.in_ok-found.ensures.steps.extends in
     let formula = c.args.formula.now in
     if_ok c.put.result (λ refuted. refuted ≡ false → (c.in_ok-found.found.0 ≢ False) × (c.put.new.stack.items ≡ c.args.stack.now.items ++ record { node = c.in_ok-found.found.0; unit = c.in_ok-found.found.1 } ∷ []))
     (λ refuted. refuted ≡ false → AreHeld formula new.graph new.book.state.live (reverse c.put.new.stack.items) (input c.args.number ∷ terms))
     (λ refuted stacked is. let s = stacked is in
     pushed formula new.graph new.book.state.live c.args.stack.now.items c.put.new.stack.items (record { node = c.in_ok-found.found.0; unit = c.in_ok-found.found.1 }) s.1 (input c.args.number) terms
     (clause_held formula new.graph new.book.state.live c.clause-clause.result.now c.args.number c.in_ok-found.found.0 c.in_ok-found.found.1 c.clause-clause.ensures c.in_ok-found.ensures.term s.0)
-    (held_kept growth old.graph new.graph c.requires.ready.1.tied.reduced grown.extends.nodes old.book.state.live new.book.state.live grown.extends.clauses formula (reverse c.args.stack.now.items) terms are))
+    (held_kept c.growth_law.ensures old.graph new.graph c.requires.ready.1.sound.tied.reduced extends.nodes old.book.state.live new.book.state.live extends.clauses formula (reverse c.args.stack.now.items) terms are))
     c.put.ensures.stacked
 
 pub returns-clause-refuted : goal.returns-clause-refuted
@@ -47,29 +50,22 @@ returns-clause-refuted g c =
     (λ refuted named is. false_refutes new.graph new.book.state.live c.in_ok-found.found.0 c.in_ok-found.found.1 (named is) c.in_ok-found.ensures.term.proved)
     c.put.ensures.refuted
 
-pub returns-in_err-found-clause-continues : goal.returns-in_err-found-clause-continues
-returns-in_err-found-clause-continues g c whole =
-    c.in_err-found.ensures.continues (other_cause _ c.in_err-found.field-0.0 WriteFault c.from_residual.ensures.1 whole)
+pub returns-clause-steps : goal.returns-clause-steps
+returns-clause-steps g c = after_all _ _ _ c.args.table.now c.push_clause.new.table _ c.put.result c.put.ensures.failed c.in_ok-found.ensures.steps
 
-pub returns-in_err-found-clause-made : goal.returns-in_err-found-clause-made
-returns-in_err-found-clause-made g c whole =
-    let old = c.args.table.now.graph in
-    subst (λ (clause : List ℤ). MakesOnly old c.push_clause.new.table.graph (clause_function old.order clause)) c.clause-clause.ensures
-    (c.in_err-found.ensures.made (other_cause _ c.in_err-found.field-0.0 WriteFault c.from_residual.ensures.1 whole))
+pub returns-clause-retired : goal.returns-clause-retired
+returns-clause-retired g c = c.in_ok-found.ensures.retired
 
 pub returns-clause-made : goal.returns-clause-made
-returns-clause-made g c whole =
+returns-clause-made g c =
     let old = c.args.table.now.graph in
-    subst (λ (clause : List ℤ). MakesOnly old c.push_clause.new.table.graph (clause_function old.order clause)) c.clause-clause.ensures (c.in_ok-found.ensures.made no_error)
-
-pub returns-in_err-found-clause-lacks : goal.returns-in_err-found-clause-lacks
-returns-in_err-found-clause-lacks g c is =
-    let old = c.args.table.now.graph in
-    subst (λ (clause : List ℤ). LacksPart c.push_clause.new.table.graph (clause_function old.order clause)) c.clause-clause.ensures
-    (c.in_err-found.ensures.lacks (ap Err (came_from _ c.in_err-found.field-0.0 NodeLimit c.from_residual.ensures.1 is)))
+    subst (λ (clause : List ℤ). MakesOnly old c.push_clause.new.table.graph (clause_function old.order clause)) c.clause-clause.ensures c.in_ok-found.ensures.made
 
 pub returns-clause-lacks : goal.returns-clause-lacks
 returns-clause-lacks g c is = absurd (no_limit c.put.result c.put.ensures.failed is)
+
+pub returns-clause-beside : goal.returns-clause-beside
+returns-clause-beside g c = c.in_ok-found.ensures.beside
 
 pub returns-in_err-found-clause-held : goal.returns-in_err-found-clause-held
 returns-in_err-found-clause-held g c terms are = no_answer _ c.in_err-found.field-0.0 _ c.from_residual.ensures.1
@@ -77,23 +73,22 @@ returns-in_err-found-clause-held g c terms are = no_answer _ c.in_err-found.fiel
 pub returns-in_err-found-clause-refuted : goal.returns-in_err-found-clause-refuted
 returns-in_err-found-clause-refuted g c = no_answer _ c.in_err-found.field-0.0 _ c.from_residual.ensures.1
 
-pub returns-in_err-found-clause-id_limit : goal.returns-in_err-found-clause-id_limit
-returns-in_err-found-clause-id_limit g c is = c.in_err-found.ensures.id_limit (ap Err (came_from _ c.in_err-found.field-0.0 IdLimit c.from_residual.ensures.1 is))
+pub returns-in_err-found-clause-steps : goal.returns-in_err-found-clause-steps
+returns-in_err-found-clause-steps g c = steps_handed _ _ _ c.args.table.now c.push_clause.new.table _ _ c.in_err-found.field-0.0 c.from_residual.ensures.1 c.in_err-found.ensures.steps
 
-pub returns-in_err-found-clause-node_limit : goal.returns-in_err-found-clause-node_limit
-returns-in_err-found-clause-node_limit g c is = c.in_err-found.ensures.node_limit (ap Err (came_from _ c.in_err-found.field-0.0 NodeLimit c.from_residual.ensures.1 is))
+pub returns-in_err-found-clause-retired : goal.returns-in_err-found-clause-retired
+returns-in_err-found-clause-retired g c = c.in_err-found.ensures.retired
 
-pub returns-in_err-found-clause-broken : goal.returns-in_err-found-clause-broken
-returns-in_err-found-clause-broken g c is = c.in_err-found.ensures.broken (ap Err (came_from _ c.in_err-found.field-0.0 WriteFault c.from_residual.ensures.1 is))
+pub returns-in_err-found-clause-made : goal.returns-in_err-found-clause-made
+returns-in_err-found-clause-made g c =
+    let old = c.args.table.now.graph in
+    subst (λ (clause : List ℤ). MakesOnly old c.push_clause.new.table.graph (clause_function old.order clause)) c.clause-clause.ensures c.in_err-found.ensures.made
+
+pub returns-in_err-found-clause-lacks : goal.returns-in_err-found-clause-lacks
+returns-in_err-found-clause-lacks g c is =
+    let old = c.args.table.now.graph in
+    subst (λ (clause : List ℤ). LacksPart c.push_clause.new.table.graph (clause_function old.order clause)) c.clause-clause.ensures
+    (c.in_err-found.ensures.lacks (ap Err (came_from _ c.in_err-found.field-0.0 NodeLimit c.from_residual.ensures.1 is)))
 
 pub returns-in_err-found-clause-beside : goal.returns-in_err-found-clause-beside
 returns-in_err-found-clause-beside g c = c.in_err-found.ensures.beside
-
-pub returns-clause-continues : goal.returns-clause-continues
-returns-clause-continues g c whole = c.in_ok-found.ensures.continues no_error
-
-pub returns-clause-node_limit : goal.returns-clause-node_limit
-returns-clause-node_limit g c is = absurd (no_limit c.put.result c.put.ensures.failed is)
-
-pub returns-clause-beside : goal.returns-clause-beside
-returns-clause-beside g c = c.in_ok-found.ensures.beside

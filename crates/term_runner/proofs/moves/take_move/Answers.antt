@@ -1,10 +1,12 @@
 use Rattle.std.proofs.Common.{◌≡◌, false, List, ◌∷◌, reverse, sym, subst}
 use Rattle.apply_and.specs.Cache.{entries}
-use Rattle.node_table.specs.Made.{LacksPart, MakesOnly}
+use Rattle.node_table.specs.Made.{LacksPart}
 use Rattle.schedule_plan.specs.Plan.{Term, input, both}
-use Rattle.term_runner.specs.Needs.{top_function}
+use Rattle.term_runner.specs.Needs.{KeepsOrMakes, term_function, top_function}
 use Rattle.term_runner.specs.Held.{AreHeld}
-use Rattle.term_runner.proofs.Stacks.{Growth, fits_kept, ready_after, if_ok}
+use Rattle.term_runner.proofs.Leaving.{went_on}
+use Rattle.term_runner.proofs.Planned.{keeps_or_makes}
+use Rattle.term_runner.proofs.Stacks.{ready_after, if_ok}
 use Rattle.term_runner.proofs.Taking.{push_of, and_of, no_quantifier}
 use Rattle.term_runner.proofs.moves.take_move.Goals as goal
 
@@ -28,12 +30,11 @@ returns-in-Push-clause-held g c stage next are is =
 
 pub returns-in-Push-clause-ready : goal.returns-in-Push-clause-ready
 returns-in-Push-clause-ready g c whole =
-    let growth : Growth = record { stands = c.growth_law.ensures.stands; level = c.growth_law.ensures.level; value = c.growth_law.ensures.value; atom = c.growth_law.ensures.atom; justified = c.growth_law.ensures.justified } in
     let old = c.args.table.now in
     let new = c.push.new.table in
-    let grown = c.push.ensures.continues whole in
-    ready_after c.args.formula.now old new (entries c.args.cache.now) (entries c.args.cache.now) c.requires.ready grown.in_step grown.tied grown.extends
-    (fits_kept growth old.graph new.graph c.requires.ready.tied.reduced grown.extends.nodes old.book.state.live new.book.state.live grown.extends.clauses (entries c.args.cache.now) c.requires.ready.fits)
+    let steps = c.push.ensures.steps in
+    let kept = c.entry_law.ensures.kept old new (entries c.args.cache.now) c.requires.ready.sound steps.extends c.push.ensures.retired c.requires.ready.fits in
+    ready_after c.args.formula.now old new (entries c.args.cache.now) (entries c.args.cache.now) c.requires.ready (went_on _ _ _ old new c.push.result steps.leaves whole).sound steps.extends kept
 
 pub conjoin-requires-clause-two : goal.conjoin-requires-clause-two
 conjoin-requires-clause-two g c =
@@ -62,13 +63,16 @@ pub returns-in-And-clause-ready : goal.returns-in-And-clause-ready
 returns-in-And-clause-ready g c whole =
     let old = c.args.table.now in
     let new = c.conjoin.new.table in
-    let grown = c.conjoin.ensures.continues whole in
-    ready_after c.args.formula.now old new (entries c.args.cache.now) (entries c.conjoin.new.cache) c.requires.ready grown.in_step grown.tied grown.extends (c.conjoin.ensures.fits whole)
+    let steps = c.conjoin.ensures.steps in
+    ready_after c.args.formula.now old new (entries c.args.cache.now) (entries c.conjoin.new.cache) c.requires.ready (went_on _ _ _ old new c.conjoin.result steps.leaves whole).sound steps.extends (c.conjoin.ensures.fits whole)
 
 pub returns-in-Push-clause-made : goal.returns-in-Push-clause-made
-returns-in-Push-clause-made g c stage next are is whole =
+returns-in-Push-clause-made g c stage next are is =
     let move = push_of c.args.formula.now stage next c.args.step c.in-Push.number c.in-Push.is is in
-    subst (λ (terms : List Term). MakesOnly c.args.table.now.graph c.push.new.table.graph (top_function c.args.formula.now c.args.table.now.graph.order terms)) (sym move.stack) (c.push.ensures.made whole)
+    let old = c.args.table.now.graph in
+    let new = c.push.new.table.graph in
+    subst (λ (terms : List Term). KeepsOrMakes old new (top_function c.args.formula.now old.order terms)) (sym move.stack)
+    (keeps_or_makes c.growth_law.ensures old new (term_function c.args.formula.now old.order (input c.in-Push.number)) c.requires.ready.sound.tied.reduced c.push.ensures.steps.extends.nodes c.push.ensures.made)
 
 pub returns-in-Push-clause-lacks : goal.returns-in-Push-clause-lacks
 returns-in-Push-clause-lacks g c stage next are is limit =
@@ -76,12 +80,14 @@ returns-in-Push-clause-lacks g c stage next are is limit =
     subst (λ (terms : List Term). LacksPart c.push.new.table.graph (top_function c.args.formula.now c.args.table.now.graph.order terms)) (sym move.stack) (c.push.ensures.lacks limit)
 
 pub returns-in-And-clause-made : goal.returns-in-And-clause-made
-returns-in-And-clause-made g c stage next are is whole =
+returns-in-And-clause-made g c stage next are is =
     let move = and_of c.args.formula.now stage next c.args.step c.in-And.is is in
     let old = c.args.table.now in
+    let new = c.conjoin.new.table.graph in
     let two = subst (λ (terms : List Term). AreHeld c.args.formula.now old.graph old.book.state.live (reverse c.args.stack.now.items) terms) move.before are in
-    subst (λ (terms : List Term). MakesOnly old.graph c.conjoin.new.table.graph (top_function c.args.formula.now old.graph.order terms)) (sym move.after)
-    (c.conjoin.ensures.made c.args.formula.now move.one move.other move.rest two whole)
+    subst (λ (terms : List Term). KeepsOrMakes old.graph new (top_function c.args.formula.now old.graph.order terms)) (sym move.after)
+    (keeps_or_makes c.growth_law.ensures old.graph new (term_function c.args.formula.now old.graph.order (both move.one move.other)) c.requires.ready.sound.tied.reduced c.conjoin.ensures.steps.extends.nodes
+    (c.conjoin.ensures.made c.args.formula.now move.one move.other move.rest two))
 
 pub returns-in-And-clause-lacks : goal.returns-in-And-clause-lacks
 returns-in-And-clause-lacks g c stage next are is limit =
@@ -97,17 +103,8 @@ unreachable-requires g c = no_quantifier c.args.step c.in-Exists.field-0 c.in-Ex
 pub returns-in-Push-clause-refuted : goal.returns-in-Push-clause-refuted
 returns-in-Push-clause-refuted g c = c.push.ensures.refuted
 
-pub returns-in-Push-clause-continues : goal.returns-in-Push-clause-continues
-returns-in-Push-clause-continues g c = c.push.ensures.continues
-
-pub returns-in-Push-clause-node_limit : goal.returns-in-Push-clause-node_limit
-returns-in-Push-clause-node_limit g c = c.push.ensures.node_limit
-
-pub returns-in-Push-clause-id_limit : goal.returns-in-Push-clause-id_limit
-returns-in-Push-clause-id_limit g c = c.push.ensures.id_limit
-
-pub returns-in-Push-clause-broken : goal.returns-in-Push-clause-broken
-returns-in-Push-clause-broken g c = c.push.ensures.broken
+pub returns-in-Push-clause-leaves : goal.returns-in-Push-clause-leaves
+returns-in-Push-clause-leaves g c = c.push.ensures.steps.leaves
 
 pub returns-in-Push-clause-beside : goal.returns-in-Push-clause-beside
 returns-in-Push-clause-beside g c = c.push.ensures.beside
@@ -115,17 +112,8 @@ returns-in-Push-clause-beside g c = c.push.ensures.beside
 pub returns-in-And-clause-refuted : goal.returns-in-And-clause-refuted
 returns-in-And-clause-refuted g c = c.conjoin.ensures.refuted
 
-pub returns-in-And-clause-continues : goal.returns-in-And-clause-continues
-returns-in-And-clause-continues g c = c.conjoin.ensures.continues
-
-pub returns-in-And-clause-node_limit : goal.returns-in-And-clause-node_limit
-returns-in-And-clause-node_limit g c = c.conjoin.ensures.node_limit
-
-pub returns-in-And-clause-id_limit : goal.returns-in-And-clause-id_limit
-returns-in-And-clause-id_limit g c = c.conjoin.ensures.id_limit
-
-pub returns-in-And-clause-broken : goal.returns-in-And-clause-broken
-returns-in-And-clause-broken g c = c.conjoin.ensures.broken
+pub returns-in-And-clause-leaves : goal.returns-in-And-clause-leaves
+returns-in-And-clause-leaves g c = c.conjoin.ensures.steps.leaves
 
 pub returns-in-And-clause-beside : goal.returns-in-And-clause-beside
 returns-in-And-clause-beside g c = c.conjoin.ensures.beside

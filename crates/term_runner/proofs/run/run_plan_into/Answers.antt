@@ -1,22 +1,25 @@
-use Rattle.std.proofs.Common.{rules, MutBor, ◌≡◌, ℕ, List, [], refl, sym, ap, ◌∙◌, subst, nat_cmp}
+use Rattle.std.proofs.Common.{rules, MutBor, ◌≡◌, ℕ, List, Result, [], refl, sym, ap, ◌∙◌, subst}
 use Rattle.std.specs.Prelude.{IsTrue}
 use Rattle.std.specs.FinMap as map
 use Rattle.host_io.specs.Channel.{Channel}
 use Rattle.clause_ledger.specs.Book.{Book}
-use Rattle.node_table.specs.Diagram.{Graph, branch_at}
+use Rattle.node_table.specs.Diagram.{Graph}
 use Rattle.node_table.specs.Table.{TableState}
-use Rattle.lrat_rules.specs.State.{start}
+use Rattle.term_runner.specs.declared.error.RunError.{RunError}
+use Rattle.term_runner.specs.declared.outcome.Outcome.{Outcome}
 use Rattle.term_runner.specs.Ends.{Ends}
 use Rattle.term_runner.specs.Opened.{Leads}
 use Rattle.term_runner.proofs.Ending.{nothing_ends}
-use Rattle.term_runner.proofs.Opening.{proof_at_start, opened_at, ready_at, decided_leads}
+use Rattle.term_runner.proofs.Opening.{proof_at_start, whole_at_start, opened_at, ready_at, decided_leads}
 use Rattle.term_runner.proofs.run.run_plan_into.Goals as goal
 
 pub returns-in_default-clause-ends : goal.returns-in_default-clause-ends
 returns-in_default-clause-ends g c =
+    let formula = c.args.formula.now in
+    let tells = g.S.Sink.tells in
     let channel : Channel = g.S.Sink.channel c.args.sink.now in
-    let proof = proof_at_start c.start_law.ensures.clauses c.start_law.ensures.none_at_zero c.start_law.ensures.none_above c.start_law.ensures.spells c.args.formula.now.clauses g.S.Sink.tells channel c.requires.fresh in
-    nothing_ends g.S.Sink.tells channel channel c.args.formula.now c.args.order.now c.args.plan.now c.args.limits (λ t. record { state = start c.args.formula.now.clauses; spelled = proof.spelled t }) refl refl refl
+    let proof = proof_at_start c.start_law.ensures.clauses c.start_law.ensures.none_at_zero c.start_law.ensures.none_above c.derivation_law.ensures.none formula.clauses tells channel c.requires.fresh in
+    nothing_ends tells channel channel formula c.args.order.now c.args.plan.now c.args.limits (whole_at_start c.marks_law.ensures.start formula c.args.limits c.formula_law.ensures.literals tells channel proof) refl refl refl
 
 pub returns-in-Some-clause-ends : goal.returns-in-Some-clause-ends
 returns-in-Some-clause-ends g c =
@@ -24,8 +27,8 @@ returns-in-Some-clause-ends g c =
     let ledger = c.new-ledger.result in
     let same : ledger.sink.now ≡ c.args.sink.now = ap (λ (b : Book (MutBor g.row.S.Denot)). b.sink.now) c.new-ledger.ensures in
     let fresh : IsTrue g.S.Sink.tells → (g.S.Sink.channel ledger.sink.now).written ≡ [] = λ t. ap (λ (s : g.row.S.Denot). (g.S.Sink.channel s).written) same ∙ c.requires.fresh t in
-    let proof = proof_at_start c.start_law.ensures.clauses c.start_law.ensures.none_at_zero c.start_law.ensures.none_above c.start_law.ensures.spells formula.clauses g.S.Sink.tells (g.S.Sink.channel ledger.sink.now) fresh in
-    let opened = opened_at g.S.Sink.tells (g.S.Sink.channel ledger.sink.now) formula c.args.limits.max_ids ledger
+    let proof = proof_at_start c.start_law.ensures.clauses c.start_law.ensures.none_at_zero c.start_law.ensures.none_above c.derivation_law.ensures.none formula.clauses g.S.Sink.tells (g.S.Sink.channel ledger.sink.now) fresh in
+    let opened = opened_at g.S.Sink.tells (g.S.Sink.channel ledger.sink.now) formula c.args.limits.max_ids ledger c.formula_law.ensures.literals
     (ap (λ (b : Book (MutBor g.row.S.Denot)). b.state) c.new-ledger.ensures ∙ c.in-Ok.ensures) (ap (λ (b : Book (MutBor g.row.S.Denot)). b.limit) c.new-ledger.ensures)
     (ap (λ (b : Book (MutBor g.row.S.Denot)). b.in_step) c.new-ledger.ensures) proof fresh in
     subst (λ (s : g.row.S.Denot). Ends g.S.Sink.tells (g.S.Sink.channel c.args.sink.now) (g.S.Sink.channel s) formula c.args.order.now c.args.plan.now c.args.limits c.refute-result.result) (search rules)
@@ -34,23 +37,25 @@ returns-in-Some-clause-ends g c =
 
 pub returns-in_default-new-clause-ends : goal.returns-in_default-new-clause-ends
 returns-in_default-new-clause-ends g c =
-    let channel : Channel = g.S.Sink.channel c.args.sink.now in
-    let proof = proof_at_start c.start_law.ensures.clauses c.start_law.ensures.none_at_zero c.start_law.ensures.none_above c.start_law.ensures.spells c.args.formula.now.clauses g.S.Sink.tells channel c.requires.fresh in
-    subst (λ (s : g.row.S.Denot). Ends g.S.Sink.tells channel (g.S.Sink.channel s) c.args.formula.now c.args.order.now c.args.plan.now c.args.limits _) (search rules)
-    (nothing_ends g.S.Sink.tells channel channel c.args.formula.now c.args.order.now c.args.plan.now c.args.limits (λ t. record { state = start c.args.formula.now.clauses; spelled = proof.spelled t }) refl refl refl)
-
-pub decide-outcome-requires-clause-ready : goal.decide-outcome-requires-clause-ready
-decide-outcome-requires-clause-ready g c =
     let formula = c.args.formula.now in
+    let tells = g.S.Sink.tells in
+    let channel : Channel = g.S.Sink.channel c.args.sink.now in
+    let proof = proof_at_start c.start_law.ensures.clauses c.start_law.ensures.none_at_zero c.start_law.ensures.none_above c.derivation_law.ensures.none formula.clauses tells channel c.requires.fresh in
+    subst (λ (s : g.row.S.Denot). Ends tells channel (g.S.Sink.channel s) formula c.args.order.now c.args.plan.now c.args.limits _) (search rules)
+    (nothing_ends tells channel channel formula c.args.order.now c.args.plan.now c.args.limits (whole_at_start c.marks_law.ensures.start formula c.args.limits c.formula_law.ensures.literals tells channel proof) refl refl refl)
+
+pub decide-found-requires-clause-ready : goal.decide-found-requires-clause-ready
+decide-found-requires-clause-ready g c =
     let order = c.args.order.now in
     let table = c.new-table.result in
     let graph : table.graph ≡ record { order = order; nodes = map.empty } =
     ap (λ (t : TableState (MutBor g.row.S.Denot)). t.graph) c.new-table.ensures ∙ c.in-Ok-new.ensures ∙ (λ k. record { order = c.as_slice.ensures.value k; nodes = map.empty }) in
     let book : table.book ≡ c.new-ledger.result = ap (λ (t : TableState (MutBor g.row.S.Denot)). t.book) c.new-table.ensures in
-    ready_at c.start_law.ensures.clauses c.opening_law.ensures formula order table graph
+    ready_at c.start_law.ensures.clauses c.opening_law.ensures.tied c.opening_law.ensures.retired c.args.formula.now order table graph
     (ap (λ (b : Book (MutBor g.row.S.Denot)). b.state) (book ∙ c.new-ledger.ensures) ∙ c.in-Ok.ensures)
     (ap (λ (b : Book (MutBor g.row.S.Denot)). b.in_step) (book ∙ c.new-ledger.ensures))
-    c.as_slice.ensures.order c.requires.order c.is_formula.ensures.literals c.in_default-first_empty.ensures
+    (ap (λ (t : TableState (MutBor g.row.S.Denot)). t.retired) c.new-table.ensures)
+    c.as_slice.ensures.order c.requires.order c.formula_law.ensures.literals c.in_default-first_empty.ensures
 
 pub returns-clause-ends : goal.returns-clause-ends
 returns-clause-ends g c =
@@ -58,9 +63,11 @@ returns-clause-ends g c =
     let order = c.args.order.now in
     let moves = c.args.plan.now in
     let limits = c.args.limits in
+    let tells = g.S.Sink.tells in
+    let literals = c.formula_law.ensures.literals in
     let table = c.new-table.result in
-    let new = c.decide-outcome.new.table in
-    let outcome = c.decide-outcome.result in
+    let new = c.decide-found.new.table in
+    let found = c.decide-found.result in
     let graph : table.graph ≡ record { order = order; nodes = map.empty } =
     ap (λ (t : TableState (MutBor g.row.S.Denot)). t.graph) c.new-table.ensures ∙ c.in-Ok-new.ensures ∙ (λ k. record { order = c.as_slice.ensures.value k; nodes = map.empty }) in
     let made : table.book ≡ c.new-ledger.result = ap (λ (t : TableState (MutBor g.row.S.Denot)). t.book) c.new-table.ensures in
@@ -69,17 +76,25 @@ returns-clause-ends g c =
     let same : table.book.sink.now ≡ c.args.sink.now = ap (λ (b : Book (MutBor g.row.S.Denot)). b.sink.now) (made ∙ c.new-ledger.ensures) in
     let before : Channel = g.S.Sink.channel table.book.sink.now in
     let after : Channel = g.S.Sink.channel new.book.sink.now in
-    let fresh : IsTrue g.S.Sink.tells → before.written ≡ [] = λ t. ap (λ (s : g.row.S.Denot). (g.S.Sink.channel s).written) same ∙ c.requires.fresh t in
-    let proof = proof_at_start c.start_law.ensures.clauses c.start_law.ensures.none_at_zero c.start_law.ensures.none_above c.start_law.ensures.spells formula.clauses g.S.Sink.tells before fresh in
-    let opened = opened_at g.S.Sink.tells before formula limits.max_ids table.book state (ap (λ (b : Book (MutBor g.row.S.Denot)). b.limit) (made ∙ c.new-ledger.ensures)) in_step proof fresh in
-    let ready = ready_at c.start_law.ensures.clauses c.opening_law.ensures formula order table graph state in_step c.as_slice.ensures.order c.requires.order c.is_formula.ensures.literals c.in_default-first_empty.ensures in
-    let told = c.decide-outcome.ensures in
-    let leads = decided_leads c.start_law.ensures.clauses c.start_law.ensures.none_at_zero c.start_law.ensures.none_above c.refuted_law.ensures.refutes c.in_use_law.ensures
-    g.S.Sink.tells before after formula table.graph.order moves limits table new outcome opened ready (ap (λ (t : TableState (MutBor g.row.S.Denot)). t.max_nodes) c.new-table.ensures)
-    (λ key. ap (λ (h : Graph). branch_at h key) graph ∙ map.get-empty nat_cmp key) refl
-    (record { found = told.found; refuted = told.refuted; continues = told.continues; node_limit = told.node_limit; short = told.short; few = c.live.ensures.few; id_limit = told.id_limit; open_clause = told.open_clause; tautologies = λ all. ap (λ (t : TableState (MutBor g.row.S.Denot)). (g.S.Sink.channel t.book.sink.now).written) (told.tautologies all); broken = told.broken }) in
-    let handed = subst (λ (b : Book (MutBor g.row.S.Denot)). Leads g.S.Sink.tells before (g.S.Sink.channel b.sink.now) formula table.graph.order moves limits b outcome) (sym c.into_ledger-ledger.ensures) leads in
+    let fresh : IsTrue tells → before.written ≡ [] = λ t. ap (λ (s : g.row.S.Denot). (g.S.Sink.channel s).written) same ∙ c.requires.fresh t in
+    let proof = proof_at_start c.start_law.ensures.clauses c.start_law.ensures.none_at_zero c.start_law.ensures.none_above c.derivation_law.ensures.none formula.clauses tells before fresh in
+    let opened = opened_at tells before formula limits.max_ids table.book literals state (ap (λ (b : Book (MutBor g.row.S.Denot)). b.limit) (made ∙ c.new-ledger.ensures)) in_step proof fresh in
+    let ready = ready_at c.start_law.ensures.clauses c.opening_law.ensures.tied c.opening_law.ensures.retired formula order table graph state in_step
+    (ap (λ (t : TableState (MutBor g.row.S.Denot)). t.retired) c.new-table.ensures) c.as_slice.ensures.order c.requires.order literals c.in_default-first_empty.ensures in
+    let told = c.decide-found.ensures in
+    let leads = decided_leads c.canonical_law.ensures c.soundness_law.ensures.derived c.derivation_law.ensures.refutes c.in_use_law.ensures
+    tells before after formula table.graph.order moves limits table new found opened ready (ap (λ (t : TableState (MutBor g.row.S.Denot)). t.max_nodes) c.new-table.ensures)
+    (record {
+      found = told.found;
+      leaves = told.leaves;
+      tautologies = λ all. ap (λ (t : TableState (MutBor g.row.S.Denot)). (g.S.Sink.channel t.book.sink.now).written) (told.tautologies all);
+      open_clause = told.open_clause;
+      short = told.short;
+      few = c.table_law.ensures.few_nodes;
+    }) in
+    let outcome = subst (λ (o : Result Outcome RunError). Leads tells before after formula table.graph.order moves limits new.book o) (sym c.outcome_of.ensures) leads in
+    let handed = subst (λ (b : Book (MutBor g.row.S.Denot)). Leads tells before (g.S.Sink.channel b.sink.now) formula table.graph.order moves limits b c.outcome_of.result) (sym c.into_ledger-ledger.ensures) outcome in
     let ended = c.finish-result.ensures.ends before formula table.graph.order moves limits handed in
-    let ordered = subst (λ (o : List ℕ). Ends g.S.Sink.tells before (g.S.Sink.channel c.finish-result.new.ledger.sink.now) formula o moves limits c.finish-result.result) (ap (λ (h : Graph). h.order) graph) ended in
-    subst (λ (s : g.row.S.Denot). Ends g.S.Sink.tells (g.S.Sink.channel c.args.sink.now) (g.S.Sink.channel s) formula order moves limits c.finish-result.result) (search rules)
-    (subst (λ (s : g.row.S.Denot). Ends g.S.Sink.tells (g.S.Sink.channel s) (g.S.Sink.channel c.finish-result.new.ledger.sink.now) formula order moves limits c.finish-result.result) same ordered)
+    let ordered = subst (λ (o : List ℕ). Ends tells before (g.S.Sink.channel c.finish-result.new.ledger.sink.now) formula o moves limits c.finish-result.result) (ap (λ (h : Graph). h.order) graph) ended in
+    subst (λ (s : g.row.S.Denot). Ends tells (g.S.Sink.channel c.args.sink.now) (g.S.Sink.channel s) formula order moves limits c.finish-result.result) (search rules)
+    (subst (λ (s : g.row.S.Denot). Ends tells (g.S.Sink.channel s) (g.S.Sink.channel c.finish-result.new.ledger.sink.now) formula order moves limits c.finish-result.result) same ordered)

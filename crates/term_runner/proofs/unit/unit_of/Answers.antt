@@ -2,7 +2,7 @@ use Rattle.std.proofs.Common.{◌≢◌, [], ◌∷◌, subst, inl, inr}
 use Rattle.node_table.specs.declared.node.Just.{Just}
 use Rattle.node_table.specs.Defined.{atom_of}
 use Rattle.node_table.specs.Just.{IsJustified}
-use Rattle.apply_and.specs.Conjunction.{conjunction_atoms}
+use Rattle.operations.specs.Results.{conjunction_atoms}
 use Rattle.term_runner.proofs.Units.{not_both, first_named, second_named, just_named, unit_refuted, not_true}
 use Rattle.term_runner.proofs.unit.unit_of.Goals as goal
 
@@ -10,26 +10,26 @@ pub unreachable-requires : goal.unreachable-requires
 unreachable-requires g c =
     let wu : c.args.w ≢ c.args.u.now.node = λ is. not_both c.is_same.result (c.is_same.ensures.1 is) c.if-is_same.false in
     let wv : c.args.w ≢ c.args.v.now.node = λ is. not_both c.is_same-2.result (c.is_same-2.ensures.1 is) c.if-is_same-2.false in
-    first_named c.canonical_law.ensures c.args.table.now.graph c.requires.tied.reduced c.args.table.now.book.state.live c.args.u.now.node c.args.v.now.node c.args.w c.args.just.now
+    first_named c.canonical_law.ensures c.args.table.now.graph c.requires.sound.tied.reduced c.args.table.now.book.state.live c.args.u.now.node c.args.v.now.node c.args.w c.args.just.now
     c.requires.first c.requires.second c.requires.conjoined c.requires.first_open c.requires.second_open wu wv c.args.u.now.unit c.requires.first_unit c.in_default.ensures
 
 pub unreachable-requires-in_default-clause_id : goal.unreachable-requires-in_default-clause_id
 unreachable-requires-in_default-clause_id g c =
     let wu : c.args.w ≢ c.args.u.now.node = λ is. not_both c.is_same.result (c.is_same.ensures.1 is) c.if-is_same.false in
     let wv : c.args.w ≢ c.args.v.now.node = λ is. not_both c.is_same-2.result (c.is_same-2.ensures.1 is) c.if-is_same-2.false in
-    second_named c.canonical_law.ensures c.args.table.now.graph c.requires.tied.reduced c.args.table.now.book.state.live c.args.u.now.node c.args.v.now.node c.args.w c.args.just.now
+    second_named c.canonical_law.ensures c.args.table.now.graph c.requires.sound.tied.reduced c.args.table.now.book.state.live c.args.u.now.node c.args.v.now.node c.args.w c.args.just.now
     c.requires.first c.requires.second c.requires.conjoined c.requires.first_open c.requires.second_open wu wv c.args.v.now.unit c.requires.second_unit c.in_default-clause_id.ensures
 
 pub unreachable-requires-in_default-clause_id-2 : goal.unreachable-requires-in_default-clause_id-2
 unreachable-requires-in_default-clause_id-2 g c =
     let wu : c.args.w ≢ c.args.u.now.node = λ is. not_both c.is_same.result (c.is_same.ensures.1 is) c.if-is_same.false in
     let wv : c.args.w ≢ c.args.v.now.node = λ is. not_both c.is_same-2.result (c.is_same-2.ensures.1 is) c.if-is_same-2.false in
-    just_named c.canonical_law.ensures c.args.table.now.graph c.requires.tied.reduced c.args.table.now.book.state.live c.args.u.now.node c.args.v.now.node c.args.w c.args.just.now
+    just_named c.canonical_law.ensures c.args.table.now.graph c.requires.sound.tied.reduced c.args.table.now.book.state.live c.args.u.now.node c.args.v.now.node c.args.w c.args.just.now
     c.requires.first c.requires.second c.requires.conjoined c.requires.first_open c.requires.second_open wu wv c.in_default-clause_id-2.ensures
 
 pub add_unit-requires-clause-not_true : goal.add_unit-requires-clause-not_true
 add_unit-requires-clause-not_true g c =
-    not_true c.canonical_law.ensures c.args.table.now.graph c.requires.tied.reduced c.args.table.now.book.state.live c.args.u.now.node c.args.v.now.node c.args.w c.args.just.now
+    not_true c.canonical_law.ensures c.args.table.now.graph c.requires.sound.tied.reduced c.args.table.now.book.state.live c.args.u.now.node c.args.v.now.node c.args.w c.args.just.now
     c.requires.first c.requires.second c.requires.conjoined (λ is. not_both c.is_same.result (c.is_same.ensures.1 is) c.if-is_same.false)
 
 pub add_unit-requires-clause-strict : goal.add_unit-requires-clause-strict
@@ -38,7 +38,7 @@ add_unit-requires-clause-strict g c =
     let wv : c.args.w ≢ c.args.v.now.node = λ is. not_both c.is_same-2.result (c.is_same-2.ensures.1 is) c.if-is_same-2.false in
     let graph = c.args.table.now.graph in
     let live = c.args.table.now.book.state.live in
-    unit_refuted c.canonical_law.ensures graph c.requires.tied.reduced live c.args.u.now.node c.args.v.now.node c.args.w c.args.just.now
+    unit_refuted c.canonical_law.ensures graph c.requires.sound.tied.reduced live c.args.u.now.node c.args.v.now.node c.args.w c.args.just.now
     c.requires.first c.requires.second c.requires.conjoined c.requires.first_open c.requires.second_open wu wv
     c.clause_law.ensures.among c.clause_law.ensures.given c.following_unit_law.ensures.conjunction c.in-Some.first c.in-Some-clause_id.second c.in-Some-clause_id-2.both
     (subst (λ (j : Just). IsJustified live (atom_of graph c.args.u.now.node ∷ []) j) c.in-Some.ensures c.requires.first_unit)

@@ -4,5 +4,5 @@ use Rattle.host_io.proofs.memory_host.MemoryHostHost.create.Goals as goal
 
 pub returns-in-Err-clause-opens : goal.returns-in-Err-clause-opens
 returns-in-Err-clause-opens c =
-    let unused = c.fail.ensures.unused (inr c.requires.created) c.requires.unnamed in
+    let unused = c.unnamed_law.ensures _ (inr c.requires.created) c.requires.unnamed in
     opens_not _ _ _ _ unused c.requires.unnamed c.fail.ensures.faulted c.fail.ensures.no_less

@@ -1,11 +1,16 @@
 -- The line that is judged gives the first of the steps ahead.
-use Rattle.std.proofs.Common.{◌≡◌, ◌≤◌, ◌==◌, true, false, sym, ap, ◌∙◌, arith}
+use Rattle.std.proofs.Common.{◌≡◌, ℕ, ◌≤◌, ◌==◌, List, ◌++◌, true, false, Err, sym, ap, ◌∙◌, arith}
 use Rattle.std.specs.Prelude.{⊤}
 use Rattle.std.proofs.lemmas.Bool.Decides.{nat_tests}
-use Rattle.text_scan.specs.Decides.{Decides-then, OnlyReads-then}
-use Rattle.text_scan.specs.Scan.{ahead, fuel}
+use Rattle.text_scan.specs.declared.scanner.ScanError.TheVariants.{ReadFault as ScanFault}
+use Rattle.text_scan.specs.Items.{next_word}
+use Rattle.lrat_text.specs.declared.reader.Status.TheVariants.{Reading}
+use Rattle.text_scan.specs.Decides.{gained, Decides-then, OnlyReads-then, gained-then, front-then}
+use Rattle.text_scan.specs.Scan.{Scan, ahead, so_far as scan_so_far, is_reading as is_scanning, fuel}
 use Rattle.lrat_text.specs.Draft.{is_open, with_token, drafted}
-use Rattle.lrat_text.specs.Reader.{Reader, open_count}
+use Rattle.lrat_text.specs.Reader.{Reader, so_far, open_count}
+use Rattle.lrat_text.specs.Steps.{broken_off}
+use Rattle.lrat_text.proofs.SoFar.{scanned, scanned_fault, off_overlong, before_so_far, stopped_so_far}
 use Rattle.lrat_text.proofs.Settled.{before_gives, end_gives, limit_gives, call_gives, token_goes, open_small}
 use Rattle.lrat_text.proofs.reader.StepReader.read_on.Goals as goal
 use Rattle.lrat_text.proofs.reader.StepReader.read_on.Goals.{else-is_open-via-then-is_open+else-line, else-is_open-via-else-is_open}
@@ -52,6 +57,12 @@ tokens-preserved g c =
     let small : open_count c.take.new.self.draft ≤ 1 = open_small c.take.new.self.draft in
     let after : fuel c.take.new.self.scan ≡ fuel c.next.new.self = ap (λ (r : Reader). fuel r.scan) taken in
     let before : fuel c.self.inside.scanner ≡ fuel c.tokens.self.scan = ap (λ (r : Reader). fuel r.scan) c.self.view_is in
+    let new_scanning : is_scanning c.take.new.self.scan.status ≡ true → is_scanning c.next.new.self.status ≡ true =
+    λ reading. ap (λ (r : Reader). is_scanning r.scan.status) (sym taken) ∙ reading in
+    let scanning : is_scanning c.take.new.self.scan.status ≡ true → is_scanning c.self.inside.scanner.status ≡ true =
+    λ reading. scanned c.self.inside.scanner c.next.new.self c.in-Ok-Some.ensures.stopped_scanner (new_scanning reading) in
+    let old_scanning : is_scanning c.take.new.self.scan.status ≡ true → is_scanning c.tokens.self.scan.status ≡ true =
+    λ reading. ap (λ (r : Reader). is_scanning r.scan.status) (sym c.self.view_is) ∙ scanning reading in
     record {
       same = λ told.
           let gives = rw c.in-Ok-Some.field-0-is at (c.in-Ok-Some.ensures.gives told) in
@@ -59,6 +70,16 @@ tokens-preserved g c =
           (c.tokens.invariant.same told) gives
           (λ bytes middle more p q. p ∙ ap (λ (r : Reader). drafted (ahead r.scan middle) r.draft) (sym c.self.view_is) ∙ ap (λ is. drafted is c.self.inside.draft) q
           ∙ token_goes c.self.inside.draft c.in-Ok-Some.token (ahead c.next.new.self more) same ∙ ap (λ (r : Reader). drafted (ahead r.scan more) r.draft) (sym taken));
+      scanning = λ reading. c.tokens.invariant.scanning (old_scanning reading);
+      so_far = λ told reading.
+          let token = rw c.in-Ok-Some.field-0-is at (c.in-Ok-Some.ensures.so_far told (scanning reading)) in
+          let gives = c.in-Ok-Some.ensures.gives told in
+          front-then (so_far c.args.self.now) (so_far c.tokens.self) (so_far c.take.new.self)
+          (c.tokens.invariant.same told) gives (c.tokens.invariant.so_far told (old_scanning reading))
+          (λ more. ap (λ (r : Reader). drafted (broken_off (scan_so_far r.scan (gained (g.S.Source.channel c.tokens.source) (g.S.Source.channel c.next.new.source) ++ more))) r.draft) (sym c.self.view_is)
+          ∙ ap (λ is. drafted (broken_off is) c.self.inside.draft) (token (new_scanning reading) more)
+          ∙ token_goes c.self.inside.draft c.in-Ok-Some.token (broken_off (scan_so_far c.next.new.self more)) same
+          ∙ ap (λ (r : Reader). drafted (broken_off (scan_so_far r.scan more)) r.draft) (sym taken));
       status = ap (λ (r : Reader). r.status) taken ∙ ap (λ (r : Reader). r.status) c.self.view_is ∙ c.tokens.invariant.status;
       line = ap (λ (r : Reader). r.line) taken ∙ ap (λ (r : Reader). r.line) c.self.view_is ∙ c.tokens.invariant.line;
       less = omega (arith, moves.less, c.tokens.invariant.less);
@@ -69,3 +90,49 @@ tokens-preserved g c =
 
 pub returns-in-Err-ReadFault-clause-gives : goal.returns-in-Err-ReadFault-clause-gives
 returns-in-Err-ReadFault-clause-gives g c = λ told. Decides-then (λ bytes more. ⊤) (c.tokens.invariant.same told) (c.in-Err-ReadFault.ensures.gives told) (λ bytes middle more p q. tt)
+
+pub returns-then-line-clause-so_far : goal.returns-then-line-clause-so_far
+returns-then-line-clause-so_far g c = λ told.
+    let old : Reader = record { scan = c.next.new.self; draft = c.self.inside.draft; status = c.self.inside.status; line = c.self.inside.line } in
+    let begun : is_open c.self.inside.draft ≡ true = sym c.is_open.ensures ∙ c.if-is_open.true in
+    let differs : (c.self.inside.draft.line == c.in-Ok-Some.token.line) ≡ false = grind (arith, nat_tests) in
+    let inside : is_scanning c.next.new.self.status ≡ true → is_scanning c.self.inside.scanner.status ≡ true =
+    λ reading. scanned c.self.inside.scanner c.next.new.self c.in-Ok-Some.ensures.stopped_scanner reading in
+    let scanning : is_scanning c.next.new.self.status ≡ true → is_scanning c.tokens.self.scan.status ≡ true =
+    λ reading. ap (λ (r : Reader). is_scanning r.scan.status) (sym c.self.view_is) ∙ inside reading in
+    before_so_far c.give_before.result c.in-Ok-Some.token c.args.self.now old c.give_before.new.self (gained (g.S.Source.channel c.args.source.now) (g.S.Source.channel c.next.new.source))
+    c.give_before.ensures begun differs (λ reading. c.tokens.invariant.scanning (scanning reading)) (λ reading.
+    let token = rw c.in-Ok-Some.field-0-is at (c.in-Ok-Some.ensures.so_far told (inside reading)) in
+    front-then (so_far c.args.self.now) (so_far c.tokens.self) (λ more. drafted (next_word c.in-Ok-Some.token (broken_off (scan_so_far c.next.new.self more))) c.self.inside.draft)
+    (c.tokens.invariant.same told) (c.in-Ok-Some.ensures.gives told) (c.tokens.invariant.so_far told (scanning reading))
+    (λ more. ap (λ (r : Reader). drafted (broken_off (scan_so_far r.scan (gained (g.S.Source.channel c.tokens.source) (g.S.Source.channel c.next.new.source) ++ more))) r.draft) (sym c.self.view_is)
+    ∙ ap (λ is. drafted (broken_off is) c.self.inside.draft) (token reading more)))
+
+pub returns-in-Ok-None-clause-so_far : goal.returns-in-Ok-None-clause-so_far
+returns-in-Ok-None-clause-so_far g c = λ told.
+    let moves = rw c.in-Ok-None.field-0-is at c.in-Ok-None.ensures.moves in
+    let stopped : is_scanning c.give_at_end.new.self.scan.status ≡ false = ap (λ (s : Scan). is_scanning s.status) c.give_at_end.ensures.same_scan ∙ ap is_scanning moves in
+    stopped_so_far c.give_at_end.result c.args.self.now c.give_at_end.new.self _ stopped c.give_at_end.ensures.unfailed
+
+pub returns-in-Err-TooLong-clause-so_far : goal.returns-in-Err-TooLong-clause-so_far
+returns-in-Err-TooLong-clause-so_far g c = λ told.
+    let moves = rw c.in-Err-TooLong.field-0-is at c.in-Err-TooLong.ensures.moves in
+    let stopped : is_scanning c.give_at_limit.new.self.scan.status ≡ false = ap (λ (s : Scan). is_scanning s.status) c.give_at_limit.ensures.same_scan ∙ ap is_scanning moves in
+    stopped_so_far c.give_at_limit.result c.args.self.now c.give_at_limit.new.self _ stopped c.give_at_limit.ensures.unfailed
+
+pub returns-in-Err-ReadFault-clause-so_far : goal.returns-in-Err-ReadFault-clause-so_far
+returns-in-Err-ReadFault-clause-so_far g c = λ told.
+    let bytes : List ℕ = gained (g.S.Source.channel c.tokens.source) (g.S.Source.channel c.next.new.source) in
+    let reading : c.self.inside.status ≡ Reading = ap (λ (r : Reader). r.status) c.self.view_is ∙ c.tokens.invariant.status in
+    let failed : c.next.result ≡ Err ScanFault = c.in-Err-ReadFault.is ∙ ap Err c.in-Err-ReadFault.field-0-is in
+    let inside : is_scanning c.self.inside.scanner.status ≡ true =
+    scanned_fault c.self.inside.scanner (c.self.invariant reading) (λ stopped. sym (c.next.ensures.stopped_answer stopped) ∙ failed) in
+    let scanning : is_scanning c.tokens.self.scan.status ≡ true = ap (λ (r : Reader). is_scanning r.scan.status) (sym c.self.view_is) ∙ inside in
+    let none = rw c.in-Err-ReadFault.field-0-is at (c.in-Err-ReadFault.ensures.so_far told inside) in (
+      c.tokens.invariant.scanning scanning,
+      ap (so_far c.args.self.now) (gained-then (c.tokens.invariant.same told) (c.in-Err-ReadFault.ensures.gives told))
+          ∙ c.tokens.invariant.so_far told scanning bytes
+          ∙ ap (λ (r : Reader). drafted (broken_off (scan_so_far r.scan bytes)) r.draft) (sym c.self.view_is)
+          ∙ ap (λ is. drafted (broken_off is) c.self.inside.draft) none
+          ∙ off_overlong c.self.inside.draft c.next.new.self.lex.line,
+    )

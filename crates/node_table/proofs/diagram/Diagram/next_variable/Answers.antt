@@ -1,6 +1,6 @@
 use Rattle.std.proofs.Common.{◌≡◌, length, Some, ◌∙◌, ap, arith}
-use Rattle.node_table.specs.Diagram.{Graph, branch_at, next_variable}
-use Rattle.node_table.specs.Stored.{graph_of}
+use Rattle.node_table.specs.Diagram.{Graph, branch_at}
+use Rattle.node_table.specs.Stored.{graph_of, next_variable}
 use Rattle.node_table.proofs.Keyed.{len-keyed}
 use Rattle.node_table.proofs.Pushed.{stored_within}
 use Rattle.node_table.proofs.diagram.Diagram.next_variable.Goals as goal

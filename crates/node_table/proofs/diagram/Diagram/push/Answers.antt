@@ -1,8 +1,8 @@
 use Rattle.std.proofs.Common.{◌≡◌, ◌<◌, List, [], ◌∷◌, ◌++◌, length, sym, ◌∙◌, ap, subst}
 use Rattle.std.specs.FinMap as map
 use Rattle.node_table.specs.declared.node.Branch.{Branch}
-use Rattle.node_table.specs.Diagram.{Graph, FitsIn, branch_at, next_variable, with_branch}
-use Rattle.node_table.specs.Stored.{graph_of, IsStored}
+use Rattle.node_table.specs.Diagram.{Graph, FitsIn, branch_at, with_branch}
+use Rattle.node_table.specs.Stored.{graph_of, IsStored, next_variable}
 use Rattle.node_table.proofs.Keyed.{graph_of-push}
 use Rattle.node_table.proofs.Pushed.{IsStored-push, unused_next}
 use Rattle.node_table.proofs.diagram.Diagram.push.Goals as goal

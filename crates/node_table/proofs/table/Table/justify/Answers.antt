@@ -1,70 +1,41 @@
-use Rattle.std.proofs.Common.{◌≡◌, ◌≢◌, Err, sym, ap, ◌∙◌, subst}
-use Rattle.clause_ledger.specs.Book.{Book}
-use Rattle.node_table.specs.declared.error.TableError.TheVariants.{WriteFault}
-use Rattle.node_table.specs.Errors.{table_error}
-use Rattle.node_table.specs.Tied.{IsTied, IsOverNodes, Extends, Stays}
-use Rattle.node_table.specs.Table.{TableState}
-use Rattle.node_table.proofs.Justified.{justified_tied, justified_extends, justified_stays, same_extends, not_torn, torn}
-use Rattle.node_table.specs.HandedOn.{no_error, same_error}
+use Rattle.std.proofs.Common.{◌≡◌, ◌∙◌, Option, Some, sym, ap, subst}
+use Rattle.clause_ledger.specs.Book.{next_line}
+use Rattle.node_table.specs.declared.error.TableError.{TableError}
+use Rattle.node_table.specs.Tied.{IsOverNodes}
+use Rattle.node_table.specs.Table.{TableState, IsSound}
+use Rattle.node_table.specs.Progress.{Steps, error_of}
+use Rattle.node_table.proofs.CallSteps.{table_of}
+use Rattle.node_table.proofs.Justifying.{Answers, told, justify_steps}
 use Rattle.node_table.proofs.table.Table.justify.Goals as goal
 use Rattle.node_table.proofs.table.Table.justify.Goals.{in-Ok, in-Err}
 
-pub returns-clause-tied : goal.returns-clause-tied
-returns-clause-tied g c =
-    let state = c.self.inside.ledger.state in
-    let graph = c.self.inside.diagram in
-    let tied : IsTied graph state = subst (λ (t : TableState g.row.S.Denot). IsTied t.graph t.book.state) (sym c.self.view_is) c.requires.tied in
-    let over : IsOverNodes graph c.args.clause.now = subst (λ (t : TableState g.row.S.Denot). IsOverNodes t.graph c.args.clause.now) (sym c.self.view_is) c.requires.over_nodes in
-    elim c.match-add.branch [
-      | in-Ok w ↦ λ _. subst (IsTied graph) (sym w.in-Ok.ensures.added.1) (justified_tied graph state c.args.clause.now tied over)
-      | in-Err w ↦ λ differ.
-          let unchanged : c.add.new.self.state ≡ state =
-          not_torn w.in-Err.e
-          (λ is. ap (λ (b : Book g.row.S.Denot). b.state) (c.add.ensures.limit_unchanged (w.in-Err.is ∙ ap Err is)))
-          (λ is. ap (λ (b : Book g.row.S.Denot). b.state) (c.add.ensures.memory_unchanged (w.in-Err.is ∙ ap Err is)))
-          (λ is. differ (w.result-is ∙ ap Err (w.from.ensures ∙ is))) in
-          subst (IsTied graph) (sym unchanged) tied
-    ]
-
-pub returns-clause-extends : goal.returns-clause-extends
-returns-clause-extends g c =
-    let state = c.self.inside.ledger.state in
-    let graph = c.self.inside.diagram in
-    let tied : IsTied graph state = subst (λ (t : TableState g.row.S.Denot). IsTied t.graph t.book.state) (sym c.self.view_is) c.requires.tied in
-    let extends : c.match-add.result ≢ Err WriteFault → Extends graph graph state c.add.new.self.state =
-    elim c.match-add.branch [
-      | in-Ok w ↦ λ _. subst (Extends graph graph state) (sym w.in-Ok.ensures.added.1) (justified_extends graph state c.args.clause.now tied)
-      | in-Err w ↦ λ differ.
-          let unchanged : c.add.new.self.state ≡ state =
-          not_torn w.in-Err.e
-          (λ is. ap (λ (b : Book g.row.S.Denot). b.state) (c.add.ensures.limit_unchanged (w.in-Err.is ∙ ap Err is)))
-          (λ is. ap (λ (b : Book g.row.S.Denot). b.state) (c.add.ensures.memory_unchanged (w.in-Err.is ∙ ap Err is)))
-          (λ is. differ (w.result-is ∙ ap Err (w.from.ensures ∙ is))) in
-          subst (Extends graph graph state) (sym unchanged) (same_extends graph state tied)
+pub returns-clause-steps : goal.returns-clause-steps
+returns-clause-steps g c =
+    let inside = c.self.inside in
+    let new = c.add.new.self in
+    let old = table_of inside.max_nodes inside.diagram inside.ledger in
+    let sound : IsSound old = subst (λ (t : TableState g.row.S.Denot). IsSound t) (sym c.self.view_is) c.requires.sound in
+    let over : IsOverNodes inside.diagram c.args.clause.now = subst (λ (t : TableState g.row.S.Denot). IsOverNodes t.graph c.args.clause.now) (sym c.self.view_is) c.requires.over_nodes in
+    let own = c.add.ensures in
+    let answers : Answers g.S.Sink.tells g.S.Sink.channel inside.ledger new c.args.clause.now (next_line inside.ledger.state c.args.clause.now c.args.hints.now) c.add.result = record {
+      added = own.added;
+      kept = own.kept;
+      in_step = own.in_step;
+      limit = own.limit;
+      id_limit = own.id_limit;
+      limit_unchanged = own.limit_unchanged;
+      memory_unchanged = own.memory_unchanged;
+      write_fault = own.write_fault;
+      out_of_step = own.out_of_step;
+      fault_state = own.fault_state;
+      cut = own.cut;
+      unfailed = own.unfailed;
+      only_writes = own.only_writes;
+    } in
+    let error : told c.add.result ≡ error_of c.match-add.result = elim c.match-add.branch [
+      | in-Ok w ↦ ap told w.in-Ok.is ∙ sym (ap error_of w.result-is)
+      | in-Err w ↦ ap told w.in-Err.is ∙ ap Some (sym w.from.ensures) ∙ sym (ap error_of w.result-is)
     ] in
-    subst (λ (t : TableState g.row.S.Denot). c.match-add.result ≢ Err WriteFault → Extends t.graph graph t.book.state c.add.new.self.state) c.self.view_is extends
-
-pub returns-clause-stays : goal.returns-clause-stays
-returns-clause-stays g c =
-    let state = c.self.inside.ledger.state in
-    let graph = c.self.inside.diagram in
-    let tied : IsTied graph state = subst (λ (t : TableState g.row.S.Denot). IsTied t.graph t.book.state) (sym c.self.view_is) c.requires.tied in
-    let stays : c.match-add.result ≡ Err WriteFault → Stays graph graph state c.add.new.self.state =
-    elim c.match-add.branch [
-      | in-Ok w ↦ λ is. absurd (no_error (sym w.result-is ∙ is))
-      | in-Err w ↦ λ is.
-          let error : w.from.result ≡ WriteFault = same_error (sym w.result-is ∙ is) in
-          torn w.in-Err.e
-          (λ fault. subst (Stays graph graph state) (sym (c.add.ensures.fault_state (w.in-Err.is ∙ ap Err fault))) (justified_stays graph state c.args.clause.now tied))
-          (sym w.from.ensures ∙ error)
-    ] in
-    subst (λ (t : TableState g.row.S.Denot). c.match-add.result ≡ Err WriteFault → Stays t.graph graph t.book.state c.add.new.self.state) c.self.view_is stays
-
-pub returns-clause-unfailed : goal.returns-clause-unfailed
-returns-clause-unfailed g c =
-    let unfailed : c.match-add.result ≢ Err WriteFault → (g.S.Sink.channel c.add.new.self.sink).faults ≡ (g.S.Sink.channel c.self.inside.ledger.sink).faults =
-    elim c.match-add.branch [
-      | in-Ok w ↦ λ _. w.in-Ok.ensures.unfailed no_error
-      | in-Err w ↦ λ differ. w.in-Err.ensures.unfailed (λ e. differ (w.result-is ∙ ap Err (w.from.ensures ∙ ap table_error (same_error e))))
-    ] in
-    subst (λ (t : TableState g.row.S.Denot). c.match-add.result ≢ Err WriteFault → (g.S.Sink.channel c.add.new.self.sink).faults ≡ (g.S.Sink.channel t.book.sink).faults) c.self.view_is unfailed
+    let steps = justify_steps g.S.Sink.tells g.S.Sink.channel inside.max_nodes inside.diagram inside.ledger new c.args.clause.now _ sound over c.self.invariant.1 c.marks_law.ensures.fewer c.add.result answers in
+    subst (λ (e : Option TableError). Steps g.S.Sink.tells (g.S.Sink.channel c.args.self.now.book.sink) (g.S.Sink.channel new.sink) c.args.self.now (table_of inside.max_nodes inside.diagram new) 1 e) error
+    (subst (λ (t : TableState g.row.S.Denot). Steps g.S.Sink.tells (g.S.Sink.channel t.book.sink) (g.S.Sink.channel new.sink) t (table_of inside.max_nodes inside.diagram new) 1 (told c.add.result)) c.self.view_is steps)

@@ -1,28 +1,29 @@
-use Rattle.std.proofs.Common.{◌≡◌, true, refl, sym, ap, subst, arith}
+use Rattle.std.proofs.Common.{◌≡◌, ◌∙◌, ◌⊎◌, ◌++◌, ℕ, pos, nat_abs, true, Option, None, Some, refl, sym, ap, subst, arith}
+use Rattle.std.specs.Prelude.{IsTrue}
 use Rattle.lrat_rules.specs.State.{State}
-use Rattle.clause_ledger.specs.Book.{Book}
-use Rattle.node_table.specs.Diagram.{is_node}
-use Rattle.node_table.specs.Tied.{IsTied, KeepsClauses, Stays}
-use Rattle.node_table.specs.Defined.{IsNewVariable}
-use Rattle.node_table.specs.Table.{TableState}
-use Rattle.node_table.proofs.Fresh.{new_variable, live_more, KeepsNodes-new}
+use Rattle.clause_ledger.specs.Book.{Book, IsTorn}
+use Rattle.node_table.specs.declared.node.Node.TheVariants.{Inner}
+use Rattle.node_table.specs.declared.node.Branch.{Branch}
 use Rattle.node_table.specs.declared.error.TableError.{TableError}
-use Rattle.node_table.specs.declared.error.TableError.TheVariants.{NodeLimit, IdLimit, WriteFault}
-use Rattle.node_table.specs.HandedOn.{no_error, same_error}
-use Rattle.node_table.specs.Refused.{memory_not_fault}
+use Rattle.node_table.specs.declared.error.TableError.TheVariants.{WriteFault}
+use Rattle.node_table.specs.Diagram.{branch_at, is_node}
+use Rattle.node_table.specs.Defined.{IsNewVariable, definition_lines}
+use Rattle.node_table.specs.Made.{inner}
+use Rattle.node_table.specs.Table.{TableState, HasChildren, IsFree, IsMade, node_definitions}
+use Rattle.node_table.specs.Tied.{IsTied}
+use Rattle.node_table.specs.Progress.{Steps}
+use Rattle.node_table.proofs.CallSteps.{Wrote, Tore, table_of}
+use Rattle.node_table.proofs.Making.{Making, asked_at, joined_as, enough, told_torn, making_on, making_torn, making_only, making_made, making_cut}
+use Rattle.node_table.proofs.Fresh.{new_variable, live_more}
+use Rattle.node_table.proofs.table.Table.make.Given.{Over}
 use Rattle.node_table.proofs.table.Table.make.Goals as goal
-
-nodes_no_fault : ◌≡◌ {A = TableError} NodeLimit WriteFault → ⊥
-nodes_no_fault is = cc
-
-ids_no_fault : ◌≡◌ {A = TableError} IdLimit WriteFault → ⊥
-ids_no_fault is = cc
+use Rattle.node_table.proofs.table.Table.make.Goals.{After-write_definitions}
 
 pub write_definitions-requires-clause-new_variable : goal.write_definitions-requires-clause-new_variable
 write_definitions-requires-clause-new_variable g c =
     let graph = c.self.inside.diagram in
     let state = c.self.inside.ledger.state in
-    let tied : IsTied graph state = subst (λ (t : TableState g.row.S.Denot). IsTied t.graph t.book.state) (sym c.self.view_is) c.requires.tied in
+    let tied : IsTied graph state = subst (λ (t : TableState g.row.S.Denot). IsTied t.graph t.book.state) (sym c.self.view_is) c.requires.sound.tied in
     let high_stands : is_node graph c.args.high ≡ true = subst (λ (t : TableState g.row.S.Denot). is_node t.graph c.args.high ≡ true) (sym c.self.view_is) c.requires.high.stands in
     let low_stands : is_node graph c.args.low ≡ true = subst (λ (t : TableState g.row.S.Denot). is_node t.graph c.args.low ≡ true) (sym c.self.view_is) c.requires.low.stands in
     let live : c.reserve.new.self.state ≡ state = ap (λ (b : Book g.row.S.Denot). b.state) c.reserve.ensures.unchanged in
@@ -39,110 +40,80 @@ pub invariant_of-self-2 : goal.invariant_of-self-2
 invariant_of-self-2 g c =
     (c.self.invariant.0, omega (arith, live_more c.self.inside.diagram c.push.new.self c.in_ok-key.key.index c.in_ok-key.ensures.ok, c.if-len-self.false, c.len.ensures))
 
-pub returns-in_err-write_definitions-clause-stays : goal.returns-in_err-write_definitions-clause-stays
-returns-in_err-write_definitions-clause-stays g c failed =
-    let graph = c.self.inside.diagram in
+-- what was done when the definitions were written
+making : (g : Over) (c : After-write_definitions g)
+    → Making c.self.inside.diagram c.push.new.self c.self.inside.ledger c.reserve.new.self c.self.inside.max_nodes c.args.level c.args.high c.args.low c.in_ok-key.key c.next_variable.result
+    c.positive-u.result c.positive-x.result c.atom-high_atom.result c.atom-low_atom.result
+making g c =
     let state = c.self.inside.ledger.state in
-    let new = c.write_definitions.new.ledger.state in
     let live : c.reserve.new.self.state ≡ state = ap (λ (b : Book g.row.S.Denot). b.state) c.reserve.ensures.unchanged in
-    let stays : Stays graph c.push.new.self state new = record {
-      nodes = KeepsNodes-new graph c.push.new.self c.in_ok-key.key.index c.in_ok-key.ensures.ok;
-      clauses = subst (λ (s : State). KeepsClauses s.live new.live) live (c.in_err-write_definitions.ensures.stays refl);
+    let number : c.var.result ≡ c.next_variable.result = c.var.ensures.value ∙ ap nat_abs c.positive-u.ensures in
+    let first : c.last_id.result ≡ state.top = c.last_id.ensures.value ∙ ap (λ (s : State). s.top) live in
+    record {
+      asked = asked_at c.next_variable.result c.self.view_is c.requires.sound.tied c.requires.level c.requires.high c.requires.low c.requires.wanted
+          c.next_variable.ensures.range.0 c.next_variable.ensures.own;
+      joined = joined_as state number first c.in_ok-key.ensures.ok;
+      room = enough c.args.high c.args.low state.top c.self.inside.ledger.limit (omega (arith, c.if-ids_left-definition_count.false, c.definition_count.ensures, c.ids_left.ensures));
+      few = omega (arith, c.if-len-self.false, c.len.ensures);
+      reserved = c.reserve.ensures.unchanged;
+      handed = record {
+        still = live;
+        own = c.positive-u.ensures;
+        input = c.positive-x.ensures ∙ ap pos c.variable.ensures.value;
+        high_is = c.atom-high_atom.ensures;
+        low_is = c.atom-low_atom.ensures;
+      };
+    }
+
+pub returns-clause-steps : goal.returns-clause-steps
+returns-clause-steps g c =
+    let new = c.write_definitions.new.ledger in
+    let own = c.in_ok-write_definitions.ensures in
+    let wrote : Wrote g.S.Sink.tells (g.S.Sink.channel c.reserve.new.self.sink) (g.S.Sink.channel new.sink) c.reserve.new.self new =
+    record { in_step = own.in_step; kept = own.kept; limit = own.limit; unfailed = own.unfailed; writes = own.only_writes } in
+    subst (λ (t : TableState g.row.S.Denot). Steps g.S.Sink.tells (g.S.Sink.channel t.book.sink) (g.S.Sink.channel new.sink) t (table_of c.self.inside.max_nodes c.push.new.self new) 0 None) c.self.view_is
+    (making_on g.S.Sink.tells g.S.Sink.channel (making g (goal.at.returns-clause-steps g c).After-write_definitions) new own.written wrote)
+
+pub returns-clause-only : goal.returns-clause-only
+returns-clause-only g c =
+    subst (λ (t : TableState g.row.S.Denot). (key : ℕ) (b : Branch) → branch_at c.push.new.self key ≡ Some b → (branch_at t.graph key ≡ Some b) ⊎ HasChildren c.push.new.self c.args.level c.args.high c.args.low (inner key))
+    c.self.view_is (making_only g.S.Sink.tells g.S.Sink.channel (making g (goal.at.returns-clause-only g c).After-write_definitions) c.write_definitions.new.ledger)
+
+pub returns-clause-made : goal.returns-clause-made
+returns-clause-made g c =
+    let new = c.write_definitions.new.ledger in
+    let own = c.in_ok-write_definitions.ensures in
+    let made = making_made g.S.Sink.tells g.S.Sink.channel (making g (goal.at.returns-clause-made g c).After-write_definitions) new own.written own.lines in
+    subst (λ (t : TableState g.row.S.Denot). (variable : ℕ) × IsMade t (table_of c.self.inside.max_nodes c.push.new.self new) c.args.level c.args.high c.args.low variable (Inner c.in_ok-key.key)
+    × (IsTrue g.S.Sink.tells → (g.S.Sink.channel new.sink).written ≡ (g.S.Sink.channel t.book.sink).written
+    ++ definition_lines t.book.state (node_definitions t.graph t.book.state c.args.level c.args.high c.args.low variable))) c.self.view_is
+    (c.next_variable.result, made.0, made.1)
+
+pub returns-in_err-write_definitions-clause-steps : goal.returns-in_err-write_definitions-clause-steps
+returns-in_err-write_definitions-clause-steps g c =
+    let new = c.write_definitions.new.ledger in
+    let own = c.in_err-write_definitions.ensures in
+    let tore : Tore g.S.Sink.tells (g.S.Sink.channel c.reserve.new.self.sink) (g.S.Sink.channel new.sink) c.reserve.new.self new = record {
+      rose = (own.write_fault refl).rose;
+      cut = λ clauses proof told. own.cut clauses proof told refl;
+      out_of_step = own.out_of_step refl;
+      limit = own.limit;
+      writes = own.only_writes;
     } in
-    subst (λ (t : TableState g.row.S.Denot). Stays t.graph c.push.new.self t.book.state new) c.self.view_is stays
+    let steps = making_torn g.S.Sink.tells g.S.Sink.channel (making g (goal.at.returns-in_err-write_definitions-clause-steps g c).After-write_definitions) new own.front tore c.marks_law.ensures.fewer in
+    subst (λ (e : Option TableError). Steps g.S.Sink.tells (g.S.Sink.channel c.args.self.now.book.sink) (g.S.Sink.channel new.sink) c.args.self.now (table_of c.self.inside.max_nodes c.push.new.self new) 0 e)
+    (told_torn c.from_residual-in_err-write_definitions.result c.in_err-write_definitions.field-0.0 c.from_residual-in_err-write_definitions.ensures.1 own.error)
+    (subst (λ (t : TableState g.row.S.Denot). Steps g.S.Sink.tells (g.S.Sink.channel t.book.sink) (g.S.Sink.channel new.sink) t (table_of c.self.inside.max_nodes c.push.new.self new) 0 (Some WriteFault)) c.self.view_is steps)
 
-pub returns-then-len-self-clause-write_fault : goal.returns-then-len-self-clause-write_fault
-returns-then-len-self-clause-write_fault g c is = absurd (nodes_no_fault (same_error is))
+pub returns-in_err-write_definitions-clause-only : goal.returns-in_err-write_definitions-clause-only
+returns-in_err-write_definitions-clause-only g c =
+    subst (λ (t : TableState g.row.S.Denot). (key : ℕ) (b : Branch) → branch_at c.push.new.self key ≡ Some b → (branch_at t.graph key ≡ Some b) ⊎ HasChildren c.push.new.self c.args.level c.args.high c.args.low (inner key))
+    c.self.view_is (making_only g.S.Sink.tells g.S.Sink.channel (making g (goal.at.returns-in_err-write_definitions-clause-only g c).After-write_definitions) c.write_definitions.new.ledger)
 
-pub returns-then-len-self-clause-out_of_step : goal.returns-then-len-self-clause-out_of_step
-returns-then-len-self-clause-out_of_step g c is = absurd (nodes_no_fault (same_error is))
-
-pub returns-then-len-self-clause-stays : goal.returns-then-len-self-clause-stays
-returns-then-len-self-clause-stays g c is = absurd (nodes_no_fault (same_error is))
-
-pub returns-then-len-self-clause-cut : goal.returns-then-len-self-clause-cut
-returns-then-len-self-clause-cut g c clauses proof told is = absurd (nodes_no_fault (same_error is))
-
-pub returns-then-len-self-clause-kept : goal.returns-then-len-self-clause-kept
-returns-then-len-self-clause-kept g c clauses proof whole = proof
-
-pub returns-then-len-self-clause-in_step : goal.returns-then-len-self-clause-in_step
-returns-then-len-self-clause-in_step g c whole = c.requires.in_step
-
-pub returns-then-len-self-clause-limits : goal.returns-then-len-self-clause-limits
-returns-then-len-self-clause-limits g c = (refl, refl)
-
-pub returns-then-len-self-clause-unfailed : goal.returns-then-len-self-clause-unfailed
-returns-then-len-self-clause-unfailed g c whole = refl
-
-pub returns-then-len-self-clause-beside : goal.returns-then-len-self-clause-beside
-returns-then-len-self-clause-beside g c = refl
-
-pub returns-then-ids_left-definition_count-clause-write_fault : goal.returns-then-ids_left-definition_count-clause-write_fault
-returns-then-ids_left-definition_count-clause-write_fault g c is = absurd (ids_no_fault (same_error is))
-
-pub returns-then-ids_left-definition_count-clause-out_of_step : goal.returns-then-ids_left-definition_count-clause-out_of_step
-returns-then-ids_left-definition_count-clause-out_of_step g c is = absurd (ids_no_fault (same_error is))
-
-pub returns-then-ids_left-definition_count-clause-stays : goal.returns-then-ids_left-definition_count-clause-stays
-returns-then-ids_left-definition_count-clause-stays g c is = absurd (ids_no_fault (same_error is))
-
-pub returns-then-ids_left-definition_count-clause-cut : goal.returns-then-ids_left-definition_count-clause-cut
-returns-then-ids_left-definition_count-clause-cut g c clauses proof told is = absurd (ids_no_fault (same_error is))
-
-pub returns-then-ids_left-definition_count-clause-kept : goal.returns-then-ids_left-definition_count-clause-kept
-returns-then-ids_left-definition_count-clause-kept g c clauses proof whole = proof
-
-pub returns-then-ids_left-definition_count-clause-in_step : goal.returns-then-ids_left-definition_count-clause-in_step
-returns-then-ids_left-definition_count-clause-in_step g c whole = c.requires.in_step
-
-pub returns-then-ids_left-definition_count-clause-limits : goal.returns-then-ids_left-definition_count-clause-limits
-returns-then-ids_left-definition_count-clause-limits g c = (refl, refl)
-
-pub returns-then-ids_left-definition_count-clause-unfailed : goal.returns-then-ids_left-definition_count-clause-unfailed
-returns-then-ids_left-definition_count-clause-unfailed g c whole = refl
-
-pub returns-then-ids_left-definition_count-clause-beside : goal.returns-then-ids_left-definition_count-clause-beside
-returns-then-ids_left-definition_count-clause-beside g c = refl
-
-pub returns-clause-write_fault : goal.returns-clause-write_fault
-returns-clause-write_fault g c is = absurd (no_error is)
-
-pub returns-clause-out_of_step : goal.returns-clause-out_of_step
-returns-clause-out_of_step g c is = absurd (no_error is)
-
-pub returns-clause-stays : goal.returns-clause-stays
-returns-clause-stays g c is = absurd (no_error is)
-
-pub returns-clause-cut : goal.returns-clause-cut
-returns-clause-cut g c clauses proof told is = absurd (no_error is)
-
-pub returns-in_err-reserve-clause-write_fault : goal.returns-in_err-reserve-clause-write_fault
-returns-in_err-reserve-clause-write_fault g c is = absurd (memory_not_fault _ c.from_residual.ensures.1 is)
-
-pub returns-in_err-reserve-clause-out_of_step : goal.returns-in_err-reserve-clause-out_of_step
-returns-in_err-reserve-clause-out_of_step g c is = absurd (memory_not_fault _ c.from_residual.ensures.1 is)
-
-pub returns-in_err-reserve-clause-stays : goal.returns-in_err-reserve-clause-stays
-returns-in_err-reserve-clause-stays g c is = absurd (memory_not_fault _ c.from_residual.ensures.1 is)
-
-pub returns-in_err-reserve-clause-cut : goal.returns-in_err-reserve-clause-cut
-returns-in_err-reserve-clause-cut g c clauses proof told is = absurd (memory_not_fault _ c.from_residual.ensures.1 is)
-
-pub returns-in_err-key-clause-write_fault : goal.returns-in_err-key-clause-write_fault
-returns-in_err-key-clause-write_fault g c is = absurd (memory_not_fault _ c.from_residual-in_err-key.ensures.1 is)
-
-pub returns-in_err-key-clause-out_of_step : goal.returns-in_err-key-clause-out_of_step
-returns-in_err-key-clause-out_of_step g c is = absurd (memory_not_fault _ c.from_residual-in_err-key.ensures.1 is)
-
-pub returns-in_err-key-clause-stays : goal.returns-in_err-key-clause-stays
-returns-in_err-key-clause-stays g c is = absurd (memory_not_fault _ c.from_residual-in_err-key.ensures.1 is)
-
-pub returns-in_err-key-clause-cut : goal.returns-in_err-key-clause-cut
-returns-in_err-key-clause-cut g c clauses proof told is = absurd (memory_not_fault _ c.from_residual-in_err-key.ensures.1 is)
-
-pub returns-then-len-self-clause-refused : goal.returns-then-len-self-clause-refused
-returns-then-len-self-clause-refused g c other = refl
-
-pub returns-then-ids_left-definition_count-clause-refused : goal.returns-then-ids_left-definition_count-clause-refused
-returns-then-ids_left-definition_count-clause-refused g c other = refl
+pub returns-in_err-write_definitions-clause-torn : goal.returns-in_err-write_definitions-clause-torn
+returns-in_err-write_definitions-clause-torn g c failed =
+    let new = c.write_definitions.new.ledger in
+    let cut = making_cut g.S.Sink.tells g.S.Sink.channel (making g (goal.at.returns-in_err-write_definitions-clause-torn g c).After-write_definitions) new (c.in_err-write_definitions.ensures.write_fault refl) in
+    subst (λ (t : TableState g.row.S.Denot). (variable : ℕ) × IsFree t.graph t.book.state.live variable × IsTorn g.S.Sink.tells (g.S.Sink.channel t.book.sink) (g.S.Sink.channel new.sink)
+    (definition_lines t.book.state (node_definitions t.graph t.book.state c.args.level c.args.high c.args.low variable))) c.self.view_is
+    (c.next_variable.result, cut.0, cut.1)

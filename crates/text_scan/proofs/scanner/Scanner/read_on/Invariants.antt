@@ -1,14 +1,15 @@
 -- No token ended so far, and what is ahead with the bytes taken is what was ahead at the start.
-use Rattle.std.proofs.Common.{◌≡◌, ◌+◌, ◌-◌, ◌*◌, ◌≤◌, min, length}
+use Rattle.std.proofs.Common.{◌≡◌, ℕ, ◌+◌, ◌-◌, ◌*◌, ◌≤◌, min, List, ◌++◌, length}
 use Rattle.std.specs.Prelude.{IsTrue}
 use Rattle.text_scan.specs.declared.scanner.Status.TheVariants.{Reading}
-use Rattle.text_scan.specs.Scan.{ahead}
-use Rattle.text_scan.specs.Decides.{Decides, OnlyReads}
+use Rattle.text_scan.specs.Scan.{ahead, so_far}
+use Rattle.text_scan.specs.Decides.{gained, Decides, OnlyReads}
 use Rattle.text_scan.proofs.scanner.Scanner.read_on.Given as goal
 
 abbrev pub invariant-turns : goal.invariant-turns
 invariant-turns g l = record {
   same : IsTrue g.S.Source.tells → Decides (g.S.Source.channel l.fn.source) (g.S.Source.channel l.source) (λ bytes more. ahead l.fn.self bytes ≡ ahead l.self more);
+  front : IsTrue g.S.Source.tells → (more : List ℕ) → so_far l.fn.self (gained (g.S.Source.channel l.fn.source) (g.S.Source.channel l.source) ++ more) ≡ so_far l.self more;
   status : l.self.status ≡ Reading;
   line : l.self.line ≡ l.fn.self.line;
   room : l.self.room ≤ l.fn.self.room;

@@ -1,0 +1,137 @@
+-- A call that makes a node, as its parts leave it: the node joined, and its definitions were handed to the ledger.
+use Rattle.std.proofs.Common.{◌≡◌, ◌∙◌, ◌⊎◌, ◌+◌, ◌-◌, ◌≤◌, ◌<◌, ◌++◌, ℕ, ℤ, Bool, List, Result, Ok, Err, Some, None, refl, sym, ap, subst, arith, take}
+use Rattle.std.specs.Prelude.{IsTrue, IsErrAnd}
+use Rattle.host_io.specs.Channel.{Channel}
+use Rattle.lrat_rules.specs.State.{State}
+use Rattle.hint_chain.specs.declared.atom.Atom.{Atom}
+use Rattle.clause_ledger.specs.Book.{Book, IsTorn}
+use Rattle.clause_ledger.specs.declared.error.LedgerError.{LedgerError}
+use Rattle.clause_ledger.specs.declared.error.LedgerError.TheVariants.{WriteFault as LedgerWriteFault}
+use Rattle.node_table.specs.declared.node.Node.{Node}
+use Rattle.node_table.specs.declared.node.Node.TheVariants.{False, True, Inner}
+use Rattle.node_table.specs.declared.node.NodeKey.{NodeKey}
+use Rattle.node_table.specs.declared.node.Branch.{Branch}
+use Rattle.node_table.specs.declared.error.TableError.{TableError}
+use Rattle.node_table.specs.declared.error.TableError.TheVariants.{WriteFault}
+use Rattle.node_table.specs.Errors.{table_error}
+use Rattle.node_table.specs.Diagram.{Graph, IsBelow, IsNew, branch_at, levels}
+use Rattle.node_table.specs.Defined.{Definition, definition_count, definition_lines, definitions, with_definitions}
+use Rattle.node_table.specs.Made.{inner}
+use Rattle.node_table.specs.Tied.{IsTied}
+use Rattle.node_table.specs.Table.{TableState, IsWanted, IsFree, IsMade, HasChildren, live_nodes, new_branch, node_definitions}
+use Rattle.node_table.specs.Progress.{Steps, error_of}
+use Rattle.node_table.proofs.Fresh.{IsAboveAll, unused}
+use Rattle.node_table.proofs.Fronts.{IsHanded, definitions_handed}
+use Rattle.node_table.proofs.Outcome.{new_only}
+use Rattle.node_table.proofs.CallSteps.{IsAsked, FewerInUse, Tore, Wrote, made_on, made_torn, table_of}
+
+-- what was required of the table holds of its parts
+pub asked_at : {S : Type 0} {table inside : TableState S} {level : ℕ} {high low : Node} (variable : ℕ) → inside ≡ table → IsTied table.graph table.book.state → level < levels table.graph
+    → IsBelow table.graph level high → IsBelow table.graph level low → IsWanted table.graph level high low → levels inside.graph < variable → IsAboveAll inside.graph variable
+    → IsAsked inside.graph inside.book.state level high low variable
+asked_at {S} {table} {inside} {level} {high} {low} variable same tied small high_below low_below wanted above own = record {
+  tied = subst (λ (t : TableState S). IsTied t.graph t.book.state) (sym same) tied;
+  small = subst (λ (t : TableState S). level < levels t.graph) (sym same) small;
+  high_below = subst (λ (t : TableState S). IsBelow t.graph level high) (sym same) high_below;
+  low_below = subst (λ (t : TableState S). IsBelow t.graph level low) (sym same) low_below;
+  wanted = subst (λ (t : TableState S). IsWanted t.graph level high low) (sym same) wanted;
+  above = above;
+  own = own;
+}
+
+-- the branch that joined
+pub joined_as : {graph later : Graph} {key : ℕ} (state : State) {level variable number first : ℕ} {high low : Node} → number ≡ variable → first ≡ state.top
+    → IsNew graph later key (record { level = level; variable = number; high = high; low = low; first = first + 1 }) → IsNew graph later key (new_branch state level high low variable)
+joined_as {graph} {later} {key} state {level} {variable} {number} {first} {high} {low} same_number same_first joined =
+    let same : ◌≡◌ {A = Branch} (record { level = level; variable = number; high = high; low = low; first = first + 1 }) (new_branch state level high low variable) =
+    (λ i. record { level = level; variable = same_number i; high = high; low = low; first = same_first i + 1 }) in
+    subst (IsNew graph later key) same joined
+
+-- there is at least one definition, so that the numbers left are those below the limit
+pub enough : (high low : Node) (top limit : ℕ) → definition_count high low ≤ limit - top → top + definition_count high low ≤ limit
+enough False False top limit left = omega (arith, left)
+enough False True top limit left = omega (arith, left)
+enough False (Inner key) top limit left = omega (arith, left)
+enough True False top limit left = omega (arith, left)
+enough True True top limit left = omega (arith, left)
+enough True (Inner key) top limit left = omega (arith, left)
+enough (Inner key) False top limit left = omega (arith, left)
+enough (Inner key) True top limit left = omega (arith, left)
+enough (Inner key) (Inner other) top limit left = omega (arith, left)
+
+-- a failed write is told as one
+pub told_torn : {T : Type 0} (r : Result T TableError) (e : LedgerError) → IsErrAnd r (λ t. t ≡ table_error e) → e ≡ LedgerWriteFault → Some WriteFault ≡ error_of r
+told_torn (Ok x) e is because = absurd is
+told_torn (Err t) e is because = ap Some (sym (is ∙ ap table_error because))
+
+pub record Making {S : Type 0} (graph later : Graph) (book ready : Book S) (max_nodes level : ℕ) (high low : Node) (key : NodeKey) (variable : ℕ) (u x : ℤ) (high_atom low_atom : Atom) : Type 0 where
+  pub asked : IsAsked graph book.state level high low variable
+  pub joined : IsNew graph later key.index (new_branch book.state level high low variable)
+  pub room : book.state.top + definition_count high low ≤ book.limit
+  pub few : live_nodes graph < max_nodes
+  pub reserved : ready ≡ record book { spare = ready.spare }
+  pub handed : IsHanded graph book.state ready.state level high low variable u x high_atom low_atom
+
+module _ {S : Type 0} (tells : Bool) (channel : S → Channel) {graph later : Graph} {book ready : Book S} {max_nodes level : ℕ} {high low : Node} {key : NodeKey} {variable : ℕ} {u x : ℤ}
+    {high_atom low_atom : Atom} (making : Making graph later book ready max_nodes level high low key variable u x high_atom low_atom) (new : Book S) where
+  abbrev handed_over : List Definition
+  handed_over = definitions u x high_atom low_atom (ready.state.top + 1)
+
+  abbrev asked_for : List Definition
+  asked_for = node_definitions graph book.state level high low variable
+
+  abbrev old_table : TableState S
+  old_table = table_of max_nodes graph book
+
+  abbrev new_table : TableState S
+  new_table = table_of max_nodes later new
+
+  -- the room that was reserved changes nothing else
+  wrote_from : Wrote tells (channel ready.sink) (channel new.sink) ready new → Wrote tells (channel book.sink) (channel new.sink) book new
+  wrote_from wrote =
+      let w = subst (λ (b : Book S). Wrote tells (channel b.sink) (channel new.sink) b new) making.reserved wrote in
+      record { in_step = w.in_step; kept = w.kept; limit = w.limit; unfailed = w.unfailed; writes = w.writes }
+
+  tore_from : Tore tells (channel ready.sink) (channel new.sink) ready new → Tore tells (channel book.sink) (channel new.sink) book new
+  tore_from tore =
+      let t = subst (λ (b : Book S). Tore tells (channel b.sink) (channel new.sink) b new) making.reserved tore in
+      record { rose = t.rose; cut = t.cut; out_of_step = t.out_of_step; limit = t.limit; writes = t.writes }
+
+  same_lines : definition_lines ready.state handed_over ≡ definition_lines book.state asked_for
+  same_lines i = definition_lines (making.handed.still i) (definitions_handed making.handed i)
+
+  same_sink : channel ready.sink ≡ channel book.sink
+  same_sink = ap (λ (b : Book S). channel b.sink) making.reserved
+
+  free : IsFree graph book.state.live variable
+  free = record { above = making.asked.above; unused = unused graph book.state making.asked.tied variable making.asked.above making.asked.own }
+
+  written : new.state ≡ with_definitions ready.state handed_over → new.state ≡ with_definitions book.state asked_for
+  written is = is ∙ (λ i. with_definitions (making.handed.still i) (definitions_handed making.handed i))
+
+  pub making_on : new.state ≡ with_definitions ready.state handed_over → Wrote tells (channel ready.sink) (channel new.sink) ready new
+      → Steps tells (channel book.sink) (channel new.sink) old_table new_table 0 None
+  making_on is wrote =
+      made_on tells max_nodes (channel book.sink) (channel new.sink) graph later book new level high low variable making.asked key.index making.joined making.room (written is) (wrote_from wrote)
+
+  pub making_torn : (n : ℕ) × (new.state ≡ with_definitions ready.state (take n handed_over)) → Tore tells (channel ready.sink) (channel new.sink) ready new → FewerInUse
+      → Steps tells (channel book.sink) (channel new.sink) old_table new_table 0 (Some WriteFault)
+  making_torn front tore fewer =
+      made_torn tells max_nodes (channel book.sink) (channel new.sink) graph later book new level high low variable making.asked key.index making.joined making.room front.0
+      (front.1 ∙ (λ i. with_definitions (making.handed.still i) (take front.0 (definitions_handed making.handed i)))) (tore_from tore) fewer making.few
+
+  pub making_only : (other : ℕ) (b : Branch) → branch_at later other ≡ Some b → (branch_at graph other ≡ Some b) ⊎ HasChildren later level high low (inner other)
+  making_only = new_only graph later key.index (new_branch book.state level high low variable) making.joined
+
+  pub making_made : new.state ≡ with_definitions ready.state handed_over
+      → (IsTrue tells → (channel new.sink).written ≡ (channel ready.sink).written ++ definition_lines ready.state handed_over)
+      → IsMade old_table new_table level high low variable (Inner key) × (IsTrue tells → (channel new.sink).written ≡ (channel book.sink).written ++ definition_lines book.state asked_for)
+  making_made is lines = (record { free = free; key = key; named = refl; joined = making.joined; defined = written is }, λ told. lines told ∙ (λ i. (same_sink i).written ++ same_lines i))
+
+  pub making_cut : IsTorn tells (channel ready.sink) (channel new.sink) (definition_lines ready.state handed_over)
+      → IsFree graph book.state.live variable × IsTorn tells (channel book.sink) (channel new.sink) (definition_lines book.state asked_for)
+  making_cut torn = (
+    free,
+    subst (IsTorn tells (channel book.sink) (channel new.sink)) same_lines
+        (subst (λ (c : Channel). IsTorn tells c (channel new.sink) (definition_lines ready.state handed_over)) same_sink torn),
+  )

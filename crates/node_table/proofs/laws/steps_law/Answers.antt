@@ -1,0 +1,12 @@
+use Rattle.node_table.proofs.Progressed.{Steps-none, Steps-no_memory, Steps-further, Steps-at_most, Continues-further, Extends-further}
+use Rattle.node_table.proofs.laws.steps_law.Goals as goal
+
+pub returns : goal.returns
+returns g c = record {
+  none = λ table sound. Steps-none g.S.Sink.tells (g.S.Sink.channel table.book.sink) table sound;
+  no_memory = λ table sound. Steps-no_memory g.S.Sink.tells (g.S.Sink.channel table.book.sink) table sound;
+  further = Steps-further g.S.Sink.tells;
+  at_most = Steps-at_most g.S.Sink.tells;
+  go_on = Continues-further g.S.Sink.tells;
+  extend = Extends-further;
+}

@@ -1,0 +1,5 @@
+use Rattle.operations.proofs.Kept.{fitting}
+use Rattle.operations.proofs.laws.entry_law.Goals as goal
+
+pub returns : goal.returns
+returns g c = fitting c.growth_law.ensures c.clause_law.ensures.given
