@@ -1,5 +1,5 @@
 -- The two additions of a conjunction: their clauses are of different variables, and their hints close.
-use Rattle.std.proofs.Common.{◌≡◌, ◌<◌, ◌≤◌, ℕ, zero, suc, ℤ, pos, neg_ℤ, nat_abs, true, false, List, ◌∷◌, Option, Some, refl, sym, ap, subst, arith}
+use Rattle.std.proofs.Common.{◌≡◌, ◌<◌, ◌≤◌, ℕ, zero, suc, ℤ, pos, neg_ℤ, nat_abs, true, false, List, ◌∷◌, Some, refl, sym, ap, subst, arith}
 use Rattle.std.specs.Option.{option_map}
 use Rattle.lrat_rules.specs.State.{Live}
 use Rattle.hint_chain.specs.Atoms.{clause_of, is_trivial}
@@ -7,30 +7,16 @@ use Rattle.hint_chain.specs.Closing.{are_apart, are_among}
 use Rattle.hint_chain.specs.Additions.{where_true}
 use Rattle.node_table.specs.declared.node.Node.{Node}
 use Rattle.node_table.specs.declared.node.Just.{Just}
-use Rattle.node_table.specs.Diagram.{Graph, IsReduced, IsOrder, levels, level_of, level_in, variable_at}
+use Rattle.node_table.specs.Diagram.{Graph, IsReduced, IsOrder, levels, variable_at}
 use Rattle.node_table.specs.Tied.{IsOverNodes}
 use Rattle.node_table.specs.Just.{IsJustified}
-use Rattle.apply_and.specs.declared.operands.Operands.{Operands}
-use Rattle.apply_and.specs.declared.parts.Side.{Side}
-use Rattle.apply_and.specs.Conjunction.{conjunction_atoms}
-use Rattle.apply_and.specs.Operands.{AreSplit, IsInner}
-use Rattle.apply_and.specs.Sides.{cofactor_at}
+use Rattle.operations.specs.declared.operands.Operands.{Operands}
+use Rattle.operations.specs.declared.parts.Side.{Side}
+use Rattle.operations.specs.Results.{conjunction_atoms}
+use Rattle.operations.specs.Operands.{AreSplit, Splitting}
+use Rattle.operations.specs.Sides.{cofactor_at}
 use Rattle.apply_and.specs.Additions.{IsSide}
-use Rattle.apply_and.proofs.NodeParts.{IsAt, IsAt-from}
-use Rattle.apply_and.proofs.ConjunctionClauses.{conjunction_apart, conjunction_open, conjunction_owned, behind_apart, behind_owned}
-
-inner_level : (graph : Graph) → IsReduced graph → (node : Node) → IsInner graph node → level_of graph node < levels graph
-inner_level graph reduced node inner =
-    let at = IsAt-from graph node inner.branch inner.is in
-    omega (arith, ap (level_in (levels graph)) inner.is, inner_bound graph reduced node inner at)
-  where
-    inner_bound : (graph : Graph) → IsReduced graph → (node : Node) (inner : IsInner graph node) → IsAt graph node → level_of graph node < levels graph
-    inner_bound graph reduced node inner at =
-        subst (λ (n : Node). level_of graph n < levels graph) (sym at.named) (subst (λ (o : Option _). level_in (levels graph) o < levels graph) (sym at.at) (reduced.level at.key.index at.branch at.at))
-
--- the level of the step is one of the order's
-pub split_level : (graph : Graph) → IsReduced graph → (o : Operands) → AreSplit graph o → o.level < levels graph
-split_level graph reduced o split = omega (arith, split.first_below, inner_level graph reduced o.u split.first)
+use Rattle.apply_and.proofs.ConjunctionClauses.{IsAt, IsAt-from, conjunction_apart, conjunction_open, conjunction_owned, behind_apart, behind_owned}
 
 -- its variable is one of the formula's
 pub variable_within : (graph : Graph) → IsOrder graph.order → (level : ℕ) → level < levels graph → (0 < variable_at graph level) × (variable_at graph level ≤ levels graph)
@@ -40,7 +26,7 @@ abs_of_neg : (n : ℕ) → nat_abs (neg_ℤ (pos n)) ≡ n
 abs_of_neg zero = refl
 abs_of_neg (suc n) = refl
 
-module _ (graph : Graph) (reduced : IsReduced graph) (ordered : IsOrder graph.order) (live : Live) (o : Operands) (split : AreSplit graph o) (w : Node) (side : Side) (found : Node × Just)
+module _ (splits : Splitting) (graph : Graph) (reduced : IsReduced graph) (ordered : IsOrder graph.order) (live : Live) (o : Operands) (split : AreSplit graph o) (w : Node) (side : Side) (found : Node × Just)
     (finished : IsSide graph live o w side found) (clause : List ℤ) (is : clause_of (conjunction_atoms graph o.u o.v w) ≡ Some clause) (among : are_among (conjunction_atoms graph o.u o.v w) clause ≡ true) where
   first_at : IsAt graph o.u
   first_at = IsAt-from graph o.u split.first.branch split.first.is
@@ -58,7 +44,7 @@ module _ (graph : Graph) (reduced : IsReduced graph) (ordered : IsOrder graph.or
   low_over y there above = conjunction_owned graph o.u o.v w clause among y there
 
   variable : (0 < variable_at graph o.level) × (variable_at graph o.level ≤ levels graph)
-  variable = variable_within graph ordered o.level (split_level graph reduced o split)
+  variable = variable_within graph ordered o.level (splits.level graph reduced o split)
 
   pub high_apart : are_apart (neg_ℤ (pos (variable_at graph o.level)) ∷ clause) ≡ true
   high_apart =

@@ -15,11 +15,10 @@ use Rattle.node_table.specs.declared.node.Node.{Node}
 use Rattle.node_table.specs.declared.node.Node.TheVariants.{False, True, Inner}
 use Rattle.node_table.specs.declared.node.NodeKey.{NodeKey}
 use Rattle.node_table.specs.declared.node.Branch.{Branch}
-use Rattle.node_table.specs.Diagram.{Graph, IsReduced, branch_at, levels}
+use Rattle.node_table.specs.Diagram.{Graph, IsReduced, branch_at, branch_of, levels}
 use Rattle.node_table.specs.Defined.{atom_of, atom_in}
 use Rattle.node_table.specs.Tied.{IsOwned}
-use Rattle.apply_and.specs.Conjunction.{conjunction_atoms}
-use Rattle.apply_and.proofs.NodeParts.{IsAt}
+use Rattle.operations.specs.Results.{conjunction_atoms}
 
 -- whole numbers and their signs
 abs_neg : (n : ℕ) → nat_abs (neg_ℤ (pos n)) ≡ n
@@ -113,6 +112,18 @@ module _ (x y : ℕ) (x_positive : 0 < x) (y_positive : 0 < y) (differ : x ≢ y
       let xl : int_eq (neg_ℤ (neg_ℤ (pos x))) l ≡ false = other_variable x l third.1 in
       let yl : int_eq (neg_ℤ (neg_ℤ (pos y))) l ≡ false = other_variable y l third.2 in
       λ i. (xy i || (xl i || false)) || ((yl i || false) || false)
+
+-- an inner node of the graph, by its key
+pub record IsAt (graph : Graph) (node : Node) : Type 0 where
+  pub key : NodeKey
+  pub branch : Branch
+  pub named : node ≡ Inner key
+  pub at : branch_at graph key.index ≡ Some branch
+
+pub IsAt-from : (graph : Graph) (node : Node) (branch : Branch) → branch_of graph node ≡ Some branch → IsAt graph node
+IsAt-from graph False branch is = cc
+IsAt-from graph True branch is = cc
+IsAt-from graph (Inner key) branch is = record { key = key; branch = branch; named = refl; at = is }
 
 -- a clause over nodes of different variables
 same_key : (graph : Graph) → IsReduced graph → (one two : Node) (first : IsAt graph one) (second : IsAt graph two) → first.branch.variable ≡ second.branch.variable → one ≡ two

@@ -1,8 +1,8 @@
 pub mod Cached
-pub mod NodeParts
 pub mod ConjunctionClauses
 pub mod Closed
-pub mod Laws
 pub mod Conjunctions
 pub mod Made
+pub mod Added
 pub mod Named
+pub mod Handed

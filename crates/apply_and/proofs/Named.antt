@@ -1,15 +1,16 @@
--- Entries whose clauses came since, through one call after another.
-use Rattle.std.proofs.Common.{◌≡◌, ◌≤◌, ◌<◌, ◌+◌, ◌⊎◌, ℕ, Bool, true, false, List, Some, Contains, sym, ◌∙◌, subst, arith, inl, inr}
+-- Entries whose clauses came since, and clauses that were retired, through one call after another.
+use Rattle.std.proofs.Common.{◌≡◌, ◌≤◌, ◌<◌, ◌+◌, ◌++◌, ◌⊎◌, ℕ, Bool, true, false, List, [], length, None, Some, Contains, sym, subst, arith, inl, inr}
+use Rattle.std.proofs.lemmas.List.Elements.{Contains-append_left, Contains-append_right, Contains-append_cases}
 use Rattle.lrat_rules.specs.State.{State}
 use Rattle.node_table.specs.declared.node.Just.{Just}
 use Rattle.node_table.specs.declared.node.Just.TheVariants.{Trivial, Clause}
-use Rattle.apply_and.specs.Cache.{Entry, IsNewJust, NamesOnly}
+use Rattle.node_table.specs.declared.node.Node.{Node}
+use Rattle.node_table.specs.Table.{TableState}
+use Rattle.operations.specs.Entries.{Entry, Conjunction, Fits, Fitting, HaveSame, IsNewJust, NamesOnly, RetiresOwn, just_of}
+use Rattle.apply_and.specs.Cache.{HasOperands}
 
 pub no_less : (first second third : ℕ) → first ≤ second → second ≤ third → first ≤ third
 no_less first second third one two = omega arith
-
-pub no_less_same : (n : ℕ) → n ≤ n
-no_less_same n = omega arith
 
 pub not_both : (b : Bool) → b ≡ true → b ≡ false → ⊥
 not_both b holds fails = cc
@@ -39,26 +40,134 @@ two_more top mid new own id same first second = (omega (arith, first, second.0, 
 pub IsNewJust-within : (old mid late new : State) → old.top ≤ mid.top → late.top ≤ new.top → (just : Just) → IsNewJust mid late just → IsNewJust old new just
 IsNewJust-within old mid late new first second just own id is = let both = own id is in (omega (arith, first, both.0), omega (arith, second, both.1))
 
-pub NamesOnly-same : (list : List Entry) (old new : State) → NamesOnly list list old new
-NamesOnly-same list old new = record { each = λ entry there. inl there }
+-- the same entries, in whatever order
+pub NamesOnly-same : (before after : List Entry) (old new : State) → HaveSame before after → NamesOnly before after old new
+NamesOnly-same before after old new same = record { each = λ entry there. inl (same.back entry there) }
+
+pub HaveSame-itself : (list : List Entry) → HaveSame list list
+HaveSame-itself list = record { there = λ entry has. has; back = λ entry has. has }
 
 pub NamesOnly-further : (first second third : List Entry) (old mid new : State) → old.top ≤ mid.top → mid.top ≤ new.top → NamesOnly first second old mid → NamesOnly second third mid new → NamesOnly first third old new
 NamesOnly-further first second third old mid new one two before after = record {
   each = λ entry there. elim (after.each entry there) [
-    | inr own ↦ inr (IsNewJust-within old mid new new one (omega arith) entry.just own)
+    | inr own ↦ inr (IsNewJust-within old mid new new one (omega arith) (just_of entry) own)
     | inl still ↦ elim (before.each entry still) [
-      | inr own ↦ inr (IsNewJust-within old old mid new (omega arith) two entry.just own)
+      | inr own ↦ inr (IsNewJust-within old old mid new (omega arith) two (just_of entry) own)
       | inl first_there ↦ inl first_there
     ]
   ];
 }
 
 -- an entry that is kept names its clause
-pub NamesOnly-kept : (before after : List Entry) (old new : State) (kept : Entry) (P : Entry → Type 0) → IsNewJust old new kept.just
-    → ((entry : Entry) → Contains after entry → (entry ≡ kept) ⊎ (Contains before entry × P entry)) → NamesOnly before after old new
-NamesOnly-kept before after old new kept P own within = record {
+pub NamesOnly-kept : (before after : List Entry) (old new : State) (kept : Entry) → IsNewJust old new (just_of kept)
+    → ((entry : Entry) → Contains after entry → (entry ≡ kept) ⊎ Contains before entry) → NamesOnly before after old new
+NamesOnly-kept before after old new kept own within = record {
   each = λ entry there. elim (within entry there) [
-    | inl is ↦ inr (subst (λ (e : Entry). IsNewJust old new e.just) (sym is) own)
-    | inr old_one ↦ inl old_one.0
+    | inl is ↦ inr (subst (λ (e : Entry). IsNewJust old new (just_of e)) (sym is) own)
+    | inr old_one ↦ inl old_one
   ];
 }
+
+-- one list of entries beside others
+pub within_others : (few more others : List Entry) → ((entry : Entry) → Contains few entry → Contains more entry) → (entry : Entry) → Contains (few ++ others) entry → Contains (more ++ others) entry
+within_others few more others within entry there = elim (Contains-append_cases few others entry there) [
+  | inl own ↦ Contains-append_left more others entry (within entry own)
+  | inr other ↦ Contains-append_right more others entry other
+]
+
+pub one_beside : (before after others : List Entry) (found : Entry) → ((entry : Entry) → Contains after entry → (entry ≡ found) ⊎ Contains before entry)
+    → (entry : Entry) → Contains (after ++ others) entry → (entry ≡ found) ⊎ Contains (before ++ others) entry
+one_beside before after others found only entry there = elim (Contains-append_cases after others entry there) [
+  | inl own ↦ elim (only entry own) [ inl is ↦ inl is | inr was ↦ inr (Contains-append_left before others entry was) ]
+  | inr other ↦ inr (Contains-append_right before others entry other)
+]
+
+module _ {S : Type 0} where
+  pub RetiresOwn-none : (old new : TableState S) (before : List Entry) → new.retired ≡ old.retired → RetiresOwn old new before
+  RetiresOwn-none old new before same = record { each = λ id there. inl (subst (λ (list : List ℕ). Contains list id) same there) }
+
+  pub RetiresOwn-further : (old mid new : TableState S) (before between : List Entry) → old.book.state.top ≤ mid.book.state.top → RetiresOwn old mid before
+      → NamesOnly before between old.book.state mid.book.state → RetiresOwn mid new between → RetiresOwn old new before
+  RetiresOwn-further old mid new before between more first named second = record {
+    each = λ id there. elim (second.each id there) [
+      | inl was ↦ first.each id was
+      | inr own ↦ elim own [
+        | inl above ↦ inr (inl (omega (arith, more, above)))
+        | inr by ↦ elim (named.each by.0 by.1) [
+          | inl had ↦ inr (inr (by.0, had, by.2))
+          | inr came ↦ inr (inl (came id by.2).0)
+        ]
+      ]
+    ];
+  }
+
+  pub fits_looked : Fitting S → (table : TableState S) (before after others : List Entry) → HaveSame before after → Fits table (before ++ others) → Fits table (after ++ others)
+  fits_looked laws table before after others same fits = laws.fewer table (after ++ others) (before ++ others) (within_others after before others same.back) fits
+
+  pub fits_looked_alone : Fitting S → (table : TableState S) (before after : List Entry) → HaveSame before after → Fits table before → Fits table after
+  fits_looked_alone laws table before after same fits = laws.fewer table after before same.back fits
+
+  -- with no others
+  pub fits_beside_none : Fitting S → (table : TableState S) (list : List Entry) → Fits table list → Fits table (list ++ [])
+  fits_beside_none laws table list fits =
+      laws.fewer table (list ++ []) list (λ entry there. elim (Contains-append_cases list [] entry there) [ inl own ↦ own | inr other ↦ absurd (in_none entry other) ]) fits
+    where
+      in_none : (entry : Entry) → Contains [] entry → ⊥
+      in_none entry there = absurd (omega (arith, there.1))
+
+  pub fits_alone : Fitting S → (table : TableState S) (list : List Entry) → Fits table (list ++ []) → Fits table list
+  fits_alone laws table list fits = laws.fewer table list (list ++ []) (Contains-append_left list []) fits
+
+  -- after a look-up that left the same entries
+  pub RetiresOwn-looked : (old new : TableState S) (before after : List Entry) → HaveSame before after → RetiresOwn old new after → RetiresOwn old new before
+  RetiresOwn-looked old new before after same retires = record {
+    each = λ id there. elim (retires.each id there) [
+      | inl was ↦ inl was
+      | inr own ↦ elim own [
+        | inl above ↦ inr (inl above)
+        | inr by ↦ inr (inr (by.0, same.back by.0 by.1, by.2))
+      ]
+    ];
+  }
+
+  pub RetiresOwn-along : (old mid new : TableState S) (before : List Entry) → new.retired ≡ mid.retired → RetiresOwn old mid before → RetiresOwn old new before
+  RetiresOwn-along old mid new before same retires = record { each = λ id there. retires.each id (subst (λ (list : List ℕ). Contains list id) same there) }
+
+pub NamesOnly-looked : (before looked after : List Entry) (old new : State) → HaveSame before looked → NamesOnly looked after old new → NamesOnly before after old new
+NamesOnly-looked before looked after old new same named = record {
+  each = λ entry there. elim (named.each entry there) [
+    | inl was ↦ inl (same.back entry was)
+    | inr came ↦ inr came
+  ];
+}
+
+-- what is still there, or was forgotten by a full cache
+pub still_full : (entry : Entry) (first second : List Entry) (one two : ℕ) → one ≡ two → length first ≤ length second → Contains first entry ⊎ (two ≤ length first)
+    → (Contains first entry → Contains second entry ⊎ (one ≤ length second)) → Contains second entry ⊎ (two ≤ length second)
+still_full entry first second one two same more (inr full) next = inr (omega (arith, full, more))
+still_full entry first second one two same more (inl there) next = elim (next there) [
+  | inl still ↦ inl still
+  | inr full ↦ inr (omega (arith, same, full))
+]
+
+pub no_fewer_than : (first second third : List Entry) → length first ≤ length second → length second ≤ length third → length first ≤ length third
+no_fewer_than first second third one two = omega (arith, one, two)
+
+pub no_fewer_itself : (list : List Entry) → length list ≤ length list
+no_fewer_itself list = omega arith
+
+pub no_found : {X : Type 0} (x : X) → None ≡ Some x → ⊥
+no_found x is = cc
+
+-- one more entry: what was there still is, but for one of its operands, of which there was none, or one of a full cache
+pub still_kept : (u v : Node) (entry : Entry) (list first second : List Entry) (one two : ℕ) → one ≡ two → length first ≤ length second
+    → ((w : Node) (just : Just) → Contains list (Conjunction u v w just) → ⊥) → Contains list entry → Contains first entry ⊎ (two ≤ length first)
+    → (Contains first entry → Contains second entry ⊎ (HasOperands entry u v ⊎ (one ≤ length first))) → Contains second entry ⊎ (two ≤ length second)
+still_kept u v entry list first second one two same more none had (inr full) next = inr (omega (arith, full, more))
+still_kept u v entry list first second one two same more none had (inl there) next = elim (next there) [
+  | inl still ↦ inl still
+  | inr other ↦ elim other [
+    | inl own ↦ absurd (none own.0 own.1 (subst (Contains list) own.2 had))
+    | inr full ↦ inr (omega (arith, same, full, more))
+  ]
+]

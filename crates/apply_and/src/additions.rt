@@ -25,7 +25,7 @@ use hint_chain::{
 };
 use host_io::Sink;
 use node_table::{Just, Node, Table, TableError, growth_law, steps_law};
-use operations::{Operands, Side, down_part, just_part, up_part};
+use operations::{Operands, Side, down_part, just_part, operand_law, up_part};
 use std::alloc::Global;
 
 /// Justifies that w is the conjunction of the operands, where it is neither of them.
@@ -52,6 +52,7 @@ pub fn justify<S: Sink + Drop>(
     ensures beside { S.beside table.new.book.sink ≡ S.beside table.old.book.sink }
 {
     steps_law::<S>();
+    operand_law();
     growth_law();
     clause_law();
     let Some(clause) = conjunction_clause(table, operands, w) else {
@@ -96,6 +97,7 @@ fn add_high<S: Sink + Drop>(
     ensures no_node_limit { result ≢ Err NodeLimit }
     ensures beside { S.beside table.new.book.sink ≡ S.beside table.old.book.sink }
 {
+    operand_law();
     closing_law();
     conjunction_law();
     greedy_law();
@@ -137,6 +139,7 @@ fn add_low<S: Sink + Drop>(
     ensures no_node_limit { result ≢ Err NodeLimit }
     ensures beside { S.beside table.new.book.sink ≡ S.beside table.old.book.sink }
 {
+    operand_law();
     closing_law();
     conjunction_law();
     greedy_law();

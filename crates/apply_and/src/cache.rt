@@ -43,6 +43,7 @@ impl AndCache {
         ensures found { (w : NodeValue) (just : JustValue) → Contains (entries self.old) (Conjunction u v w just) → result ≡ Some (w, just) }
         ensures kept { IfSome result (λ found. Contains (entries self.old) (Conjunction u v found.0 found.1)) }
         ensures same { HaveSame (entries self.old) (entries self.new) }
+        ensures no_fewer { length (entries self.old) ≤ length (entries self.new) }
         ensures capacity { self.new.capacity ≡ self.old.capacity }
     {
         order_law::<(Node, Node)>();
@@ -60,6 +61,7 @@ impl AndCache {
         // An entry is missing only where the list was full.
         ensures others { OnOk result ((entry : Entry) → Contains (entries self.old) entry
             → Contains (entries self.new) entry ⊎ (HasOperands entry u v ⊎ (self.old.capacity ≤ length (entries self.old)))) }
+        ensures no_fewer { length (entries self.old) ≤ length (entries self.new) }
         ensures capacity { self.new.capacity ≡ self.old.capacity }
         ensures refused { OnErr result (entries self.new ≡ entries self.old) }
     {

@@ -20,8 +20,8 @@ use crate::additions::justify;
 use crate::cache::AndCache;
 use host_io::Sink;
 use node_table::{
-    Just, Node, Table, TableError, cofactor_law, growth_law, missing_law, reach_law, steps_law,
-    subfunction_law,
+    Just, Node, Table, TableError, canonical_law, cofactor_law, growth_law, missing_law, reach_law,
+    steps_law, subfunction_law,
 };
 use operations::{Operands, entry_law, operand_law, split};
 use std::alloc::Global;
@@ -50,6 +50,7 @@ pub fn and<S: Sink + Drop>(
         → (result ≡ Ok (w, just)) × (table.new ≡ table.old) × HaveSame (entries cache.old) (entries cache.new) }
     ensures kept { u ≢ v → IsNoConstant u → IsNoConstant v → IfOk result (λ found. Contains (entries cache.new) (Conjunction u v found.0 found.1)) }
     ensures remembered { (entry : Entry) → Contains (entries cache.old) entry → Contains (entries cache.new) entry ⊎ (cache.old.capacity ≤ length (entries cache.new)) }
+    ensures no_fewer { length (entries cache.old) ≤ length (entries cache.new) }
     ensures capacity { cache.new.capacity ≡ cache.old.capacity }
     // However it ends, each node that was made is a subfunction of the conjunction; on success none is left over.
     ensures made { MakesOnly table.old.graph table.new.graph (conjunction_of table.old.graph u v) }
@@ -67,6 +68,7 @@ pub fn and<S: Sink + Drop>(
     growth_law();
     subfunction_law();
     reach_law();
+    canonical_law();
     if let Some(w) = plain(u, v) {
         return Ok((w, Just::Trivial));
     }
@@ -118,13 +120,16 @@ fn finish<S: Sink + Drop>(
     ensures beside { S.beside table.new.book.sink ≡ S.beside table.old.book.sink }
 {
     steps_law::<S>();
+    entry_law::<S>();
     operand_law();
     cofactor_law();
     growth_law();
     subfunction_law();
     reach_law();
     missing_law();
-    let w = table.node(operands.level, high.0, low.0)?;
+    let made = table.node(operands.level, high.0, low.0);
+    table.table_law();
+    let w = made?;
     if is_operand(w, operands) {
         return Ok((w, Just::Trivial));
     }
