@@ -1,19 +1,25 @@
 -- What the stages of a run say of its streams, for the promises.
 use Rattle.std.proofs.Common.{◌≡◌, ℕ, true, false, List, [], ◌∷◌, ◌++◌, length, append-nil, refl, sym, ap, ◌∙◌, Some, None, Err, inl, inr, true≢false}
-use Rattle.std.specs.Prelude.{Option, drop, ◌⊎◌}
+use Rattle.std.specs.Prelude.{Option, Result, drop, ◌⊎◌}
 use Rattle.std.proofs.Math.Seq.{drop-append_seam}
 use Rattle.cnf_base.specs.Formula.{Formula}
 use Rattle.host_io.specs.Channel.{Channel}
 use Rattle.host_io.specs.declared.role.Role.{Role}
 use Rattle.host_io.specs.declared.role.Role.TheVariants.{Cnf}
 use Rattle.dimacs_reader.specs.declared.error.CnfKind.{CnfKind}
+use Rattle.dimacs_reader.specs.declared.error.CnfError.{CnfError}
+use Rattle.dimacs_reader.specs.declared.error.CnfError.TheVariants.{Refused}
+use Rattle.dimacs_reader.specs.declared.error.CnfError.TheVariants as cnf_error
+use Rattle.term_runner.specs.declared.outcome.Outcome.{Outcome}
+use Rattle.term_runner.specs.declared.error.RunError.{RunError}
+use Rattle.term_runner.specs.declared.error.RunError.TheVariants as run_error
 use Rattle.dimacs_reader.specs.Cnf.{CnfText, formula, refusal, overlong}
 use Rattle.solver_cli.specs.declared.status.Status.{Status}
-use Rattle.solver_cli.specs.declared.status.Status.TheVariants.{Sat, Unsat, Unknown, Verified, NotVerified, Help, Usage, CnfRefused, TooLong, ReadFault, WriteFault, OutOfMemory}
+use Rattle.solver_cli.specs.declared.status.Status.TheVariants.{Help, Usage, CnfRefused, TooLong, ReadFault, WriteFault, OutOfMemory}
 use Rattle.solver_cli.specs.ErrorText.{is_answer}
-use Rattle.schedule_plan.specs.declared.limits.Limits.{Limits}
-use Rattle.command_line.specs.Command.{Command, Solve, Check, formula_file, Meaning, Asks, AsksHelp, Misuse, IsOneOf, MayMean, CanOnlyMean, meanings, only_command, command}
-use Rattle.solver_cli.specs.Phases.{IsRead, IsReadStatus, IsProofStatus}
+use Rattle.command_line.specs.Command.{Command, ToSolve, ToCheck, Solve, Check, formula_file, Meaning, Asks, AsksHelp, Misuse, IsOneOf, MayMean, CanOnlyMean, meanings, only_command, command}
+use Rattle.solver_cli.specs.ExitCode.{status_of_error, status_of_run}
+use Rattle.solver_cli.specs.Phases.{IsRead}
 
 -- what was written behind what stood there
 pub behind : (old new : Channel) (part : List ℕ) → new.written ≡ old.written ++ part → drop (length old.written) new.written ≡ part
@@ -44,50 +50,39 @@ pub record Exceeds (status : Status) (text : CnfText) : Type 0 where
   pub ends : status ≡ TooLong Cnf
   pub says : text ≡ overlong
 
-pub read_statuses : (status : Status) → IsReadStatus status → (is_answer status ≡ false) × ((status ≡ WriteFault) → ⊥) × ((status ≡ Usage) → ⊥) × ((status ≡ Help) → ⊥)
-read_statuses Sat p = absurd p
-read_statuses Unsat p = absurd p
-read_statuses (Unknown why) p = absurd p
-read_statuses Verified p = absurd p
-read_statuses (NotVerified line reason) p = absurd p
-read_statuses Help p = absurd p
-read_statuses Usage p = absurd p
-read_statuses (CnfRefused kind line) p = (refl, (λ e. cc), (λ e. cc), λ e. cc)
-read_statuses (TooLong role) p = (refl, (λ e. cc), (λ e. cc), λ e. cc)
-read_statuses ReadFault p = (refl, (λ e. cc), (λ e. cc), λ e. cc)
-read_statuses WriteFault p = absurd p
-read_statuses OutOfMemory p = (refl, (λ e. cc), (λ e. cc), λ e. cc)
+pub read_statuses : (status : Status) (error : CnfError) → status ≡ status_of_error error → (is_answer status ≡ false) × ((status ≡ WriteFault) → ⊥) × ((status ≡ Usage) → ⊥) × ((status ≡ Help) → ⊥)
+read_statuses status (Refused kind line) is = (ap is_answer is, (λ e. cc), (λ e. cc), λ e. cc)
+read_statuses status cnf_error.ReadFault is = (ap is_answer is, (λ e. cc), (λ e. cc), λ e. cc)
+read_statuses status cnf_error.TooLong is = (ap is_answer is, (λ e. cc), (λ e. cc), λ e. cc)
+read_statuses status cnf_error.OutOfMemory is = (ap is_answer is, (λ e. cc), (λ e. cc), λ e. cc)
 
 -- the refusal of a text, or a fault or want of memory
-pub read_ends : (status : Status) (whole taken : CnfText) → IsRead (Err status) whole taken → IsReadStatus status
+pub read_ends : (status : Status) (error : CnfError) (whole taken : CnfText) → status ≡ status_of_error error → IsRead (Err error) whole taken
     → (status ≡ ReadFault) ⊎ ((status ≡ OutOfMemory) ⊎ ((taken ≡ whole) × (Refuses status whole ⊎ Exceeds status whole)))
-read_ends Sat whole taken is p = absurd p
-read_ends Unsat whole taken is p = absurd p
-read_ends (Unknown why) whole taken is p = absurd p
-read_ends Verified whole taken is p = absurd p
-read_ends (NotVerified line reason) whole taken is p = absurd p
-read_ends Help whole taken is p = absurd p
-read_ends Usage whole taken is p = absurd p
-read_ends (CnfRefused kind line) whole taken is p = inr (inr (is.1 ∙ sym is.0, inl (record { kind = kind; line = line; ends = refl; says = is.0 })))
-read_ends (TooLong role) whole taken is p = inr (inr (is.2 ∙ sym is.1, inr (record { ends = ap (λ (r : Role). TooLong r) is.0; says = is.1 })))
-read_ends ReadFault whole taken is p = inl refl
-read_ends WriteFault whole taken is p = absurd p
-read_ends OutOfMemory whole taken is p = inr (inl refl)
+read_ends status (Refused kind line) whole taken ends is = inr (inr (is.1 ∙ sym is.0, inl (record { kind = kind; line = line; ends = ends; says = is.0 })))
+read_ends status cnf_error.TooLong whole taken ends is = inr (inr (is.1 ∙ sym is.0, inr (record { ends = ends; says = is.0 })))
+read_ends status cnf_error.ReadFault whole taken ends is = inl ends
+read_ends status cnf_error.OutOfMemory whole taken ends is = inr (inl ends)
+
+-- a run that ends with a read fault read with one
+pub read_fault : (error : CnfError) → status_of_error error ≡ ReadFault → ◌≡◌ {A = Result Formula CnfError} (Err error) (Err cnf_error.ReadFault)
+read_fault (Refused kind line) e = cc
+read_fault cnf_error.ReadFault e = refl
+read_fault cnf_error.TooLong e = cc
+read_fault cnf_error.OutOfMemory e = cc
+
+-- a text that is too long is the formula's
+pub long_is_cnf : (error : CnfError) (role : Role) → status_of_error error ≡ TooLong role → role ≡ Cnf
+long_is_cnf (Refused kind line) role e = cc
+long_is_cnf cnf_error.ReadFault role e = cc
+long_is_cnf cnf_error.TooLong role e = cc
+long_is_cnf cnf_error.OutOfMemory role e = cc
 
 -- how deciding a formula and writing its proof ends a run
-pub write_ends : (status : Status) → IsProofStatus (Err status) → (status ≡ WriteFault) ⊎ (status ≡ OutOfMemory)
-write_ends Sat p = absurd p
-write_ends Unsat p = absurd p
-write_ends (Unknown why) p = absurd p
-write_ends Verified p = absurd p
-write_ends (NotVerified line reason) p = absurd p
-write_ends Help p = absurd p
-write_ends Usage p = absurd p
-write_ends (CnfRefused kind line) p = absurd p
-write_ends (TooLong role) p = absurd p
-write_ends ReadFault p = absurd p
-write_ends WriteFault p = inl refl
-write_ends OutOfMemory p = inr refl
+pub write_ends : (status : Status) (error : RunError) → status ≡ status_of_run error
+    → ((status ≡ WriteFault) × ◌≡◌ {A = Result Outcome RunError} (Err error) (Err run_error.WriteFault)) ⊎ (status ≡ OutOfMemory)
+write_ends status run_error.WriteFault is = inl (is, refl)
+write_ends status run_error.OutOfMemory is = inr is
 
 -- the words give one command, and a file has one text
 same_some : {a b : List ℕ} → ◌≡◌ {A = Option (List ℕ)} (Some a) (Some b) → a ≡ b
@@ -99,15 +94,15 @@ one_text files here there stands stands_there = same_some (sym stands ∙ ap (λ
   same_command : (a b : Command) → ◌≡◌ {A = Option Command} (Some a) (Some b) → a ≡ b
   same_command a b e = cc
 
-pub one_proof : (files : List ℕ → Option (List ℕ)) {words : Option Command} {file other proof other_proof bytes text : List ℕ}
-    → words ≡ Some (Check file proof) → words ≡ Some (Check other other_proof) → files proof ≡ Some bytes → files other_proof ≡ Some text → bytes ≡ text
-one_proof files here there stands stands_there = same_some (sym stands ∙ ap files (same_proof (sym here ∙ there)) ∙ stands_there) where
-  same_proof : {a b c d : List ℕ} → ◌≡◌ {A = Option Command} (Some (Check a b)) (Some (Check c d)) → b ≡ d
-  same_proof e = cc
+pub one_proof : (files : List ℕ → Option (List ℕ)) {words : Option Command} {task other : ToCheck} {bytes text : List ℕ}
+    → words ≡ Some (Check task) → words ≡ Some (Check other) → files task.proof ≡ Some bytes → files other.proof ≡ Some text → bytes ≡ text
+one_proof files here there stands stands_there = same_some (sym stands ∙ ap (λ (t : ToCheck). files t.proof) (same_task _ _ (sym here ∙ there)) ∙ stands_there) where
+  same_task : (a b : ToCheck) → ◌≡◌ {A = Option Command} (Some (Check a)) (Some (Check b)) → a ≡ b
+  same_task a b e = cc
 
-pub two_commands : {words : Option Command} {file other proof other_proof : List ℕ} {limits : Limits} → words ≡ Some (Solve file proof limits) → words ≡ Some (Check other other_proof) → ⊥
-two_commands {file = file} {other = other} {proof = proof} {other_proof = other_proof} {limits = limits} here there = apart (sym here ∙ there) where
-  apart : ◌≡◌ {A = Option Command} (Some (Solve file proof limits)) (Some (Check other other_proof)) → ⊥
+pub two_commands : {words : Option Command} {task : ToSolve} {other : ToCheck} → words ≡ Some (Solve task) → words ≡ Some (Check other) → ⊥
+two_commands {task = task} {other = other} here there = apart (sym here ∙ there) where
+  apart : ◌≡◌ {A = Option Command} (Some (Solve task)) (Some (Check other)) → ⊥
   apart e = cc
 
 -- words that give a command are not words that give none

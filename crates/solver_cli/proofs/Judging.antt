@@ -19,6 +19,7 @@ seen tells old new clauses result decides fault unfailed reads = record {
   decided = λ t. Decides-taken (decides t);
   fault = fault;
   unfailed = unfailed;
+  written = reads.written;
   name = reads.name;
   faults = reads.faults;
 }
@@ -44,6 +45,7 @@ judged {tells = tells} {old = old} {opened = opened} {new = new} {clauses = clau
       });
       fault = λ e. rose_since opens.faults.no_less (checks.fault e);
       unfailed = λ no. checks.unfailed no ∙ opens.faults.unfailed ok;
+      written = checks.written ∙ opens.idle.written ∙ sym opens.was_idle.written;
       name = inl (checks.name ∙ opens.named ok);
       faults = omega (arith, opens.faults.no_less, checks.faults);
     }

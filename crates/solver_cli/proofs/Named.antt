@@ -1,24 +1,32 @@
 -- The names of a run's roles, its files and its standard error.
 use Rattle.std.proofs.Common.{◌≡◌, ℕ, false, List, ◌++◌, refl, sym, ap, ◌∙◌, Some, None, Ok, Err, IsTrue, inl, inr, true≢false}
-use Rattle.std.specs.Prelude.{Result, ⊤, ◌⊎◌, IsFalse}
+use Rattle.std.specs.Prelude.{Result, ⊤, ◌⊎◌, ◌≢◌, IsFalse}
 use Rattle.host_io.specs.Channel.{Channel}
 use Rattle.host_io.specs.Files.{FilesBut, same_role}
 use Rattle.host_io.specs.declared.role.Role.{Role}
 use Rattle.host_io.specs.declared.role.Role.TheVariants.{Cnf, Order, Schedule, ProofIn, ProofOut, Made, Out, Err as ErrRole}
 use Rattle.host_io.specs.declared.source.Failed.{Failed}
+use Rattle.cnf_base.specs.Formula.{Formula}
+use Rattle.command_line.specs.Command.{Command, ToSolve, ToCheck, Solve, Check, formula_file, command}
+use Rattle.term_runner.specs.declared.outcome.Outcome.{Outcome}
+use Rattle.term_runner.specs.declared.outcome.Outcome.TheVariants as outcome
+use Rattle.term_runner.specs.declared.error.RunError.{RunError}
+use Rattle.term_runner.specs.declared.error.RunError.TheVariants as run_error
 use Rattle.solver_cli.specs.declared.status.Status.{Status}
-use Rattle.solver_cli.specs.declared.answer.Answer.{Answer}
-use Rattle.solver_cli.specs.declared.answer.Answer.TheVariants.{Satisfiable, Unsatisfiable, NodesUsed, NumbersUsed}
-use Rattle.schedule_plan.specs.declared.limits.Limits.{Limits}
-use Rattle.command_line.specs.Command.{Command, Solve, Check, formula_file, command}
-use Rattle.solver_cli.specs.Phases.{Complains}
+use Rattle.solver_cli.specs.ExitCode.{status_of_run}
+use Rattle.solver_cli.specs.Phases.{TakesFormula, Complains}
 use Rattle.solver_cli.specs.Stages.{Streams, streams_of, Came, CameToCheck, Stages, status_after}
-use Rattle.solver_cli.specs.Headline.{Run, ErrorStands, NamesAreGiven, name_given, ends_before_proof}
-use Rattle.solver_cli.proofs.Facts.{behind, grown_by, write_ends}
+use Rattle.solver_cli.specs.Headline.{Run, GivesSolve, AsksFor, ErrorStands, NamesAreGiven, name_given, ends_before_proof}
+use Rattle.solver_cli.proofs.Facts.{behind, grown_by}
+use Rattle.solver_cli.proofs.Accepted.{took, asks_for, natural_schedule}
 
 -- a role has no name, or the one that the words give it
 abbrev pub IsNamed : Run → Role → Type 0
 IsNamed run role = ((run.after role).name ≡ None) ⊎ ((asked : Command) × (command run.words ≡ Some asked) × ((run.after role).name ≡ name_given role asked))
+
+-- the proof has a name only where the words give `solve` and the formula was accepted
+abbrev pub IsAccepted : Run → Type 0
+IsAccepted run = (run.after ProofOut).name ≢ None → GivesSolve run × (IsTrue run.tells → (problem : Formula) × AsksFor run problem)
 
 pub record StreamNames (run : Run) : Type 0 where
   pub cnf : IsNamed run Cnf
@@ -26,6 +34,7 @@ pub record StreamNames (run : Run) : Type 0 where
   pub proof : IsNamed run ProofOut
   pub out : IsNamed run Out
   pub read_first : IsTrue (ends_before_proof run.status) → (run.after ProofOut).name ≡ None
+  pub accepted : IsAccepted run
 
 name_of : {old new : Channel} → new ≡ old → old.name ≡ None → new.name ≡ None
 name_of same none = ap (λ (c : Channel). c.name) same ∙ none
@@ -34,23 +43,34 @@ given : (run : Run) (asked : Command) → command run.words ≡ Some asked → (
 given run asked gives (inl some) = inr (asked, gives, some)
 given run asked gives (inr none) = inl none
 
-given_judged : (run : Run) (file proof : List ℕ) → command run.words ≡ Some (Check file proof) → ((run.after ProofIn).name ≡ Some proof) ⊎ ((run.after ProofIn).name ≡ None) → IsNamed run ProofIn
-given_judged run file proof asked (inl some) = inr (Check file proof, asked, some)
-given_judged run file proof asked (inr none) = inl none
+given_judged : (run : Run) (task : ToCheck) → command run.words ≡ Some (Check task) → ((run.after ProofIn).name ≡ Some task.proof) ⊎ ((run.after ProofIn).name ≡ None) → IsNamed run ProofIn
+given_judged run task asked (inl some) = inr (Check task, asked, some)
+given_judged run task asked (inr none) = inl none
 
-given_proof : (run : Run) (file proof : List ℕ) (limits : Limits) → command run.words ≡ Some (Solve file proof limits) → ((run.after ProofOut).name ≡ Some proof) ⊎ ((run.after ProofOut).name ≡ None) → IsNamed run ProofOut
-given_proof run file proof limits asked (inl some) = inr (Solve file proof limits, asked, some)
-given_proof run file proof limits asked (inr none) = inl none
+given_proof : (run : Run) (task : ToSolve) → command run.words ≡ Some (Solve task) → ((run.after ProofOut).name ≡ Some task.proof) ⊎ ((run.after ProofOut).name ≡ None) → IsNamed run ProofOut
+given_proof run task asked (inl some) = inr (Solve task, asked, some)
+given_proof run task asked (inr none) = inl none
+
+unnamed_proof : (run : Run) → (run.after ProofOut).name ≡ None → IsAccepted run
+unnamed_proof run none named = absurd (named none)
+
+accepted_for : (run : Run) (task : ToSolve) (problem : Formula) → command run.words ≡ Some (Solve task)
+    → TakesFormula run.tells (run.before Cnf) (run.after Cnf) run.files task.file (Ok problem) → IsAccepted run
+accepted_for run task problem asked takes named = ((task, asked), λ t. (problem, asks_for run task problem (natural_schedule problem) (took run (Solve task) problem asked takes t)))
 
 later : (status : Status) → ends_before_proof status ≡ false → {A : Type 0} → IsTrue (ends_before_proof status) → A
 later status after before = absurd (true≢false (sym before ∙ after))
 
-answer_later : (answer : Answer) (printed : Result ⊤ Failed) → ends_before_proof (status_after answer printed) ≡ false
-answer_later (Satisfiable values) (Ok x) = refl
-answer_later Unsatisfiable (Ok x) = refl
-answer_later NodesUsed (Ok x) = refl
-answer_later NumbersUsed (Ok x) = refl
-answer_later answer (Err e) = refl
+answer_later : (found : Outcome) (printed : Result ⊤ Failed) → ends_before_proof (status_after found printed) ≡ false
+answer_later (outcome.Sat values) (Ok x) = refl
+answer_later outcome.Unsat (Ok x) = refl
+answer_later outcome.NodeLimit (Ok x) = refl
+answer_later outcome.IdLimit (Ok x) = refl
+answer_later found (Err e) = refl
+
+run_later : (error : RunError) → ends_before_proof (status_of_run error) ≡ false
+run_later run_error.OutOfMemory = refl
+run_later run_error.WriteFault = refl
 
 pub stream_names : (run : Run) → ((role : Role) → (run.before role).name ≡ None) → Stages run.tells run.words (streams_of run.before) (streams_of run.after) run.files run.status → StreamNames run
 stream_names run unnamed (inl m) = record {
@@ -59,6 +79,7 @@ stream_names run unnamed (inl m) = record {
   proof = inl (name_of (ap (λ (s : Streams). s.proof) m.same) (unnamed ProofOut));
   out = inl (name_of (ap (λ (s : Streams). s.out) m.same) (unnamed Out));
   read_first = λ _. name_of (ap (λ (s : Streams). s.proof) m.same) (unnamed ProofOut);
+  accepted = unnamed_proof run (name_of (ap (λ (s : Streams). s.proof) m.same) (unnamed ProofOut));
 }
 stream_names run unnamed (inr (inl h)) = record {
   cnf = inl (name_of h.cnf (unnamed Cnf));
@@ -66,66 +87,75 @@ stream_names run unnamed (inr (inl h)) = record {
   proof = inl (name_of h.proof (unnamed ProofOut));
   out = inl (h.shows.puts.only.name ∙ unnamed Out);
   read_first = λ _. name_of h.proof (unnamed ProofOut);
+  accepted = unnamed_proof run (name_of h.proof (unnamed ProofOut));
 }
 stream_names run unnamed (inr (inr (inl t))) = came t.came where
-  came : Came run.tells (streams_of run.before) (streams_of run.after) run.files t.file t.proof t.limits run.status → StreamNames run
+  came : Came run.tells (streams_of run.before) (streams_of run.after) run.files t.task.file t.task.proof t.task.limits run.status → StreamNames run
   came (inl u) = record {
-    cnf = given run (Solve t.file t.proof t.limits) t.asked u.takes.name;
+    cnf = given run (Solve t.task) t.asked u.takes.name;
     judged = inl (name_of u.judged (unnamed ProofIn));
     proof = inl (name_of u.proof (unnamed ProofOut));
     out = inl (name_of u.out (unnamed Out));
     read_first = λ _. name_of u.proof (unnamed ProofOut);
+    accepted = unnamed_proof run (name_of u.proof (unnamed ProofOut));
   }
   came (inr (inl u)) = record {
-    cnf = given run (Solve t.file t.proof t.limits) t.asked u.takes.name;
+    cnf = given run (Solve t.task) t.asked u.takes.name;
     judged = inl (name_of u.judged (unnamed ProofIn));
     proof = inl (name_of u.proof (unnamed ProofOut));
     out = inl (name_of u.out (unnamed Out));
     read_first = λ _. name_of u.proof (unnamed ProofOut);
+    accepted = unnamed_proof run (name_of u.proof (unnamed ProofOut));
   }
   came (inr (inr (inl u))) = record {
-    cnf = given run (Solve t.file t.proof t.limits) t.asked u.takes.name;
+    cnf = given run (Solve t.task) t.asked u.takes.name;
     judged = inl (name_of u.judged (unnamed ProofIn));
-    proof = given_proof run t.file t.proof t.limits t.asked (u.opens.failed u.failed);
+    proof = given_proof run t.task t.asked (u.opens.failed u.failed);
     out = inl (name_of u.out (unnamed Out));
     read_first = later run.status (ap ends_before_proof u.ends);
+    accepted = accepted_for run t.task u.problem t.asked u.takes;
   }
   came (inr (inr (inr (inl u)))) = record {
-    cnf = given run (Solve t.file t.proof t.limits) t.asked u.takes.name;
+    cnf = given run (Solve t.task) t.asked u.takes.name;
     judged = inl (name_of u.judged (unnamed ProofIn));
-    proof = given_proof run t.file t.proof t.limits t.asked (inl (u.writes.only.name ∙ u.opens.named u.done));
+    proof = given_proof run t.task t.asked (inl (u.writes.only.name ∙ u.opens.named u.done));
     out = inl (name_of u.out (unnamed Out));
-    read_first = later run.status (elim (write_ends run.status u.writes.statuses) [ inl fault ↦ ap ends_before_proof fault | inr memory ↦ ap ends_before_proof memory ]);
+    read_first = later run.status (ap ends_before_proof u.ends ∙ run_later u.error);
+    accepted = accepted_for run t.task u.problem t.asked u.takes;
   }
   came (inr (inr (inr (inr a)))) = record {
-    cnf = given run (Solve t.file t.proof t.limits) t.asked a.takes.name;
+    cnf = given run (Solve t.task) t.asked a.takes.name;
     judged = inl (name_of a.judged (unnamed ProofIn));
-    proof = given_proof run t.file t.proof t.limits t.asked (inl (a.writes.only.name ∙ a.opens.named a.done));
+    proof = given_proof run t.task t.asked (inl (a.writes.only.name ∙ a.opens.named a.done));
     out = inl (a.puts.only.name ∙ unnamed Out);
-    read_first = later run.status (ap ends_before_proof a.ends ∙ answer_later a.answer a.printed);
+    read_first = later run.status (ap ends_before_proof a.ends ∙ answer_later a.outcome a.printed);
+    accepted = accepted_for run t.task a.problem t.asked a.takes;
   }
 stream_names run unnamed (inr (inr (inr c))) = came c.came where
-  came : CameToCheck run.tells (streams_of run.before) (streams_of run.after) run.files c.file c.proof run.status → StreamNames run
+  came : CameToCheck run.tells (streams_of run.before) (streams_of run.after) run.files c.task.file c.task.proof run.status → StreamNames run
   came (inl u) = record {
-    cnf = given run (Check c.file c.proof) c.asked u.takes.name;
+    cnf = given run (Check c.task) c.asked u.takes.name;
     judged = inl (name_of u.judged (unnamed ProofIn));
     proof = inl (name_of u.proof (unnamed ProofOut));
     out = inl (name_of u.out (unnamed Out));
     read_first = λ _. name_of u.proof (unnamed ProofOut);
+    accepted = unnamed_proof run (name_of u.proof (unnamed ProofOut));
   }
   came (inr (inl u)) = record {
-    cnf = given run (Check c.file c.proof) c.asked u.takes.name;
-    judged = given_judged run c.file c.proof c.asked u.judges.name;
+    cnf = given run (Check c.task) c.asked u.takes.name;
+    judged = given_judged run c.task c.asked u.judges.name;
     proof = inl (name_of u.proof (unnamed ProofOut));
     out = inl (name_of u.out (unnamed Out));
     read_first = λ _. name_of u.proof (unnamed ProofOut);
+    accepted = unnamed_proof run (name_of u.proof (unnamed ProofOut));
   }
   came (inr (inr j)) = record {
-    cnf = given run (Check c.file c.proof) c.asked j.takes.name;
-    judged = given_judged run c.file c.proof c.asked j.judges.name;
+    cnf = given run (Check c.task) c.asked j.takes.name;
+    judged = given_judged run c.task c.asked j.judges.name;
     proof = inl (name_of j.proof (unnamed ProofOut));
     out = inl (j.puts.only.name ∙ unnamed Out);
     read_first = λ _. name_of j.proof (unnamed ProofOut);
+    accepted = unnamed_proof run (name_of j.proof (unnamed ProofOut));
   }
 
 -- the names of all roles
@@ -135,6 +165,7 @@ names run streams others files = record {
   names = each;
   files = files;
   read_first = streams.read_first;
+  accepted = streams.accepted;
 } where
   each : (role : Role) → IsNamed run role
   each Cnf = streams.cnf

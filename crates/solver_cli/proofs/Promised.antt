@@ -1,29 +1,35 @@
 -- From how far a run came to what is promised of it.
-use Rattle.std.proofs.Common.{◌≡◌, ℕ, false, List, [], refl, sym, ap, ◌∙◌, subst, Some, Err, IsTrue, inl, inr, true≢false}
-use Rattle.std.specs.Prelude.{Result, ◌⊎◌}
+use Rattle.std.proofs.Common.{◌≡◌, ℕ, false, List, [], refl, sym, ap, ◌∙◌, Some, Err, IsTrue, inl, inr, true≢false}
+use Rattle.std.specs.Prelude.{Result, ◌⊎◌, ◌≢◌}
 use Rattle.cnf_base.specs.Formula.{Formula}
 use Rattle.host_io.specs.Channel.{Channel}
 use Rattle.host_io.specs.declared.role.Role.{Role}
-use Rattle.host_io.specs.declared.role.Role.TheVariants.{Cnf, ProofOut, Out}
+use Rattle.host_io.specs.declared.role.Role.TheVariants.{Cnf, ProofOut, Out, Err as ErrRole}
 use Rattle.dimacs_reader.specs.declared.error.CnfKind.{CnfKind}
+use Rattle.dimacs_reader.specs.declared.error.CnfError.{CnfError}
+use Rattle.dimacs_reader.specs.declared.error.CnfError.TheVariants.{ReadFault as CnfFault}
 use Rattle.dimacs_reader.specs.Cnf.{CnfText, formula, refusal, overlong, cnf}
 use Rattle.solver_cli.specs.declared.status.Status.{Status}
 use Rattle.solver_cli.specs.declared.status.Status.TheVariants.{Help, Usage, CnfRefused, TooLong, ReadFault, WriteFault, OutOfMemory}
 use Rattle.command_line.specs.Command.{Command, formula_file, AsksHelp, Misuse, command}
 use Rattle.solver_cli.specs.ErrorText.{is_answer}
-use Rattle.solver_cli.specs.Phases.{IsReadStatus}
+use Rattle.solver_cli.specs.ExitCode.{status_of_error}
 use Rattle.solver_cli.specs.Stages.{Streams, streams_of, Misused, Untaken}
-use Rattle.solver_cli.specs.Headline.{Run, written_in, taken_in, HasFault, UnsatisfiableIsProved, SatisfiableIsTrue, LimitsAreReached, VerdictIsTrue, RefusalsAreDue, FaultsAreCounted, OutputStands, ProofStands, IsComplete, IsRefusedBy, Asks}
-use Rattle.solver_cli.proofs.Facts.{behind, grown_by, nothing_more, no_answer, Refuses, Exceeds, read_statuses, read_ends, one_text, not_unasked, no_misuse, only_misuse, only_help, formula_refusal, formula_overlong, refusal_overlong, same_refusal}
+use Rattle.solver_cli.specs.Headline.{Run, written_in, taken_in, InputFailed, UnsatisfiableIsProved, SatisfiableIsTrue, LimitsAreReached, VerdictIsTrue, RefusalsAreDue, FaultsAreCounted, OutputStands, ProofStands, IsComplete, IsRefusedBy, Asks}
+use Rattle.solver_cli.proofs.Facts.{behind, grown_by, nothing_more, no_answer, Refuses, Exceeds, read_statuses, read_ends, read_fault, long_is_cnf, one_text, not_unasked, no_misuse, only_misuse, only_help, formula_refusal, formula_overlong, refusal_overlong, same_refusal}
 
--- The promises on streams and statuses, without names, files and standard error.
+-- after a read fault no role but standard error gained a byte
+abbrev pub QuietAtFaults : Run → Type 0
+QuietAtFaults run = run.status ≡ ReadFault → IsTrue run.tells → (role : Role) → role ≢ ErrRole → written_in run role ≡ []
+
+-- The promises on streams and statuses, without names, files and standard error, and without what was written by other roles.
 pub record Core (run : Run) : Type 0 where
   pub unsatisfiable : UnsatisfiableIsProved run
   pub satisfiable : SatisfiableIsTrue run
   pub undecided : LimitsAreReached run
   pub verdict : VerdictIsTrue run
   pub refusals : RefusalsAreDue run
-  pub faults : FaultsAreCounted run
+  pub faults : QuietAtFaults run → FaultsAreCounted run
   pub output : OutputStands run
   pub proof : ProofStands run
   pub complete : IsComplete run
@@ -88,18 +94,18 @@ misused run m =
         refused = λ kind line e. absurd (undone.refused kind line e);
         too_long = λ role e. absurd (undone.too_long role e);
       };
-      faults = record { read = λ e. absurd (undone.read e); write = λ e. absurd (undone.write e); accepted = λ e. absurd (undone.write e) };
+      faults = λ quiet. record { read = λ e. absurd (undone.read e); quiet = quiet; write = λ e. absurd (undone.write e); accepted = λ e. absurd (undone.write e) };
       output = quiet_output run undone.unanswered undone.help (same_written (out_of m.same));
       proof = no_proof run (none_written run ProofOut (proof_of m.same));
       complete = record {
         misused = λ only. elim m.ends [ inl faulty ↦ inl faulty.0 | inr memory ↦ inr memory ];
         helped = λ only _. elim m.ends [ inl faulty ↦ absurd (no_wish (only Misuse faulty.1)) | inr memory ↦ inr memory ];
         unasked = λ _ _. elim m.ends [ inl faulty ↦ inl faulty.0 | inr memory ↦ inr (inr memory) ];
-        answers = λ problem asked t a b c. elim m.ends [ inl faulty ↦ absurd (no_misuse run.words asked.asks.command faulty.1) | inr memory ↦ inr memory ];
-        judges = λ problem bytes judged has t a b c. elim m.ends [ inl faulty ↦ absurd (no_misuse run.words has.asked.asks.command faulty.1) | inr memory ↦ inr memory ];
-        refuses = λ asked kind line asks t a. elim m.ends [ inl faulty ↦ absurd (no_misuse run.words asks.command faulty.1) | inr memory ↦ inr memory ];
-        overlong = λ asked asks t a. elim m.ends [ inl faulty ↦ absurd (no_misuse run.words asks.command faulty.1) | inr memory ↦ inr memory ];
-        long_proof = λ problem bytes asked long t a b. elim m.ends [ inl faulty ↦ absurd (no_misuse run.words asked.asks.command faulty.1) | inr memory ↦ inr memory ];
+        answers = λ problem asked t unharmed. elim m.ends [ inl faulty ↦ absurd (no_misuse run.words asked.asks.command faulty.1) | inr memory ↦ inr memory ];
+        judges = λ problem bytes judged has t unharmed. elim m.ends [ inl faulty ↦ absurd (no_misuse run.words has.asked.asks.command faulty.1) | inr memory ↦ inr memory ];
+        refuses = λ asked kind line asks t unfailed. elim m.ends [ inl faulty ↦ absurd (no_misuse run.words asks.command faulty.1) | inr memory ↦ inr memory ];
+        overlong = λ asked asks t unfailed. elim m.ends [ inl faulty ↦ absurd (no_misuse run.words asks.command faulty.1) | inr memory ↦ inr memory ];
+        long_proof = λ problem bytes asked long t unfailed. elim m.ends [ inl faulty ↦ absurd (no_misuse run.words asked.asks.command faulty.1) | inr memory ↦ inr memory ];
       };
     } where
       apart : {status : Status} → status ≡ OutOfMemory → status ≡ Usage → ⊥
@@ -118,8 +124,8 @@ record TextSays (run : Run) (asked : Command) : Type 0 where
 untaken_says : (run : Run) (asked : Command) → Untaken run.tells (streams_of run.before) (streams_of run.after) run.files (formula_file asked) run.status → IsTrue run.tells
     → (run.status ≡ ReadFault) ⊎ ((run.status ≡ OutOfMemory) ⊎ TextSays run asked)
 untaken_says run asked u t = elim (u.takes.read t) [
-  | inl e ↦ inl (same_err run.status ReadFault e)
-  | inr text ↦ elim (read_ends run.status (cnf text.0) (cnf (taken_in run Cnf)) text.2 u.takes.statuses) [
+  | inl e ↦ inl (u.ends ∙ ap status_of_error (same_error u.error CnfFault e))
+  | inr text ↦ elim (read_ends run.status u.error (cnf text.0) (cnf (taken_in run Cnf)) u.ends text.2) [
     | inl fault ↦ inl fault
     | inr more ↦ elim more [
       | inl memory ↦ inr (inl memory)
@@ -127,8 +133,12 @@ untaken_says run asked u t = elim (u.takes.read t) [
     ]
   ]
 ] where
-  same_err : (a b : Status) → ◌≡◌ {A = Result Formula Status} (Err a) (Err b) → a ≡ b
-  same_err a b e = cc
+  same_error : (a b : CnfError) → ◌≡◌ {A = Result Formula CnfError} (Err a) (Err b) → a ≡ b
+  same_error a b e = cc
+
+-- a read fault is that of a failed call
+untaken_rose : (run : Run) (asked : Command) → Untaken run.tells (streams_of run.before) (streams_of run.after) run.files (formula_file asked) run.status → run.status ≡ ReadFault → InputFailed run
+untaken_rose run asked u e = (Cnf, tt, u.takes.fault (read_fault u.error (sym u.ends ∙ e)))
 
 refused_by : (run : Run) (asked : Command) (text : CnfText) → command run.words ≡ Some asked → (says : TextSays run asked) → cnf says.bytes ≡ text → IsRefusedBy run text
 refused_by run asked text gives says is = record {
@@ -170,56 +180,47 @@ untaken_long run asked gives role e (inr (inr says)) = elim says.how [
   apart : (status : Status) (kind : CnfKind) (line : ℕ) → status ≡ CnfRefused kind line → status ≡ TooLong role → ⊥
   apart status kind line d e = cc
 
-long_is_cnf : (status : Status) (role : Role) → IsReadStatus status → status ≡ TooLong role → role ≡ Cnf
-long_is_cnf status role p e = inner role (subst (λ (s : Status). IsReadStatus s) e p) where
-  inner : (role : Role) → IsReadStatus (TooLong role) → role ≡ Cnf
-  inner role p = p
-
 -- a text that is accepted leaves only faults and want of memory
 untaken_accepted : (run : Run) (asked : Command) → command run.words ≡ Some asked → Untaken run.tells (streams_of run.before) (streams_of run.after) run.files (formula_file asked) run.status
-    → (other : Command) (problem : Formula) → Asks run other (formula problem) → IsTrue run.tells → (HasFault run Cnf → ⊥) → run.status ≡ OutOfMemory
-untaken_accepted run asked gives u other problem asks t faultless = elim (untaken_says run asked u t) [
-  | inl fault ↦ absurd (faultless (u.takes.fault (ap (λ (s : Status). the_err s) fault)))
+    → (other : Command) (problem : Formula) → Asks run other (formula problem) → IsTrue run.tells → (InputFailed run → ⊥) → run.status ≡ OutOfMemory
+untaken_accepted run asked gives u other problem asks t unfailed = elim (untaken_says run asked u t) [
+  | inl fault ↦ absurd (unfailed (untaken_rose run asked u fault))
   | inr more ↦ elim more [
     | inl memory ↦ memory
     | inr says ↦ let text : cnf says.bytes ≡ formula problem = ap cnf (one_text run.files gives asks.command says.stands asks.stands) ∙ asks.says in
         elim says.how [ inl r ↦ absurd (formula_refusal text r.says) | inr x ↦ absurd (formula_overlong text x.says) ]
   ]
-] where
-  the_err : Status → Result Formula Status
-  the_err s = Err s
+]
 
 untaken_complete : (run : Run) (asked : Command) → command run.words ≡ Some asked → Untaken run.tells (streams_of run.before) (streams_of run.after) run.files (formula_file asked) run.status → IsComplete run
 untaken_complete run asked gives u = record {
   misused = λ only. absurd (only_misuse run.words gives only);
   helped = λ only _. absurd (only_help run.words gives only);
   unasked = λ none _. absurd (not_unasked gives none);
-  answers = λ problem asks t faultless _ _. inr (untaken_accepted run asked gives u _ problem asks.asks t faultless);
-  judges = λ problem bytes judged has t faultless _ _. inr (untaken_accepted run asked gives u _ problem has.asked.asks t faultless);
-  refuses = λ other kind line asks t faultless. elim (untaken_says run asked u t) [
-    | inl fault ↦ absurd (faultless (u.takes.fault (ap (λ (s : Status). the_err s) fault)))
+  answers = λ problem asks t unharmed. inr (untaken_accepted run asked gives u _ problem asks.asks t unharmed.0);
+  judges = λ problem bytes judged has t unharmed. inr (untaken_accepted run asked gives u _ problem has.asked.asks t unharmed.0);
+  refuses = λ other kind line asks t unfailed. elim (untaken_says run asked u t) [
+    | inl fault ↦ absurd (unfailed (untaken_rose run asked u fault))
     | inr more ↦ elim more [
       | inl memory ↦ inr memory
       | inr says ↦ let text : cnf says.bytes ≡ refusal kind line = ap cnf (one_text run.files gives asks.command says.stands asks.stands) ∙ asks.says in
           elim says.how [ inl r ↦ inl (same_refusal r.says text r.ends) | inr x ↦ absurd (refusal_overlong text x.says) ]
     ]
   ];
-  overlong = λ other asks t faultless. elim (untaken_says run asked u t) [
-    | inl fault ↦ absurd (faultless (u.takes.fault (ap (λ (s : Status). the_err s) fault)))
+  overlong = λ other asks t unfailed. elim (untaken_says run asked u t) [
+    | inl fault ↦ absurd (unfailed (untaken_rose run asked u fault))
     | inr more ↦ elim more [
       | inl memory ↦ inr memory
       | inr says ↦ let text : cnf says.bytes ≡ overlong = ap cnf (one_text run.files gives asks.command says.stands asks.stands) ∙ asks.says in
           elim says.how [ inl r ↦ absurd (refusal_overlong r.says text) | inr x ↦ inl x.ends ]
     ]
   ];
-  long_proof = λ problem bytes asks _ t faultless _. inr (untaken_accepted run asked gives u _ problem asks.asks t faultless);
-} where
-  the_err : Status → Result Formula Status
-  the_err s = Err s
+  long_proof = λ problem bytes asks _ t unfailed. inr (untaken_accepted run asked gives u _ problem asks.asks t unfailed);
+}
 
 pub untaken : (run : Run) (asked : Command) → command run.words ≡ Some asked → Untaken run.tells (streams_of run.before) (streams_of run.after) run.files (formula_file asked) run.status → Core run
 untaken run asked gives u =
-    let statuses = read_statuses run.status u.takes.statuses in
+    let statuses = read_statuses run.status u.error u.ends in
     let unanswered : is_answer run.status ≡ false = statuses.0 in
     record {
       unsatisfiable = λ e. absurd (no_answer unanswered refl e);
@@ -229,13 +230,11 @@ untaken run asked gives u =
       refusals = record {
         usage = λ e. absurd (statuses.2 e);
         help = λ e. absurd (statuses.3 e);
-        refused = λ kind line e t. untaken_refused run asked gives kind line e (untaken_says run asked u t);
-        too_long = λ role e. inl (long_is_cnf run.status role u.takes.statuses e, λ t. untaken_long run asked gives role e (untaken_says run asked u t));
+        refused = λ kind line e. ((asked, gives), λ t. untaken_refused run asked gives kind line e (untaken_says run asked u t));
+        too_long = λ role e. inl (long_is_cnf u.error role (sym u.ends ∙ e), (asked, gives), λ t. untaken_long run asked gives role e (untaken_says run asked u t));
       };
-      faults = record { read = λ e. inl (u.takes.fault (ap (λ (s : Status). the_err s) e)); write = λ e. absurd (statuses.1 e); accepted = λ e. absurd (statuses.1 e) };
+      faults = λ quiet. record { read = λ e. ((asked, gives), untaken_rose run asked u e); quiet = quiet; write = λ e. absurd (statuses.1 e); accepted = λ e. absurd (statuses.1 e) };
       output = quiet_output run unanswered statuses.3 (same_written u.out);
       proof = no_proof run (none_written run ProofOut u.proof);
       complete = untaken_complete run asked gives u;
-    } where
-      the_err : Status → Result Formula Status
-      the_err s = Err s
+    }

@@ -1,5 +1,5 @@
--- Failed calls are told, from how far a run came.
-use Rattle.std.proofs.Common.{◌≡◌, refl, ap, ◌∙◌, Ok, Err, inl, inr}
+-- Failed calls are told, and a read fault leaves no byte, from how far a run came.
+use Rattle.std.proofs.Common.{◌≡◌, [], refl, ap, ◌∙◌, Ok, Err, inl, inr}
 use Rattle.std.specs.Prelude.{◌≢◌, ◌⊎◌, Bool, ℕ, List, Result, IsOk, ⊤}
 use Rattle.host_io.specs.Channel.{Channel}
 use Rattle.host_io.specs.Files.{Files, IsInput, IsCreated}
@@ -8,15 +8,29 @@ use Rattle.host_io.specs.declared.role.Role.{Role}
 use Rattle.host_io.specs.declared.role.Role.TheVariants.{Cnf, Order, Schedule, ProofIn, ProofOut, Made, Out, Err as ErrRole}
 use Rattle.lrat_checker.specs.declared.verdict.Verdict.{Verdict}
 use Rattle.schedule_plan.specs.declared.limits.Limits.{Limits}
-use Rattle.solver_cli.specs.declared.answer.Answer.{Answer}
+use Rattle.term_runner.specs.declared.outcome.Outcome.{Outcome}
+use Rattle.term_runner.specs.declared.error.RunError.{RunError}
+use Rattle.term_runner.specs.declared.error.RunError.TheVariants as run_error
 use Rattle.solver_cli.specs.declared.status.Status.{Status}
-use Rattle.solver_cli.specs.declared.status.Status.TheVariants.{ReadFault, WriteFault}
-use Rattle.solver_cli.specs.ExitCode.{status_of_check}
+use Rattle.solver_cli.specs.declared.status.Status.TheVariants.{Usage, ReadFault, WriteFault, OutOfMemory}
+use Rattle.solver_cli.specs.ExitCode.{status_of_error, status_of_run, status_of_check}
 use Rattle.solver_cli.specs.Stages.{Streams, streams_of, Misused, Helped, Untaken, Unplanned, Uncreated, Undecided, Answered, Unjudged, Judged, Came, CameToCheck, Stages, status_of_help, status_after, status_of_printed}
-use Rattle.solver_cli.specs.Headline.{Run, FailuresAreTold}
+use Rattle.solver_cli.specs.Headline.{Run, FailuresAreTold, written_in}
+use Rattle.solver_cli.proofs.Facts.{behind, nothing_more}
+use Rattle.solver_cli.proofs.Promised.{QuietAtFaults}
+use Rattle.solver_cli.proofs.Accepted.{accepts_answer}
+use Rattle.solver_cli.proofs.Verdicts.{accepts_verdict}
 
--- the counts of the streams that a run serves, by how it ended
+-- no stream that a run serves gained a byte
+pub record IsQuiet (old new : Streams) : Type 0 where
+  pub cnf : new.cnf.written ≡ old.cnf.written
+  pub judged : new.judged.written ≡ old.judged.written
+  pub proof : new.proof.written ≡ old.proof.written
+  pub out : new.out.written ≡ old.out.written
+
+-- the counts of these streams and their bytes, by how the run ended
 pub record Told (old new : Streams) (status : Status) : Type 0 where
+  pub quiet : status ≡ ReadFault → IsQuiet old new
   pub cnf : status ≢ ReadFault → new.cnf.faults ≡ old.cnf.faults
   pub judged : status ≢ ReadFault → new.judged.faults ≡ old.judged.faults
   pub proof : status ≢ WriteFault → new.proof.faults ≡ old.proof.faults
@@ -25,13 +39,43 @@ pub record Told (old new : Streams) (status : Status) : Type 0 where
 faults_of : {old new : Channel} → new ≡ old → new.faults ≡ old.faults
 faults_of same = ap (λ (c : Channel). c.faults) same
 
+written_of : {old new : Channel} → new ≡ old → new.written ≡ old.written
+written_of same = ap (λ (c : Channel). c.written) same
+
+help_read : {status : Status} (printed : Result ⊤ Failed) → status ≡ status_of_help printed → status ≡ ReadFault → ⊥
+help_read (Ok x) ends e = cc
+help_read (Err f) ends e = cc
+
+run_read : {status : Status} (error : RunError) → status ≡ status_of_run error → status ≡ ReadFault → ⊥
+run_read run_error.OutOfMemory ends e = cc
+run_read run_error.WriteFault ends e = cc
+
+answer_read : {status : Status} (found : Outcome) (printed : Result ⊤ Failed) → status ≡ status_after found printed → status ≡ ReadFault → ⊥
+answer_read {status = status} found (Ok x) ends e = (accepts_answer status found ends).read e
+answer_read found (Err f) ends e = cc
+
+verdict_read : {status : Status} (verdict : Verdict) (printed : Result ⊤ Failed) → status ≡ status_of_printed verdict printed → status ≡ ReadFault → ⊥
+verdict_read {status = status} verdict (Ok x) ends e = (accepts_verdict status verdict ends).read e
+verdict_read verdict (Err f) ends e = cc
+
+no_memory : {status : Status} → status ≡ OutOfMemory → status ≡ ReadFault → ⊥
+no_memory d e = cc
+
+misused_read : {words : List (List ℕ)} {old new : Streams} {status : Status} → Misused words old new status → status ≡ ReadFault → ⊥
+misused_read m e = elim m.ends [ inl faulty ↦ usage faulty.0 e | inr memory ↦ no_memory memory e ] where
+  usage : {status : Status} → status ≡ Usage → status ≡ ReadFault → ⊥
+  usage d e = cc
+
+no_writing : {status : Status} → status ≡ WriteFault → status ≡ ReadFault → ⊥
+no_writing d e = cc
+
 help_ok : (printed : Result ⊤ Failed) → status_of_help printed ≢ WriteFault → IsOk printed
 help_ok (Ok x) differs = refl
 help_ok (Err e) differs = absurd (differs refl)
 
-answer_ok : (answer : Answer) (printed : Result ⊤ Failed) → status_after answer printed ≢ WriteFault → IsOk printed
-answer_ok answer (Ok x) differs = refl
-answer_ok answer (Err e) differs = absurd (differs refl)
+answer_ok : (found : Outcome) (printed : Result ⊤ Failed) → status_after found printed ≢ WriteFault → IsOk printed
+answer_ok found (Ok x) differs = refl
+answer_ok found (Err e) differs = absurd (differs refl)
 
 verdict_ok : (verdict : Verdict) (printed : Result ⊤ Failed) → status_of_printed verdict printed ≢ WriteFault → IsOk printed
 verdict_ok verdict (Ok x) differs = refl
@@ -42,6 +86,7 @@ same_error e = cc
 
 misused : {words : List (List ℕ)} {old new : Streams} {status : Status} → Misused words old new status → Told old new status
 misused m = record {
+  quiet = λ e. absurd (misused_read m e);
   cnf = λ _. ap (λ (s : Streams). s.cnf.faults) m.same;
   judged = λ _. ap (λ (s : Streams). s.judged.faults) m.same;
   proof = λ _. ap (λ (s : Streams). s.proof.faults) m.same;
@@ -50,6 +95,7 @@ misused m = record {
 
 helped : {tells : Bool} {words : List (List ℕ)} {old new : Streams} {status : Status} → Helped tells words old new status → Told old new status
 helped h = record {
+  quiet = λ e. absurd (help_read h.shows.printed h.shows.ends e);
   cnf = λ _. faults_of h.cnf;
   judged = λ _. faults_of h.judged;
   proof = λ _. faults_of h.proof;
@@ -58,7 +104,8 @@ helped h = record {
 
 untaken : {tells : Bool} {old new : Streams} {files : Files} {file : List ℕ} {status : Status} → Untaken tells old new files file status → Told old new status
 untaken u = record {
-  cnf = λ differs. u.takes.unfailed (λ e. differs (same_error e));
+  quiet = λ _. record { cnf = u.takes.written; judged = written_of u.judged; proof = written_of u.proof; out = written_of u.out };
+  cnf = λ differs. u.takes.unfailed (λ e. differs (u.ends ∙ ap status_of_error (same_error e)));
   judged = λ _. faults_of u.judged;
   proof = λ _. faults_of u.proof;
   out = λ _. faults_of u.out;
@@ -66,6 +113,7 @@ untaken u = record {
 
 unplanned : {tells : Bool} {old new : Streams} {files : Files} {file : List ℕ} {status : Status} → Unplanned tells old new files file status → Told old new status
 unplanned u = record {
+  quiet = λ e. absurd (no_memory u.ends e);
   cnf = λ _. u.takes.unfailed (λ e. cc);
   judged = λ _. faults_of u.judged;
   proof = λ _. faults_of u.proof;
@@ -74,6 +122,7 @@ unplanned u = record {
 
 uncreated : {tells : Bool} {old new : Streams} {files : Files} {file proof : List ℕ} {status : Status} → Uncreated tells old new files file proof status → Told old new status
 uncreated u = record {
+  quiet = λ e. absurd (no_writing u.ends e);
   cnf = λ _. u.takes.unfailed (λ e. cc);
   judged = λ _. faults_of u.judged;
   proof = λ differs. absurd (differs u.ends);
@@ -82,22 +131,25 @@ uncreated u = record {
 
 undecided : {tells : Bool} {old new : Streams} {files : Files} {file proof : List ℕ} {limits : Limits} {status : Status} → Undecided tells old new files file proof limits status → Told old new status
 undecided u = record {
+  quiet = λ e. absurd (run_read u.error u.ends e);
   cnf = λ _. u.takes.unfailed (λ e. cc);
   judged = λ _. faults_of u.judged;
-  proof = λ differs. u.writes.unfailed (λ e. differs (same_error e)) ∙ u.opens.faults.unfailed u.done;
+  proof = λ differs. u.writes.unfailed (λ e. differs (u.ends ∙ ap status_of_run (same_error e))) ∙ u.opens.faults.unfailed u.done;
   out = λ _. faults_of u.out;
 }
 
 answered : {tells : Bool} {old new : Streams} {files : Files} {file proof : List ℕ} {limits : Limits} {status : Status} → Answered tells old new files file proof limits status → Told old new status
 answered a = record {
+  quiet = λ e. absurd (answer_read a.outcome a.printed a.ends e);
   cnf = λ _. a.takes.unfailed (λ e. cc);
   judged = λ _. faults_of a.judged;
   proof = λ _. a.writes.unfailed (λ e. cc) ∙ a.opens.faults.unfailed a.done;
-  out = λ differs. a.puts.unfailed (answer_ok a.answer a.printed (λ e. differs (a.ends ∙ e)));
+  out = λ differs. a.puts.unfailed (answer_ok a.outcome a.printed (λ e. differs (a.ends ∙ e)));
 }
 
 unjudged : {tells : Bool} {old new : Streams} {files : Files} {file proof : List ℕ} {status : Status} → Unjudged tells old new files file proof status → Told old new status
 unjudged u = record {
+  quiet = λ _. record { cnf = u.takes.written; judged = u.judges.written; proof = written_of u.proof; out = written_of u.out };
   cnf = λ _. u.takes.unfailed (λ e. cc);
   judged = λ differs. u.judges.unfailed (λ e. differs (u.ends ∙ ap status_of_check (same_error e)));
   proof = λ _. faults_of u.proof;
@@ -106,6 +158,7 @@ unjudged u = record {
 
 judged : {tells : Bool} {old new : Streams} {files : Files} {file proof : List ℕ} {status : Status} → Judged tells old new files file proof status → Told old new status
 judged j = record {
+  quiet = λ e. absurd (verdict_read j.verdict j.printed j.ends e);
   cnf = λ _. j.takes.unfailed (λ e. cc);
   judged = λ _. j.judges.unfailed (λ e. cc);
   proof = λ _. faults_of j.proof;
@@ -157,3 +210,19 @@ failures run counts order schedule made = record { read = read; write = write } 
   write differs Out is = counts.out differs
   write differs ErrRole (inl is) = absurd is
   write differs ErrRole (inr is) = cc
+
+pub quiet : (run : Run) → Told (streams_of run.before) (streams_of run.after) run.status → run.after Order ≡ run.before Order → run.after Schedule ≡ run.before Schedule
+    → run.after Made ≡ run.before Made → QuietAtFaults run
+quiet run counts order schedule made fault t = each where
+  none : (role : Role) → (run.after role).written ≡ (run.before role).written → written_in run role ≡ []
+  none role same = behind (run.before role) (run.after role) [] (nothing_more (run.before role) (run.after role) same)
+
+  each : (role : Role) → role ≢ ErrRole → written_in run role ≡ []
+  each Cnf other = none Cnf (counts.quiet fault).cnf
+  each Order other = none Order (written_of order)
+  each Schedule other = none Schedule (written_of schedule)
+  each ProofIn other = none ProofIn (counts.quiet fault).judged
+  each ProofOut other = none ProofOut (counts.quiet fault).proof
+  each Made other = none Made (written_of made)
+  each Out other = none Out (counts.quiet fault).out
+  each ErrRole other = absurd (other refl)

@@ -2,10 +2,12 @@
 use Rattle.std.proofs.Common.{◌≡◌, ◌<◌, ℕ, ℤ, false, List, length, refl, sym, ap, ap₂, ◌∙◌, Some, None, Err, IsTrue, inl, inr}
 use Rattle.std.specs.Prelude.{Option, Result, ◌⊎◌}
 use Rattle.cnf_base.specs.Formula.{Formula}
+use Rattle.cnf_base.specs.Truth.{AreClausesOf}
+use Rattle.term_runner.specs.Proofs.{AreUnsatisfiable}
 use Rattle.dimacs_reader.specs.Cnf.{formula, cnf}
 use Rattle.dimacs_reader.specs.declared.error.CnfKind.{CnfKind}
 use Rattle.host_io.specs.declared.role.Role.{Role}
-use Rattle.host_io.specs.declared.role.Role.TheVariants.{ProofIn, ProofOut, Out}
+use Rattle.host_io.specs.declared.role.Role.TheVariants.{ProofIn, ProofOut}
 use Rattle.lrat_rules.specs.Run.{Refutes, verdict}
 use Rattle.lrat_rules.specs.declared.outcome.Reason.{Reason}
 use Rattle.lrat_checker.specs.TextVerdict.{max_bytes, text_verdict}
@@ -15,17 +17,20 @@ use Rattle.lrat_checker.specs.declared.verdict.CheckError.{CheckError}
 use Rattle.lrat_checker.specs.declared.verdict.CheckError.TheVariants as error
 use Rattle.solver_cli.specs.declared.status.Status.{Status}
 use Rattle.solver_cli.specs.declared.status.Status.TheVariants.{Help, Usage, CnfRefused, TooLong, ReadFault, WriteFault, OutOfMemory}
-use Rattle.command_line.specs.Command.{Check, command}
+use Rattle.command_line.specs.Command.{ToCheck, Check, command}
 use Rattle.solver_cli.specs.ErrorText.{is_answer}
 use Rattle.solver_cli.specs.ExitCode.{status_of_check}
 use Rattle.solver_cli.specs.Verdict.{status_of_verdict}
 use Rattle.solver_cli.specs.Phases.{JudgesText, JudgesProof}
 use Rattle.solver_cli.specs.Stages.{streams_of, Unjudged}
-use Rattle.solver_cli.specs.Headline.{Run, taken_in, HasFault, Asks, AsksToJudge, HasVerdict, IsLongProof, IsComplete}
+use Rattle.solver_cli.specs.Headline.{Run, taken_in, InputFailed, IsUnharmed, Asks, AsksToJudge, HasVerdict, IsLongProof, IsComplete}
 use Rattle.solver_cli.proofs.Facts.{no_answer, one_text, one_proof, not_unasked, two_commands, only_misuse, only_help, same_formula}
 use Rattle.solver_cli.proofs.Promised.{Core, quiet_output, no_proof, no_verdict, none_written, same_written}
 use Rattle.solver_cli.proofs.Accepted.{took, accepted_refuses, accepted_long}
-use Rattle.solver_cli.proofs.Printed.{Law}
+
+-- that bytes which refute a formula leave it no satisfying assignment
+abbrev pub Law : Type 0
+Law = (vars : ℕ) (clauses : List (List ℤ)) (bytes : List ℕ) → AreClausesOf vars clauses → Refutes clauses bytes → AreUnsatisfiable clauses
 
 -- the laws of the rules and of the check
 pub record Laws : Type 0 where
@@ -51,21 +56,21 @@ one_some here there e d = inner (sym e ∙ d) where
   inner e = cc
 
 -- what is complete of a run whose formula was taken to judge a proof over it
-pub check_complete : (run : Run) (file proof : List ℕ) (problem : Formula) → command run.words ≡ Some (Check file proof) → (IsTrue run.tells → Asks run (Check file proof) (formula problem))
-    → ((other : Formula) (bytes : List ℕ) (judged : Verdict) → HasVerdict run other bytes judged → IsTrue run.tells → (HasFault run ProofIn → ⊥) → (HasFault run Out → ⊥)
+pub check_complete : (run : Run) (task : ToCheck) (problem : Formula) → command run.words ≡ Some (Check task) → (IsTrue run.tells → Asks run (Check task) (formula problem))
+    → ((other : Formula) (bytes : List ℕ) (judged : Verdict) → HasVerdict run other bytes judged → IsTrue run.tells → IsUnharmed run
     → (run.status ≡ status_of_verdict judged) ⊎ (run.status ≡ OutOfMemory))
-    → ((other : Formula) (bytes : List ℕ) → AsksToJudge run other bytes → text_verdict other.clauses bytes ≡ None → IsTrue run.tells → (HasFault run ProofIn → ⊥)
+    → ((other : Formula) (bytes : List ℕ) → AsksToJudge run other bytes → text_verdict other.clauses bytes ≡ None → IsTrue run.tells → (InputFailed run → ⊥)
     → (run.status ≡ TooLong ProofIn) ⊎ (run.status ≡ OutOfMemory))
     → IsComplete run
-check_complete run file proof problem gives read judges long = record {
+check_complete run task problem gives read judges long = record {
   misused = λ only. absurd (only_misuse run.words gives only);
   helped = λ only _. absurd (only_help run.words gives only);
   unasked = λ none _. absurd (not_unasked gives none);
   answers = λ other asks. absurd (two_commands asks.asks.command gives);
-  judges = λ other bytes judged has t _ b c. judges other bytes judged has t b c;
-  refuses = λ other kind line asks t a. absurd (accepted_refuses run (Check file proof) problem (read t) other kind line asks);
-  overlong = λ other asks t a. absurd (accepted_long run (Check file proof) problem (read t) other asks);
-  long_proof = λ other bytes asks long_text t _ b. long other bytes asks long_text t b;
+  judges = judges;
+  refuses = λ other kind line asks t unfailed. absurd (accepted_refuses run (Check task) problem (read t) other kind line asks);
+  overlong = λ other asks t unfailed. absurd (accepted_long run (Check task) problem (read t) other asks);
+  long_proof = long;
 }
 
 -- statuses with which a run ends whose proof was not judged
@@ -82,17 +87,17 @@ unread status error.TooLong is = record { unanswered = ap is_answer is; usage = 
 unread status error.OutOfMemory is = record { unanswered = ap is_answer is; usage = λ e. cc; help = λ e. cc; refused = λ kind line e. cc; write = λ e. cc }
 
 -- the proof was not judged
-pub unjudged : Laws → (run : Run) (file proof : List ℕ) → command run.words ≡ Some (Check file proof) → Unjudged run.tells (streams_of run.before) (streams_of run.after) run.files file proof run.status → Core run
-unjudged laws run file proof asked u = go u.error u.judges u.ends where
-  read : IsTrue run.tells → Asks run (Check file proof) (formula u.problem)
-  read = took run (Check file proof) u.problem asked u.takes
+pub unjudged : Laws → (run : Run) (task : ToCheck) → command run.words ≡ Some (Check task) → Unjudged run.tells (streams_of run.before) (streams_of run.after) run.files task.file task.proof run.status → Core run
+unjudged laws run task asked u = go u.error u.judges u.ends where
+  read : IsTrue run.tells → Asks run (Check task) (formula u.problem)
+  read = took run (Check task) u.problem asked u.takes
 
-  to_judge : {result : Result Verdict CheckError} → IsTrue run.tells → (text : JudgesText run.files proof u.problem.clauses (taken_in run ProofIn) result) → AsksToJudge run u.problem text.bytes
-  to_judge t text = record { file = file; proof = proof; asks = read t; stands = text.stands }
+  to_judge : {result : Result Verdict CheckError} → IsTrue run.tells → (text : JudgesText run.files task.proof u.problem.clauses (taken_in run ProofIn) result) → AsksToJudge run u.problem text.bytes
+  to_judge t text = record { task = task; asks = read t; stands = text.stands }
 
   core : Unread run.status
       → ((role : Role) → run.status ≡ TooLong role → (role ≡ ProofIn) × (IsTrue run.tells → IsLongProof run))
-      → (run.status ≡ ReadFault → HasFault run ProofIn) → IsComplete run → Core run
+      → (run.status ≡ ReadFault → InputFailed run) → IsComplete run → Core run
   core ends long fault complete = record {
     unsatisfiable = λ e. absurd (no_answer ends.unanswered refl e);
     satisfiable = λ e. absurd (no_answer ends.unanswered refl e);
@@ -102,30 +107,30 @@ unjudged laws run file proof asked u = go u.error u.judges u.ends where
       usage = λ e. absurd (ends.usage e);
       help = λ e. absurd (ends.help e);
       refused = λ kind line e. absurd (ends.refused kind line e);
-      too_long = λ role e. inr (long role e);
+      too_long = λ role e. let exceeds = long role e in inr (exceeds.0, (task, asked), exceeds.1);
     };
-    faults = record { read = λ e. inr (fault e); write = λ e. absurd (ends.write e); accepted = λ e. absurd (ends.write e) };
+    faults = λ quiet. record { read = λ e. ((Check task, asked), fault e); quiet = quiet; write = λ e. absurd (ends.write e); accepted = λ e. absurd (ends.write e) };
     output = quiet_output run ends.unanswered ends.help (same_written u.out);
     proof = no_proof run (none_written run ProofOut u.proof);
     complete = complete;
   }
 
-  go : (e : CheckError) → JudgesProof run.tells (run.before ProofIn) (run.after ProofIn) run.files proof u.problem.clauses (Err e) → run.status ≡ status_of_check e → Core run
+  go : (e : CheckError) → JudgesProof run.tells (run.before ProofIn) (run.after ProofIn) run.files task.proof u.problem.clauses (Err e) → run.status ≡ status_of_check e → Core run
   go error.ReadFault judges ends =
-      let rose : HasFault run ProofIn = judges.fault refl in
-      core (unread run.status error.ReadFault ends) (λ role e. absurd (apart role ends e)) (λ _. rose)
-      (check_complete run file proof u.problem asked read (λ other bytes judged has t faultless _. absurd (faultless rose)) (λ other bytes asks long t faultless. absurd (faultless rose))) where
+      let failed : InputFailed run = (ProofIn, tt, judges.fault refl) in
+      core (unread run.status error.ReadFault ends) (λ role e. absurd (apart role ends e)) (λ _. failed)
+      (check_complete run task u.problem asked read (λ other bytes judged has t unharmed. absurd (unharmed.0 failed)) (λ other bytes asks long t unfailed. absurd (unfailed failed))) where
         apart : {status : Status} (role : Role) → status ≡ ReadFault → status ≡ TooLong role → ⊥
         apart role d e = cc
   go error.TooLong judges ends =
       core (unread run.status error.TooLong ends) (λ role e. (same role (sym e ∙ ends), λ t. is_long t)) (λ e. absurd (apart ends e))
-      (check_complete run file proof u.problem asked read
-      (λ other bytes judged has t _ _. let text = text_of t in absurd (none_some (one_verdict run has.asked (to_judge t text) ∙ text.judged) has.judged))
-      (λ other bytes asks long t _. inl ends)) where
+      (check_complete run task u.problem asked read
+      (λ other bytes judged has t unharmed. let text = text_of t in absurd (none_some (one_verdict run has.asked (to_judge t text) ∙ text.judged) has.judged))
+      (λ other bytes asks long t unfailed. inl ends)) where
         no_fault : ◌≡◌ {A = Result Verdict CheckError} (Err error.TooLong) (Err error.ReadFault) → ⊥
         no_fault e = cc
 
-        text_of : IsTrue run.tells → JudgesText run.files proof u.problem.clauses (taken_in run ProofIn) (Err error.TooLong)
+        text_of : IsTrue run.tells → JudgesText run.files task.proof u.problem.clauses (taken_in run ProofIn) (Err error.TooLong)
         text_of t = elim (judges.read t) [ inl e ↦ absurd (no_fault e) | inr text ↦ text ]
 
         is_long : IsTrue run.tells → IsLongProof run
@@ -145,7 +150,7 @@ unjudged laws run file proof asked u = go u.error u.judges u.ends where
         apart d e = cc
   go error.OutOfMemory judges ends =
       core (unread run.status error.OutOfMemory ends) (λ role e. absurd (not_long role ends e)) (λ e. absurd (apart ends e))
-      (check_complete run file proof u.problem asked read (λ other bytes judged has t _ _. inr ends) (λ other bytes asks long t _. inr ends)) where
+      (check_complete run task u.problem asked read (λ other bytes judged has t unharmed. inr ends) (λ other bytes asks long t unfailed. inr ends)) where
         not_long : {status : Status} (role : Role) → status ≡ OutOfMemory → status ≡ TooLong role → ⊥
         not_long role d e = cc
 

@@ -15,12 +15,12 @@ use Rattle.lrat_checker.specs.declared.verdict.CheckError.TheVariants as error
 use Rattle.solver_cli.specs.declared.status.Status.{Status}
 use Rattle.solver_cli.specs.declared.status.Status.TheVariants.{Sat, Unsat, Unknown, Verified, NotVerified, WriteFault}
 use Rattle.solver_cli.specs.declared.status.Why.{Why}
-use Rattle.command_line.specs.Command.{Check, command}
+use Rattle.command_line.specs.Command.{ToCheck, Check, command}
 use Rattle.solver_cli.specs.ErrorText.{is_answer}
 use Rattle.solver_cli.specs.Verdict.{verdict_text, status_of_verdict}
 use Rattle.solver_cli.specs.Phases.{JudgesText, PutsText}
 use Rattle.solver_cli.specs.Stages.{streams_of, Judged, status_of_printed}
-use Rattle.solver_cli.specs.Headline.{Run, written_in, taken_in, HasFault, Asks, AsksToJudge, HasVerdict, VerdictOn, IsTrueAnswer}
+use Rattle.solver_cli.specs.Headline.{Run, written_in, taken_in, OutputFailed, Asks, AsksToJudge, HasVerdict, VerdictOn, IsTrueAnswer}
 use Rattle.solver_cli.proofs.Facts.{behind, grown_by, no_answer}
 use Rattle.solver_cli.proofs.Promised.{Core, no_proof, no_verdict, none_written}
 use Rattle.solver_cli.proofs.Accepted.{took, accepted_refusals, Accepts, accepts_write}
@@ -36,7 +36,7 @@ no_write : (judged : Verdict) → status_of_verdict judged ≡ WriteFault → �
 no_write judgement.Verified e = cc
 no_write (judgement.Refused line reason) e = cc
 
-accepts_verdict : (status : Status) (judged : Verdict) → status ≡ status_of_verdict judged → Accepts status
+pub accepts_verdict : (status : Status) (judged : Verdict) → status ≡ status_of_verdict judged → Accepts status
 accepts_verdict status judgement.Verified is = record { usage = λ e. cc; help = λ e. cc; refused = λ kind line e. cc; too_long = λ role e. cc; read = λ e. cc }
 accepts_verdict status (judgement.Refused line reason) is = record { usage = λ e. cc; help = λ e. cc; refused = λ kind line e. cc; too_long = λ role e. cc; read = λ e. cc }
 
@@ -60,22 +60,22 @@ is_refused (judgement.Refused number why) line reason e = inner e where
   inner e = cc
 
 -- the proof was judged
-pub judged : Laws → (run : Run) (file proof : List ℕ) → command run.words ≡ Some (Check file proof) → Judged run.tells (streams_of run.before) (streams_of run.after) run.files file proof run.status → Core run
-judged laws run file proof asked j = go j.printed j.puts j.ends where
+pub judged : Laws → (run : Run) (task : ToCheck) → command run.words ≡ Some (Check task) → Judged run.tells (streams_of run.before) (streams_of run.after) run.files task.file task.proof run.status → Core run
+judged laws run task asked j = go j.printed j.puts j.ends where
   text : List ℕ
   text = verdict_text j.verdict
 
-  read : IsTrue run.tells → Asks run (Check file proof) (formula j.problem)
-  read = took run (Check file proof) j.problem asked j.takes
+  read : IsTrue run.tells → Asks run (Check task) (formula j.problem)
+  read = took run (Check task) j.problem asked j.takes
 
   no_fault : (v : Verdict) → ◌≡◌ {A = Result Verdict CheckError} (Ok v) (Err error.ReadFault) → ⊥
   no_fault v e = cc
 
-  judged_text : IsTrue run.tells → JudgesText run.files proof j.problem.clauses (taken_in run ProofIn) (Ok j.verdict)
+  judged_text : IsTrue run.tells → JudgesText run.files task.proof j.problem.clauses (taken_in run ProofIn) (Ok j.verdict)
   judged_text t = elim (j.judges.read t) [ inl e ↦ absurd (no_fault j.verdict e) | inr found ↦ found ]
 
   has : (t : IsTrue run.tells) → HasVerdict run j.problem (judged_text t).bytes j.verdict
-  has t = let found = judged_text t in record { asked = record { file = file; proof = proof; asks = read t; stands = found.stands }; judged = found.judged }
+  has t = let found = judged_text t in record { asked = record { task = task; asks = read t; stands = found.stands }; judged = found.judged }
 
   has_as : (t : IsTrue run.tells) (v : Verdict) → j.verdict ≡ v → HasVerdict run j.problem (judged_text t).bytes v
   has_as t v is = subst (λ (x : Verdict). HasVerdict run j.problem (judged_text t).bytes x) is (has t)
@@ -106,32 +106,39 @@ judged laws run file proof asked j = go j.printed j.puts j.ends where
         satisfiable = λ e. absurd (undecided.sat e);
         undecided = λ why e. absurd (undecided.unknown why e);
         verdict = record {
-          verified = λ e t.
-              let is : j.verdict ≡ judgement.Verified = is_verified j.verdict (sym ends ∙ e) in
-              let verified : HasVerdict run j.problem (judged_text t).bytes judgement.Verified = has_as t judgement.Verified is in
-              let refutes : Refutes j.problem.clauses (judged_text t).bytes = laws.verified j.problem.clauses (judged_text t).bytes verified.judged in
-              record {
-                problem = j.problem;
-                bytes = (judged_text t).bytes;
-                has = verified;
-                refuted = refutes;
-                unsatisfiable = laws.sound j.problem.vars j.problem.clauses (judged_text t).bytes j.takes.statuses.literals refutes;
-                printed = all t ∙ ap verdict_text is;
-              };
-          not_verified = λ line reason e t.
-              let is : j.verdict ≡ judgement.Refused line reason = is_refused j.verdict line reason (sym ends ∙ e) in
-              let refused : HasVerdict run j.problem (judged_text t).bytes (judgement.Refused line reason) = has_as t (judgement.Refused line reason) is in
-              record {
-                problem = j.problem;
-                bytes = (judged_text t).bytes;
-                has = refused;
-                refused = laws.refused j.problem.clauses (judged_text t).bytes line reason refused.judged;
-                printed = all t ∙ ap verdict_text is;
-              };
+          verified = λ e. (
+            (task, asked),
+            λ t.
+                let is : j.verdict ≡ judgement.Verified = is_verified j.verdict (sym ends ∙ e) in
+                let verified : HasVerdict run j.problem (judged_text t).bytes judgement.Verified = has_as t judgement.Verified is in
+                let refutes : Refutes j.problem.clauses (judged_text t).bytes = laws.verified j.problem.clauses (judged_text t).bytes verified.judged in
+                record {
+                  problem = j.problem;
+                  bytes = (judged_text t).bytes;
+                  has = verified;
+                  refuted = refutes;
+                  unsatisfiable = laws.sound j.problem.vars j.problem.clauses (judged_text t).bytes j.takes.formula.literals refutes;
+                  printed = all t ∙ ap verdict_text is;
+                },
+          );
+          not_verified = λ line reason e. (
+            (task, asked),
+            λ t.
+                let is : j.verdict ≡ judgement.Refused line reason = is_refused j.verdict line reason (sym ends ∙ e) in
+                let refused : HasVerdict run j.problem (judged_text t).bytes (judgement.Refused line reason) = has_as t (judgement.Refused line reason) is in
+                record {
+                  problem = j.problem;
+                  bytes = (judged_text t).bytes;
+                  has = refused;
+                  refused = laws.refused j.problem.clauses (judged_text t).bytes line reason refused.judged;
+                  printed = all t ∙ ap verdict_text is;
+                },
+          );
         };
         refusals = accepted_refusals run accepts;
-        faults = record {
+        faults = λ quiet. record {
           read = λ e. absurd (accepts.read e);
+          quiet = quiet;
           write = λ e. absurd (no_write j.verdict (sym ends ∙ e));
           accepted = λ e. absurd (no_write j.verdict (sym ends ∙ e));
         };
@@ -144,26 +151,27 @@ judged laws run file proof asked j = go j.printed j.puts j.ends where
           silent = λ unanswered. absurd (true≢false (sym yes_answer ∙ unanswered));
         };
         proof = no_proof run (none_written run ProofOut j.proof);
-        complete = check_complete run file proof j.problem asked read
-            (λ other bytes v given t _ _. inl (ends ∙ ap status_of_verdict (same_verdict other bytes v given t)))
-            (λ other bytes asks long t _. absurd (not_long other bytes asks long t));
+        complete = check_complete run task j.problem asked read
+            (λ other bytes v given t unharmed. inl (ends ∙ ap status_of_verdict (same_verdict other bytes v given t)))
+            (λ other bytes asks long t unfailed. absurd (not_long other bytes asks long t));
       }
 
   failed : (e : Failed) → PutsText run.tells (run.before Out) (run.after Out) text (Err e) → run.status ≡ WriteFault → Core run
   failed e puts ends =
       let unanswered : is_answer run.status ≡ false = ap is_answer ends in
       let accepts : Accepts run.status = accepts_write run.status ends in
-      let rose : HasFault run Out = puts.fault refl in
+      let failure : OutputFailed run = (Out, inr refl, puts.fault refl) in
       record {
         unsatisfiable = λ d. absurd (no_answer unanswered refl d);
         satisfiable = λ d. absurd (no_answer unanswered refl d);
         undecided = λ why d. absurd (no_answer unanswered refl d);
         verdict = no_verdict run unanswered;
         refusals = accepted_refusals run accepts;
-        faults = record {
+        faults = λ quiet. record {
           read = λ d. absurd (accepts.read d);
-          write = λ d. inr rose;
-          accepted = λ d. inr (λ t. inr (j.problem, (judged_text t).bytes, j.verdict, has t));
+          quiet = quiet;
+          write = λ d. failure;
+          accepted = λ d. inr ((Check task, asked), λ t. inr (j.problem, (judged_text t).bytes, j.verdict, has t));
         };
         output = record {
           grows = grows (Err e) puts;
@@ -174,7 +182,7 @@ judged laws run file proof asked j = go j.printed j.puts j.ends where
           silent = λ _ _ unfaulted. absurd (unfaulted ends);
         };
         proof = no_proof run (none_written run ProofOut j.proof);
-        complete = check_complete run file proof j.problem asked read (λ other bytes v given t _ faultless. absurd (faultless rose)) (λ other bytes asks long t _. absurd (not_long other bytes asks long t));
+        complete = check_complete run task j.problem asked read (λ other bytes v given t unharmed. absurd (unharmed.1 failure)) (λ other bytes asks long t unfailed. absurd (not_long other bytes asks long t));
       }
 
   go : (printed : Result ⊤ Failed) → PutsText run.tells (run.before Out) (run.after Out) text printed → run.status ≡ status_of_printed j.verdict printed → Core run

@@ -10,38 +10,40 @@ use Rattle.solver_cli.specs.Phases.{Complains}
 use Rattle.command_line.specs.Command.{Solve, Check, limits_asked}
 use Rattle.solver_cli.specs.Stages.{Streams, streams_of, Undecided, Answered, Came, CameToCheck, Stages}
 use Rattle.solver_cli.specs.Headline.{Run, limits_given, FailuresAreTold, Promises}
-use Rattle.solver_cli.proofs.Promised.{Core, misused, untaken}
+use Rattle.solver_cli.proofs.Promised.{Core, QuietAtFaults, misused, untaken}
 use Rattle.solver_cli.proofs.Helped.{helped}
 use Rattle.solver_cli.proofs.Accepted.{unplanned, uncreated, undecided}
 use Rattle.solver_cli.proofs.Printed.{answered}
 use Rattle.solver_cli.proofs.Unjudged.{Laws, unjudged}
 use Rattle.solver_cli.proofs.Verdicts.{judged}
 use Rattle.solver_cli.proofs.Named.{stream_names, names, error_stands}
-use Rattle.solver_cli.proofs.Told.{told, failures}
+use Rattle.solver_cli.proofs.Told.{told, failures, quiet}
 
 core : Laws → (run : Run) → Stages run.tells run.words (streams_of run.before) (streams_of run.after) run.files run.status → Core run
 core law run (inl m) = misused run m
 core law run (inr (inl h)) = helped run h
 core law run (inr (inr (inl t))) = came t.came where
-  given : t.limits ≡ limits_given run
+  given : t.task.limits ≡ limits_given run
   given = sym (ap limits_asked t.asked)
 
-  came : Came run.tells (streams_of run.before) (streams_of run.after) run.files t.file t.proof t.limits run.status → Core run
-  came (inl u) = untaken run (Solve t.file t.proof t.limits) t.asked u
-  came (inr (inl u)) = unplanned run t.file t.proof t.asked u
-  came (inr (inr (inl u))) = uncreated run t.file t.proof t.asked u
-  came (inr (inr (inr (inl u)))) = undecided run t.file t.proof t.asked (subst (λ (l : Limits). Undecided run.tells (streams_of run.before) (streams_of run.after) run.files t.file t.proof l run.status) given u)
-  came (inr (inr (inr (inr a)))) = answered law.sound run t.file t.proof t.asked (subst (λ (l : Limits). Answered run.tells (streams_of run.before) (streams_of run.after) run.files t.file t.proof l run.status) given a)
+  came : Came run.tells (streams_of run.before) (streams_of run.after) run.files t.task.file t.task.proof t.task.limits run.status → Core run
+  came (inl u) = untaken run (Solve t.task) t.asked u
+  came (inr (inl u)) = unplanned run t.task t.asked u
+  came (inr (inr (inl u))) = uncreated run t.task t.asked u
+  came (inr (inr (inr (inl u)))) =
+      undecided run t.task t.asked (subst (λ (l : Limits). Undecided run.tells (streams_of run.before) (streams_of run.after) run.files t.task.file t.task.proof l run.status) given u)
+  came (inr (inr (inr (inr a)))) =
+      answered run t.task t.asked (subst (λ (l : Limits). Answered run.tells (streams_of run.before) (streams_of run.after) run.files t.task.file t.task.proof l run.status) given a)
 core law run (inr (inr (inr c))) = came c.came where
-  came : CameToCheck run.tells (streams_of run.before) (streams_of run.after) run.files c.file c.proof run.status → Core run
-  came (inl u) = untaken run (Check c.file c.proof) c.asked u
-  came (inr (inl u)) = unjudged law run c.file c.proof c.asked u
-  came (inr (inr j)) = judged law run c.file c.proof c.asked j
+  came : CameToCheck run.tells (streams_of run.before) (streams_of run.after) run.files c.task.file c.task.proof run.status → Core run
+  came (inl u) = untaken run (Check c.task) c.asked u
+  came (inr (inl u)) = unjudged law run c.task c.asked u
+  came (inr (inr j)) = judged law run c.task c.asked j
 
 whole : Laws → (run : Run) → ((role : Role) → (run.before role).name ≡ None) → Stages run.tells run.words (streams_of run.before) (streams_of run.after) run.files run.status
     → ((role : Role) → IsFalse (same_role role Cnf) → IsFalse (same_role role ProofIn) → IsFalse (same_role role ProofOut) → IsFalse (same_role role Out) → (run.after role).name ≡ None)
-    → FilesBut (run.after ProofOut).name run.files run.files_after → Complains run.tells (run.before ErrRole) (run.after ErrRole) run.status → FailuresAreTold run → Promises run
-whole law run unnamed stages others files complains failures_told =
+    → FilesBut (run.after ProofOut).name run.files run.files_after → Complains run.tells (run.before ErrRole) (run.after ErrRole) run.status → FailuresAreTold run → QuietAtFaults run → Promises run
+whole law run unnamed stages others files complains failures_told quiet_at_faults =
     let c : Core run = core law run stages in
     record {
       unsatisfiable = c.unsatisfiable;
@@ -49,7 +51,7 @@ whole law run unnamed stages others files complains failures_told =
       undecided = c.undecided;
       verdict = c.verdict;
       refusals = c.refusals;
-      faults = c.faults;
+      faults = c.faults quiet_at_faults;
       failures = failures_told;
       output = c.output;
       error = error_stands run complains;
@@ -72,7 +74,8 @@ promises law run middle files unnamed stages others beside complains kept = whol
     named
     (λ file own. kept.files file (λ same. none_some (sym err_none ∙ same)) ∙ beside file (λ same. own (ap (λ (c : Channel). c.name) (kept.others ProofOut refl) ∙ same)))
     (subst (λ (c : Channel). Complains run.tells c (run.after ErrRole) run.status) (others ErrRole refl refl refl refl) complains)
-    (failures run (told came) (same Order refl refl refl refl refl) (same Schedule refl refl refl refl refl) (same Made refl refl refl refl refl)) where
+    (failures run (told came) (same Order refl refl refl refl refl) (same Schedule refl refl refl refl refl) (same Made refl refl refl refl refl))
+    (quiet run (told came) (same Order refl refl refl refl refl) (same Schedule refl refl refl refl refl) (same Made refl refl refl refl refl)) where
       came : Stages run.tells run.words (streams_of run.before) (streams_of run.after) run.files run.status
       came = subst (λ (s : Streams). Stages run.tells run.words (streams_of run.before) s run.files run.status) (sym (streams_kept middle run.after kept.others)) stages
 

@@ -51,6 +51,7 @@ pub record TakesFormula (tells : Bool) (old new : Channel) (files : Files) (file
   pub formula : IfOk result IsFormula
   pub fault : result ≡ Err ReadFault → Rose old.faults new.faults
   pub unfailed : result ≢ Err ReadFault → new.faults ≡ old.faults
+  pub written : new.written ≡ old.written
   pub name : (new.name ≡ Some file) ⊎ (new.name ≡ None)
   pub faults : old.faults ≤ new.faults
 
@@ -60,6 +61,7 @@ pub record ChecksProof (tells : Bool) (old new : Channel) (clauses : List (List 
   pub decided : IsTrue tells → Answers result (text_verdict clauses (gained old new))
   pub fault : result ≡ Err CheckReadFault → Rose old.faults new.faults
   pub unfailed : result ≢ Err CheckReadFault → new.faults ≡ old.faults
+  pub written : new.written ≡ old.written
   pub name : new.name ≡ old.name
   pub faults : old.faults ≤ new.faults
 
@@ -75,6 +77,7 @@ pub record JudgesProof (tells : Bool) (old new : Channel) (files : Files) (file 
   pub read : IsTrue tells → (result ≡ Err CheckReadFault) ⊎ JudgesText files file clauses (gained old new) result
   pub fault : result ≡ Err CheckReadFault → Rose old.faults new.faults
   pub unfailed : result ≢ Err CheckReadFault → new.faults ≡ old.faults
+  pub written : new.written ≡ old.written
   pub name : (new.name ≡ Some file) ⊎ (new.name ≡ None)
   pub faults : old.faults ≤ new.faults
 

@@ -8,7 +8,6 @@ use Rattle.host_io.specs.Channel.{Channel}
 use Rattle.host_io.specs.Files.{Files, Opens}
 use Rattle.lrat_checker.specs.declared.verdict.Verdict.{Verdict}
 use Rattle.lrat_checker.specs.declared.verdict.CheckError.{CheckError}
-use Rattle.schedule_plan.specs.declared.limits.Limits.{Limits}
 use Rattle.solver_cli.specs.declared.status.Status.{Status}
 use Rattle.solver_cli.specs.declared.status.Status.TheVariants.{Help, Usage, WriteFault, OutOfMemory}
 use Rattle.schedule_plan.specs.declared.limits.Limits.{Limits}

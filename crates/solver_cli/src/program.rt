@@ -116,10 +116,8 @@ pub fn run<H: Host>(alloc: Global, words: &[String], host: &mut H) -> Status
 {
     soundness_law();
     check_law();
-    host.unnamed_law();
     let status = work(alloc, words, host);
     complain(host, status);
-    host.unnamed_law();
     status
 }
 
