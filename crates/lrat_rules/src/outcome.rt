@@ -12,23 +12,23 @@ pub enum Effect {
     NotUnit,
 }
 
-/// Why a line of a proof is refused, or a proof as a whole.
+/// Why a line of a proof is refused, or a proof as a whole, with the number of each reason.
 #[derive(Clone, Copy, Debug, PartialEq, Eq)]
 pub enum Reason {
     /// The line is no step.
-    Syntax,
+    Syntax = 1,
     /// The number isn't greater than those of the formula and of all earlier additions.
-    IdNotGreater,
+    IdNotGreater = 2,
     /// A hint names no live clause.
-    HintNotLive,
+    HintNotLive = 3,
     /// A hint's clause is neither false nor unit.
-    HintNotUnit,
+    HintNotUnit = 4,
     /// The empty clause, and its hints reach no conflict.
-    NoConflict,
+    NoConflict = 5,
     /// A candidate is neither blocked nor refuted by its group.
-    CandidateOpen,
+    CandidateOpen = 6,
     /// A group is of no candidate.
-    GroupStray,
+    GroupStray = 7,
     /// All lines are good, and none adds the empty clause.
-    NoEmptyClause,
+    NoEmptyClause = 8,
 }
