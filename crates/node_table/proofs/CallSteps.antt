@@ -7,7 +7,7 @@ use Rattle.lrat_rules.specs.Marks.{in_use}
 use Rattle.clause_ledger.specs.Book.{Book, IsProofOf, OnlyWrites, with_next}
 use Rattle.node_table.specs.declared.node.Node.{Node}
 use Rattle.node_table.specs.declared.error.TableError.{TableError}
-use Rattle.node_table.specs.declared.error.TableError.TheVariants.{NodeLimit, IdLimit, OutOfMemory, WriteFault}
+use Rattle.node_table.specs.declared.error.TableError.TheVariants.{IdLimit, OutOfMemory, WriteFault}
 use Rattle.node_table.specs.Diagram.{Graph, IsBelow, IsNew, KeepsNodes, levels}
 use Rattle.node_table.specs.Defined.{definition_count, with_definitions}
 use Rattle.node_table.specs.Tied.{IsTied, IsOverNodes}
@@ -51,9 +51,6 @@ module _ {S : Type 0} (tells : Bool) (channel : S → Channel) where
   no_room old new sound same =
       let both = refused old sound new.book.spare in
       subst (λ (t : TableState S). StepsFrom old t 0 (Some OutOfMemory)) (sym same) (record { leaves = both.0; extends = both.1; adds = omega arith })
-
-  pub no_nodes_left : (table : TableState S) → IsSound table → table.max_nodes ≤ live_nodes table.graph → StepsFrom table table 0 (Some NodeLimit)
-  no_nodes_left table sound full = record { leaves = (Continues-none tells (channel table.book.sink) table sound, full); extends = Extends-none table sound; adds = omega arith }
 
   pub no_ids_left : (old new : TableState S) → IsSound old → IsSame old new → old.book.limit < old.book.state.top + 4 → StepsFrom old new 0 (Some IdLimit)
   no_ids_left old new sound same met =
