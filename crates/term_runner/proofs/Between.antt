@@ -60,13 +60,18 @@ pub record IsNext (formula : Formula) (moves : List Move) (i : ℕ) (stage : Sta
   pub is : after_move formula stage step ≡ Some next
   pub rest : after_moves formula next (drop (i + 1) moves) ≡ Some last
 
-pub next_of : (formula : Formula) (moves : List Move) (i : ℕ) (stage last : Stage) (step : Move) → slice_get moves i ≡ Some step → after_moves formula stage (drop i moves) ≡ Some last → IsNext formula moves i stage step last
+next_of : (formula : Formula) (moves : List Move) (i : ℕ) (stage last : Stage) (step : Move) → slice_get moves i ≡ Some step → after_moves formula stage (drop i moves) ≡ Some last → IsNext formula moves i stage step last
 next_of formula moves i stage last step at reached =
     go (after_move formula stage step) refl (subst (λ (ms : List Move). after_moves formula stage ms ≡ Some last) (move_at moves i step at) reached)
   where
     go : (o : Option Stage) → after_move formula stage step ≡ o → option_and_then (λ later. after_moves formula later (drop (i + 1) moves)) o ≡ Some last → IsNext formula moves i stage step last
     go None is e = cc
     go (Some next) is e = record { next = next; is = is; rest = e }
+
+-- so it is where the plan is possible
+pub next_at : (formula : Formula) (moves : List Move) (i : ℕ) (graph : Graph) (live : Live) (stack : List Held) (last : Stage) (step : Move) → after_moves formula no_stage moves ≡ Some last → slice_get moves i ≡ Some step
+    → (between : IsBetween formula moves i graph live stack) → IsNext formula moves i between.stage step last
+next_at formula moves i graph live stack last step reached at between = next_of formula moves i between.stage last step at (between.rest ∙ reached)
 
 drop_all : (moves : List Move) (i : ℕ) → length moves ≤ i → drop i moves ≡ []
 drop_all [] zero large = refl

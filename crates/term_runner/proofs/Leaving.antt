@@ -30,7 +30,7 @@ went_on tells before after old new (Err IdLimit) leaves whole = leaves.0
 went_on tells before after old new (Err OutOfMemory) leaves whole = leaves
 went_on tells before after old new (Err WriteFault) leaves whole = absurd (whole refl)
 
--- want of memory leaves all in step, and so does no other cause
+-- want of memory leaves all in step
 pub memory_left : {S T : Type 0} (tells : Bool) (before after : Channel) (old new : TableState S) (r : Result T TableError) → IsErrAnd r (λ e. e ≡ OutOfMemory) → Continues tells before after old new
     → Leaves tells before after old new (error_of r)
 memory_left tells before after old new r is continues = subst (λ (error : Option TableError). Leaves tells before after old new error) (sym (error_handed r OutOfMemory is)) continues

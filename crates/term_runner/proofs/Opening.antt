@@ -108,12 +108,12 @@ ready_at there opening none_retired formula order table graph state in_step reti
 }
 
 -- a model, or a live clause without literals
-abbrev IsDecided : Formula → List ℕ → List Move → Live → Option (List Bool) → Type 0
+abbrev pub IsDecided : Formula → List ℕ → List Move → Live → Option (List Bool) → Type 0
 IsDecided formula order moves live found = MatchOption found ((id : ℕ) × (clause_at live id ≡ Some [])) (λ model. IsRecovered formula order moves model)
 
 -- what the decision told
 pub record Decided {S : Type 0} (tells : Bool) (before after : Channel) (formula : Formula) (order : List ℕ) (moves : List Move) (old new : TableState S) (result : Result (Option (List Bool)) TableError) : Type 0 where
-  pub found : IfOk result (λ found. MatchOption found ((id : ℕ) × (clause_at new.book.state.live id ≡ Some [])) (λ model. IsRecovered formula order moves model))
+  pub found : IfOk result (IsDecided formula order moves new.book.state.live)
   pub leaves : Leaves tells before after old new (error_of result)
   pub tautologies : IsTrue (list_all is_tautology formula.clauses) → after.written ≡ before.written
   pub open_clause : (result ≡ Err NodeLimit) ⊎ (result ≡ Err IdLimit) → IsFalse (list_all is_tautology formula.clauses)

@@ -1,4 +1,5 @@
 use Rattle.std.proofs.Common.{rules, ◌≡◌, ℕ, suc, ◌+◌, true, List, Option, take, reverse, Some, Err, refl, ap, sym, ◌∙◌, subst, arith}
+use Rattle.std.specs.List.{slice_get}
 use Rattle.node_table.specs.declared.node.Node.{Node}
 use Rattle.node_table.specs.Diagram.{is_node}
 use Rattle.node_table.specs.Value.{by_level, value_of}
@@ -13,7 +14,7 @@ use Rattle.term_runner.specs.Held.{IsReady, top_node}
 use Rattle.term_runner.specs.Recovered.{IsRecovered}
 use Rattle.node_table.specs.HandedOn.{no_error, came_from, no_answer}
 use Rattle.term_runner.proofs.Stacks.{top_stands, top_value}
-use Rattle.term_runner.proofs.Between.{at_first, at_last, joins_at, next_of, some_at}
+use Rattle.term_runner.proofs.Between.{at_first, at_last, joins_at, next_at, some_at}
 use Rattle.term_runner.proofs.Least.{recovered}
 use Rattle.term_runner.proofs.Leaving.{error_handed, leaves_after, memory_left}
 use Rattle.term_runner.proofs.Planned.{moved_on, more_made, none_made, runs_short}
@@ -40,7 +41,8 @@ take_move-requires-clause-ready g c = c.moves.invariant.ready
 pub take_move-requires-clause-possible : goal.take_move-requires-clause-possible
 take_move-requires-clause-possible g c =
     let between = c.moves.invariant.between in
-    let next = next_of c.args.formula.now c.args.plan.now c.moves.i between.stage c.requires.plan.last c.in-Some.step (sym c.get.ensures ∙ c.in-Some.is) (between.rest ∙ c.requires.plan.possible) in
+    let at : slice_get c.args.plan.now c.moves.i ≡ Some c.in-Some.step = sym c.get.ensures ∙ c.in-Some.is in
+    let next = next_at c.args.formula.now c.args.plan.now c.moves.i c.moves.table.graph c.moves.table.book.state.live c.moves.stack.items c.requires.plan.last c.in-Some.step c.requires.plan.possible at between in
     (between.stage, next.next, between.held, next.is)
 
 pub take_move-requires-clause-joins : goal.take_move-requires-clause-joins
@@ -49,8 +51,9 @@ take_move-requires-clause-joins g c = joins_at c.args.plan.now c.moves.i c.in-So
 pub moves-preserved : goal.moves-preserved
 moves-preserved g c =
     let between = c.moves.invariant.between in
-    let next = next_of c.args.formula.now c.args.plan.now c.moves.i between.stage c.requires.plan.last c.in-Some.step (sym c.get.ensures ∙ c.in-Some.is) (between.rest ∙ c.requires.plan.possible) in
-    let moved : after_moves c.args.formula.now no_stage (take (suc c.moves.i) c.args.plan.now) ≡ Some next.next = moved_on c.args.formula.now c.args.plan.now c.moves.i c.in-Some.step no_stage between.stage next.next (sym c.get.ensures ∙ c.in-Some.is) between.front next.is in
+    let at : slice_get c.args.plan.now c.moves.i ≡ Some c.in-Some.step = sym c.get.ensures ∙ c.in-Some.is in
+    let next = next_at c.args.formula.now c.args.plan.now c.moves.i c.moves.table.graph c.moves.table.book.state.live c.moves.stack.items c.requires.plan.last c.in-Some.step c.requires.plan.possible at between in
+    let moved : after_moves c.args.formula.now no_stage (take (suc c.moves.i) c.args.plan.now) ≡ Some next.next = moved_on c.args.formula.now c.args.plan.now c.moves.i c.in-Some.step no_stage between.stage next.next at between.front next.is in
     let shift : suc c.moves.i ≡ c.moves.i + 1 = omega arith in
     let front : after_moves c.args.formula.now no_stage (take (c.moves.i + 1) c.args.plan.now) ≡ Some next.next = subst (λ (n : ℕ). after_moves c.args.formula.now no_stage (take n c.args.plan.now) ≡ Some next.next) shift moved in
     record {
@@ -123,9 +126,10 @@ returns-in_err-take_move-clause-short g c is =
     let mid = c.moves.table.graph in
     let new = c.take_move.new.table.graph in
     let between = c.moves.invariant.between in
-    let next = next_of formula plan c.moves.i between.stage c.requires.plan.last c.in-Some.step (sym c.get.ensures ∙ c.in-Some.is) (between.rest ∙ c.requires.plan.possible) in
+    let at : slice_get plan c.moves.i ≡ Some c.in-Some.step = sym c.get.ensures ∙ c.in-Some.is in
+    let next = next_at formula plan c.moves.i c.moves.table.graph c.moves.table.book.state.live c.moves.stack.items c.requires.plan.last c.in-Some.step c.requires.plan.possible at between in
     let cause : c.in_err-take_move.field-0.0 ≡ NodeLimit = came_from _ c.in_err-take_move.field-0.0 NodeLimit c.from_residual-in_err-take_move.ensures.1 is in
-    let moved : after_moves formula no_stage (take (suc c.moves.i) plan) ≡ Some next.next = moved_on formula plan c.moves.i c.in-Some.step no_stage between.stage next.next (sym c.get.ensures ∙ c.in-Some.is) between.front next.is in
+    let moved : after_moves formula no_stage (take (suc c.moves.i) plan) ≡ Some next.next = moved_on formula plan c.moves.i c.in-Some.step no_stage between.stage next.next at between.front next.is in
     let same_order = c.moves.invariant.continues.order in
     let made = more_made formula order plan mid new c.moves.invariant.made (suc c.moves.i) next.next moved
     (subst (λ (o : List ℕ). KeepsOrMakes mid new (top_function formula o next.next.stack)) same_order (c.in_err-take_move.ensures.made between.stage next.next between.held next.is)) in
