@@ -112,6 +112,7 @@ impl<S: Sink + Drop> Table<S> {
         requires low { IsBelow self.old.graph level low }
         ensures children { IfOk result (λ node. HasChildren self.new.graph level high low node) }
         ensures steps { Steps S.tells (S.channel self.old.book.sink) (S.channel self.new.book.sink) self.old self.new 0 (error_of result) }
+        ensures retired { self.new.retired ≡ self.old.retired }
         // No other node is new, however the call ends.
         ensures only { (key : ℕ) (branch : BranchValue) → branch_at self.new.graph key ≡ Some branch
             → (branch_at self.old.graph key ≡ Some branch) ⊎ HasChildren self.new.graph level high low (inner key) }
@@ -286,6 +287,7 @@ impl<S: Sink + Drop> Table<S> {
         requires low { IsBelow self.old.graph level low }
         requires wanted { IsWanted self.old.graph level high low }
         ensures steps { Steps S.tells (S.channel self.old.book.sink) (S.channel self.new.book.sink) self.old self.new 0 (error_of result) }
+        ensures retired { self.new.retired ≡ self.old.retired }
         ensures only { (key : ℕ) (branch : BranchValue) → branch_at self.new.graph key ≡ Some branch
             → (branch_at self.old.graph key ≡ Some branch) ⊎ HasChildren self.new.graph level high low (inner key) }
         ensures made { IfOk result (λ node. (variable : ℕ) × IsMade self.old self.new level high low variable node

@@ -57,3 +57,6 @@ returns-in-Some-clause-torn g c is = absurd (no_error is)
 
 pub returns-in-Some-clause-beside : goal.returns-in-Some-clause-beside
 returns-in-Some-clause-beside g c = refl
+
+pub returns-clause-retired : goal.returns-clause-retired
+returns-clause-retired g c = c.make.ensures.retired
