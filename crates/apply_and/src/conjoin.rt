@@ -128,6 +128,7 @@ fn finish<S: Sink + Drop>(
     reach_law();
     missing_law();
     let made = table.node(operands.level, high.0, low.0);
+    // The nodes are reduced after a failed write too.
     table.table_law();
     let w = made?;
     if is_operand(w, operands) {
