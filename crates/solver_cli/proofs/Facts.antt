@@ -1,5 +1,5 @@
 -- What the stages of a run say of its streams, for the promises.
-use Rattle.std.proofs.Common.{◌≡◌, ℕ, true, false, List, [], ◌∷◌, ◌++◌, length, append-nil, refl, sym, ap, ◌∙◌, Some, None, Err, inl, inr, true≢false}
+use Rattle.std.proofs.Common.{◌≡◌, ℕ, true, false, List, [], ◌∷◌, ◌++◌, length, append-nil, refl, sym, ap, ◌∙◌, Some, None, Err, inl, inr, true≢false, subst, Ok, IfOk}
 use Rattle.std.specs.Prelude.{Option, Result, drop, ◌⊎◌}
 use Rattle.std.proofs.Math.Seq.{drop-append_seam}
 use Rattle.cnf_base.specs.Formula.{Formula}
@@ -167,3 +167,7 @@ pub same_formula : {text : CnfText} {problem other : Formula} → text ≡ formu
 same_formula e d = inner _ _ (sym e ∙ d) where
   inner : (problem other : Formula) → formula problem ≡ formula other → problem ≡ other
   inner problem other e = cc
+
+-- what is said of an `Ok`, of a result that is one
+pub at_ok : {T E : Type 0} (P : T → Type 0) {result : Result T E} {value : T} → result ≡ Ok value → P value → IfOk result P
+at_ok {T = T} {E = E} P {result = result} is holds = subst (λ (r : Result T E). IfOk r P) (sym is) holds

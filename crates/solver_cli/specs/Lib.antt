@@ -5,4 +5,5 @@ pub mod Verdict
 pub mod Headline
 pub mod Phases
 pub mod Stages
+pub mod Start
 pub mod SolveThenCheck

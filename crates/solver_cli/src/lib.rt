@@ -1,6 +1,7 @@
 //! The program as a library. `run` does all that it does, over any host: it reads the words, decides a formula and writes the
 //! proof, or judges a proof, and prints the answer. Its contract, `Promises` of `specs/Headline.antt`, is what the program is
-//! worth. It stands on `command_line`, `term_runner`, `lrat_checker`, `dimacs_reader` and `answer_text`.
+//! worth; `run_with` is that over the words as the system gives them. It stands on `command_line`, `term_runner`,
+//! `lrat_checker`, `dimacs_reader` and `answer_text`.
 #![tactic(auto)]
 
 mod answer;
@@ -17,5 +18,5 @@ mod verdict;
 pub use command_line::{Asked, FileNames, Refusal, gather, read_words};
 pub use complaint::complain;
 pub use laws::solve_then_check_law;
-pub use program::{run, run_in_memory};
+pub use program::{run, run_in_memory, run_with};
 pub use status::{Status, Why};

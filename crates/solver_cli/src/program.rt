@@ -1,12 +1,18 @@
 // One run of the program.
-ghost use Rattle.std.specs.Prelude.{◌≡◌, None, map, IsFalse, true};
+ghost use Rattle.std.specs.Prelude.{◌≡◌, ◌⊎◌, ℕ, List, None, map, IfErr, IfOk, IsFalse, true};
 ghost use Rattle.std.specs.String.{string_bytes};
+ghost use Rattle.std.specs.Iterator.{IsFinite};
+ghost use Rattle.std.specs.Iterator.Runs.{WholeRun};
 ghost use Rattle.host_io.specs.declared.role.Role.{Role};
 ghost use Rattle.host_io.specs.declared.role.Role.TheVariants.{Cnf as CnfRole, ProofIn, ProofOut, Out};
 ghost use Rattle.host_io.specs.Files.{FilesBut, Kept, same_role};
 ghost use Rattle.host_io.specs.Memory.{channel_of, files_of};
 ghost use Rattle.schedule_plan.specs.Limits.{AreLimits};
 ghost use Rattle.solver_cli.specs.Headline.{Promises};
+ghost use Rattle.solver_cli.specs.ExitCode.{exit_code};
+ghost use Rattle.solver_cli.specs.Start.{OnlyTold, status_of_kind};
+ghost use Rattle.solver_cli.specs.declared.status.Status.{Status};
+ghost use Rattle.solver_cli.specs.declared.status.Status.TheVariants.{OutOfMemory};
 ghost use Rattle.solver_cli.specs.Stages.{Came, CameToCheck, ShowsHelp, Stages, streams_of};
 
 use crate::answer::status_of;
@@ -17,12 +23,13 @@ use crate::output::{put_answer, put_text};
 use crate::proof::{prove, schedule};
 use crate::status::Status;
 use crate::verdict::{put_verdict, verdict_status};
-use command_line::{Asked, FileNames, Refusal, read_words};
+use command_line::{Asked, FileNames, Refusal, gather, read_words};
 use host_io::{Host, MemoryHost, Role as HostRole};
 use lrat_checker::check_law;
 use lrat_rules::soundness_law;
 use schedule_plan::Limits;
 use std::alloc::Global;
+use std::io::ErrorKind;
 
 fn work<H: Host>(alloc: Global, words: &[String], host: &mut H) -> Status
     requires unnamed { (role : Role) → (H.channel host.old role).name ≡ None }
@@ -135,4 +142,49 @@ pub fn run_in_memory(alloc: Global, words: &[String], host: &mut MemoryHost) -> 
     }) }
 {
     run(alloc, words, host)
+}
+
+/// All that `main` does: the program's run over the words that come, or, where none can be had, only the line on standard
+/// error that says so. Answers the exit code.
+pub fn run_with<H: Host, I: Iterator<Item = String> + Drop>(
+    alloc: Global,
+    words: Result<I, ErrorKind>,
+    host: &mut H,
+) -> u8
+    requires unnamed { (role : Role) → (H.channel host.old role).name ≡ None }
+    requires words { IfOk words (λ source. I.can_next source × IsFinite (I.remaining source)) }
+    // the words of the run are all that came, in turn; it is left out only where memory for them ran out
+    ensures came { IfOk words (λ source. (status : Status) × (result ≡ exit_code status) × (((given : List (List ℕ))
+        × WholeRun I.next_gives source (λ all. given ≡ map string_bytes all.items)
+        × Promises (record {
+          tells = H.tells;
+          words = given;
+          before = H.channel host.old;
+          after = H.channel host.new;
+          files = H.files host.old;
+          files_after = H.files host.new;
+          status = status;
+        }))
+        ⊎ ((status ≡ OutOfMemory) × OnlyTold H.tells (H.channel host.old) (H.channel host.new) (H.files host.old) (H.files host.new) status))) }
+    ensures unread { IfErr words (λ kind. (result ≡ exit_code (status_of_kind kind))
+        × OnlyTold H.tells (H.channel host.old) (H.channel host.new) (H.files host.old) (H.files host.new) (status_of_kind kind)) }
+{
+    let words = match words {
+        Ok(words) => words,
+        Err(kind) => return tell(host, Status::from(kind)),
+    };
+    match gather(alloc, words) {
+        Ok(words) => run(alloc, &words, host).code(),
+        Err(error) => tell(host, Status::from(error)),
+    }
+}
+
+// Tells on standard error how a run ends that has no words; answers the exit code.
+fn tell<H: Host>(host: &mut H, status: Status) -> u8
+    requires unnamed { (role : Role) → (H.channel host.old role).name ≡ None }
+    ensures told { OnlyTold H.tells (H.channel host.old) (H.channel host.new) (H.files host.old) (H.files host.new) status }
+    ensures code { result ≡ exit_code status }
+{
+    complain(host, status);
+    status.code()
 }

@@ -6,6 +6,7 @@ use dimacs_reader::{CnfError, CnfKind};
 use host_io::Role;
 use lrat_checker::CheckError;
 use lrat_rules::Reason;
+use std::io::ErrorKind;
 use term_runner::RunError;
 
 /// Why a formula was left undecided.
@@ -114,5 +115,18 @@ impl From<cnf_base::OutOfMemory> for Status {
 
     fn from(_: cnf_base::OutOfMemory) -> Status {
         Status::OutOfMemory
+    }
+}
+
+impl From<ErrorKind> for Status {
+    ghost use Rattle.solver_cli.specs.Start.{status_of_kind};
+
+    ghost from_gives = { λ kind status. status ≡ status_of_kind kind };
+
+    fn from(kind: ErrorKind) -> Status {
+        match kind {
+            ErrorKind::OutOfMemory => Status::OutOfMemory,
+            _ => Status::Usage,
+        }
     }
 }
