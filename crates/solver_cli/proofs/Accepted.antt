@@ -108,7 +108,7 @@ unplanned run task asked u =
       undecided = λ why e. absurd (no_answer unanswered refl e);
       verdict = no_verdict run unanswered;
       refusals = accepted_refusals run accepts;
-      faults = λ quiet. record { read = λ e. absurd (accepts.read e); quiet = quiet; write = λ e. absurd (apart u.ends e); accepted = λ e. absurd (apart u.ends e) };
+      faults = λ quiet. record { read = λ e. absurd (accepts.read e); undecided = λ e. absurd (accepts.read e); quiet = quiet; write = λ e. absurd (apart u.ends e); accepted = λ e. absurd (apart u.ends e) };
       output = quiet_output run unanswered accepts.help (same_written u.out);
       proof = no_proof run (none_written run ProofOut u.proof);
       complete = solve_complete run task u.problem asked (took run (Solve task) u.problem asked u.takes) (λ unharmed. inr u.ends);
@@ -131,6 +131,7 @@ uncreated run task asked u =
       refusals = accepted_refusals run accepts;
       faults = λ quiet. record {
         read = λ e. absurd (accepts.read e);
+        undecided = λ e. absurd (accepts.read e);
         quiet = quiet;
         write = λ e. failed;
         accepted = λ e. inr ((Solve task, asked), λ t. inl (u.problem, asks_for run task u.problem (natural_schedule u.problem) (read t)));
@@ -179,7 +180,7 @@ undecided run task asked u = both (write_ends run.status u.error u.ends) where
     undecided = λ why e. absurd (no_answer unanswered refl e);
     verdict = no_verdict run unanswered;
     refusals = accepted_refusals run accepts;
-    faults = λ quiet. record { read = λ e. absurd (accepts.read e); quiet = quiet; write = fault; accepted = λ e. inr ((Solve task, asked), λ t. inl (u.problem, given t)) };
+    faults = λ quiet. record { read = λ e. absurd (accepts.read e); undecided = λ e. absurd (accepts.read e); quiet = quiet; write = fault; accepted = λ e. inr ((Solve task, asked), λ t. inl (u.problem, given t)) };
     output = quiet_output run unanswered accepts.help (same_written u.out);
     proof = stands;
     complete = solve_complete run task u.problem asked read (λ unharmed. inr (memory unharmed));

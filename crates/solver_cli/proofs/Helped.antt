@@ -62,7 +62,7 @@ helped run h = go h.shows.printed h.shows.puts h.shows.ends where
       refused = λ kind line e. absurd (shown.refused kind line e);
       too_long = λ role e. absurd (shown.too_long role e);
     };
-    faults = λ quiet. record { read = λ e. absurd (shown.read e); quiet = quiet; write = λ e. (Out, inr refl, rose e); accepted = λ e. inl h.due };
+    faults = λ quiet. record { read = λ e. absurd (shown.read e); undecided = λ e. absurd (shown.read e); quiet = quiet; write = λ e. (Out, inr refl, rose e); accepted = λ e. inl h.due };
     output = record {
       grows = grows printed puts;
       front = λ t. inr (inr (fronts printed puts t));

@@ -1,24 +1,26 @@
 -- What the check of an opened proof says of the run.
-use Rattle.std.proofs.Common.{◌≡◌, ℕ, ℤ, Bool, List, length, sym, ap, ◌∙◌, subst, arith, Some, Err, IsTrue, IsOk, inl, inr}
-use Rattle.std.specs.Prelude.{◌≢◌, Result, ⊤, drop}
+use Rattle.std.proofs.Common.{◌≡◌, ℕ, ℤ, Bool, List, [], length, refl, sym, ap, ◌∙◌, subst, arith, None, Some, Err, IsTrue, IsOk, inl, inr}
+use Rattle.std.specs.Prelude.{◌≢◌, Result, IsErr, ⊤, drop}
 use Rattle.host_io.specs.Channel.{Channel, Rose}
 use Rattle.host_io.specs.Files.{Files, Opens}
 use Rattle.host_io.specs.declared.source.Failed.{Failed}
 use Rattle.text_scan.specs.Decides.{gained, Decides, OnlyReads, Decides-whole, Decides-taken}
-use Rattle.lrat_checker.specs.TextVerdict.{text_verdict, Answers}
+use Rattle.lrat_checker.specs.TextVerdict.{text_verdict, verdict_so_far, Answers}
 use Rattle.lrat_checker.specs.declared.verdict.Verdict.{Verdict}
 use Rattle.lrat_checker.specs.declared.verdict.CheckError.{CheckError}
 use Rattle.lrat_checker.specs.declared.verdict.CheckError.TheVariants.{ReadFault}
 use Rattle.solver_cli.specs.Phases.{ChecksProof, JudgesProof}
-use Rattle.solver_cli.proofs.Reading.{rose_since}
+use Rattle.solver_cli.proofs.Reading.{none_taken, rose_since}
 
 seen : (tells : Bool) (old new : Channel) (clauses : List (List ℤ)) (result : Result Verdict CheckError) → (IsTrue tells → Decides old new (λ bytes more. Answers result (text_verdict clauses bytes)))
-    → (result ≡ Err ReadFault → Rose old.faults new.faults) → (result ≢ Err ReadFault → new.faults ≡ old.faults) → OnlyReads old new → ChecksProof tells old new clauses result
-seen tells old new clauses result decides fault unfailed reads = record {
+    → (result ≡ Err ReadFault → Rose old.faults new.faults) → (result ≢ Err ReadFault → new.faults ≡ old.faults)
+    → (IsTrue tells → result ≡ Err ReadFault → verdict_so_far clauses (gained old new) ≡ None) → OnlyReads old new → ChecksProof tells old new clauses result
+seen tells old new clauses result decides fault unfailed undecided reads = record {
   judged = λ t. Decides-whole (decides t);
   decided = λ t. Decides-taken (decides t);
   fault = fault;
   unfailed = unfailed;
+  undecided = undecided;
   written = reads.written;
   name = reads.name;
   faults = reads.faults;
@@ -26,10 +28,26 @@ seen tells old new clauses result decides fault unfailed reads = record {
 
 pub checked : {tells : Bool} {seen_old seen_new old new : Channel} {clauses : List (List ℤ)} {result : Result Verdict CheckError} → seen_old ≡ old → new ≡ seen_new
     → (IsTrue tells → Decides seen_old seen_new (λ bytes more. Answers result (text_verdict clauses bytes)))
-    → (result ≡ Err ReadFault → Rose seen_old.faults seen_new.faults) → (result ≢ Err ReadFault → seen_new.faults ≡ seen_old.faults) → OnlyReads seen_old seen_new → ChecksProof tells old new clauses result
-checked {tells = tells} {seen_old = seen_old} {seen_new = seen_new} {old = old} {new = new} {clauses = clauses} {result = result} from to decides fault unfailed reads =
+    → (result ≡ Err ReadFault → Rose seen_old.faults seen_new.faults) → (result ≢ Err ReadFault → seen_new.faults ≡ seen_old.faults)
+    → (IsTrue tells → result ≡ Err ReadFault → verdict_so_far clauses (gained seen_old seen_new) ≡ None) → OnlyReads seen_old seen_new → ChecksProof tells old new clauses result
+checked {tells = tells} {seen_old = seen_old} {seen_new = seen_new} {old = old} {new = new} {clauses = clauses} {result = result} from to decides fault unfailed undecided reads =
     subst (λ (o : Channel). ChecksProof tells o new clauses result) from
-    (subst (λ (n : Channel). ChecksProof tells seen_old n clauses result) (sym to) (seen tells seen_old seen_new clauses result decides fault unfailed reads))
+    (subst (λ (n : Channel). ChecksProof tells seen_old n clauses result) (sym to) (seen tells seen_old seen_new clauses result decides fault unfailed undecided reads))
+
+empty_text : (clauses : List (List ℤ)) → verdict_so_far clauses [] ≡ None
+empty_text clauses = refl
+
+-- the file was not opened
+pub unopened : {tells : Bool} {old new : Channel} {files : Files} {file : List ℕ} {clauses : List (List ℤ)} {answer : Result ⊤ Failed} → Opens old new file answer → IsErr answer → JudgesProof tells old new files file clauses (Err ReadFault)
+unopened {clauses = clauses} opens failed = record {
+  read = λ t. inl refl;
+  fault = λ e. opens.faults.cause failed;
+  unfailed = λ no. absurd (no refl);
+  undecided = λ t e. ap (verdict_so_far clauses) (none_taken opens) ∙ empty_text clauses;
+  written = opens.idle.written ∙ sym opens.was_idle.written;
+  name = opens.failed failed;
+  faults = opens.faults.no_less;
+}
 
 -- the file was opened, and then its text was judged
 pub judged : {tells : Bool} {old opened new : Channel} {files : Files} {file : List ℕ} {clauses : List (List ℤ)} {answer : Result ⊤ Failed} {result : Result Verdict CheckError}
@@ -45,6 +63,7 @@ judged {tells = tells} {old = old} {opened = opened} {new = new} {clauses = clau
       });
       fault = λ e. rose_since opens.faults.no_less (checks.fault e);
       unfailed = λ no. checks.unfailed no ∙ opens.faults.unfailed ok;
+      undecided = λ t e. ap (verdict_so_far clauses) (sym same) ∙ checks.undecided t e;
       written = checks.written ∙ opens.idle.written ∙ sym opens.was_idle.written;
       name = inl (checks.name ∙ opens.named ok);
       faults = omega (arith, opens.faults.no_less, checks.faults);

@@ -4,7 +4,8 @@ use Rattle.std.specs.Prelude.{Result, ◌⊎◌, ◌≢◌}
 use Rattle.cnf_base.specs.Formula.{Formula}
 use Rattle.host_io.specs.Channel.{Channel}
 use Rattle.host_io.specs.declared.role.Role.{Role}
-use Rattle.host_io.specs.declared.role.Role.TheVariants.{Cnf, ProofOut, Out, Err as ErrRole}
+use Rattle.host_io.specs.declared.role.Role.TheVariants.{Cnf, ProofIn, ProofOut, Out, Err as ErrRole}
+use Rattle.text_scan.specs.Decides.{gained, gained-none}
 use Rattle.dimacs_reader.specs.declared.error.CnfKind.{CnfKind}
 use Rattle.dimacs_reader.specs.declared.error.CnfError.{CnfError}
 use Rattle.dimacs_reader.specs.declared.error.CnfError.TheVariants.{ReadFault as CnfFault}
@@ -15,7 +16,7 @@ use Rattle.command_line.specs.Command.{Command, formula_file, AsksHelp, Misuse, 
 use Rattle.solver_cli.specs.ErrorText.{is_answer}
 use Rattle.solver_cli.specs.ExitCode.{status_of_error}
 use Rattle.solver_cli.specs.Stages.{Streams, streams_of, Misused, Untaken}
-use Rattle.solver_cli.specs.Headline.{Run, written_in, taken_in, InputFailed, UnsatisfiableIsProved, SatisfiableIsTrue, LimitsAreReached, VerdictIsTrue, RefusalsAreDue, FaultsAreCounted, OutputStands, ProofStands, IsComplete, IsRefusedBy, Asks}
+use Rattle.solver_cli.specs.Headline.{Run, written_in, taken_in, InputFailed, UnsatisfiableIsProved, SatisfiableIsTrue, LimitsAreReached, VerdictIsTrue, RefusalsAreDue, IsOpenFormula, FaultsAreCounted, OutputStands, ProofStands, IsComplete, IsRefusedBy, Asks}
 use Rattle.solver_cli.proofs.Facts.{behind, grown_by, nothing_more, no_answer, Refuses, Exceeds, read_statuses, read_ends, read_fault, long_is_cnf, one_text, not_unasked, no_misuse, only_misuse, only_help, formula_refusal, formula_overlong, refusal_overlong, same_refusal}
 
 -- after a read fault no role but standard error gained a byte
@@ -94,7 +95,7 @@ misused run m =
         refused = λ kind line e. absurd (undone.refused kind line e);
         too_long = λ role e. absurd (undone.too_long role e);
       };
-      faults = λ quiet. record { read = λ e. absurd (undone.read e); quiet = quiet; write = λ e. absurd (undone.write e); accepted = λ e. absurd (undone.write e) };
+      faults = λ quiet. record { read = λ e. absurd (undone.read e); undecided = λ e. absurd (undone.read e); quiet = quiet; write = λ e. absurd (undone.write e); accepted = λ e. absurd (undone.write e) };
       output = quiet_output run undone.unanswered undone.help (same_written (out_of m.same));
       proof = no_proof run (none_written run ProofOut (proof_of m.same));
       complete = record {
@@ -139,6 +140,16 @@ untaken_says run asked u t = elim (u.takes.read t) [
 -- a read fault is that of a failed call
 untaken_rose : (run : Run) (asked : Command) → Untaken run.tells (streams_of run.before) (streams_of run.after) run.files (formula_file asked) run.status → run.status ≡ ReadFault → InputFailed run
 untaken_rose run asked u e = (Cnf, tt, u.takes.fault (read_fault u.error (sym u.ends ∙ e)))
+
+-- and the bytes taken decide nothing yet
+untaken_open : (run : Run) (asked : Command) → Untaken run.tells (streams_of run.before) (streams_of run.after) run.files (formula_file asked) run.status → run.status ≡ ReadFault → IsTrue run.tells → IsOpenFormula run
+untaken_open run asked u e t =
+    let fault : ◌≡◌ {A = Result Formula CnfError} (Err u.error) (Err CnfFault) = read_fault u.error (sym u.ends ∙ e) in
+    record {
+      failed = u.takes.fault fault;
+      undecided = u.takes.undecided t fault;
+      before_proof = ap (gained (run.before ProofIn)) u.judged ∙ gained-none (run.before ProofIn);
+    }
 
 refused_by : (run : Run) (asked : Command) (text : CnfText) → command run.words ≡ Some asked → (says : TextSays run asked) → cnf says.bytes ≡ text → IsRefusedBy run text
 refused_by run asked text gives says is = record {
@@ -233,7 +244,7 @@ untaken run asked gives u =
         refused = λ kind line e. ((asked, gives), λ t. untaken_refused run asked gives kind line e (untaken_says run asked u t));
         too_long = λ role e. inl (long_is_cnf u.error role (sym u.ends ∙ e), (asked, gives), λ t. untaken_long run asked gives role e (untaken_says run asked u t));
       };
-      faults = λ quiet. record { read = λ e. ((asked, gives), untaken_rose run asked u e); quiet = quiet; write = λ e. absurd (statuses.1 e); accepted = λ e. absurd (statuses.1 e) };
+      faults = λ quiet. record { read = λ e. ((asked, gives), untaken_rose run asked u e); undecided = λ e t. inl (untaken_open run asked u e t); quiet = quiet; write = λ e. absurd (statuses.1 e); accepted = λ e. absurd (statuses.1 e) };
       output = quiet_output run unanswered statuses.3 (same_written u.out);
       proof = no_proof run (none_written run ProofOut u.proof);
       complete = untaken_complete run asked gives u;

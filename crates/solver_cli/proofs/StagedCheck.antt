@@ -26,6 +26,7 @@ judged_in {file = file} files before same judges = record {
   ];
   fault = judges.fault;
   unfailed = judges.unfailed;
+  undecided = judges.undecided;
   written = judges.written;
   name = judges.name;
   faults = judges.faults;

@@ -23,7 +23,7 @@ use Rattle.solver_cli.specs.ExitCode.{status_of_check}
 use Rattle.solver_cli.specs.Verdict.{status_of_verdict}
 use Rattle.solver_cli.specs.Phases.{JudgesText, JudgesProof}
 use Rattle.solver_cli.specs.Stages.{streams_of, Unjudged}
-use Rattle.solver_cli.specs.Headline.{Run, taken_in, InputFailed, IsUnharmed, Asks, AsksToJudge, HasVerdict, IsLongProof, IsComplete}
+use Rattle.solver_cli.specs.Headline.{Run, taken_in, InputFailed, IsUnharmed, Asks, AsksToJudge, HasVerdict, IsLongProof, IsOpenProof, IsComplete}
 use Rattle.solver_cli.proofs.Facts.{no_answer, one_text, one_proof, not_unasked, two_commands, only_misuse, only_help, same_formula}
 use Rattle.solver_cli.proofs.Promised.{Core, quiet_output, no_proof, no_verdict, none_written, same_written}
 use Rattle.solver_cli.proofs.Accepted.{took, accepted_refuses, accepted_long}
@@ -97,7 +97,7 @@ unjudged laws run task asked u = go u.error u.judges u.ends where
 
   core : Unread run.status
       → ((role : Role) → run.status ≡ TooLong role → (role ≡ ProofIn) × (IsTrue run.tells → IsLongProof run))
-      → (run.status ≡ ReadFault → InputFailed run) → IsComplete run → Core run
+      → (run.status ≡ ReadFault → InputFailed run × (IsTrue run.tells → IsOpenProof run)) → IsComplete run → Core run
   core ends long fault complete = record {
     unsatisfiable = λ e. absurd (no_answer ends.unanswered refl e);
     satisfiable = λ e. absurd (no_answer ends.unanswered refl e);
@@ -109,7 +109,7 @@ unjudged laws run task asked u = go u.error u.judges u.ends where
       refused = λ kind line e. absurd (ends.refused kind line e);
       too_long = λ role e. let exceeds = long role e in inr (exceeds.0, (task, asked), exceeds.1);
     };
-    faults = λ quiet. record { read = λ e. ((Check task, asked), fault e); quiet = quiet; write = λ e. absurd (ends.write e); accepted = λ e. absurd (ends.write e) };
+    faults = λ quiet. record { read = λ e. ((Check task, asked), (fault e).0); undecided = λ e t. inr ((fault e).1 t); quiet = quiet; write = λ e. absurd (ends.write e); accepted = λ e. absurd (ends.write e) };
     output = quiet_output run ends.unanswered ends.help (same_written u.out);
     proof = no_proof run (none_written run ProofOut u.proof);
     complete = complete;
@@ -118,10 +118,13 @@ unjudged laws run task asked u = go u.error u.judges u.ends where
   go : (e : CheckError) → JudgesProof run.tells (run.before ProofIn) (run.after ProofIn) run.files task.proof u.problem.clauses (Err e) → run.status ≡ status_of_check e → Core run
   go error.ReadFault judges ends =
       let failed : InputFailed run = (ProofIn, tt, judges.fault refl) in
-      core (unread run.status error.ReadFault ends) (λ role e. absurd (apart role ends e)) (λ _. failed)
+      core (unread run.status error.ReadFault ends) (λ role e. absurd (apart role ends e)) (λ _. (failed, open_proof))
       (check_complete run task u.problem asked read (λ other bytes judged has t unharmed. absurd (unharmed.0 failed)) (λ other bytes asks long t unfailed. absurd (unfailed failed))) where
         apart : {status : Status} (role : Role) → status ≡ ReadFault → status ≡ TooLong role → ⊥
         apart role d e = cc
+
+        open_proof : IsTrue run.tells → IsOpenProof run
+        open_proof t = record { task = task; problem = u.problem; asks = read t; failed = judges.fault refl; undecided = judges.undecided t refl }
   go error.TooLong judges ends =
       core (unread run.status error.TooLong ends) (λ role e. (same role (sym e ∙ ends), λ t. is_long t)) (λ e. absurd (apart ends e))
       (check_complete run task u.problem asked read

@@ -8,10 +8,10 @@ use Rattle.host_io.specs.declared.role.Role.TheVariants.{Cnf, Order, Schedule, P
 use Rattle.host_io.specs.Channel.{Channel, Rose}
 use Rattle.host_io.specs.Files.{Files, FilesBut, IsInput, IsCreated}
 use Rattle.dimacs_reader.specs.declared.error.CnfKind.{CnfKind}
-use Rattle.dimacs_reader.specs.Cnf.{CnfText, formula, refusal, overlong, cnf}
+use Rattle.dimacs_reader.specs.Cnf.{CnfText, formula, refusal, overlong, cnf, cnf_so_far}
 use Rattle.lrat_rules.specs.Run.{Refutes, verdict}
 use Rattle.lrat_rules.specs.declared.outcome.Reason.{Reason}
-use Rattle.lrat_checker.specs.TextVerdict.{max_bytes, text_verdict}
+use Rattle.lrat_checker.specs.TextVerdict.{max_bytes, text_verdict, verdict_so_far}
 use Rattle.lrat_checker.specs.declared.verdict.Verdict.{Verdict}
 use Rattle.lrat_checker.specs.declared.verdict.Verdict.TheVariants as judgement
 use Rattle.schedule_plan.specs.declared.plan.Move.{Move}
@@ -211,11 +211,31 @@ pub record RefusalsAreDue (run : Run) : Type 0 where
 abbrev pub TextsAreRead : Run → Type 0
 TextsAreRead run = ((problem : Formula) × AsksFor run problem) ⊎ ((problem : Formula) × (bytes : List ℕ) × (judged : Verdict) × HasVerdict run problem bytes judged)
 
--- Faults: a read fault comes only where a call on a file that is read failed, and then nothing was written but on standard
--- error; a write fault only where all texts were read and accepted, or the words may ask for help, and a call on a created
--- file or on standard output failed.
+-- A call on the formula's file failed where the bytes taken of it decide nothing yet, and none of a proof was taken.
+pub record IsOpenFormula (run : Run) : Type 0 where
+  pub failed : HasFault run Cnf
+  pub undecided : cnf_so_far (taken_in run Cnf) ≡ overlong
+  pub before_proof : taken_in run ProofIn ≡ []
+
+-- The words give `check`, the formula was accepted, and a call on the proof's file failed where the bytes taken of it
+-- decide nothing yet over the formula. That file may be missing: then none was taken.
+pub record IsOpenProof (run : Run) : Type 0 where
+  pub task : ToCheck
+  pub problem : Formula
+  pub asks : Asks run (Check task) (formula problem)
+  pub failed : HasFault run ProofIn
+  pub undecided : verdict_so_far problem.clauses (taken_in run ProofIn) ≡ None
+
+-- What was taken decides nothing yet: of the formula's text, or, over a formula that was accepted, of the proof's.
+abbrev pub IsStillOpen : Run → Type 0
+IsStillOpen run = IsOpenFormula run ⊎ IsOpenProof run
+
+-- Faults: a read fault comes only where a call on a file that is read failed, and what was taken decides nothing yet, and
+-- then nothing was written but on standard error; a write fault only where all texts were read and accepted, or the words
+-- may ask for help, and a call on a created file or on standard output failed.
 pub record FaultsAreCounted (run : Run) : Type 0 where
   pub read : run.status ≡ ReadFault → GivesCommand run × InputFailed run
+  pub undecided : run.status ≡ ReadFault → IsTrue run.tells → IsStillOpen run
   pub quiet : run.status ≡ ReadFault → IsTrue run.tells → (role : Role) → role ≢ Err → written_in run role ≡ []
   pub write : run.status ≡ WriteFault → OutputFailed run
   pub accepted : run.status ≡ WriteFault → MayMean run.words AsksHelp ⊎ (GivesCommand run × (IsTrue run.tells → TextsAreRead run))

@@ -6,10 +6,10 @@ use Rattle.host_io.specs.declared.source.Failed.{Failed}
 use Rattle.host_io.specs.Channel.{Channel, Rose}
 use Rattle.host_io.specs.Files.{Files}
 use Rattle.text_scan.specs.Decides.{gained}
-use Rattle.dimacs_reader.specs.Cnf.{CnfText, formula, refusal, overlong, cnf}
+use Rattle.dimacs_reader.specs.Cnf.{CnfText, formula, refusal, overlong, cnf, cnf_so_far}
 use Rattle.dimacs_reader.specs.declared.error.CnfError.{CnfError}
 use Rattle.dimacs_reader.specs.declared.error.CnfError.TheVariants.{Refused, ReadFault, TooLong, OutOfMemory}
-use Rattle.lrat_checker.specs.TextVerdict.{text_verdict, Answers}
+use Rattle.lrat_checker.specs.TextVerdict.{text_verdict, verdict_so_far, Answers}
 use Rattle.lrat_checker.specs.declared.verdict.Verdict.{Verdict}
 use Rattle.lrat_checker.specs.declared.verdict.CheckError.{CheckError}
 use Rattle.lrat_checker.specs.declared.verdict.CheckError.TheVariants.{ReadFault as CheckReadFault}
@@ -34,12 +34,13 @@ IsRead (Err TooLong) whole taken = (whole ≡ overlong) × (taken ≡ overlong)
 IsRead (Err ReadFault) whole taken = ⊤
 IsRead (Err OutOfMemory) whole taken = ⊤
 
--- the opened formula's file was read
+-- The opened formula's file was read; where a call on it failed, the bytes taken decide nothing yet.
 pub record ReadsFormula (tells : Bool) (old new : Channel) (result : Result Formula CnfError) : Type 0 where
   pub read : IsTrue tells → IsRead result (cnf old.left) (cnf (gained old new))
   pub formula : IfOk result IsFormula
   pub fault : result ≡ Err ReadFault → Rose old.faults new.faults
   pub unfailed : result ≢ Err ReadFault → new.faults ≡ old.faults
+  pub undecided : IsTrue tells → result ≡ Err ReadFault → cnf_so_far (gained old new) ≡ overlong
   pub written : new.written ≡ old.written
   pub flushed : new.flushed ≡ old.flushed
   pub name : new.name ≡ old.name
@@ -51,16 +52,19 @@ pub record TakesFormula (tells : Bool) (old new : Channel) (files : Files) (file
   pub formula : IfOk result IsFormula
   pub fault : result ≡ Err ReadFault → Rose old.faults new.faults
   pub unfailed : result ≢ Err ReadFault → new.faults ≡ old.faults
+  pub undecided : IsTrue tells → result ≡ Err ReadFault → cnf_so_far (gained old new) ≡ overlong
   pub written : new.written ≡ old.written
   pub name : (new.name ≡ Some file) ⊎ (new.name ≡ None)
   pub faults : old.faults ≤ new.faults
 
--- The answer of the check is the verdict of the text in the opened proof's file, and already of the bytes taken.
+-- The answer of the check is the verdict of the text in the opened proof's file, and already of the bytes taken; where a
+-- call on it failed, these decide nothing yet.
 pub record ChecksProof (tells : Bool) (old new : Channel) (clauses : List (List ℤ)) (result : Result Verdict CheckError) : Type 0 where
   pub judged : IsTrue tells → Answers result (text_verdict clauses old.left)
   pub decided : IsTrue tells → Answers result (text_verdict clauses (gained old new))
   pub fault : result ≡ Err CheckReadFault → Rose old.faults new.faults
   pub unfailed : result ≢ Err CheckReadFault → new.faults ≡ old.faults
+  pub undecided : IsTrue tells → result ≡ Err CheckReadFault → verdict_so_far clauses (gained old new) ≡ None
   pub written : new.written ≡ old.written
   pub name : new.name ≡ old.name
   pub faults : old.faults ≤ new.faults
@@ -77,6 +81,7 @@ pub record JudgesProof (tells : Bool) (old new : Channel) (files : Files) (file 
   pub read : IsTrue tells → (result ≡ Err CheckReadFault) ⊎ JudgesText files file clauses (gained old new) result
   pub fault : result ≡ Err CheckReadFault → Rose old.faults new.faults
   pub unfailed : result ≢ Err CheckReadFault → new.faults ≡ old.faults
+  pub undecided : IsTrue tells → result ≡ Err CheckReadFault → verdict_so_far clauses (gained old new) ≡ None
   pub written : new.written ≡ old.written
   pub name : (new.name ≡ Some file) ⊎ (new.name ≡ None)
   pub faults : old.faults ≤ new.faults
