@@ -6,7 +6,7 @@ ghost use Rattle.node_table.specs.Table.{IsSound};
 ghost use Rattle.operations.specs.Entries.{Fits};
 ghost use Rattle.apply_and.specs.Cache.{entries};
 
-use crate::script::{conjoin, end_of, play, told};
+use crate::script::{conjoin, end_of, no_entries, play, told};
 use crate::support::{ProofText, is_known, make, open, order, room_of};
 use apply_and::AndCache;
 use cnf_base::{Cnf, CnfBuilder};
@@ -150,7 +150,7 @@ fn each_pair_on(rt: &impl Abort, alloc: Global, table: &mut Table<ProofText>) ->
 {
     let mut nodes = Vec::new(alloc);
     all_functions(rt, table, &mut nodes)?;
-    let mut cache = AndCache::new(alloc, 1)?;
+    let mut cache = no_entries(alloc)?;
     each_pair_of(rt, table, &mut cache, nodes.as_slice())
 }
 
@@ -237,7 +237,7 @@ fn expect_pair(
     ensures sound { OnOk result (IsSound table.new) }
 {
     let [u, v, w] = three_functions(rt, table, first, second)?;
-    let mut cache = AndCache::new(alloc, 1)?;
+    let mut cache = no_entries(alloc)?;
     expect_conjunction(rt, table, &mut cache, u, v, w)
 }
 

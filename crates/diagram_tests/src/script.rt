@@ -1,16 +1,18 @@
 // Scripts for a table: the nodes to make, and behind a bar the pairs to conjoin. A word as '0Ta' makes the node of level 0
 // with the children True and a, a word as 'cd' conjoins c and d. Each result is named by the next letter from a on, or by
 // the first one that it has already.
-ghost use Rattle.std.specs.Prelude.{◌≡◌, OnOk, length};
+ghost use Rattle.std.specs.Prelude.{◌≡◌, IfOk, OnOk, length};
 ghost use Rattle.cnf_base.specs.Truth.{AreClausesOf};
-ghost use Rattle.node_table.specs.Table.{IsSound};
+ghost use Rattle.node_table.specs.Table.{IsSound, TableState};
 ghost use Rattle.operations.specs.Entries.{Fits};
 ghost use Rattle.apply_and.specs.Cache.{entries};
+ghost use Rattle.diagram_tests.specs.declared.support.ProofText.{ProofText as ProofTextValue};
 
 use crate::support::{ProofText, Room, is_known, make, open, order};
 use apply_and::{AndCache, and};
-use cnf_base::Cnf;
+use cnf_base::{Cnf, OutOfMemory};
 use node_table::{Just, Node, Table, TableError};
+use operations::entry_law;
 use std::alloc::Global;
 use std::process::Abort;
 use std::test::Fail;
@@ -62,8 +64,16 @@ fn take_script(
 {
     let (made, joined) = halves(script);
     make_all(rt, table, results, made)?;
-    let mut cache = AndCache::new(alloc, 1)?;
+    let mut cache = no_entries(alloc)?;
     join_all(rt, table, &mut cache, results, joined)
+}
+
+/// A cache without entries. It fits each table.
+pub fn no_entries(alloc: Global) -> Result<AndCache, OutOfMemory>
+    ensures { IfOk result (λ cache. (table : TableState ProofTextValue) → Fits table (entries cache)) }
+{
+    entry_law::<ProofText>();
+    AndCache::new(alloc, 1)
 }
 
 fn halves(script: &str) -> (&str, &str) {
