@@ -6,7 +6,7 @@ ghost use Rattle.node_table.specs.Table.{IsSound};
 ghost use Rattle.operations.specs.Entries.{Fits};
 ghost use Rattle.apply_and.specs.Cache.{entries};
 
-use crate::script::{conjoin, end_of, no_entries, play, told};
+use crate::script::{conjoin, end_of, no_entries, play, play_over, told};
 use crate::support::{ProofText, is_known, make, open, order, room_of};
 use apply_and::AndCache;
 use cnf_base::{Cnf, CnfBuilder};
@@ -279,17 +279,36 @@ fn pairs_of_three(rt: HostRuntime) -> Result<(), Fail> {
     Ok(())
 }
 
-// What is told of a script on a table over a formula without clauses.
-fn script_told(rt: &impl Abort, alloc: Global, script: &str) -> Result<String, Fail> {
-    let formula = no_clauses(alloc, 2);
+// What is told of a script on a table over this order and a formula without clauses.
+fn script_told(
+    rt: &impl Abort,
+    alloc: Global,
+    formula: &Cnf,
+    order: &[u32],
+    script: &str,
+) -> Result<String, Fail>
+    requires clauses { AreClausesOf (length order.now) formula.now.clauses }
+    requires order { IsOrder order.now }
+    requires few { length order.now ≤ 3 }
+{
     let room = room_of("100 10000, 1000 999")?;
-    told(alloc, play(rt, alloc, &formula, false, &room, script)?)
+    told(alloc, play_over(rt, alloc, formula, order, &room, script)?)
 }
 
 // A row is a script, and what is told of it.
-fn expect_script(rt: &impl Abort, alloc: Global, row: &str) -> Result<(), Fail> {
+fn expect_script(
+    rt: &impl Abort,
+    alloc: Global,
+    formula: &Cnf,
+    order: &[u32],
+    row: &str,
+) -> Result<(), Fail>
+    requires clauses { AreClausesOf (length order.now) formula.now.clauses }
+    requires order { IsOrder order.now }
+    requires few { length order.now ≤ 3 }
+{
     let (script, expected) = row.split_once(';').ok_or("no script")?;
-    let found = script_told(rt, alloc, script)?;
+    let found = script_told(rt, alloc, formula, order, script)?;
     assert_eq!(rt; found.as_str(), expected, "{script}");
     Ok(())
 }
@@ -308,7 +327,8 @@ const LINES: &str = "1TF 1FT 0Ta 0Tb 0ab | cd cd ab dc ae ja;\
 /// order; an operand that is a child of the other; a result that is an operand.
 #[test]
 fn lines(rt: HostRuntime) -> Result<(), Fail> {
-    expect_script(&rt, rt.alloc(), LINES)
+    let formula = no_clauses(rt.alloc(), 2);
+    expect_script(&rt, rt.alloc(), &formula, &order(false), LINES)
 }
 
 const COINCIDENCES: &str = "1TF 0aT 0Ta 0TF | bc da db;\
@@ -322,7 +342,29 @@ const COINCIDENCES: &str = "1TF 0aT 0Ta 0TF | bc da db;\
 /// variable and a node with a child True.
 #[test]
 fn coincidences(rt: HostRuntime) -> Result<(), Fail> {
-    expect_script(&rt, rt.alloc(), COINCIDENCES)
+    let formula = no_clauses(rt.alloc(), 2);
+    expect_script(&rt, rt.alloc(), &formula, &order(false), COINCIDENCES)
+}
+
+// Of three variables, the last one and its negation are a and b, the clauses of the last two c to f, and g and h choose
+// among them by the first one; i and j are the second variable and its negation.
+const INNER_SIDES: &str = "2TF 2FT 1Ta 1Tb 1aT 1bT 0ce 0df 1TF 1FT | gh;\
+    done;a0=2TF b0=2FT c0=1Ta d0=1Tb e0=1aT f0=1bT g0=0ce h0=0df i0=1TF j0=1FT k40=0ij;11 40 true;\
+    1 4 -3 0 0/2 -4 3 0 -1 0/3 5 3 0 0/4 -5 -3 0 -3 0/5 6 -2 0 0/6 6 2 -4 0 0/7 -6 2 4 0 -5 -6 0/\
+    8 7 -2 0 0/9 7 2 -5 0 0/10 -7 2 5 0 -8 -9 0/11 8 -2 -4 0 0/12 8 2 0 0/13 -8 -2 4 0 -11 -12 0/\
+    14 9 -2 -5 0 0/15 9 2 0 0/16 -9 -2 5 0 -14 -15 0/17 10 -1 -6 0 0/18 10 1 -8 0 0/\
+    19 -10 -1 6 0 -17 -18 0/20 -10 1 8 0 -17 -18 0/21 11 -1 -7 0 0/22 11 1 -9 0 0/\
+    23 -11 -1 7 0 -21 -22 0/24 -11 1 9 0 -21 -22 0/25 12 -2 0 0/26 -12 2 0 -25 0/27 13 2 0 0/28 -13 -2 0 -27 0/\
+    29 -3 -4 -5 0 4 0/30 -4 -5 0 29 2 0/31 -2 -6 -7 12 0 25 0/32 -6 -7 12 0 31 7 10 30 0/\
+    33 -2 -8 -9 13 0 13 16 30 0/34 -8 -9 13 0 33 27 0/35 14 -1 -12 0 0/36 14 1 -13 0 0/\
+    37 -14 -1 12 0 -35 -36 0/38 -14 1 13 0 -35 -36 0/39 -1 -10 -11 14 0 35 19 23 32 0/\
+    40 -10 -11 14 0 39 36 20 24 34 0/";
+
+/// A conjunction whose both sides are conjunctions of inner nodes, one of these with a side from the cache.
+#[test]
+fn inner_sides(rt: HostRuntime) -> Result<(), Fail> {
+    let formula = no_clauses(rt.alloc(), 3);
+    expect_script(&rt, rt.alloc(), &formula, &three(1, 2, 3), INNER_SIDES)
 }
 
 // A row is a room, and how the first conjunction of the lines ends.

@@ -1,8 +1,9 @@
 // Scripts for a table: the nodes to make, and behind a bar the pairs to conjoin. A word as '0Ta' makes the node of level 0
 // with the children True and a, a word as 'cd' conjoins c and d. Each result is named by the next letter from a on, or by
 // the first one that it has already.
-ghost use Rattle.std.specs.Prelude.{◌≡◌, IfOk, OnOk, length};
+ghost use Rattle.std.specs.Prelude.{◌≡◌, ◌≤◌, IfOk, OnOk, length};
 ghost use Rattle.cnf_base.specs.Truth.{AreClausesOf};
+ghost use Rattle.node_table.specs.Diagram.{IsOrder};
 ghost use Rattle.node_table.specs.Table.{IsSound, TableState};
 ghost use Rattle.operations.specs.Entries.{Fits};
 ghost use Rattle.apply_and.specs.Cache.{entries};
@@ -43,7 +44,23 @@ pub fn play(
 ) -> Result<Played, Fail>
     requires { AreClausesOf 2 formula.now.clauses }
 {
-    let mut table = open(alloc, formula, &order(reversed), room)?;
+    play_over(rt, alloc, formula, &order(reversed), room, script)
+}
+
+/// Plays a script on a new table over this order.
+pub fn play_over(
+    rt: &impl Abort,
+    alloc: Global,
+    formula: &Cnf,
+    order: &[u32],
+    room: &Room,
+    script: &str,
+) -> Result<Played, Fail>
+    requires clauses { AreClausesOf (length order.now) formula.now.clauses }
+    requires order { IsOrder order.now }
+    requires few { length order.now ≤ 3 }
+{
+    let mut table = open(alloc, formula, order, room)?;
     let mut results = Vec::new(alloc);
     let refused = take_script(rt, alloc, &mut table, &mut results, script).err();
     Ok(Played {
