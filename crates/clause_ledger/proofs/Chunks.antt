@@ -1,5 +1,5 @@
 -- What stands at a place of the chunks is what is live under its number, whatever is put in or taken out.
-use Rattle.std.proofs.Common.{◌≡◌, ℕ, zero, suc, ◌+◌, ◌-◌, ◌/◌, ◌%◌, ◌<◌, ◌≤◌, ◌≢◌, Bool, true, false, cond, ℤ, List, [], ◌∷◌, ◌++◌, length, get_or, set, None, Some, inl, inr, nat_cmp, refl, sym, ◌∙◌, ap, arith, nat_lt, le-ltb, eq-eqb, ne_eqb, length-append, append_assoc, append-nil}
+use Rattle.std.proofs.Common.{◌≡◌, ℕ, zero, suc, ◌+◌, ◌-◌, ◌/◌, ◌%◌, ◌<◌, ◌≤◌, ◌≢◌, Bool, true, false, cond, ℤ, List, [], ◌∷◌, ◌++◌, length, get_or, set, None, Some, inl, inr, nat_cmp, refl, sym, ◌∙◌, ap, arith, nat_lt, lt-ltb, le-ltb, eq-eqb, ne_eqb, length-append, append_assoc, append-nil}
 use Rattle.std.proofs.lemmas.Bool.{cases_eq, cases_lt}
 use Rattle.std.proofs.lemmas.Cmp.{nat_cmp_total}
 use Rattle.std.proofs.lemmas.List.{get_or_past, get_or-set_same, get_or-set_other, get_or_append_left, get_or-append_right, length-set, nil_from_length}
@@ -221,6 +221,8 @@ AreChunks-grown before after top chunks grown few =
         | inl early_k ↦ ap length (early k early_k) ∙ chunks.whole k from early_k
         | inr le ↦ ap length (late k le) ∙ grown.whole (k - length before) (omega (arith, longer))
       ];
+      shrunk = λ k lt blank. let is = early k (omega (arith, lt, chunks.within)) in
+          is ∙ chunks.shrunk k lt (λ i. ap (λ (places : Places). get_or places i None) (sym is) ∙ blank i);
       numbers = λ id clause is. chunks.numbers id clause
           (sym (clause_at-live_of before chunks.sizes id) ∙ ap (λ (live : Live). clause_at live id) (sym (live_of-grown before after grown)) ∙ clause_at-live_of after sizes id ∙ is);
       within = omega (arith, longer, chunks.within);
@@ -278,6 +280,9 @@ next_is_free chunks top are =
 pub next_place : (chunks : List Places) (top : ℕ) → AreChunks chunks top → (top + 1) / 64 < length chunks → (top + 1) % 64 < length (get_or chunks ((top + 1) / 64) [])
 next_place chunks top are lt = let whole : length (get_or chunks ((top + 1) / 64) []) ≡ 64 = are.whole ((top + 1) / 64) (omega arith) lt in omega (arith, whole)
 
+set_chunk : (chunks : List Places) (k : ℕ) (after : Places) (i : ℕ) → k < length chunks → i ≡ k → get_or (set chunks k after) i [] ≡ after
+set_chunk chunks k after i lt same = ap (λ n. get_or (set chunks k after) n []) same ∙ get_or-set_same chunks k after [] lt
+
 length_of_set : (chunks : List Places) (k : ℕ) (after : Places) (i : ℕ) → k < length chunks → i ≡ k → length (get_or (set chunks k after) i []) ≡ length after
 length_of_set chunks k after i lt same = ap length (ap (λ n. get_or (set chunks k after) n []) same ∙ get_or-set_same chunks k after [] lt)
 
@@ -300,6 +305,16 @@ AreChunks-put chunks top clause are lt =
         | inl same ↦ length_of_set chunks (number / 64) after k lt same ∙ same_size ∙ are.whole (number / 64) (omega arith) lt
         | inr other ↦ length_of_other chunks (number / 64) after k other ∙ are.whole k (omega (arith, from)) (omega (arith, length-set chunks (number / 64) after))
       ];
+      shrunk = λ k passed blank. elim (cases_eq k (number / 64)) [
+        | inl same ↦
+            let some : get_or after (number % 64) None ≡ Some clause = get_or-set_same before (number % 64) (Some clause) None place_lt in
+            let none : get_or after (number % 64) None ≡ None = ap (λ (places : Places). get_or places (number % 64) None) (sym (set_chunk chunks (number / 64) after k lt same)) ∙ blank (number % 64) in
+            let no : Some clause ≡ None = sym some ∙ none in
+            cc
+        | inr other ↦
+            let is = get_or-set_other chunks (number / 64) k after [] other in
+            is ∙ are.shrunk k (omega (arith, passed, other)) (λ i. ap (λ (places : Places). get_or places i None) (sym is) ∙ blank i)
+      ];
       numbers = λ id other_clause stands. elim (cases_eq id number) [
         | inl same ↦ (omega arith, omega arith)
         | inr other ↦
@@ -320,6 +335,19 @@ AreChunks-cleared chunks top number after are lt cleared =
       whole = λ k from k_lt. elim (cases_eq k (number / 64)) [
         | inl same ↦ length_of_set chunks (number / 64) after k lt same ∙ cleared.kept (le-ltb (number / 64) ((top + 1) / 64) (omega (arith, from, same))) ∙ are.whole (number / 64) (omega (arith, from, same)) lt
         | inr other ↦ length_of_other chunks (number / 64) after k other ∙ are.whole k from (omega (arith, length-set chunks (number / 64) after))
+      ];
+      shrunk = λ k passed blank. elim (cases_eq k (number / 64)) [
+        | inl same ↦
+            let is = set_chunk chunks (number / 64) after k lt same in
+            let index : number / 64 < (top + 1) / 64 = omega (arith, passed, same) in
+            let blank_after : IsBlank after = λ i. ap (λ (places : Places). get_or places i None) (sym is) ∙ blank i in
+            is ∙ elim (cleared.shrunk (lt-ltb (number / 64) ((top + 1) / 64) index) blank_after) [
+              | inl none ↦ none
+              | inr unchanged ↦ unchanged ∙ are.shrunk (number / 64) index (λ i. ap (λ (places : Places). get_or places i None) (sym unchanged) ∙ blank_after i)
+            ]
+        | inr other ↦
+            let is = get_or-set_other chunks (number / 64) k after [] other in
+            is ∙ are.shrunk k passed (λ i. ap (λ (places : Places). get_or places i None) (sym is) ∙ blank i)
       ];
       numbers = λ id clause stands. elim (cases_eq id number) [
         | inl same ↦

@@ -1,5 +1,5 @@
 -- How many places of a chunk have a clause, as they are filled and emptied.
-use Rattle.std.proofs.Common.{◌≡◌, ℕ, zero, suc, ◌+◌, ◌-◌, ◌<◌, Bool, true, false, cond, List, [], ◌∷◌, ◌++◌, length, get_or, set, Option, None, Some, inl, inr, refl, sym, ◌∙◌, ap, subst, arith, Bor, map}
+use Rattle.std.proofs.Common.{◌≡◌, ℕ, zero, suc, ◌+◌, ◌-◌, ◌<◌, ◌≢◌, Bool, true, false, cond, List, [], ◌∷◌, ◌++◌, length, get_or, set, Option, None, Some, inl, inr, refl, sym, ◌∙◌, ap, subst, arith, Bor, map}
 use Rattle.std.proofs.lemmas.Bool.{cases_lt}
 use Rattle.std.proofs.lemmas.List.{get_or_past, length-set}
 use Rattle.std.proofs.lemmas.List.Sums.{sum_by-set, sum_by-cons}
@@ -55,11 +55,13 @@ blank_more [] blank (suc i) = get_or_past [] i None (omega arith)
 blank_more (slot ∷ slots) blank zero = blank 0
 blank_more (slot ∷ slots) blank (suc i) = blank_more slots (λ k. blank (suc k)) i
 
-pub IsCleared-set : (places : Places) (i : ℕ) (may_shrink : Bool) → is_some (get_or places i None) ≡ true → IsCleared places (set places i None) i may_shrink
-IsCleared-set places i may_shrink some = record {
+pub IsCleared-set : (places : Places) (i : ℕ) (may_shrink : Bool) → is_some (get_or places i None) ≡ true → (may_shrink ≡ true → clauses places - 1 ≢ 0)
+    → IsCleared places (set places i None) i may_shrink
+IsCleared-set places i may_shrink some not_last = record {
   places = set_at places i None (taken_within places i some);
   size = omega (arith, length-set places i None);
   kept = λ _. length-set places i None;
+  shrunk = λ may blank. absurd (not_last may (omega (arith, clauses-cleared places i some, clauses-blank (set places i None) blank)));
 }
 
 cleared_last : (places : Places) (i : ℕ) → is_some (get_or places i None) ≡ true → clauses places - 1 ≡ 0 → IsCleared places [] i true
@@ -68,7 +70,8 @@ cleared_last places i some last =
     record {
       places = λ k. get_or_past [] k None (omega arith) ∙ sym (blank k) ∙ set_at places i None (taken_within places i some) k;
       size = omega arith;
-      kept = λ no. cc;
+      kept = λ may. cc;
+      shrunk = λ may blank_after. inl refl;
     }
 
 pub IsCleared-last : (places after : Places) (i : ℕ) (may_shrink : Bool) → is_some (get_or places i None) ≡ true → clauses places - 1 ≡ 0 → after ≡ [] → may_shrink ≡ true

@@ -1,5 +1,5 @@
 -- How the live clauses are stored: in chunks of 64 places, one place for each number.
-use Rattle.std.specs.Prelude.{◌≡◌, ◌<◌, ◌≤◌, ℕ, ◌+◌, ◌-◌, ◌*◌, ◌/◌, ◌%◌, Bool, false, ℤ, List, [], ◌∷◌, ◌++◌, length, Option, None, Some, slice_index_or, if◌then◌else◌, ◌==◌, refl}
+use Rattle.std.specs.Prelude.{◌≡◌, ◌<◌, ◌≤◌, ℕ, ◌+◌, ◌-◌, ◌*◌, ◌/◌, ◌%◌, ◌⊎◌, Bool, true, false, ℤ, List, [], ◌∷◌, ◌++◌, length, Option, None, Some, slice_index_or, if◌then◌else◌, ◌==◌, refl}
 use Rattle.std.specs.Coded.{Coded, code_by, coded×, coded_ℕ, coded_ℤ, coded_list, coded_option}
 use Rattle.std.specs.FinMap as map
 use Rattle.lrat_rules.specs.State.{State, Live, state_code}
@@ -56,24 +56,27 @@ max_chunks = 15625000000000000
 abbrev pub HaveSizes : List Places → Type 0
 HaveSizes chunks = (k : ℕ) → length (slice_index_or chunks k []) ≤ 64
 
--- Chunks with this greatest number: those of later numbers have all their places, and clauses stand under the numbers
--- from 1 up to it.
-pub record AreChunks (chunks : List Places) (top : ℕ) : Type 0 where
-  pub sizes : HaveSizes chunks
-  pub whole : (k : ℕ) → (top + 1) / 64 ≤ k → k < length chunks → length (slice_index_or chunks k []) ≡ 64
-  pub numbers : (id : ℕ) (clause : List ℤ) → place_at chunks id ≡ Some clause → (0 < id) × (id ≤ top)
-  pub within : top ≤ 64 * length chunks
-  pub few : length chunks ≤ max_chunks
-
 -- no place has a clause
 abbrev pub IsBlank : Places → Type 0
 IsBlank places = (i : ℕ) → slice_index_or places i None ≡ None
 
--- a chunk before and after the clause at a place was taken out; it may give its places back only where that is allowed
+-- Chunks with this greatest number: clauses stand under the numbers from 1 up to it, the chunks of later numbers have all
+-- their places, and one whose numbers are all given has none once all its clauses are deleted.
+pub record AreChunks (chunks : List Places) (top : ℕ) : Type 0 where
+  pub sizes : HaveSizes chunks
+  pub whole : (k : ℕ) → (top + 1) / 64 ≤ k → k < length chunks → length (slice_index_or chunks k []) ≡ 64
+  pub shrunk : (k : ℕ) → k < (top + 1) / 64 → IsBlank (slice_index_or chunks k []) → slice_index_or chunks k [] ≡ []
+  pub numbers : (id : ℕ) (clause : List ℤ) → place_at chunks id ≡ Some clause → (0 < id) × (id ≤ top)
+  pub within : top ≤ 64 * length chunks
+  pub few : length chunks ≤ max_chunks
+
+-- a chunk before and after the clause at a place was taken out; where it may shrink, it
+-- gives its places back with its last clause
 pub record IsCleared (before after : Places) (place : ℕ) (may_shrink : Bool) : Type 0 where
   pub places : (i : ℕ) → slice_index_or after i None ≡ (if i == place then None else slice_index_or before i None)
   pub size : length after ≤ length before
   pub kept : may_shrink ≡ false → length after ≡ length before
+  pub shrunk : may_shrink ≡ true → IsBlank after → (after ≡ []) ⊎ (after ≡ before)
 
 -- blank chunks with all their places were put behind these
 pub record IsGrown (before after : List Places) : Type 0 where

@@ -128,10 +128,14 @@ fn grow(chunks: &mut Vec<Chunk>, alloc: Global, index: usize) -> Result<(), OutO
     ensures err { OnErr result (length chunks.new.items ≤ index) }
     ensures few { length chunks.new.items ≤ max_chunks }
 {
+    if index < chunks.len() {
+        return Ok(());
+    }
+    if index >= MAX_CHUNKS {
+        return Err(OutOfMemory);
+    }
+    chunks.reserve(index + 1 - chunks.len())?;
     while chunks.len() <= index {
-        if chunks.len() == MAX_CHUNKS {
-            return Err(OutOfMemory);
-        }
         chunks.push(Chunk::new(alloc)?)?;
     }
     Ok(())

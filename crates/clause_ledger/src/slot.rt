@@ -21,6 +21,8 @@ pub enum Slot {
     Other(Vec<Lit>),
 }
 
+const _: () = prove!(size_of::<Slot>() == 32);
+
 impl Slot {
     /// A slot with a clause. Only a clause of more than four literals needs memory.
     pub fn of(alloc: Global, clause: &[Lit]) -> Result<Slot, OutOfMemory>

@@ -7,5 +7,5 @@ pub loop-alloc-preserved : goal.loop-alloc-preserved
 loop-alloc-preserved c = record {
   grown = subst (λ (l : List Places). IsGrown c.args.chunks.now.items l) (sym c.in_ok-push.ensures.items)
       (IsGrown-push c.args.chunks.now.items c.loop-alloc.chunks.items c.in_ok-new.field-0 c.loop-alloc.invariant.grown c.in_ok-new.ensures.size c.in_ok-new.ensures.blank);
-  few = let e = c.in_ok-push.ensures.len in omega (arith, c.if-len-eq-MAX_CHUNKS.false, c.loop-alloc.invariant.few, c.len.ensures, c.len-in-loop-alloc.ensures, e);
+  few = omega (arith, c.loop-alloc-test.true, c.len-in-loop-alloc.ensures, c.in_ok-push.ensures.len);
 }

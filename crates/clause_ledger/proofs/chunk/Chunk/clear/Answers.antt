@@ -1,4 +1,4 @@
-use Rattle.std.proofs.Common.{◌≡◌, ◌-◌, None, true, map, set, get_or, is_some, sym, ◌∙◌, ap, subst, arith}
+use Rattle.std.proofs.Common.{◌≡◌, ◌-◌, ◌≢◌, None, true, false, map, set, get_or, is_some, sym, ◌∙◌, ap, subst, arith}
 use Rattle.std.proofs.lemmas.List.{map-set}
 use Rattle.clause_ledger.specs.declared.slot.Slot.TheVariants.{Free}
 use Rattle.clause_ledger.specs.Slots.{clause_in}
@@ -38,5 +38,10 @@ returns-else-may_shrink c =
       | else-may_shrink-via-then-may_shrink+else-self-eq0 w ↦ w.self-is ∙ written
       | else-may_shrink-via-else-may_shrink w ↦ w.self-is ∙ written
     ] in
+    let not_last : c.args.may_shrink ≡ true → clauses places - 1 ≢ 0 =
+    elim c.else-may_shrink.branch [
+      | else-may_shrink-via-then-may_shrink+else-self-eq0 w ↦ λ may last. w.if-self-eq0.false (omega (arith, last, c.self.invariant))
+      | else-may_shrink-via-else-may_shrink w ↦ λ may. let no : false ≡ true = sym w.if-may_shrink.false ∙ may in cc
+    ] in
     subst (λ (p : Places). IsCleared p c.else-may_shrink.self c.args.place c.args.may_shrink) c.self.view_is
-    (subst (λ (p : Places). IsCleared places p c.args.place c.args.may_shrink) (sym is) (IsCleared-set places c.args.place c.args.may_shrink some))
+    (subst (λ (p : Places). IsCleared places p c.args.place c.args.may_shrink) (sym is) (IsCleared-set places c.args.place c.args.may_shrink some not_last))
