@@ -1,8 +1,8 @@
 -- What stands at a place of the chunks is what is live under its number, whatever is put in or taken out.
-use Rattle.std.proofs.Common.{◌≡◌, ℕ, zero, suc, ◌+◌, ◌-◌, ◌/◌, ◌%◌, ◌<◌, ◌≤◌, ◌≢◌, Bool, true, false, cond, ℤ, List, [], ◌∷◌, ◌++◌, length, get_or, set, None, Some, inl, inr, nat_cmp, refl, sym, ◌∙◌, ap, arith, nat_lt, lt-ltb, le-ltb, eq-eqb, ne_eqb, length-append, append_assoc, append-nil}
+use Rattle.std.proofs.Common.{◌≡◌, ℕ, zero, suc, ◌+◌, ◌-◌, ◌/◌, ◌%◌, ◌<◌, ◌≤◌, ◌≢◌, Bool, true, false, cond, ℤ, List, [], ◌∷◌, ◌++◌, length, get_or, set, None, Some, inl, inr, nat_cmp, refl, sym, ◌∙◌, ap, arith, nat_lt, lt-ltb, le-ltb, eq-eqb, ne_eqb, length-append, append_assoc}
 use Rattle.std.proofs.lemmas.Bool.{cases_eq, cases_lt}
 use Rattle.std.proofs.lemmas.Cmp.{nat_cmp_total}
-use Rattle.std.proofs.lemmas.List.{get_or_past, get_or-set_same, get_or-set_other, get_or_append_left, get_or-append_right, length-set, nil_from_length}
+use Rattle.std.proofs.lemmas.List.{get_or_past, get_or-set_same, get_or-set_other, get_or_append_left, get_or-append_right, length-set}
 use Rattle.std.proofs.Math.Seq.{get_or-append_seam}
 use Rattle.std.specs.Prelude.{if◌then◌else◌, ◌==◌}
 use Rattle.std.specs.Cmp.{unsigned_tied}
@@ -229,14 +229,6 @@ AreChunks-grown before after top chunks grown few =
       few = few;
     }
 
-pub IsGrown-none : (chunks : List Places) → IsGrown chunks chunks
-IsGrown-none chunks = record {
-  more = [];
-  parts = sym (append-nil chunks);
-  whole = λ k lt. absurd (omega arith);
-  blank = λ k i. ap (λ (places : Places). get_or places i None) (get_or_past [] k [] (omega arith)) ∙ get_or_past [] i None (omega arith);
-}
-
 pub IsGrown-push : (before after : List Places) (chunk : Places) → IsGrown before after → length chunk ≡ 64 → IsBlank chunk → IsGrown before (after ++ chunk ∷ [])
 IsGrown-push before after chunk grown size blank =
     let more = grown.more in
@@ -259,15 +251,6 @@ IsGrown-push before after chunk grown size blank =
         ]
       ];
     }
-
--- nothing was put behind
-pub grown_same : (before after : List Places) → IsGrown before after → length after ≤ length before → after ≡ before
-grown_same before after grown le =
-    let none : length grown.more ≡ 0 = omega (arith, ap length grown.parts, length-append before grown.more) in
-    grown.parts ∙ ap (λ (l : List Places). before ++ l) (nil_from_length grown.more none) ∙ append-nil before
-
-pub grown_longer : (before after : List Places) → IsGrown before after → length before ≤ length after
-grown_longer before after grown = omega (arith, ap length grown.parts, length-append before grown.more)
 
 -- the next number's place is free
 pub next_is_free : (chunks : List Places) (top : ℕ) → AreChunks chunks top → place_at chunks (top + 1) ≡ None
