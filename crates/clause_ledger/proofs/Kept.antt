@@ -1,5 +1,5 @@
 -- One good line more keeps the proof, and the front of one leaves a proof that was cut short.
-use Rattle.std.proofs.Common.{◌≡◌, ℕ, ◌+◌, ◌≤◌, Bool, true, ◌&&◌, ℤ, List, [], ◌∷◌, ◌++◌, length, take, drop, Option, Some, None, inl, inr, refl, sym, ◌∙◌, ap, arith, eq-eqb}
+use Rattle.std.proofs.Common.{◌≡◌, ℕ, ◌+◌, ◌<◌, ◌≤◌, Bool, true, ◌&&◌, ℤ, List, [], ◌∷◌, ◌++◌, length, take, drop, Option, Some, None, inl, inr, refl, sym, ◌∙◌, ap, arith, eq-eqb}
 use Rattle.std.proofs.lemmas.Bool.{and_parts, and_from, or_left, or_right, lt-ltb, le-leb, ne_eqb, cases_eq}
 use Rattle.std.proofs.lemmas.List.{take-append-drop}
 use Rattle.std.specs.Prelude.{IsTrue, is_some, nat_lt, nat_le, if◌then◌else◌, ◌==◌}
@@ -17,7 +17,10 @@ use Rattle.lrat_rules.specs.Run.{step_fault, after_step}
 use Rattle.lrat_rules.specs.Derivation.{IsDerivation, IsCutProof, deletes_added, text_of}
 use Rattle.lrat_write.specs.Emitted.{bare_groups}
 use Rattle.clause_ledger.specs.Book.{IsProofOf, IsWritten-IsProofOf, with_next}
-use Rattle.clause_ledger.proofs.Rows.{AreNumbers}
+
+-- live numbers are from 1 up to the greatest
+abbrev pub AreNumbers : Live → ℕ → Type 0
+AreNumbers live top = (id : ℕ) (clause : List ℤ) → clause_at live id ≡ Some clause → (0 < id) × (id ≤ top)
 
 -- live numbers are in range
 ids_in_range : (live : Live) (top : ℕ) → AreNumbers live top → top ≤ max_id

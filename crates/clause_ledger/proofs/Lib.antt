@@ -1,2 +1,4 @@
 pub mod Kept
-pub mod Rows
+pub mod Chunks
+pub mod Counts
+pub mod Deleted

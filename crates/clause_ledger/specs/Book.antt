@@ -1,8 +1,8 @@
 -- A ledger as callers see it, and what its proof has to do with its clauses.
-use Rattle.std.specs.Prelude.{◌≡◌, ◌<◌, ◌≤◌, ◌+◌, ◌++◌, ℕ, Bool, ℤ, List, [], Some, IsTrue, length, take, slice_index_or, refl}
+use Rattle.std.specs.Prelude.{◌≡◌, ◌<◌, ◌≤◌, ◌+◌, ◌++◌, ℕ, Bool, ℤ, List, [], ◌∷◌, Some, IsTrue, length, take, slice_index_or, refl}
 use Rattle.std.specs.Coded.{Coded, code_by, coded×, coded_ℕ, coded_bool}
 use Rattle.cnf_base.specs.declared.step.Step.{Step}
-use Rattle.cnf_base.specs.declared.step.Step.TheVariants.{Add}
+use Rattle.cnf_base.specs.declared.step.Step.TheVariants.{Add, Delete}
 use Rattle.cnf_base.specs.ProofText.{line_of_step}
 use Rattle.host_io.specs.Channel.{Channel, Rose}
 use Rattle.lrat_rules.specs.State.{State, state_code, clause_at, with_clause}
@@ -59,6 +59,11 @@ next_line state clause hints = line_of_step (Add (state.top + 1) clause hints []
 -- the line of a definition under the next number
 abbrev pub definition_line : State → List ℤ → List ℕ → List ℕ
 definition_line state clause candidates = line_of_step (Add (state.top + 1) clause [] (bare_groups candidates))
+
+-- the line of a deletion, under the last number; none where nothing is deleted
+abbrev pub deletion_line : State → List ℕ → List ℕ
+deletion_line state [] = []
+deletion_line state (id ∷ ids) = line_of_step (Delete state.top (id ∷ ids))
 
 -- one clause more, under the next number
 abbrev pub with_next : State → List ℤ → State

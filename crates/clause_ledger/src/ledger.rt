@@ -5,17 +5,17 @@ ghost use Rattle.std.specs.List.{list_all};
 ghost use Rattle.cnf_base.specs.Truth.{is_literal_of};
 ghost use Rattle.cnf_base.specs.ProofText.{max_id, max_literal};
 ghost use Rattle.host_io.specs.Channel.{Rose, Flushes};
-ghost use Rattle.lrat_rules.specs.State.{start, clause_at};
+ghost use Rattle.lrat_rules.specs.State.{start, clause_at, without_clauses};
 ghost use Rattle.lrat_rules.specs.Strict.{RefutesStrictly, IsDefinition};
-ghost use Rattle.lrat_rules.specs.Derivation.{IsCutProof};
-ghost use Rattle.clause_ledger.specs.Book.{IsProofOf, OnlyWrites, IsTorn, next_line, definition_line, with_next};
+ghost use Rattle.lrat_rules.specs.Derivation.{IsCutProof, are_added};
+ghost use Rattle.clause_ledger.specs.Book.{IsProofOf, OnlyWrites, IsTorn, next_line, definition_line, deletion_line, with_next};
 
 use crate::error::LedgerError;
 use crate::live::LiveClauses;
 use cnf_base::{Cnf, Id, Lit, OutOfMemory};
 use host_io::Sink;
 use lrat_rules::{definition_law, derivation_law, live_law, start_law, strict_addition_law};
-use lrat_write::{write_add, write_define};
+use lrat_write::{write_add, write_define, write_delete};
 use std::alloc::Global;
 use std::marker::Model;
 
@@ -163,6 +163,38 @@ impl<S: Sink + Drop> Ledger<S> {
         }
     }
 
+    /// Deletes clauses that were added, by one line under the last number; an empty list writes nothing. Only
+    /// `WriteFault` may come.
+    pub fn delete(&mut self, ids: &[Id]) -> Result<(), LedgerError>
+        requires in_step { IsTrue self.old.in_step }
+        // distinct numbers of live clauses
+        requires live { IsTrue (are_added 0 self.old.state.live ids.now) }
+        ensures state { self.new.state ≡ record { live = without_clauses self.old.state.live ids.now; top = self.old.state.top } }
+        ensures line { IsTrue S.tells → OnOk result ((S.channel self.new.sink).written ≡ (S.channel self.old.sink).written ++ deletion_line self.old.state ids.now) }
+        // none of the formula's clauses may be among them
+        ensures kept { (clauses : List (List ℤ)) → IsProofOf clauses S.tells (S.channel self.old.sink) self.old.state
+            → IsTrue (are_added (length clauses) self.old.state.live ids.now) → OnOk result (IsProofOf clauses S.tells (S.channel self.new.sink) self.new.state) }
+        ensures in_step { self.new.in_step ≡ is_ok result }
+        ensures limit { self.new.limit ≡ self.old.limit }
+        ensures spare { self.new.spare ≡ self.old.spare }
+        ensures write_fault { IfErr result (λ e. (e ≡ LedgerError.WriteFault) × IsTorn S.tells (S.channel self.old.sink) (S.channel self.new.sink) (deletion_line self.old.state ids.now)) }
+        ensures cut { (clauses : List (List ℤ)) → IsProofOf clauses S.tells (S.channel self.old.sink) self.old.state → IsTrue (are_added (length clauses) self.old.state.live ids.now)
+            → IsTrue S.tells → OnErr result (IsCutProof clauses (S.channel self.new.sink).written self.old.state self.new.state) }
+        ensures unfailed { OnOk result ((S.channel self.new.sink).faults ≡ (S.channel self.old.sink).faults) }
+        ensures only_writes { OnlyWrites (S.channel self.old.sink) (S.channel self.new.sink) }
+        ensures beside { S.beside self.new.sink ≡ S.beside self.old.sink }
+    {
+        derivation_law();
+        if ids.is_empty() {
+            return Ok(());
+        }
+        remove_all(&mut self.live, ids);
+        match write_delete(&mut self.sink, Id(self.live.top()), ids) {
+            Ok(()) => Ok(()),
+            Err(_) => Err(self.fault()),
+        }
+    }
+
     /// Makes room for so many more clauses of at most four literals each: as many calls of `add` or `define` with such
     /// clauses don't answer `OutOfMemory`. Room grows in steps, so that it may be asked for before every few clauses.
     pub fn reserve(&mut self, n: usize) -> Result<(), OutOfMemory>
@@ -268,6 +300,15 @@ impl<S: Sink + Drop> Ledger<S> {
             in_step: _,
         } = self;
         sink
+    }
+}
+
+fn remove_all(live: &mut LiveClauses, ids: &[Id])
+    ensures state { live.new.state ≡ record { live = without_clauses live.old.state.live ids.now; top = live.old.state.top } }
+    ensures spare { live.new.spare ≡ live.old.spare }
+{
+    for id in ids {
+        live.remove(*id);
     }
 }
 

@@ -1,40 +1,44 @@
-// Live clauses by their numbers, which are consecutive, stored flat: one row of literals and one of the clauses'
-// ends, so that a clause costs no allocation. Place i of the ends is that of clause i + 1.
-ghost use Rattle.std.specs.Prelude.{◌≡◌, ◌+◌, ◌-◌, ◌<◌, ◌≤◌, ℕ, ℤ, List, [], None, Some, OnOk, OnErr, ◌++◌, ◌∷◌, IsTrue, length, slice_range, slice_index, vec_len, vec_capacity};
+// Live clauses by their numbers, which are consecutive, in chunks of 64: number n stands at place n % 64 of chunk n / 64,
+// and place 0 of the first chunk stays free. So a short clause costs no allocation, a look-up two steps, and a chunk
+// whose clauses are all deleted gives its memory back.
+ghost use Rattle.std.specs.Prelude.{◌≡◌, ◌+◌, ◌<◌, ◌≤◌, ℕ, ℤ, List, [], None, Some, OnOk, OnErr, IsTrue, length, set, is_some, slice_index_or};
 ghost use Rattle.std.specs.List.{list_all};
 ghost use Rattle.std.specs.Option.{option_copied};
+ghost use Rattle.std.specs.FinMap as map;
 ghost use Rattle.cnf_base.specs.Truth.{is_literal_of};
 ghost use Rattle.cnf_base.specs.ProofText.{max_literal};
-ghost use Rattle.cnf_base.specs.Formula.{start_at};
 ghost use Rattle.clause_ledger.specs.Book.{with_next};
-ghost use Rattle.clause_ledger.specs.Rows.{AreRows, Stored, spare_of};
+ghost use Rattle.clause_ledger.specs.Slots.{clause_in};
+ghost use Rattle.clause_ledger.specs.Chunks.{Places, IsCleared, IsGrown, max_chunks};
 ghost use Rattle.lrat_rules.specs.State.{start, clause_at};
 
+use crate::chunk::Chunk;
+use crate::slot::Slot;
 use cnf_base::{Id, Lit, OutOfMemory};
-use lrat_rules::start_law;
 use std::alloc::Global;
 use std::marker::Model;
+
+// Chunks enough for the numbers up to the greatest identifier.
+const MAX_CHUNKS: usize = 15_625_000_000_000_000;
 
 /// The live clauses and the greatest number.
 #[derive(Debug, Drop)]
 pub struct LiveClauses {
-    literals: Vec<Lit>,
-    ends: Vec<u64>,
+    alloc: Global,
+    chunks: Vec<Chunk>,
+    top: u64,
 }
 
 impl Model for LiveClauses {
-    ghost use Rattle.std.specs.Prelude.{length};
-    ghost use Rattle.cnf_base.specs.Formula.{cut_at};
-    ghost use Rattle.clause_ledger.specs.Rows.{AreRows, Stored, stored_code, spare_of};
-    ghost use Rattle.lrat_rules.specs.State.{start};
+    ghost use Rattle.clause_ledger.specs.Chunks.{Stored, stored_code, stored_of, AreChunks};
 
     ghost Value = { Stored };
 
     ghost coded = { stored_code };
 
-    ghost view = { λ l. record { state = start (cut_at l.literals.items 0 l.ends.items); spare = spare_of l.literals l.ends } };
+    ghost view = { λ l. stored_of l.chunks.items l.top };
 
-    ghost invariant = { λ l. AreRows (length l.literals.items) l.ends.items };
+    ghost invariant = { λ l. AreChunks l.chunks.items l.top };
 }
 
 impl LiveClauses {
@@ -42,8 +46,9 @@ impl LiveClauses {
         ensures { result.state ≡ start [] }
     {
         LiveClauses {
-            literals: Vec::new(alloc),
-            ends: Vec::new(alloc),
+            alloc,
+            chunks: Vec::new(alloc),
+            top: 0,
         }
     }
 
@@ -52,8 +57,7 @@ impl LiveClauses {
         ensures value { result ≡ self.now.state.top }
         ensures numbers { (id : ℕ) (clause : List ℤ) → clause_at self.now.state.live id ≡ Some clause → (0 < id) × (id ≤ self.now.state.top) }
     {
-        start_law();
-        self.ends.as_slice().len() as u64
+        self.top
     }
 
     /// Adds a clause under the next number. A refusal changes nothing.
@@ -64,8 +68,12 @@ impl LiveClauses {
         ensures full { OnErr result (length clause.now ≤ 4 → self.old.spare ≡ 0) }
         ensures range { OnOk result (IsTrue (list_all (is_literal_of max_literal) clause.now)) }
     {
-        start_law();
-        push_row(&mut self.literals, &mut self.ends, clause)?;
+        let slot = Slot::of(self.alloc, clause)?;
+        let number = self.top + 1;
+        let index = (number / 64) as usize;
+        grow(&mut self.chunks, self.alloc, index)?;
+        put(&mut self.chunks, index, (number % 64) as usize, slot);
+        self.top = number;
         Ok(())
     }
 
@@ -75,81 +83,79 @@ impl LiveClauses {
         ensures ok { OnOk result (clauses ≤ self.new.spare) }
         ensures spare { self.old.spare ≤ self.new.spare }
     {
-        let Some(literals) = clauses.checked_mul(4) else {
+        let Some(last) = self.top.checked_add(clauses as u64) else {
             return Err(OutOfMemory);
         };
-        self.literals.reserve(literals)?;
-        self.ends.reserve(clauses)?;
-        Ok(())
+        grow(&mut self.chunks, self.alloc, (last / 64) as usize)
+    }
+
+    /// Deletes the clause of a number, where it is live.
+    pub fn remove(&mut self, id: Id)
+        ensures state { self.new.state ≡ record { live = map.remove self.old.state.live id; top = self.old.state.top } }
+        ensures spare { self.new.spare ≡ self.old.spare }
+    {
+        let number = id.get();
+        let index = number / 64;
+        if index < self.chunks.len() as u64 {
+            let all_taken = index < (self.top + 1) / 64;
+            clear(
+                &mut self.chunks,
+                self.alloc,
+                index as usize,
+                (number % 64) as usize,
+                all_taken,
+            );
+        }
     }
 
     /// The clause of a number, where it is live.
     pub fn get(&self, id: Id) -> Option<&[Lit]>
         ensures { option_copied result ≡ clause_at self.now.state.live id }
     {
-        start_law();
-        let ends = self.ends.as_slice();
         let number = id.get();
-        if number == 0 || number > ends.len() as u64 {
-            return None;
+        match self.chunks.get((number / 64) as usize) {
+            None => None,
+            Some(chunk) => chunk.clause((number % 64) as usize),
         }
-        Some(row_at(self.literals.as_slice(), ends, number as usize - 1))
     }
 }
 
-// The room is made before the first change, so that a refusal leaves all as it was, the room for short clauses too.
-fn push_row(literals: &mut Vec<Lit>, ends: &mut Vec<u64>, clause: &[Lit]) -> Result<(), OutOfMemory>
-    ensures ok { OnOk result ((literals.new.items ≡ literals.old.items ++ clause.now) × (ends.new.items ≡ ends.old.items ++ length (literals.old.items ++ clause.now) ∷ [])) }
-    ensures spare { OnOk result (length clause.now ≤ 4 → spare_of literals.old ends.old ≤ spare_of literals.new ends.new + 1) }
-    ensures err { OnErr result ((literals.new.items ≡ literals.old.items) × (ends.new.items ≡ ends.old.items)) }
-    ensures err_spare { OnErr result (spare_of literals.new ends.new ≡ spare_of literals.old ends.old) }
-    ensures full { OnErr result (length clause.now ≤ 4 → spare_of literals.old ends.old ≡ 0) }
-    ensures range { OnOk result (IsTrue (list_all (is_literal_of max_literal) clause.now)) }
+// Makes chunks up to this one. A refusal leaves those that were made.
+fn grow(chunks: &mut Vec<Chunk>, alloc: Global, index: usize) -> Result<(), OutOfMemory>
+    requires few { length chunks.old.items ≤ max_chunks }
+    ensures grown { IsGrown chunks.old.items chunks.new.items }
+    ensures ok { OnOk result (index < length chunks.new.items) }
+    ensures err { OnErr result (length chunks.new.items ≤ index) }
+    ensures few { length chunks.new.items ≤ max_chunks }
 {
-    literals.reserve(clause.len())?;
-    ends.reserve(1)?;
-    copy(literals, clause);
-    ends.push_reserved(literals.as_slice().len() as u64);
+    if index < chunks.len() {
+        return Ok(());
+    }
+    if index >= MAX_CHUNKS {
+        return Err(OutOfMemory);
+    }
+    chunks.reserve(index + 1 - chunks.len())?;
+    while chunks.len() <= index {
+        chunks.push(Chunk::new(alloc)?)?;
+    }
     Ok(())
 }
 
-// Copies a clause into the room that is there. The type of a literal gives its range.
-fn copy(literals: &mut Vec<Lit>, clause: &[Lit])
-    requires room { vec_len literals.old + length clause.now ≤ vec_capacity literals.old }
-    ensures items { literals.new.items ≡ literals.old.items ++ clause.now }
-    ensures capacity { vec_capacity literals.new ≡ vec_capacity literals.old }
-    ensures range { IsTrue (list_all (is_literal_of max_literal) clause.now) }
+fn put(chunks: &mut Vec<Chunk>, index: usize, place: usize, slot: Slot)
+    requires index { index < length chunks.old.items }
+    requires place { place < length (slice_index_or chunks.old.items index []) }
+    requires free { slice_index_or (slice_index_or chunks.old.items index []) place None ≡ None }
+    requires clause { IsTrue (is_some (clause_in slot)) }
+    ensures { chunks.new.items ≡ set chunks.old.items index (set (slice_index_or chunks.old.items index []) place (clause_in slot)) }
 {
-    for literal in clause {
-        let _var = literal.var();
-        literals.push_reserved(*literal);
-    }
+    let chunk = &mut chunks[index];
+    chunk.put(place, slot);
 }
 
-// The clause at a place of the ends.
-fn row_at<'a>(literals: &'a [Lit], ends: &[u64], place: usize) -> &'a [Lit]
-    requires rows { AreRows (length literals.now) ends.now }
-    requires in_range { place < length ends.now }
-    ensures { result.now ≡ slice_range literals.now (start_at 0 ends.now place) (slice_index ends.now place) }
+fn clear(chunks: &mut Vec<Chunk>, alloc: Global, index: usize, place: usize, may_shrink: bool)
+    requires { index < length chunks.old.items }
+    ensures { (after : Places) × (chunks.new.items ≡ set chunks.old.items index after) × IsCleared (slice_index_or chunks.old.items index []) after place may_shrink }
 {
-    part(
-        literals,
-        start_of(ends, place) as usize,
-        ends[place] as usize,
-    )
-}
-
-fn start_of(ends: &[u64], place: usize) -> u64
-    requires { place < length ends.now }
-    ensures { result ≡ start_at 0 ends.now place }
-{
-    if place == 0 { 0 } else { ends[place - 1] }
-}
-
-fn part(literals: &[Lit], start: usize, end: usize) -> &[Lit]
-    requires order { start ≤ end }
-    requires room { end ≤ length literals.now }
-    ensures { result.now ≡ slice_range literals.now start end }
-{
-    &literals[start..end]
+    let chunk = &mut chunks[index];
+    chunk.clear(alloc, place, may_shrink);
 }

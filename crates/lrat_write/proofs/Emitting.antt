@@ -11,9 +11,9 @@ use Rattle.std.proofs.lemmas.Bool.{and_parts}
 use Rattle.std.specs.Fmt.{signed_decimal}
 use Rattle.std.specs.List.{join_with_byte, list_all}
 use Rattle.std.proofs.Math.Seq.{take-append_seam, take-append-add}
-use Rattle.cnf_base.specs.declared.step.Step.TheVariants.{Add}
+use Rattle.cnf_base.specs.declared.step.Step.TheVariants.{Add, Delete}
 use Rattle.cnf_base.specs.ProofText.{line_of_step, is_id, group_numbers}
-use Rattle.lrat_write.specs.Emitted.{Emits, literals_text, ids_text, line_text, bare_groups}
+use Rattle.lrat_write.specs.Emitted.{Emits, literals_text, ids_text, line_text, deletion_text, bare_groups}
 
 -- no answer is both
 not_both : (r : Result (Unit {0}) Failed) → IsOk r → IsErr r → ⊥
@@ -215,6 +215,22 @@ pub line_text-define : (id : ℕ) (clause : List ℤ) (candidates : List ℕ) �
     → line_text id clause (32 ∷ 45 ∷ []) candidates ≡ line_of_step (Add id clause [] (bare_groups candidates))
 line_text-define id clause candidates h =
     line_text-words id clause (32 ∷ 45 ∷ []) candidates (flat_map group_numbers (bare_groups candidates)) (candidates_text candidates h)
+
+-- four parts of a line, from the second on
+pub from_second-4 : (a b c d : List ℕ) → ((a ++ b) ++ c) ++ d ≡ a ++ (b ++ (c ++ d))
+from_second-4 a b c d = append_assoc (a ++ b) c d ∙ append_assoc a b (c ++ d)
+
+pub deletion_text-line : (id : ℕ) (ids : List ℕ) → deletion_text id ids ≡ line_of_step (Delete id ids)
+deletion_text-line id ids =
+    let zero_word : List (List ℕ) = (48 ∷ []) ∷ [] in
+    let numbers : List ℕ = ids_text (32 ∷ []) ids in
+    let words : flat_map spaced (map decimal ids ++ zero_word) ≡ numbers ++ (32 ∷ 48 ∷ []) =
+    flat_map-append spaced (map decimal ids) zero_word ∙ ap (λ (l : List ℕ). l ++ (32 ∷ 48 ∷ [])) (flat_map-map spaced decimal ids) in
+    let line : line_of_step (Delete id ids) ≡ decimal id ++ (32 ∷ 100 ∷ (numbers ++ (32 ∷ 48 ∷ 10 ∷ []))) =
+    ap (λ (l : List ℕ). l ++ 10 ∷ []) (join-spaced (decimal id) ((100 ∷ []) ∷ (map decimal ids ++ zero_word)) ∙ ap (λ (l : List ℕ). decimal id ++ (32 ∷ 100 ∷ l)) words)
+    ∙ append_assoc (decimal id) (32 ∷ 100 ∷ (numbers ++ (32 ∷ 48 ∷ []))) (10 ∷ [])
+    ∙ ap (λ (l : List ℕ). decimal id ++ (32 ∷ 100 ∷ l)) (append_assoc numbers (32 ∷ 48 ∷ []) (10 ∷ [])) in
+    from_second-4 (decimal id) (32 ∷ 100 ∷ []) numbers (32 ∷ 48 ∷ 10 ∷ []) ∙ sym line
 
 -- what was emitted of a piece, and the rest of it, written at the end
 pub written_out : {tells : Bool} {a b c : Channel} {held bytes last : List ℕ} {result : Result (Unit {0}) Failed} → Emits tells a b [] held bytes (Ok tt) → last ≡ held → WritesAll tells b c last result → WritesAll tells a c bytes result

@@ -38,6 +38,10 @@ ids_text lead ids = flat_map (led_id lead) ids
 abbrev pub line_text : ℕ → List ℤ → List ℕ → List ℕ → List ℕ
 line_text id clause lead ids = decimal id ++ literals_text clause ++ 32 ∷ 48 ∷ [] ++ ids_text lead ids ++ 32 ∷ 48 ∷ 10 ∷ []
 
+-- the parts of the line of a deletion: its number, the word `d`, the numbers, a zero and the line end
+abbrev pub deletion_text : ℕ → List ℕ → List ℕ
+deletion_text id ids = decimal id ++ 32 ∷ 100 ∷ [] ++ ids_text (32 ∷ []) ids ++ 32 ∷ 48 ∷ 10 ∷ []
+
 -- the groups of candidates that want no hints
 abbrev pub bare_groups : List ℕ → List Group
 bare_groups candidates = map (λ candidate. record { id = candidate; hints = [] }) candidates

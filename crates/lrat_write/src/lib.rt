@@ -6,4 +6,4 @@
 mod held;
 mod line;
 
-pub use line::{write_add, write_define};
+pub use line::{write_add, write_define, write_delete};

@@ -1,10 +1,10 @@
 // The line of each kind of step that the solver writes.
 ghost use Rattle.std.specs.Prelude.{◌≡◌, [], IsTrue};
 ghost use Rattle.std.specs.List.{list_all};
-ghost use Rattle.cnf_base.specs.declared.step.Step.TheVariants.{Add};
+ghost use Rattle.cnf_base.specs.declared.step.Step.TheVariants.{Add, Delete};
 ghost use Rattle.cnf_base.specs.ProofText.{line_of_step, is_id};
 ghost use Rattle.host_io.specs.Channel.{WritesAll};
-ghost use Rattle.lrat_write.specs.Emitted.{Emits, line_text, bare_groups};
+ghost use Rattle.lrat_write.specs.Emitted.{Emits, line_text, deletion_text, bare_groups};
 
 use crate::held::{Held, emit, emit_ids, emit_literals};
 use cnf_base::{Id, Lit};
@@ -34,6 +34,26 @@ pub fn write_define<S: Sink>(
     ensures beside { S.beside sink.new ≡ S.beside sink.old }
 {
     write_line(sink, id, clause, b" -", candidates)
+}
+
+/// Writes the line of a deletion: `id d id .. 0`. Where a write fails, a front of the line was written. Takes no memory.
+pub fn write_delete<S: Sink>(sink: &mut S, id: Id, ids: &[Id]) -> Result<(), Failed>
+    ensures writes { WritesAll S.tells (S.channel sink.old) (S.channel sink.new) (line_of_step (Delete id ids.now)) result }
+    ensures beside { S.beside sink.new ≡ S.beside sink.old }
+{
+    let mut rest = Held::new();
+    emit_deletion(sink, &mut rest, id, ids)?;
+    write_all(sink, rest.as_slice())
+}
+
+fn emit_deletion<S: Sink>(sink: &mut S, held: &mut Held, id: Id, ids: &[Id]) -> Result<(), Failed>
+    ensures emits { Emits S.tells (S.channel sink.old) (S.channel sink.new) held.old.items held.new.items (deletion_text id ids.now) result }
+    ensures beside { S.beside sink.new ≡ S.beside sink.old }
+{
+    emit(sink, held, Buffer::new().format(id.get()).as_bytes())?;
+    emit(sink, held, b" d")?;
+    emit_ids(sink, held, b" ", ids)?;
+    emit(sink, held, b" 0\n")
 }
 
 // Writes a line whose numbers behind the clause have the same lead.

@@ -389,6 +389,188 @@ fn reserved_room(rt: HostRuntime) -> Result<(), Fail> {
     expect_written(&rt, ledger, written)
 }
 
+// Adds a clause, with the empty clause 1 as its hint.
+fn add_by_conflict<S: Sink + Drop>(
+    rt: &impl Abort,
+    ledger: &mut Ledger<S>,
+    clause: &[Lit],
+) -> Result<Id, LedgerError>
+    requires { IsTrue ledger.old.in_step }
+    ensures { OnOk result (IsTrue ledger.new.in_step) }
+{
+    conflict_law();
+    let conflict = matches!(ledger.clause(Id(1)), Some([]));
+    assert!(rt; conflict);
+    ledger.add(clause, &[Id(1)])
+}
+
+// Deletes a clause that is live.
+fn delete_live<S: Sink + Drop>(
+    rt: &impl Abort,
+    ledger: &mut Ledger<S>,
+    id: u64,
+) -> Result<(), LedgerError>
+    requires { IsTrue ledger.old.in_step }
+    ensures { OnOk result (IsTrue ledger.new.in_step) }
+{
+    let live = ledger.clause(Id(id)).is_some();
+    assert!(rt; live && id > 0);
+    ledger.delete(&[Id(id)])
+}
+
+// Deletes two clauses that are live by one line.
+fn delete_both<S: Sink + Drop>(
+    rt: &impl Abort,
+    ledger: &mut Ledger<S>,
+    first: u64,
+    second: u64,
+) -> Result<(), LedgerError>
+    requires { IsTrue ledger.old.in_step }
+    ensures { OnOk result (IsTrue ledger.new.in_step) }
+{
+    let first_live = ledger.clause(Id(first)).is_some();
+    let second_live = ledger.clause(Id(second)).is_some();
+    assert!(rt; first_live && second_live);
+    assert!(rt; 0 < first && first < second);
+    ledger.delete(&[Id(first), Id(second)])
+}
+
+const ONE_DELETED: &str = "\
+1;Some([])
+2;Some([Lit { value: 1 }])
+3;None
+4;Some([Lit { value: 1 }, Lit { value: -2 }, Lit { value: 3 }, Lit { value: -4 }, Lit { value: 5 }])
+5;None";
+
+const ALL_DELETED: &str = "\
+1;Some([])
+2;None
+3;None
+4;None";
+
+// Three clauses under 2, 3 and 4, the last one long; then 3 goes, and then the others.
+fn expect_deletions<S: Sink + Drop>(
+    rt: &impl Abort,
+    alloc: Global,
+    ledger: &mut Ledger<S>,
+    literals: &[Lit],
+) -> Result<(), Fail>
+    requires { IsTrue ledger.old.in_step }
+{
+    assert_eq!(rt; literals.len(), 5);
+    add_by_conflict(rt, ledger, &literals[..1])?;
+    add_by_conflict(rt, ledger, &literals[..2])?;
+    add_by_conflict(rt, ledger, literals)?;
+    delete_live(rt, ledger, 3)?;
+    expect_clauses(rt, alloc, ledger, ONE_DELETED)?;
+    ledger.delete(&[])?;
+    expect_counts(rt, alloc, ledger, "4 1 true")?;
+    delete_both(rt, ledger, 2, 4)?;
+    expect_clauses(rt, alloc, ledger, ALL_DELETED)
+}
+
+/// Deleted clauses are no longer found, their neighbours are; no line is written where nothing is deleted.
+#[test]
+fn deletions(rt: HostRuntime) -> Result<(), Fail> {
+    let alloc = rt.alloc();
+    let literals = literals_in(alloc, "1 -2 3 -4 5")?;
+    let mut ledger = open_on_empty_clause(alloc, 5, 5)?;
+    expect_deletions(&rt, alloc, &mut ledger, literals.as_slice())?;
+    let written = "2 1 0 1 0\n3 1 -2 0 1 0\n4 1 -2 3 -4 5 0 1 0\n4 d 3 0\n4 d 2 4 0\n";
+    expect_written(&rt, ledger, written)
+}
+
+// Clauses of up to five literals under the next 70 numbers.
+fn add_seventy<S: Sink + Drop>(
+    rt: &impl Abort,
+    ledger: &mut Ledger<S>,
+    literals: &[Lit],
+) -> Result<(), Fail>
+    requires { IsTrue ledger.old.in_step }
+    ensures { OnOk result (IsTrue ledger.new.in_step) }
+{
+    assert_eq!(rt; literals.len(), 5);
+    for i in 0..70usize {
+        add_by_conflict(rt, ledger, &literals[..i % 6])?;
+    }
+    Ok(())
+}
+
+// Deletes the clauses from 2 to 71, each by a line.
+fn delete_seventy<S: Sink + Drop>(rt: &impl Abort, ledger: &mut Ledger<S>) -> Result<(), Fail>
+    requires { IsTrue ledger.old.in_step }
+    ensures { OnOk result (IsTrue ledger.new.in_step) }
+{
+    for id in 2..72u64 {
+        delete_live(rt, ledger, id)?;
+    }
+    Ok(())
+}
+
+// The numbers up to 142 under which no clause is live, and how many literals the others have in all.
+fn expect_live<S: Sink + Drop>(
+    rt: &impl Abort,
+    alloc: Global,
+    ledger: &Ledger<S>,
+    wanted: &str,
+) -> Result<(), Fail> {
+    let (mut missing, mut literals) = (0u64, 0u64);
+    for id in 0..143u64 {
+        match ledger.clause(Id(id)) {
+            None => missing = missing.saturating_add(1),
+            Some(clause) => literals = literals.saturating_add(clause.len() as u64),
+        }
+    }
+    assert_eq!(rt; format!(in alloc; "{missing} {literals}")?.as_str(), wanted);
+    Ok(())
+}
+
+/// All clauses of a chunk go, and more come.
+#[test]
+fn whole_chunk_deleted(rt: HostRuntime) -> Result<(), Fail> {
+    let alloc = rt.alloc();
+    let literals = literals_in(alloc, "1 -2 3 -4 5")?;
+    let mut ledger = open_on_empty_clause(alloc, 210, 141)?;
+    add_seventy(&rt, &mut ledger, literals.as_slice())?;
+    expect_live(&rt, alloc, &ledger, "72 171")?;
+    delete_seventy(&rt, &mut ledger)?;
+    expect_live(&rt, alloc, &ledger, "142 0")?;
+    add_seventy(&rt, &mut ledger, literals.as_slice())?;
+    expect_live(&rt, alloc, &ledger, "72 171")?;
+    expect_clauses(
+        &rt,
+        alloc,
+        &ledger,
+        "71;None\n72;Some([])\n73;Some([Lit { value: 1 }])\n142;None",
+    )?;
+    expect_counts(&rt, alloc, &ledger, "141 0 true")
+}
+
+// Adds a clause, and deletes it: the answer.
+fn add_and_delete<S: Sink + Drop>(
+    rt: &impl Abort,
+    alloc: Global,
+    ledger: &mut Ledger<S>,
+) -> Result<String, Fail>
+    requires { IsTrue ledger.old.in_step }
+{
+    add_by_conflict(rt, ledger, &[])?;
+    let deleted = delete_live(rt, ledger, 2);
+    Ok(format!(in alloc; "{deleted:?}")?)
+}
+
+/// A deletion whose write fails.
+#[test]
+fn failed_deletion(rt: HostRuntime) -> Result<(), Fail> {
+    let alloc = rt.alloc();
+    let mut ledger = open_on_empty_clause(alloc, 1, 2)?;
+    let answer = add_and_delete(&rt, alloc, &mut ledger)?;
+    assert_eq!(rt; answer.as_str(), "Err(WriteFault)");
+    expect_counts(&rt, alloc, &ledger, "2 0 false")?;
+    expect_clauses(&rt, alloc, &ledger, "1;Some([])\n2;None")?;
+    expect_written(&rt, ledger, "2 0 1 0\n")
+}
+
 #[test]
 fn error_texts(rt: HostRuntime) -> Result<(), Fail> {
     let (limit, memory, fault) = (

@@ -1,14 +1,10 @@
-use Rattle.std.proofs.Common.{length, sym, ◌∙◌, ap, subst}
-use Rattle.cnf_base.specs.Formula.{cut_at}
-use Rattle.cnf_base.specs.Cut.{length-cut_at}
-use Rattle.clause_ledger.specs.Rows.{Stored}
-use Rattle.clause_ledger.proofs.Rows.{AreNumbers, start_numbers}
+use Rattle.std.proofs.Common.{sym, ◌∙◌, subst}
+use Rattle.clause_ledger.specs.Chunks.{Stored}
+use Rattle.clause_ledger.proofs.Kept.{AreNumbers}
+use Rattle.clause_ledger.proofs.Chunks.{clause_at-live_of}
 use Rattle.clause_ledger.proofs.live.LiveClauses.top.Goals as goal
-
-pub returns-clause-value : goal.returns-clause-value
-returns-clause-value c = ap length c.as_slice.ensures.value ∙ sym (length-cut_at c.self.inside.literals.items 0 c.self.inside.ends.items) ∙ ap (λ (s : Stored). s.state.top) c.self.view_is
 
 pub returns-clause-numbers : goal.returns-clause-numbers
 returns-clause-numbers c =
     subst (λ (s : Stored). AreNumbers s.state.live s.state.top) c.self.view_is
-    (start_numbers c.start_law.ensures.none_at_zero c.start_law.ensures.none_above (cut_at c.self.inside.literals.items 0 c.self.inside.ends.items))
+    (λ id clause is. c.self.invariant.numbers id clause (sym (clause_at-live_of c.self.inside.chunks.items c.self.invariant.sizes id) ∙ is))
