@@ -1,5 +1,5 @@
 // What no clause of the ledger shows: that calls succeed where there is memory, the bytes of a proof, and its errors.
-ghost use Rattle.std.specs.Prelude.{◌≡◌, ◌≢◌, ◌<◌, ◌≤◌, ◌+◌, pos, negsuc, [], ◌∷◌, length, true, None, Some, IfOk, IfErr, OnOk, IsTrue};
+ghost use Rattle.std.specs.Prelude.{◌≡◌, ◌≢◌, ◌<◌, ◌≤◌, ◌+◌, pos, negsuc, [], ◌∷◌, length, true, None, Some, IfOk, IfErr, OnOk, IsTrue, is_some};
 ghost use Rattle.cnf_base.specs.ProofText.{max_id};
 ghost use Rattle.lrat_rules.specs.State.{start, clause_at};
 
@@ -418,20 +418,18 @@ fn delete_live<S: Sink + Drop>(
     ledger.delete(&[Id(id)])
 }
 
-// Deletes two clauses that are live by one line.
+// Deletes two clauses by one line.
 fn delete_both<S: Sink + Drop>(
-    rt: &impl Abort,
     ledger: &mut Ledger<S>,
     first: u64,
     second: u64,
 ) -> Result<(), LedgerError>
-    requires { IsTrue ledger.old.in_step }
+    requires in_step { IsTrue ledger.old.in_step }
+    requires first { IsTrue (is_some (clause_at ledger.old.state.live first)) }
+    requires second { IsTrue (is_some (clause_at ledger.old.state.live second)) }
+    requires order { (0 < first) × (first < second) }
     ensures { OnOk result (IsTrue ledger.new.in_step) }
 {
-    let first_live = ledger.clause(Id(first)).is_some();
-    let second_live = ledger.clause(Id(second)).is_some();
-    assert!(rt; first_live && second_live);
-    assert!(rt; 0 < first && first < second);
     ledger.delete(&[Id(first), Id(second)])
 }
 
@@ -465,7 +463,9 @@ fn expect_deletions<S: Sink + Drop>(
     expect_clauses(rt, alloc, ledger, ONE_DELETED)?;
     ledger.delete(&[])?;
     expect_counts(rt, alloc, ledger, "4 1 true")?;
-    delete_both(rt, ledger, 2, 4)?;
+    let live = ledger.clause(Id(2)).is_some() && ledger.clause(Id(4)).is_some();
+    assert!(rt; live);
+    delete_both(ledger, 2, 4)?;
     expect_clauses(rt, alloc, ledger, ALL_DELETED)
 }
 

@@ -1,0 +1,5 @@
+use Rattle.std.proofs.Common.{IsTrue}
+use Rattle.proof_tests.proofs.ledger.add_seventy.Given as goal
+
+abbrev pub invariant-loop-i : goal.invariant-loop-i
+invariant-loop-i g l = IsTrue l.ledger.in_step

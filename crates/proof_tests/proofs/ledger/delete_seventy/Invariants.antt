@@ -1,0 +1,5 @@
+use Rattle.std.proofs.Common.{IsTrue}
+use Rattle.proof_tests.proofs.ledger.delete_seventy.Given as goal
+
+abbrev pub invariant-loop-id : goal.invariant-loop-id
+invariant-loop-id g l = IsTrue l.ledger.in_step
