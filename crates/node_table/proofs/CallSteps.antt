@@ -1,5 +1,5 @@
 -- The steps of one call of a table: nothing but room, one clause more, or one node more, whole or cut short.
-use Rattle.std.proofs.Common.{◌≡◌, ◌+◌, ◌*◌, ◌≤◌, ◌<◌, ℕ, ℤ, Bool, false, List, [], Option, None, Some, refl, sym, ap, subst, arith, take}
+use Rattle.std.proofs.Common.{◌≡◌, ◌+◌, ◌*◌, ◌≤◌, ◌<◌, ℕ, ℤ, Bool, false, List, [], Option, None, Some, refl, sym, ap, subst, arith, take, append-nil}
 use Rattle.std.specs.Prelude.{IsTrue, max}
 use Rattle.host_io.specs.Channel.{Channel, Rose}
 use Rattle.lrat_rules.specs.State.{State, clause_at}
@@ -10,18 +10,19 @@ use Rattle.node_table.specs.declared.error.TableError.{TableError}
 use Rattle.node_table.specs.declared.error.TableError.TheVariants.{IdLimit, OutOfMemory, WriteFault}
 use Rattle.node_table.specs.Diagram.{Graph, IsBelow, IsNew, KeepsNodes, levels}
 use Rattle.node_table.specs.Defined.{definition_count, with_definitions}
-use Rattle.node_table.specs.Tied.{IsTied, IsOverNodes}
-use Rattle.node_table.specs.Table.{TableState, IsSound, IsSame, IsWanted, Extends, live_nodes, new_branch, node_definitions}
+use Rattle.node_table.specs.Tied.{IsTied, IsAdded, IsOverNodes}
+use Rattle.node_table.specs.Table.{TableState, IsSound, IsAddedTo, IsSame, IsWanted, Extends, live_nodes, new_branch, node_definitions}
 use Rattle.node_table.specs.Progress.{Continues, Steps}
+use Rattle.node_table.proofs.Added.{added_kept}
 use Rattle.node_table.proofs.Grown.{KeepsNodes-none}
 use Rattle.node_table.proofs.Stands.{Grows, Grows-next}
 use Rattle.node_table.proofs.Made.{made_is_tied, definitions_top, few_definitions}
 use Rattle.node_table.proofs.Justified.{justified_tied}
 use Rattle.node_table.proofs.InUseSame.{in_use_nodes}
-use Rattle.node_table.proofs.Fresh.{IsAboveAll, live_more, KeepsNodes-new}
+use Rattle.node_table.proofs.Fresh.{IsNobodys, live_more, KeepsNodes-new}
 use Rattle.node_table.proofs.Fronts.{IsCutBefore, Grows-definitions, Grows-front, Grows-rest}
 use Rattle.node_table.proofs.Progressed.{Continues-none, Extends-none}
-use Rattle.node_table.proofs.Retired.{AreRetired-none}
+use Rattle.node_table.proofs.Retired.{AreRetired-kept}
 
 -- A call that was refused: nothing changed but the room that is reserved, and a limit that is told is met.
 module _ {S : Type 0} (tells : Bool) (channel : S → Channel) where
@@ -34,8 +35,9 @@ module _ {S : Type 0} (tells : Bool) (channel : S → Channel) where
       let same = Continues-none tells (channel table.book.sink) table sound in
       let extends = Extends-none table sound in (
         record {
-          sound = record { in_step = sound.in_step; tied = sound.tied; retired = sound.retired };
+          sound = record { in_step = sound.in_step; tied = sound.tied; inputs = sound.inputs; retired = sound.retired };
           order = refl;
+          inputs = refl;
           kept = same.kept;
           max_nodes = refl;
           limit = refl;
@@ -44,7 +46,7 @@ module _ {S : Type 0} (tells : Bool) (channel : S → Channel) where
           unfailed = refl;
           writes = same.writes;
         },
-        record { nodes = extends.nodes; clauses = extends.clauses; numbers = extends.numbers; more = extends.more; retired = extends.retired },
+        record { inputs = refl; nodes = extends.nodes; clauses = extends.clauses; numbers = extends.numbers; more = extends.more; retired = extends.retired },
       )
 
   pub no_room : (old new : TableState S) → IsSound old → IsSame old new → StepsFrom old new 0 (Some OutOfMemory)
@@ -56,6 +58,12 @@ module _ {S : Type 0} (tells : Bool) (channel : S → Channel) where
   no_ids_left old new sound same met =
       let both = refused old sound new.book.spare in
       subst (λ (t : TableState S). StepsFrom old t 0 (Some IdLimit)) (sym same) (record { leaves = (both.0, met); extends = both.1; adds = omega arith })
+
+-- a clause that was added stays so in a table that has more
+pub IsAddedTo-kept : {S : Type 0} (old new : TableState S) → IsSound old → IsSound new → Extends old new → (id : ℕ) → IsAddedTo old id → IsAddedTo new id
+IsAddedTo-kept old new sound still extends id own =
+    subst (λ (inputs : ℕ). IsAdded new.graph new.book.state.live inputs id) (sym extends.inputs)
+    (added_kept old.graph new.graph old.book.state new.book.state sound.tied still.tied extends.nodes extends.clauses old.inputs id own)
 
 -- what a call of the ledger leaves as it ends well, and as a write of it fails
 pub record Wrote {S : Type 0} (tells : Bool) (before after : Channel) (old new : Book S) : Type 0 where
@@ -79,9 +87,14 @@ FewerInUse = (vars : ℕ) (few more : State) → ((id : ℕ) (clause : List ℤ)
 ≤-then : (a b c : ℕ) → a ≤ b → b ≤ c → a ≤ c
 ≤-then a b c first second = omega (arith, first, second)
 
--- a table that retires nothing
-abbrev pub table_of : {S : Type 0} → ℕ → Graph → Book S → TableState S
-table_of max_nodes graph book = record { graph = graph; book = book; max_nodes = max_nodes; retired = [] }
+-- What additions leave as it is: the greatest number of nodes, how many clauses the formula has, and what is retired.
+pub record Aside : Type 0 where
+  pub max_nodes : ℕ
+  pub inputs : ℕ
+  pub retired : List ℕ
+
+abbrev pub table_of : {S : Type 0} → Aside → Graph → Book S → TableState S
+table_of aside graph book = record { graph = graph; book = book; max_nodes = aside.max_nodes; inputs = aside.inputs; retired = aside.retired }
 
 -- More nodes and clauses, within the limits.
 pub record Grew {S : Type 0} (justified : ℕ) (graph later : Graph) (old new : Book S) : Type 0 where
@@ -90,16 +103,23 @@ pub record Grew {S : Type 0} (justified : ℕ) (graph later : Graph) (old new : 
   pub within : new.state.top ≤ max old.state.top old.limit
   pub adds : new.state.top + 4 * live_nodes graph ≤ old.state.top + 4 * live_nodes later + justified
 
-module _ {S : Type 0} (tells : Bool) (max_nodes : ℕ) (before after : Channel) (graph later : Graph) (old new : Book S) (justified : ℕ) (grew : Grew justified graph later old new) where
-  extends : Extends (table_of max_nodes graph old) (table_of max_nodes later new)
-  extends = record { nodes = grew.nodes; clauses = grew.grows.clauses; numbers = grew.grows.gives; more = []; retired = refl }
+module _ {S : Type 0} (tells : Bool) (aside : Aside) (before after : Channel) (graph later : Graph) (old new : Book S) (justified : ℕ) (grew : Grew justified graph later old new) where
+  extends : Extends (table_of aside graph old) (table_of aside later new)
+  extends = record { inputs = refl; nodes = grew.nodes; clauses = grew.grows.clauses; numbers = grew.grows.gives; more = []; retired = sym (append-nil aside.retired) }
 
-  pub went_on : Wrote tells before after old new → IsTied later new.state → Steps tells before after (table_of max_nodes graph old) (table_of max_nodes later new) justified None
-  went_on wrote tied = record {
+  pub went_on : IsSound (table_of aside graph old) → Wrote tells before after old new → IsTied later new.state
+      → Steps tells before after (table_of aside graph old) (table_of aside later new) justified None
+  went_on sound wrote tied = record {
     leaves = record {
-      sound = record { in_step = wrote.in_step; tied = tied; retired = AreRetired-none later new.state.live };
+      sound = record {
+        in_step = wrote.in_step;
+        tied = tied;
+        inputs = ≤-then aside.inputs old.state.top new.state.top sound.inputs grew.grows.gives.no_less;
+        retired = AreRetired-kept graph later old.state new.state sound.tied tied grew.nodes grew.grows.clauses aside.inputs aside.retired sound.retired;
+      };
       order = grew.nodes.order;
-      kept = wrote.kept;
+      inputs = refl;
+      kept = λ clauses few. wrote.kept clauses;
       max_nodes = refl;
       limit = wrote.limit;
       no_less = grew.grows.gives.no_less;
@@ -111,19 +131,19 @@ module _ {S : Type 0} (tells : Bool) (max_nodes : ℕ) (before after : Channel) 
     adds = grew.adds;
   }
 
-  pub broke_off : Tore tells before after old new → FewerInUse → in_use (levels graph) new.state ≤ max_nodes
-      → Steps tells before after (table_of max_nodes graph old) (table_of max_nodes later new) justified (Some WriteFault)
+  pub broke_off : Tore tells before after old new → FewerInUse → in_use (levels graph) new.state ≤ aside.max_nodes
+      → Steps tells before after (table_of aside graph old) (table_of aside later new) justified (Some WriteFault)
   broke_off tore fewer few = record {
     leaves = record {
       rose = tore.rose;
-      cut = λ clauses proof told.
+      cut = λ clauses few_clauses proof told.
           let cut = tore.cut clauses proof told in
           record {
             before = cut.0;
             cut = cut.1;
             within_before = record {
               numbers = ≤-then cut.0.top new.state.top (max old.state.top old.limit) cut.3 grew.within;
-              nodes = ≤-then (in_use (levels graph) cut.0) (in_use (levels graph) new.state) max_nodes (fewer (levels graph) cut.0 new.state cut.2) few;
+              nodes = ≤-then (in_use (levels graph) cut.0) (in_use (levels graph) new.state) aside.max_nodes (fewer (levels graph) cut.0 new.state cut.2) few;
             };
             within_after = record { numbers = grew.within; nodes = few };
           };
@@ -140,28 +160,28 @@ module _ {S : Type 0} (tells : Bool) (max_nodes : ℕ) (before after : Channel) 
   }
 
 -- A clause more over the variables of nodes.
-module _ {S : Type 0} (tells : Bool) (max_nodes : ℕ) (before after : Channel) (graph : Graph) (old new : Book S) (clause : List ℤ) (tied : IsTied graph old.state)
+module _ {S : Type 0} (tells : Bool) (aside : Aside) (before after : Channel) (graph : Graph) (old new : Book S) (clause : List ℤ) (sound : IsSound (table_of aside graph old))
     (over : IsOverNodes graph clause) (room : old.state.top < old.limit) (added : new.state ≡ with_next old.state clause) where
   one_more : Grew 1 graph graph old new
   one_more =
       let top : new.state.top ≡ old.state.top + 1 = ap (λ (s : State). s.top) added in
       record {
         nodes = KeepsNodes-none graph;
-        grows = subst (Grows old.state) (sym added) (Grows-next old.state clause tied.numbers);
+        grows = subst (Grows old.state) (sym added) (Grows-next old.state clause sound.tied.numbers);
         within = omega (arith, top, room);
         adds = omega (arith, top);
       }
 
   tied_still : IsTied graph new.state
-  tied_still = subst (IsTied graph) (sym added) (justified_tied graph old.state clause tied over)
+  tied_still = subst (IsTied graph) (sym added) (justified_tied graph old.state clause sound.tied over)
 
-  pub justified_on : Wrote tells before after old new → Steps tells before after (table_of max_nodes graph old) (table_of max_nodes graph new) 1 None
-  justified_on wrote = went_on tells max_nodes before after graph graph old new 1 one_more wrote tied_still
+  pub justified_on : Wrote tells before after old new → Steps tells before after (table_of aside graph old) (table_of aside graph new) 1 None
+  justified_on wrote = went_on tells aside before after graph graph old new 1 one_more sound wrote tied_still
 
-  pub justified_torn : Tore tells before after old new → FewerInUse → live_nodes graph ≤ max_nodes
-      → Steps tells before after (table_of max_nodes graph old) (table_of max_nodes graph new) 1 (Some WriteFault)
+  pub justified_torn : Tore tells before after old new → FewerInUse → live_nodes graph ≤ aside.max_nodes
+      → Steps tells before after (table_of aside graph old) (table_of aside graph new) 1 (Some WriteFault)
   justified_torn tore fewer few =
-      broke_off tells max_nodes before after graph graph old new 1 one_more tore fewer
+      broke_off tells aside before after graph graph old new 1 one_more tore fewer
       (let same = in_use_nodes graph new.state tied_still in omega (arith, same, few))
 
 -- a node that may be made with this variable
@@ -172,11 +192,11 @@ pub record IsAsked (graph : Graph) (state : State) (level : ℕ) (high low : Nod
   pub low_below : IsBelow graph level low
   pub wanted : IsWanted graph level high low
   pub above : levels graph < variable
-  pub own : IsAboveAll graph variable
+  pub own : IsNobodys graph variable
 
 -- A node more, by its definitions or a front of them.
-module _ {S : Type 0} (tells : Bool) (max_nodes : ℕ) (before after : Channel) (graph later : Graph) (old new : Book S) (level : ℕ) (high low : Node) (variable : ℕ)
-    (asked : IsAsked graph old.state level high low variable) (key : ℕ) (joined : IsNew graph later key (new_branch old.state level high low variable))
+module _ {S : Type 0} (tells : Bool) (aside : Aside) (before after : Channel) (graph later : Graph) (old new : Book S) (level : ℕ) (high low : Node) (variable : ℕ)
+    (sound : IsSound (table_of aside graph old)) (asked : IsAsked graph old.state level high low variable) (key : ℕ) (joined : IsNew graph later key (new_branch old.state level high low variable))
     (room : old.state.top + definition_count high low ≤ old.limit) where
   abbrev whole : State
   whole = with_definitions old.state (node_definitions graph old.state level high low variable)
@@ -201,15 +221,15 @@ module _ {S : Type 0} (tells : Bool) (max_nodes : ℕ) (before after : Channel) 
         adds = omega (arith, few, whole_top, four, nodes);
       }
 
-  pub made_on : new.state ≡ whole → Wrote tells before after old new → Steps tells before after (table_of max_nodes graph old) (table_of max_nodes later new) 0 None
+  pub made_on : new.state ≡ whole → Wrote tells before after old new → Steps tells before after (table_of aside graph old) (table_of aside later new) 0 None
   made_on is wrote =
-      went_on tells max_nodes before after graph later old new 0
+      went_on tells aside before after graph later old new 0
       (made_more (subst (Grows old.state) (sym is) (Grows-definitions old.state (node_definitions graph old.state level high low variable) asked.tied.numbers))
       (let top = ap (λ (s : State). s.top) is in omega (arith, top)))
-      wrote (subst (IsTied later) (sym is) tied_whole)
+      sound wrote (subst (IsTied later) (sym is) tied_whole)
 
   pub made_torn : (n : ℕ) → new.state ≡ with_definitions old.state (take n (node_definitions graph old.state level high low variable)) → Tore tells before after old new → FewerInUse
-      → live_nodes graph < max_nodes → Steps tells before after (table_of max_nodes graph old) (table_of max_nodes later new) 0 (Some WriteFault)
+      → live_nodes graph < aside.max_nodes → Steps tells before after (table_of aside graph old) (table_of aside later new) 0 (Some WriteFault)
   made_torn n is tore fewer few =
       let all = node_definitions graph old.state level high low variable in
       let grows : Grows old.state new.state = subst (Grows old.state) (sym is) (Grows-front old.state n all asked.tied.numbers) in
@@ -218,4 +238,4 @@ module _ {S : Type 0} (tells : Bool) (max_nodes : ℕ) (before after : Channel) 
       let used : in_use (levels graph) whole ≡ live_nodes later = subst (λ (vars : ℕ). in_use vars whole ≡ live_nodes later) same (in_use_nodes later whole tied_whole) in
       let less = fewer (levels graph) new.state whole rest.clauses in
       let nodes = live_more graph later key joined in
-      broke_off tells max_nodes before after graph later old new 0 (made_more grows rest.gives.no_less) tore fewer (omega (arith, less, used, nodes, few))
+      broke_off tells aside before after graph later old new 0 (made_more grows rest.gives.no_less) tore fewer (omega (arith, less, used, nodes, few))

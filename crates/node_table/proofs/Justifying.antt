@@ -16,7 +16,7 @@ use Rattle.node_table.specs.Table.{IsSound, live_nodes}
 use Rattle.node_table.specs.Progress.{Steps}
 use Rattle.node_table.proofs.Stands.{Grows, Grows-next}
 use Rattle.node_table.proofs.Progressed.{Steps-at_most}
-use Rattle.node_table.proofs.CallSteps.{FewerInUse, no_room, no_ids_left, justified_on, justified_torn, table_of}
+use Rattle.node_table.proofs.CallSteps.{FewerInUse, no_room, no_ids_left, justified_on, justified_torn, Aside, table_of}
 
 -- the error that the ledger's answer is told as
 abbrev pub told : Result ℕ LedgerError → Option TableError
@@ -42,16 +42,16 @@ pub record Answers {S : Type 0} (tells : Bool) (channel : S → Channel) (old ne
   pub unfailed : r ≢ Err LedgerWriteFault → (channel new.sink).faults ≡ (channel old.sink).faults
   pub only_writes : OnlyWrites (channel old.sink) (channel new.sink)
 
-module _ {S : Type 0} (tells : Bool) (channel : S → Channel) (max_nodes : ℕ) (graph : Graph) (old new : Book S) (clause : List ℤ) (line : List ℕ)
-    (sound : IsSound (table_of max_nodes graph old)) (over : IsOverNodes graph clause) (few : live_nodes graph ≤ max_nodes) (fewer : FewerInUse) where
+module _ {S : Type 0} (tells : Bool) (channel : S → Channel) (aside : Aside) (graph : Graph) (old new : Book S) (clause : List ℤ) (line : List ℕ)
+    (sound : IsSound (table_of aside graph old)) (over : IsOverNodes graph clause) (few : live_nodes graph ≤ aside.max_nodes) (fewer : FewerInUse) where
   abbrev StepsTo : Book S → Option TableError → Type 0
-  StepsTo book error = Steps tells (channel old.sink) (channel book.sink) (table_of max_nodes graph old) (table_of max_nodes graph book) 1 error
+  StepsTo book error = Steps tells (channel old.sink) (channel book.sink) (table_of aside graph old) (table_of aside graph book) 1 error
 
   -- nothing was changed
-  unchanged : (error : Option TableError) → new ≡ old → Steps tells (channel old.sink) (channel old.sink) (table_of max_nodes graph old) (table_of max_nodes graph old) 0 error → StepsTo new error
+  unchanged : (error : Option TableError) → new ≡ old → Steps tells (channel old.sink) (channel old.sink) (table_of aside graph old) (table_of aside graph old) 0 error → StepsTo new error
   unchanged error same steps =
       subst (λ (b : Book S). StepsTo b error) (sym same)
-      (Steps-at_most tells (channel old.sink) (channel old.sink) (table_of max_nodes graph old) (table_of max_nodes graph old) 0 1 error (omega arith) steps)
+      (Steps-at_most tells (channel old.sink) (channel old.sink) (table_of aside graph old) (table_of aside graph old) 0 1 error (omega arith) steps)
 
   below_limit : (r : Result ℕ LedgerError) → (IsErrOf r LedgerIdLimit ↔ (old.limit ≤ old.state.top)) → (IsErrOf r LedgerIdLimit → ⊥) → old.state.top < old.limit
   below_limit r id_limit other = elim (cases_lt old.state.top old.limit) [
@@ -61,18 +61,18 @@ module _ {S : Type 0} (tells : Bool) (channel : S → Channel) (max_nodes : ℕ)
 
   pub justify_steps : (r : Result ℕ LedgerError) → Answers tells channel old new clause line r → StepsTo new (told r)
   justify_steps (Ok id) answers =
-      justified_on tells max_nodes (channel old.sink) (channel new.sink) graph old new clause sound.tied over (below_limit (Ok id) answers.id_limit no_error) answers.added.1
+      justified_on tells aside (channel old.sink) (channel new.sink) graph old new clause sound over (below_limit (Ok id) answers.id_limit no_error) answers.added.1
       (record { in_step = answers.in_step; kept = answers.kept; limit = answers.limit; unfailed = answers.unfailed no_error; writes = answers.only_writes })
   justify_steps (Err LedgerIdLimit) answers =
       let met = answers.id_limit.0 refl in
       unchanged (told (Err LedgerIdLimit)) (answers.limit_unchanged refl)
-      (no_ids_left tells channel (table_of max_nodes graph old) (table_of max_nodes graph old) sound refl (omega (arith, met)))
+      (no_ids_left tells channel (table_of aside graph old) (table_of aside graph old) sound refl (omega (arith, met)))
   justify_steps (Err LedgerOutOfMemory) answers =
-      unchanged (told (Err LedgerOutOfMemory)) (answers.memory_unchanged refl) (no_room tells channel (table_of max_nodes graph old) (table_of max_nodes graph old) sound refl)
+      unchanged (told (Err LedgerOutOfMemory)) (answers.memory_unchanged refl) (no_room tells channel (table_of aside graph old) (table_of aside graph old) sound refl)
   justify_steps (Err LedgerWriteFault) answers =
       let state = answers.fault_state refl in
       let grows = subst (Grows old.state) (sym state) (Grows-next old.state clause sound.tied.numbers) in
-      justified_torn tells max_nodes (channel old.sink) (channel new.sink) graph old new clause sound.tied over (below_limit (Err LedgerWriteFault) answers.id_limit no_limit) state
+      justified_torn tells aside (channel old.sink) (channel new.sink) graph old new clause sound over (below_limit (Err LedgerWriteFault) answers.id_limit no_limit) state
       (record {
         rose = (answers.write_fault refl).rose;
         cut = λ clauses proof told. (old.state, answers.cut clauses proof told refl, grows.clauses, grows.gives.no_less);

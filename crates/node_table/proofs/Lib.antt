@@ -20,11 +20,15 @@ pub mod InUse
 pub mod InUseSame
 pub mod Progressed
 pub mod KeptFrom
+pub mod Added
 pub mod Retired
+pub mod Places
+pub mod Settled
 pub mod Fronts
 pub mod CallSteps
 pub mod Making
 pub mod Justifying
+pub mod Settling
 pub mod Subfunctions
 pub mod Reached
 pub mod Missing

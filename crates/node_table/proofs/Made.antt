@@ -1,6 +1,6 @@
 -- A node that was made leaves the table tied: the node is reduced and defined, and no other variable came.
 use Rattle.std.proofs.Common.{◌≡◌, ℕ, zero, suc, ◌+◌, ◌<◌, ◌≤◌, Bool, true, false, ℤ, pos, negsuc, List, [], ◌∷◌, length, Option, None, Some, is_some, refl, sym, ap, ◌∙◌, subst, arith, inl, inr}
-use Rattle.std.specs.Prelude.{nat_abs, neg_ℤ, not, slice_index_or}
+use Rattle.std.specs.Prelude.{◌≢◌, nat_abs, neg_ℤ, not, slice_index_or}
 use Rattle.cnf_base.specs.ProofText.{given_if}
 use Rattle.lrat_rules.specs.State.{State, Live, clause_at}
 use Rattle.hint_chain.specs.declared.atom.Atom.{Atom}
@@ -23,7 +23,7 @@ some_up graph u x False is = refl
 some_up graph u x True is = refl
 some_up graph u x (Inner key) is = let branch = branch_of_node graph key is in ap (λ o. is_some (clause_of (Of u ∷ Of x ∷ neg_atom (atom_in o) ∷ []))) branch.1
 
-some_down : (graph : Graph) (u x : ℤ) (node : Node) → is_node graph node ≡ true → is_some (clause_of (Of u ∷ Of x ∷ atom_of graph node ∷ [])) ≡ not (is_true_node node)
+pub some_down : (graph : Graph) (u x : ℤ) (node : Node) → is_node graph node ≡ true → is_some (clause_of (Of u ∷ Of x ∷ atom_of graph node ∷ [])) ≡ not (is_true_node node)
 some_down graph u x False is = refl
 some_down graph u x True is = refl
 some_down graph u x (Inner key) is = let branch = branch_of_node graph key is in ap (λ o. is_some (clause_of (Of u ∷ Of x ∷ atom_in o ∷ []))) branch.1
@@ -120,7 +120,7 @@ new_is_defined graph state after level high low variable high_stands low_stands 
     }
 
 pub made_is_tied : (old : Graph) (state : State) → IsTied old state → (level : ℕ) (high low : Node) → level < levels old → IsBelow old level high → IsBelow old level low → IsWanted old level high low
-    → (variable : ℕ) → levels old < variable → ((key : ℕ) (b : Branch) → branch_at old key ≡ Some b → b.variable < variable)
+    → (variable : ℕ) → levels old < variable → ((key : ℕ) (b : Branch) → branch_at old key ≡ Some b → b.variable ≢ variable)
     → (key : ℕ) → branch_at old key ≡ None
     → IsTied (with_branch old key (new_branch state level high low variable)) (with_definitions state (node_definitions old state level high low variable))
 made_is_tied old state tied level high low small high_below low_below wanted variable above own key unused =
@@ -148,7 +148,7 @@ made_is_tied old state tied level high low small high_below low_below wanted var
     let over_high : IsOverAtom new (atom_of old high) = subst (IsOverAtom new) (atom_of-kept old new keeps high high_below.stands) (over_node new high (is_node-kept old new keeps high high_below.stands)) in
     let over_low : IsOverAtom new (atom_of old low) = subst (IsOverAtom new) (atom_of-kept old new keeps low low_below.stands) (over_node new low (is_node-kept old new keeps low low_below.stands)) in
     record {
-      reduced = IsReduced-joined old tied.reduced key branch unused fits above (λ other b is same. omega (arith, own other b is, same));
+      reduced = IsReduced-joined old tied.reduced key branch unused fits above own;
       ordered = tied.ordered;
       defined = λ other b is. elim (joined_cases old key branch other b is) [
         | inl here ↦ subst (IsDefined after.live new) (sym here.1)

@@ -17,17 +17,20 @@ use Rattle.node_table.specs.Errors.{table_error}
 use Rattle.node_table.specs.Diagram.{Graph, IsBelow, IsNew, branch_at, levels}
 use Rattle.node_table.specs.Defined.{Definition, definition_count, definition_lines, definitions, with_definitions}
 use Rattle.node_table.specs.Made.{inner}
-use Rattle.node_table.specs.Tied.{IsTied}
-use Rattle.node_table.specs.Table.{TableState, IsWanted, IsFree, IsMade, HasChildren, live_nodes, new_branch, node_definitions}
+use Rattle.node_table.specs.Tied.{IsTied, IsAdded}
+use Rattle.node_table.specs.Table.{TableState, IsSound, IsWanted, IsFree, IsMade, HasChildren, live_nodes, new_branch, node_definitions}
 use Rattle.node_table.specs.Progress.{Steps, error_of}
-use Rattle.node_table.proofs.Fresh.{IsAboveAll, unused}
-use Rattle.node_table.proofs.Fronts.{IsHanded, definitions_handed}
+use Rattle.node_table.proofs.Added.{added_before}
+use Rattle.node_table.proofs.Fresh.{IsNobodys, unused}
+use Rattle.node_table.proofs.Fronts.{IsHanded, Grows-definitions, definitions_handed}
+use Rattle.node_table.proofs.Made.{definitions_top}
+use Rattle.node_table.proofs.Stands.{Grows}
 use Rattle.node_table.proofs.Outcome.{new_only}
-use Rattle.node_table.proofs.CallSteps.{IsAsked, FewerInUse, Tore, Wrote, made_on, made_torn, table_of}
+use Rattle.node_table.proofs.CallSteps.{IsAsked, FewerInUse, Tore, Wrote, made_on, made_torn, Aside, table_of}
 
 -- what was required of the table holds of its parts
 pub asked_at : {S : Type 0} {table inside : TableState S} {level : ℕ} {high low : Node} (variable : ℕ) → inside ≡ table → IsTied table.graph table.book.state → level < levels table.graph
-    → IsBelow table.graph level high → IsBelow table.graph level low → IsWanted table.graph level high low → levels inside.graph < variable → IsAboveAll inside.graph variable
+    → IsBelow table.graph level high → IsBelow table.graph level low → IsWanted table.graph level high low → levels inside.graph < variable → IsNobodys inside.graph variable
     → IsAsked inside.graph inside.book.state level high low variable
 asked_at {S} {table} {inside} {level} {high} {low} variable same tied small high_below low_below wanted above own = record {
   tied = subst (λ (t : TableState S). IsTied t.graph t.book.state) (sym same) tied;
@@ -40,12 +43,10 @@ asked_at {S} {table} {inside} {level} {high} {low} variable same tied small high
 }
 
 -- the branch that joined
-pub joined_as : {graph later : Graph} {key : ℕ} (state : State) {level variable number first : ℕ} {high low : Node} → number ≡ variable → first ≡ state.top
-    → IsNew graph later key (record { level = level; variable = number; high = high; low = low; first = first + 1 }) → IsNew graph later key (new_branch state level high low variable)
-joined_as {graph} {later} {key} state {level} {variable} {number} {first} {high} {low} same_number same_first joined =
-    let same : ◌≡◌ {A = Branch} (record { level = level; variable = number; high = high; low = low; first = first + 1 }) (new_branch state level high low variable) =
-    (λ i. record { level = level; variable = same_number i; high = high; low = low; first = same_first i + 1 }) in
-    subst (IsNew graph later key) same joined
+pub joined_as : {graph later : Graph} {key : ℕ} (state : State) {level variable first : ℕ} {high low : Node} → first ≡ state.top
+    → IsNew graph later key (record { level = level; variable = variable; high = high; low = low; first = first + 1 }) → IsNew graph later key (new_branch state level high low variable)
+joined_as {graph} {later} {key} state {level} {variable} {first} {high} {low} same joined =
+    subst (λ (n : ℕ). IsNew graph later key (record { level = level; variable = variable; high = high; low = low; first = n + 1 })) same joined
 
 -- there is at least one definition, so that the numbers left are those below the limit
 pub enough : (high low : Node) (top limit : ℕ) → definition_count high low ≤ limit - top → top + definition_count high low ≤ limit
@@ -64,16 +65,17 @@ pub told_torn : {T : Type 0} (r : Result T TableError) (e : LedgerError) → IsE
 told_torn (Ok x) e is because = absurd is
 told_torn (Err t) e is because = ap Some (sym (is ∙ ap table_error because))
 
-pub record Making {S : Type 0} (graph later : Graph) (book ready : Book S) (max_nodes level : ℕ) (high low : Node) (key : NodeKey) (variable : ℕ) (u x : ℤ) (high_atom low_atom : Atom) : Type 0 where
+pub record Making {S : Type 0} (graph later : Graph) (book ready : Book S) (aside : Aside) (level : ℕ) (high low : Node) (key : NodeKey) (variable : ℕ) (u x : ℤ) (high_atom low_atom : Atom) : Type 0 where
+  pub sound : IsSound (table_of aside graph book)
   pub asked : IsAsked graph book.state level high low variable
   pub joined : IsNew graph later key.index (new_branch book.state level high low variable)
   pub room : book.state.top + definition_count high low ≤ book.limit
-  pub few : live_nodes graph < max_nodes
+  pub few : live_nodes graph < aside.max_nodes
   pub reserved : ready ≡ record book { spare = ready.spare }
   pub handed : IsHanded graph book.state ready.state level high low variable u x high_atom low_atom
 
-module _ {S : Type 0} (tells : Bool) (channel : S → Channel) {graph later : Graph} {book ready : Book S} {max_nodes level : ℕ} {high low : Node} {key : NodeKey} {variable : ℕ} {u x : ℤ}
-    {high_atom low_atom : Atom} (making : Making graph later book ready max_nodes level high low key variable u x high_atom low_atom) (new : Book S) where
+module _ {S : Type 0} (tells : Bool) (channel : S → Channel) {graph later : Graph} {book ready : Book S} {aside : Aside} {level : ℕ} {high low : Node} {key : NodeKey} {variable : ℕ} {u x : ℤ}
+    {high_atom low_atom : Atom} (making : Making graph later book ready aside level high low key variable u x high_atom low_atom) (new : Book S) where
   abbrev handed_over : List Definition
   handed_over = definitions u x high_atom low_atom (ready.state.top + 1)
 
@@ -81,10 +83,10 @@ module _ {S : Type 0} (tells : Bool) (channel : S → Channel) {graph later : Gr
   asked_for = node_definitions graph book.state level high low variable
 
   abbrev old_table : TableState S
-  old_table = table_of max_nodes graph book
+  old_table = table_of aside graph book
 
   abbrev new_table : TableState S
-  new_table = table_of max_nodes later new
+  new_table = table_of aside later new
 
   -- the room that was reserved changes nothing else
   wrote_from : Wrote tells (channel ready.sink) (channel new.sink) ready new → Wrote tells (channel book.sink) (channel new.sink) book new
@@ -112,13 +114,22 @@ module _ {S : Type 0} (tells : Bool) (channel : S → Channel) {graph later : Gr
   pub making_on : new.state ≡ with_definitions ready.state handed_over → Wrote tells (channel ready.sink) (channel new.sink) ready new
       → Steps tells (channel book.sink) (channel new.sink) old_table new_table 0 None
   making_on is wrote =
-      made_on tells max_nodes (channel book.sink) (channel new.sink) graph later book new level high low variable making.asked key.index making.joined making.room (written is) (wrote_from wrote)
+      made_on tells aside (channel book.sink) (channel new.sink) graph later book new level high low variable making.sound making.asked key.index making.joined making.room (written is) (wrote_from wrote)
 
   pub making_torn : (n : ℕ) × (new.state ≡ with_definitions ready.state (take n handed_over)) → Tore tells (channel ready.sink) (channel new.sink) ready new → FewerInUse
       → Steps tells (channel book.sink) (channel new.sink) old_table new_table 0 (Some WriteFault)
   making_torn front tore fewer =
-      made_torn tells max_nodes (channel book.sink) (channel new.sink) graph later book new level high low variable making.asked key.index making.joined making.room front.0
+      made_torn tells aside (channel book.sink) (channel new.sink) graph later book new level high low variable making.sound making.asked key.index making.joined making.room front.0
       (front.1 ∙ (λ i. with_definitions (making.handed.still i) (take front.0 (definitions_handed making.handed i)))) (tore_from tore) fewer making.few
+
+  -- no clause beside the definitions was added
+  pub making_before : new.state ≡ with_definitions ready.state handed_over → (inputs id : ℕ) → IsAdded later new.state.live inputs id → IsAdded graph book.state.live inputs id
+  making_before is =
+      let now = written is in
+      let grows : Grows book.state new.state = subst (Grows book.state) (sym now) (Grows-definitions book.state asked_for making.asked.tied.numbers) in
+      let top : new.state.top ≡ book.state.top + definition_count high low =
+      ap (λ (s : State). s.top) now ∙ definitions_top graph book.state level high low variable making.asked.high_below.stands making.asked.low_below.stands in
+      added_before graph later key.index level variable high low book.state new.state making.joined grows.gives grows.numbers top
 
   pub making_only : (other : ℕ) (b : Branch) → branch_at later other ≡ Some b → (branch_at graph other ≡ Some b) ⊎ HasChildren later level high low (inner other)
   making_only = new_only graph later key.index (new_branch book.state level high low variable) making.joined

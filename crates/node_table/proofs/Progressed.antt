@@ -53,6 +53,7 @@ GivesNumbers-further one two three keeps first second = record {
 module _ {S : Type 0} where
   pub Extends-further : (old mid new : TableState S) → Extends old mid → Extends mid new → Extends old new
   Extends-further old mid new first second = record {
+    inputs = second.inputs ∙ first.inputs;
     nodes = KeepsNodes-further old.graph mid.graph new.graph first.nodes second.nodes;
     clauses = λ id clause is. second.clauses id clause (first.clauses id clause is);
     numbers = GivesNumbers-further old.book.state mid.book.state new.book.state second.clauses first.numbers second.numbers;
@@ -64,6 +65,7 @@ module _ {S : Type 0} where
   Extends-none table sound =
       let grows = Grows-none table.book.state sound.tied.numbers in
       record {
+        inputs = refl;
         nodes = KeepsNodes-none table.graph;
         clauses = grows.clauses;
         numbers = grows.gives;
@@ -82,12 +84,16 @@ module _ {S : Type 0} where
   limit_further : (old mid : TableState S) → mid.book.limit ≡ old.book.limit → mid.book.state.top ≤ number_limit old → number_limit mid ≤ number_limit old
   limit_further old mid same within = omega (arith, same, within)
 
+  still_inputs : (old mid : TableState S) → mid.inputs ≡ old.inputs → (count : ℕ) → count ≤ old.inputs → count ≤ mid.inputs
+  still_inputs old mid same count few = omega (arith, same, few)
+
   module _ (tells : Bool) where
     pub Continues-none : (channel : Channel) (table : TableState S) → IsSound table → Continues tells channel channel table table
     Continues-none channel table sound = record {
       sound = sound;
       order = refl;
-      kept = λ clauses is. is;
+      inputs = refl;
+      kept = λ clauses few is. is;
       max_nodes = refl;
       limit = refl;
       no_less = omega arith;
@@ -103,7 +109,8 @@ module _ {S : Type 0} where
         record {
           sound = after.sound;
           order = after.order ∙ before.order;
-          kept = λ clauses is. after.kept clauses (before.kept clauses is);
+          inputs = after.inputs ∙ before.inputs;
+          kept = λ clauses few is. after.kept clauses (still_inputs old mid before.inputs (length clauses) few) (before.kept clauses few is);
           max_nodes = after.max_nodes ∙ before.max_nodes;
           limit = after.limit ∙ before.limit;
           no_less = omega (arith, before.no_less, after.no_less);
@@ -118,8 +125,8 @@ module _ {S : Type 0} where
         let within = limit_further old mid before.limit before.numbers in
         record {
           rose = omega (arith, before.writes.faults, after.rose);
-          cut = λ clauses is told.
-              let cut = after.cut clauses (before.kept clauses is) told in
+          cut = λ clauses few is told.
+              let cut = after.cut clauses (still_inputs old mid before.inputs (length clauses) few) (before.kept clauses few is) told in
               record {
                 before = cut.before;
                 cut = cut.cut;

@@ -32,7 +32,7 @@ pub record Grows (old new : State) : Type 0 where
 clause_at-next : (state : State) (clause : List ℤ) (id : ℕ) → clause_at (with_next state clause).live id ≡ cond (id == state.top + 1) (Some clause) (clause_at state.live id)
 clause_at-next state clause id = map.get-insert nat_cmp_total state.live (state.top + 1) clause id ∙ ap (λ b. cond b (Some clause) (clause_at state.live id)) (unsigned_tied id (state.top + 1))
 
-at_next : (state : State) (clause : List ℤ) → clause_at (with_next state clause).live (state.top + 1) ≡ Some clause
+pub at_next : (state : State) (clause : List ℤ) → clause_at (with_next state clause).live (state.top + 1) ≡ Some clause
 at_next state clause = clause_at-next state clause (state.top + 1) ∙ ap (λ b. cond b (Some clause) (clause_at state.live (state.top + 1))) (eq-eqb (state.top + 1) (state.top + 1) refl)
 
 at_other : (state : State) (clause : List ℤ) (id : ℕ) → (id ≡ state.top + 1 → ⊥) → clause_at (with_next state clause).live id ≡ clause_at state.live id

@@ -12,7 +12,7 @@ use Rattle.node_table.specs.Value.{Levels, value_of, fixed_to, IsSubfunction}
 use Rattle.node_table.specs.Defined.{atom_of}
 use Rattle.node_table.specs.Tied.{KeepsClauses}
 use Rattle.node_table.specs.Just.{IsJustified}
-use Rattle.node_table.specs.Table.{TableState, IsSound, Extends, IsWanted}
+use Rattle.node_table.specs.Table.{TableState, IsSound, IsAddedTo, Extends, IsWanted}
 use Rattle.node_table.specs.Progress.{Continues, Steps}
 use Rattle.node_table.specs.Made.{KeepsFrom, MakesOnly, Reaches, ReachesNew}
 
@@ -84,7 +84,8 @@ pub record Reachability : Type 0 where
       → IsTrue (is_node one high) → IsTrue (is_node two low) → ReachesNew old one high → ReachesNew one two low → ReachesNew two new root
       → Reaches new root high → Reaches new root low → ReachesNew old new root
 
--- The steps of an operation: none, with or without memory; those of one call after another; and with room for more.
+-- The steps of an operation: none, with or without memory; those of one call after another; and with room for more. Clauses
+-- that were added beside definitions stay so.
 pub record StepByStep {S : Type 0} (tells : Bool) (channel : S → Channel) : Type 0 where
   pub none : (table : TableState S) → IsSound table → Steps tells (channel table.book.sink) (channel table.book.sink) table table 0 None
   pub no_memory : (table : TableState S) → IsSound table → Steps tells (channel table.book.sink) (channel table.book.sink) table table 0 (Some OutOfMemory)
@@ -95,3 +96,4 @@ pub record StepByStep {S : Type 0} (tells : Bool) (channel : S → Channel) : Ty
   pub go_on : (first second third : Channel) (old mid new : TableState S) → Continues tells first second old mid → Continues tells second third mid new
       → Continues tells first third old new
   pub extend : (old mid new : TableState S) → Extends old mid → Extends mid new → Extends old new
+  pub added : (old new : TableState S) → IsSound old → IsSound new → Extends old new → (id : ℕ) → IsAddedTo old id → IsAddedTo new id

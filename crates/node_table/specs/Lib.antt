@@ -5,6 +5,7 @@ pub mod Defined
 pub mod Tied
 pub mod Errors
 pub mod Table
+pub mod Places
 pub mod Just
 pub mod Progress
 pub mod Made

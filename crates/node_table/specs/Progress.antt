@@ -1,5 +1,5 @@
 -- What a call that may make nodes and clauses leaves, as it ends in step with the proof or breaks off.
-use Rattle.std.specs.Prelude.{◌≡◌, ◌≤◌, ◌<◌, ◌+◌, ℕ, max, Bool, false, ℤ, List, Option, None, Some, Result, Ok, Err, IsTrue}
+use Rattle.std.specs.Prelude.{◌≡◌, ◌≤◌, ◌<◌, ◌+◌, ℕ, max, Bool, false, ℤ, List, Option, None, Some, Result, Ok, Err, IsTrue, length}
 use Rattle.host_io.specs.Channel.{Channel, Rose}
 use Rattle.lrat_rules.specs.State.{State}
 use Rattle.lrat_rules.specs.Derivation.{IsCutProof}
@@ -14,12 +14,13 @@ use Rattle.node_table.specs.Table.{TableState, IsSound, Extends, AddsAtMost, liv
 abbrev pub number_limit : {S : Type 0} → TableState S → ℕ
 number_limit table = max table.book.state.top table.book.limit
 
--- The table is sound, over the same variables and within the same limits; the sink's bytes are still a proof of what is
--- live, and no write failed.
+-- The table is sound, over the same variables and formula and within the same limits; the sink's bytes are still a proof of
+-- what is live, from the formula's clauses, and no write failed.
 pub record Continues {S : Type 0} (tells : Bool) (before after : Channel) (old new : TableState S) : Type 0 where
   pub sound : IsSound new
   pub order : new.graph.order ≡ old.graph.order
-  pub kept : (clauses : List (List ℤ)) → IsProofOf clauses tells before old.book.state → IsProofOf clauses tells after new.book.state
+  pub inputs : new.inputs ≡ old.inputs
+  pub kept : (clauses : List (List ℤ)) → length clauses ≤ old.inputs → IsProofOf clauses tells before old.book.state → IsProofOf clauses tells after new.book.state
   pub max_nodes : new.max_nodes ≡ old.max_nodes
   pub limit : new.book.limit ≡ old.book.limit
   pub no_less : old.book.state.top ≤ new.book.state.top
@@ -38,7 +39,7 @@ pub record IsCutWithin (clauses : List (List ℤ)) (bytes : List ℕ) (vars max_
 -- is out of step, over the same variables and within the same limits.
 pub record BreaksOff {S : Type 0} (tells : Bool) (before after : Channel) (old new : TableState S) : Type 0 where
   pub rose : Rose before.faults after.faults
-  pub cut : (clauses : List (List ℤ)) → IsProofOf clauses tells before old.book.state → IsTrue tells
+  pub cut : (clauses : List (List ℤ)) → length clauses ≤ old.inputs → IsProofOf clauses tells before old.book.state → IsTrue tells
       → IsCutWithin clauses after.written (levels old.graph) (number_limit old) old.max_nodes new.book.state
   pub out_of_step : new.book.in_step ≡ false
   pub order : new.graph.order ≡ old.graph.order

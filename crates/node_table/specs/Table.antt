@@ -2,7 +2,7 @@
 use Rattle.std.specs.Prelude.{◌≡◌, ◌≢◌, ℕ, ◌<◌, ◌≤◌, ◌+◌, ◌*◌, ◌++◌, pos, List, Some, Result, Err, IsTrue, refl}
 use Rattle.std.specs.Coded.{Coded, code_by, coded×, coded_ℕ, coded_list}
 use Rattle.std.specs.FinMap as map
-use Rattle.lrat_rules.specs.State.{State, Live}
+use Rattle.lrat_rules.specs.State.{State, Live, without_clauses}
 use Rattle.clause_ledger.specs.Book.{Book, book_code}
 use Rattle.node_table.specs.declared.node.Node.{Node}
 use Rattle.node_table.specs.declared.node.Node.TheVariants.{Inner}
@@ -12,32 +12,40 @@ use Rattle.node_table.specs.declared.error.TableError.{TableError}
 use Rattle.node_table.specs.declared.error.TableError.TheVariants.{WriteFault}
 use Rattle.node_table.specs.Diagram.{Graph, graph_code, IsNew, KeepsNodes, branch_at, is_node, levels, level_of, high_at, low_at, variable_at}
 use Rattle.node_table.specs.Defined.{Definition, IsUnused, atom_of, definitions, with_definitions}
-use Rattle.node_table.specs.Tied.{IsTied, AreRetired, GivesNumbers, KeepsClauses}
+use Rattle.node_table.specs.Tied.{IsTied, IsAdded, AreRetired, GivesNumbers, KeepsClauses}
 
 -- how many inner nodes are live
 abbrev pub live_nodes : Graph → ℕ
 live_nodes graph = map.len graph.nodes
 
--- its nodes, its ledger, the greatest number of inner nodes, and the retired clauses, which are to be deleted
+-- its nodes, its ledger, the greatest number of inner nodes, how many clauses the formula has, and the retired clauses,
+-- which are to be deleted
 pub record TableState (S : Type 0) : Type 0 where
   pub graph : Graph
   pub book : Book S
   pub max_nodes : ℕ
+  pub inputs : ℕ
   pub retired : List ℕ
 
 abbrev pub table_code : {S : Type 0} → Coded S → Coded (TableState S)
 table_code {S} code =
-    code_by (Graph × (Book S × (ℕ × List ℕ))) (coded× graph_code (coded× (book_code code) (coded× coded_ℕ (coded_list coded_ℕ)))) (λ t. (t.graph, (t.book, (t.max_nodes, t.retired))))
-    (λ p. record { graph = p.0; book = p.1.0; max_nodes = p.1.1.0; retired = p.1.1.1 }) (λ _. refl)
+    code_by (Graph × (Book S × (ℕ × (ℕ × List ℕ)))) (coded× graph_code (coded× (book_code code) (coded× coded_ℕ (coded× coded_ℕ (coded_list coded_ℕ)))))
+    (λ t. (t.graph, (t.book, (t.max_nodes, (t.inputs, t.retired))))) (λ p. record { graph = p.0; book = p.1.0; max_nodes = p.1.1.0; inputs = p.1.1.1.0; retired = p.1.1.1.1 }) (λ _. refl)
+
+-- a clause of a table that was added beside the formula's and the definitions of nodes
+abbrev pub IsAddedTo : {S : Type 0} → TableState S → ℕ → Type 0
+IsAddedTo table id = IsAdded table.graph table.book.state.live table.inputs id
 
 -- Sound: in step with its proof, its nodes tied to live clauses, and what is retired may be deleted.
 pub record IsSound {S : Type 0} (table : TableState S) : Type 0 where
   pub in_step : IsTrue table.book.in_step
   pub tied : IsTied table.graph table.book.state
-  pub retired : AreRetired table.graph table.book.state.live table.retired
+  pub inputs : table.inputs ≤ table.book.state.top
+  pub retired : AreRetired table.graph table.book.state.live table.inputs table.retired
 
 -- Nodes and live clauses stay, new clauses come under the next numbers, and retired ones stay retired.
 pub record Extends {S : Type 0} (old new : TableState S) : Type 0 where
+  pub inputs : new.inputs ≡ old.inputs
   pub nodes : KeepsNodes old.graph new.graph
   pub clauses : KeepsClauses old.book.state.live new.book.state.live
   pub numbers : GivesNumbers old.book.state new.book.state
@@ -84,6 +92,10 @@ pub record IsMade {S : Type 0} (old new : TableState S) (level : ℕ) (high low 
   pub named : node ≡ Inner key
   pub joined : IsNew old.graph new.graph key.index (new_branch old.book.state level high low variable)
   pub defined : new.book.state ≡ with_definitions old.book.state (node_definitions old.graph old.book.state level high low variable)
+
+-- its state without the retired clauses
+abbrev pub without_retired : {S : Type 0} → TableState S → State
+without_retired table = record { live = without_clauses table.book.state.live table.retired; top = table.book.state.top }
 
 -- nothing changed but for the room that is reserved
 abbrev pub IsSame : {S : Type 0} → TableState S → TableState S → Type 0

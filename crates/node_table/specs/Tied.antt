@@ -1,7 +1,7 @@
 -- What nodes and live clauses have to do with each other. (Bryant, Heule: Generating Extended Resolution Proofs with a
 -- BDD-Based SAT Solver, 2021, section 4.)
-use Rattle.std.specs.Prelude.{◌≡◌, ◌⊎◌, ℕ, ◌<◌, ◌≤◌, ℤ, nat_abs, List, Some, Contains, IsTrue, IsFalse, is_some, length, slice_index_or}
-use Rattle.std.specs.List.{list_any}
+use Rattle.std.specs.Prelude.{◌≡◌, ◌⊎◌, ℕ, ◌<◌, ◌≤◌, ℤ, nat_abs, nat_eq, List, Some, Contains, IsTrue, IsFalse, is_some}
+use Rattle.std.specs.List.{list_any, IsDistinct}
 use Rattle.std.specs.Ordering.{int_eq}
 use Rattle.lrat_rules.specs.State.{State, Live, clause_at}
 use Rattle.node_table.specs.declared.node.Branch.{Branch}
@@ -38,8 +38,14 @@ pub record GivesNumbers (old new : State) : Type 0 where
   pub next : (id : ℕ) → IsTrue (is_some (clause_at new.live id)) → IsTrue (is_some (clause_at old.live id)) ⊎ (old.top < id)
   pub each : (id : ℕ) → old.top < id → id ≤ new.top → IsTrue (is_some (clause_at new.live id))
 
--- Retired clauses are live, each once, and none of them defines a node.
-pub record AreRetired (graph : Graph) (live : Live) (retired : List ℕ) : Type 0 where
-  pub stand : (id : ℕ) → Contains retired id → IsTrue (is_some (clause_at live id))
-  pub justified : (id key : ℕ) (branch : Branch) → Contains retired id → branch_at graph key ≡ Some branch → IsFalse (is_defined_by (defs_of branch) id)
-  pub once : (first second : ℕ) → first < length retired → second < length retired → slice_index_or retired first 0 ≡ slice_index_or retired second 0 → first ≡ second
+-- A clause that was added beside the definitions of nodes, over a formula of so many clauses: it is live, its number is
+-- above those of the formula, and it defines no node.
+pub record IsAdded (graph : Graph) (live : Live) (inputs id : ℕ) : Type 0 where
+  pub stands : IsTrue (is_some (clause_at live id))
+  pub above : inputs < id
+  pub defines_none : (key : ℕ) (branch : Branch) → branch_at graph key ≡ Some branch → IsFalse (is_defined_by (defs_of branch) id)
+
+-- Retired clauses were added, each once.
+pub record AreRetired (graph : Graph) (live : Live) (inputs : ℕ) (retired : List ℕ) : Type 0 where
+  pub each : (id : ℕ) → Contains retired id → IsAdded graph live inputs id
+  pub once : IsDistinct nat_eq retired

@@ -10,6 +10,7 @@ ghost use Rattle.node_table.specs.Value.{value_of, by_level, IsChosen};
 ghost use Rattle.node_table.specs.Stored.{graph_of, ArePlaces, next_variable};
 ghost use Rattle.node_table.specs.Defined.{atom_of, atom_in};
 ghost use Rattle.node_table.specs.declared.node.Branch.{Branch as BranchValue};
+ghost use Rattle.node_table.specs.Table.{IsWanted};
 
 use crate::node::{Branch, Node, NodeKey};
 use cnf_base::{Lit, OutOfMemory};
@@ -166,18 +167,23 @@ impl Diagram {
         None
     }
 
-    /// One node more, which no other is alike. A refusal changes nothing.
-    pub fn push(&mut self, branch: Branch) -> Result<NodeKey, OutOfMemory>
+    /// One node more, which no other is alike, with an extension variable of its own. A refusal changes nothing.
+    pub fn push(&mut self, level: u32, high: Node, low: Node, first: u64) -> Result<(NodeKey, u32), OutOfMemory>
+        requires level { level < levels self.old }
+        requires high { IsBelow self.old level high }
+        requires low { IsBelow self.old level low }
+        requires wanted { IsWanted self.old level high low }
         requires few { map.len self.old.nodes < 100000000 }
-        requires fits { FitsIn self.old branch }
-        requires next { branch.variable ≡ next_variable self.old }
-        requires first { branch.first ≤ max_id + 1 }
-        ensures ok { IfOk result (λ key. IsNew self.old self.new key.index branch) }
+        requires first { first ≤ max_id + 1 }
+        ensures ok { IfOk result (λ made. IsNew self.old self.new made.0.index (record { level = level; variable = made.1; high = high; low = low; first = first })) }
+        ensures range { IfOk result (λ made. (levels self.old < made.1) × (made.1 ≤ 101000000)) }
+        ensures own { IfOk result (λ made. (key : ℕ) (branch : BranchValue) → branch_at self.old key ≡ Some branch → branch.variable ≢ made.1) }
         ensures err { OnErr result (self.new ≡ self.old) }
     {
         let index = self.branches.as_slice().len() as u32;
-        self.branches.push(branch)?;
-        Ok(NodeKey { index })
+        let variable = self.next_variable();
+        self.branches.push(Branch { level, variable, high, low, first })?;
+        Ok((NodeKey { index }, variable))
     }
 
     /// The function of a node under an assignment of all variables.

@@ -60,7 +60,7 @@ pub fn reach_law()
 pub fn opening_law()
     ensures tied { (order : List ℕ) (clauses : List (List ℤ)) → IsOrder order → AreClausesOf (length order) clauses
         → IsTied (record { order = order; nodes = map.empty }) (start clauses) }
-    ensures retired { (order : List ℕ) (clauses : List (List ℤ)) → AreRetired (record { order = order; nodes = map.empty }) (start clauses).live [] }
+    ensures retired { (order : List ℕ) (clauses : List (List ℤ)) (inputs : ℕ) → AreRetired (record { order = order; nodes = map.empty }) (start clauses).live inputs [] }
 {
     start_law();
 }

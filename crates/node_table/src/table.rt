@@ -1,12 +1,12 @@
 // The unique table: nodes with their extension variables and defining clauses on the proof. (Bryant, 1986; Bryant,
 // Heule: Generating Extended Resolution Proofs with a BDD-Based SAT Solver, 2021.)
-ghost use Rattle.std.specs.Prelude.{◌≡◌, ◌≢◌, ◌↔◌, ◌⊎◌, ◌≤◌, ◌<◌, ◌+◌, ◌-◌, ◌++◌, ℕ, ℤ, pos, List, [], None, Some, Ok, Err, IsTrue, IsFalse, IsOk, IsErr, OnOk, OnErr, IfOk, IfErr, IsErrOf, MatchOption, true, false, is_some, length};
+ghost use Rattle.std.specs.Prelude.{◌≡◌, ◌≢◌, ◌↔◌, ◌⊎◌, ◌≤◌, ◌<◌, ◌+◌, ◌-◌, ◌++◌, ℕ, ℤ, pos, List, [], ◌∷◌, Contains, None, Some, Ok, Err, IsTrue, IsFalse, IsOk, IsErr, OnOk, OnErr, IfOk, IfErr, IsErrOf, MatchOption, true, false, is_some, length, vec_capacity};
 ghost use Rattle.std.specs.Option.{option_copied, option_map};
 ghost use Rattle.std.specs.FinMap as map;
 ghost use Rattle.cnf_base.specs.Truth.{assignment_of, AreClausesOf};
-ghost use Rattle.lrat_rules.specs.State.{start};
+ghost use Rattle.lrat_rules.specs.State.{clause_at, start};
 ghost use Rattle.lrat_rules.specs.Strict.{RefutesStrictly};
-ghost use Rattle.clause_ledger.specs.Book.{IsTorn, next_line, with_next};
+ghost use Rattle.clause_ledger.specs.Book.{IsTorn, deletion_line, next_line, with_next};
 ghost use Rattle.node_table.specs.declared.node.Branch.{Branch as BranchValue};
 ghost use Rattle.node_table.specs.declared.error.TableError.TheVariants.{NodeLimit, IdLimit, WriteFault};
 ghost use Rattle.node_table.specs.Diagram.{Graph, IsOrder, IsReduced, IsBelow, branch_at, branch_of, is_node, levels, level_of, high_at, low_at, variable_at};
@@ -14,8 +14,8 @@ ghost use Rattle.node_table.specs.Value.{value_of, by_level};
 ghost use Rattle.node_table.specs.Defined.{IsDefined, atom_of, defs_of, definition_count, definition_lines, is_false_node, is_true_node, literal_of_branch};
 ghost use Rattle.cnf_base.specs.ProofText.{given_if, max_id};
 ghost use Rattle.node_table.specs.Tied.{IsOverNodes};
-ghost use Rattle.node_table.specs.Table.{TableState, IsSound, HasChildren, IsMissing, IsWanted, IsFree, IsMade, IsSame, UnlessTorn, live_nodes, node_definitions};
-ghost use Rattle.node_table.specs.Progress.{Steps, error_of};
+ghost use Rattle.node_table.specs.Table.{TableState, IsSound, IsAddedTo, HasChildren, IsMissing, IsWanted, IsFree, IsMade, IsSame, UnlessTorn, live_nodes, node_definitions, without_retired};
+ghost use Rattle.node_table.specs.Progress.{Leaves, Steps, error_of};
 ghost use Rattle.node_table.specs.Made.{inner};
 
 use crate::define::write_definitions;
@@ -36,19 +36,26 @@ pub struct Table<S: Sink + Drop> {
     diagram: Diagram,
     ledger: Ledger<S>,
     max_nodes: u32,
+    // How many clauses the formula has: those are never deleted.
+    inputs: u64,
+    // To be deleted. Each added clause has a place here.
+    retired: Vec<Id>,
+    places: usize,
 }
 
 impl<S: Sink + Drop> Model for Table<S> {
-    ghost use Rattle.std.specs.Prelude.{◌≤◌, []};
+    ghost use Rattle.std.specs.Prelude.{◌≤◌, IsTrue, vec_capacity};
     ghost use Rattle.node_table.specs.Table.{TableState, table_code, live_nodes};
+    ghost use Rattle.node_table.specs.Places.{HavePlaces};
 
     ghost Value = { TableState S };
 
     ghost coded = { table_code S.code };
 
-    ghost view = { λ t. record { graph = t.diagram; book = t.ledger; max_nodes = t.max_nodes; retired = [] } };
+    ghost view = { λ t. record { graph = t.diagram; book = t.ledger; max_nodes = t.max_nodes; inputs = t.inputs; retired = t.retired.items } };
 
-    ghost invariant = { λ t. (t.max_nodes ≤ 100000000) × (live_nodes t.diagram ≤ t.max_nodes) };
+    ghost invariant = { λ t. (t.max_nodes ≤ 100000000) × (live_nodes t.diagram ≤ t.max_nodes)
+        × (IsTrue t.ledger.in_step → HavePlaces t.diagram t.ledger.state.live t.inputs t.places (vec_capacity t.retired)) };
 }
 
 impl<S: Sink + Drop> Table<S> {
@@ -63,25 +70,30 @@ impl<S: Sink + Drop> Table<S> {
         requires order { IsOrder order.now }
         requires few_levels { length order.now ≤ 1000000 }
         requires few_nodes { max_nodes ≤ 100000000 }
-        ensures opened { IfOk result (λ table. table ≡ record { graph = record { order = order.now; nodes = map.empty }; book = ledger; max_nodes = max_nodes; retired = [] }) }
+        ensures opened { IfOk result (λ table. table ≡ record { graph = record { order = order.now; nodes = map.empty }; book = ledger; max_nodes = max_nodes; inputs = ledger.state.top; retired = [] }) }
         ensures refused { IfErr result (λ back. back.0 ≡ ledger) }
     {
         match Diagram::new(alloc, order) {
-            Ok(diagram) => Ok(Table::new(ledger, diagram, max_nodes)),
+            Ok(diagram) => Ok(Table::new(alloc, ledger, diagram, max_nodes)),
             Err(e) => Err((ledger, e)),
         }
     }
 
-    /// A table without nodes. `max_nodes` is the greatest number of inner nodes that may be live at once.
-    pub fn new(ledger: Ledger<S>, diagram: Diagram, max_nodes: u32) -> Self
+    /// A table without nodes over the formula's clauses. `max_nodes` is the greatest number of inner nodes that may be
+    /// live at once.
+    pub fn new(alloc: Global, ledger: Ledger<S>, diagram: Diagram, max_nodes: u32) -> Self
         requires few { max_nodes ≤ 100000000 }
         requires empty { diagram.nodes ≡ map.empty }
-        ensures { result ≡ record { graph = diagram; book = ledger; max_nodes = max_nodes; retired = [] } }
+        ensures { result ≡ record { graph = diagram; book = ledger; max_nodes = max_nodes; inputs = ledger.state.top; retired = [] } }
     {
+        let inputs = ledger.last_id();
         Table {
             diagram,
             ledger,
             max_nodes,
+            inputs,
+            retired: Vec::new(alloc),
+            places: 0,
         }
     }
 
@@ -145,13 +157,15 @@ impl<S: Sink + Drop> Table<S> {
         self.make(level, high, low)
     }
 
-    /// Adds a clause over the formula's variables and those of live nodes, with a strict refutation as its hints. A
-    /// refusal, but for a failed write, changes nothing.
+    /// Adds a clause over the formula's variables and those of live nodes, with a strict refutation as its hints. It may
+    /// be retired, for which there is room then. A refusal, but for a failed write, changes nothing.
     pub fn justify(&mut self, clause: &[Lit], hints: &[Id]) -> Result<Id, TableError>
         requires sound { IsSound self.old }
         requires strict { RefutesStrictly self.old.book.state.live clause.now hints.now }
         requires over_nodes { IsOverNodes self.old.graph clause.now }
         ensures added { IfOk result (λ id. (id ≡ self.old.book.state.top + 1) × (self.new.book.state ≡ with_next self.old.book.state clause.now)) }
+        ensures own { IfOk result (λ id. IsAddedTo self.new id) }
+        ensures unretired { IfOk result (λ id. Contains self.new.retired id → ⊥) }
         ensures steps { Steps S.tells (S.channel self.old.book.sink) (S.channel self.new.book.sink) self.old self.new 1 (error_of result) }
         ensures nodes { self.new.graph ≡ self.old.graph }
         ensures retired { self.new.retired ≡ self.old.retired }
@@ -164,8 +178,52 @@ impl<S: Sink + Drop> Table<S> {
         ensures beside { S.beside self.new.book.sink ≡ S.beside self.old.book.sink }
     {
         marks_law();
+        if self.ledger.ids_left() == 0 {
+            return Err(TableError::IdLimit);
+        }
+        reserve_place(&mut self.retired, self.places)?;
         match self.ledger.add(clause, hints) {
-            Ok(id) => Ok(id),
+            Ok(id) => {
+                self.places += 1;
+                Ok(id)
+            }
+            Err(e) => Err(TableError::from(e)),
+        }
+    }
+
+    /// Puts a clause that was added on the list of those that are to be deleted. It stays live until then, and takes no
+    /// memory.
+    pub fn retire(&mut self, id: Id)
+        requires sound { IsSound self.old }
+        requires own { IsAddedTo self.old id }
+        requires unretired { Contains self.old.retired id → ⊥ }
+        ensures retired { self.new ≡ record self.old { retired = self.old.retired ++ id ∷ [] } }
+        ensures sound { IsSound self.new }
+    {
+        self.retired.push_reserved(id);
+    }
+
+    /// Deletes the retired clauses by one line. Only `WriteFault` may come.
+    pub fn settle(&mut self) -> Result<(), TableError>
+        requires sound { IsSound self.old }
+        ensures settled { OnOk result (self.new ≡ record self.old { book = record self.old.book { sink = self.new.book.sink; state = without_retired self.old }; retired = [] }) }
+        // However it ends, they are live no more, and all else is as it was.
+        ensures gone { (id : ℕ) → Contains self.old.retired id → clause_at self.new.book.state.live id ≡ None }
+        ensures stay { (id : ℕ) → (Contains self.old.retired id → ⊥) → clause_at self.new.book.state.live id ≡ clause_at self.old.book.state.live id }
+        ensures nodes { self.new.graph ≡ self.old.graph }
+        ensures leaves { Leaves S.tells (S.channel self.old.book.sink) (S.channel self.new.book.sink) self.old self.new (error_of result) }
+        ensures line { IsTrue S.tells → OnOk result ((S.channel self.new.book.sink).written ≡ (S.channel self.old.book.sink).written ++ deletion_line self.old.book.state self.old.retired) }
+        ensures torn { IsErr result → IsTorn S.tells (S.channel self.old.book.sink) (S.channel self.new.book.sink) (deletion_line self.old.book.state self.old.retired) }
+        ensures error { IfErr result (λ e. e ≡ WriteFault) }
+        ensures beside { S.beside self.new.book.sink ≡ S.beside self.old.book.sink }
+    {
+        marks_law();
+        match self.ledger.delete(self.retired.as_slice()) {
+            Ok(()) => {
+                self.places -= self.retired.len();
+                self.retired.clear();
+                Ok(())
+            }
             Err(e) => Err(TableError::from(e)),
         }
     }
@@ -275,6 +333,9 @@ impl<S: Sink + Drop> Table<S> {
             diagram: _,
             ledger,
             max_nodes: _,
+            inputs: _,
+            retired: _,
+            places: _,
         } = self;
         ledger
     }
@@ -309,21 +370,29 @@ impl<S: Sink + Drop> Table<S> {
             return Err(TableError::IdLimit);
         }
         self.ledger.reserve(4)?;
-        let u = positive(self.diagram.next_variable());
         let x = positive(self.diagram.variable(level));
         let high_atom = self.diagram.atom(high);
         let low_atom = self.diagram.atom(low);
-        let branch = Branch {
-            level,
-            variable: u.var(),
-            high,
-            low,
-            first: self.ledger.last_id() + 1,
-        };
-        let key = self.diagram.push(branch)?;
+        let first = self.ledger.last_id() + 1;
+        let (key, variable) = self.diagram.push(level, high, low, first)?;
+        let u = positive(variable);
         write_definitions(&mut self.ledger, u, x, &high_atom, &low_atom)?;
         Ok(Node::Inner(key))
     }
+}
+
+// Room for one more than these places.
+fn reserve_place(retired: &mut Vec<Id>, places: usize) -> Result<(), OutOfMemory>
+    requires { places ≤ vec_capacity retired.old }
+    ensures items { retired.new.items ≡ retired.old.items }
+    ensures no_less { vec_capacity retired.old ≤ vec_capacity retired.new }
+    ensures room { OnOk result (places < vec_capacity retired.new) }
+{
+    if places < retired.capacity() {
+        return Ok(());
+    }
+    retired.reserve(places + 1 - retired.len())?;
+    Ok(())
 }
 
 // How many clauses define a node of these children.

@@ -126,7 +126,7 @@ module _ (given : (atoms : List Atom) → IsFalse (is_trivial atoms) → IsTrue 
             | inr was ↦ one_kept entry (fits.each entry was)
           ];
           unretired = λ entry id there names gone. elim (only entry there) [
-            | inl is ↦ not_live id (own id (names_along entry id is names)).0 (sound.retired.stand id (still_retired id gone))
+            | inl is ↦ not_live id (own id (names_along entry id is names)).0 (sound.retired.each id (still_retired id gone)).stands
             | inr was ↦ fits.unretired entry id was names (still_retired id gone)
           ];
           apart = λ one other id first second names also. elim (only one first) [

@@ -64,8 +64,8 @@ module _ {S : Type 0} (tells : Bool) (channel : S → Channel) (laws : StepBySte
   breaks_after : BreaksOff tells second third mid new → BreaksOff tells first third old new
   breaks_after broken = record {
     rose = subst (λ (n : ℕ). Rose n third.faults) before.unfailed broken.rose;
-    cut = λ clauses proof t.
-        let is = broken.cut clauses (before.kept clauses proof) t in
+    cut = λ clauses few proof t.
+        let is = broken.cut clauses (omega (arith, few, before.inputs)) (before.kept clauses few proof) t in
         record { before = is.before; cut = is.cut; within_before = within_before is.before is.within_before; within_after = within_before new.book.state is.within_after };
     out_of_step = broken.out_of_step;
     order = broken.order ∙ before.order;

@@ -86,16 +86,17 @@ opened_at tells channel formula max_ids book literals state limit in_step proof 
 
 -- a table over the opened ledger is ready
 pub ready_at : {S : Type 0} → StartClauses → ((order : List ℕ) (clauses : List (List ℤ)) → IsOrder order → AreClausesOf (length order) clauses → IsTied (record { order = order; nodes = map.empty }) (start clauses))
-    → ((order : List ℕ) (clauses : List (List ℤ)) → AreRetired (record { order = order; nodes = map.empty }) (start clauses).live [])
-    → (formula : Formula) (order : List ℕ) (table : TableState S) → table.graph ≡ record { order = order; nodes = map.empty } → table.book.state ≡ start formula.clauses → IsTrue table.book.in_step → table.retired ≡ [] → IsOrder order → length order ≡ formula.vars
+    → ((order : List ℕ) (clauses : List (List ℤ)) (inputs : ℕ) → AreRetired (record { order = order; nodes = map.empty }) (start clauses).live inputs [])
+    → (formula : Formula) (order : List ℕ) (table : TableState S) → table.graph ≡ record { order = order; nodes = map.empty } → table.book.state ≡ start formula.clauses → IsTrue table.book.in_step → table.inputs ≡ table.book.state.top → table.retired ≡ [] → IsOrder order → length order ≡ formula.vars
     → AreClausesOf formula.vars formula.clauses → IsFalse (has_empty_clause formula.clauses) → IsReady formula table []
-ready_at there opening none_retired formula order table graph state in_step retired is_order vars literals none = record {
+ready_at there opening none_retired formula order table graph state in_step inputs retired is_order vars literals none = record {
   sound = record {
     in_step = in_step;
     tied = subst (λ (h : Graph). IsTied h table.book.state) (sym graph) (subst (λ (s : State). IsTied (record { order = order; nodes = map.empty }) s) (sym state)
         (opening order formula.clauses is_order (subst (λ (v : ℕ). AreClausesOf v formula.clauses) (sym vars) literals)));
-    retired = subst (λ (ids : List ℕ). AreRetired table.graph table.book.state.live ids) (sym retired) (subst (λ (h : Graph). AreRetired h table.book.state.live []) (sym graph)
-        (subst (λ (s : State). AreRetired (record { order = order; nodes = map.empty }) s.live []) (sym state) (none_retired order formula.clauses)));
+    inputs = omega (arith, inputs);
+    retired = subst (λ (ids : List ℕ). AreRetired table.graph table.book.state.live table.inputs ids) (sym retired) (subst (λ (h : Graph). AreRetired h table.book.state.live table.inputs []) (sym graph)
+        (subst (λ (s : State). AreRetired (record { order = order; nodes = map.empty }) s.live table.inputs []) (sym state) (none_retired order formula.clauses table.inputs)));
   };
   fits = record {
     each = λ entry has. absurd (omega (arith, has.1));
@@ -136,7 +137,7 @@ WrittenEmpty = (clauses : List (List ℤ)) (bytes : List ℕ) (state : State) (i
 
 module _ {S : Type 0} (canonical : Canonical) (unsatisfied : DerivedEmpty) (refutes : WrittenEmpty) (uses : (graph : Graph) (state : State) → IsTied graph state → in_use (levels graph) state ≡ live_nodes graph)
     (tells : Bool) (before after : Channel) (formula : Formula) (order : List ℕ) (moves : List Move) (limits : Limits) (old new : TableState S) (result : Result (Option (List Bool)) TableError)
-    (opened : IsOpened tells before formula limits.max_ids old.book) (ready : IsReady formula old []) (few_nodes : old.max_nodes ≡ limits.max_nodes)
+    (opened : IsOpened tells before formula limits.max_ids old.book) (ready : IsReady formula old []) (inputs : old.inputs ≡ old.book.state.top) (few_nodes : old.max_nodes ≡ limits.max_nodes)
     (decided : Decided tells before after formula order moves old new result) where
   has_none : (has : IsTrue (has_empty_clause formula.clauses)) → ⊥
   has_none has = let e : true ≡ false = sym has ∙ ready.none_empty in cc
@@ -153,11 +154,15 @@ module _ {S : Type 0} (canonical : Canonical) (unsatisfied : DerivedEmpty) (refu
   at_id_limit : result ≡ Err IdLimit → new.book.limit < new.book.state.top + 4
   at_id_limit is = (subst (λ (r : Result (Option (List Bool)) TableError). Leaves tells before after old new (error_of r)) is decided.leaves).1
 
-  proof_new : result ≢ Err WriteFault → IsProofOf formula.clauses tells after new.book.state
-  proof_new whole = (grown whole).kept formula.clauses opened.proof
-
   top_at_start : old.book.state.top ≡ length formula.clauses
   top_at_start = ap (λ (s : State). s.top) opened.state
+
+  -- the clauses that are never deleted are all of the formula's
+  all_inputs : length formula.clauses ≤ old.inputs
+  all_inputs = omega (arith, top_at_start, inputs)
+
+  proof_new : result ≢ Err WriteFault → IsProofOf formula.clauses tells after new.book.state
+  proof_new whole = (grown whole).kept formula.clauses all_inputs opened.proof
 
   -- the extension variables in use are as many as the nodes
   used : (whole : result ≢ Err WriteFault) → in_use formula.vars new.book.state ≡ live_nodes new.graph
@@ -229,7 +234,7 @@ module _ {S : Type 0} (canonical : Canonical) (unsatisfied : DerivedEmpty) (refu
     proof = λ whole. proof_new (whole_of result whole);
     within = λ whole. within (whole_of result whole);
     broken = λ is t.
-        let cut = (torn (torn_of result is)).cut formula.clauses opened.proof t in
+        let cut = (torn (torn_of result is)).cut formula.clauses all_inputs opened.proof t in
         record { before = cut.before; after = new.book.state; cut = cut.cut; within_before = within_limits cut.before cut.within_before; within_after = within_limits new.book.state cut.within_after };
     says = says;
     shows = shows;

@@ -80,7 +80,7 @@ pub fn run_plan_into<S: Sink + Drop>(
         let _sink = ledger.close();
         return Err(RunError::OutOfMemory);
     };
-    let mut table = Table::new(ledger, diagram, limits.max_nodes);
+    let mut table = Table::new(alloc, ledger, diagram, limits.max_nodes);
     let found = decide(alloc, &mut table, formula, plan, limits.cache);
     table.table_law();
     let mut ledger = table.into_ledger();

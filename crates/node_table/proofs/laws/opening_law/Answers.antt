@@ -6,4 +6,4 @@ pub returns-clause-tied : goal.returns-clause-tied
 returns-clause-tied c = opened_tied c.start_law.ensures.clauses c.start_law.ensures.none_at_zero c.start_law.ensures.none_above
 
 pub returns-clause-retired : goal.returns-clause-retired
-returns-clause-retired c order clauses = AreRetired-none _ _
+returns-clause-retired c order clauses inputs = AreRetired-none _ _ inputs

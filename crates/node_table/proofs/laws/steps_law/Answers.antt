@@ -1,4 +1,5 @@
 use Rattle.node_table.proofs.Progressed.{Steps-none, Steps-no_memory, Steps-further, Steps-at_most, Continues-further, Extends-further}
+use Rattle.node_table.proofs.CallSteps.{IsAddedTo-kept}
 use Rattle.node_table.proofs.laws.steps_law.Goals as goal
 
 pub returns : goal.returns
@@ -9,4 +10,5 @@ returns g c = record {
   at_most = Steps-at_most g.S.Sink.tells;
   go_on = Continues-further g.S.Sink.tells;
   extend = Extends-further;
+  added = IsAddedTo-kept;
 }

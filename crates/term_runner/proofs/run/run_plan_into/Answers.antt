@@ -54,6 +54,7 @@ decide-found-requires-clause-ready g c =
     ready_at c.start_law.ensures.clauses c.opening_law.ensures.tied c.opening_law.ensures.retired c.args.formula.now order table graph
     (ap (λ (b : Book (MutBor g.row.S.Denot)). b.state) (book ∙ c.new-ledger.ensures) ∙ c.in-Ok.ensures)
     (ap (λ (b : Book (MutBor g.row.S.Denot)). b.in_step) (book ∙ c.new-ledger.ensures))
+    (ap (λ (t : TableState (MutBor g.row.S.Denot)). t.inputs) c.new-table.ensures ∙ sym (ap (λ (b : Book (MutBor g.row.S.Denot)). b.state.top) book))
     (ap (λ (t : TableState (MutBor g.row.S.Denot)). t.retired) c.new-table.ensures)
     c.as_slice.ensures.order c.requires.order c.formula_law.ensures.literals c.in_default-first_empty.ensures
 
@@ -73,17 +74,19 @@ returns-clause-ends g c =
     let made : table.book ≡ c.new-ledger.result = ap (λ (t : TableState (MutBor g.row.S.Denot)). t.book) c.new-table.ensures in
     let state = ap (λ (b : Book (MutBor g.row.S.Denot)). b.state) (made ∙ c.new-ledger.ensures) ∙ c.in-Ok.ensures in
     let in_step = ap (λ (b : Book (MutBor g.row.S.Denot)). b.in_step) (made ∙ c.new-ledger.ensures) in
+    let inputs : table.inputs ≡ table.book.state.top =
+    ap (λ (t : TableState (MutBor g.row.S.Denot)). t.inputs) c.new-table.ensures ∙ sym (ap (λ (b : Book (MutBor g.row.S.Denot)). b.state.top) made) in
     let same : table.book.sink.now ≡ c.args.sink.now = ap (λ (b : Book (MutBor g.row.S.Denot)). b.sink.now) (made ∙ c.new-ledger.ensures) in
     let before : Channel = g.S.Sink.channel table.book.sink.now in
     let after : Channel = g.S.Sink.channel new.book.sink.now in
     let fresh : IsTrue tells → before.written ≡ [] = λ t. ap (λ (s : g.row.S.Denot). (g.S.Sink.channel s).written) same ∙ c.requires.fresh t in
     let proof = proof_at_start c.start_law.ensures.clauses c.start_law.ensures.none_at_zero c.start_law.ensures.none_above c.derivation_law.ensures.none formula.clauses tells before fresh in
     let opened = opened_at tells before formula limits.max_ids table.book literals state (ap (λ (b : Book (MutBor g.row.S.Denot)). b.limit) (made ∙ c.new-ledger.ensures)) in_step proof fresh in
-    let ready = ready_at c.start_law.ensures.clauses c.opening_law.ensures.tied c.opening_law.ensures.retired formula order table graph state in_step
+    let ready = ready_at c.start_law.ensures.clauses c.opening_law.ensures.tied c.opening_law.ensures.retired formula order table graph state in_step inputs
     (ap (λ (t : TableState (MutBor g.row.S.Denot)). t.retired) c.new-table.ensures) c.as_slice.ensures.order c.requires.order literals c.in_default-first_empty.ensures in
     let told = c.decide-found.ensures in
     let leads = decided_leads c.canonical_law.ensures c.soundness_law.ensures.derived c.derivation_law.ensures.refutes c.in_use_law.ensures
-    tells before after formula table.graph.order moves limits table new found opened ready (ap (λ (t : TableState (MutBor g.row.S.Denot)). t.max_nodes) c.new-table.ensures)
+    tells before after formula table.graph.order moves limits table new found opened ready inputs (ap (λ (t : TableState (MutBor g.row.S.Denot)). t.max_nodes) c.new-table.ensures)
     (record {
       found = told.found;
       leaves = told.leaves;

@@ -1,21 +1,62 @@
-use Rattle.std.proofs.Common.{◌≡◌, ◌∙◌, Option, Some, sym, ap, subst}
+use Rattle.std.proofs.Common.{◌≡◌, ◌∙◌, ◌+◌, ℕ, List, Option, Some, None, Contains, is_some, refl, sym, ap, subst}
+use Rattle.std.specs.Prelude.{vec_capacity}
+use Rattle.lrat_rules.specs.State.{State, clause_at}
 use Rattle.clause_ledger.specs.Book.{next_line}
 use Rattle.node_table.specs.declared.error.TableError.{TableError}
-use Rattle.node_table.specs.Tied.{IsOverNodes}
+use Rattle.node_table.specs.Tied.{IsAdded, IsOverNodes}
+use Rattle.node_table.specs.Places.{HavePlaces}
 use Rattle.node_table.specs.Table.{TableState, IsSound}
-use Rattle.node_table.specs.Progress.{Steps, error_of}
-use Rattle.node_table.proofs.CallSteps.{table_of}
+use Rattle.node_table.specs.Progress.{Steps}
+use Rattle.node_table.proofs.Added.{added_next, not_next}
+use Rattle.node_table.proofs.CallSteps.{Aside, table_of}
 use Rattle.node_table.proofs.Justifying.{Answers, told, justify_steps}
+use Rattle.node_table.proofs.Places.{HavePlaces-next}
+use Rattle.node_table.proofs.table.Table.justify.Given.{Over}
 use Rattle.node_table.proofs.table.Table.justify.Goals as goal
-use Rattle.node_table.proofs.table.Table.justify.Goals.{in-Ok, in-Err}
+use Rattle.node_table.proofs.table.Table.justify.Goals.{After-add}
 
-pub returns-clause-steps : goal.returns-clause-steps
-returns-clause-steps g c =
+-- what is beside nodes and ledger
+abbrev aside : (g : Over) → After-add g → Aside
+aside g c = record { max_nodes = c.self.inside.max_nodes; inputs = c.self.inside.inputs; retired = c.self.inside.retired.items }
+
+sound : (g : Over) (c : After-add g) → IsSound (table_of (aside g c) c.self.inside.diagram c.self.inside.ledger)
+sound g c = subst {A = TableState g.row.S.Denot} (λ t. IsSound t) (sym c.self.view_is) c.requires.sound
+
+pub invariant_of-self-in-Ok : goal.invariant_of-self-in-Ok
+invariant_of-self-in-Ok g c =
+    let inside = c.self.inside in
+    let is = sound g (goal.at.invariant_of-self-in-Ok g c).After-add in
+    (
+      c.self.invariant.0,
+      c.self.invariant.1,
+      λ _.
+          subst (λ (s : State). HavePlaces inside.diagram s.live inside.inputs (inside.places + 1) (vec_capacity c.reserve_place.new.retired)) (sym c.in-Ok.ensures.added.1)
+          (HavePlaces-next inside.diagram inside.ledger.state c.args.clause.now inside.inputs inside.places (vec_capacity inside.retired) (vec_capacity c.reserve_place.new.retired)
+          c.reserve_place.ensures.no_less c.in_ok-reserve_place.ensures.room (c.self.invariant.2 is.in_step)),
+    )
+
+pub returns-in-Ok-clause-own : goal.returns-in-Ok-clause-own
+returns-in-Ok-clause-own g c =
+    let inside = c.self.inside in
+    let is = sound g (goal.at.returns-in-Ok-clause-own g c).After-add in
+    subst (λ (s : State). IsAdded inside.diagram s.live inside.inputs c.in-Ok.id) (sym c.in-Ok.ensures.added.1)
+    (subst (IsAdded inside.diagram _ inside.inputs) (sym c.in-Ok.ensures.added.0) (added_next inside.diagram inside.ledger.state is.tied inside.inputs is.inputs c.args.clause.now))
+
+pub returns-in-Ok-clause-unretired : goal.returns-in-Ok-clause-unretired
+returns-in-Ok-clause-unretired g c among =
+    let inside = c.self.inside in
+    let is = sound g (goal.at.returns-in-Ok-clause-unretired g c).After-add in
+    let there : Contains inside.retired.items c.in-Ok.id = subst (λ (ids : List ℕ). Contains ids c.in-Ok.id) c.reserve_place.ensures.items among in
+    not_next inside.diagram inside.ledger.state is.tied (ap (λ (n : ℕ). is_some (clause_at inside.ledger.state.live n)) (sym c.in-Ok.ensures.added.0) ∙ (is.retired.each c.in-Ok.id there).stands)
+
+-- the steps, as the ledger answered
+steps : (g : Over) (c : After-add g)
+    → Steps g.S.Sink.tells (g.S.Sink.channel c.args.self.now.book.sink) (g.S.Sink.channel c.add.new.self.sink) c.args.self.now
+      (table_of (record { max_nodes = c.self.inside.max_nodes; inputs = c.self.inside.inputs; retired = c.reserve_place.new.retired.items }) c.self.inside.diagram c.add.new.self) 1 (told c.add.result)
+steps g c =
     let inside = c.self.inside in
     let new = c.add.new.self in
-    let old = table_of inside.max_nodes inside.diagram inside.ledger in
-    let sound : IsSound old = subst (λ (t : TableState g.row.S.Denot). IsSound t) (sym c.self.view_is) c.requires.sound in
-    let over : IsOverNodes inside.diagram c.args.clause.now = subst (λ (t : TableState g.row.S.Denot). IsOverNodes t.graph c.args.clause.now) (sym c.self.view_is) c.requires.over_nodes in
+    let over : IsOverNodes inside.diagram c.args.clause.now = subst {A = TableState g.row.S.Denot} (λ t. IsOverNodes t.graph c.args.clause.now) (sym c.self.view_is) c.requires.over_nodes in
     let own = c.add.ensures in
     let answers : Answers g.S.Sink.tells g.S.Sink.channel inside.ledger new c.args.clause.now (next_line inside.ledger.state c.args.clause.now c.args.hints.now) c.add.result = record {
       added = own.added;
@@ -32,10 +73,23 @@ returns-clause-steps g c =
       unfailed = own.unfailed;
       only_writes = own.only_writes;
     } in
-    let error : told c.add.result ≡ error_of c.match-add.result = elim c.match-add.branch [
-      | in-Ok w ↦ ap told w.in-Ok.is ∙ sym (ap error_of w.result-is)
-      | in-Err w ↦ ap told w.in-Err.is ∙ ap Some (sym w.from.ensures) ∙ sym (ap error_of w.result-is)
-    ] in
-    let steps = justify_steps g.S.Sink.tells g.S.Sink.channel inside.max_nodes inside.diagram inside.ledger new c.args.clause.now _ sound over c.self.invariant.1 c.marks_law.ensures.fewer c.add.result answers in
-    subst (λ (e : Option TableError). Steps g.S.Sink.tells (g.S.Sink.channel c.args.self.now.book.sink) (g.S.Sink.channel new.sink) c.args.self.now (table_of inside.max_nodes inside.diagram new) 1 e) error
-    (subst (λ (t : TableState g.row.S.Denot). Steps g.S.Sink.tells (g.S.Sink.channel t.book.sink) (g.S.Sink.channel new.sink) t (table_of inside.max_nodes inside.diagram new) 1 (told c.add.result)) c.self.view_is steps)
+    let all = justify_steps g.S.Sink.tells g.S.Sink.channel (aside g c) inside.diagram inside.ledger new c.args.clause.now _ (sound g c) over c.self.invariant.1 c.marks_law.ensures.fewer c.add.result answers in
+    subst (λ (ids : List ℕ). Steps g.S.Sink.tells (g.S.Sink.channel c.args.self.now.book.sink) (g.S.Sink.channel new.sink) c.args.self.now
+      (table_of (record { max_nodes = inside.max_nodes; inputs = inside.inputs; retired = ids }) inside.diagram new) 1 (told c.add.result)) (sym c.reserve_place.ensures.items)
+    (subst {A = TableState g.row.S.Denot} (λ t. Steps g.S.Sink.tells (g.S.Sink.channel t.book.sink) (g.S.Sink.channel new.sink) t (table_of (aside g c) inside.diagram new) 1 (told c.add.result)) c.self.view_is all)
+
+pub returns-in-Ok-clause-steps : goal.returns-in-Ok-clause-steps
+returns-in-Ok-clause-steps g c =
+    let inside = c.self.inside in
+    let new = c.add.new.self in
+    subst (λ (e : Option TableError). Steps g.S.Sink.tells (g.S.Sink.channel c.args.self.now.book.sink) (g.S.Sink.channel new.sink) c.args.self.now
+      (table_of (record { max_nodes = inside.max_nodes; inputs = inside.inputs; retired = c.reserve_place.new.retired.items }) inside.diagram new) 1 e) (ap told c.in-Ok.is)
+    (steps g (goal.at.returns-in-Ok-clause-steps g c).After-add)
+
+pub returns-in-Err-clause-steps : goal.returns-in-Err-clause-steps
+returns-in-Err-clause-steps g c =
+    let inside = c.self.inside in
+    let new = c.add.new.self in
+    subst (λ (e : Option TableError). Steps g.S.Sink.tells (g.S.Sink.channel c.args.self.now.book.sink) (g.S.Sink.channel new.sink) c.args.self.now
+      (table_of (record { max_nodes = inside.max_nodes; inputs = inside.inputs; retired = c.reserve_place.new.retired.items }) inside.diagram new) 1 e) (ap told c.in-Err.is ∙ ap Some (sym c.from.ensures))
+    (steps g (goal.at.returns-in-Err-clause-steps g c).After-add)

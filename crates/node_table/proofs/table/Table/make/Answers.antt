@@ -1,5 +1,5 @@
-use Rattle.std.proofs.Common.{◌≡◌, ◌∙◌, ◌⊎◌, ◌++◌, ℕ, pos, nat_abs, true, Option, None, Some, refl, sym, ap, subst, arith}
-use Rattle.std.specs.Prelude.{IsTrue}
+use Rattle.std.proofs.Common.{◌≡◌, ◌∙◌, ◌⊎◌, ◌++◌, ℕ, List, pos, nat_abs, true, false, Option, None, Some, refl, sym, ap, subst, arith}
+use Rattle.std.specs.Prelude.{IsTrue, vec_capacity}
 use Rattle.lrat_rules.specs.State.{State}
 use Rattle.clause_ledger.specs.Book.{Book, IsTorn}
 use Rattle.node_table.specs.declared.node.Node.TheVariants.{Inner}
@@ -9,11 +9,12 @@ use Rattle.node_table.specs.declared.error.TableError.TheVariants.{WriteFault}
 use Rattle.node_table.specs.Diagram.{branch_at, is_node}
 use Rattle.node_table.specs.Defined.{IsNewVariable, definition_lines}
 use Rattle.node_table.specs.Made.{inner}
-use Rattle.node_table.specs.Table.{TableState, HasChildren, IsFree, IsMade, node_definitions}
+use Rattle.node_table.specs.Table.{TableState, IsSound, HasChildren, IsFree, IsMade, node_definitions}
 use Rattle.node_table.specs.Tied.{IsTied}
 use Rattle.node_table.specs.Progress.{Steps}
-use Rattle.node_table.proofs.CallSteps.{Wrote, Tore, table_of}
-use Rattle.node_table.proofs.Making.{Making, asked_at, joined_as, enough, told_torn, making_on, making_torn, making_only, making_made, making_cut}
+use Rattle.node_table.proofs.CallSteps.{Aside, Wrote, Tore, table_of}
+use Rattle.node_table.proofs.Making.{Making, asked_at, joined_as, enough, told_torn, making_on, making_torn, making_only, making_made, making_cut, making_before}
+use Rattle.node_table.proofs.Places.{HavePlaces-same}
 use Rattle.node_table.proofs.Fresh.{new_variable, live_more}
 use Rattle.node_table.proofs.table.Table.make.Given.{Over}
 use Rattle.node_table.proofs.table.Table.make.Goals as goal
@@ -28,31 +29,30 @@ write_definitions-requires-clause-new_variable g c =
     let low_stands : is_node graph c.args.low ≡ true = subst (λ (t : TableState g.row.S.Denot). is_node t.graph c.args.low ≡ true) (sym c.self.view_is) c.requires.low.stands in
     let live : c.reserve.new.self.state ≡ state = ap (λ (b : Book g.row.S.Denot). b.state) c.reserve.ensures.unchanged in
     subst (λ (s : State). IsNewVariable s.live c.positive-u.result c.positive-x.result c.atom-high_atom.result c.atom-low_atom.result) (sym live)
-    (new_variable graph state tied c.next_variable.result c.variable.result c.next_variable.ensures.range.0 c.next_variable.ensures.own c.variable.ensures.range.1
+    (new_variable graph state tied c.in_ok-key.variable c.variable.result c.in_ok-key.ensures.range.0 c.in_ok-key.ensures.own c.variable.ensures.range.1
     c.args.high c.args.low high_stands low_stands c.positive-u.result c.positive-x.result c.atom-high_atom.result c.atom-low_atom.result
     c.positive-u.ensures c.positive-x.ensures c.atom-high_atom.ensures c.atom-low_atom.ensures)
 
-pub invariant_of-self-in_err-write_definitions : goal.invariant_of-self-in_err-write_definitions
-invariant_of-self-in_err-write_definitions g c =
-    (c.self.invariant.0, omega (arith, live_more c.self.inside.diagram c.push.new.self c.in_ok-key.key.index c.in_ok-key.ensures.ok, c.if-len-self.false, c.len.ensures))
+-- what is beside nodes and ledger
+abbrev aside_at : ℕ → ℕ → List ℕ → Aside
+aside_at max_nodes inputs retired = record { max_nodes = max_nodes; inputs = inputs; retired = retired }
 
-pub invariant_of-self-2 : goal.invariant_of-self-2
-invariant_of-self-2 g c =
-    (c.self.invariant.0, omega (arith, live_more c.self.inside.diagram c.push.new.self c.in_ok-key.key.index c.in_ok-key.ensures.ok, c.if-len-self.false, c.len.ensures))
+abbrev aside : (g : Over) → After-write_definitions g → Aside
+aside g c = aside_at c.self.inside.max_nodes c.self.inside.inputs c.self.inside.retired.items
 
 -- what was done when the definitions were written
 making : (g : Over) (c : After-write_definitions g)
-    → Making c.self.inside.diagram c.push.new.self c.self.inside.ledger c.reserve.new.self c.self.inside.max_nodes c.args.level c.args.high c.args.low c.in_ok-key.key c.next_variable.result
+    → Making c.self.inside.diagram c.push.new.self c.self.inside.ledger c.reserve.new.self (aside g c) c.args.level c.args.high c.args.low c.in_ok-key.key c.in_ok-key.variable
     c.positive-u.result c.positive-x.result c.atom-high_atom.result c.atom-low_atom.result
 making g c =
     let state = c.self.inside.ledger.state in
     let live : c.reserve.new.self.state ≡ state = ap (λ (b : Book g.row.S.Denot). b.state) c.reserve.ensures.unchanged in
-    let number : c.var.result ≡ c.next_variable.result = c.var.ensures.value ∙ ap nat_abs c.positive-u.ensures in
-    let first : c.last_id.result ≡ state.top = c.last_id.ensures.value ∙ ap (λ (s : State). s.top) live in
+    let first : c.last_id-first.result ≡ state.top = c.last_id-first.ensures.value ∙ ap (λ (s : State). s.top) live in
     record {
-      asked = asked_at c.next_variable.result c.self.view_is c.requires.sound.tied c.requires.level c.requires.high c.requires.low c.requires.wanted
-          c.next_variable.ensures.range.0 c.next_variable.ensures.own;
-      joined = joined_as state number first c.in_ok-key.ensures.ok;
+      sound = subst {A = TableState g.row.S.Denot} (λ t. IsSound t) (sym c.self.view_is) c.requires.sound;
+      asked = asked_at c.in_ok-key.variable c.self.view_is c.requires.sound.tied c.requires.level c.requires.high c.requires.low c.requires.wanted
+          c.in_ok-key.ensures.range.0 c.in_ok-key.ensures.own;
+      joined = joined_as state first c.in_ok-key.ensures.ok;
       room = enough c.args.high c.args.low state.top c.self.inside.ledger.limit (omega (arith, c.if-ids_left-definition_count.false, c.definition_count.ensures, c.ids_left.ensures));
       few = omega (arith, c.if-len-self.false, c.len.ensures);
       reserved = c.reserve.ensures.unchanged;
@@ -65,13 +65,34 @@ making g c =
       };
     }
 
+pub invariant_of-self-in_err-write_definitions : goal.invariant_of-self-in_err-write_definitions
+invariant_of-self-in_err-write_definitions g c = (
+  c.self.invariant.0,
+  omega (arith, live_more c.self.inside.diagram c.push.new.self c.in_ok-key.key.index c.in_ok-key.ensures.ok, c.if-len-self.false, c.len.ensures),
+  λ in_step. absurd (let out : c.write_definitions.new.ledger.in_step ≡ false = c.in_err-write_definitions.ensures.out_of_step refl in cc),
+)
+
+pub invariant_of-self-2 : goal.invariant_of-self-2
+invariant_of-self-2 g c =
+    let inside = c.self.inside in
+    let after = (goal.at.invariant_of-self-2 g c).After-write_definitions in
+    let made = making g after in
+    (
+      c.self.invariant.0,
+      omega (arith, live_more c.self.inside.diagram c.push.new.self c.in_ok-key.key.index c.in_ok-key.ensures.ok, c.if-len-self.false, c.len.ensures),
+      λ _.
+          HavePlaces-same inside.diagram c.push.new.self inside.ledger.state.live c.write_definitions.new.ledger.state.live inside.inputs inside.places (vec_capacity inside.retired)
+          (making_before g.S.Sink.tells g.S.Sink.channel made c.write_definitions.new.ledger c.in_ok-write_definitions.ensures.written inside.inputs)
+          (c.self.invariant.2 made.sound.in_step),
+    )
+
 pub returns-clause-steps : goal.returns-clause-steps
 returns-clause-steps g c =
     let new = c.write_definitions.new.ledger in
     let own = c.in_ok-write_definitions.ensures in
     let wrote : Wrote g.S.Sink.tells (g.S.Sink.channel c.reserve.new.self.sink) (g.S.Sink.channel new.sink) c.reserve.new.self new =
     record { in_step = own.in_step; kept = own.kept; limit = own.limit; unfailed = own.unfailed; writes = own.only_writes } in
-    subst (λ (t : TableState g.row.S.Denot). Steps g.S.Sink.tells (g.S.Sink.channel t.book.sink) (g.S.Sink.channel new.sink) t (table_of c.self.inside.max_nodes c.push.new.self new) 0 None) c.self.view_is
+    subst (λ (t : TableState g.row.S.Denot). Steps g.S.Sink.tells (g.S.Sink.channel t.book.sink) (g.S.Sink.channel new.sink) t (table_of (aside_at c.self.inside.max_nodes c.self.inside.inputs c.self.inside.retired.items) c.push.new.self new) 0 None) c.self.view_is
     (making_on g.S.Sink.tells g.S.Sink.channel (making g (goal.at.returns-clause-steps g c).After-write_definitions) new own.written wrote)
 
 pub returns-clause-only : goal.returns-clause-only
@@ -84,10 +105,10 @@ returns-clause-made g c =
     let new = c.write_definitions.new.ledger in
     let own = c.in_ok-write_definitions.ensures in
     let made = making_made g.S.Sink.tells g.S.Sink.channel (making g (goal.at.returns-clause-made g c).After-write_definitions) new own.written own.lines in
-    subst (λ (t : TableState g.row.S.Denot). (variable : ℕ) × IsMade t (table_of c.self.inside.max_nodes c.push.new.self new) c.args.level c.args.high c.args.low variable (Inner c.in_ok-key.key)
+    subst (λ (t : TableState g.row.S.Denot). (variable : ℕ) × IsMade t (table_of (aside_at c.self.inside.max_nodes c.self.inside.inputs c.self.inside.retired.items) c.push.new.self new) c.args.level c.args.high c.args.low variable (Inner c.in_ok-key.key)
     × (IsTrue g.S.Sink.tells → (g.S.Sink.channel new.sink).written ≡ (g.S.Sink.channel t.book.sink).written
     ++ definition_lines t.book.state (node_definitions t.graph t.book.state c.args.level c.args.high c.args.low variable))) c.self.view_is
-    (c.next_variable.result, made.0, made.1)
+    (c.in_ok-key.variable, made.0, made.1)
 
 pub returns-in_err-write_definitions-clause-steps : goal.returns-in_err-write_definitions-clause-steps
 returns-in_err-write_definitions-clause-steps g c =
@@ -101,9 +122,9 @@ returns-in_err-write_definitions-clause-steps g c =
       writes = own.only_writes;
     } in
     let steps = making_torn g.S.Sink.tells g.S.Sink.channel (making g (goal.at.returns-in_err-write_definitions-clause-steps g c).After-write_definitions) new own.front tore c.marks_law.ensures.fewer in
-    subst (λ (e : Option TableError). Steps g.S.Sink.tells (g.S.Sink.channel c.args.self.now.book.sink) (g.S.Sink.channel new.sink) c.args.self.now (table_of c.self.inside.max_nodes c.push.new.self new) 0 e)
+    subst (λ (e : Option TableError). Steps g.S.Sink.tells (g.S.Sink.channel c.args.self.now.book.sink) (g.S.Sink.channel new.sink) c.args.self.now (table_of (aside_at c.self.inside.max_nodes c.self.inside.inputs c.self.inside.retired.items) c.push.new.self new) 0 e)
     (told_torn c.from_residual-in_err-write_definitions.result c.in_err-write_definitions.field-0.0 c.from_residual-in_err-write_definitions.ensures.1 own.error)
-    (subst (λ (t : TableState g.row.S.Denot). Steps g.S.Sink.tells (g.S.Sink.channel t.book.sink) (g.S.Sink.channel new.sink) t (table_of c.self.inside.max_nodes c.push.new.self new) 0 (Some WriteFault)) c.self.view_is steps)
+    (subst (λ (t : TableState g.row.S.Denot). Steps g.S.Sink.tells (g.S.Sink.channel t.book.sink) (g.S.Sink.channel new.sink) t (table_of (aside_at c.self.inside.max_nodes c.self.inside.inputs c.self.inside.retired.items) c.push.new.self new) 0 (Some WriteFault)) c.self.view_is steps)
 
 pub returns-in_err-write_definitions-clause-only : goal.returns-in_err-write_definitions-clause-only
 returns-in_err-write_definitions-clause-only g c =
@@ -116,4 +137,4 @@ returns-in_err-write_definitions-clause-torn g c failed =
     let cut = making_cut g.S.Sink.tells g.S.Sink.channel (making g (goal.at.returns-in_err-write_definitions-clause-torn g c).After-write_definitions) new (c.in_err-write_definitions.ensures.write_fault refl) in
     subst (λ (t : TableState g.row.S.Denot). (variable : ℕ) × IsFree t.graph t.book.state.live variable × IsTorn g.S.Sink.tells (g.S.Sink.channel t.book.sink) (g.S.Sink.channel new.sink)
     (definition_lines t.book.state (node_definitions t.graph t.book.state c.args.level c.args.high c.args.low variable))) c.self.view_is
-    (c.next_variable.result, cut.0, cut.1)
+    (c.in_ok-key.variable, cut.0, cut.1)

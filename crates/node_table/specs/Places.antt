@@ -1,0 +1,13 @@
+-- Room on the list of retired clauses: each clause that may be retired has a place.
+use Rattle.std.specs.Prelude.{◌≤◌, ℕ, nat_eq, List, IsTrue, length}
+use Rattle.std.specs.Set.{is_member}
+use Rattle.lrat_rules.specs.State.{Live}
+use Rattle.node_table.specs.Diagram.{Graph}
+use Rattle.node_table.specs.Tied.{IsAdded}
+
+-- The added clauses are all among these, and those are no more than there are places, for which there is room.
+pub record HavePlaces (graph : Graph) (live : Live) (inputs places capacity : ℕ) : Type 0 where
+  pub added : List ℕ
+  pub few : length added ≤ places
+  pub room : places ≤ capacity
+  pub all : (id : ℕ) → IsAdded graph live inputs id → IsTrue (is_member nat_eq added id)
