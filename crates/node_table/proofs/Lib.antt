@@ -28,3 +28,5 @@ pub mod Justifying
 pub mod Subfunctions
 pub mod Reached
 pub mod Missing
+pub mod IndexPlaces
+pub mod IndexKeys
