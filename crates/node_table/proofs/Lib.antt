@@ -32,3 +32,5 @@ pub mod Settling
 pub mod Subfunctions
 pub mod Reached
 pub mod Missing
+pub mod IndexPlaces
+pub mod IndexKeys
