@@ -6,6 +6,8 @@ mod conjunctions;
 #[cfg(test)]
 mod nodes;
 #[cfg(test)]
+mod retired;
+#[cfg(test)]
 mod runs;
 #[cfg(test)]
 mod script;

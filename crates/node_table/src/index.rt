@@ -1,5 +1,5 @@
 // Finds stored nodes by their level and children: open addressing over their keys, by the kit's default hash. A node that
-// is looked up is met at the first place in most cases, since at most three quarters of the places are taken.
+// is looked up is met at the first place in most cases, since at most half of the places are taken.
 ghost use Rattle.std.specs.Prelude.{◌≡◌, ◌<◌, ◌≤◌, ◌+◌, ◌*◌, ◌^◌, ℕ, [], None, Some, OnOk, IfSome, MatchOption, IsTrue, IsFalse, length, count_by, slice_index_or};
 ghost use Rattle.slab.specs.Slab.{Slab as Slots, get, slab_len, Updates};
 ghost use Rattle.node_table.specs.Index.{IsIndexOf, HasRoom, IsTriple, IsCounted, IsFirstFree, Enters, home_of, is_taken, place_at};
@@ -66,7 +66,7 @@ impl Index {
         ensures room { OnOk result (HasRoom self.new) }
     {
         let size = self.places.len();
-        if 4 * (self.taken + 1) <= 3 * size {
+        if 2 * (self.taken + 1) <= size {
             return Ok(());
         }
         let Some(wider) = wider_size(size, nodes.len()) else {
