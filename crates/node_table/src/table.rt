@@ -292,7 +292,7 @@ impl<S: Sink + Drop> Table<S> {
     {
         match self.diagram.branch(node) {
             None => None,
-            Some(branch) => Some(defs_of(branch)),
+            Some(branch) => Some(defs_of(&branch)),
         }
     }
 
