@@ -1,12 +1,11 @@
 -- Room on the list of retired clauses, as clauses are added and deleted.
-use Rattle.std.proofs.Common.{◌≡◌, ◌<◌, ◌≤◌, ◌+◌, ◌-◌, ◌++◌, ◌&&◌, ◌||◌, ◌∙◌, ℕ, Bool, ℤ, length, List, [], ◌∷◌, Option, None, Some, Contains, is_some, true, false, refl, sym, ap, subst, arith, inl, inr, length-append, eq-eqb}
+use Rattle.std.proofs.Common.{◌≡◌, ◌<◌, ◌≤◌, ◌+◌, ◌-◌, ◌++◌, ◌||◌, ◌∙◌, ℕ, Bool, ℤ, length, List, [], ◌∷◌, Option, None, Some, Contains, is_some, true, false, refl, sym, ap, subst, arith, inl, inr, length-append, eq-eqb}
 use Rattle.std.specs.Prelude.{nat_eq, not}
 use Rattle.std.specs.Cmp.{nat_eq_equiv}
-use Rattle.std.specs.List.{filter, list_any}
+use Rattle.std.specs.List.{filter}
 use Rattle.std.specs.Set.{is_member}
-use Rattle.std.proofs.lemmas.Bool.{and_from, and_parts, or_left, or_right}
+use Rattle.std.proofs.lemmas.Bool.{and_from, or_left, or_right}
 use Rattle.std.proofs.lemmas.List.Filters.{length-filter_both}
-use Rattle.std.proofs.lemmas.Map.Keys.{IsDistinct-push}
 use Rattle.std.proofs.lemmas.Map.Made.{is_member-filter, length-le_from_is_member}
 use Rattle.std.proofs.lemmas.Map.Views.{Contains-from_any, exact_unsigned_eq}
 use Rattle.lrat_rules.specs.State.{State, Live, clause_at}
@@ -88,8 +87,8 @@ HavePlaces-settled graph old new inputs places capacity retired have are gone st
     let left = filter (λ (id : ℕ). not (here id)) have.added in
     let same : (x y : ℕ) → nat_eq x y ≡ true → here x ≡ here y = λ x y is. ap here (exact_unsigned_eq x y is) in
     let among : (id : ℕ) → is_member nat_eq retired id ≡ true → is_member nat_eq (filter here have.added) id ≡ true = λ id is.
-        is_member-filter nat_eq_equiv here id (same id) have.added
-        ∙ and_from (is_member nat_eq have.added id) (here id) (have.all id (are.each id (Contains-from_any exact_unsigned_eq id retired is))) is in
+    is_member-filter nat_eq_equiv here id (same id) have.added
+    ∙ and_from (is_member nat_eq have.added id) (here id) (have.all id (are.each id (Contains-from_any exact_unsigned_eq id retired is))) is in
     let few = length-le_from_is_member nat_eq_equiv retired (filter here have.added) are.once among in
     let both = length-filter_both here (λ (id : ℕ). not (here id)) (λ id. refl) have.added in
     record {
@@ -100,6 +99,6 @@ HavePlaces-settled graph old new inputs places capacity retired have are gone st
           let out : Contains retired id → ⊥ = λ among. (let e : true ≡ false = sym own.stands ∙ ap is_some (gone id among) in cc) in
           is_member-filter nat_eq_equiv (λ id. not (here id)) id (λ x is. ap not (same id x is)) have.added
           ∙ and_from (is_member nat_eq have.added id) (not (here id))
-              (have.all id (record { stands = ap is_some (sym (stay id out)) ∙ own.stands; above = own.above; defines_none = own.defines_none }))
-              (ap not (not_member retired id out));
+          (have.all id (record { stands = ap is_some (sym (stay id out)) ∙ own.stands; above = own.above; defines_none = own.defines_none }))
+          (ap not (not_member retired id out));
     }

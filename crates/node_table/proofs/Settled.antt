@@ -1,12 +1,12 @@
 -- What deleting the retired clauses leaves: the nodes are tied to the live clauses that are left, and the bytes are a proof
 -- of these.
-use Rattle.std.proofs.Common.{◌≡◌, ◌≢◌, ◌<◌, ◌≤◌, ◌&&◌, ◌||◌, ◌∙◌, ℕ, Bool, ℤ, length, List, [], ◌∷◌, Option, None, Some, Contains, is_some, true, false, cond, refl, sym, ap, subst, arith, inl, inr, eq-eqb, ne_eqb}
+use Rattle.std.proofs.Common.{◌≡◌, ◌≢◌, ◌<◌, ◌≤◌, ◌&&◌, ◌||◌, ◌∙◌, ℕ, Bool, ℤ, List, [], ◌∷◌, None, Some, Contains, is_some, true, false, cond, refl, sym, ap, arith, inl, inr, eq-eqb, ne_eqb}
 use Rattle.std.specs.Prelude.{nat_eq, nat_lt, not}
 use Rattle.std.specs.Cmp.{unsigned_tied, nat_eq_equiv}
 use Rattle.std.specs.List.{IsDistinct, AllByRecursion}
 use Rattle.std.specs.Set.{is_member}
 use Rattle.std.specs.FinMap as map
-use Rattle.std.proofs.lemmas.Bool.{and_from, cases_eq, lt-ltb, or_cases, or_left, or_right, eqb-true}
+use Rattle.std.proofs.lemmas.Bool.{and_from, cases_eq, lt-ltb, or_left, or_right}
 use Rattle.std.proofs.lemmas.Cmp.{nat_cmp_total}
 use Rattle.std.proofs.lemmas.Map.Views.{list_any-from_Contains, Contains-from_any, exact_unsigned_eq}
 use Rattle.cnf_base.specs.ProofText.{given_if}
@@ -68,16 +68,16 @@ may_delete count live (id ∷ ids) once each =
     and_from (nat_lt count id && is_some (clause_at live id)) (are_added count (map.remove live id) ids)
     (and_from (nat_lt count id) (is_some (clause_at live id)) (lt-ltb count id own.0) own.1)
     (may_delete count (map.remove live id) ids once.1 (λ other is.
-      let there = each other (or_right (nat_eq other id) (is_member nat_eq ids other) is) in
-      let differ : other ≢ id = λ same. (let e : true ≡ false = sym is ∙ ap (is_member nat_eq ids) same ∙ alone in cc) in
-      (there.0, ap is_some (removed_other live id other differ) ∙ there.1)))
+    let there = each other (or_right (nat_eq other id) (is_member nat_eq ids other) is) in
+    let differ : other ≢ id = λ same. (let e : true ≡ false = sym is ∙ ap (is_member nat_eq ids) same ∙ alone in cc) in
+    (there.0, ap is_some (removed_other live id other differ) ∙ there.1)))
 
 module _ (graph : Graph) (live : Live) (inputs : ℕ) (retired : List ℕ) (are : AreRetired graph live inputs retired) where
   pub retired_added : (count : ℕ) → count ≤ inputs → are_added count live retired ≡ true
   retired_added count few =
       may_delete count live retired are.once (λ id is.
-        let own = are.each id (Contains-from_any exact_unsigned_eq id retired is) in
-        (omega (arith, few, own.above), own.stands))
+      let own = are.each id (Contains-from_any exact_unsigned_eq id retired is) in
+      (omega (arith, few, own.above), own.stands))
 
 pub settled_gone : (live : Live) (retired : List ℕ) (id : ℕ) → Contains retired id → clause_at (without_clauses live retired) id ≡ None
 settled_gone live retired id among = gone_without live retired id (list_any-from_Contains nat_eq_equiv id retired among)
@@ -113,11 +113,11 @@ module _ (graph : Graph) (state : State) (inputs : ℕ) (retired : List ℕ) (ti
       record {
         hu = stays_given key b at (not (is_false_node b.high)) b.first (λ is. or_left ((one b.first || two b.first) || three b.first) (four b.first) (or_left (one b.first || two b.first) (three b.first) (or_left (one b.first) (two b.first) is))) ∙ defined.hu;
         lu = (let n = lu_first b.high b.first in
-          stays_given key b at (not (is_false_node b.low)) n (λ is. or_left ((one n || two n) || three n) (four n) (or_left (one n || two n) (three n) (or_right (one n) (two n) is)))) ∙ defined.lu;
+            stays_given key b at (not (is_false_node b.low)) n (λ is. or_left ((one n || two n) || three n) (four n) (or_left (one n || two n) (three n) (or_right (one n) (two n) is)))) ∙ defined.lu;
         hd = (let n = hd_first b.high b.low b.first in
-          stays_given key b at (not (is_true_node b.high)) n (λ is. or_left ((one n || two n) || three n) (four n) (or_right (one n || two n) (three n) is))) ∙ defined.hd;
+            stays_given key b at (not (is_true_node b.high)) n (λ is. or_left ((one n || two n) || three n) (four n) (or_right (one n || two n) (three n) is))) ∙ defined.hd;
         ld = (let n = ld_first b.high b.low b.first in
-          stays_given key b at (not (is_true_node b.low)) n (λ is. or_right ((one n || two n) || three n) (four n) is)) ∙ defined.ld;
+            stays_given key b at (not (is_true_node b.low)) n (λ is. or_right ((one n || two n) || three n) (four n) is)) ∙ defined.ld;
       }
 
   pub settled_tied : IsTied graph settled

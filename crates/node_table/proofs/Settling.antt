@@ -1,5 +1,5 @@
 -- The call that deletes the retired clauses, as the ledger's answer leaves it.
-use Rattle.std.proofs.Common.{◌≡◌, ◌≤◌, ℕ, Bool, true, false, ℤ, List, [], length, Some, refl, sym, ap, ◌∙◌, subst, arith}
+use Rattle.std.proofs.Common.{◌≡◌, ◌≤◌, Bool, true, false, ℤ, List, [], length, refl, sym, ap, ◌∙◌, subst, arith}
 use Rattle.std.specs.Prelude.{IsTrue}
 use Rattle.host_io.specs.Channel.{Channel}
 use Rattle.lrat_rules.specs.State.{State, clause_at}
@@ -8,7 +8,7 @@ use Rattle.clause_ledger.specs.Book.{Book, IsProofOf, IsTorn, OnlyWrites, deleti
 use Rattle.node_table.specs.Diagram.{Graph, levels}
 use Rattle.node_table.specs.Tied.{IsTied}
 use Rattle.node_table.specs.Table.{IsSound, live_nodes, without_retired}
-use Rattle.node_table.specs.Progress.{Continues, BreaksOff, number_limit}
+use Rattle.node_table.specs.Progress.{Continues, BreaksOff}
 use Rattle.node_table.proofs.CallSteps.{Aside, FewerInUse, table_of}
 use Rattle.node_table.proofs.InUseSame.{in_use_nodes}
 use Rattle.node_table.proofs.Retired.{AreRetired-none}
@@ -47,7 +47,7 @@ module _ {S : Type 0} (tells : Bool) (channel : S → Channel) (aside : Aside) (
 
   pub settled_torn : IsTorn tells (channel old.sink) (channel new.sink) (deletion_line old.state aside.retired)
       → ((clauses : List (List ℤ)) → IsProofOf clauses tells (channel old.sink) old.state → are_added (length clauses) old.state.live aside.retired ≡ true → IsTrue tells
-        → IsCutProof clauses (channel new.sink).written old.state new.state)
+      → IsCutProof clauses (channel new.sink).written old.state new.state)
       → new.in_step ≡ false → FewerInUse → live_nodes graph ≤ aside.max_nodes
       → BreaksOff tells (channel old.sink) (channel new.sink) (table_of aside graph old) (table_of aside graph new)
   settled_torn torn cut out_of_step fewer few =

@@ -1,5 +1,5 @@
 -- A table as its callers see it, and what its calls do.
-use Rattle.std.specs.Prelude.{◌≡◌, ◌≢◌, ℕ, ◌<◌, ◌≤◌, ◌+◌, ◌*◌, ◌++◌, pos, List, Some, Result, Err, IsTrue, refl}
+use Rattle.std.specs.Prelude.{◌≡◌, ◌≢◌, ℕ, ◌<◌, ◌≤◌, ◌+◌, ◌*◌, ◌++◌, pos, List, Result, Err, IsTrue, refl}
 use Rattle.std.specs.Coded.{Coded, code_by, coded×, coded_ℕ, coded_list}
 use Rattle.std.specs.FinMap as map
 use Rattle.lrat_rules.specs.State.{State, Live, without_clauses}
@@ -11,7 +11,7 @@ use Rattle.node_table.specs.declared.node.Branch.{Branch}
 use Rattle.node_table.specs.declared.error.TableError.{TableError}
 use Rattle.node_table.specs.declared.error.TableError.TheVariants.{WriteFault}
 pub use Rattle.node_table.specs.Diagram.{IsMissing, IsWanted}
-use Rattle.node_table.specs.Diagram.{Graph, graph_code, IsNew, KeepsNodes, branch_at, is_node, levels, level_of, high_at, low_at, variable_at}
+use Rattle.node_table.specs.Diagram.{Graph, graph_code, IsNew, KeepsNodes, is_node, levels, level_of, high_at, low_at, variable_at}
 use Rattle.node_table.specs.Defined.{Definition, IsUnused, atom_of, definitions, with_definitions}
 use Rattle.node_table.specs.Tied.{IsTied, IsAdded, AreRetired, GivesNumbers, KeepsClauses}
 

@@ -1,4 +1,4 @@
-use Rattle.std.proofs.Common.{◌≡◌, ◌∙◌, ◌+◌, ℕ, List, Option, Some, None, Contains, is_some, refl, sym, ap, subst}
+use Rattle.std.proofs.Common.{◌∙◌, ◌+◌, ℕ, List, Option, Some, Contains, is_some, sym, ap, subst}
 use Rattle.std.specs.Prelude.{vec_capacity}
 use Rattle.lrat_rules.specs.State.{State, clause_at}
 use Rattle.clause_ledger.specs.Book.{next_line}
@@ -25,8 +25,7 @@ sound g c = subst {A = TableState g.row.S.Denot} (λ t. IsSound t) (sym c.self.v
 pub invariant_of-self-in-Ok : goal.invariant_of-self-in-Ok
 invariant_of-self-in-Ok g c =
     let inside = c.self.inside in
-    let is = sound g (goal.at.invariant_of-self-in-Ok g c).After-add in
-    (
+    let is = sound g (goal.at.invariant_of-self-in-Ok g c).After-add in (
       c.self.invariant.0,
       c.self.invariant.1,
       λ _.
@@ -52,7 +51,7 @@ returns-in-Ok-clause-unretired g c among =
 -- the steps, as the ledger answered
 steps : (g : Over) (c : After-add g)
     → Steps g.S.Sink.tells (g.S.Sink.channel c.args.self.now.book.sink) (g.S.Sink.channel c.add.new.self.sink) c.args.self.now
-      (table_of (record { max_nodes = c.self.inside.max_nodes; inputs = c.self.inside.inputs; retired = c.reserve_place.new.retired.items }) c.self.inside.diagram c.add.new.self) 1 (told c.add.result)
+    (table_of (record { max_nodes = c.self.inside.max_nodes; inputs = c.self.inside.inputs; retired = c.reserve_place.new.retired.items }) c.self.inside.diagram c.add.new.self) 1 (told c.add.result)
 steps g c =
     let inside = c.self.inside in
     let new = c.add.new.self in
@@ -75,7 +74,7 @@ steps g c =
     } in
     let all = justify_steps g.S.Sink.tells g.S.Sink.channel (aside g c) inside.diagram inside.ledger new c.args.clause.now _ (sound g c) over c.self.invariant.1 c.marks_law.ensures.fewer c.add.result answers in
     subst (λ (ids : List ℕ). Steps g.S.Sink.tells (g.S.Sink.channel c.args.self.now.book.sink) (g.S.Sink.channel new.sink) c.args.self.now
-      (table_of (record { max_nodes = inside.max_nodes; inputs = inside.inputs; retired = ids }) inside.diagram new) 1 (told c.add.result)) (sym c.reserve_place.ensures.items)
+    (table_of (record { max_nodes = inside.max_nodes; inputs = inside.inputs; retired = ids }) inside.diagram new) 1 (told c.add.result)) (sym c.reserve_place.ensures.items)
     (subst {A = TableState g.row.S.Denot} (λ t. Steps g.S.Sink.tells (g.S.Sink.channel t.book.sink) (g.S.Sink.channel new.sink) t (table_of (aside g c) inside.diagram new) 1 (told c.add.result)) c.self.view_is all)
 
 pub returns-in-Ok-clause-steps : goal.returns-in-Ok-clause-steps
@@ -83,7 +82,7 @@ returns-in-Ok-clause-steps g c =
     let inside = c.self.inside in
     let new = c.add.new.self in
     subst (λ (e : Option TableError). Steps g.S.Sink.tells (g.S.Sink.channel c.args.self.now.book.sink) (g.S.Sink.channel new.sink) c.args.self.now
-      (table_of (record { max_nodes = inside.max_nodes; inputs = inside.inputs; retired = c.reserve_place.new.retired.items }) inside.diagram new) 1 e) (ap told c.in-Ok.is)
+    (table_of (record { max_nodes = inside.max_nodes; inputs = inside.inputs; retired = c.reserve_place.new.retired.items }) inside.diagram new) 1 e) (ap told c.in-Ok.is)
     (steps g (goal.at.returns-in-Ok-clause-steps g c).After-add)
 
 pub returns-in-Err-clause-steps : goal.returns-in-Err-clause-steps
@@ -91,5 +90,5 @@ returns-in-Err-clause-steps g c =
     let inside = c.self.inside in
     let new = c.add.new.self in
     subst (λ (e : Option TableError). Steps g.S.Sink.tells (g.S.Sink.channel c.args.self.now.book.sink) (g.S.Sink.channel new.sink) c.args.self.now
-      (table_of (record { max_nodes = inside.max_nodes; inputs = inside.inputs; retired = c.reserve_place.new.retired.items }) inside.diagram new) 1 e) (ap told c.in-Err.is ∙ ap Some (sym c.from.ensures))
+    (table_of (record { max_nodes = inside.max_nodes; inputs = inside.inputs; retired = c.reserve_place.new.retired.items }) inside.diagram new) 1 e) (ap told c.in-Err.is ∙ ap Some (sym c.from.ensures))
     (steps g (goal.at.returns-in-Err-clause-steps g c).After-add)

@@ -1,4 +1,4 @@
-use Rattle.std.proofs.Common.{◌≡◌, ◌∙◌, ◌⊎◌, ◌++◌, ℕ, List, pos, nat_abs, true, false, Option, None, Some, refl, sym, ap, subst, arith}
+use Rattle.std.proofs.Common.{◌≡◌, ◌∙◌, ◌⊎◌, ◌++◌, ℕ, List, pos, true, false, Option, None, Some, refl, sym, ap, subst, arith}
 use Rattle.std.specs.Prelude.{IsTrue, vec_capacity}
 use Rattle.lrat_rules.specs.State.{State}
 use Rattle.clause_ledger.specs.Book.{Book, IsTorn}
@@ -76,8 +76,7 @@ pub invariant_of-self-2 : goal.invariant_of-self-2
 invariant_of-self-2 g c =
     let inside = c.self.inside in
     let after = (goal.at.invariant_of-self-2 g c).After-write_definitions in
-    let made = making g after in
-    (
+    let made = making g after in (
       c.self.invariant.0,
       omega (arith, live_more c.self.inside.diagram c.push.new.self c.in_ok-key.key.index c.in_ok-key.ensures.ok, c.if-len-self.false, c.len.ensures),
       λ _.

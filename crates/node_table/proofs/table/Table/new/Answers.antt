@@ -16,7 +16,7 @@ invariant_of-result g c = (
   omega (arith, ap (λ (m : map.FinMap nat_cmp Branch). map.len m) c.requires.empty, map.len-empty nat_cmp Branch),
   λ _.
       HavePlaces-none c.args.diagram c.args.ledger.state.live c.last_id-inputs.result (vec_capacity c.new.result) (λ id own.
-        let clause = some_clause (clause_at c.args.ledger.state.live id) own.stands in
-        let range = c.last_id-inputs.ensures.numbers id clause.0 clause.1 in
-        omega (arith, range.1, own.above, c.last_id-inputs.ensures.value)),
+      let clause = some_clause (clause_at c.args.ledger.state.live id) own.stands in
+      let range = c.last_id-inputs.ensures.numbers id clause.0 clause.1 in
+      omega (arith, range.1, own.above, c.last_id-inputs.ensures.value)),
 )

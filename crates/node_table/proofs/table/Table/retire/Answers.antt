@@ -1,4 +1,4 @@
-use Rattle.std.proofs.Common.{◌≡◌, ◌<◌, ◌++◌, ◌∷◌, [], ℕ, List, Contains, length, sym, ap, subst}
+use Rattle.std.proofs.Common.{◌<◌, ℕ, Contains, sym, subst}
 use Rattle.std.specs.Prelude.{vec_capacity}
 use Rattle.node_table.specs.Tied.{AreRetired}
 use Rattle.node_table.specs.Table.{TableState, IsSound, IsAddedTo}

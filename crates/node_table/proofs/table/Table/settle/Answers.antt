@@ -1,5 +1,5 @@
-use Rattle.std.proofs.Common.{◌≡◌, ◌≢◌, ◌∙◌, ◌-◌, ℕ, List, [], Contains, None, Some, length, true, false, refl, sym, ap, subst, arith}
-use Rattle.std.specs.Prelude.{IsTrue, ◌≤◌, vec_capacity}
+use Rattle.std.proofs.Common.{◌≡◌, ◌∙◌, ◌-◌, ℕ, List, [], Contains, None, Some, length, true, sym, ap, subst, arith}
+use Rattle.std.specs.Prelude.{vec_capacity}
 use Rattle.lrat_rules.specs.State.{State, clause_at, without_clauses}
 use Rattle.lrat_rules.specs.Derivation.{are_added}
 use Rattle.clause_ledger.specs.Book.{deletion_line, IsTorn}
@@ -8,7 +8,7 @@ use Rattle.node_table.specs.declared.error.TableError.TheVariants.{WriteFault}
 use Rattle.node_table.specs.Errors.{table_error}
 use Rattle.node_table.specs.Places.{HavePlaces}
 use Rattle.node_table.specs.Table.{TableState, IsSound, without_retired}
-use Rattle.node_table.specs.Progress.{Continues, BreaksOff, Leaves, error_of}
+use Rattle.node_table.specs.Progress.{Continues, BreaksOff, Leaves}
 use Rattle.node_table.proofs.CallSteps.{Aside, table_of}
 use Rattle.node_table.proofs.Places.{HavePlaces-settled, retired_few}
 use Rattle.node_table.proofs.Settled.{retired_added, settled_gone, settled_stays}
@@ -59,16 +59,15 @@ pub invariant_of-self : goal.invariant_of-self
 invariant_of-self g c =
     let inside = c.self.inside in
     let after = (goal.at.invariant_of-self g c).After-delete in
-    let is = sound g after in
-    (
+    let is = sound g after in (
       c.self.invariant.0,
       c.self.invariant.1,
       λ _.
           let settled = HavePlaces-settled inside.diagram inside.ledger.state.live c.delete.new.self.state.live inside.inputs inside.places (vec_capacity inside.retired) inside.retired.items
-            (c.self.invariant.2 is.in_step) is.retired
-            (λ id among. gone g after id (subst {A = TableState g.row.S.Denot} (λ t. Contains t.retired id) c.self.view_is among))
-            (λ id out. stay g after id (λ among. out (subst {A = TableState g.row.S.Denot} (λ t. Contains t.retired id) (sym c.self.view_is) among))
-              ∙ sym (ap (λ (t : TableState g.row.S.Denot). clause_at t.book.state.live id) c.self.view_is)) in
+          (c.self.invariant.2 is.in_step) is.retired
+          (λ id among. gone g after id (subst {A = TableState g.row.S.Denot} (λ t. Contains t.retired id) c.self.view_is among))
+          (λ id out. stay g after id (λ among. out (subst {A = TableState g.row.S.Denot} (λ t. Contains t.retired id) (sym c.self.view_is) among))
+          ∙ sym (ap (λ (t : TableState g.row.S.Denot). clause_at t.book.state.live id) c.self.view_is)) in
           subst (λ (n : ℕ). HavePlaces inside.diagram c.delete.new.self.state.live inside.inputs n (vec_capacity c.clear.new.self)) (ap (λ (n : ℕ). inside.places - n) (sym (c.len.ensures ∙ inside.retired.ok.0)))
           (subst (λ (n : ℕ). HavePlaces inside.diagram c.delete.new.self.state.live inside.inputs (inside.places - length inside.retired.items) n) (sym c.clear.ensures.capacity) settled),
     )
@@ -95,11 +94,11 @@ returns-in-Ok-clause-leaves g c =
     let after = (goal.at.returns-in-Ok-clause-leaves g c).After-delete in
     let own = c.in-Ok.ensures in
     let on = settled_on g.S.Sink.tells g.S.Sink.channel (aside g after) inside.diagram inside.ledger new (sound g after) (state_is g after) own.limit own.only_writes own.in_step
-      (λ clauses proof added. own.kept clauses proof (subst (λ (ids : List ℕ). are_added (length clauses) inside.ledger.state.live ids ≡ true) (sym c.as_slice.ensures.value) added)) own.unfailed in
+    (λ clauses proof added. own.kept clauses proof (subst (λ (ids : List ℕ). are_added (length clauses) inside.ledger.state.live ids ≡ true) (sym c.as_slice.ensures.value) added)) own.unfailed in
     subst (λ (ids : List ℕ). Continues g.S.Sink.tells (g.S.Sink.channel c.args.self.now.book.sink) (g.S.Sink.channel new.sink) c.args.self.now
-      (table_of (record { max_nodes = inside.max_nodes; inputs = inside.inputs; retired = ids }) inside.diagram new)) (sym c.clear.ensures.items)
+    (table_of (record { max_nodes = inside.max_nodes; inputs = inside.inputs; retired = ids }) inside.diagram new)) (sym c.clear.ensures.items)
     (subst {A = TableState g.row.S.Denot} (λ t. Continues g.S.Sink.tells (g.S.Sink.channel t.book.sink) (g.S.Sink.channel new.sink) t
-      (table_of (record { max_nodes = inside.max_nodes; inputs = inside.inputs; retired = [] }) inside.diagram new)) c.self.view_is on)
+    (table_of (record { max_nodes = inside.max_nodes; inputs = inside.inputs; retired = [] }) inside.diagram new)) c.self.view_is on)
 
 pub returns-in-Err-clause-leaves : goal.returns-in-Err-clause-leaves
 returns-in-Err-clause-leaves g c =
@@ -108,9 +107,9 @@ returns-in-Err-clause-leaves g c =
     let after = (goal.at.returns-in-Err-clause-leaves g c).After-delete in
     let own = c.in-Err.ensures in
     let torn = settled_torn g.S.Sink.tells g.S.Sink.channel (aside g after) inside.diagram inside.ledger new (sound g after) (state_is g after) own.limit own.only_writes
-      (subst (λ (ids : List ℕ). IsTorn g.S.Sink.tells (g.S.Sink.channel inside.ledger.sink) (g.S.Sink.channel new.sink) (deletion_line inside.ledger.state ids)) c.as_slice.ensures.value own.write_fault.1)
-      (λ clauses proof added told. own.cut clauses proof (subst (λ (ids : List ℕ). are_added (length clauses) inside.ledger.state.live ids ≡ true) (sym c.as_slice.ensures.value) added) told)
-      own.in_step c.marks_law.ensures.fewer c.self.invariant.1 in
+    (subst (λ (ids : List ℕ). IsTorn g.S.Sink.tells (g.S.Sink.channel inside.ledger.sink) (g.S.Sink.channel new.sink) (deletion_line inside.ledger.state ids)) c.as_slice.ensures.value own.write_fault.1)
+    (λ clauses proof added told. own.cut clauses proof (subst (λ (ids : List ℕ). are_added (length clauses) inside.ledger.state.live ids ≡ true) (sym c.as_slice.ensures.value) added) told)
+    own.in_step c.marks_law.ensures.fewer c.self.invariant.1 in
     let cause : WriteFault ≡ c.from.result = ap table_error (sym own.write_fault.0) ∙ sym c.from.ensures in
     subst (λ (e : TableError). Leaves g.S.Sink.tells (g.S.Sink.channel c.args.self.now.book.sink) (g.S.Sink.channel new.sink) c.args.self.now (table_of (aside g after) inside.diagram new) (Some e)) cause
     (subst {A = TableState g.row.S.Denot} (λ t. BreaksOff g.S.Sink.tells (g.S.Sink.channel t.book.sink) (g.S.Sink.channel new.sink) t (table_of (aside g after) inside.diagram new)) c.self.view_is torn)
