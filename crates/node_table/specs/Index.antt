@@ -12,8 +12,8 @@ use Rattle.node_table.specs.declared.stored.StoredNode.{StoredNode}
 use Rattle.node_table.specs.declared.index.Index.{Index}
 
 -- a stored node of this level and these children
-pub record IsTriple (node : StoredNode) (place : ℕ) (where_true where_false : Child) : Type 0 where
-  pub level : node.level ≡ place
+pub record IsTriple (node : StoredNode) (depth : ℕ) (where_true where_false : Child) : Type 0 where
+  pub level : node.level ≡ depth
   pub high : node.high ≡ where_true
   pub low : node.low ≡ where_false
 

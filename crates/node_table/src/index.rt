@@ -1,6 +1,6 @@
 // Finds stored nodes by their level and children: open addressing over their keys, by the kit's default hash. A node that
 // is looked up is met at the first place in most cases, since at most half of the places are taken.
-ghost use Rattle.std.specs.Prelude.{◌≡◌, ◌<◌, ◌≤◌, ◌+◌, ◌*◌, ◌^◌, ℕ, [], None, Some, OnOk, IfSome, MatchOption, IsTrue, IsFalse, length, count_by, slice_index_or};
+ghost use Rattle.std.specs.Prelude.{◌≡◌, ◌<◌, ◌≤◌, ◌+◌, ◌*◌, ◌^◌, ℕ, [], None, Some, OnOk, IfNone, IfSome, MatchOption, IsTrue, IsFalse, length, max, count_by, slice_index_or};
 ghost use Rattle.slab.specs.Slab.{Slab as Slots, get, slab_len, Updates};
 ghost use Rattle.node_table.specs.Index.{IsIndexOf, HasRoom, IsTriple, IsCounted, IsFirstFree, Enters, home_of, is_taken, place_at};
 ghost use Rattle.node_table.specs.declared.stored.StoredNode.{StoredNode as Stored};
@@ -186,6 +186,7 @@ fn wider_size(size: usize, keys: usize) -> Option<usize>
     ensures few { IfSome result (λ wider. wider ≤ 2 ^ 32) }
     ensures room { IfSome result (λ wider. keys < wider) }
     ensures twice { IfSome result (λ wider. 2 * size ≤ wider) }
+    ensures none { IfNone result (2 ^ 31 ≤ max size keys) }
 {
     if size.max(keys) >= 1 << 31 {
         return None;
