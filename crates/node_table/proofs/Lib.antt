@@ -1,3 +1,5 @@
+pub mod Words
+pub mod Indexed
 pub mod Keyed
 pub mod Looked
 pub mod Values

@@ -1,47 +1,146 @@
--- A node more in the row of stored nodes.
-use Rattle.std.proofs.Common.{◌≡◌, ℕ, ◌+◌, ◌<◌, ◌≤◌, List, [], ◌∷◌, ◌++◌, length, None, Some, sym, ap, ◌∙◌, subst, arith, length-append, inl, inr}
+-- A node more among the stored ones.
+use Rattle.std.proofs.Common.{◌≡◌, ℕ, ◌+◌, ◌<◌, ◌≤◌, true, List, length, get_or, Option, None, Some, refl, sym, ap, ◌∙◌, subst, arith, inl, inr}
 use Rattle.std.specs.FinMap as map
-use Rattle.std.proofs.lemmas.Option.{slice_get_past, slice_get_within}
+use Rattle.std.specs.Option.{option_map}
+use Rattle.std.proofs.lemmas.Bool.{cases_eq}
+use Rattle.slab.specs.Slab.{Slab, Updates, get, slab_len}
 use Rattle.cnf_base.specs.ProofText.{max_id}
+use Rattle.node_table.specs.declared.index.Index.{Index}
 use Rattle.node_table.specs.declared.node.Branch.{Branch}
-use Rattle.node_table.specs.Diagram.{IsReduced, FitsIn, branch_at, levels, with_branch}
-use Rattle.node_table.specs.Stored.{graph_of, IsStored, AreNumbered, HaveFirsts, next_variable}
-use Rattle.node_table.proofs.Keyed.{branch_at-graph_of, len-keyed, graph_of-push}
-use Rattle.node_table.proofs.Grown.{IsReduced-joined, joined_cases}
+use Rattle.node_table.specs.declared.node.Node.{Node}
+use Rattle.node_table.specs.declared.node.Node.TheVariants.{False, True, Inner}
+use Rattle.node_table.specs.declared.stored.StoredNode.{StoredNode}
+use Rattle.node_table.specs.Index.{IsIndexOf}
+use Rattle.node_table.specs.Diagram.{IsBelow, IsReduced, IsWanted, FitsIn, branch_at, is_node, levels, with_branch}
+use Rattle.node_table.specs.Stored.{branch_in, graph_of, number_of, HasSmallKey, IsStored}
+use Rattle.node_table.proofs.Keyed.{branch_at-graph_of, graph_of-joined, len-keyed}
+use Rattle.node_table.proofs.Grown.{IsReduced-joined}
+use Rattle.node_table.proofs.Values.{branch_of_node}
 
-pub unused_next : (order : List ℕ) (branches : List Branch) → branch_at (graph_of order branches) (length branches) ≡ None
-unused_next order branches = branch_at-graph_of order branches (length branches) ∙ slice_get_past branches (length branches) (omega arith)
+-- the stored node of a node of the graph
+pub record HasStored (order : List ℕ) (slots : List (Option StoredNode)) (key : ℕ) (branch : Branch) : Type 0 where
+  pub node : StoredNode
+  pub stands : get_or slots key None ≡ Some node
+  pub branch_is : branch ≡ branch_in (length order + 1 + key) node
 
-pub stored_within : (order : List ℕ) (branches : List Branch) (key : ℕ) (b : Branch) → branch_at (graph_of order branches) key ≡ Some b → key < length branches
-stored_within order branches key b is = slice_get_within branches key b (sym (branch_at-graph_of order branches key) ∙ is)
+has_stored : (variable : ℕ) (slot : Option StoredNode) (branch : Branch) → option_map (branch_in variable) slot ≡ Some branch → (node : StoredNode) × (slot ≡ Some node) × (branch ≡ branch_in variable node)
+has_stored variable None branch is = absurd (let none : None ≡ Some branch = is in cc)
+has_stored variable (Some node) branch is = let same : Some (branch_in variable node) ≡ Some branch = is in (node, refl, cc)
 
-pub IsStored-push : (order places : List ℕ) (branches : List Branch) (branch : Branch) → IsStored order places branches → map.len (graph_of order branches).nodes < 100000000
-    → FitsIn (graph_of order branches) branch → branch.variable ≡ next_variable (graph_of order branches) → branch.first ≤ max_id + 1 → IsStored order places (branches ++ branch ∷ [])
-IsStored-push order places branches branch stored few fits next first =
-    let graph = graph_of order branches in
-    let key = length branches in
-    let count : map.len graph.nodes ≡ length branches = len-keyed 0 branches in
-    let unused = unused_next order branches in
-    let variable : branch.variable ≡ levels graph + 1 + length branches = omega (arith, next, count) in
-    let grown : graph_of order (branches ++ branch ∷ []) ≡ with_branch graph key branch = graph_of-push order branches branch in
-    let own : (other : ℕ) (b : Branch) → branch_at graph other ≡ Some b → b.variable ≡ branch.variable → ⊥ =
-    λ other b is same. omega (arith, stored.numbered.variable other b is, variable, same, stored_within order branches other b is) in
+pub stored_from_branch : (order : List ℕ) (slots : List (Option StoredNode)) (key : ℕ) (branch : Branch) → branch_at (graph_of order slots) key ≡ Some branch → HasStored order slots key branch
+stored_from_branch order slots key branch is =
+    let found = has_stored (length order + 1 + key) (get_or slots key None) branch (sym (branch_at-graph_of order slots key) ∙ is) in
+    record { node = found.0; stands = found.1; branch_is = found.2 }
+
+pub variable_from_key : (order : List ℕ) (slots : List (Option StoredNode)) (key : ℕ) (branch : Branch) → branch_at (graph_of order slots) key ≡ Some branch → branch.variable ≡ length order + 1 + key
+variable_from_key order slots key branch is = ap (λ (b : Branch). b.variable) (stored_from_branch order slots key branch is).branch_is
+
+pub unused_key : (order : List ℕ) (slots : List (Option StoredNode)) (key : ℕ) → get_or slots key None ≡ None → branch_at (graph_of order slots) key ≡ None
+unused_key order slots key none = branch_at-graph_of order slots key ∙ ap (option_map (branch_in (length order + 1 + key))) none
+
+-- no node has the extension variable of a key that isn't used
+pub own_variable : (order : List ℕ) (slots : List (Option StoredNode)) (key : ℕ) → get_or slots key None ≡ None
+    → (other : ℕ) (branch : Branch) → branch_at (graph_of order slots) other ≡ Some branch → branch.variable ≡ length order + 1 + key → ⊥
+own_variable order slots key none other branch is same =
+    let variable = variable_from_key order slots other branch is in
+    let here : other ≡ key = omega (arith, variable, same) in
+    let unused : branch_at (graph_of order slots) other ≡ None = ap (branch_at (graph_of order slots)) here ∙ unused_key order slots key none in
+    cc
+
+-- what holds of each stored node, and of the new one, holds of each stored node after
+each_stored : (old new : Slab StoredNode) (key : ℕ) (node : StoredNode) → Updates old new key (Some node) → (P : ℕ → StoredNode → Type 0) → P key node
+    → ((other : ℕ) (one : StoredNode) → get old other ≡ Some one → P other one) → (other : ℕ) (one : StoredNode) → get new other ≡ Some one → P other one
+each_stored old new key node updates P here there other one is =
+    elim (cases_eq other key) [
+      | inl same ↦
+          let at : Some node ≡ Some one = sym updates.changed ∙ ap (get new) (sym same) ∙ is in
+          let node_is : node ≡ one = cc in
+          subst (λ (k : ℕ). P k one) (sym same) (subst (P key) node_is here)
+      | inr differ ↦ there other one (sym (updates.others other differ) ∙ is)
+    ]
+
+-- A node that joins the stored ones.
+pub record Joins (order : List ℕ) (old new : Slab StoredNode) (key : ℕ) (node : StoredNode) : Type 0 where
+  pub few : slab_len old < 100000000
+  pub more : slab_len new ≡ slab_len old + 1
+  pub small : key < 100000000
+  pub vacant : get old key ≡ None
+  pub updates : Updates old new key (Some node)
+  pub first : number_of node.first ≤ max_id + 1
+  pub fits : FitsIn (graph_of order old.slots) (branch_in (length order + 1 + key) node)
+
+pub joined_graph : (order : List ℕ) (old new : Slab StoredNode) (key : ℕ) (node : StoredNode) → Joins order old new key node
+    → graph_of order new.slots ≡ with_branch (graph_of order old.slots) key (branch_in (length order + 1 + key) node)
+joined_graph order old new key node joins = graph_of-joined order old.slots new.slots key node joins.updates.changed joins.updates.others
+
+pub IsStored-joined : (order places : List ℕ) (before after : Index) (old new : Slab StoredNode) (key : ℕ) (node : StoredNode) → IsStored order places before old → Joins order old new key node
+    → IsIndexOf after new → IsStored order places after new
+IsStored-joined order places before after old new key node stored joins indexed =
+    let branch = branch_in (length order + 1 + key) node in
+    let unused = unused_key order old.slots key joins.vacant in
+    let own = own_variable order old.slots key joins.vacant in
     record {
       ordered = stored.ordered;
       few_levels = stored.few_levels;
-      few_nodes = omega (arith, few, count, length-append branches (branch ∷ []));
+      few_nodes = omega (arith, joins.few, joins.more);
       inverse = stored.inverse;
-      reduced = subst IsReduced (sym grown) (IsReduced-joined graph stored.reduced key branch unused fits (omega (arith, variable)) own);
-      numbered = subst AreNumbered (sym grown) (record {
-        variable = λ other b is. elim (joined_cases graph key branch other b is) [
-          | inl here ↦ ap (λ (x : Branch). x.variable) here.1 ∙ variable ∙ ap (λ (n : ℕ). levels graph + 1 + n) (sym here.0)
-          | inr there ↦ stored.numbered.variable other b there
-        ];
-      });
-      firsts = subst HaveFirsts (sym grown) (record {
-        within = λ other b is. elim (joined_cases graph key branch other b is) [
-          | inl here ↦ subst (λ (x : Branch). x.first ≤ max_id + 1) (sym here.1) first
-          | inr there ↦ stored.firsts.within other b there
-        ];
+      reduced = subst IsReduced (sym (joined_graph order old new key node joins))
+          (IsReduced-joined (graph_of order old.slots) stored.reduced key branch unused joins.fits (omega arith) own);
+      small_keys = each_stored old new key node joins.updates (λ k one. k < 100000000) joins.small stored.small_keys;
+      firsts = each_stored old new key node joins.updates (λ k one. number_of one.first ≤ max_id + 1) joins.first stored.firsts;
+      indexed = indexed;
+    }
+
+-- the nodes that stand have keys that fit a child's word
+pub small_from_stands : (order places : List ℕ) (index : Index) (nodes : Slab StoredNode) → IsStored order places index nodes → (node : Node) → is_node (graph_of order nodes.slots) node ≡ true → HasSmallKey node
+small_from_stands order places index nodes stored False is = tt
+small_from_stands order places index nodes stored True is = tt
+small_from_stands order places index nodes stored (Inner key) is =
+    let branch = branch_of_node (graph_of order nodes.slots) key is in
+    let found = stored_from_branch order nodes.slots key.index branch.0 branch.1 in
+    stored.small_keys key.index found.node found.stands
+
+-- the slab has room for more, and the index too
+pub IsStored-room : (order places : List ℕ) (before after : Index) (old room : Slab StoredNode) → room ≡ record old { capacity = room.capacity } → IsStored order places before old → IsIndexOf after room
+    → IsStored order places after room
+IsStored-room order places before after old room kept stored indexed =
+    subst (IsStored order places after) (sym kept) (record {
+      ordered = stored.ordered;
+      few_levels = stored.few_levels;
+      few_nodes = stored.few_nodes;
+      inverse = stored.inverse;
+      reduced = stored.reduced;
+      small_keys = stored.small_keys;
+      firsts = stored.firsts;
+      indexed = subst (IsIndexOf after) kept indexed;
+    })
+
+-- the node entered under the vacant key, once the slab had room
+pub Joins-entered : (order : List ℕ) (old room new : Slab StoredNode) (key : ℕ) (node : StoredNode) → room ≡ record old { capacity = room.capacity } → map.len (graph_of order old.slots).nodes < 100000000
+    → key < 100000000 → get room key ≡ None → Updates room new key (Some node) → slab_len new ≡ slab_len room + 1
+    → (level : ℕ) (high low : Node) (first : ℕ) → branch_in (length order + 1 + key) node ≡ record { level = level; variable = length order + 1 + key; high = high; low = low; first = first }
+    → level < levels (graph_of order old.slots) → IsBelow (graph_of order old.slots) level high → IsBelow (graph_of order old.slots) level low → IsWanted (graph_of order old.slots) level high low → first ≤ max_id + 1
+    → Joins order old new key node
+Joins-entered order old room new key node kept few small vacant updates more level high low first node_is few_level below_high below_low wanted few_first =
+    let graph = graph_of order old.slots in
+    let count = len-keyed (length order) 0 old.slots in
+    let same : slab_len room ≡ slab_len old = ap slab_len kept in
+    let number : number_of node.first ≡ first = ap (λ (b : Branch). b.first) node_is in
+    record {
+      few = omega (arith, few, count);
+      more = omega (arith, more, same);
+      small = small;
+      vacant = ap (λ s. get s key) (sym kept) ∙ vacant;
+      updates = record {
+        changed = updates.changed;
+        others = λ other differ. updates.others other differ ∙ ap (λ s. get s other) kept;
+      };
+      first = omega (arith, number, few_first);
+      fits = subst (FitsIn graph) (sym node_is) (record {
+        level = few_level;
+        high = below_high;
+        low = below_low;
+        differ = wanted.differ;
+        alone = λ other branch is alike. wanted.missing other branch is alike.level alike.high alike.low;
       });
     }

@@ -82,6 +82,15 @@ pub record IsReduced (graph : Graph) : Type 0 where
 abbrev pub with_branch : Graph → ℕ → Branch → Graph
 with_branch graph key branch = record { order = graph.order; nodes = map.insert graph.nodes key branch }
 
+-- no node of this level has these children
+abbrev pub IsMissing : Graph → ℕ → Node → Node → Type 0
+IsMissing graph level high low = (key : ℕ) (branch : Branch) → branch_at graph key ≡ Some branch → branch.level ≡ level → branch.high ≡ high → branch.low ≡ low → ⊥
+
+-- a node that has to be made: its children differ, and none is alike
+pub record IsWanted (graph : Graph) (level : ℕ) (high low : Node) : Type 0 where
+  pub differ : high ≢ low
+  pub missing : IsMissing graph level high low
+
 -- A node that may join the graph: its children stand below it and differ, and no node is alike.
 pub record FitsIn (graph : Graph) (branch : Branch) : Type 0 where
   pub level : branch.level < levels graph

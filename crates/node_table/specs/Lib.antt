@@ -1,6 +1,7 @@
 pub mod Diagram
 pub mod Value
 pub mod Stored
+pub mod Index
 pub mod Defined
 pub mod Tied
 pub mod Errors

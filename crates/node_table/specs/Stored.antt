@@ -1,41 +1,76 @@
--- How the nodes of a table are stored: in the order in which they were made.
-use Rattle.std.specs.Prelude.{◌≡◌, ◌<◌, ◌≤◌, ◌+◌, ◌-◌, ℕ, List, [], ◌∷◌, length, slice_index_or, Some}
+-- How the nodes of a table are stored: in five words each, under their keys in a slab, beside an index of their levels and
+-- children.
+use Rattle.std.specs.Prelude.{◌≡◌, ◌<◌, ◌≤◌, ◌+◌, ◌-◌, ◌*◌, ◌^◌, ℕ, zero, suc, List, [], ◌∷◌, length, slice_index_or, Option, None, Some}
 use Rattle.std.specs.FinMap as map
+use Rattle.slab.specs.Slab.{Slab, get, slab_len}
 use Rattle.cnf_base.specs.ProofText.{max_id}
+use Rattle.node_table.specs.declared.node.Node.{Node}
+use Rattle.node_table.specs.declared.node.Node.TheVariants.{False, True, Inner}
 use Rattle.node_table.specs.declared.node.Branch.{Branch}
-use Rattle.node_table.specs.Diagram.{Graph, IsOrder, IsReduced, branch_at, levels}
+use Rattle.node_table.specs.declared.stored.Child.{Child}
+use Rattle.node_table.specs.declared.stored.Halves.{Halves}
+use Rattle.node_table.specs.declared.stored.StoredNode.{StoredNode}
+use Rattle.node_table.specs.declared.index.Index.{Index}
+use Rattle.node_table.specs.Index.{IsIndexOf}
+use Rattle.node_table.specs.Diagram.{Graph, IsOrder, IsReduced}
 
--- each under its place
-abbrev pub keyed_from : ℕ → List Branch → List (ℕ × Branch)
-keyed_from key [] = []
-keyed_from key (branch ∷ branches) = (key, branch) ∷ keyed_from (key + 1) branches
+-- the node that a child's word stands for
+abbrev pub node_of_word : ℕ → Node
+node_of_word zero = False
+node_of_word (suc zero) = True
+node_of_word (suc (suc key)) = Inner (record { index = key })
 
-abbrev pub graph_of : List ℕ → List Branch → Graph
-graph_of order branches = record { order = order; nodes = map.from_entries (keyed_from 0 branches) }
+abbrev pub word_of_node : Node → ℕ
+word_of_node False = 0
+word_of_node True = 1
+word_of_node (Inner key) = key.index + 2
+
+abbrev pub child_of : Node → Child
+child_of node = record { word = word_of_node node }
+
+-- a constant, or a node whose key fits a child's word
+abbrev pub HasSmallKey : Node → Type 0
+HasSmallKey False = Unit {0}
+HasSmallKey True = Unit {0}
+HasSmallKey (Inner key) = key.index < 100000000
+
+-- the number of two halves
+abbrev pub number_of : Halves → ℕ
+number_of halves = halves.high * 2 ^ 32 + halves.low
+
+-- the node under this extension variable
+abbrev pub branch_in : ℕ → StoredNode → Branch
+branch_in variable node = record {
+  level = node.level;
+  variable = variable;
+  high = node_of_word node.high.word;
+  low = node_of_word node.low.word;
+  first = number_of node.first;
+}
+
+-- Each stored node under its key, the first of which is this one. Extension variables stand above the formula's, in the
+-- order of the keys.
+abbrev pub keyed_from : ℕ → ℕ → List (Option StoredNode) → List (ℕ × Branch)
+keyed_from levels key [] = []
+keyed_from levels key (None ∷ slots) = keyed_from levels (key + 1) slots
+keyed_from levels key (Some node ∷ slots) = (key, branch_in (levels + 1 + key) node) ∷ keyed_from levels (key + 1) slots
+
+abbrev pub graph_of : List ℕ → List (Option StoredNode) → Graph
+graph_of order slots = record { order = order; nodes = map.from_entries (keyed_from (length order) 0 slots) }
 
 -- the place of each variable in the order
 pub record ArePlaces (order places : List ℕ) : Type 0 where
   pub one_each : length places ≡ length order
   pub placed : (place : ℕ) → place < length order → slice_index_or places (slice_index_or order place 0 - 1) 0 ≡ place
 
--- extension variables are given in the order in which the nodes were made
-pub record AreNumbered (graph : Graph) : Type 0 where
-  pub variable : (key : ℕ) (branch : Branch) → branch_at graph key ≡ Some branch → branch.variable ≡ levels graph + 1 + key
-
--- the extension variable of the next node: they are given in the order in which nodes are made
-abbrev pub next_variable : Graph → ℕ
-next_variable graph = levels graph + 1 + map.len graph.nodes
-
--- the numbers of defining clauses are within those of proofs
-pub record HaveFirsts (graph : Graph) : Type 0 where
-  pub within : (key : ℕ) (branch : Branch) → branch_at graph key ≡ Some branch → branch.first ≤ max_id + 1
-
--- The stored nodes are a reduced graph over an order, within the limits of variables and nodes.
-pub record IsStored (order places : List ℕ) (branches : List Branch) : Type 0 where
+-- The stored nodes are a reduced graph over an order, within the limits of variables, nodes and clause numbers, and the
+-- index finds them.
+pub record IsStored (order places : List ℕ) (index : Index) (nodes : Slab StoredNode) : Type 0 where
   pub ordered : IsOrder order
   pub few_levels : length order ≤ 1000000
-  pub few_nodes : length branches ≤ 100000000
+  pub few_nodes : slab_len nodes ≤ 100000000
   pub inverse : ArePlaces order places
-  pub reduced : IsReduced (graph_of order branches)
-  pub numbered : AreNumbered (graph_of order branches)
-  pub firsts : HaveFirsts (graph_of order branches)
+  pub reduced : IsReduced (graph_of order nodes.slots)
+  pub small_keys : (key : ℕ) (node : StoredNode) → get nodes key ≡ Some node → key < 100000000
+  pub firsts : (key : ℕ) (node : StoredNode) → get nodes key ≡ Some node → number_of node.first ≤ max_id + 1
+  pub indexed : IsIndexOf index nodes

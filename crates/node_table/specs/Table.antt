@@ -10,6 +10,7 @@ use Rattle.node_table.specs.declared.node.NodeKey.{NodeKey}
 use Rattle.node_table.specs.declared.node.Branch.{Branch}
 use Rattle.node_table.specs.declared.error.TableError.{TableError}
 use Rattle.node_table.specs.declared.error.TableError.TheVariants.{WriteFault}
+pub use Rattle.node_table.specs.Diagram.{IsMissing, IsWanted}
 use Rattle.node_table.specs.Diagram.{Graph, graph_code, IsNew, KeepsNodes, branch_at, is_node, levels, level_of, high_at, low_at, variable_at}
 use Rattle.node_table.specs.Defined.{Definition, IsUnused, atom_of, definitions, with_definitions}
 use Rattle.node_table.specs.Tied.{IsTied, AreRetired, GivesNumbers, KeepsClauses}
@@ -54,15 +55,6 @@ pub record HasChildren (graph : Graph) (level : ℕ) (high low node : Node) : Ty
   pub not_above : level ≤ level_of graph node
   pub high_child : high_at graph level node ≡ high
   pub low_child : low_at graph level node ≡ low
-
--- no node of this level has these children
-abbrev pub IsMissing : Graph → ℕ → Node → Node → Type 0
-IsMissing graph level high low = (key : ℕ) (branch : Branch) → branch_at graph key ≡ Some branch → branch.level ≡ level → branch.high ≡ high → branch.low ≡ low → ⊥
-
--- a node that has to be made: its children differ, and none is alike
-pub record IsWanted (graph : Graph) (level : ℕ) (high low : Node) : Type 0 where
-  pub differ : high ≢ low
-  pub missing : IsMissing graph level high low
 
 -- a variable that may become a new node's: it is above the formula's, and in no live clause
 pub record IsFree (graph : Graph) (live : Live) (variable : ℕ) : Type 0 where

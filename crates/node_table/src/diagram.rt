@@ -1,28 +1,34 @@
-// The nodes of a table, in the order in which they were made; a node is found by a search from the front. A slab with
-// an index from triples to keys may take their place under the same contracts.
-ghost use Rattle.std.specs.Prelude.{◌≡◌, ◌≢◌, ◌↔◌, ◌+◌, ◌<◌, ◌≤◌, ℕ, pos, None, Some, IfOk, IfSome, OnOk, OnErr, MatchOption, length, IsTrue, IsFalse, is_some, slice_index_or};
-ghost use Rattle.std.specs.Option.{option_copied};
+// The nodes of a table, each under a key of its own in a slab; an index finds a node by its level and children. A key
+// also gives its node's extension variable.
+ghost use Rattle.std.specs.Prelude.{◌≡◌, ◌≢◌, ◌↔◌, ◌+◌, ◌<◌, ◌≤◌, ℕ, pos, None, Some, IfOk, IfSome, OnErr, MatchOption, length, IsTrue};
 ghost use Rattle.std.specs.FinMap as map;
 ghost use Rattle.cnf_base.specs.Truth.{assignment_of};
 ghost use Rattle.cnf_base.specs.ProofText.{max_id};
-ghost use Rattle.node_table.specs.Diagram.{Graph, IsOrder, IsReduced, IsBelow, FitsIn, IsNew, branch_at, branch_of, is_node, levels, variable_at, with_branch};
+ghost use Rattle.node_table.specs.Diagram.{Graph, IsOrder, IsReduced, IsBelow, IsNew, IsWanted, branch_at, branch_of, is_node, levels, variable_at};
 ghost use Rattle.node_table.specs.Value.{value_of, by_level, IsChosen};
-ghost use Rattle.node_table.specs.Stored.{graph_of, ArePlaces, next_variable};
+ghost use Rattle.node_table.specs.Stored.{ArePlaces};
 ghost use Rattle.node_table.specs.Defined.{atom_of, atom_in};
 ghost use Rattle.node_table.specs.declared.node.Branch.{Branch as BranchValue};
 
+use crate::index::Index;
 use crate::node::{Branch, Node, NodeKey};
+use crate::stored::{Child, StoredNode};
 use cnf_base::{Lit, OutOfMemory};
 use hint_chain::Atom;
+use slab::Slab;
 use std::alloc::Global;
 use std::marker::Model;
+
+// Keys are below this, so that a child is one word and each node has an extension variable.
+const MAX_NODES: usize = 100_000_000;
 
 /// The nodes over an order of the variables.
 #[derive(Debug, Drop)]
 pub struct Diagram {
     order: Vec<u32>,
     places: Vec<u32>,
-    branches: Vec<Branch>,
+    nodes: Slab<StoredNode>,
+    index: Index,
 }
 
 impl Model for Diagram {
@@ -33,9 +39,9 @@ impl Model for Diagram {
 
     ghost coded = { graph_code };
 
-    ghost view = { λ d. graph_of d.order.items d.branches.items };
+    ghost view = { λ d. graph_of d.order.items d.nodes.slots };
 
-    ghost invariant = { λ d. IsStored d.order.items d.places.items d.branches.items };
+    ghost invariant = { λ d. IsStored d.order.items d.places.items d.index d.nodes };
 }
 
 impl Diagram {
@@ -51,7 +57,8 @@ impl Diagram {
         Ok(Diagram {
             order: own_order,
             places,
-            branches: Vec::new(alloc),
+            nodes: Slab::new(alloc),
+            index: Index::new(alloc),
         })
     }
 
@@ -60,7 +67,6 @@ impl Diagram {
         ensures reduced { IsReduced self.now }
         ensures ordered { IsOrder self.now.order }
         ensures few_levels { levels self.now ≤ 1000000 }
-        ensures next { (key : ℕ) (branch : BranchValue) → branch_at self.now key ≡ Some branch → branch.variable < next_variable self.now }
     {
         let _ = &self.order;
     }
@@ -101,16 +107,6 @@ impl Diagram {
         self.order.as_slice()[level as usize]
     }
 
-    /// The extension variable of the next node.
-    pub fn next_variable(&self) -> u32
-        ensures value { result ≡ next_variable self.now }
-        ensures range { (levels self.now < result) × (result ≤ 101000001) }
-        ensures own { (key : ℕ) (branch : BranchValue) → branch_at self.now key ≡ Some branch → branch.variable < result }
-    {
-        let levels = self.order.as_slice().len() as u32;
-        levels + 1 + self.branches.as_slice().len() as u32
-    }
-
     /// What a node puts into a clause.
     pub fn atom(&self, node: Node) -> Atom
         ensures { result ≡ atom_of self.now node }
@@ -137,47 +133,81 @@ impl Diagram {
     pub fn len(&self) -> u32
         ensures { result ≡ map.len self.now.nodes }
     {
-        self.branches.as_slice().len() as u32
+        self.nodes.len() as u32
     }
 
     /// The inner node of this name; None for a constant.
-    pub fn branch(&self, node: Node) -> Option<&Branch>
-        ensures branch { option_copied result ≡ branch_of self.now node }
-        ensures first { IfSome result (λ branch. branch.now.first ≤ max_id + 1) }
+    pub fn branch(&self, node: Node) -> Option<Branch>
+        ensures branch { result ≡ branch_of self.now node }
+        ensures first { IfSome result (λ branch. branch.first ≤ max_id + 1) }
     {
         match node {
             Node::False | Node::True => None,
-            Node::Inner(key) => self.branches.as_slice().get(key.index as usize),
+            Node::Inner(key) => self.branch_at(key.index),
+        }
+    }
+
+    // The inner node under a key.
+    fn branch_at(&self, key: u32) -> Option<Branch>
+        ensures branch { result ≡ branch_at self.now key }
+        ensures first { IfSome result (λ branch. branch.first ≤ max_id + 1) }
+    {
+        match self.nodes.get(key as usize) {
+            None => None,
+            Some(node) => {
+                let variable = self.order.as_slice().len() as u32 + 1 + key;
+                Some(node.branch(variable))
+            }
         }
     }
 
     /// The node of this level and these children, if there is one.
     pub fn find(&self, level: u32, high: Node, low: Node) -> Option<NodeKey>
+        requires high { IsTrue (is_node self.now high) }
+        requires low { IsTrue (is_node self.now low) }
         ensures { MatchOption result
             ((key : ℕ) (branch : BranchValue) → branch_at self.now key ≡ Some branch → branch.level ≡ level → branch.high ≡ high → branch.low ≡ low → ⊥)
             (λ key. (branch : BranchValue) × (branch_at self.now key.index ≡ Some branch) × (branch.level ≡ level) × (branch.high ≡ high) × (branch.low ≡ low)) }
     {
-        let branches = self.branches.as_slice();
-        for i in 0..branches.len() {
-            if is_alike(&branches[i], level, high, low) {
-                return Some(NodeKey { index: i as u32 });
-            }
+        let nodes = &self.nodes;
+        let high = Child::of(high);
+        let low = Child::of(low);
+        match self.index.find(nodes, level, high, low) {
+            None => None,
+            Some(index) => Some(NodeKey { index }),
         }
-        None
     }
 
-    /// One node more, which no other is alike. A refusal changes nothing.
-    pub fn push(&mut self, branch: Branch) -> Result<NodeKey, OutOfMemory>
+    /// One node more, which no other is alike, with an extension variable of its own. A refusal changes nothing.
+    pub fn push(
+        &mut self,
+        level: u32,
+        high: Node,
+        low: Node,
+        first: u64,
+    ) -> Result<(NodeKey, u32), OutOfMemory>
+        requires level { level < levels self.old }
+        requires high { IsBelow self.old level high }
+        requires low { IsBelow self.old level low }
+        requires wanted { IsWanted self.old level high low }
         requires few { map.len self.old.nodes < 100000000 }
-        requires fits { FitsIn self.old branch }
-        requires next { branch.variable ≡ next_variable self.old }
-        requires first { branch.first ≤ max_id + 1 }
-        ensures ok { IfOk result (λ key. IsNew self.old self.new key.index branch) }
+        requires first { first ≤ max_id + 1 }
+        ensures ok { IfOk result (λ made. IsNew self.old self.new made.0.index (record { level = level; variable = made.1; high = high; low = low; first = first })) }
+        ensures range { IfOk result (λ made. (levels self.old < made.1) × (made.1 ≤ 101000000)) }
+        ensures own { IfOk result (λ made. (key : ℕ) (branch : BranchValue) → branch_at self.old key ≡ Some branch → branch.variable ≢ made.1) }
         ensures err { OnErr result (self.new ≡ self.old) }
     {
-        let index = self.branches.as_slice().len() as u32;
-        self.branches.push(branch)?;
-        Ok(NodeKey { index })
+        // No key is left below the limit.
+        if self.nodes.vacant_key() >= MAX_NODES {
+            return Err(OutOfMemory);
+        }
+        let node = StoredNode::of(level, high, low, first);
+        self.nodes.reserve(1)?;
+        self.index.reserve(&self.nodes)?;
+        let index = self.nodes.insert_reserved(node) as u32;
+        self.index.insert(index, &node);
+        let variable = self.order.as_slice().len() as u32 + 1 + index;
+        Ok((NodeKey { index }, variable))
     }
 
     /// The function of a node under an assignment of all variables.
@@ -221,12 +251,6 @@ pub fn same_node(one: Node, other: Node) -> bool
     ensures { IsTrue result ↔ (one ≡ other) }
 {
     one == other
-}
-
-fn is_alike(branch: &Branch, level: u32, high: Node, low: Node) -> bool
-    ensures { IsTrue result ↔ ((branch.now.level ≡ level) × (branch.now.high ≡ high) × (branch.now.low ≡ low)) }
-{
-    branch.level == level && branch.high == high && branch.low == low
 }
 
 // The value of a variable, false where there is none.

@@ -8,8 +8,10 @@
 mod define;
 mod diagram;
 mod error;
+mod index;
 mod laws;
 mod node;
+mod stored;
 mod table;
 
 pub use diagram::Diagram;

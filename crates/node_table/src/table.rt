@@ -234,7 +234,7 @@ impl<S: Sink + Drop> Table<S> {
     {
         match self.diagram.branch(node) {
             None => None,
-            Some(branch) => Some(defs_of(branch)),
+            Some(branch) => Some(defs_of(&branch)),
         }
     }
 
@@ -309,18 +309,12 @@ impl<S: Sink + Drop> Table<S> {
             return Err(TableError::IdLimit);
         }
         self.ledger.reserve(4)?;
-        let u = positive(self.diagram.next_variable());
         let x = positive(self.diagram.variable(level));
         let high_atom = self.diagram.atom(high);
         let low_atom = self.diagram.atom(low);
-        let branch = Branch {
-            level,
-            variable: u.var(),
-            high,
-            low,
-            first: self.ledger.last_id() + 1,
-        };
-        let key = self.diagram.push(branch)?;
+        let first = self.ledger.last_id() + 1;
+        let (key, variable) = self.diagram.push(level, high, low, first)?;
+        let u = positive(variable);
         write_definitions(&mut self.ledger, u, x, &high_atom, &low_atom)?;
         Ok(Node::Inner(key))
     }

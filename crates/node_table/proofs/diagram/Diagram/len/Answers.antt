@@ -5,4 +5,4 @@ use Rattle.node_table.proofs.Keyed.{len-keyed}
 use Rattle.node_table.proofs.diagram.Diagram.len.Goals as goal
 
 pub returns : goal.returns
-returns c = ap length c.as_slice.ensures.value ∙ sym (len-keyed 0 c.self.inside.branches.items) ∙ ap (λ (g : Graph). map.len g.nodes) c.self.view_is
+returns c = c.len.ensures ∙ sym (len-keyed (length c.self.inside.order.items) 0 c.self.inside.nodes.slots) ∙ ap (λ (g : Graph). map.len g.nodes) c.self.view_is

@@ -11,8 +11,8 @@ pub returns-then-variable-eq0 : goal.returns-then-variable-eq0
 returns-then-variable-eq0 c level small is =
     let within : level < length c.self.inside.order.items → (0 < slice_index_or c.self.inside.order.items level 0) × (slice_index_or c.self.inside.order.items level 0 ≤ length c.self.inside.order.items) =
     c.self.invariant.ordered.within level in
-    let levels_are : levels (graph_of c.self.inside.order.items c.self.inside.branches.items) ≡ levels c.args.self.now = ap levels c.self.view_is in
-    let at : variable_at (graph_of c.self.inside.order.items c.self.inside.branches.items) level ≡ variable_at c.args.self.now level = ap (λ (g : Graph). variable_at g level) c.self.view_is in
+    let levels_are : levels (graph_of c.self.inside.order.items c.self.inside.nodes.slots) ≡ levels c.args.self.now = ap levels c.self.view_is in
+    let at : variable_at (graph_of c.self.inside.order.items c.self.inside.nodes.slots) level ≡ variable_at c.args.self.now level = ap (λ (g : Graph). variable_at g level) c.self.view_is in
     omega (arith, (within (omega (arith, small, levels_are))).0, at, is, c.if-variable-eq0.true)
 
 -- the place of a variable, where the order has it
