@@ -1,5 +1,5 @@
 -- What a table asks of its index.
-use Rattle.std.proofs.Common.{◌≡◌, ℕ, sym, ◌∙◌, ap, subst}
+use Rattle.std.proofs.Common.{◌≡◌, ℕ, sym, ◌∙◌, ap}
 use Rattle.slab.specs.Slab.{Slab}
 use Rattle.node_table.specs.declared.index.Index.{Index}
 use Rattle.node_table.specs.declared.node.Node.{Node}
@@ -8,11 +8,12 @@ use Rattle.node_table.specs.declared.stored.Child.{Child}
 use Rattle.node_table.specs.declared.stored.StoredNode.{StoredNode}
 use Rattle.node_table.specs.Index.{IsIndexOf, IsTriple}
 use Rattle.node_table.specs.Stored.{branch_in, child_of, node_of_word}
+use Rattle.node_table.proofs.IndexKeys.{same_nodes_indexed}
 use Rattle.node_table.proofs.Words.{node_of_word-word_of_node, child_from_node}
 
 -- it speaks of the stored nodes, and not of the room for more
 pub IsIndexOf-room : (index : Index) (old room : Slab StoredNode) → room ≡ record old { capacity = room.capacity } → IsIndexOf index old → IsIndexOf index room
-IsIndexOf-room index old room kept indexed = subst (IsIndexOf index) (sym kept) (assumption indexed)
+IsIndexOf-room index old room kept = same_nodes_indexed index old room (ap (λ (s : Slab StoredNode). s.slots) kept)
 
 -- a node of this level and these children is stored under its triple
 pub triple_from_branch : (variable : ℕ) (node : StoredNode) (branch : Branch) → branch ≡ branch_in variable node
