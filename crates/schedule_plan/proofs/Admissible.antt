@@ -1,12 +1,12 @@
 -- The plan that conjoins the clauses one by one is admissible.
-use Rattle.std.proofs.Common.{◌≡◌, ℕ, zero, suc, ◌+◌, ◌<◌, ◌≤◌, Bool, true, false, ◌&&◌, ◌||◌, List, [], ◌∷◌, ◌++◌, length, Option, None, Some, refl, sym, ap, ◌∙◌, arith, inl, inr, eq-eqb, ne_eqb}
-use Rattle.std.specs.Prelude.{not, nat_lt, nat_le, ◌==◌, if◌then◌else◌}
+use Rattle.std.proofs.Common.{◌≡◌, ℕ, zero, suc, ◌<◌, ◌≤◌, true, false, ◌&&◌, ◌||◌, List, [], ◌∷◌, ◌++◌, length, None, Some, refl, ap, ◌∙◌, arith, inl, inr, eq-eqb, ne_eqb}
+use Rattle.std.specs.Prelude.{not, nat_lt, nat_le, if◌then◌else◌}
 use Rattle.std.specs.Option.{option_and_then}
 use Rattle.std.proofs.lemmas.Bool.{cases_eq, lt-ltb, le-leb, and_from}
 use Rattle.cnf_base.specs.Formula.{Formula}
 use Rattle.schedule_plan.specs.declared.plan.Move.{Move}
 use Rattle.schedule_plan.specs.declared.plan.Move.TheVariants.{Push, And}
-use Rattle.schedule_plan.specs.Plan.{Term, input, both, Stage, IsAdmissible, after_moves, after_move, after_push, after_and, conjoin, is_pushed, no_stage}
+use Rattle.schedule_plan.specs.Plan.{Term, input, both, Stage, IsAdmissible, after_moves, after_move, after_push, conjoin, is_pushed, no_stage}
 
 -- the numbers up to one, the greatest first, and the conjunction of their clauses
 abbrev down : ℕ → List ℕ

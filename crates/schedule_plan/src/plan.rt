@@ -1,6 +1,6 @@
 // Plans: which clauses are pushed, conjoined and quantified in turn. (Bryant, Heule: Generating Extended Resolution
 // Proofs with a BDD-Based SAT Solver, 2021, section 5.)
-ghost use Rattle.std.specs.Prelude.{◌≡◌, ◌+◌, ◌<◌, IfOk, OnOk, length};
+ghost use Rattle.std.specs.Prelude.{◌≡◌, IfOk, length};
 ghost use Rattle.std.specs.List.{slice_get};
 ghost use Rattle.schedule_plan.specs.Plan.{IsAdmissible, conjoin};
 
@@ -20,18 +20,24 @@ pub enum Move {
 }
 
 /// A list of moves.
+// No move is stored: every plan so far conjoins all clauses one by one, so that its moves follow from how many clauses
+// there are.
 #[derive(Debug, Drop)]
 pub struct Plan {
-    moves: Vec<Move>,
+    clauses: u32,
 }
 
 impl Model for Plan {
-    ghost use Rattle.std.specs.Prelude.{List};
+    ghost use Rattle.std.specs.Prelude.{List, ◌≤◌};
     ghost use Rattle.schedule_plan.specs.declared.plan.Move.{Move};
 
     ghost Value = { List Move };
 
-    ghost view = { λ p. p.moves.items };
+    ghost use Rattle.schedule_plan.specs.Plan.{conjoin};
+
+    ghost view = { λ p. conjoin p.clauses };
+
+    ghost invariant = { λ p. p.clauses ≤ 10000000 };
 }
 
 impl Plan {
@@ -41,36 +47,29 @@ impl Plan {
         ensures admissible { IfOk result (IsAdmissible formula.now) }
     {
         formula.formula_law();
-        let mut moves = Vec::new(alloc);
-        for i in 0..formula.len() {
-            push_clause(&mut moves, i as u32)?;
-        }
-        Ok(Plan { moves })
+        let clauses = formula.len() as u32;
+        Ok(Plan { clauses })
     }
 
     pub fn len(&self) -> usize
         ensures { result ≡ length self.now }
     {
-        self.moves.as_slice().len()
+        (self.clauses as usize * 2).saturating_sub(1)
     }
 
     /// The move of a place, from 0; None exactly where there is none.
     pub fn get(&self, i: usize) -> Option<Move>
         ensures { result ≡ slice_get self.now i }
     {
-        self.moves.as_slice().get(i).copied()
+        // The number of the clause at work there. The first is pushed at place 0; each later one is pushed at an odd
+        // place, and conjoined at the next.
+        let clause = i / 2 + i % 2 + 1;
+        if clause > self.clauses as usize {
+            None
+        } else if i > 0 && i % 2 == 0 {
+            Some(Move::And)
+        } else {
+            Some(Move::Push(clause as u32))
+        }
     }
-}
-
-// The moves of the next clause, after those of this many.
-fn push_clause(moves: &mut Vec<Move>, count: u32) -> Result<(), OutOfMemory>
-    requires next { moves.old.items ≡ conjoin count }
-    requires few { count < 10000000 }
-    ensures { OnOk result (moves.new.items ≡ conjoin (count + 1)) }
-{
-    moves.push(Move::Push(count + 1))?;
-    if count > 0 {
-        moves.push(Move::And)?;
-    }
-    Ok(())
 }

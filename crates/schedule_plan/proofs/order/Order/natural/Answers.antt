@@ -1,5 +1,5 @@
-use Rattle.std.proofs.Common.{sym, subst, ◌∙◌, ◌≡◌, ℕ, List, arith, ap}
-use Rattle.schedule_plan.specs.Order.{IsOrder, natural}
+use Rattle.std.proofs.Common.{sym, subst}
+use Rattle.schedule_plan.specs.Order.{IsOrder}
 use Rattle.schedule_plan.proofs.Naturals.{natural_is_order}
 use Rattle.schedule_plan.proofs.order.Order.natural.Goals as goal
 
