@@ -4,11 +4,28 @@ use Rattle.hint_chain.specs.Atoms.{clause_of}
 use Rattle.node_table.specs.declared.node.Just.TheVariants.{Clause}
 use Rattle.node_table.specs.Diagram.{Graph}
 use Rattle.node_table.specs.Just.{IsJustified}
+use Rattle.operations.specs.Sides.{cofactor_at}
 use Rattle.operations.specs.Results.{conjunction_atoms}
-use Rattle.operations.specs.declared.parts.Side.TheVariants.{High}
+use Rattle.operations.specs.declared.parts.Side.TheVariants.{High, Low}
+use Rattle.apply_and.specs.Additions.{IsSide}
 use Rattle.apply_and.proofs.Closed.{is_open}
 use Rattle.apply_and.proofs.Handed.{steps_handed}
 use Rattle.apply_and.proofs.additions.justify.Goals as goal
+
+pub add_low-requires-clause-side : goal.add_low-requires-clause-side
+add_low-requires-clause-side g c =
+    let o = c.args.operands.now in
+    let old = c.args.table.now in
+    let new = c.add_high.new.table in
+    let side = c.requires.sides.on_low in
+    subst (λ (h : Graph). IsSide h new.book.state.live o c.args.w Low c.args.low.now) (sym c.in_ok-first.ensures.nodes) (record {
+      stands = side.stands;
+      first_differs = side.first_differs;
+      second_differs = side.second_differs;
+      cofactor = side.cofactor;
+      justified = c.growth_law.ensures.justified old.book.state.live new.book.state.live c.in_ok-first.ensures.steps.extends.clauses
+          (conjunction_atoms old.graph (cofactor_at Low old.graph o.level o.u) (cofactor_at Low old.graph o.level o.v) c.args.low.now.0) c.args.low.now.1 side.justified;
+    })
 
 pub returns-in_err-id-clause-steps : goal.returns-in_err-id-clause-steps
 returns-in_err-id-clause-steps g c =

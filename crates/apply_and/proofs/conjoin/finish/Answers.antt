@@ -1,4 +1,4 @@
-use Rattle.std.proofs.Common.{◌∙◌, Err, ap, sym, subst, inl, inr}
+use Rattle.std.proofs.Common.{◌∙◌, Err, ap, sym, subst, inl, inr, arith}
 use Rattle.node_table.specs.declared.error.TableError.TheVariants.{NodeLimit}
 use Rattle.node_table.specs.declared.node.Just.TheVariants.{Trivial}
 use Rattle.node_table.specs.Diagram.{Graph}
@@ -115,3 +115,9 @@ pub node-made-requires-clause-low : goal.node-made-requires-clause-low
 node-made-requires-clause-low g c =
     low_below c.operand_law.ensures c.args.table.now.graph c.requires.sound.tied.reduced c.args.table.now.book.state.live c.args.operands.now c.args.high.now c.args.low.now
     (record { split = c.requires.split; on_high = c.requires.high; on_low = c.requires.low })
+
+pub returns-clause-named : goal.returns-clause-named
+returns-clause-named g c id is =
+    let own = c.in_ok-just.ensures.named id is in
+    let before = c.in_ok-w.ensures.steps.leaves.no_less in
+    (omega (arith, own.0, before), own.1)
