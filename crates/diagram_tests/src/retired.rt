@@ -6,7 +6,7 @@ ghost use Rattle.node_table.specs.Table.{IsSound};
 use crate::script::end_of;
 use crate::support::{ProofText, open, order, room_of};
 use cnf_base::{CnfBuilder, Id};
-use lrat_rules::{conflict_law, start_law};
+use lrat_rules::{conflict_law, live_law, start_law};
 use node_table::{Table, TableError};
 use std::alloc::Global;
 use std::process::Abort;
@@ -19,6 +19,7 @@ fn add_and_delete(table: &mut Table<ProofText>) -> Result<(), TableError>
     requires empty { clause_at table.old.book.state.live 1 ≡ Some [] }
 {
     conflict_law();
+    live_law();
     let first = table.justify(&[], &[Id(1)])?;
     table.retire(first);
     let second = table.justify(&[], &[first])?;
