@@ -8,6 +8,7 @@ mod addition;
 mod clause;
 mod groups;
 mod hints;
+mod holders;
 mod judge;
 mod laws;
 mod live;

@@ -1,17 +1,18 @@
-// The live clauses by their numbers, in an ordered map. The candidates of an addition are found by a walk over all
-// of it: an index from literals to clauses may take its place, under the same contracts.
+// The live clauses by their numbers, in an ordered map. The candidates of an addition are found by an index, which tells
+// in which clauses a literal stands.
 ghost use Rattle.std.specs.Prelude.{◌≡◌, ◌||◌, ◌==◌, not, ℕ, List, OnOk, OnErr};
 ghost use Rattle.std.specs.List.{list_any, list_all};
 ghost use Rattle.std.specs.Option.{option_copied};
 ghost use Rattle.std.specs.Ordering.{nat_cmp};
-ghost use Rattle.std.specs.BTreeMap.{IsOrdered};
+ghost use Rattle.std.specs.BTreeMap.{get};
 ghost use Rattle.std.specs.FinMap as map;
 ghost use Rattle.lrat_rules.specs.State.{clause_at, with_clause, without_clauses};
 ghost use Rattle.lrat_rules.specs.Addition.{holds_negated, is_blocked_by, is_settled};
 ghost use Rattle.lrat_rules.specs.FalseLiterals.{set_of, before_of};
-ghost use Rattle.lrat_checker.specs.Walk.{settles};
+ghost use Rattle.lrat_checker.specs.Walk.{settles, settles_at};
 
 use crate::clause::Clause;
+use crate::holders::Holders;
 use cnf_base::{Group, Id, Lit, OutOfMemory};
 use lrat_rules::Chain;
 use std::alloc::Global;
@@ -23,6 +24,7 @@ use std::marker::Model;
 pub struct LiveClauses {
     alloc: Global,
     clauses: BTreeMap<u64, Clause>,
+    holders: Holders,
 }
 
 impl Model for LiveClauses {
@@ -30,12 +32,15 @@ impl Model for LiveClauses {
     ghost use Rattle.std.specs.Ordering.{nat_cmp};
     ghost use Rattle.std.specs.Coded.{coded_ℕ, coded_ℤ, coded_list};
     ghost use Rattle.std.specs.FinMap as map;
+    ghost use Rattle.lrat_checker.specs.Holders.{IsIndexOf};
 
     ghost Value = { map.FinMap nat_cmp (List ℤ) };
 
     ghost coded = { map.code coded_ℕ (coded_list coded_ℤ) };
 
     ghost view = { λ live. map.from_entries live.clauses.entries };
+
+    ghost invariant = { λ live. IsIndexOf live.holders live.clauses };
 }
 
 impl LiveClauses {
@@ -46,6 +51,7 @@ impl LiveClauses {
         LiveClauses {
             alloc,
             clauses: BTreeMap::new(alloc),
+            holders: Holders::new(alloc),
         }
     }
 
@@ -67,6 +73,7 @@ impl LiveClauses {
     {
         let clause = Clause::of(self.alloc, literals)?;
         let id = id.get();
+        self.holders.enter(self.alloc, &self.clauses, id, literals)?;
         self.clauses.insert(id, clause)?;
         Ok(())
     }
@@ -92,22 +99,41 @@ impl LiveClauses {
         requires { before_of chain.now ≡ None }
         ensures { result ≡ list_all (is_settled self.now (set_of chain.now) pivot groups.now) (map.keys self.now) }
     {
-        each_settled(&self.clauses, chain, pivot, groups)
+        let ids = self.holders.numbers(pivot.negated());
+        each_settled(&self.clauses, chain, pivot, groups, ids)
     }
 }
 
-// The walk over all live clauses.
+// The walk over the numbers of the clauses that hold the pivot's negation.
 fn each_settled(
     clauses: &BTreeMap<u64, Clause>,
     chain: &Chain,
     pivot: Lit,
     groups: &[Group],
+    ids: &[u64],
 ) -> bool
     requires { before_of chain.now ≡ None }
-    ensures all { result ≡ list_all (λ entry. settles (set_of chain.now) pivot groups.now entry.0 entry.1) clauses.now.entries }
-    ensures ordered { IsOrdered nat_cmp clauses.now }
+    ensures { result ≡ list_all (λ id. settles_at (set_of chain.now) pivot groups.now id (get nat_cmp clauses.now id)) ids.now }
 {
-    clauses.iter().all(|(id, clause)| settles_clause(chain, pivot, groups, *id, clause))
+    ids.iter()
+        .all(|id| settles_id(clauses, chain, pivot, groups, *id))
+}
+
+// A number under which no clause is live, or one that settles.
+fn settles_id(
+    clauses: &BTreeMap<u64, Clause>,
+    chain: &Chain,
+    pivot: Lit,
+    groups: &[Group],
+    id: u64,
+) -> bool
+    requires { before_of chain.now ≡ None }
+    ensures { result ≡ settles_at (set_of chain.now) pivot groups.now id (get nat_cmp clauses.now id) }
+{
+    match clauses.get(&id) {
+        None => true,
+        Some(clause) => settles_clause(chain, pivot, groups, id, clause),
+    }
 }
 
 // No candidate, or one that is blocked or has a group.
