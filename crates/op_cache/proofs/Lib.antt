@@ -1,0 +1,4 @@
+pub mod Entries
+pub mod Bounds
+pub mod Front
+pub mod Contained
