@@ -6,8 +6,7 @@ mod keys;
 
 use keys::{Found, Pair, fill};
 use op_cache::Bounded;
-use std::env;
-use std::io;
+use std::{env, io};
 
 // The number of the next word; 0 where there is none.
 fn number(word: Option<String>) -> u32 {

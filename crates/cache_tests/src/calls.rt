@@ -77,11 +77,7 @@ fn one_call(
     }
 }
 
-fn all_calls(
-    rt: &impl Abort,
-    map: &mut Bounded<u32, u32>,
-    plain: &mut Plain,
-) -> Result<(), Fail> {
+fn all_calls(rt: &impl Abort, map: &mut Bounded<u32, u32>, plain: &mut Plain) -> Result<(), Fail> {
     let mut draws = Draws { state: 12345 };
     for value in 0..CALLS {
         one_call(rt, map, plain, &mut draws, value)?;

@@ -1,5 +1,5 @@
 -- Lists of entries: which keys a test finds, and what is left without the entry that it finds.
-use Rattle.std.proofs.Common.{◌≡◌, ℕ, zero, suc, ◌+◌, ◌-◌, ◌<◌, ◌≤◌, Bool, true, false, ◌||◌, cond, List, [], ◌∷◌, map, option_map, length, take, Option, Some, None, IsSome, refl, sym, ap, ◌∙◌, subst, arith}
+use Rattle.std.proofs.Common.{◌≡◌, ℕ, zero, suc, ◌+◌, Bool, true, false, ◌||◌, cond, List, [], ◌∷◌, option_map, length, take, Option, Some, None, refl, sym, ap, ◌∙◌, subst, arith}
 use Rattle.std.specs.Cmp.{IsEquivalence}
 use Rattle.std.specs.List.{IsDistinct, AllByRecursion, list_any}
 use Rattle.std.specs.Prelude.{if◌then◌else◌}
@@ -48,10 +48,11 @@ module _ {K V : Type 0} where
     -- what both look-ups say
     pub value_of_entry : (entries : List (K × V)) → option_map (λ e. e.1) (lookup_entry test entries) ≡ lookup test entries
     value_of_entry [] = refl
-    value_of_entry (e ∷ entries) = elim (test e.0) as (λ b. option_map (λ f. f.1) (cond b (Some e) (lookup_entry test entries)) ≡ cond b (Some e.1) (lookup test entries)) [
-      | true ↦ refl
-      | false ↦ value_of_entry entries
-    ]
+    value_of_entry (e ∷ entries) = elim (test e.0) as (λ b. option_map (λ f. f.1) (cond b (Some e) (lookup_entry test entries))
+        ≡ cond b (Some e.1) (lookup test entries)) [
+          | true ↦ refl
+          | false ↦ value_of_entry entries
+        ]
 
     pub none_found : (entries : List (K × V)) → lookup_entry test entries ≡ None → list_any test (keys_of entries) ≡ false
     none_found [] h = refl
@@ -60,46 +61,57 @@ module _ {K V : Type 0} where
       | false ↦ λ t. none_found entries (rw t at h)
     ]) refl
 
-    pub one_found : (entries : List (K × V)) (found : K × V) → lookup_entry test entries ≡ Some found → (test found.0 ≡ true) × (list_any test (keys_of entries) ≡ true)
+    pub one_found : (entries : List (K × V)) (found : K × V) → lookup_entry test entries ≡ Some found
+        → (test found.0 ≡ true) × (list_any test (keys_of entries) ≡ true)
     one_found [] found h = cc
-    one_found (e ∷ entries) found h = (elim (test e.0) as (λ b. test e.0 ≡ b → (test found.0 ≡ true) × ((b || list_any test (keys_of entries)) ≡ true)) [
-      | true ↦ λ t. let h' = rw t at h in let same : e ≡ found = cc in (ap (λ f. test f.0) (sym same) ∙ t, refl)
-      | false ↦ λ t. one_found entries found (rw t at h)
-    ]) refl
+    one_found (e ∷ entries) found h = (elim (test e.0) as (λ b. test e.0 ≡ b
+        → (test found.0 ≡ true) × ((b || list_any test (keys_of entries)) ≡ true)) [
+          | true ↦ λ t. let h' = rw t at h in let same : e ≡ found = cc in (ap (λ f. test f.0) (sym same) ∙ t, refl)
+          | false ↦ λ t. one_found entries found (rw t at h)
+        ]) refl
 
-    pub length_removed : (entries : List (K × V)) (found : K × V) → lookup_entry test entries ≡ Some found → length (remove_entry test entries) + 1 ≡ length entries
+    pub length_removed : (entries : List (K × V)) (found : K × V) → lookup_entry test entries ≡ Some found
+        → length (remove_entry test entries) + 1 ≡ length entries
     length_removed [] found h = cc
-    length_removed (e ∷ entries) found h = (elim (test e.0) as (λ b. test e.0 ≡ b → length (cond b entries (e ∷ remove_entry test entries)) + 1 ≡ length (e ∷ entries)) [
-      | true ↦ λ t. omega arith
-      | false ↦ λ t. let on = length_removed entries found (rw t at h) in omega arith
-    ]) refl
+    length_removed (e ∷ entries) found h = (elim (test e.0) as (λ b. test e.0 ≡ b
+        → length (cond b entries (e ∷ remove_entry test entries)) + 1 ≡ length (e ∷ entries)) [
+          | true ↦ λ t. omega arith
+          | false ↦ λ t. let on = length_removed entries found (rw t at h) in omega arith
+        ]) refl
 
-    pub all_removed : (P : K → Type 0) (entries : List (K × V)) → AllByRecursion P (keys_of entries) → AllByRecursion P (keys_of (remove_entry test entries))
+    pub all_removed : (P : K → Type 0) (entries : List (K × V)) → AllByRecursion P (keys_of entries)
+        → AllByRecursion P (keys_of (remove_entry test entries))
     all_removed P [] h = tt
-    all_removed P (e ∷ entries) h = elim (test e.0) as (λ b. AllByRecursion P (keys_of (cond b entries (e ∷ remove_entry test entries)))) [
-      | true ↦ h.1
-      | false ↦ (h.0, all_removed P entries h.1)
-    ]
+    all_removed P (e ∷ entries) h = elim (test e.0) as
+        (λ b. AllByRecursion P (keys_of (cond b entries (e ∷ remove_entry test entries)))) [
+          | true ↦ h.1
+          | false ↦ (h.0, all_removed P entries h.1)
+        ]
 
-    pub distinct_removed : (eq : K → K → Bool) (entries : List (K × V)) → IsDistinct eq (keys_of entries) → IsDistinct eq (keys_of (remove_entry test entries))
+    pub distinct_removed : (eq : K → K → Bool) (entries : List (K × V)) → IsDistinct eq (keys_of entries)
+        → IsDistinct eq (keys_of (remove_entry test entries))
     unfolding IsDistinct
     distinct_removed eq [] h = tt
-    distinct_removed eq (e ∷ entries) h = elim (test e.0) as (λ b. IsDistinct eq (keys_of (cond b entries (e ∷ remove_entry test entries)))) [
-      | true ↦ h.1
-      | false ↦ (all_removed (λ y. eq e.0 y ≡ false) entries h.0, distinct_removed eq entries h.1)
-    ]
+    distinct_removed eq (e ∷ entries) h = elim (test e.0) as
+        (λ b. IsDistinct eq (keys_of (cond b entries (e ∷ remove_entry test entries)))) [
+          | true ↦ h.1
+          | false ↦ (all_removed (λ y. eq e.0 y ≡ false) entries h.0, distinct_removed eq entries h.1)
+        ]
 
   -- no other entry has the key of the one that is found
-  pub found_apart : (eq : K → K → Bool) → IsEquivalence eq → (key : K) (entries : List (K × V)) (found : K × V) → IsDistinct eq (keys_of entries)
+  pub found_apart : (eq : K → K → Bool) → IsEquivalence eq → (key : K) (entries : List (K × V)) (found : K × V)
+      → IsDistinct eq (keys_of entries)
       → lookup_entry (eq key) entries ≡ Some found → list_any (eq found.0) (keys_of (remove_entry (eq key) entries)) ≡ false
   unfolding IsDistinct
   found_apart eq laws key [] found d h = cc
-  found_apart eq laws key (e ∷ entries) found d h = (elim (eq key e.0) as (λ b. eq key e.0 ≡ b → list_any (eq found.0) (keys_of (cond b entries (e ∷ remove_entry (eq key) entries))) ≡ false) [
-    | true ↦ λ t. let h' = rw t at h in let same : e ≡ found = cc in subst (λ (f : K × V). list_any (eq f.0) (keys_of entries) ≡ false) same (any_none (eq e.0) (keys_of entries) d.0)
-    | false ↦ λ t. let h' = rw t at h in let is = one_found (eq key) entries found h' in
-        let differ : eq found.0 e.0 ≡ false = sym (laws.congr key found.0 e.0 is.0) ∙ t in
-        rw differ (found_apart eq laws key entries found d.1 h')
-  ]) refl
+  found_apart eq laws key (e ∷ entries) found d h = (elim (eq key e.0) as (λ b. eq key e.0 ≡ b
+      → list_any (eq found.0) (keys_of (cond b entries (e ∷ remove_entry (eq key) entries))) ≡ false) [
+        | true ↦ λ t. let h' = rw t at h in let same : e ≡ found = cc in
+            subst (λ (f : K × V). list_any (eq f.0) (keys_of entries) ≡ false) same (any_none (eq e.0) (keys_of entries) d.0)
+        | false ↦ λ t. let h' = rw t at h in let is = one_found (eq key) entries found h' in
+            let differ : eq found.0 e.0 ≡ false = sym (laws.congr key found.0 e.0 is.0) ∙ t in
+            rw differ (found_apart eq laws key entries found d.1 h')
+      ]) refl
 
   -- `kept` by whether there is room, and by what the look-up found
   abbrev pub pair_by : List (K × V) → K → V → Bool → List (K × V) × Option (K × V)

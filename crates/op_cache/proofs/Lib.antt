@@ -2,3 +2,4 @@ pub mod Entries
 pub mod Bounds
 pub mod Front
 pub mod Contained
+pub mod Values

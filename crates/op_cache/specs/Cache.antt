@@ -21,7 +21,8 @@ module _ {K V : Type 0} where
   cache_of entries capacity = record { entries = entries; capacity = capacity }
 
   abbrev pub cache_code : Coded K → Coded V → Coded (Cache K V)
-  cache_code k v = code_by (List (K × V) × ℕ) (coded× (coded_list (coded× k v)) coded_ℕ) (λ c. (c.entries, c.capacity)) (λ p. cache_of p.0 p.1) (λ _. refl)
+  cache_code k v = code_by (List (K × V) × ℕ) (coded× (coded_list (coded× k v)) coded_ℕ) (λ c. (c.entries, c.capacity))
+      (λ p. cache_of p.0 p.1) (λ _. refl)
 
   -- the entry whose use lies the longest ago
   abbrev pub last_of : List (K × V) → Option (K × V)
@@ -42,8 +43,10 @@ module _ {K V : Type 0} where
 
     -- A new pair comes first. Where the list was full, the last entry makes room for it and is handed back.
     abbrev pub with_pair : ℕ → List (K × V) → K → V → List (K × V) × Option (K × V)
-    with_pair capacity entries key value = if nat_lt (length entries) capacity then ((key, value) ∷ entries, None) else ((key, value) ∷ without_last entries, last_of entries)
+    with_pair capacity entries key value = if nat_lt (length entries) capacity then ((key, value) ∷ entries, None) else
+        ((key, value) ∷ without_last entries, last_of entries)
 
     -- after `keep`, the entries, and the pair that is handed back
     abbrev pub kept : ℕ → List (K × V) → K → V → List (K × V) × Option (K × V)
-    kept capacity entries key value = option_map_or (with_value entries key value) (lookup_entry (eq key) entries) (with_pair capacity entries key value)
+    kept capacity entries key value = option_map_or (with_value entries key value) (lookup_entry (eq key) entries)
+        (with_pair capacity entries key value)

@@ -48,10 +48,11 @@ impl<K: Eq + Hash + Copy, V: Copy> Bounded<K, V> {
         self.cache.get(key).copied()
     }
 
-    /// Keeps a value under a key, in front of all else, and hands back the pair that it replaces or pushes out.
-    /// A key that is there takes no memory. A refusal hands the pair back and changes nothing.
+    /// Keeps a value under a key, in front of all else, and hands back the pair that it replaces or pushes out. A key that is
+    /// there takes no memory, and stays as it was first given. For want of memory the pair comes back, and nothing changes.
     pub fn keep(&mut self, key: K, value: V) -> Result<Option<(K, V)>, (K, V)>
-        ensures entries { OnOk result (self.new ≡ record self.old { entries = (kept K.eq self.old.capacity self.old.entries key value).0 }) }
+        ensures entries { OnOk result (self.new
+            ≡ record self.old { entries = (kept K.eq self.old.capacity self.old.entries key value).0 }) }
         ensures handed_back { IfOk result (λ pair. pair ≡ (kept K.eq self.old.capacity self.old.entries key value).1) }
         ensures found { OnOk result (lookup (K.eq key) self.new.entries ≡ Some value) }
         ensures no_memory { IsSome (lookup (K.eq key) self.old.entries) → IsOk result }

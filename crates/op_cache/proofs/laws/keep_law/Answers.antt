@@ -1,3 +1,4 @@
+-- The lemmas of `Contained` on what is handed back.
 use Rattle.op_cache.proofs.Contained.{replaced, added, pushed_out}
 use Rattle.op_cache.proofs.laws.keep_law.Goals as goal
 

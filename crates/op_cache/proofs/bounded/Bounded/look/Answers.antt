@@ -1,3 +1,4 @@
+-- A look-up keeps the keys different and the entries as many.
 use Rattle.op_cache.proofs.Bounds.{looked_bounded}
 use Rattle.op_cache.proofs.bounded.Bounded.look.Goals as goal
 
