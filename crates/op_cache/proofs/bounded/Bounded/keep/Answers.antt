@@ -1,5 +1,4 @@
 -- What `push` of the kit's `lru` makes and hands back is what `kept` says.
-use Rattle.std.proofs.Common.{◌∙◌}
 use Rattle.lru.proofs.CallerLemmas.{lookup-put_entries}
 use Rattle.op_cache.proofs.Bounds.{pushed_bounded, kept_is}
 use Rattle.op_cache.proofs.bounded.Bounded.keep.Goals as goal
@@ -14,7 +13,7 @@ returns-clause-handed_back g c =
     let same = kept_is g.K.PartialEq.eq g.met.K.Eq.laws c.self.inside.cache.entries c.self.inside.cache.cap c.args.key c.args.value
     c.self.invariant in
     elim c.match-push.branch [
-      | in-Ok w ↦ rw (w.result-is, ← c.self.view_is) (w.in-Ok.ensures.old ∙ same.1)
+      | in-Ok w ↦ rw (w.result-is, ← c.self.view_is, w.in-Ok.ensures.old) same.1
       | in-Err w ↦ rw w.result-is tt
     ]
 
