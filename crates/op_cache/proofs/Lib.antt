@@ -1,0 +1,5 @@
+pub mod Entries
+pub mod Bounds
+pub mod Front
+pub mod Contained
+pub mod Values
