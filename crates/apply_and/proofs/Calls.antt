@@ -1,18 +1,17 @@
 -- A call of a conjunction from its parts: it is refused, its sides fail, or it is closed from the results of both.
-use Rattle.std.proofs.Common.{◌≡◌, ◌∙◌, ◌⊎◌, ◌≤◌, ◌++◌, arith, ap, refl, sym, subst, Bool, List, Result, Ok, Err, None, Some, Contains, IfOk, length, inl, inr}
+use Rattle.std.proofs.Common.{◌≡◌, ◌∙◌, ◌⊎◌, ◌≤◌, arith, refl, Bool, Result, Ok, Err, Some, Contains, IfOk, length, inl}
 use Rattle.host_io.specs.Channel.{Channel}
 use Rattle.host_io.specs.Beside.{Beside}
 use Rattle.node_table.specs.declared.error.TableError.{TableError}
 use Rattle.node_table.specs.declared.error.TableError.TheVariants.{NodeLimit, OutOfMemory}
 use Rattle.node_table.specs.declared.node.Node.{Node}
 use Rattle.node_table.specs.declared.node.Just.{Just}
-use Rattle.node_table.specs.Diagram.{is_node}
 use Rattle.node_table.specs.HandedOn.{no_error}
 use Rattle.node_table.specs.Laws.{Growth, Reachability, StepByStep, Subfunctions}
-use Rattle.node_table.specs.Table.{TableState, IsSound, HasChildren}
+use Rattle.node_table.specs.Table.{TableState, IsSound}
 use Rattle.node_table.specs.Made.{ReachesNew}
 use Rattle.operations.specs.declared.operands.Operands.{Operands}
-use Rattle.operations.specs.Operands.{AreSplit, Splitting, levels_from}
+use Rattle.operations.specs.Operands.{AreSplit, Splitting}
 use Rattle.operations.specs.Entries.{Entry, Fitting, NamesOnly, RetiresOwn}
 use Rattle.apply_and.specs.declared.cache.AndCache.{AndCache}
 use Rattle.apply_and.specs.Cache.{entries}

@@ -1,5 +1,5 @@
 -- What the open frames of a conjunction wait for, from the top, and how much they still have to do.
-use Rattle.std.proofs.Common.{is_some, true, length, ◌≡◌, ◌<◌, ◌≤◌, ◌+◌, ◌-◌, ℕ, min, Bool, List, [], ◌∷◌, Option, None, Some, Result, Ok, Err, IsTrue, ap, refl, sym, subst, arith, inl, inr, ◌⊎◌}
+use Rattle.std.proofs.Common.{is_some, true, ◌≡◌, ◌<◌, ◌≤◌, ◌+◌, ◌-◌, ℕ, min, Bool, List, [], ◌∷◌, Option, None, Some, Ok, Err, IsTrue, ap, refl, sym, subst, arith, inl, inr, ◌⊎◌}
 use Rattle.host_io.specs.Channel.{Channel}
 use Rattle.host_io.specs.Beside.{Beside}
 use Rattle.node_table.specs.declared.error.TableError.{TableError}
@@ -169,7 +169,7 @@ module _ {S : Type 0} {tells : Bool} {channel : S → Channel} {lent : S → Bes
     open_next law growth parts paths u v is o split same looked look top on_top next answer =
         let rest : Outcome S = Given tells channel lent whole frames in
         let opened : IsOpened tells channel lent rest now cache o.u o.v =
-            subst (λ (x : Node). IsOpened tells channel lent rest now cache x o.v) (sym same.0) (subst (λ (y : Node). IsOpened tells channel lent rest now cache u y) (sym same.1) (opened_by u v is)) in
+        subst (λ (x : Node). IsOpened tells channel lent rest now cache x o.v) (sym same.0) (subst (λ (y : Node). IsOpened tells channel lent rest now cache u y) (sym same.1) (opened_by u v is)) in
         subst (λ (list : List Frame). GoesOn tells channel lent whole list now looked next) (sym on_top) (record {
           sound = goes_on.sound;
           fits = fits_after looked look;

@@ -1,5 +1,5 @@
--- A whole call of a conjunction, however it ends, and the two ends of a call that is split: it is answered at once, or
--- its node is made from the results of both sides.
+-- A whole call of a conjunction, however it ends: as one relation, from which the calls around it go on. Beside it what a
+-- look-up answers, and the last step of a call that was split.
 use Rattle.std.specs.Prelude.{◌≡◌, ◌≢◌, ◌≤◌, ◌⊎◌, ◌++◌, Bool, List, Result, Ok, Err, Contains, IfOk, length}
 use Rattle.host_io.specs.Channel.{Channel}
 use Rattle.host_io.specs.Beside.{Beside}

@@ -71,7 +71,7 @@ pub fn and<S: Sink + Drop>(
     }
 }
 
-// What is next for a call: its answer, where it is a plain pair or is kept, or that it is opened.
+// What is next for a call: its answer, where it is a plain pair or is kept, or else that it is opened.
 fn ask<S: Sink + Drop>(table: &Table<S>, cache: &mut AndCache, u: Node, v: Node) -> Turn
     requires sound { IsSound table.now }
     requires first { IsTrue (is_node table.now.graph u) }
@@ -96,7 +96,8 @@ fn ask<S: Sink + Drop>(table: &Table<S>, cache: &mut AndCache, u: Node, v: Node)
     Turn::Open(u, v)
 }
 
-// The conjunction of two nodes whose answer isn't known. Each call inside it stands on a stack of frames while it is open.
+// The conjunction of two nodes whose answer isn't known. Each call inside it stands on a stack of frames while it is
+// open, so that deep diagrams take no more of the machine's stack than flat ones.
 fn conjoin<S: Sink + Drop>(
     table: &mut Table<S>,
     cache: &mut AndCache,

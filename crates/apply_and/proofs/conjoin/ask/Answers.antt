@@ -1,5 +1,5 @@
 -- A plain pair and one that is kept are answered with nothing changed in the table.
-use Rattle.std.proofs.Common.{ap, refl, inl, arith}
+use Rattle.std.proofs.Common.{ap, refl, inl}
 use Rattle.node_table.specs.declared.node.Just.TheVariants.{Trivial}
 use Rattle.node_table.specs.HandedOn.{no_error}
 use Rattle.operations.specs.Entries.{Conjunction}
@@ -74,8 +74,7 @@ returns-in-Some-look-clause-plain g c w plain =
 
 pub returns-clause-answer : goal.returns-clause-answer
 returns-clause-answer g c =
-    let apart = c.in_default.ensures.conjoined in
-    (
+    let apart = c.in_default.ensures.conjoined in (
       refl,
       refl,
       record {

@@ -1,9 +1,9 @@
 -- The node of both results is kept as the conjunction of the operands, or its step or the cache is refused.
-use Rattle.std.proofs.Common.{◌++◌, ◌⊎◌, ◌≤◌, List, length, Err, Contains, inl, refl, sym, subst}
+use Rattle.std.proofs.Common.{◌++◌, ◌≤◌, List, length, Contains, inl, refl, sym, subst}
 use Rattle.node_table.specs.declared.error.TableError.TheVariants.{OutOfMemory}
 use Rattle.node_table.specs.HandedOn.{handed_on, no_error}
 use Rattle.operations.specs.Entries.{AreNodes, Conjunction, Entry, Fits, NamesOnly}
-use Rattle.apply_and.specs.Cache.{HasOperands, entries}
+use Rattle.apply_and.specs.Cache.{entries}
 use Rattle.apply_and.specs.Calls.{Closes}
 use Rattle.apply_and.proofs.Calls.{Answer, memory_no_limit}
 use Rattle.apply_and.proofs.Handed.{steps_no_memory}

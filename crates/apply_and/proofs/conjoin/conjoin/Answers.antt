@@ -2,11 +2,9 @@
 use Rattle.std.proofs.Common.{refl, reverse, subst, sym}
 use Rattle.node_table.specs.declared.error.TableError.TheVariants.{OutOfMemory}
 use Rattle.node_table.specs.HandedOn.{handed_on}
-use Rattle.node_table.specs.Table.{TableState}
-use Rattle.apply_and.specs.declared.cache.AndCache.{AndCache}
 use Rattle.apply_and.specs.Calls.{Conjoins}
 use Rattle.apply_and.proofs.Calls.{Answer}
-use Rattle.apply_and.proofs.OpenCalls.{Outcome, close_failed, close_next, comes_by, inner_of, low_next, low_refused, low_smaller, open_next, open_refused, open_smaller, opened_by}
+use Rattle.apply_and.proofs.OpenCalls.{close_failed, close_next, comes_by, inner_of, low_next, low_refused, low_smaller, open_next, open_refused, open_smaller, opened_by}
 use Rattle.apply_and.proofs.conjoin.conjoin.Goals as goal
 
 pub split-operands-requires-clause-first : goal.split-operands-requires-clause-first
