@@ -28,7 +28,7 @@ most_more zero more h = omega arith
 most_more (suc few) zero h = absurd (omega (arith, h))
 most_more (suc few) (suc more) h = let less : most_additions few ≤ most_additions more = most_more few more (omega (arith, h)) in omega (arith, less)
 
-within_both : (one two all : ℕ) → one < all → two < all → most_additions one + (most_additions two + 2) ≤ most_additions all
+pub within_both : (one two all : ℕ) → one < all → two < all → most_additions one + (most_additions two + 2) ≤ most_additions all
 within_both one two zero first second = absurd (omega (arith, first))
 within_both one two (suc all) first second =
     let high : most_additions one ≤ most_additions all = most_more one all (omega (arith, first)) in

@@ -6,3 +6,5 @@ pub mod Made
 pub mod Added
 pub mod Named
 pub mod Handed
+pub mod Calls
+pub mod OpenCalls

@@ -1,3 +1,4 @@
 pub mod Conjunction
 pub mod Cache
 pub mod Additions
+pub mod Calls

@@ -15,9 +15,12 @@ ghost use Rattle.operations.specs.Results.{Conjoined};
 ghost use Rattle.operations.specs.Entries.{Entry, Conjunction, Fits, HaveSame, IsNewJust, NamesOnly, RetiresOwn};
 ghost use Rattle.apply_and.specs.Conjunction.{IsNoConstant, IsPlain, conjunction_of, most_additions};
 ghost use Rattle.apply_and.specs.Cache.{entries};
+ghost use Rattle.apply_and.specs.Calls.{Closes, Conjoins, IsAnswer, IsLooked, IsUnknown};
+ghost use Rattle.apply_and.specs.declared.frames.Turn.TheVariants.{Give};
 
 use crate::additions::justify;
 use crate::cache::AndCache;
+use crate::frames::{Frame, Turn, pop, push};
 use host_io::Sink;
 use node_table::{
     Just, Node, Table, TableError, canonical_law, cofactor_law, growth_law, missing_law, reach_law,
@@ -61,25 +64,106 @@ pub fn and<S: Sink + Drop>(
     ensures lacks { result ≡ Err NodeLimit → LacksPart table.new.graph (conjunction_of table.old.graph u v) }
     ensures beside { S.beside table.new.book.sink ≡ S.beside table.old.book.sink }
 {
+    entry_law::<S>();
+    match ask(table, cache, u, v) {
+        Turn::Give(found) => Ok(found),
+        Turn::Open(..) => conjoin(table, cache, u, v),
+    }
+}
+
+// What is next for a call: its answer, where it is a plain pair or is kept, or else that it is opened.
+fn ask<S: Sink + Drop>(table: &Table<S>, cache: &mut AndCache, u: Node, v: Node) -> Turn
+    requires sound { IsSound table.now }
+    requires first { IsTrue (is_node table.now.graph u) }
+    requires second { IsTrue (is_node table.now.graph v) }
+    requires fits { Fits table.now (entries cache.old) }
+    ensures answer { IsAnswer S.tells S.channel S.beside table.now cache.old cache.new u v result }
+    ensures looked { IsLooked cache.old cache.new }
+    ensures known { (w : NodeValue) (just : JustValue) → Contains (entries cache.old) (Conjunction u v w just) → result ≡ Give (w, just) }
+    ensures plain { (w : NodeValue) → IsPlain u v w → (result ≡ Give (w, Trivial)) × (cache.new ≡ cache.old) }
+{
     steps_law::<S>();
     entry_law::<S>();
-    operand_law();
-    cofactor_law();
-    growth_law();
     subfunction_law();
     reach_law();
     canonical_law();
     if let Some(w) = plain(u, v) {
-        return Ok((w, Just::Trivial));
+        return Turn::Give((w, Just::Trivial));
     }
     if let Some(found) = cache.look(u, v) {
-        return Ok(found);
+        return Turn::Give(found);
     }
-    let operands = split(table, u, v);
-    let high = and(table, cache, operands.u_high, operands.v_high)?;
-    let low = and(table, cache, operands.u_low, operands.v_low)?;
-    let found = finish(cache.alloc(), table, &operands, &high, &low)?;
-    cache.keep(u, v, &found)?;
+    Turn::Open(u, v)
+}
+
+// The conjunction of two nodes whose answer isn't known. Each call inside it stands on a stack of frames while it is
+// open, so that deep diagrams take no more of the machine's stack than flat ones.
+fn conjoin<S: Sink + Drop>(
+    table: &mut Table<S>,
+    cache: &mut AndCache,
+    u: Node,
+    v: Node,
+) -> Result<(Node, Just), TableError>
+    requires sound { IsSound table.old }
+    requires first { IsTrue (is_node table.old.graph u) }
+    requires second { IsTrue (is_node table.old.graph v) }
+    requires fits { Fits table.old (entries cache.old) }
+    requires unknown { IsUnknown (entries cache.old) u v }
+    ensures { Conjoins S.tells S.channel S.beside table.old cache.old u v table.new cache.new result }
+{
+    steps_law::<S>();
+    entry_law::<S>();
+    operand_law();
+    growth_law();
+    subfunction_law();
+    reach_law();
+    let mut frames: Vec<Frame> = Vec::new(cache.alloc());
+    let mut turn = Turn::Open(u, v);
+    'calls: loop {
+        match turn {
+            Turn::Open(u, v) => {
+                let operands = split(table, u, v);
+                push(&mut frames, operands, None)?;
+                turn = ask(table, cache, operands.u_high, operands.v_high);
+            }
+            Turn::Give(found) => {
+                let Some(frame) = pop(&mut frames) else {
+                    return Ok(found);
+                };
+                let operands = frame.operands;
+                let high = frame.high;
+                match high {
+                    None => {
+                        push(&mut frames, operands, Some(found))?;
+                        turn = ask(table, cache, operands.u_low, operands.v_low);
+                    }
+                    Some(high) => turn = Turn::Give(close(table, cache, &operands, &high, &found)?),
+                }
+            }
+        }
+    }
+}
+
+// The conjunction from the results of its two sides; it is kept.
+fn close<S: Sink + Drop>(
+    table: &mut Table<S>,
+    cache: &mut AndCache,
+    operands: &Operands,
+    high: &(Node, Just),
+    low: &(Node, Just),
+) -> Result<(Node, Just), TableError>
+    requires sound { IsSound table.old }
+    requires split { AreSplit table.old.graph operands.now }
+    requires high { Conjoined table.old.graph table.old.book.state.live operands.now.u_high operands.now.v_high high.now.0 high.now.1 }
+    requires low { Conjoined table.old.graph table.old.book.state.live operands.now.u_low operands.now.v_low low.now.0 low.now.1 }
+    ensures { Closes S.tells S.channel S.beside table.old cache.old operands.now high.now low.now table.new cache.new result }
+{
+    steps_law::<S>();
+    entry_law::<S>();
+    operand_law();
+    growth_law();
+    let found = finish(cache.alloc(), table, operands, high, low)?;
+    cache.keep(operands.u, operands.v, &found)?;
     Ok(found)
 }
 
