@@ -1,4 +1,5 @@
 pub mod Walk
+pub mod Numbers
 pub mod Holders
 pub mod Ends
 pub mod TextVerdict

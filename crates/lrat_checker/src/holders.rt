@@ -1,9 +1,11 @@
 // In which clauses a literal stands: for each literal a list of numbers. A list may have numbers that are live no more,
-// and a number twice, so a deletion changes no list. One that is full lets go what isn't live before it grows.
-ghost use Rattle.std.specs.Prelude.{◌≡◌, ℕ, ℤ, [], OnOk, IsTrue};
-ghost use Rattle.lrat_checker.specs.Holders.{Keeps, KeepsNumbers, IsEntered, numbers_of, holds, has_number, is_wanted};
+// at most as many as live ones, and a number twice. A list without numbers is given up, so the lists take memory in
+// proportion to the live clauses.
+ghost use Rattle.std.specs.Prelude.{◌≡◌, ℤ, [], OnOk, IsTrue};
+ghost use Rattle.lrat_checker.specs.Holders.{KeepsAll, KeepsAllLive, IsEntered, numbers_of, holds};
 
 use crate::clause::Clause;
+use crate::numbers::Numbers;
 use cnf_base::{Lit, OutOfMemory};
 use std::alloc::Global;
 use std::collections::{BTreeMap, HashMap};
@@ -12,7 +14,7 @@ use std::fmt;
 /// The numbers of the clauses that hold a literal.
 #[derive(Drop)]
 pub struct Holders {
-    lists: HashMap<i32, Vec<u64>>,
+    lists: HashMap<i32, Numbers>,
 }
 
 impl Holders {
@@ -34,36 +36,54 @@ impl Holders {
         }
     }
 
-    /// Enters a number in the list of each of these literals. No list loses it, or the number of a live clause, also
-    /// where memory is refused.
-    pub fn enter(
-        &mut self,
-        alloc: Global,
-        clauses: &BTreeMap<u64, Clause>,
-        id: u64,
-        literals: &[Lit],
-    ) -> Result<(), OutOfMemory>
-        ensures kept { Keeps clauses.now id self.old self.new }
+    /// Enters a number in the list of each of these literals. No list loses a number, also where memory is refused.
+    pub fn enter(&mut self, alloc: Global, id: u64, literals: &[Lit]) -> Result<(), OutOfMemory>
+        ensures kept { KeepsAll self.old self.new }
         ensures entered { OnOk result (IsEntered self.new id literals.now) }
     {
         for literal in literals {
-            self.enter_one(alloc, clauses, id, *literal)?;
+            self.enter_one(alloc, id, *literal)?;
         }
         Ok(())
     }
 
-    fn enter_one(
-        &mut self,
-        alloc: Global,
-        clauses: &BTreeMap<u64, Clause>,
-        id: u64,
-        literal: Lit,
-    ) -> Result<(), OutOfMemory>
-        ensures kept { Keeps clauses.now id self.old self.new }
+    fn enter_one(&mut self, alloc: Global, id: u64, literal: Lit) -> Result<(), OutOfMemory>
+        ensures kept { KeepsAll self.old self.new }
         ensures entered { OnOk result (IsTrue (holds self.new literal id)) }
     {
-        let numbers = self.lists.entry(literal.get())?.or_insert(Vec::new(alloc));
-        push(numbers, clauses, id)
+        let numbers = self
+            .lists
+            .entry(literal.get())?
+            .or_insert(Numbers::new(alloc));
+        numbers.push(id)
+    }
+
+    /// A clause of these literals is live no more. The lists keep the numbers of those that are.
+    pub fn leave(&mut self, clauses: &BTreeMap<u64, Clause>, literals: &[Lit])
+        ensures { KeepsAllLive clauses.now self.old self.new }
+    {
+        for literal in literals {
+            self.leave_one(clauses, *literal);
+        }
+    }
+
+    fn leave_one(&mut self, clauses: &BTreeMap<u64, Clause>, literal: Lit)
+        ensures { KeepsAllLive clauses.now self.old self.new }
+    {
+        if self.leave_list(clauses, literal) {
+            self.lists.remove(&literal.get());
+        }
+    }
+
+    // The answer is whether the literal has a list, without numbers.
+    fn leave_list(&mut self, clauses: &BTreeMap<u64, Clause>, literal: Lit) -> bool
+        ensures kept { KeepsAllLive clauses.now self.old self.new }
+        ensures emptied { IsTrue result → numbers_of self.new literal ≡ [] }
+    {
+        match self.lists.get_mut(&literal.get()) {
+            None => false,
+            Some(numbers) => numbers.leave(clauses),
+        }
     }
 }
 
@@ -73,46 +93,4 @@ impl fmt::Debug for Holders {
             .field("literals", &self.lists.len())
             .finish()
     }
-}
-
-// One number more. A refusal loses none that is wanted.
-fn push(numbers: &mut Vec<u64>, clauses: &BTreeMap<u64, Clause>, id: u64) -> Result<(), OutOfMemory>
-    ensures kept { KeepsNumbers clauses.now id numbers.old.items numbers.new.items }
-    ensures entered { OnOk result (IsTrue (has_number id numbers.new.items)) }
-{
-    make_room(numbers, clauses, id)?;
-    numbers.push(id)?;
-    Ok(())
-}
-
-// Where the list is full, drops what isn't wanted, and if more than half is left makes room for as many again.
-fn make_room(
-    numbers: &mut Vec<u64>,
-    clauses: &BTreeMap<u64, Clause>,
-    id: u64,
-) -> Result<(), OutOfMemory>
-    ensures { KeepsNumbers clauses.now id numbers.old.items numbers.new.items }
-{
-    if numbers.len() < numbers.capacity() {
-        return Ok(());
-    }
-    drop_unwanted(numbers, clauses, id);
-    let left = numbers.len();
-    if left > numbers.capacity() / 2 {
-        numbers.reserve_exact(left)?;
-    }
-    Ok(())
-}
-
-fn drop_unwanted(numbers: &mut Vec<u64>, clauses: &BTreeMap<u64, Clause>, id: u64)
-    ensures { KeepsNumbers clauses.now id numbers.old.items numbers.new.items }
-{
-    numbers.retain(|number| is_wanted(clauses, id, *number));
-}
-
-// A clause is live under this number, or is about to be.
-fn is_wanted(clauses: &BTreeMap<u64, Clause>, id: u64, number: u64) -> bool
-    ensures { result ≡ is_wanted clauses.now id number }
-{
-    number == id || clauses.contains_key(&number)
 }

@@ -12,6 +12,7 @@ mod holders;
 mod judge;
 mod laws;
 mod live;
+mod numbers;
 mod text;
 mod verdict;
 

@@ -73,7 +73,7 @@ impl LiveClauses {
     {
         let clause = Clause::of(self.alloc, literals)?;
         let id = id.get();
-        self.holders.enter(self.alloc, &self.clauses, id, literals)?;
+        self.holders.enter(self.alloc, id, literals)?;
         self.clauses.insert(id, clause)?;
         Ok(())
     }
@@ -91,7 +91,9 @@ impl LiveClauses {
         ensures { self.new ≡ map.remove self.old id }
     {
         let id = id.get();
-        let _ = self.clauses.remove(&id);
+        if let Some(clause) = self.clauses.remove(&id) {
+            self.holders.leave(&self.clauses, clause.literals());
+        }
     }
 
     /// Whether each candidate of the pivot is blocked or has a group.

@@ -4,8 +4,8 @@ use Rattle.lrat_checker.proofs.holders.Holders.enter.Goals as goal
 
 pub loop-literal-preserved : goal.loop-literal-preserved
 loop-literal-preserved c = record {
-  kept = along c.args.clauses.now c.args.id c.loop-literal.invariant.kept c.in_ok-enter_one.ensures.kept;
+  kept = along c.loop-literal.invariant.kept c.in_ok-enter_one.ensures.kept;
   entered =
-      entered_more c.args.clauses.now c.args.id c.loop-literal.self c.enter_one.new.self c.args.literals.now c.loop-literal.literal-index c.literal-item.result (omega arith)
-      c.literal-item.is c.loop-literal.invariant.entered c.in_ok-enter_one.ensures.kept c.in_ok-enter_one.ensures.entered;
+      entered_more c.args.id c.loop-literal.self c.enter_one.new.self c.args.literals.now c.loop-literal.literal-index c.literal-item.result (omega arith) c.literal-item.is
+      c.loop-literal.invariant.entered c.in_ok-enter_one.ensures.kept c.in_ok-enter_one.ensures.entered;
 }

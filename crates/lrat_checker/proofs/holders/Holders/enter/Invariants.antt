@@ -1,10 +1,10 @@
 use Rattle.std.proofs.Common.{take}
-use Rattle.lrat_checker.specs.Holders.{Keeps, IsEntered}
+use Rattle.lrat_checker.specs.Holders.{KeepsAll, IsEntered}
 use Rattle.lrat_checker.proofs.holders.Holders.enter.Given as goal
 
 -- nothing is lost so far, and the number stands in the lists of the literals so far
 abbrev pub invariant-loop-literal : goal.invariant-loop-literal
 invariant-loop-literal l = record {
-  kept : Keeps l.clauses l.id l.fn.self l.self;
+  kept : KeepsAll l.fn.self l.self;
   entered : IsEntered l.self l.id (take l.literal-index l.literals);
 }

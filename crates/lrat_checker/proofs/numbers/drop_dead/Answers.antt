@@ -1,0 +1,10 @@
+use Rattle.std.proofs.Common.{◌≡◌, filter, rules}
+use Rattle.std.proofs.lemmas.Fn.{filter_same}
+use Rattle.lrat_checker.specs.Numbers.{is_live}
+use Rattle.lrat_checker.proofs.Kept.{live_filter}
+use Rattle.lrat_checker.proofs.numbers.drop_dead.Goals as goal
+
+pub returns : goal.returns
+returns c =
+    let left : c.retain.new.self.items ≡ filter (is_live c.args.clauses.now) c.args.numbers.now.items = filter_same _ _ _ (λ x b f' k. search rules) _ _ c.retain.ensures.filtered in
+    rw (c.shrink.ensures, left) (live_filter c.args.clauses.now c.args.numbers.now.items)
