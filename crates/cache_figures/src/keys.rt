@@ -1,4 +1,7 @@
 // Keys and values of the sizes that a cache of conjunctions has.
+ghost use Rattle.std.specs.Prelude.{◌≡◌};
+ghost use Rattle.cache_figures.specs.declared.keys.Node.TheVariants.{True, Inner};
+
 use op_cache::Bounded;
 use std::mem::size_of;
 
@@ -28,15 +31,30 @@ const _: () = prove!(size_of::<Pair>() == 16);
 
 const _: () = prove!(size_of::<Found>() == 16);
 
+// The key of a number, another one for each.
+fn key_of(number: u32) -> Pair
+    ensures { (result.u ≡ Inner number) × (result.v ≡ True) }
+{
+    Pair {
+        u: Node::Inner(number),
+        v: Node::True,
+    }
+}
+
+// The value of a number.
+fn found_of(number: u32) -> Found
+    ensures { (result.node ≡ Inner number) × (result.clause ≡ number) }
+{
+    Found {
+        node: Node::Inner(number),
+        clause: u64::from(number),
+    }
+}
+
 // Keeps so many entries of different keys, or as many as there is memory for.
 pub fn fill(map: &mut Bounded<Pair, Found>, entries: u32) {
     for number in 0..entries {
-        let u = Node::Inner(number);
-        let found = Found {
-            node: u,
-            clause: number as u64,
-        };
-        if map.keep(Pair { u, v: Node::True }, found).is_err() {
+        if map.keep(key_of(number), found_of(number)).is_err() {
             return;
         }
     }
