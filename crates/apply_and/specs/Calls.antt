@@ -1,24 +1,26 @@
 -- A whole call of a conjunction, however it ends: as one relation, from which the calls around it go on. Beside it what a
 -- look-up answers, and the last step of a call that was split.
-use Rattle.std.specs.Prelude.{◌≡◌, ◌≢◌, ◌≤◌, ◌⊎◌, ◌++◌, Bool, List, Result, Ok, Err, Contains, IfOk, length}
+use Rattle.std.specs.Prelude.{◌≡◌, ◌≢◌, ◌≤◌, ◌<◌, ◌⊎◌, ◌∷◌, ℕ, Bool, List, Result, Ok, Err, Contains, IfOk, IsFalse, length}
 use Rattle.host_io.specs.Channel.{Channel}
 use Rattle.host_io.specs.Beside.{Beside}
 use Rattle.node_table.specs.declared.error.TableError.{TableError}
 use Rattle.node_table.specs.declared.error.TableError.TheVariants.{NodeLimit}
 use Rattle.node_table.specs.declared.node.Node.{Node}
 use Rattle.node_table.specs.declared.node.Just.{Just}
+use Rattle.node_table.specs.declared.node.Just.TheVariants.{Clause}
 use Rattle.node_table.specs.Table.{TableState, HasChildren, UnlessTorn}
 use Rattle.node_table.specs.Made.{LacksPart, MakesOnly, ReachesNew}
 use Rattle.node_table.specs.Progress.{Steps, error_of}
 use Rattle.operations.specs.declared.operands.Operands.{Operands}
 use Rattle.operations.specs.Operands.{levels_from}
 use Rattle.operations.specs.Results.{Conjoined}
-use Rattle.operations.specs.Entries.{Entry, Conjunction, Fits, HaveSame, NamesOnly, RetiresOwn}
+use Rattle.operations.specs.Entries.{Entry, Accounts, Conjunction, Fits, NamesOnly, RetiresOwn}
 use Rattle.apply_and.specs.declared.cache.AndCache.{AndCache}
 use Rattle.apply_and.specs.declared.frames.Turn.{Turn}
 use Rattle.apply_and.specs.declared.frames.Turn.TheVariants.{Open, Give}
 use Rattle.apply_and.specs.Conjunction.{IsNoConstant, conjunction_of, most_additions}
-use Rattle.apply_and.specs.Cache.{HasOperands, entries}
+use Rattle.apply_and.specs.Cache.{HasOperands, Pair, StandInFront, entries, is_one, most_entries}
+use Rattle.apply_and.specs.Price.{AreAmong, CoverReached, Pays}
 
 -- The call for u and v began with this table and this cache, and ended with those and this result: what it found, made,
 -- kept and retired, and how many clauses it added.
@@ -26,13 +28,16 @@ pub record Conjoins {S : Type 0} (tells : Bool) (channel : S → Channel) (lent 
     (result : Result (Node × Just) TableError) : Type 0 where
   pub conjoined : IfOk result (λ found. Conjoined new.graph new.book.state.live u v found.0 found.1)
   pub steps : Steps tells (channel old.book.sink) (channel new.book.sink) old new (most_additions (levels_from old.graph u v)) (error_of result)
-  pub fits : (others : List Entry) → Fits old (entries before ++ others) → UnlessTorn result (Fits new (entries after ++ others))
+  pub fits : Fits old (entries before) → UnlessTorn result (Fits new (entries after))
   pub named : UnlessTorn result (NamesOnly (entries before) (entries after) old.book.state new.book.state)
   pub retires : RetiresOwn old new (entries before)
+  pub accounts : UnlessTorn result (Accounts old new (entries before) (entries after))
+  pub unretired : Fits old (entries before) → IfOk result (λ found. (id : ℕ) → found.1 ≡ Clause id → Contains new.retired id → ⊥)
   pub kept : u ≢ v → IsNoConstant u → IsNoConstant v → IfOk result (λ found. Contains (entries after) (Conjunction u v found.0 found.1))
-  pub remembered : (entry : Entry) → Contains (entries before) entry → Contains (entries after) entry ⊎ (before.capacity ≤ length (entries after))
+  pub remembered : (entry : Entry) → Contains (entries before) entry → Contains (entries after) entry ⊎ (most_entries before ≤ length (entries after))
   pub no_fewer : length (entries before) ≤ length (entries after)
-  pub capacity : after.capacity ≡ before.capacity
+  pub capacity : most_entries after ≡ most_entries before
+  pub price : (all used : List Pair) → CoverReached old.graph u v all → length all ≤ most_entries before → StandInFront before used → AreAmong used all → Pays old new after u v all used result
   pub made : MakesOnly old.graph new.graph (conjunction_of old.graph u v)
   pub reachable : IfOk result (λ found. ReachesNew old.graph new.graph found.0)
   pub lacks : result ≡ Err NodeLimit → LacksPart new.graph (conjunction_of old.graph u v)
@@ -43,33 +48,32 @@ pub record Closes {S : Type 0} (tells : Bool) (channel : S → Channel) (lent : 
     (result : Result (Node × Just) TableError) : Type 0 where
   pub conjoined : IfOk result (λ found. Conjoined new.graph new.book.state.live o.u o.v found.0 found.1)
   pub steps : Steps tells (channel old.book.sink) (channel new.book.sink) old new 2 (error_of result)
-  pub fits : (others : List Entry) → Fits old (entries before ++ others) → UnlessTorn result (Fits new (entries after ++ others))
+  pub fits : Fits old (entries before) → UnlessTorn result (Fits new (entries after))
   pub named : UnlessTorn result (NamesOnly (entries before) (entries after) old.book.state new.book.state)
-  pub retired : new.retired ≡ old.retired
+  pub retires : RetiresOwn old new (entries before)
+  pub accounts : UnlessTorn result (Accounts old new (entries before) (entries after))
+  pub unretired : IfOk result (λ found. (id : ℕ) → found.1 ≡ Clause id → Contains new.retired id → ⊥)
   pub kept : IfOk result (λ found. Contains (entries after) (Conjunction o.u o.v found.0 found.1))
-  pub others : (entry : Entry) → Contains (entries before) entry → Contains (entries after) entry ⊎ (HasOperands entry o.u o.v ⊎ (before.capacity ≤ length (entries before)))
+  pub others : (entry : Entry) → Contains (entries before) entry → Contains (entries after) entry ⊎ (HasOperands entry o.u o.v ⊎ (most_entries before ≤ length (entries before)))
   pub no_fewer : length (entries before) ≤ length (entries after)
-  pub capacity : after.capacity ≡ before.capacity
+  pub capacity : most_entries after ≡ most_entries before
+  pub used : (used : List Pair) → StandInFront before used → IsFalse (is_one used (o.u, o.v)) → length used < most_entries before → IfOk result (λ found. StandInFront after ((o.u, o.v) ∷ used))
   pub children : IfOk result (λ found. HasChildren new.graph o.level high.0 low.0 found.0)
   pub made : MakesOnly old.graph new.graph (conjunction_of old.graph o.u o.v)
   pub reachable : IfOk result (λ found. ReachesNew old.graph new.graph found.0)
   pub lacks : result ≡ Err NodeLimit → LacksPart new.graph (conjunction_of old.graph o.u o.v)
   pub beside : lent new.book.sink ≡ lent old.book.sink
 
--- No plain pair, and no entry has it.
-pub record IsUnknown (list : List Entry) (u v : Node) : Type 0 where
+-- No plain pair, and no entry has it, so that it isn't one of those that stand in front.
+pub record IsUnknown (cache : AndCache) (u v : Node) : Type 0 where
   pub differ : u ≢ v
   pub first : IsNoConstant u
   pub second : IsNoConstant v
-  pub none : (w : Node) (just : Just) → Contains list (Conjunction u v w just) → ⊥
+  pub none : (w : Node) (just : Just) → Contains (entries cache) (Conjunction u v w just) → ⊥
+  pub unused : (used : List Pair) → StandInFront cache used → IsFalse (is_one used (u, v))
 
--- a look-up leaves the same entries
-pub record IsLooked (before after : AndCache) : Type 0 where
-  pub same : HaveSame (entries before) (entries after)
-  pub no_fewer : length (entries before) ≤ length (entries after)
-  pub capacity : after.capacity ≡ before.capacity
-
--- what is to be done with a call: it is to be opened, or it is answered and nothing changed in the table
+-- What is to be done with a call: it is to be opened, and nothing changed, or it is answered, and nothing changed in the
+-- table.
 abbrev pub IsAnswer : {S : Type 0} → Bool → (S → Channel) → (S → Beside) → TableState S → AndCache → AndCache → Node → Node → Turn → Type 0
-IsAnswer tells channel lent table before after u v (Open a b) = (a ≡ u) × (b ≡ v) × IsUnknown (entries after) u v
+IsAnswer tells channel lent table before after u v (Open a b) = (a ≡ u) × (b ≡ v) × (after ≡ before) × IsUnknown before u v
 IsAnswer tells channel lent table before after u v (Give found) = Conjoins tells channel lent table before u v table after (Ok found)

@@ -1,5 +1,5 @@
 -- The steps of one call of a table: nothing but room, one clause more, or one node more, whole or cut short.
-use Rattle.std.proofs.Common.{◌≡◌, ◌+◌, ◌*◌, ◌≤◌, ◌<◌, ℕ, ℤ, Bool, false, List, [], Option, None, Some, refl, sym, ap, subst, arith, take, append-nil}
+use Rattle.std.proofs.Common.{◌≡◌, ◌+◌, ◌*◌, ◌≤◌, ◌<◌, ℕ, ℤ, Bool, false, List, [], Option, None, Some, refl, sym, ap, subst, arith, inl, inr, take, append-nil}
 use Rattle.std.specs.Prelude.{IsTrue, max}
 use Rattle.host_io.specs.Channel.{Channel, Rose}
 use Rattle.lrat_rules.specs.State.{State, clause_at}
@@ -64,6 +64,17 @@ pub IsAddedTo-kept : {S : Type 0} (old new : TableState S) → IsSound old → I
 IsAddedTo-kept old new sound still extends id own =
     subst (λ (inputs : ℕ). IsAdded new.graph new.book.state.live inputs id) (sym extends.inputs)
     (added_kept old.graph new.graph old.book.state new.book.state sound.tied still.tied extends.nodes extends.clauses old.inputs id own)
+
+-- and one that has an old number was added before
+pub IsAddedTo-before : {S : Type 0} (old new : TableState S) → Extends old new → (id : ℕ) → id ≤ old.book.state.top → IsAddedTo new id → IsAddedTo old id
+IsAddedTo-before old new extends id within own = record {
+  stands = elim (extends.numbers.next id own.stands) [
+    | inl there ↦ there
+    | inr above ↦ absurd (omega (arith, within, above))
+  ];
+  above = omega (arith, own.above, extends.inputs);
+  defines_none = λ key branch at. own.defines_none key branch (extends.nodes.nodes key branch at);
+}
 
 -- what a call of the ledger leaves as it ends well, and as a write of it fails
 pub record Wrote {S : Type 0} (tells : Bool) (before after : Channel) (old new : Book S) : Type 0 where

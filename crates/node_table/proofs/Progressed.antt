@@ -1,5 +1,5 @@
 -- Calls one after another: what both kept is kept, and what they added adds up.
-use Rattle.std.proofs.Common.{◌≡◌, ◌+◌, ◌≤◌, ℕ, Bool, true, is_some, refl, sym, ap, ◌∙◌, subst, arith, inl, inr, List, [], ◌++◌, length, Option, None, Some}
+use Rattle.std.proofs.Common.{◌≡◌, ◌+◌, ◌≤◌, ℕ, Bool, true, is_some, refl, sym, ap, ◌∙◌, subst, arith, inl, inr, List, [], ◌∷◌, ◌++◌, length, Option, None, Some}
 use Rattle.std.proofs.lemmas.Bool.{cases_lt}
 use Rattle.std.proofs.lemmas.List.{append_assoc, append-nil}
 use Rattle.host_io.specs.Channel.{Channel}
@@ -168,3 +168,31 @@ module _ {S : Type 0} where
 
     pub Steps-no_memory : (channel : Channel) (table : TableState S) → IsSound table → Steps tells channel channel table table 0 (Some OutOfMemory)
     Steps-no_memory channel table sound = record { leaves = Continues-none channel table sound; extends = Extends-none table sound; adds = omega arith }
+
+    -- a clause more is retired
+    Continues-retired : (channel : Channel) (table : TableState S) (id : ℕ) → IsSound table → IsSound (record table { retired = table.retired ++ id ∷ [] })
+        → Continues tells channel channel table (record table { retired = table.retired ++ id ∷ [] })
+    Continues-retired channel table id sound still =
+        let none = Continues-none channel table sound in
+        record {
+          sound = still;
+          order = none.order;
+          inputs = none.inputs;
+          kept = none.kept;
+          max_nodes = none.max_nodes;
+          limit = none.limit;
+          no_less = none.no_less;
+          numbers = none.numbers;
+          unfailed = none.unfailed;
+          writes = none.writes;
+        }
+
+    pub Steps-retired : (channel : Channel) (table : TableState S) (id : ℕ) → IsSound table → IsSound (record table { retired = table.retired ++ id ∷ [] })
+        → Steps tells channel channel table (record table { retired = table.retired ++ id ∷ [] }) 0 None
+    Steps-retired channel table id sound still =
+        let none = Extends-none table sound in
+        record {
+          leaves = Continues-retired channel table id sound still;
+          extends = record { inputs = none.inputs; nodes = none.nodes; clauses = none.clauses; numbers = none.numbers; more = id ∷ []; retired = refl };
+          adds = omega arith;
+        }

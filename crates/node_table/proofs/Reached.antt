@@ -67,6 +67,9 @@ end_of-kept old new reduced keeps node is (to_high ∷ path) =
 pub Reaches-kept : (old new : Graph) → IsReduced old → KeepsNodes old new → (node other : Node) → is_node old node ≡ true → Reaches old node other → Reaches new node other
 Reaches-kept old new reduced keeps node other is reaches = record { path = reaches.path; ends = end_of-kept old new reduced keeps node is reaches.path ∙ reaches.ends }
 
+pub Reaches-back : (old new : Graph) → IsReduced old → KeepsNodes old new → (node other : Node) → is_node old node ≡ true → Reaches new node other → Reaches old node other
+Reaches-back old new reduced keeps node other is reaches = record { path = reaches.path; ends = sym (end_of-kept old new reduced keeps node is reaches.path) ∙ reaches.ends }
+
 -- a call that makes no node
 pub ReachesNew-same : (graph : Graph) (root : Node) → ReachesNew graph graph root
 ReachesNew-same graph root = record { each = λ key b at. inl at }

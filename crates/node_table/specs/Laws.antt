@@ -79,13 +79,14 @@ pub record Reachability : Type 0 where
   pub high : (graph : Graph) (level : ℕ) (node : Node) → Reaches graph node (high_at graph level node)
   pub low : (graph : Graph) (level : ℕ) (node : Node) → Reaches graph node (low_at graph level node)
   pub kept : (old new : Graph) → IsReduced old → KeepsNodes old new → (node other : Node) → IsTrue (is_node old node) → Reaches old node other → Reaches new node other
+  pub kept_back : (old new : Graph) → IsReduced old → KeepsNodes old new → (node other : Node) → IsTrue (is_node old node) → Reaches new node other → Reaches old node other
   pub none_made : (graph : Graph) (root : Node) → ReachesNew graph graph root
   pub joined : (old one two new : Graph) → IsReduced one → IsReduced two → KeepsNodes one two → KeepsNodes two new → (high low root : Node)
       → IsTrue (is_node one high) → IsTrue (is_node two low) → ReachesNew old one high → ReachesNew one two low → ReachesNew two new root
       → Reaches new root high → Reaches new root low → ReachesNew old new root
 
 -- The steps of an operation: none, with or without memory; those of one call after another; and with room for more. Clauses
--- that were added beside definitions stay so.
+-- that were added beside definitions stay so, and those that come to be so are new.
 pub record StepByStep {S : Type 0} (tells : Bool) (channel : S → Channel) : Type 0 where
   pub none : (table : TableState S) → IsSound table → Steps tells (channel table.book.sink) (channel table.book.sink) table table 0 None
   pub no_memory : (table : TableState S) → IsSound table → Steps tells (channel table.book.sink) (channel table.book.sink) table table 0 (Some OutOfMemory)
@@ -97,3 +98,4 @@ pub record StepByStep {S : Type 0} (tells : Bool) (channel : S → Channel) : Ty
       → Continues tells first third old new
   pub extend : (old mid new : TableState S) → Extends old mid → Extends mid new → Extends old new
   pub added : (old new : TableState S) → IsSound old → IsSound new → Extends old new → (id : ℕ) → IsAddedTo old id → IsAddedTo new id
+  pub was_added : (old new : TableState S) → Extends old new → (id : ℕ) → id ≤ old.book.state.top → IsAddedTo new id → IsAddedTo old id

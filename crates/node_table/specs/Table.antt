@@ -37,6 +37,10 @@ table_code {S} code =
 abbrev pub IsAddedTo : {S : Type 0} → TableState S → ℕ → Type 0
 IsAddedTo table id = IsAdded table.graph table.book.state.live table.inputs id
 
+-- no clause was added beside the definitions of nodes
+abbrev pub AddsNone : {S : Type 0} → TableState S → TableState S → Type 0
+AddsNone old new = (id : ℕ) → IsAddedTo new id → IsAddedTo old id
+
 -- Sound: in step with its proof, its nodes tied to live clauses, and what is retired may be deleted.
 pub record IsSound {S : Type 0} (table : TableState S) : Type 0 where
   pub in_step : IsTrue table.book.in_step

@@ -2,14 +2,13 @@
 use cnf_base::Id;
 
 /// Names an inner node of a table.
-#[derive(Clone, Copy, Debug, PartialEq, Eq, PartialOrd, Ord)]
+#[derive(Clone, Copy, Debug, PartialEq, Eq, Hash)]
 pub struct NodeKey {
     pub(crate) index: u32,
 }
 
-/// The diagram of a Boolean function, by its top node. Equal nodes of a table are equal functions. The order of names
-/// serves as a key and has no meaning.
-#[derive(Clone, Copy, Debug, PartialEq, Eq, PartialOrd, Ord)]
+/// The diagram of a Boolean function, by its top node. Equal nodes of a table are equal functions.
+#[derive(Clone, Copy, Debug, PartialEq, Eq, Hash)]
 pub enum Node {
     False,
     True,

@@ -14,7 +14,7 @@ ghost use Rattle.node_table.specs.Value.{value_of, by_level};
 ghost use Rattle.node_table.specs.Defined.{IsDefined, atom_of, defs_of, definition_count, definition_lines, is_false_node, is_true_node, literal_of_branch};
 ghost use Rattle.cnf_base.specs.ProofText.{given_if, max_id};
 ghost use Rattle.node_table.specs.Tied.{IsOverNodes};
-ghost use Rattle.node_table.specs.Table.{TableState, IsSound, IsAddedTo, HasChildren, IsMissing, IsWanted, IsFree, IsMade, IsSame, UnlessTorn, live_nodes, node_definitions, without_retired};
+ghost use Rattle.node_table.specs.Table.{TableState, IsSound, IsAddedTo, AddsNone, HasChildren, IsMissing, IsWanted, IsFree, IsMade, IsSame, UnlessTorn, live_nodes, node_definitions, without_retired};
 ghost use Rattle.node_table.specs.Progress.{Leaves, Steps, error_of};
 ghost use Rattle.node_table.specs.Made.{inner};
 
@@ -125,6 +125,7 @@ impl<S: Sink + Drop> Table<S> {
         ensures children { IfOk result (λ node. HasChildren self.new.graph level high low node) }
         ensures steps { Steps S.tells (S.channel self.old.book.sink) (S.channel self.new.book.sink) self.old self.new 0 (error_of result) }
         ensures retired { self.new.retired ≡ self.old.retired }
+        ensures none_added { UnlessTorn result (AddsNone self.old self.new) }
         // No other node is new, however the call ends.
         ensures only { (key : ℕ) (branch : BranchValue) → branch_at self.new.graph key ≡ Some branch
             → (branch_at self.old.graph key ≡ Some branch) ⊎ HasChildren self.new.graph level high low (inner key) }
@@ -198,7 +199,7 @@ impl<S: Sink + Drop> Table<S> {
         requires own { IsAddedTo self.old id }
         requires unretired { Contains self.old.retired id → ⊥ }
         ensures retired { self.new ≡ record self.old { retired = self.old.retired ++ id ∷ [] } }
-        ensures sound { IsSound self.new }
+        ensures steps { Steps S.tells (S.channel self.old.book.sink) (S.channel self.new.book.sink) self.old self.new 0 None }
     {
         self.retired.push_reserved(id);
     }
@@ -349,6 +350,7 @@ impl<S: Sink + Drop> Table<S> {
         requires wanted { IsWanted self.old.graph level high low }
         ensures steps { Steps S.tells (S.channel self.old.book.sink) (S.channel self.new.book.sink) self.old self.new 0 (error_of result) }
         ensures retired { self.new.retired ≡ self.old.retired }
+        ensures none_added { UnlessTorn result (AddsNone self.old self.new) }
         ensures only { (key : ℕ) (branch : BranchValue) → branch_at self.new.graph key ≡ Some branch
             → (branch_at self.old.graph key ≡ Some branch) ⊎ HasChildren self.new.graph level high low (inner key) }
         ensures made { IfOk result (λ node. (variable : ℕ) × IsMade self.old self.new level high low variable node

@@ -1,4 +1,4 @@
-use Rattle.node_table.proofs.Reached.{Reaches-itself, Reaches-further, Reaches-high_at, Reaches-low_at, Reaches-kept, ReachesNew-same, ReachesNew-joined}
+use Rattle.node_table.proofs.Reached.{Reaches-itself, Reaches-further, Reaches-high_at, Reaches-low_at, Reaches-kept, Reaches-back, ReachesNew-same, ReachesNew-joined}
 use Rattle.node_table.proofs.laws.reach_law.Goals as goal
 
 pub returns : goal.returns
@@ -8,6 +8,7 @@ returns c = record {
   high = Reaches-high_at;
   low = Reaches-low_at;
   kept = Reaches-kept;
+  kept_back = Reaches-back;
   none_made = ReachesNew-same;
   joined = ReachesNew-joined;
 }

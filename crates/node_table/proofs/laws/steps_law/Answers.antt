@@ -1,5 +1,5 @@
 use Rattle.node_table.proofs.Progressed.{Steps-none, Steps-no_memory, Steps-further, Steps-at_most, Continues-further, Extends-further}
-use Rattle.node_table.proofs.CallSteps.{IsAddedTo-kept}
+use Rattle.node_table.proofs.CallSteps.{IsAddedTo-kept, IsAddedTo-before}
 use Rattle.node_table.proofs.laws.steps_law.Goals as goal
 
 pub returns : goal.returns
@@ -11,4 +11,5 @@ returns g c = record {
   go_on = Continues-further g.S.Sink.tells;
   extend = Extends-further;
   added = IsAddedTo-kept;
+  was_added = IsAddedTo-before;
 }

@@ -9,7 +9,9 @@ use Rattle.node_table.specs.declared.error.TableError.TheVariants.{WriteFault}
 use Rattle.node_table.specs.Diagram.{branch_at, is_node}
 use Rattle.node_table.specs.Defined.{IsNewVariable, definition_lines}
 use Rattle.node_table.specs.Made.{inner}
-use Rattle.node_table.specs.Table.{TableState, IsSound, HasChildren, IsFree, IsMade, node_definitions}
+use Rattle.node_table.specs.Table.{TableState, IsSound, AddsNone, HasChildren, IsFree, IsMade, node_definitions}
+use Rattle.node_table.specs.Errors.{table_error}
+use Rattle.node_table.specs.HandedOn.{handed_on}
 use Rattle.node_table.specs.Tied.{IsTied}
 use Rattle.node_table.specs.Progress.{Steps}
 use Rattle.node_table.proofs.CallSteps.{Aside, Wrote, Tore, table_of}
@@ -137,3 +139,14 @@ returns-in_err-write_definitions-clause-torn g c failed =
     subst (λ (t : TableState g.row.S.Denot). (variable : ℕ) × IsFree t.graph t.book.state.live variable × IsTorn g.S.Sink.tells (g.S.Sink.channel t.book.sink) (g.S.Sink.channel new.sink)
     (definition_lines t.book.state (node_definitions t.graph t.book.state c.args.level c.args.high c.args.low variable))) c.self.view_is
     (c.in_ok-key.variable, cut.0, cut.1)
+
+pub returns-clause-none_added : goal.returns-clause-none_added
+returns-clause-none_added g c whole =
+    let aside = aside_at c.self.inside.max_nodes c.self.inside.inputs c.self.inside.retired.items in
+    subst (λ (t : TableState g.row.S.Denot). AddsNone t (table_of aside c.push.new.self c.write_definitions.new.ledger)) c.self.view_is
+    (making_before g.S.Sink.tells g.S.Sink.channel (making g (goal.at.returns-clause-none_added g c).After-write_definitions) c.write_definitions.new.ledger
+    c.in_ok-write_definitions.ensures.written c.self.inside.inputs)
+
+pub returns-in_err-write_definitions-clause-none_added : goal.returns-in_err-write_definitions-clause-none_added
+returns-in_err-write_definitions-clause-none_added g c whole = absurd (whole (handed_on c.from_residual-in_err-write_definitions.result (table_error c.in_err-write_definitions.field-0.0) WriteFault
+    c.from_residual-in_err-write_definitions.ensures.1 (ap table_error c.in_err-write_definitions.ensures.error)))

@@ -60,3 +60,12 @@ returns-in-Some-clause-beside g c = refl
 
 pub returns-clause-retired : goal.returns-clause-retired
 returns-clause-retired g c = c.make.ensures.retired
+
+pub returns-clause-none_added : goal.returns-clause-none_added
+returns-clause-none_added g c = c.make.ensures.none_added
+
+pub returns-then-same_node-clause-none_added : goal.returns-then-same_node-clause-none_added
+returns-then-same_node-clause-none_added g c whole id own = own
+
+pub returns-in-Some-clause-none_added : goal.returns-in-Some-clause-none_added
+returns-in-Some-clause-none_added g c whole id own = own
