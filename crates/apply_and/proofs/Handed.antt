@@ -35,7 +35,7 @@ within_both one two (suc all) first second =
     let low : most_additions two ≤ most_additions all = most_more two all (omega (arith, second)) in
     omega (arith, high, low)
 
-levels_kept : Growth → (old new : Graph) → KeepsNodes old new → (u v : Node) → is_node old u ≡ true → is_node old v ≡ true → levels_from new u v ≡ levels_from old u v
+pub levels_kept : Growth → (old new : Graph) → KeepsNodes old new → (u v : Node) → is_node old u ≡ true → is_node old v ≡ true → levels_from new u v ≡ levels_from old u v
 levels_kept growth old new keeps u v first second =
     let all : levels new ≡ levels old = ap length keeps.order in
     let one : level_of new u ≡ level_of old u = growth.level old new keeps u first in

@@ -4,7 +4,11 @@ pub mod Closed
 pub mod Conjunctions
 pub mod Made
 pub mod Added
+pub mod HighClause
 pub mod Named
 pub mod Handed
+pub mod Pairs
+pub mod Price
+pub mod Retiring
 pub mod Calls
 pub mod OpenCalls

@@ -1,12 +1,12 @@
 -- Entries whose clauses came since, and clauses that were retired, through one call after another.
-use Rattle.std.proofs.Common.{◌≡◌, ◌≤◌, ◌<◌, ◌+◌, ◌++◌, ◌⊎◌, ℕ, Bool, true, false, List, [], length, None, Some, Contains, sym, subst, arith, inl, inr}
-use Rattle.std.proofs.lemmas.List.Elements.{Contains-append_left, Contains-append_right, Contains-append_cases}
-use Rattle.lrat_rules.specs.State.{State}
+use Rattle.std.proofs.Common.{◌≡◌, ◌≤◌, ◌<◌, ◌+◌, ◌⊎◌, ℕ, ℤ, Bool, true, false, List, length, Option, None, Some, Contains, is_some, refl, sym, subst, arith, inl, inr}
+use Rattle.std.proofs.lemmas.Bool.{cases_lt}
+use Rattle.lrat_rules.specs.State.{State, clause_at}
 use Rattle.node_table.specs.declared.node.Just.{Just}
 use Rattle.node_table.specs.declared.node.Just.TheVariants.{Trivial, Clause}
 use Rattle.node_table.specs.declared.node.Node.{Node}
-use Rattle.node_table.specs.Table.{TableState}
-use Rattle.operations.specs.Entries.{Entry, Conjunction, Fits, Fitting, HaveSame, IsNewJust, NamesOnly, RetiresOwn, just_of}
+use Rattle.node_table.specs.Table.{TableState, IsSound, IsAddedTo}
+use Rattle.operations.specs.Entries.{Entry, Accounts, Conjunction, Fits, Fitting, HaveSame, IsNewJust, NamesOnly, RetiresOwn, just_of}
 use Rattle.apply_and.specs.Cache.{HasOperands}
 
 pub no_less : (first second third : ℕ) → first ≤ second → second ≤ third → first ≤ third
@@ -68,20 +68,6 @@ NamesOnly-kept before after old new kept own within = record {
   ];
 }
 
--- one list of entries beside others
-pub within_others : (few more others : List Entry) → ((entry : Entry) → Contains few entry → Contains more entry) → (entry : Entry) → Contains (few ++ others) entry → Contains (more ++ others) entry
-within_others few more others within entry there = elim (Contains-append_cases few others entry there) [
-  | inl own ↦ Contains-append_left more others entry (within entry own)
-  | inr other ↦ Contains-append_right more others entry other
-]
-
-pub one_beside : (before after others : List Entry) (found : Entry) → ((entry : Entry) → Contains after entry → (entry ≡ found) ⊎ Contains before entry)
-    → (entry : Entry) → Contains (after ++ others) entry → (entry ≡ found) ⊎ Contains (before ++ others) entry
-one_beside before after others found only entry there = elim (Contains-append_cases after others entry there) [
-  | inl own ↦ elim (only entry own) [ inl is ↦ inl is | inr was ↦ inr (Contains-append_left before others entry was) ]
-  | inr other ↦ inr (Contains-append_right before others entry other)
-]
-
 module _ {S : Type 0} where
   pub RetiresOwn-none : (old new : TableState S) (before : List Entry) → new.retired ≡ old.retired → RetiresOwn old new before
   RetiresOwn-none old new before same = record { each = λ id there. inl (subst (λ (list : List ℕ). Contains list id) same there) }
@@ -101,45 +87,38 @@ module _ {S : Type 0} where
     ];
   }
 
-  pub fits_looked : Fitting S → (table : TableState S) (before after others : List Entry) → HaveSame before after → Fits table (before ++ others) → Fits table (after ++ others)
-  fits_looked laws table before after others same fits = laws.fewer table (after ++ others) (before ++ others) (within_others after before others same.back) fits
+  pub fits_looked : Fitting S → (table : TableState S) (before after : List Entry) → HaveSame before after → Fits table before → Fits table after
+  fits_looked laws table before after same fits = laws.fewer table after before same.back fits
 
-  pub fits_looked_alone : Fitting S → (table : TableState S) (before after : List Entry) → HaveSame before after → Fits table before → Fits table after
-  fits_looked_alone laws table before after same fits = laws.fewer table after before same.back fits
-
-  -- with no others
-  pub fits_beside_none : Fitting S → (table : TableState S) (list : List Entry) → Fits table list → Fits table (list ++ [])
-  fits_beside_none laws table list fits =
-      laws.fewer table (list ++ []) list (λ entry there. elim (Contains-append_cases list [] entry there) [ inl own ↦ own | inr other ↦ absurd (in_none entry other) ]) fits
+  -- only a clause that is live was added
+  pub not_above : (table : TableState S) → IsSound table → (id : ℕ) → IsAddedTo table id → id ≤ table.book.state.top
+  not_above table sound id own =
+      let clause = some_clause (clause_at table.book.state.live id) own.stands in
+      (sound.tied.numbers id clause.0 clause.1).1
     where
-      in_none : (entry : Entry) → Contains [] entry → ⊥
-      in_none entry there = absurd (omega (arith, there.1))
+      some_clause : (o : Option (List ℤ)) → is_some o ≡ true → (clause : List ℤ) × (o ≡ Some clause)
+      some_clause None is = cc
+      some_clause (Some clause) is = (clause, refl)
 
-  pub fits_alone : Fitting S → (table : TableState S) (list : List Entry) → Fits table (list ++ []) → Fits table list
-  fits_alone laws table list fits = laws.fewer table list (list ++ []) (Contains-append_left list []) fits
-
-  -- after a look-up that left the same entries
-  pub RetiresOwn-looked : (old new : TableState S) (before after : List Entry) → HaveSame before after → RetiresOwn old new after → RetiresOwn old new before
-  RetiresOwn-looked old new before after same retires = record {
-    each = λ id there. elim (retires.each id there) [
-      | inl was ↦ inl was
-      | inr own ↦ elim own [
-        | inl above ↦ inr (inl above)
-        | inr by ↦ inr (inr (by.0, same.back by.0 by.1, by.2))
-      ]
+  -- what is named or retired: as it was, and through one call after another
+  pub Accounts-same : (table : TableState S) → IsSound table → (before after : List Entry) → HaveSame before after → Accounts table table before after
+  Accounts-same table sound before after same = record {
+    still = λ id accounted. elim accounted [
+      | inl gone ↦ inl gone
+      | inr by ↦ inr (by.0, same.there by.0 by.1, by.2)
     ];
+    added = λ id above own. absurd (let within = not_above table sound id own in omega (arith, within, above));
   }
 
-  pub RetiresOwn-along : (old mid new : TableState S) (before : List Entry) → new.retired ≡ mid.retired → RetiresOwn old mid before → RetiresOwn old new before
-  RetiresOwn-along old mid new before same retires = record { each = λ id there. retires.each id (subst (λ (list : List ℕ). Contains list id) same there) }
-
-pub NamesOnly-looked : (before looked after : List Entry) (old new : State) → HaveSame before looked → NamesOnly looked after old new → NamesOnly before after old new
-NamesOnly-looked before looked after old new same named = record {
-  each = λ entry there. elim (named.each entry there) [
-    | inl was ↦ inl (same.back entry was)
-    | inr came ↦ inr came
-  ];
-}
+  pub Accounts-further : {old mid new : TableState S} → ((id : ℕ) → id ≤ mid.book.state.top → IsAddedTo new id → IsAddedTo mid id) → (before between after : List Entry) → Accounts old mid before between → Accounts mid new between after
+      → Accounts old new before after
+  Accounts-further {old} {mid} {new} was before between after first second = record {
+    still = λ id accounted. second.still id (first.still id accounted);
+    added = λ id above own. elim (cases_lt mid.book.state.top id) [
+      | inl later ↦ second.added id later own
+      | inr within ↦ second.still id (first.added id above (was id within own))
+    ];
+  }
 
 -- what is still there, or was forgotten by a full cache
 pub still_full : (entry : Entry) (first second : List Entry) (one two : ℕ) → one ≡ two → length first ≤ length second → Contains first entry ⊎ (two ≤ length first)

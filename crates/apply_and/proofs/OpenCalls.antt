@@ -19,13 +19,13 @@ use Rattle.apply_and.specs.declared.cache.AndCache.{AndCache}
 use Rattle.apply_and.specs.declared.frames.Frame.{Frame}
 use Rattle.apply_and.specs.declared.frames.Turn.{Turn}
 use Rattle.apply_and.specs.declared.frames.Turn.TheVariants.{Open, Give}
-use Rattle.apply_and.specs.Cache.{entries}
-use Rattle.apply_and.specs.Calls.{Closes, Conjoins, IsAnswer, IsLooked, IsUnknown}
+use Rattle.apply_and.specs.Cache.{IsLooked, entries}
+use Rattle.apply_and.specs.Calls.{Closes, Conjoins, IsAnswer, IsUnknown}
 use Rattle.apply_and.specs.Conjunction.{IsNoConstant, most_additions}
-use Rattle.apply_and.proofs.Calls.{Answer, closed, from_looked, high_failed, low_failed, ready, refused, split_high}
+use Rattle.apply_and.proofs.Calls.{Answer, closed, high_failed, low_failed, ready, refused, split_high}
 use Rattle.apply_and.proofs.Conjunctions.{IsReady}
 use Rattle.apply_and.proofs.Handed.{within_both}
-use Rattle.apply_and.proofs.Named.{fits_alone, fits_beside_none, fits_looked_alone}
+use Rattle.apply_and.proofs.Named.{fits_looked}
 
 -- what holds once a call has ended with this table, this cache and this result
 abbrev pub Outcome : Type 0 → Type 1
@@ -65,7 +65,7 @@ Given tells channel lent whole (frame ∷ frames) = ComesTo tells channel lent (
 pub record IsOpened {S : Type 0} (tells : Bool) (channel : S → Channel) (lent : S → Beside) (rest : Outcome S) (now : TableState S) (cache : AndCache) (u v : Node) : Type 0 where
   pub first : IsTrue (is_node now.graph u)
   pub second : IsTrue (is_node now.graph v)
-  pub unknown : IsUnknown (entries cache) u v
+  pub unknown : IsUnknown cache u v
   pub ends : (new : TableState S) (after : AndCache) (result : Answer) → Conjoins tells channel lent now cache u v new after result → rest new after result
 
 abbrev pub IsNext : {S : Type 0} → Bool → (S → Channel) → (S → Beside) → Outcome S → TableState S → AndCache → Turn → Type 0
@@ -88,18 +88,14 @@ module _ {S : Type 0} (tells : Bool) (channel : S → Channel) (lent : S → Bes
   error_given whole (frame ∷ frames) now cache came given = error_given whole frames now cache came given
 
   -- the answer of a call, or the call that is to be opened
-  pub is_next : Fitting S → (rest : Outcome S) (now : TableState S) (before cache : AndCache) (u v : Node) (turn : Turn) → IsTrue (is_node now.graph u) → IsTrue (is_node now.graph v) → IsLooked before cache
+  pub is_next : (rest : Outcome S) (now : TableState S) (before cache : AndCache) (u v : Node) (turn : Turn) → IsTrue (is_node now.graph u) → IsTrue (is_node now.graph v)
       → ((new : TableState S) (after : AndCache) (result : Answer) → Conjoins tells channel lent now before u v new after result → rest new after result)
       → IsAnswer tells channel lent now before cache u v turn → IsNext tells channel lent rest now cache turn
-  is_next fitting rest now before cache u v (Give found) first second look ends answer = ends now cache (Ok found) answer
-  is_next fitting rest now before cache u v (Open a b) first second look ends answer =
+  is_next rest now before cache u v (Give found) first second ends answer = ends now cache (Ok found) answer
+  is_next rest now before cache u v (Open a b) first second ends answer =
       subst (λ (x : Node). IsOpened tells channel lent rest now cache x b) (sym answer.0)
-      (subst (λ (y : Node). IsOpened tells channel lent rest now cache u y) (sym answer.1) (record {
-        first = first;
-        second = second;
-        unknown = answer.2;
-        ends = λ new after result call. ends new after result (from_looked fitting now new before cache after u v result look call);
-      }))
+      (subst (λ (y : Node). IsOpened tells channel lent rest now cache u y) (sym answer.1)
+      (subst (λ (c : AndCache). IsOpened tells channel lent rest now c u v) (sym answer.2) (record { first = first; second = second; unknown = answer.3; ends = ends })))
 
   -- the low side of a frame that has its high one
   pub low_given : (rest : Outcome S) (o : Operands) (high : Node × Just) (new : TableState S) (after : AndCache) (result : Answer)
@@ -153,16 +149,16 @@ module _ {S : Type 0} {tells : Bool} {channel : S → Channel} {lent : S → Bes
 
   module _ (law : StepByStep tells channel) (parts : Subfunctions) where
     pub open_refused : (u v : Node) → turn ≡ Open u v → whole now cache (Err OutOfMemory)
-    open_refused u v is = error_given tells channel lent whole frames now cache OutOfMemory ((opened_by u v is).ends now cache (Err OutOfMemory) (refused law parts now cache goes_on.sound u v))
+    open_refused u v is = error_given tells channel lent whole frames now cache OutOfMemory ((opened_by u v is).ends now cache (Err OutOfMemory) (refused law parts now cache goes_on.sound goes_on.fits u v))
 
     pub low_refused : (found : Node × Just) → turn ≡ Give found → (frame : Frame) (below : List Frame) → frames ≡ frame ∷ below → frame.high ≡ None → whole now cache (Err OutOfMemory)
     low_refused found is frame below top high =
         error_given tells channel lent whole below now cache OutOfMemory
-        ((comes_by found is frame below top None high).low now cache (Err OutOfMemory) (refused law parts now cache goes_on.sound frame.operands.u_low frame.operands.v_low))
+        ((comes_by found is frame below top None high).low now cache (Err OutOfMemory) (refused law parts now cache goes_on.sound goes_on.fits frame.operands.u_low frame.operands.v_low))
 
   module _ (splits : Splitting) (fitting : Fitting S) where
     fits_after : (looked : AndCache) → IsLooked cache looked → Fits now (entries looked)
-    fits_after looked look = fits_looked_alone fitting now (entries cache) (entries looked) look.same goes_on.fits
+    fits_after looked look = fits_looked fitting now (entries cache) (entries looked) look.same goes_on.fits
 
     pub open_next : StepByStep tells channel → Growth → Subfunctions → Reachability → (u v : Node) → turn ≡ Open u v → (o : Operands) → AreSplit now.graph o → (o.u ≡ u) × (o.v ≡ v) → (looked : AndCache) → IsLooked cache looked
         → (top : List Frame) → top ≡ frame_of o None ∷ frames → (next : Turn) → IsAnswer tells channel lent now cache looked o.u_high o.v_high next → GoesOn tells channel lent whole top now looked next
@@ -173,8 +169,8 @@ module _ {S : Type 0} {tells : Bool} {channel : S → Channel} {lent : S → Bes
         subst (λ (list : List Frame). GoesOn tells channel lent whole list now looked next) (sym on_top) (record {
           sound = goes_on.sound;
           fits = fits_after looked look;
-          next = is_next tells channel lent fitting (Given tells channel lent whole (frame_of o None ∷ frames)) now cache looked o.u_high o.v_high next
-              (splits.u_high now.graph goes_on.sound.tied.reduced o split).stands (splits.v_high now.graph goes_on.sound.tied.reduced o split).stands look
+          next = is_next tells channel lent (Given tells channel lent whole (frame_of o None ∷ frames)) now cache looked o.u_high o.v_high next
+              (splits.u_high now.graph goes_on.sound.tied.reduced o split).stands (splits.v_high now.graph goes_on.sound.tied.reduced o split).stands
               (high_given tells channel lent law splits growth fitting parts paths rest now cache goes_on.sound o split opened) answer;
         })
 
@@ -188,8 +184,8 @@ module _ {S : Type 0} {tells : Bool} {channel : S → Channel} {lent : S → Bes
         subst (λ (list : List Frame). GoesOn tells channel lent whole list now looked next) (sym on_top) (record {
           sound = goes_on.sound;
           fits = fits_after looked look;
-          next = is_next tells channel lent fitting (Given tells channel lent whole (frame_of o (Some found) ∷ below)) now cache looked o.u_low o.v_low next
-              (splits.u_low now.graph goes_on.sound.tied.reduced o awaits.split).stands (splits.v_low now.graph goes_on.sound.tied.reduced o awaits.split).stands look
+          next = is_next tells channel lent (Given tells channel lent whole (frame_of o (Some found) ∷ below)) now cache looked o.u_low o.v_low next
+              (splits.u_low now.graph goes_on.sound.tied.reduced o awaits.split).stands (splits.v_low now.graph goes_on.sound.tied.reduced o awaits.split).stands
               (λ new after result call. low_given tells channel lent rest o found new after result (awaits.low new after result call)) answer;
         })
 
@@ -202,10 +198,10 @@ module _ {S : Type 0} {tells : Bool} {channel : S → Channel} {lent : S → Bes
       pub close_failed : (came : TableError) → Closes tells channel lent now cache frame.operands high found new after (Err came) → whole new after (Err came)
       close_failed came closing = error_given tells channel lent whole below new after came (awaits_close.closes new after (Err came) closing)
 
-      pub close_next : Fitting S → (made : Node × Just) → Closes tells channel lent now cache frame.operands high found new after (Ok made) → GoesOn tells channel lent whole below new after (Give made)
-      close_next fitting made closing = record {
+      pub close_next : (made : Node × Just) → Closes tells channel lent now cache frame.operands high found new after (Ok made) → GoesOn tells channel lent whole below new after (Give made)
+      close_next made closing = record {
         sound = closing.steps.leaves.sound;
-        fits = fits_alone fitting new (entries after) (closing.fits [] (fits_beside_none fitting now (entries cache) goes_on.fits) no_error);
+        fits = closing.fits no_error;
         next = awaits_close.closes new after (Ok made) closing;
       }
 

@@ -1,6 +1,6 @@
 -- The computed cache of conjunctions, as a list of entries, those that were used last in front. (Brace, Rudell, Bryant:
 -- Efficient Implementation of a BDD Package, DAC 1990.)
-use Rattle.std.specs.Prelude.{◌≡◌, ◌&&◌, ◌∷◌, ◌≤◌, ◌⊎◌, ℕ, zero, suc, Bool, List, Option, Some, IsTrue, IsFalse, Contains, length, map, if◌then◌else◌}
+use Rattle.std.specs.Prelude.{◌≡◌, ◌&&◌, ◌∷◌, ◌≤◌, ◌<◌, ◌⊎◌, ℕ, zero, suc, Bool, List, Option, Some, IsFalse, Contains, length, map, if◌then◌else◌}
 use Rattle.node_table.specs.declared.node.Node.{Node}
 use Rattle.node_table.specs.declared.node.Just.{Just}
 use Rattle.node_table.specs.declared.node.Just.TheVariants.{Trivial, Clause}
@@ -55,6 +55,10 @@ pub record IsLooked (before after : AndCache) : Type 0 where
   pub no_fewer : length (entries before) ≤ length (entries after)
   pub capacity : most_entries after ≡ most_entries before
 
+-- no two of these entries name one clause
+abbrev pub AreNamedOnce : List Entry → Type 0
+AreNamedOnce listed = (one other : Entry) (id : ℕ) → Contains listed one → Contains listed other → Names one id → Names other id → one ≡ other
+
 -- One entry is kept: it takes the place of the one of its operands, or of the last one where the cache was full. The
 -- clause of the entry that isn't there any more is handed back.
 pub record IsKept (before after : AndCache) (u v w : Node) (just : Just) (given : Option ℕ) : Type 0 where
@@ -63,7 +67,8 @@ pub record IsKept (before after : AndCache) (u v w : Node) (just : Just) (given 
   pub others : (entry : Entry) → Contains (entries before) entry → Contains (entries after) entry ⊎ (HasOperands entry u v ⊎ (most_entries before ≤ length (entries before)))
   pub gone : (entry : Entry) (id : ℕ) → Contains (entries before) entry → Names entry id → IsNamed (entries after) id ⊎ (given ≡ Some id)
   pub named : (id : ℕ) → given ≡ Some id → IsNamed (entries before) id
-  pub given_up : (entry : Entry) (id : ℕ) → given ≡ Some id → Names entry id → Contains (entries before) entry → Contains (entries after) entry → entry ≡ Conjunction u v w just
+  -- it is named no more, but by the new entry
+  pub given_up : AreNamedOnce (entries before) → (entry : Entry) (id : ℕ) → given ≡ Some id → Names entry id → Contains (entries before) entry → Contains (entries after) entry → entry ≡ Conjunction u v w just
   pub no_fewer : length (entries before) ≤ length (entries after)
   pub capacity : most_entries after ≡ most_entries before
   -- while the pairs that were used are no more than the capacity, none of them is pushed out

@@ -1,6 +1,6 @@
 -- A whole call of a conjunction, however it ends: as one relation, from which the calls around it go on. Beside it what a
 -- look-up answers, and the last step of a call that was split.
-use Rattle.std.specs.Prelude.{◌≡◌, ◌≢◌, ◌≤◌, ◌<◌, ◌⊎◌, ◌∷◌, ℕ, Bool, List, Result, Ok, Err, Contains, IfOk, IsFalse, length}
+use Rattle.std.specs.Prelude.{◌≡◌, ◌≢◌, ◌≤◌, ◌<◌, ◌⊎◌, ◌∷◌, ℕ, Bool, List, Option, None, Some, Result, Ok, Err, Contains, IfOk, IsFalse, length}
 use Rattle.host_io.specs.Channel.{Channel}
 use Rattle.host_io.specs.Beside.{Beside}
 use Rattle.node_table.specs.declared.error.TableError.{TableError}
@@ -28,11 +28,11 @@ pub record Conjoins {S : Type 0} (tells : Bool) (channel : S → Channel) (lent 
     (result : Result (Node × Just) TableError) : Type 0 where
   pub conjoined : IfOk result (λ found. Conjoined new.graph new.book.state.live u v found.0 found.1)
   pub steps : Steps tells (channel old.book.sink) (channel new.book.sink) old new (most_additions (levels_from old.graph u v)) (error_of result)
-  pub fits : Fits old (entries before) → UnlessTorn result (Fits new (entries after))
+  pub fits : UnlessTorn result (Fits new (entries after))
   pub named : UnlessTorn result (NamesOnly (entries before) (entries after) old.book.state new.book.state)
   pub retires : RetiresOwn old new (entries before)
   pub accounts : UnlessTorn result (Accounts old new (entries before) (entries after))
-  pub unretired : Fits old (entries before) → IfOk result (λ found. (id : ℕ) → found.1 ≡ Clause id → Contains new.retired id → ⊥)
+  pub unretired : IfOk result (λ found. (id : ℕ) → found.1 ≡ Clause id → Contains new.retired id → ⊥)
   pub kept : u ≢ v → IsNoConstant u → IsNoConstant v → IfOk result (λ found. Contains (entries after) (Conjunction u v found.0 found.1))
   pub remembered : (entry : Entry) → Contains (entries before) entry → Contains (entries after) entry ⊎ (most_entries before ≤ length (entries after))
   pub no_fewer : length (entries before) ≤ length (entries after)
@@ -48,7 +48,7 @@ pub record Closes {S : Type 0} (tells : Bool) (channel : S → Channel) (lent : 
     (result : Result (Node × Just) TableError) : Type 0 where
   pub conjoined : IfOk result (λ found. Conjoined new.graph new.book.state.live o.u o.v found.0 found.1)
   pub steps : Steps tells (channel old.book.sink) (channel new.book.sink) old new 2 (error_of result)
-  pub fits : Fits old (entries before) → UnlessTorn result (Fits new (entries after))
+  pub fits : UnlessTorn result (Fits new (entries after))
   pub named : UnlessTorn result (NamesOnly (entries before) (entries after) old.book.state new.book.state)
   pub retires : RetiresOwn old new (entries before)
   pub accounts : UnlessTorn result (Accounts old new (entries before) (entries after))
@@ -63,6 +63,13 @@ pub record Closes {S : Type 0} (tells : Bool) (channel : S → Channel) (lent : 
   pub reachable : IfOk result (λ found. ReachesNew old.graph new.graph found.0)
   pub lacks : result ≡ Err NodeLimit → LacksPart new.graph (conjunction_of old.graph o.u o.v)
   pub beside : lent new.book.sink ≡ lent old.book.sink
+
+-- A clause is retired, if one is given, and nothing else.
+pub record RetiresOne {S : Type 0} (tells : Bool) (channel : S → Channel) (old new : TableState S) (given : Option ℕ) : Type 0 where
+  pub steps : Steps tells (channel old.book.sink) (channel new.book.sink) old new 0 None
+  pub same : new ≡ record old { retired = new.retired }
+  pub only : (id : ℕ) → Contains new.retired id → Contains old.retired id ⊎ (given ≡ Some id)
+  pub retired : (id : ℕ) → given ≡ Some id → Contains new.retired id
 
 -- No plain pair, and no entry has it, so that it isn't one of those that stand in front.
 pub record IsUnknown (cache : AndCache) (u v : Node) : Type 0 where

@@ -1,6 +1,6 @@
 -- How many clauses a call of a conjunction adds where the cache is as large as the pairs that it may come to: two for each
 -- pair that is kept. The pairs that were used stand in front of the cache, and none of them is pushed out.
-use Rattle.std.specs.Prelude.{◌≡◌, ◌≤◌, ◌<◌, ◌*◌, ◌-◌, ℕ, Bool, List, Result, Ok, Err, IsTrue, IsFalse, Contains, length}
+use Rattle.std.specs.Prelude.{◌≡◌, ◌≤◌, ◌<◌, ◌*◌, ◌-◌, List, Result, Ok, Err, IsTrue, Contains, length}
 use Rattle.node_table.specs.declared.error.TableError.{TableError}
 use Rattle.node_table.specs.declared.node.Node.{Node}
 use Rattle.node_table.specs.declared.node.Just.{Just}

@@ -1,20 +1,21 @@
 // The clause -u, -v, w of a conjunction, by two additions over the variable x of the step. The high one is
 // -x, -u, -v, w: with x true the defining clauses lead from w, u and v to their high children, whose conjunction is
-// justified. The low one drops -x: the high clause makes x false, and the same holds on the low side. (Bryant, Heule:
-// Generating Extended Resolution Proofs with a BDD-Based SAT Solver, 2021, section 4.2.)
-ghost use Rattle.std.specs.Prelude.{◌≡◌, ◌≢◌, ◌≤◌, ◌<◌, ◌+◌, ℕ, neg_ℤ, pos, ◌∷◌, Ok, Err, IsTrue, IfOk, Some, length};
+// justified. The low one drops -x: the high clause makes x false, and the same holds on the low side. The high one has
+// served then, and is retired. (Bryant, Heule: Generating Extended Resolution Proofs with a BDD-Based SAT Solver, 2021,
+// section 4.2.)
+ghost use Rattle.std.specs.Prelude.{◌≡◌, ◌≢◌, ◌≤◌, ◌<◌, ◌+◌, ◌++◌, ℕ, neg_ℤ, pos, [], ◌∷◌, Contains, Ok, Err, IsTrue, IfOk, IfErr, Some, length};
 ghost use Rattle.lrat_rules.specs.State.{clause_at};
 ghost use Rattle.hint_chain.specs.Atoms.{clause_of};
 ghost use Rattle.hint_chain.specs.Additions.{where_true};
-ghost use Rattle.node_table.specs.declared.error.TableError.TheVariants.{NodeLimit};
+ghost use Rattle.node_table.specs.declared.error.TableError.TheVariants.{NodeLimit, WriteFault};
 ghost use Rattle.node_table.specs.Diagram.{is_node, levels, variable_at, high_at, low_at};
-ghost use Rattle.node_table.specs.Table.{IsSound};
+ghost use Rattle.node_table.specs.Table.{IsSound, IsAddedTo, IsSame, UnlessTorn};
 ghost use Rattle.node_table.specs.declared.node.Just.TheVariants.{Trivial, Clause};
 ghost use Rattle.node_table.specs.Just.{IsJustified};
 ghost use Rattle.node_table.specs.Progress.{Steps, error_of};
 ghost use Rattle.operations.specs.Operands.{AreSplit};
 ghost use Rattle.operations.specs.Results.{conjunction_atoms};
-ghost use Rattle.apply_and.specs.Additions.{AreSides, IsSide};
+ghost use Rattle.apply_and.specs.Additions.{AreSides, IsSide, GivesOne, RetiresNew, given_just};
 ghost use Rattle.operations.specs.Entries.{IsNewJust};
 ghost use Rattle.operations.specs.declared.parts.Side.TheVariants.{High, Low};
 
@@ -28,7 +29,8 @@ use node_table::{Just, Node, Table, TableError, growth_law, steps_law};
 use operations::{Operands, Side, down_part, just_part, operand_law, up_part};
 use std::alloc::Global;
 
-/// Justifies that w is the conjunction of the operands, where it is neither of them.
+/// Justifies that w is the conjunction of the operands, where it is neither of them. Unless a write failed, the high
+/// clause is retired, also where the low one is refused.
 pub fn justify<S: Sink + Drop>(
     alloc: Global,
     table: &mut Table<S>,
@@ -42,12 +44,15 @@ pub fn justify<S: Sink + Drop>(
     requires sides { AreSides table.old.graph table.old.book.state.live operands.now w high.now low.now }
     ensures justified { IfOk result (λ just. IsJustified table.new.book.state.live (conjunction_atoms table.new.graph operands.now.u operands.now.v w) just) }
     ensures named { IfOk result (λ just. IsNewJust table.old.book.state table.new.book.state just) }
-    // The two additions alone; none where the clause is true by itself.
+    // The two additions alone, the first of which is retired; none where the clause is true by itself.
     ensures none_added { result ≡ Ok Trivial → table.new ≡ table.old }
-    ensures two_added { (id : ℕ) → result ≡ Ok (Clause id) → (id ≡ table.old.book.state.top + 2) × (table.new.book.state.top ≡ id) }
+    ensures two_added { (id : ℕ) → result ≡ Ok (Clause id) → (id ≡ table.old.book.state.top + 2) × (table.new.book.state.top ≡ id)
+        × (table.new.retired ≡ table.old.retired ++ (table.old.book.state.top + 1) ∷ []) }
     ensures nodes { table.new.graph ≡ table.old.graph }
     ensures steps { Steps S.tells (S.channel table.old.book.sink) (S.channel table.new.book.sink) table.old table.new 2 (error_of result) }
-    ensures retired { table.new.retired ≡ table.old.retired }
+    ensures retires { RetiresNew table.old table.new }
+    // All clauses that were added are retired, but for the one that is given.
+    ensures gives { UnlessTorn result (GivesOne table.old table.new (given_just result)) }
     ensures no_node_limit { result ≢ Err NodeLimit }
     ensures beside { S.beside table.new.book.sink ≡ S.beside table.old.book.sink }
 {
@@ -59,8 +64,18 @@ pub fn justify<S: Sink + Drop>(
         return Ok(Just::Trivial);
     };
     let first = add_high(alloc, table, operands, w, clause.as_slice(), high)?;
-    let id = add_low(alloc, table, operands, w, clause.as_slice(), first, low)?;
-    Ok(Just::Clause(id))
+    let high_clause = first.id();
+    match add_low(alloc, table, operands, w, clause.as_slice(), first, low) {
+        Ok(id) => {
+            table.retire(high_clause);
+            Ok(Just::Clause(id))
+        }
+        Err(e) if e == TableError::WriteFault => Err(e),
+        Err(e) => {
+            table.retire(high_clause);
+            Err(e)
+        }
+    }
 }
 
 // The literals -u, -v, w; none where w is True, since the clause is true by itself.
@@ -90,11 +105,14 @@ fn add_high<S: Sink + Drop>(
     requires side { IsSide table.old.graph table.old.book.state.live operands.now w High high.now }
     requires clause { clause_of (conjunction_atoms table.old.graph operands.now.u operands.now.v w) ≡ Some clause.now }
     ensures added { IfOk result (λ part. (part.clause ≡ neg_ℤ (pos (variable_at table.old.graph operands.now.level)) ∷ clause.now) × (clause_at table.new.book.state.live part.id ≡ Some part.clause)) }
-    ensures number { IfOk result (λ part. table.new.book.state.top ≡ table.old.book.state.top + 1) }
+    ensures number { IfOk result (λ part. (part.id ≡ table.old.book.state.top + 1) × (table.new.book.state.top ≡ part.id)) }
+    ensures own { IfOk result (λ part. IsAddedTo table.new part.id) }
+    ensures unretired { IfOk result (λ part. Contains table.new.retired part.id → ⊥) }
     ensures nodes { table.new.graph ≡ table.old.graph }
     ensures steps { Steps S.tells (S.channel table.old.book.sink) (S.channel table.new.book.sink) table.old table.new 1 (error_of result) }
     ensures retired { table.new.retired ≡ table.old.retired }
     ensures no_node_limit { result ≢ Err NodeLimit }
+    ensures refused { IfErr result (λ e. e ≢ WriteFault → IsSame table.old table.new) }
     ensures beside { S.beside table.new.book.sink ≡ S.beside table.old.book.sink }
 {
     operand_law();
@@ -133,10 +151,13 @@ fn add_low<S: Sink + Drop>(
     requires live { clause_at table.old.book.state.live first.id ≡ Some first.clause }
     ensures added { IfOk result (λ id. clause_at table.new.book.state.live id ≡ Some clause.now) }
     ensures number { IfOk result (λ id. (id ≡ table.old.book.state.top + 1) × (table.new.book.state.top ≡ id)) }
+    ensures own { IfOk result (λ id. IsAddedTo table.new id) }
+    ensures unretired { IfOk result (λ id. Contains table.new.retired id → ⊥) }
     ensures nodes { table.new.graph ≡ table.old.graph }
     ensures steps { Steps S.tells (S.channel table.old.book.sink) (S.channel table.new.book.sink) table.old table.new 1 (error_of result) }
     ensures retired { table.new.retired ≡ table.old.retired }
     ensures no_node_limit { result ≢ Err NodeLimit }
+    ensures refused { IfErr result (λ e. e ≢ WriteFault → IsSame table.old table.new) }
     ensures beside { S.beside table.new.book.sink ≡ S.beside table.old.book.sink }
 {
     operand_law();

@@ -1,36 +1,42 @@
-// The computed cache: conjunctions that were found before, in an ordered map over their operands. Its size isn't
-// bounded yet.
-ghost use Rattle.std.specs.Prelude.{◌≡◌, ◌≤◌, ◌⊎◌, [], Some, Contains, IfOk, IfSome, OnOk, OnErr, length};
-ghost use Rattle.std.specs.Cmp.{IsTotalOrder};
-ghost use Rattle.operations.specs.Entries.{Entry, Conjunction, HaveSame};
-ghost use Rattle.apply_and.specs.Cache.{HasOperands, entries};
+// The computed cache: conjunctions that were found before, by their operands. Where it is full, the entry whose use lies
+// the longest ago makes room. (Brace, Rudell, Bryant: Efficient Implementation of a BDD Package, DAC 1990.)
+ghost use Rattle.std.specs.Prelude.{◌≡◌, ◌≤◌, ◌<◌, ℕ, [], List, None, Some, Contains, IsFalse, IfOk, IfSome, MatchOption, OnErr};
+ghost use Rattle.operations.specs.Entries.{Conjunction};
+ghost use Rattle.apply_and.specs.Cache.{IsKept, IsLooked, Pair, StandInFront, entries, is_one, just_numbered, most_entries, with_used};
 ghost use Rattle.node_table.specs.declared.node.Node.{Node as NodeValue};
 ghost use Rattle.node_table.specs.declared.node.Just.{Just as JustValue};
+ghost use Rattle.node_table.specs.declared.node.Just.TheVariants.{Trivial, Clause};
 
-use cnf_base::OutOfMemory;
+use cnf_base::{Id, OutOfMemory};
 use node_table::{Just, Node};
+use op_cache::{Bounded, entries_law, front_law, keep_law};
 use std::alloc::Global;
-use std::collections::BTreeMap;
+use std::mem::size_of;
+
+/// The conjunction of a pair, and the number of the clause that justifies it; 0 where none is needed.
+#[derive(Clone, Copy)]
+pub(crate) struct Found {
+    pub node: Node,
+    pub clause: u64,
+}
+
+const _: () = prove!(size_of::<Found>() == 16);
 
 /// Conjunctions by their operands, with their justifications.
 #[derive(Drop)]
 pub struct AndCache {
     alloc: Global,
-    capacity: u32,
-    results: BTreeMap<(Node, Node), (Node, Just)>,
+    results: Bounded<(Node, Node), Found>,
 }
 
 impl AndCache {
-    /// An empty cache. The greatest number of entries is not in force yet: none is pushed out.
+    /// An empty cache of at most so many entries. Memory comes with them.
     pub fn new(alloc: Global, capacity: u32) -> Result<AndCache, OutOfMemory>
         requires { 1 ≤ capacity }
-        ensures { IfOk result (λ cache. (entries cache ≡ []) × (cache.capacity ≡ capacity)) }
+        ensures { IfOk result (λ cache. (entries cache ≡ []) × (most_entries cache ≡ capacity)) }
     {
-        Ok(AndCache {
-            alloc,
-            capacity,
-            results: BTreeMap::new(alloc),
-        })
+        let results = Bounded::new(alloc, capacity)?;
+        Ok(AndCache { alloc, results })
     }
 
     /// The allocator that it was made with.
@@ -38,40 +44,78 @@ impl AndCache {
         self.alloc
     }
 
-    /// The conjunction of two nodes, where it is kept. The entries stay, whatever their order.
-    pub fn look(&mut self, u: Node, v: Node) -> Option<(Node, Just)>
-        ensures found { (w : NodeValue) (just : JustValue) → Contains (entries self.old) (Conjunction u v w just) → result ≡ Some (w, just) }
-        ensures kept { IfSome result (λ found. Contains (entries self.old) (Conjunction u v found.0 found.1)) }
-        ensures same { HaveSame (entries self.old) (entries self.new) }
-        ensures no_fewer { length (entries self.old) ≤ length (entries self.new) }
-        ensures capacity { self.new.capacity ≡ self.old.capacity }
+    /// The conjunction of two nodes, where it is kept. Its entry comes to the front.
+    pub(crate) fn look(&mut self, u: Node, v: Node) -> Option<(Node, Just)>
+        ensures found { IfSome result (λ f. Contains (entries self.new) (Conjunction u v f.0 f.1)) }
+        ensures exact { (w : NodeValue) (just : JustValue) → Contains (entries self.old) (Conjunction u v w just) → result ≡ Some (w, just) }
+        ensures looked { IsLooked self.old self.new }
+        ensures missed { result ≡ None → self.new ≡ self.old }
+        ensures used { (pairs : List Pair) → StandInFront self.old pairs → MatchOption result (IsFalse (is_one pairs (u, v))) (λ f. StandInFront self.new (with_used pairs (u, v))) }
     {
-        order_law::<(Node, Node)>();
+        entries_law::<(Node, Node), Found>();
+        front_law::<(Node, Node), Found>();
         let _ = self.results.len();
-        match self.results.get(&(u, v)) {
+        match self.results.look(&(u, v)) {
             None => None,
-            Some(found) => Some(*found),
+            Some(found) => Some((found.node, just_of(found.clause))),
         }
     }
 
-    /// Keeps a conjunction, in the place of an earlier one of these operands. A refusal changes nothing.
-    pub fn keep(&mut self, u: Node, v: Node, found: &(Node, Just)) -> Result<(), OutOfMemory>
-        ensures kept { OnOk result (Contains (entries self.new) (Conjunction u v found.now.0 found.now.1)) }
-        ensures only { OnOk result ((entry : Entry) → Contains (entries self.new) entry → (entry ≡ Conjunction u v found.now.0 found.now.1) ⊎ Contains (entries self.old) entry) }
-        // An entry is missing only where the list was full.
-        ensures others { OnOk result ((entry : Entry) → Contains (entries self.old) entry
-            → Contains (entries self.new) entry ⊎ (HasOperands entry u v ⊎ (self.old.capacity ≤ length (entries self.old)))) }
-        ensures no_fewer { length (entries self.old) ≤ length (entries self.new) }
-        ensures capacity { self.new.capacity ≡ self.old.capacity }
-        ensures refused { OnErr result (entries self.new ≡ entries self.old) }
+    /// Keeps a conjunction in front of all else, and hands back the clause of the entry that it replaces or pushes out. A
+    /// refusal changes nothing.
+    pub(crate) fn keep(
+        &mut self,
+        u: Node,
+        v: Node,
+        found: &(Node, Just),
+    ) -> Result<Option<Id>, OutOfMemory>
+        requires numbered { (id : ℕ) → found.now.1 ≡ Clause id → 0 < id }
+        ensures kept { IfOk result (λ given. IsKept self.old self.new u v found.now.0 found.now.1 given) }
+        ensures refused { OnErr result (self.new ≡ self.old) }
     {
-        order_law::<(Node, Node)>();
-        self.results.insert((u, v), *found)?;
-        Ok(())
+        entries_law::<(Node, Node), Found>();
+        front_law::<(Node, Node), Found>();
+        keep_law::<(Node, Node), Found>();
+        let _ = self.results.len();
+        let value = Found {
+            node: found.0,
+            clause: number_of(&found.1),
+        };
+        let Ok(handed) = self.results.keep((u, v), value) else {
+            return Err(OutOfMemory);
+        };
+        let _ = self.results.len();
+        match handed {
+            None => Ok(None),
+            Some(pair) => Ok(id_of(pair.1.clause)),
+        }
     }
 }
 
-// The keys of a map are in a total order.
-fn order_law<K: Ord>()
-    ensures { IsTotalOrder K.cmp }
-{}
+// The justification by the clause of this number.
+fn just_of(number: u64) -> Just
+    ensures { result ≡ just_numbered number }
+{
+    match id_of(number) {
+        None => Just::Trivial,
+        Some(id) => Just::Clause(id),
+    }
+}
+
+// The clause of this number, which is none at 0.
+fn id_of(number: u64) -> Option<Id>
+    ensures { MatchOption result (just_numbered number ≡ Trivial) (λ id. just_numbered number ≡ Clause id) }
+{
+    if number == 0 { None } else { Some(Id(number)) }
+}
+
+// The number of the clause of a justification, and 0 for none.
+fn number_of(just: &Just) -> u64
+    requires { (id : ℕ) → just.now ≡ Clause id → 0 < id }
+    ensures { just_numbered result ≡ just.now }
+{
+    match *just {
+        Just::Trivial => 0,
+        Just::Clause(id) => id.get(),
+    }
+}

@@ -1,31 +1,35 @@
 // The conjunction of two nodes, by their cofactors at the earlier of their variables. (Bryant: Graph-Based Algorithms
 // for Boolean Function Manipulation, 1986, section 4.3: apply.)
-ghost use Rattle.std.specs.Prelude.{◌≡◌, ◌≢◌, ◌↔◌, ◌⊎◌, ◌≤◌, ◌++◌, List, Ok, Err, Contains, IsTrue, IfOk, IfSome, MatchOption, Some, length};
+ghost use Rattle.std.specs.Prelude.{◌≡◌, ◌≢◌, ◌↔◌, ◌⊎◌, ◌≤◌, ◌*◌, ◌++◌, ℕ, List, Ok, Err, Contains, IsTrue, IfOk, IfSome, MatchOption, Some, length};
 ghost use Rattle.lrat_rules.specs.State.{Live};
 ghost use Rattle.node_table.specs.declared.error.TableError.TheVariants.{NodeLimit};
 ghost use Rattle.node_table.specs.declared.node.Node.{Node as NodeValue};
 ghost use Rattle.node_table.specs.declared.node.Just.{Just as JustValue};
-ghost use Rattle.node_table.specs.declared.node.Just.TheVariants.{Trivial};
+ghost use Rattle.node_table.specs.declared.node.Just.TheVariants.{Trivial, Clause};
 ghost use Rattle.node_table.specs.Diagram.{Graph, is_node};
-ghost use Rattle.node_table.specs.Table.{IsSound, HasChildren, UnlessTorn};
+ghost use Rattle.node_table.specs.Table.{IsSound, IsAddedTo, AddsAtMost, HasChildren, UnlessTorn};
 ghost use Rattle.node_table.specs.Made.{LacksPart, MakesOnly, ReachesNew};
 ghost use Rattle.node_table.specs.Progress.{Steps, error_of};
 ghost use Rattle.operations.specs.Operands.{AreSplit, levels_from};
 ghost use Rattle.operations.specs.Results.{Conjoined};
-ghost use Rattle.operations.specs.Entries.{Entry, Conjunction, Fits, HaveSame, IsNewJust, NamesOnly, RetiresOwn};
+ghost use Rattle.operations.specs.Entries.{Entry, Accounts, AreApart, Conjunction, Fits, HaveSame, IsNewJust, NamesOnly, RetiresOwn};
 ghost use Rattle.apply_and.specs.Conjunction.{IsNoConstant, IsPlain, conjunction_of, most_additions};
-ghost use Rattle.apply_and.specs.Cache.{entries};
-ghost use Rattle.apply_and.specs.Calls.{Closes, Conjoins, IsAnswer, IsLooked, IsUnknown};
+ghost use Rattle.apply_and.specs.Additions.{GivesOne, RetiresNew, found_just};
+ghost use Rattle.apply_and.specs.Cache.{IsLooked, entries, most_entries};
+ghost use Rattle.apply_and.specs.Price.{HoldsReached};
+ghost use Rattle.apply_and.specs.Calls.{Closes, Conjoins, IsAnswer, IsUnknown, RetiresOne};
 ghost use Rattle.apply_and.specs.declared.frames.Turn.TheVariants.{Give};
 
 use crate::additions::justify;
-use crate::cache::AndCache;
+use crate::cache::{AndCache, Found};
 use crate::frames::{Frame, Turn, pop, push};
+use cnf_base::Id;
 use host_io::Sink;
 use node_table::{
     Just, Node, Table, TableError, canonical_law, cofactor_law, growth_law, missing_law, reach_law,
     steps_law, subfunction_law,
 };
+use op_cache::front_law;
 use operations::{Operands, entry_law, operand_law, split};
 use std::alloc::Global;
 
@@ -43,18 +47,26 @@ pub fn and<S: Sink + Drop>(
     requires fits { Fits table.old (entries cache.old) }
     ensures conjoined { IfOk result (λ found. Conjoined table.new.graph table.new.book.state.live u v found.0 found.1) }
     ensures steps { Steps S.tells (S.channel table.old.book.sink) (S.channel table.new.book.sink) table.old table.new (most_additions (levels_from table.old.graph u v)) (error_of result) }
-    // The cache fits together with the others that did.
-    ensures fits { (others : List Entry) → Fits table.old (entries cache.old ++ others) → UnlessTorn result (Fits table.new (entries cache.new ++ others)) }
+    // The cache fits, and so does it together with others that did, of which none names a clause that it named.
+    ensures fits { UnlessTorn result (Fits table.new (entries cache.new)) }
+    ensures others { (others : List Entry) → Fits table.old (entries cache.old ++ others) → AreApart (entries cache.old) others
+        → UnlessTorn result (Fits table.new (entries cache.new ++ others) × AreApart (entries cache.new) others) }
     ensures named { UnlessTorn result (NamesOnly (entries cache.old) (entries cache.new) table.old.book.state table.new.book.state) }
     ensures retires { RetiresOwn table.old table.new (entries cache.old) }
+    // No clause is lost, and that of the result isn't retired.
+    ensures accounts { UnlessTorn result (Accounts table.old table.new (entries cache.old) (entries cache.new)) }
+    ensures unretired { IfOk result (λ found. (id : ℕ) → found.1 ≡ Clause id → Contains table.new.retired id → ⊥) }
+    // Where the cache is as large as the pairs of inner nodes that the operands reach, two clauses for each of these.
+    ensures price { (us vs : List NodeValue) → HoldsReached table.old.graph u us → HoldsReached table.old.graph v vs → length us * length vs ≤ most_entries cache.old
+        → AddsAtMost (2 * (length us * length vs)) table.old table.new }
     // A conjunction that is kept is found again without a node or a clause more; a new one is kept; one is forgotten only
     // where the cache was full.
     ensures known { (w : NodeValue) (just : JustValue) → Contains (entries cache.old) (Conjunction u v w just)
         → (result ≡ Ok (w, just)) × (table.new ≡ table.old) × HaveSame (entries cache.old) (entries cache.new) }
     ensures kept { u ≢ v → IsNoConstant u → IsNoConstant v → IfOk result (λ found. Contains (entries cache.new) (Conjunction u v found.0 found.1)) }
-    ensures remembered { (entry : Entry) → Contains (entries cache.old) entry → Contains (entries cache.new) entry ⊎ (cache.old.capacity ≤ length (entries cache.new)) }
+    ensures remembered { (entry : Entry) → Contains (entries cache.old) entry → Contains (entries cache.new) entry ⊎ (most_entries cache.old ≤ length (entries cache.new)) }
     ensures no_fewer { length (entries cache.old) ≤ length (entries cache.new) }
-    ensures capacity { cache.new.capacity ≡ cache.old.capacity }
+    ensures capacity { most_entries cache.new ≡ most_entries cache.old }
     // However it ends, each node that was made is a subfunction of the conjunction; on success none is left over.
     ensures made { MakesOnly table.old.graph table.new.graph (conjunction_of table.old.graph u v) }
     ensures reachable { IfOk result (λ found. ReachesNew table.old.graph table.new.graph found.0) }
@@ -65,6 +77,8 @@ pub fn and<S: Sink + Drop>(
     ensures beside { S.beside table.new.book.sink ≡ S.beside table.old.book.sink }
 {
     entry_law::<S>();
+    steps_law::<S>();
+    front_law::<(Node, Node), Found>();
     match ask(table, cache, u, v) {
         Turn::Give(found) => Ok(found),
         Turn::Open(..) => conjoin(table, cache, u, v),
@@ -108,7 +122,7 @@ fn conjoin<S: Sink + Drop>(
     requires first { IsTrue (is_node table.old.graph u) }
     requires second { IsTrue (is_node table.old.graph v) }
     requires fits { Fits table.old (entries cache.old) }
-    requires unknown { IsUnknown (entries cache.old) u v }
+    requires unknown { IsUnknown cache.old u v }
     ensures { Conjoins S.tells S.channel S.beside table.old cache.old u v table.new cache.new result }
 {
     steps_law::<S>();
@@ -144,7 +158,7 @@ fn conjoin<S: Sink + Drop>(
     }
 }
 
-// The conjunction from the results of its two sides; it is kept.
+// The conjunction from the results of its two sides; it is kept. The clause that no entry names any more is retired.
 fn close<S: Sink + Drop>(
     table: &mut Table<S>,
     cache: &mut AndCache,
@@ -153,6 +167,7 @@ fn close<S: Sink + Drop>(
     low: &(Node, Just),
 ) -> Result<(Node, Just), TableError>
     requires sound { IsSound table.old }
+    requires fits { Fits table.old (entries cache.old) }
     requires split { AreSplit table.old.graph operands.now }
     requires high { Conjoined table.old.graph table.old.book.state.live operands.now.u_high operands.now.v_high high.now.0 high.now.1 }
     requires low { Conjoined table.old.graph table.old.book.state.live operands.now.u_low operands.now.v_low low.now.0 low.now.1 }
@@ -163,8 +178,40 @@ fn close<S: Sink + Drop>(
     operand_law();
     growth_law();
     let found = finish(cache.alloc(), table, operands, high, low)?;
-    cache.keep(operands.u, operands.v, &found)?;
-    Ok(found)
+    match cache.keep(operands.u, operands.v, &found) {
+        Ok(given) => {
+            retire(table, given);
+            Ok(found)
+        }
+        Err(_) => {
+            retire(table, clause_of(&found.1));
+            Err(TableError::OutOfMemory)
+        }
+    }
+}
+
+// Retires a clause, if one is given.
+fn retire<S: Sink + Drop>(table: &mut Table<S>, clause: Option<Id>)
+    requires sound { IsSound table.old }
+    requires own { (id : ℕ) → clause ≡ Some id → IsAddedTo table.old id }
+    requires unretired { (id : ℕ) → clause ≡ Some id → Contains table.old.retired id → ⊥ }
+    ensures one { RetiresOne S.tells S.channel table.old table.new clause }
+    ensures beside { S.beside table.new.book.sink ≡ S.beside table.old.book.sink }
+{
+    steps_law::<S>();
+    if let Some(id) = clause {
+        table.retire(id);
+    }
+}
+
+// The clause that a justification names.
+fn clause_of(just: &Just) -> Option<Id>
+    ensures { MatchOption result (just.now ≡ Trivial) (λ id. just.now ≡ Clause id) }
+{
+    match just {
+        Just::Trivial => None,
+        Just::Clause(id) => Some(*id),
+    }
 }
 
 // The conjunction of two nodes of which one is a constant, or which are the same.
@@ -195,7 +242,8 @@ fn finish<S: Sink + Drop>(
     requires low { Conjoined table.old.graph table.old.book.state.live operands.now.u_low operands.now.v_low low.now.0 low.now.1 }
     ensures conjoined { IfOk result (λ found. Conjoined table.new.graph table.new.book.state.live operands.now.u operands.now.v found.0 found.1) }
     ensures steps { Steps S.tells (S.channel table.old.book.sink) (S.channel table.new.book.sink) table.old table.new 2 (error_of result) }
-    ensures retired { table.new.retired ≡ table.old.retired }
+    ensures retires { RetiresNew table.old table.new }
+    ensures gives { UnlessTorn result (GivesOne table.old table.new (found_just result)) }
     ensures named { IfOk result (λ found. IsNewJust table.old.book.state table.new.book.state found.1) }
     ensures children { IfOk result (λ found. HasChildren table.new.graph operands.now.level high.now.0 low.now.0 found.0) }
     ensures made { MakesOnly table.old.graph table.new.graph (conjunction_of table.old.graph operands.now.u operands.now.v) }

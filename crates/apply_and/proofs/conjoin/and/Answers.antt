@@ -1,10 +1,11 @@
 -- A call whose answer is known, and one that is opened and worked off.
-use Rattle.std.proofs.Common.{◌≡◌, Ok, ap, refl}
+use Rattle.std.proofs.Common.{◌≡◌, Ok, ap, refl, subst}
 use Rattle.node_table.specs.declared.node.Just.{Just}
 use Rattle.node_table.specs.declared.node.Node.{Node}
-use Rattle.operations.specs.Entries.{Conjunction}
+use Rattle.apply_and.specs.declared.cache.AndCache.{AndCache}
+use Rattle.apply_and.specs.Calls.{Conjoins}
 use Rattle.apply_and.specs.declared.frames.Turn.TheVariants.{Give}
-use Rattle.apply_and.proofs.Calls.{Answer, from_looked}
+use Rattle.apply_and.proofs.Calls.{Answer, beside_others, price_called, sound_of}
 use Rattle.apply_and.proofs.Made.{not_plain}
 use Rattle.apply_and.proofs.conjoin.and.Goals as goal
 
@@ -17,8 +18,12 @@ returns-in-Give g c =
       conjoined = call.conjoined;
       steps = call.steps;
       fits = call.fits;
+      others = λ list fits apart whole. beside_others c.entry_law.ensures c.args.table.now c.args.table.now c.args.cache.now c.ask.new.cache (Ok c.in-Give.found) c.requires.sound (sound_of _ _ _ _ _ (Ok c.in-Give.found) call.steps.leaves whole) call list fits apart whole;
       named = call.named;
       retires = call.retires;
+      accounts = call.accounts;
+      unretired = call.unretired;
+      price = λ us vs first second room. price_called c.front_law.ensures.none c.args.table.now c.args.table.now c.args.cache.now c.ask.new.cache c.args.u c.args.v us vs (Ok c.in-Give.found) call first second room;
       known = λ w just there. (same_given _ _ (c.in-Give.ensures.known w just there), refl, c.in-Give.ensures.looked.same);
       kept = call.kept;
       remembered = call.remembered;
@@ -33,15 +38,19 @@ returns-in-Give g c =
 
 pub returns-in-Open : goal.returns-in-Open
 returns-in-Open g c =
-    let looked = c.in-Open.ensures.looked in
-    let unknown = c.in-Open.ensures.answer.2 in
-    let call = from_looked c.entry_law.ensures c.args.table.now c.conjoin.new.table c.args.cache.now c.ask.new.cache c.conjoin.new.cache c.args.u c.args.v c.conjoin.result looked c.conjoin.ensures in record {
+    let same = c.in-Open.ensures.answer.2 in
+    let unknown = c.in-Open.ensures.answer.3 in
+    let call = subst (λ (cache : AndCache). Conjoins g.S.Sink.tells g.S.Sink.channel g.S.Sink.beside c.args.table.now cache c.args.u c.args.v c.conjoin.new.table c.conjoin.new.cache c.conjoin.result) same c.conjoin.ensures in record {
       conjoined = call.conjoined;
       steps = call.steps;
       fits = call.fits;
+      others = λ list fits apart whole. beside_others c.entry_law.ensures c.args.table.now c.conjoin.new.table c.args.cache.now c.conjoin.new.cache c.conjoin.result c.requires.sound (sound_of _ _ _ _ _ c.conjoin.result call.steps.leaves whole) call list fits apart whole;
       named = call.named;
       retires = call.retires;
-      known = λ w just there. absurd (unknown.none w just (looked.same.there (Conjunction c.args.u c.args.v w just) there));
+      accounts = call.accounts;
+      unretired = call.unretired;
+      price = λ us vs first second room. price_called c.front_law.ensures.none c.args.table.now c.conjoin.new.table c.args.cache.now c.conjoin.new.cache c.args.u c.args.v us vs c.conjoin.result call first second room;
+      known = λ w just there. absurd (unknown.none w just there);
       kept = call.kept;
       remembered = call.remembered;
       no_fewer = call.no_fewer;

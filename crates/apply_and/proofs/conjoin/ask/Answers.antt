@@ -9,7 +9,9 @@ use Rattle.apply_and.specs.Conjunction.{conjunction_of}
 use Rattle.apply_and.proofs.Conjunctions.{only_answer}
 use Rattle.apply_and.proofs.Handed.{steps_none}
 use Rattle.apply_and.proofs.Made.{not_plain}
-use Rattle.apply_and.proofs.Named.{same_some, NamesOnly-same, HaveSame-itself, RetiresOwn-none, fits_looked, no_fewer_itself, no_found}
+use Rattle.apply_and.proofs.Named.{same_some, Accounts-same, NamesOnly-same, HaveSame-itself, RetiresOwn-none, fits_looked, no_fewer_itself, no_found}
+use Rattle.apply_and.proofs.Price.{paid_looked, paid_plain}
+use Rattle.apply_and.proofs.Retiring.{no_clause}
 use Rattle.apply_and.proofs.conjoin.ask.Goals as goal
 
 pub returns-in-Some-clause-answer : goal.returns-in-Some-clause-answer
@@ -18,13 +20,16 @@ returns-in-Some-clause-answer g c =
     let before = entries c.args.cache.now in record {
       conjoined = c.in-Some.ensures.conjoined _ _ c.requires.first c.requires.second;
       steps = steps_none c.steps_law.ensures table c.requires.sound _;
-      fits = λ others fits whole. fits;
+      fits = λ whole. c.requires.fits;
       named = λ whole. NamesOnly-same before before table.book.state table.book.state (HaveSame-itself before);
       retires = RetiresOwn-none table table before refl;
+      accounts = λ whole. Accounts-same table c.requires.sound before before (HaveSame-itself before);
+      unretired = λ id is. absurd (no_clause id is);
       kept = λ differ first second. absurd (not_plain c.args.u c.args.v c.in-Some.w differ first second c.in-Some.ensures.plain);
       remembered = λ entry there. inl there;
       no_fewer = no_fewer_itself before;
       capacity = refl;
+      price = λ all used cover room front among. paid_plain table c.args.cache.now c.args.u c.args.v all used front among;
       made = c.subfunction_law.ensures.none_made table.graph (conjunction_of table.graph c.args.u c.args.v);
       reachable = c.reach_law.ensures.none_made table.graph c.in-Some.w;
       lacks = λ is. absurd (no_error is);
@@ -48,17 +53,25 @@ returns-in-Some-look-clause-answer g c =
     let table = c.args.table.now in
     let before = entries c.args.cache.now in
     let looked = entries c.look.new.self in
-    let same_list = c.look.ensures.same in
-    let found = c.in-Some-look.found in record {
-      conjoined = (c.requires.fits.each (Conjunction c.args.u c.args.v found.0 found.1) c.in-Some-look.ensures.kept).1;
+    let same_list = c.look.ensures.looked.same in
+    let found = c.in-Some-look.found in
+    let own = Conjunction c.args.u c.args.v found.0 found.1 in
+    let there = same_list.back own c.in-Some-look.ensures.found in
+    let apart = c.in_default.ensures.conjoined in record {
+      conjoined = (c.requires.fits.each own there).1;
       steps = steps_none c.steps_law.ensures table c.requires.sound _;
-      fits = λ others fits whole. fits_looked c.entry_law.ensures table before looked others same_list fits;
+      fits = λ whole. fits_looked c.entry_law.ensures table before looked same_list c.requires.fits;
       named = λ whole. NamesOnly-same before looked table.book.state table.book.state same_list;
       retires = RetiresOwn-none table table before refl;
-      kept = λ differ first second. same_list.there (Conjunction c.args.u c.args.v found.0 found.1) c.in-Some-look.ensures.kept;
-      remembered = λ entry there. inl (same_list.there entry there);
-      no_fewer = c.look.ensures.no_fewer;
-      capacity = c.look.ensures.capacity;
+      accounts = λ whole. Accounts-same table c.requires.sound before looked same_list;
+      unretired = λ id is. c.requires.fits.unretired id (own, there, is);
+      kept = λ differ first second. c.in-Some-look.ensures.found;
+      remembered = λ entry had. inl (same_list.there entry had);
+      no_fewer = c.look.ensures.looked.no_fewer;
+      capacity = c.look.ensures.looked.capacity;
+      price = λ all used cover room front among.
+          paid_looked table c.look.new.self c.args.u c.args.v all used (c.in-Some-look.ensures.used used front) among
+          (cover c.args.u c.args.v (c.reach_law.ensures.itself table.graph c.args.u) (c.reach_law.ensures.itself table.graph c.args.v) apart.1 apart.2);
       made = c.subfunction_law.ensures.none_made table.graph (conjunction_of table.graph c.args.u c.args.v);
       reachable = c.reach_law.ensures.none_made table.graph found.0;
       lacks = λ is. absurd (no_error is);
@@ -66,7 +79,7 @@ returns-in-Some-look-clause-answer g c =
     }
 
 pub returns-in-Some-look-clause-known : goal.returns-in-Some-look-clause-known
-returns-in-Some-look-clause-known g c w just there = ap Give (same_some _ _ (c.in-Some-look.ensures.found w just there))
+returns-in-Some-look-clause-known g c w just there = ap Give (same_some _ _ (c.in-Some-look.ensures.exact w just there))
 
 pub returns-in-Some-look-clause-plain : goal.returns-in-Some-look-clause-plain
 returns-in-Some-look-clause-plain g c w plain =
@@ -77,16 +90,18 @@ returns-clause-answer g c =
     let apart = c.in_default.ensures.conjoined in (
       refl,
       refl,
+      c.in_default-look.ensures.missed refl,
       record {
         differ = apart.0;
         first = apart.1;
         second = apart.2;
-        none = λ w just there. no_found (w, just) (c.in_default-look.ensures.found w just (c.look.ensures.same.back (Conjunction c.args.u c.args.v w just) there));
+        none = λ w just there. no_found (w, just) (c.in_default-look.ensures.exact w just there);
+        unused = λ used front. c.in_default-look.ensures.used used front;
       },
     )
 
 pub returns-clause-known : goal.returns-clause-known
-returns-clause-known g c w just there = absurd (no_found (w, just) (c.in_default-look.ensures.found w just there))
+returns-clause-known g c w just there = absurd (no_found (w, just) (c.in_default-look.ensures.exact w just there))
 
 pub returns-clause-plain : goal.returns-clause-plain
 returns-clause-plain g c w plain =

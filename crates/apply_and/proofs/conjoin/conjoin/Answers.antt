@@ -71,4 +71,4 @@ returns-in_err-close-in-Some-high g c =
 pub calls-preserved : goal.calls-preserved
 calls-preserved g c =
     close_next _ (reverse c.calls.frames.items) c.calls.table c.calls.cache c.calls.turn c.calls.invariant c.in-Give.found c.in-Give.is c.in-Some.frame (reverse c.pop.new.frames.items) c.in-Some.ensures
-    c.in-Some-high.high c.in-Some-high.is c.close.new.table c.close.new.cache c.entry_law.ensures c.in_ok-close-in-Some-high.field-0 c.in_ok-close-in-Some-high.ensures
+    c.in-Some-high.high c.in-Some-high.is c.close.new.table c.close.new.cache c.in_ok-close-in-Some-high.field-0 c.in_ok-close-in-Some-high.ensures

@@ -1,16 +1,20 @@
-use Rattle.std.proofs.Common.{inl, inr}
-use Rattle.apply_and.proofs.Cached.{kept_there, kept_only, kept_others}
+-- One more entry by the laws of the bounded cache.
+use Rattle.std.proofs.Common.{None, refl, sym}
+use Rattle.apply_and.proofs.Cached.{is_kept}
 use Rattle.apply_and.proofs.cache.AndCache.keep.Goals as goal
 
-pub returns-clause-kept : goal.returns-clause-kept
-returns-clause-kept c = kept_there c.order_law.ensures c.args.self.now.results c.insert.new.self c.insert.ensures.was_ordered c.insert.ensures.ordered c.args.u c.args.v c.args.found.now c.in_ok-insert.ensures.updates
+pub returns-in-None-clause-kept : goal.returns-in-None-clause-kept
+returns-in-None-clause-kept c =
+    is_kept c.entries_law.ensures c.keep_law.ensures c.args.self.now c.args.u c.args.v
+    (record { node = c.args.found.now.0; clause = c.number_of.result }) c.len.ensures.bounded
+    c.args.found.now.0 c.args.found.now.1 refl c.number_of.ensures None
+    (rw (sym c.in-Ok.ensures.handed_back, c.in-None.is) refl) c.front_law.ensures c.keep.new.self c.in-Ok.ensures.entries
+    c.len-2.ensures.bounded c.in-Ok.ensures.found
 
-pub returns-clause-only : goal.returns-clause-only
-returns-clause-only c = kept_only c.order_law.ensures c.args.self.now.results c.insert.new.self c.insert.ensures.was_ordered c.insert.ensures.ordered c.args.u c.args.v c.args.found.now c.in_ok-insert.ensures.updates
-
-pub returns-clause-others : goal.returns-clause-others
-returns-clause-others c entry there =
-    elim (kept_others c.order_law.ensures c.args.self.now.results c.insert.new.self c.insert.ensures.was_ordered c.insert.ensures.ordered c.args.u c.args.v c.args.found.now c.in_ok-insert.ensures.updates entry there) [
-      | inl still ↦ inl still
-      | inr own ↦ inr (inl own)
-    ]
+pub returns-in-Some-clause-kept : goal.returns-in-Some-clause-kept
+returns-in-Some-clause-kept c =
+    is_kept c.entries_law.ensures c.keep_law.ensures c.args.self.now c.args.u c.args.v
+    (record { node = c.args.found.now.0; clause = c.number_of.result }) c.len.ensures.bounded
+    c.args.found.now.0 c.args.found.now.1 refl c.number_of.ensures c.id_of.result
+    (rw (sym c.in-Ok.ensures.handed_back, c.in-Some.is) c.id_of.ensures) c.front_law.ensures c.keep.new.self c.in-Ok.ensures.entries
+    c.len-2.ensures.bounded c.in-Ok.ensures.found
