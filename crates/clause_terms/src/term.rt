@@ -43,7 +43,7 @@ pub fn push_clause<S: Sink + Drop>(
     requires some { clause.now ≢ [] }
     ensures term { IfOk result (λ found. IsTerm table.new.graph table.new.book.state.live (λ a. clause_holds a clause.now) found.0 found.1) }
     // The unit is the last clause. However the call ends, each node that was made is of a part of the clause.
-    ensures last { IfOk result (λ found. (id : ℕ) → found.1 ≡ Clause id → id ≡ table.new.book.state.top) }
+    ensures last { IfOk result (λ found. (id : ℕ) → found.1 ≡ Clause id → (id ≡ table.new.book.state.top) × (table.old.book.state.top < id)) }
     ensures made { MakesOnly table.old.graph table.new.graph (clause_function table.old.graph.order clause.now) }
     ensures steps { Steps S.tells (S.channel table.old.book.sink) (S.channel table.new.book.sink) table.old table.new 1 (error_of result) }
     ensures retired { table.new.retired ≡ table.old.retired }

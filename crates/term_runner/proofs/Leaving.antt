@@ -30,6 +30,11 @@ went_on tells before after old new (Err IdLimit) leaves whole = leaves.0
 went_on tells before after old new (Err OutOfMemory) leaves whole = leaves
 went_on tells before after old new (Err WriteFault) leaves whole = absurd (whole refl)
 
+-- the limit of nodes leaves all in step
+pub limit_left : {S : Type 0} (tells : Bool) (channel : S → Channel) (old new : TableState S) (came : TableError) → came ≡ NodeLimit → Leaves tells (channel old.book.sink) (channel new.book.sink) old new (Some came)
+    → Leaves tells (channel old.book.sink) (channel new.book.sink) old new (Some NodeLimit)
+limit_left tells channel old new came is leaves = subst (λ (e : TableError). Leaves tells (channel old.book.sink) (channel new.book.sink) old new (Some e)) is leaves
+
 -- want of memory leaves all in step
 pub memory_left : {S T : Type 0} (tells : Bool) (before after : Channel) (old new : TableState S) (r : Result T TableError) → IsErrAnd r (λ e. e ≡ OutOfMemory) → Continues tells before after old new
     → Leaves tells before after old new (error_of r)

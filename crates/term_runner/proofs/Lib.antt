@@ -14,3 +14,4 @@ pub mod Opening
 pub mod Planned
 pub mod Parts
 pub mod Leaving
+pub mod OwnUnits

@@ -100,10 +100,12 @@ ready_at there opening none_retired formula order table graph state in_step inpu
   };
   fits = record {
     each = λ entry has. absurd (omega (arith, has.1));
-    unretired = λ entry id has names gone. omega (arith, has.1);
+    own = λ id named. absurd (omega (arith, named.1.1));
+    unretired = λ id named gone. omega (arith, named.1.1);
     apart = λ one other id has also names named. absurd (omega (arith, has.1));
   };
   inputs = λ i small. (λ k. clause_at (state k).live (i + 1)) ∙ there formula.clauses i small;
+  counted = omega (arith, inputs, ap (λ (s : State). s.top) state);
   vars = ap levels graph ∙ vars;
   none_empty = none;
 }

@@ -92,6 +92,7 @@ ready_after formula old new kept more ready sound extends fits = record {
   sound = sound;
   fits = fits;
   inputs = λ i small. extends.clauses (i + 1) (slice_index_or formula.clauses i []) (ready.inputs i small);
+  counted = omega (arith, ready.counted, extends.inputs);
   vars = ap length extends.nodes.order ∙ ready.vars;
   none_empty = ready.none_empty;
 }

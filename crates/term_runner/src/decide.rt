@@ -37,6 +37,7 @@ pub fn decide<S: Sink + Drop>(
     requires capacity { 1 ≤ capacity }
     requires ready { IsReady formula.now table.old [] }
     requires empty { table.old.graph.nodes ≡ map.empty }
+    requires settled { table.old.retired ≡ [] }
     ensures found { IfOk result (λ found. MatchOption found ((id : ℕ) × (clause_at table.new.book.state.live id ≡ Some []))
         (λ model. IsRecovered formula.now table.old.graph.order plan.now model)) }
     ensures leaves { Leaves S.tells (S.channel table.old.book.sink) (S.channel table.new.book.sink) table.old table.new (error_of result) }
@@ -68,6 +69,7 @@ fn run_moves<S: Sink + Drop>(
     requires capacity { 1 ≤ capacity }
     requires ready { IsReady formula.now table.old [] }
     requires empty { table.old.graph.nodes ≡ map.empty }
+    requires settled { table.old.retired ≡ [] }
     ensures found { IfOk result (λ found. MatchOption found ((id : ℕ) × (clause_at table.new.book.state.live id ≡ Some []))
         (λ model. IsRecovered formula.now table.old.graph.order plan.now model)) }
     ensures leaves { Leaves S.tells (S.channel table.old.book.sink) (S.channel table.new.book.sink) table.old table.new (error_of result) }

@@ -1,6 +1,6 @@
 // One move of a plan. (Bryant, Heule: Generating Extended Resolution Proofs with a BDD-Based SAT Solver, 2021,
 // section 5.)
-ghost use Rattle.std.specs.Prelude.{◌≡◌, ◌≢◌, ◌≤◌, ◌<◌, ◌+◌, ◌++◌, ℕ, List, [], ◌∷◌, Err, Some, IsTrue, IfOk, IfErr, false, length, reverse};
+ghost use Rattle.std.specs.Prelude.{◌≡◌, ◌≢◌, ◌↔◌, ◌≤◌, ◌<◌, ◌⊎◌, ◌+◌, ◌++◌, ℕ, List, [], ◌∷◌, Ok, Err, Some, IsTrue, IfOk, IfErr, false, length, reverse};
 ghost use Rattle.lrat_rules.specs.State.{clause_at};
 ghost use Rattle.node_table.specs.declared.node.Node.TheVariants.{False};
 ghost use Rattle.node_table.specs.declared.error.TableError.TheVariants.{NodeLimit, OutOfMemory};
@@ -15,7 +15,7 @@ ghost use Rattle.apply_and.specs.Cache.{entries};
 ghost use Rattle.schedule_plan.specs.Plan.{Stage, Term as TermValue, after_move, both, input};
 ghost use Rattle.term_runner.specs.Moves.{quantifies};
 ghost use Rattle.term_runner.specs.Needs.{KeepsOrMakes, term_function, top_function};
-ghost use Rattle.term_runner.specs.Held.{AreHeld, IsReady};
+ghost use Rattle.term_runner.specs.Held.{AreHeld, IsReady, OwnUnits};
 
 use crate::held::Held;
 use crate::unit::unit_of;
@@ -28,7 +28,8 @@ use operations::entry_law;
 use schedule_plan::Move;
 use std::alloc::Global;
 
-/// Takes a move, and says whether the empty clause was added.
+/// Takes a move, and says whether the empty clause was added: then all is done. Else, and where no more nodes are allowed,
+/// the clauses that were retired are deleted.
 pub fn take_move<S: Sink + Drop>(
     alloc: Global,
     table: &mut Table<S>,
@@ -40,9 +41,61 @@ pub fn take_move<S: Sink + Drop>(
     requires ready { IsReady formula.now table.old (entries cache.old) }
     requires possible { (stage next : Stage) × AreHeld formula.now table.old.graph table.old.book.state.live (reverse stack.old.items) stage.stack × (after_move formula.now stage step ≡ Some next) }
     requires joins { quantifies step ≡ false }
+    requires settled { table.old.retired ≡ [] }
+    requires own { OwnUnits table.old (entries cache.old) (reverse stack.old.items) }
     ensures held { (stage next : Stage) → AreHeld formula.now table.old.graph table.old.book.state.live (reverse stack.old.items) stage.stack → after_move formula.now stage step ≡ Some next
         → IfOk result (λ refuted. refuted ≡ false → AreHeld formula.now table.new.graph table.new.book.state.live (reverse stack.new.items) next.stack) }
     ensures refuted { IfOk result (λ refuted. IsTrue refuted → (id : ℕ) × (clause_at table.new.book.state.live id ≡ Some [])) }
+    ensures ready { UnlessTorn result (IsReady formula.now table.new (entries cache.new)) }
+    ensures settled { (result ≡ Ok false) ⊎ (result ≡ Err NodeLimit) → table.new.retired ≡ [] }
+    ensures own { IfOk result (λ refuted. refuted ≡ false → OwnUnits table.new (entries cache.new) (reverse stack.new.items)) }
+    ensures leaves { Leaves S.tells (S.channel table.old.book.sink) (S.channel table.new.book.sink) table.old table.new (error_of result) }
+    ensures made { (stage next : Stage) → AreHeld formula.now table.old.graph table.old.book.state.live (reverse stack.old.items) stage.stack → after_move formula.now stage step ≡ Some next
+        → KeepsOrMakes table.old.graph table.new.graph (top_function formula.now table.old.graph.order next.stack) }
+    ensures lacks { (stage next : Stage) → AreHeld formula.now table.old.graph table.old.book.state.live (reverse stack.old.items) stage.stack → after_move formula.now stage step ≡ Some next
+        → result ≡ Err NodeLimit → LacksPart table.new.graph (top_function formula.now table.old.graph.order next.stack) }
+    ensures beside { S.beside table.new.book.sink ≡ S.beside table.old.book.sink }
+{
+    entry_law::<S>();
+    steps_law::<S>();
+    match carry_out(alloc, table, cache, stack, formula, step) {
+        Ok(refuted) if refuted => Ok(refuted),
+        Ok(refuted) => {
+            table.settle()?;
+            Ok(refuted)
+        }
+        Err(e) if is_node_limit(&e) => {
+            table.settle()?;
+            Err(e)
+        }
+        Err(e) => Err(e),
+    }
+}
+
+fn is_node_limit(error: &TableError) -> bool
+    ensures { IsTrue result ↔ (error.now ≡ NodeLimit) }
+{
+    *error == TableError::NodeLimit
+}
+
+// Takes a move, and says whether the empty clause was added.
+fn carry_out<S: Sink + Drop>(
+    alloc: Global,
+    table: &mut Table<S>,
+    cache: &mut AndCache,
+    stack: &mut Vec<Held>,
+    formula: &Cnf,
+    step: Move,
+) -> Result<bool, TableError>
+    requires ready { IsReady formula.now table.old (entries cache.old) }
+    requires possible { (stage next : Stage) × AreHeld formula.now table.old.graph table.old.book.state.live (reverse stack.old.items) stage.stack × (after_move formula.now stage step ≡ Some next) }
+    requires joins { quantifies step ≡ false }
+    requires settled { table.old.retired ≡ [] }
+    requires own { OwnUnits table.old (entries cache.old) (reverse stack.old.items) }
+    ensures held { (stage next : Stage) → AreHeld formula.now table.old.graph table.old.book.state.live (reverse stack.old.items) stage.stack → after_move formula.now stage step ≡ Some next
+        → IfOk result (λ refuted. refuted ≡ false → AreHeld formula.now table.new.graph table.new.book.state.live (reverse stack.new.items) next.stack) }
+    ensures refuted { IfOk result (λ refuted. IsTrue refuted → (id : ℕ) × (clause_at table.new.book.state.live id ≡ Some [])) }
+    ensures own { IfOk result (λ refuted. refuted ≡ false → OwnUnits table.new (entries cache.new) (reverse stack.new.items)) }
     ensures ready { UnlessTorn result (IsReady formula.now table.new (entries cache.new)) }
     ensures leaves { Leaves S.tells (S.channel table.old.book.sink) (S.channel table.new.book.sink) table.old table.new (error_of result) }
     ensures made { (stage next : Stage) → AreHeld formula.now table.old.graph table.old.book.state.live (reverse stack.old.items) stage.stack → after_move formula.now stage step ≡ Some next
@@ -74,6 +127,8 @@ fn push<S: Sink + Drop>(
     ensures held { (terms : List TermValue) → AreHeld formula.now table.old.graph table.old.book.state.live (reverse stack.old.items) terms
         → IfOk result (λ refuted. refuted ≡ false → AreHeld formula.now table.new.graph table.new.book.state.live (reverse stack.new.items) (input number ∷ terms)) }
     ensures refuted { IfOk result (λ refuted. IsTrue refuted → (id : ℕ) × (clause_at table.new.book.state.live id ≡ Some [])) }
+    ensures own { (kept : List Entry) → Fits table.old kept → OwnUnits table.old kept (reverse stack.old.items)
+        → IfOk result (λ refuted. refuted ≡ false → OwnUnits table.new kept (reverse stack.new.items)) }
     ensures steps { Steps S.tells (S.channel table.old.book.sink) (S.channel table.new.book.sink) table.old table.new 1 (error_of result) }
     ensures retired { table.new.retired ≡ table.old.retired }
     ensures made { MakesOnly table.old.graph table.new.graph (term_function formula.now table.old.graph.order (input number)) }
@@ -95,10 +150,12 @@ fn conjoin<S: Sink + Drop>(
 ) -> Result<bool, TableError>
     requires sound { IsSound table.old }
     requires fits { Fits table.old (entries cache.old) }
+    requires own { OwnUnits table.old (entries cache.old) (reverse stack.old.items) }
     requires two { (formula : Formula) × (one other : TermValue) × (terms : List TermValue) × AreHeld formula table.old.graph table.old.book.state.live (reverse stack.old.items) (other ∷ one ∷ terms) }
     ensures held { (formula : Formula) (one other : TermValue) (terms : List TermValue) → AreHeld formula table.old.graph table.old.book.state.live (reverse stack.old.items) (other ∷ one ∷ terms)
         → IfOk result (λ refuted. refuted ≡ false → AreHeld formula table.new.graph table.new.book.state.live (reverse stack.new.items) (both one other ∷ terms)) }
     ensures refuted { IfOk result (λ refuted. IsTrue refuted → (id : ℕ) × (clause_at table.new.book.state.live id ≡ Some [])) }
+    ensures own { IfOk result (λ refuted. refuted ≡ false → OwnUnits table.new (entries cache.new) (reverse stack.new.items)) }
     ensures steps { Steps S.tells (S.channel table.old.book.sink) (S.channel table.new.book.sink) table.old table.new (most_additions (levels table.old.graph) + 1) (error_of result) }
     ensures fits { UnlessTorn result (Fits table.new (entries cache.new)) }
     ensures made { (formula : Formula) (one other : TermValue) (terms : List TermValue) → AreHeld formula table.old.graph table.old.book.state.live (reverse stack.old.items) (other ∷ one ∷ terms)

@@ -12,6 +12,7 @@ ghost use Rattle.node_table.specs.Just.{IsJustified};
 ghost use Rattle.node_table.specs.Table.{IsSound};
 ghost use Rattle.node_table.specs.Progress.{Steps, error_of};
 ghost use Rattle.operations.specs.Results.{Conjoined};
+ghost use Rattle.operations.specs.Entries.{IsNewJust};
 
 use crate::held::Held;
 use cnf_base::Id;
@@ -37,6 +38,7 @@ pub fn unit_of<S: Sink + Drop>(
     requires second_unit { IsJustified table.old.book.state.live (atom_of table.old.graph v.now.node ∷ []) v.now.unit }
     requires conjoined { Conjoined table.old.graph table.old.book.state.live u.now.node v.now.node w just.now }
     ensures unit { IfOk result (λ unit. IsJustified table.new.book.state.live (atom_of table.old.graph w ∷ []) unit) }
+    ensures given { IfOk result (λ unit. (unit ≡ u.now.unit) ⊎ ((unit ≡ v.now.unit) ⊎ IsNewJust table.old.book.state table.new.book.state unit)) }
     // An operand's own unit without a clause more, or one clause.
     ensures own { (w ≡ u.now.node) ⊎ (w ≡ v.now.node) → table.new ≡ table.old }
     ensures number { w ≢ u.now.node → w ≢ v.now.node → IfOk result (λ unit. (unit ≡ Clause (table.old.book.state.top + 1)) × (table.new.book.state.top ≡ table.old.book.state.top + 1)) }

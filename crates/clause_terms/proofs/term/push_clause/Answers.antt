@@ -116,7 +116,9 @@ returns-in_err-node-clause-lacks g c full =
     (c.in_err-node.ensures.lacks (ap Err (came_from _ c.in_err-node.field-0.0 NodeLimit c.from_residual-in_err-node.ensures.1 full)))
 
 pub returns-clause-last : goal.returns-clause-last
-returns-clause-last g c id is = sym (same_clause c.in_ok-id.id id is) ∙ c.in_ok-id.ensures.one.1
+returns-clause-last g c id is =
+    let same = same_clause c.in_ok-id.id id is in
+    (sym same ∙ c.in_ok-id.ensures.one.1, omega (arith, same, c.in_ok-id.ensures.one.0, c.in_ok-node.ensures.steps.leaves.no_less))
 
 pub returns-in_err-node-clause-term : goal.returns-in_err-node-clause-term
 returns-in_err-node-clause-term g c = no_answer _ c.in_err-node.field-0.0 _ c.from_residual-in_err-node.ensures.1

@@ -1,4 +1,4 @@
-use Rattle.std.proofs.Common.{rules, ◌≡◌, ℕ, suc, ◌+◌, true, List, Option, take, reverse, Some, Err, refl, ap, sym, ◌∙◌, subst, arith}
+use Rattle.std.proofs.Common.{rules, ◌≡◌, ℕ, suc, ◌+◌, true, List, Option, take, reverse, Some, Ok, Err, inl, refl, ap, sym, ◌∙◌, subst, arith}
 use Rattle.std.specs.List.{slice_get}
 use Rattle.node_table.specs.declared.node.Node.{Node}
 use Rattle.node_table.specs.Diagram.{is_node}
@@ -15,6 +15,8 @@ use Rattle.term_runner.specs.Recovered.{IsRecovered}
 use Rattle.node_table.specs.HandedOn.{no_error, came_from, no_answer}
 use Rattle.term_runner.proofs.Stacks.{top_stands, top_value}
 use Rattle.term_runner.proofs.Between.{at_first, at_last, joins_at, next_at, some_at}
+use Rattle.apply_and.specs.Cache.{entries}
+use Rattle.term_runner.proofs.OwnUnits.{own_none}
 use Rattle.term_runner.proofs.Least.{recovered}
 use Rattle.term_runner.proofs.Leaving.{error_handed, leaves_after, memory_left}
 use Rattle.term_runner.proofs.Planned.{moved_on, more_made, none_made, runs_short}
@@ -30,6 +32,8 @@ moves-init g c =
     record {
       between = at_first formula c.args.plan.now table.graph table.book.state.live c.new-stack.result.items (search rules);
       ready = subst (λ (kept : List Entry). IsReady formula table kept) (sym c.in_ok-cache.ensures.0) c.requires.ready;
+      settled = c.requires.settled;
+      own = own_none table (entries c.in_ok-cache.cache) c.new-stack.result.items (search rules);
       continues = (c.steps_law.ensures.none table c.requires.ready.sound).leaves;
       made = none_made formula table.graph.order c.args.plan.now table.graph c.requires.empty;
       beside = refl;
@@ -37,6 +41,12 @@ moves-init g c =
 
 pub take_move-requires-clause-ready : goal.take_move-requires-clause-ready
 take_move-requires-clause-ready g c = c.moves.invariant.ready
+
+pub take_move-requires-clause-settled : goal.take_move-requires-clause-settled
+take_move-requires-clause-settled g c = c.moves.invariant.settled
+
+pub take_move-requires-clause-own : goal.take_move-requires-clause-own
+take_move-requires-clause-own g c = c.moves.invariant.own
 
 pub take_move-requires-clause-possible : goal.take_move-requires-clause-possible
 take_move-requires-clause-possible g c =
@@ -64,6 +74,8 @@ moves-preserved g c =
         held = c.in_ok-take_move.ensures.held between.stage next.next between.held next.is c.if-branch.false;
       };
       ready = c.in_ok-take_move.ensures.ready no_error;
+      settled = c.in_ok-take_move.ensures.settled (inl (ap Ok c.if-branch.false));
+      own = c.in_ok-take_move.ensures.own c.if-branch.false;
       continues = c.steps_law.ensures.go_on _ _ _ c.args.table.now c.moves.table c.take_move.new.table c.moves.invariant.continues c.in_ok-take_move.ensures.leaves;
       made = more_made c.args.formula.now c.args.table.now.graph.order c.args.plan.now c.moves.table.graph c.take_move.new.table.graph c.moves.invariant.made (suc c.moves.i) next.next moved
           (subst (λ (order : List ℕ). KeepsOrMakes c.moves.table.graph c.take_move.new.table.graph (top_function c.args.formula.now order next.next.stack)) c.moves.invariant.continues.order

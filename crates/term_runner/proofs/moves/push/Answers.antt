@@ -1,17 +1,19 @@
-use Rattle.std.proofs.Common.{◌≡◌, ◌≢◌, ◌++◌, ℕ, false, [], ◌∷◌, reverse, ℤ, List, Some, Err, ap, subst}
+use Rattle.std.proofs.Common.{◌≡◌, ◌≢◌, ◌++◌, ℕ, false, [], ◌∷◌, reverse, ℤ, List, Some, Err, ap, inr, subst}
 use Rattle.std.specs.Prelude.{IsTrue}
 use Rattle.lrat_rules.specs.State.{clause_at}
 use Rattle.node_table.specs.declared.node.Node.TheVariants.{False}
 use Rattle.node_table.specs.Made.{LacksPart, MakesOnly}
 use Rattle.schedule_plan.specs.Plan.{input}
 use Rattle.clause_terms.specs.Term.{clause_function}
-use Rattle.term_runner.specs.Held.{AreHeld}
+use Rattle.term_runner.specs.Held.{AreHeld, OwnUnits}
 use Rattle.node_table.specs.declared.error.TableError.TheVariants.{NodeLimit}
 use Rattle.node_table.specs.HandedOn.{came_from, no_answer}
 use Rattle.term_runner.proofs.Planned.{no_limit}
 use Rattle.term_runner.proofs.Inputs.{input_live, input_literals, input_some}
 use Rattle.term_runner.proofs.Leaving.{after_all, steps_handed}
 use Rattle.term_runner.proofs.Stacks.{held_kept, pushed, clause_held, false_refutes, if_ok}
+use Rattle.term_runner.proofs.OwnUnits.{new_unit, no_clause, own_pushed, own_same, unit_own}
+use Rattle.node_table.specs.declared.node.Just.TheVariants.{Trivial}
 use Rattle.term_runner.proofs.moves.push.Goals as goal
 
 pub push_clause-requires-clause-sound : goal.push_clause-requires-clause-sound
@@ -49,6 +51,21 @@ returns-clause-refuted g c =
     if_ok c.put.result (λ refuted. IsTrue refuted → c.in_ok-found.found.0 ≡ False) (λ refuted. IsTrue refuted → (id : ℕ) × (clause_at new.book.state.live id ≡ Some []))
     (λ refuted named is. false_refutes new.graph new.book.state.live c.in_ok-found.found.0 c.in_ok-found.found.1 (named is) c.in_ok-found.ensures.term.proved)
     c.put.ensures.refuted
+
+pub returns-clause-own : goal.returns-clause-own
+returns-clause-own g c kept fits own =
+    let old = c.args.table.now in
+    let new = c.push_clause.new.table in
+    if_ok c.put.result (λ refuted. refuted ≡ false → (c.in_ok-found.found.0 ≢ False) × (c.put.new.stack.items ≡ c.args.stack.now.items ++ record { node = c.in_ok-found.found.0; unit = c.in_ok-found.found.1 } ∷ []))
+    (λ refuted. refuted ≡ false → OwnUnits new kept (reverse c.put.new.stack.items))
+    (λ refuted stacked is. own_pushed new kept c.args.stack.now.items c.put.new.stack.items (record { node = c.in_ok-found.found.0; unit = c.in_ok-found.found.1 }) (stacked is).1
+    (own_same old new kept (reverse c.args.stack.now.items) c.in_ok-found.ensures.retired own)
+    (unit_own old new kept Trivial Trivial c.in_ok-found.found.1 c.requires.ready.1.sound fits c.in_ok-found.ensures.retired (λ id none. absurd (no_clause id none)) (λ id none. absurd (no_clause id none))
+    (inr (inr (λ id given. new_unit old new id (c.in_ok-found.ensures.last id given))))))
+    c.put.ensures.stacked
+
+pub returns-in_err-found-clause-own : goal.returns-in_err-found-clause-own
+returns-in_err-found-clause-own g c kept fits own = no_answer _ c.in_err-found.field-0.0 _ c.from_residual.ensures.1
 
 pub returns-clause-steps : goal.returns-clause-steps
 returns-clause-steps g c = after_all _ _ _ c.args.table.now c.push_clause.new.table _ c.put.result c.put.ensures.failed c.in_ok-found.ensures.steps

@@ -1,119 +1,108 @@
-use Rattle.std.proofs.Common.{◌≡◌, false, List, ◌∷◌, reverse, sym, subst}
-use Rattle.apply_and.specs.Cache.{entries}
+-- A move is carried out, and the clauses that it retired are deleted.
+use Rattle.std.proofs.Common.{Option, Some, reverse, ap, sym, subst, arith}
+use Rattle.node_table.specs.declared.error.TableError.{TableError}
+use Rattle.node_table.specs.declared.error.TableError.TheVariants.{NodeLimit}
+use Rattle.node_table.specs.Diagram.{Graph}
+use Rattle.node_table.specs.HandedOn.{no_error}
 use Rattle.node_table.specs.Made.{LacksPart}
-use Rattle.schedule_plan.specs.Plan.{Term, input, both}
-use Rattle.term_runner.specs.Needs.{KeepsOrMakes, term_function, top_function}
-use Rattle.term_runner.specs.Held.{AreHeld}
-use Rattle.term_runner.proofs.Leaving.{went_on}
-use Rattle.term_runner.proofs.Planned.{keeps_or_makes}
-use Rattle.term_runner.proofs.Stacks.{ready_after, if_ok}
-use Rattle.term_runner.proofs.Taking.{push_of, and_of, no_quantifier}
+use Rattle.node_table.specs.Progress.{Leaves}
+use Rattle.node_table.specs.Table.{TableState, live_nodes}
+use Rattle.apply_and.specs.Cache.{entries}
+use Rattle.term_runner.specs.Needs.{KeepsOrMakes, top_function}
+use Rattle.term_runner.proofs.Leaving.{error_handed, leaves_after, limit_left}
+use Rattle.term_runner.proofs.OwnUnits.{held_settled, own_settled, ready_settled}
 use Rattle.term_runner.proofs.moves.take_move.Goals as goal
 
-pub push-requires-clause-from_one : goal.push-requires-clause-from_one
-push-requires-clause-from_one g c = (push_of c.args.formula.now c.requires.possible.0 c.requires.possible.1 c.args.step c.in-Push.number c.in-Push.is c.requires.possible.3).from_one
+pub settle-requires-in-Err : goal.settle-requires-in-Err
+settle-requires-in-Err g c =
+    let is = c.is_node_limit.ensures.0 c.if-is_node_limit.true in
+    record { sound = (limit_left g.S.Sink.tells g.S.Sink.channel c.args.table.now c.carry_out.new.table c.in-Err.e is c.in-Err.ensures.leaves).0.sound }
 
-pub push-requires-clause-to_len : goal.push-requires-clause-to_len
-push-requires-clause-to_len g c = (push_of c.args.formula.now c.requires.possible.0 c.requires.possible.1 c.args.step c.in-Push.number c.in-Push.is c.requires.possible.3).to_len
-
-pub push-requires-clause-ready : goal.push-requires-clause-ready
-push-requires-clause-ready g c = (entries c.args.cache.now, c.requires.ready)
-
-pub returns-in-Push-clause-held : goal.returns-in-Push-clause-held
-returns-in-Push-clause-held g c stage next are is =
-    let move = push_of c.args.formula.now stage next c.args.step c.in-Push.number c.in-Push.is is in
-    let new = c.push.new.table in
-    if_ok c.push.result (λ refuted. refuted ≡ false → AreHeld c.args.formula.now new.graph new.book.state.live (reverse c.push.new.stack.items) (input c.in-Push.number ∷ stage.stack))
-    (λ refuted. refuted ≡ false → AreHeld c.args.formula.now new.graph new.book.state.live (reverse c.push.new.stack.items) next.stack)
-    (λ refuted held no_end. subst (λ (terms : List Term). AreHeld c.args.formula.now new.graph new.book.state.live (reverse c.push.new.stack.items) terms) (sym move.stack) (held no_end))
-    (c.push.ensures.held stage.stack are)
-
-pub returns-in-Push-clause-ready : goal.returns-in-Push-clause-ready
-returns-in-Push-clause-ready g c whole =
+pub returns-in_err-settle-in-Ok-2-clause-leaves : goal.returns-in_err-settle-in-Ok-2-clause-leaves
+returns-in_err-settle-in-Ok-2-clause-leaves g c =
     let old = c.args.table.now in
-    let new = c.push.new.table in
-    let steps = c.push.ensures.steps in
-    let kept = c.entry_law.ensures.kept old new (entries c.args.cache.now) c.requires.ready.sound steps.extends c.push.ensures.retired c.requires.ready.fits in
-    ready_after c.args.formula.now old new (entries c.args.cache.now) (entries c.args.cache.now) c.requires.ready (went_on _ _ _ old new c.push.result steps.leaves whole).sound steps.extends kept
+    let mid = c.carry_out.new.table in
+    let new = c.settle.new.self in
+    let channel = g.S.Sink.channel in
+    let came = c.in_err-settle-in-Ok-2.field-0.0 in
+    subst (λ (error : Option TableError). Leaves g.S.Sink.tells (channel old.book.sink) (channel new.book.sink) old new error) (sym (error_handed _ came c.from_residual.ensures.1))
+    (leaves_after g.S.Sink.tells channel c.steps_law.ensures (channel old.book.sink) (channel mid.book.sink) (channel new.book.sink) old mid new c.in-Ok-2.ensures.leaves (Some came) c.in_err-settle-in-Ok-2.ensures.leaves)
 
-pub conjoin-requires-clause-two : goal.conjoin-requires-clause-two
-conjoin-requires-clause-two g c =
-    let stage = c.requires.possible.0 in
-    let move = and_of c.args.formula.now stage c.requires.possible.1 c.args.step c.in-And.is c.requires.possible.3 in
-    let old = c.args.table.now in (
-      c.args.formula.now,
-      move.one,
-      move.other,
-      move.rest,
-      subst (λ (terms : List Term). AreHeld c.args.formula.now old.graph old.book.state.live (reverse c.args.stack.now.items) terms) move.before c.requires.possible.2,
-    )
+pub returns-in_err-settle-in-Ok-2-clause-made : goal.returns-in_err-settle-in-Ok-2-clause-made
+returns-in_err-settle-in-Ok-2-clause-made g c stage next are is =
+    subst (λ (graph : Graph). KeepsOrMakes c.args.table.now.graph graph (top_function c.args.formula.now c.args.table.now.graph.order next.stack)) (sym c.settle.ensures.nodes) (c.carry_out.ensures.made stage next are is)
 
-pub returns-in-And-clause-held : goal.returns-in-And-clause-held
-returns-in-And-clause-held g c stage next are is =
-    let move = and_of c.args.formula.now stage next c.args.step c.in-And.is is in
+pub returns-in_ok-settle-in-Ok-2-clause-leaves : goal.returns-in_ok-settle-in-Ok-2-clause-leaves
+returns-in_ok-settle-in-Ok-2-clause-leaves g c =
+    c.steps_law.ensures.go_on _ _ _ c.args.table.now c.carry_out.new.table c.settle.new.self c.in-Ok-2.ensures.leaves c.in_ok-settle-in-Ok-2.ensures.leaves
+
+pub returns-in_ok-settle-in-Ok-2-clause-made : goal.returns-in_ok-settle-in-Ok-2-clause-made
+returns-in_ok-settle-in-Ok-2-clause-made g c stage next are is =
+    subst (λ (graph : Graph). KeepsOrMakes c.args.table.now.graph graph (top_function c.args.formula.now c.args.table.now.graph.order next.stack)) (sym c.settle.ensures.nodes) (c.carry_out.ensures.made stage next are is)
+
+pub returns-in_ok-settle-in-Ok-2-clause-held : goal.returns-in_ok-settle-in-Ok-2-clause-held
+returns-in_ok-settle-in-Ok-2-clause-held g c stage next are is open_yet =
+    let mid = c.carry_out.new.table in
+    let new = c.settle.new.self in
+    let none = ap (λ (t : TableState g.row.S.Denot). t.retired) c.in_ok-settle-in-Ok-2.ensures.settled in
+    held_settled c.args.formula.now mid new (entries c.carry_out.new.cache) c.settle.ensures.nodes none c.settle.ensures.stay (reverse c.carry_out.new.stack.items) next.stack
+    (c.in-Ok.ensures.own open_yet) (c.in-Ok.ensures.held stage next are is open_yet)
+
+pub returns-in_ok-settle-in-Ok-2-clause-ready : goal.returns-in_ok-settle-in-Ok-2-clause-ready
+returns-in_ok-settle-in-Ok-2-clause-ready g c whole =
+    let mid = c.carry_out.new.table in
+    let new = c.settle.new.self in
+    let none = ap (λ (t : TableState g.row.S.Denot). t.retired) c.in_ok-settle-in-Ok-2.ensures.settled in
+    let inputs = ap (λ (t : TableState g.row.S.Denot). t.inputs) c.in_ok-settle-in-Ok-2.ensures.settled in
+    ready_settled c.args.formula.now mid new (entries c.carry_out.new.cache) c.settle.ensures.nodes none c.settle.ensures.stay c.entry_law.ensures inputs c.in_ok-settle-in-Ok-2.ensures.leaves.sound
+    (c.in-Ok-2.ensures.ready no_error)
+
+pub returns-in_ok-settle-in-Ok-2-clause-own : goal.returns-in_ok-settle-in-Ok-2-clause-own
+returns-in_ok-settle-in-Ok-2-clause-own g c open_yet =
+    let none = ap (λ (t : TableState g.row.S.Denot). t.retired) c.in_ok-settle-in-Ok-2.ensures.settled in
+    own_settled c.args.formula.now c.carry_out.new.table c.settle.new.self (entries c.carry_out.new.cache) c.settle.ensures.nodes none c.settle.ensures.stay (reverse c.carry_out.new.stack.items) (c.in-Ok.ensures.own open_yet)
+
+pub returns-in_err-settle-in-Err-clause-leaves : goal.returns-in_err-settle-in-Err-clause-leaves
+returns-in_err-settle-in-Err-clause-leaves g c =
     let old = c.args.table.now in
-    let new = c.conjoin.new.table in
-    if_ok c.conjoin.result (λ refuted. refuted ≡ false → AreHeld c.args.formula.now new.graph new.book.state.live (reverse c.conjoin.new.stack.items) (both move.one move.other ∷ move.rest))
-    (λ refuted. refuted ≡ false → AreHeld c.args.formula.now new.graph new.book.state.live (reverse c.conjoin.new.stack.items) next.stack)
-    (λ refuted held no_end. subst (λ (terms : List Term). AreHeld c.args.formula.now new.graph new.book.state.live (reverse c.conjoin.new.stack.items) terms) (sym move.after) (held no_end))
-    (c.conjoin.ensures.held c.args.formula.now move.one move.other move.rest
-    (subst (λ (terms : List Term). AreHeld c.args.formula.now old.graph old.book.state.live (reverse c.args.stack.now.items) terms) move.before are))
+    let mid = c.carry_out.new.table in
+    let new = c.settle-in-Err.new.self in
+    let channel = g.S.Sink.channel in
+    let came = c.in_err-settle-in-Err.field-0.0 in
+    let limit = limit_left g.S.Sink.tells channel old mid c.in-Err.e (c.is_node_limit.ensures.0 c.if-is_node_limit.true) c.in-Err.ensures.leaves in
+    subst (λ (error : Option TableError). Leaves g.S.Sink.tells (channel old.book.sink) (channel new.book.sink) old new error) (sym (error_handed _ came c.from_residual-in_err-settle-in-Err.ensures.1))
+    (leaves_after g.S.Sink.tells channel c.steps_law.ensures (channel old.book.sink) (channel mid.book.sink) (channel new.book.sink) old mid new limit.0 (Some came) c.in_err-settle-in-Err.ensures.leaves)
 
-pub returns-in-And-clause-ready : goal.returns-in-And-clause-ready
-returns-in-And-clause-ready g c whole =
+pub returns-in_err-settle-in-Err-clause-made : goal.returns-in_err-settle-in-Err-clause-made
+returns-in_err-settle-in-Err-clause-made g c stage next are is =
+    subst (λ (graph : Graph). KeepsOrMakes c.args.table.now.graph graph (top_function c.args.formula.now c.args.table.now.graph.order next.stack)) (sym c.settle-in-Err.ensures.nodes) (c.carry_out.ensures.made stage next are is)
+
+pub returns-in_ok-settle-in-Err-clause-made : goal.returns-in_ok-settle-in-Err-clause-made
+returns-in_ok-settle-in-Err-clause-made g c stage next are is =
+    subst (λ (graph : Graph). KeepsOrMakes c.args.table.now.graph graph (top_function c.args.formula.now c.args.table.now.graph.order next.stack)) (sym c.settle-in-Err.ensures.nodes) (c.carry_out.ensures.made stage next are is)
+
+pub returns-in_ok-settle-in-Err-clause-lacks : goal.returns-in_ok-settle-in-Err-clause-lacks
+returns-in_ok-settle-in-Err-clause-lacks g c stage next are is limit =
+    subst (λ (graph : Graph). LacksPart graph (top_function c.args.formula.now c.args.table.now.graph.order next.stack)) (sym c.settle-in-Err.ensures.nodes) (c.in-Err.ensures.lacks stage next are is limit)
+
+pub returns-in_ok-settle-in-Err-clause-ready : goal.returns-in_ok-settle-in-Err-clause-ready
+returns-in_ok-settle-in-Err-clause-ready g c whole =
+    let mid = c.carry_out.new.table in
+    let new = c.settle-in-Err.new.self in
+    let none = ap (λ (t : TableState g.row.S.Denot). t.retired) c.in_ok-settle-in-Err.ensures.settled in
+    let inputs = ap (λ (t : TableState g.row.S.Denot). t.inputs) c.in_ok-settle-in-Err.ensures.settled in
+    ready_settled c.args.formula.now mid new (entries c.carry_out.new.cache) c.settle-in-Err.ensures.nodes none c.settle-in-Err.ensures.stay c.entry_law.ensures inputs c.in_ok-settle-in-Err.ensures.leaves.sound
+    (c.in-Err.ensures.ready whole)
+
+pub returns-in_ok-settle-in-Err-clause-leaves : goal.returns-in_ok-settle-in-Err-clause-leaves
+returns-in_ok-settle-in-Err-clause-leaves g c =
     let old = c.args.table.now in
-    let new = c.conjoin.new.table in
-    let steps = c.conjoin.ensures.steps in
-    ready_after c.args.formula.now old new (entries c.args.cache.now) (entries c.conjoin.new.cache) c.requires.ready (went_on _ _ _ old new c.conjoin.result steps.leaves whole).sound steps.extends (c.conjoin.ensures.fits whole)
-
-pub returns-in-Push-clause-made : goal.returns-in-Push-clause-made
-returns-in-Push-clause-made g c stage next are is =
-    let move = push_of c.args.formula.now stage next c.args.step c.in-Push.number c.in-Push.is is in
-    let old = c.args.table.now.graph in
-    let new = c.push.new.table.graph in
-    subst (λ (terms : List Term). KeepsOrMakes old new (top_function c.args.formula.now old.order terms)) (sym move.stack)
-    (keeps_or_makes c.growth_law.ensures old new (term_function c.args.formula.now old.order (input c.in-Push.number)) c.requires.ready.sound.tied.reduced c.push.ensures.steps.extends.nodes c.push.ensures.made)
-
-pub returns-in-Push-clause-lacks : goal.returns-in-Push-clause-lacks
-returns-in-Push-clause-lacks g c stage next are is limit =
-    let move = push_of c.args.formula.now stage next c.args.step c.in-Push.number c.in-Push.is is in
-    subst (λ (terms : List Term). LacksPart c.push.new.table.graph (top_function c.args.formula.now c.args.table.now.graph.order terms)) (sym move.stack) (c.push.ensures.lacks limit)
-
-pub returns-in-And-clause-made : goal.returns-in-And-clause-made
-returns-in-And-clause-made g c stage next are is =
-    let move = and_of c.args.formula.now stage next c.args.step c.in-And.is is in
-    let old = c.args.table.now in
-    let new = c.conjoin.new.table.graph in
-    let two = subst (λ (terms : List Term). AreHeld c.args.formula.now old.graph old.book.state.live (reverse c.args.stack.now.items) terms) move.before are in
-    subst (λ (terms : List Term). KeepsOrMakes old.graph new (top_function c.args.formula.now old.graph.order terms)) (sym move.after)
-    (keeps_or_makes c.growth_law.ensures old.graph new (term_function c.args.formula.now old.graph.order (both move.one move.other)) c.requires.ready.sound.tied.reduced c.conjoin.ensures.steps.extends.nodes
-    (c.conjoin.ensures.made c.args.formula.now move.one move.other move.rest two))
-
-pub returns-in-And-clause-lacks : goal.returns-in-And-clause-lacks
-returns-in-And-clause-lacks g c stage next are is limit =
-    let move = and_of c.args.formula.now stage next c.args.step c.in-And.is is in
-    let old = c.args.table.now in
-    let two = subst (λ (terms : List Term). AreHeld c.args.formula.now old.graph old.book.state.live (reverse c.args.stack.now.items) terms) move.before are in
-    subst (λ (terms : List Term). LacksPart c.conjoin.new.table.graph (top_function c.args.formula.now old.graph.order terms)) (sym move.after)
-    (c.conjoin.ensures.lacks c.args.formula.now move.one move.other move.rest two limit)
-
-pub unreachable-requires : goal.unreachable-requires
-unreachable-requires g c = no_quantifier c.args.step c.in-Exists.field-0 c.in-Exists.is c.requires.joins
-
-pub returns-in-Push-clause-refuted : goal.returns-in-Push-clause-refuted
-returns-in-Push-clause-refuted g c = c.push.ensures.refuted
-
-pub returns-in-Push-clause-leaves : goal.returns-in-Push-clause-leaves
-returns-in-Push-clause-leaves g c = c.push.ensures.steps.leaves
-
-pub returns-in-Push-clause-beside : goal.returns-in-Push-clause-beside
-returns-in-Push-clause-beside g c = c.push.ensures.beside
-
-pub returns-in-And-clause-refuted : goal.returns-in-And-clause-refuted
-returns-in-And-clause-refuted g c = c.conjoin.ensures.refuted
-
-pub returns-in-And-clause-leaves : goal.returns-in-And-clause-leaves
-returns-in-And-clause-leaves g c = c.conjoin.ensures.steps.leaves
-
-pub returns-in-And-clause-beside : goal.returns-in-And-clause-beside
-returns-in-And-clause-beside g c = c.conjoin.ensures.beside
+    let mid = c.carry_out.new.table in
+    let new = c.settle-in-Err.new.self in
+    let channel = g.S.Sink.channel in
+    let is = c.is_node_limit.ensures.0 c.if-is_node_limit.true in
+    let limit = limit_left g.S.Sink.tells channel old mid c.in-Err.e is c.in-Err.ensures.leaves in
+    let settled = c.in_ok-settle-in-Err.ensures.leaves in
+    let more : Leaves g.S.Sink.tells (channel old.book.sink) (channel new.book.sink) old new (Some NodeLimit) =
+    (c.steps_law.ensures.go_on _ _ _ old mid new limit.0 settled, omega (arith, limit.1, settled.max_nodes, ap live_nodes c.settle-in-Err.ensures.nodes)) in
+    subst (λ (e : TableError). Leaves g.S.Sink.tells (channel old.book.sink) (channel new.book.sink) old new (Some e)) (sym is) more

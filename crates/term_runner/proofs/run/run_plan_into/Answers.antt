@@ -101,3 +101,6 @@ returns-clause-ends g c =
     let ordered = subst (λ (o : List ℕ). Ends tells before (g.S.Sink.channel c.finish-result.new.ledger.sink.now) formula o moves limits c.finish-result.result) (ap (λ (h : Graph). h.order) graph) ended in
     subst (λ (s : g.row.S.Denot). Ends tells (g.S.Sink.channel c.args.sink.now) (g.S.Sink.channel s) formula order moves limits c.finish-result.result) (search rules)
     (subst (λ (s : g.row.S.Denot). Ends tells (g.S.Sink.channel s) (g.S.Sink.channel c.finish-result.new.ledger.sink.now) formula order moves limits c.finish-result.result) same ordered)
+
+pub decide-found-requires-clause-settled : goal.decide-found-requires-clause-settled
+decide-found-requires-clause-settled g c = ap (λ (t : TableState (MutBor g.row.S.Denot)). t.retired) c.new-table.ensures

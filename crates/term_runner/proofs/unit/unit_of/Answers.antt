@@ -4,6 +4,7 @@ use Rattle.node_table.specs.Defined.{atom_of}
 use Rattle.node_table.specs.Just.{IsJustified}
 use Rattle.operations.specs.Results.{conjunction_atoms}
 use Rattle.term_runner.proofs.Units.{not_both, first_named, second_named, just_named, unit_refuted, not_true}
+use Rattle.term_runner.proofs.OwnUnits.{given_next}
 use Rattle.term_runner.proofs.unit.unit_of.Goals as goal
 
 pub unreachable-requires : goal.unreachable-requires
@@ -56,3 +57,7 @@ returns-clause-own g c is = elim is [
   | inl first ↦ absurd (not_both c.is_same.result (c.is_same.ensures.1 first) c.if-is_same.false)
   | inr second ↦ absurd (not_both c.is_same-2.result (c.is_same-2.ensures.1 second) c.if-is_same-2.false)
 ]
+
+pub returns-clause-given : goal.returns-clause-given
+returns-clause-given g c =
+    given_next c.args.table.now c.add_unit.new.table c.args.u.now.unit c.args.v.now.unit c.add_unit.result c.add_unit.ensures.number
