@@ -102,13 +102,16 @@ other_name name rows is and = ap₂ (λ (b c : Bool). command_by b c rows) is an
 of_row : (values : ArgMatches) (name : Text) → first_of name (rows_of (found_of values)) ≡ first_value (found_of values) name
 of_row values name = sym (first_value-rows (found_of values) name)
 
-pub solve_values : (values : ArgMatches) (file proof nodes ids : Option Text)
+pub solve_values : (values : ArgMatches) (file proof nodes ids entries : Option Text)
     → file ≡ first_value (found_of values) (codes "FILE") → proof ≡ first_value (found_of values) (codes "proof")
-    → nodes ≡ first_value (found_of values) (codes "max-nodes") → ids ≡ first_value (found_of values) (codes "max-ids")
-    → solve_means (rows_of (found_of values)) ≡ to_solve (two_names file proof) (limits_given nodes ids)
-solve_values values file proof nodes ids file_is proof_is nodes_is ids_is =
+    → nodes ≡ first_value (found_of values) (codes "max-nodes") → ids ≡ first_value (found_of values) (codes "max-ids") → entries ≡ first_value (found_of values) (codes "cache")
+    → solve_means (rows_of (found_of values)) ≡ to_solve (two_names file proof) (limits_given nodes ids entries)
+solve_values values file proof nodes ids entries file_is proof_is nodes_is ids_is entries_is =
     ap₂ to_solve (ap₂ two_names (of_row values (codes "FILE") ∙ sym file_is) (of_row values (codes "proof") ∙ sym proof_is))
-    (ap₂ limits_given (of_row values (codes "max-nodes") ∙ sym nodes_is) (of_row values (codes "max-ids") ∙ sym ids_is))
+    (ap₃ limits_given (of_row values (codes "max-nodes") ∙ sym nodes_is) (of_row values (codes "max-ids") ∙ sym ids_is) (of_row values (codes "cache") ∙ sym entries_is))
+  where
+    ap₃ : {A B C D : Type 0} (f : A → B → C → D) {a d : A} {b e : B} {c g : C} → a ≡ d → b ≡ e → c ≡ g → f a b c ≡ f d e g
+    ap₃ f p q r = λ i. f (p i) (q i) (r i)
 
 pub solve_nameless : (values : ArgMatches) (file proof : Option Text)
     → file ≡ first_value (found_of values) (codes "FILE") → proof ≡ first_value (found_of values) (codes "proof") → two_names file proof ≡ None

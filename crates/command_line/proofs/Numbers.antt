@@ -1,13 +1,13 @@
 -- What `parse` reads of a text of at most 18 bytes without a plus sign is the number that its digits spell.
 use Rattle.std.proofs.Common.{true≢false, ap₂, ◌≡◌, ◌≢◌, ℕ, ◌≤◌, ◌<◌, ◌^◌, Bool, true, false, List, [], ◌∷◌, length, Some, None, Ok, Err, refl, sym, ap, ◌∙◌, arith, rules, slice_index}
-use Rattle.std.specs.Prelude.{Option, if◌then◌else◌, ◌==◌, ⊤}
+use Rattle.std.specs.Prelude.{Option, if◌then◌else◌, ◌==◌, ◌&&◌, nat_le, ⊤}
 use Rattle.std.specs.Option.{option_and_then}
 use borrow.Author.Tests.{eq-eqb, le-leb, lt-leb}
 use Rattle.std.specs.List.{list_all}
 use Rattle.std.specs.Str.Parse.{ParsesUnsigned}
 use Rattle.std.proofs.lemmas.Str.Parse.{IsNumeralModel, digits_value_short, numerals_by_fold, parse_plain}
 use Rattle.cnf_base.specs.Number.{is_digit, numeral_value, value_after}
-use Rattle.command_line.specs.Command.{at_most, number_upto}
+use Rattle.command_line.specs.Command.{in_range, number_within}
 
 digits : IsNumeralModel (λ ds. list_all is_digit ds ≡ true) (value_after 0)
 digits = numerals_by_fold _ (search rules) value_after (search rules)
@@ -33,20 +33,24 @@ read_none E text error parses unsigned short = spelled text short (parse_plain d
 abbrev at_most_18 : Bool → Option ℕ → Option ℕ
 at_most_18 short n = if short then n else None
 
-abbrev upto_by : ℕ → Option ℕ → Option ℕ
-upto_by greatest n = option_and_then (at_most greatest) n
+abbrev within_by : ℕ → ℕ → Option ℕ → Option ℕ
+within_by least greatest n = option_and_then (in_range least greatest) n
 
--- the value is at most the greatest, or more, or there is none
-pub upto_within : (greatest : ℕ) (text : List ℕ) (n : ℕ) → length text ≤ 18 → numeral_value text ≡ Some n → n ≤ greatest → number_upto greatest text ≡ Some n
-upto_within greatest text n short is within =
-    ap₂ at_most_18 (le-leb _ _ short) (ap (upto_by greatest) is ∙ ap (λ (b : Bool). if_so b n) (le-leb _ _ within))
+-- the value is in the range, below the least, above the greatest, or there is none
+pub number_inside : (least greatest : ℕ) (text : List ℕ) (n : ℕ) → length text ≤ 18 → numeral_value text ≡ Some n → least ≤ n → n ≤ greatest → number_within least greatest text ≡ Some n
+number_inside least greatest text n short is from upto =
+    ap₂ at_most_18 (le-leb _ _ short) (ap (within_by least greatest) is ∙ ap₂ (λ (b c : Bool). if_so (b && c) n) (le-leb _ _ from) (le-leb _ _ upto))
 
-pub upto_beyond : (greatest : ℕ) (text : List ℕ) (n : ℕ) → length text ≤ 18 → numeral_value text ≡ Some n → greatest < n → number_upto greatest text ≡ None
-upto_beyond greatest text n short is beyond =
-    ap₂ at_most_18 (le-leb _ _ short) (ap (upto_by greatest) is ∙ ap (λ (b : Bool). if_so b n) (lt-leb _ _ beyond))
+pub number_below : (least greatest : ℕ) (text : List ℕ) (n : ℕ) → length text ≤ 18 → numeral_value text ≡ Some n → n < least → number_within least greatest text ≡ None
+number_below least greatest text n short is below =
+    ap₂ at_most_18 (le-leb _ _ short) (ap (within_by least greatest) is ∙ ap (λ (b : Bool). if_so (b && nat_le n greatest) n) (lt-leb _ _ below))
 
-pub upto_none : (greatest : ℕ) (text : List ℕ) → length text ≤ 18 → numeral_value text ≡ None → number_upto greatest text ≡ None
-upto_none greatest text short is = ap₂ at_most_18 (le-leb _ _ short) (ap (upto_by greatest) is)
+pub number_above : (least greatest : ℕ) (text : List ℕ) (n : ℕ) → length text ≤ 18 → numeral_value text ≡ Some n → least ≤ n → greatest < n → number_within least greatest text ≡ None
+number_above least greatest text n short is from above =
+    ap₂ at_most_18 (le-leb _ _ short) (ap (within_by least greatest) is ∙ ap₂ (λ (b c : Bool). if_so (b && c) n) (le-leb _ _ from) (lt-leb _ _ above))
+
+pub no_number : (least greatest : ℕ) (text : List ℕ) → length text ≤ 18 → numeral_value text ≡ None → number_within least greatest text ≡ None
+no_number least greatest text short is = ap₂ at_most_18 (le-leb _ _ short) (ap (within_by least greatest) is)
 
 -- what the test of the first byte says
 pub no_plus : (text : List ℕ) (starts : Bool) → starts ≡ (slice_index text 0 == 43) → starts ≡ false → slice_index text 0 ≢ 43

@@ -1,6 +1,6 @@
 -- The meaning of the program's words, its own name first: what the parser of command lines makes of them (`fault_of`,
 -- `subcommand_of`: the kinds of its refusal, and the values that it reads), and then this program's own tests.
-use Rattle.std.specs.Prelude.{ℕ, List, [], ◌∷◌, Option, None, Some, codes, length, map, nat_le, if◌then◌else◌, ◌≡◌, ◌⊎◌}
+use Rattle.std.specs.Prelude.{ℕ, List, [], ◌∷◌, Option, None, Some, codes, length, map, nat_le, if◌then◌else◌, ◌&&◌, ◌≡◌, ◌⊎◌}
 use Rattle.std.specs.Option.{option_and_then}
 use Rattle.std.specs.Str.{bytes_eq}
 use Rattle.clap.specs.Words.{Row, Text, first_of, fault_of, subcommand_of}
@@ -55,27 +55,28 @@ abbrev pub two_names : Option Text → Option Text → Option (Text × Text)
 two_names (Some file) (Some proof) = if bytes_eq file proof then None else Some (file, proof)
 two_names _ _ = None
 
--- a number, where it is at most the greatest
-abbrev pub at_most : ℕ → ℕ → Option ℕ
-at_most greatest n = if nat_le n greatest then Some n else None
+-- a number, where it is neither below the least nor above the greatest
+abbrev pub in_range : ℕ → ℕ → ℕ → Option ℕ
+in_range least greatest n = if nat_le least n && nat_le n greatest then Some n else None
 
--- 1 to 18 digits, of a value up to the greatest
-abbrev pub number_upto : ℕ → Text → Option ℕ
-number_upto greatest text = if nat_le (length text) 18 then option_and_then (at_most greatest) (numeral_value text) else None
+-- 1 to 18 digits, of a value in the range
+abbrev pub number_within : ℕ → ℕ → Text → Option ℕ
+number_within least greatest text = if nat_le (length text) 18 then option_and_then (in_range least greatest) (numeral_value text) else None
 
 -- the number that an option gives, or the default without it
-abbrev pub number_given : ℕ → ℕ → Option Text → Option ℕ
-number_given default greatest None = Some default
-number_given default greatest (Some text) = number_upto greatest text
+abbrev pub number_given : ℕ → ℕ → ℕ → Option Text → Option ℕ
+number_given least default greatest None = Some default
+number_given least default greatest (Some text) = number_within least greatest text
 
--- the limits of these numbers of nodes and of identifiers
-abbrev pub limits_with : Option ℕ → Option ℕ → Option Limits
-limits_with (Some nodes) (Some ids) = Some (record default_limits { max_nodes = nodes; max_ids = ids })
-limits_with _ _ = None
+-- the limits of these numbers of nodes, of identifiers and of the cache's entries
+abbrev pub limits_with : Option ℕ → Option ℕ → Option ℕ → Option Limits
+limits_with (Some nodes) (Some ids) (Some entries) = Some (record { cache = entries; max_nodes = nodes; max_ids = ids })
+limits_with _ _ _ = None
 
--- the limits that `--max-nodes` and `--max-ids` give
-abbrev pub limits_given : Option Text → Option Text → Option Limits
-limits_given nodes ids = limits_with (number_given default_limits.max_nodes 100000000 nodes) (number_given default_limits.max_ids 1000000000 ids)
+-- the limits that `--max-nodes`, `--max-ids` and `--cache` give
+abbrev pub limits_given : Option Text → Option Text → Option Text → Option Limits
+limits_given nodes ids entries =
+    limits_with (number_given 0 default_limits.max_nodes 100000000 nodes) (number_given 0 default_limits.max_ids 1000000000 ids) (number_given 1 default_limits.cache 100000000 entries)
 
 -- two files, and limits to solve within
 abbrev pub to_solve : Option (Text × Text) → Option Limits → Meaning
@@ -89,7 +90,7 @@ to_check None = Misuse
 
 abbrev pub solve_means : List Row → Meaning
 solve_means rows =
-    to_solve (two_names (first_of (codes "FILE") rows) (first_of (codes "proof") rows)) (limits_given (first_of (codes "max-nodes") rows) (first_of (codes "max-ids") rows))
+    to_solve (two_names (first_of (codes "FILE") rows) (first_of (codes "proof") rows)) (limits_given (first_of (codes "max-nodes") rows) (first_of (codes "max-ids") rows) (first_of (codes "cache") rows))
 
 abbrev pub check_means : List Row → Meaning
 check_means rows = to_check (two_names (first_of (codes "FILE") rows) (first_of (codes "PROOF") rows))

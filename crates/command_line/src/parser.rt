@@ -10,10 +10,10 @@ use std::alloc::{AllocError, Global};
 const ABOUT: &str = "Decides a CNF formula and proves the answer, or checks a proof.";
 
 const USAGE: &str = "\
-bddsat solve FILE --proof P [--max-nodes N] [--max-ids N]
+bddsat solve FILE --proof P [--max-nodes N] [--max-ids N] [--cache N]
        bddsat check FILE PROOF";
 
-const SOLVE_USAGE: &str = "bddsat solve FILE --proof P [--max-nodes N] [--max-ids N]";
+const SOLVE_USAGE: &str = "bddsat solve FILE --proof P [--max-nodes N] [--max-ids N] [--cache N]";
 
 const CHECK_USAGE: &str = "bddsat check FILE PROOF";
 
@@ -42,6 +42,8 @@ const PROOF_HELP: &str = "The file that the proof is written to, in LRAT";
 const MAX_NODES_HELP: &str = "The most nodes in use at once, 0 to 100000000 [default: 10000000]";
 
 const MAX_IDS_HELP: &str = "The greatest clause number, 0 to 1000000000 [default: 1000000000]";
+
+const CACHE_HELP: &str = "The most conjunctions in the cache, 1 to 100000000 [default: 1000000]";
 
 const SOLVE_AFTER: &str = "\
 Example:
@@ -75,6 +77,7 @@ fn solve_parser<'a>(alloc: Global) -> Result<Command<'a>, AllocError>
     let proof = option_arg(alloc, "proof", "P", PROOF_HELP).required(true);
     let max_nodes = option_arg(alloc, "max-nodes", "N", MAX_NODES_HELP);
     let max_ids = option_arg(alloc, "max-ids", "N", MAX_IDS_HELP);
+    let cache = option_arg(alloc, "cache", "N", CACHE_HELP);
     Command::new(alloc, "solve")
         .about(SOLVE_ABOUT)
         .override_usage(SOLVE_USAGE)
@@ -82,7 +85,8 @@ fn solve_parser<'a>(alloc: Global) -> Result<Command<'a>, AllocError>
         .arg(file)?
         .arg(proof)?
         .arg(max_nodes)?
-        .arg(max_ids)
+        .arg(max_ids)?
+        .arg(cache)
 }
 
 fn formula_arg<'a>(alloc: Global) -> Arg<'a>

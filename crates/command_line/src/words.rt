@@ -102,7 +102,11 @@ fn solve_asked<'a>(values: &ArgMatches<'a>) -> Option<Asked<'a>>
     ensures limits { IfSome result (λ asked. AreLimits (limits_of (command_of asked))) }
 {
     let files = two_names(values.get_str("FILE"), values.get_str("proof"))?;
-    let limits = limits_given(values.get_str("max-nodes"), values.get_str("max-ids"))?;
+    let limits = limits_given(
+        values.get_str("max-nodes"),
+        values.get_str("max-ids"),
+        values.get_str("cache"),
+    )?;
     Some(Asked::Solve(files, limits))
 }
 

@@ -3,7 +3,7 @@
 /// How much a run may use.
 #[derive(Clone, Copy, Debug, PartialEq, Eq)]
 pub struct Limits {
-    /// Entries of the cache of conjunctions, at least 1. Not in force yet: none is pushed out.
+    /// Entries of the cache of conjunctions, 1 to 100,000,000.
     pub cache: u32,
     /// Inner nodes live at once, at most 100,000,000.
     pub max_nodes: u32,

@@ -14,11 +14,11 @@ returns-in_err-files-clause-meant c =
 pub returns-in_err-limits-clause-meant : goal.returns-in_err-limits-clause-meant
 returns-in_err-limits-clause-meant c =
     let means : solve_means (rows_of (found_of c.args.values.now)) ≡ Misuse =
-    solve_values c.args.values.now (text_of c.get_str.result) (text_of c.get_str-2.result) (text_of c.get_str-3.result) (text_of c.get_str-4.result) c.get_str.ensures c.get_str-2.ensures c.get_str-3.ensures c.get_str-4.ensures
+    solve_values c.args.values.now (text_of c.get_str.result) (text_of c.get_str-2.result) (text_of c.get_str-3.result) (text_of c.get_str-4.result) (text_of c.get_str-5.result) c.get_str.ensures c.get_str-2.ensures c.get_str-3.ensures c.get_str-4.ensures c.get_str-5.ensures
     ∙ ap₂ to_solve c.in_ok-files.ensures (sym c.in_err-limits.ensures.given) in
     search (rules, means)
 
 pub returns-clause-meant : goal.returns-clause-meant
 returns-clause-meant c =
-    solve_values c.args.values.now (text_of c.get_str.result) (text_of c.get_str-2.result) (text_of c.get_str-3.result) (text_of c.get_str-4.result) c.get_str.ensures c.get_str-2.ensures c.get_str-3.ensures c.get_str-4.ensures
+    solve_values c.args.values.now (text_of c.get_str.result) (text_of c.get_str-2.result) (text_of c.get_str-3.result) (text_of c.get_str-4.result) (text_of c.get_str-5.result) c.get_str.ensures c.get_str-2.ensures c.get_str-3.ensures c.get_str-4.ensures c.get_str-5.ensures
     ∙ ap₂ to_solve c.in_ok-files.ensures (sym c.in_ok-limits.ensures.given)
