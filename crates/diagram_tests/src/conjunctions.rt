@@ -337,7 +337,10 @@ fn expect_price(
     let mut table = open(alloc, &formula, &three(1, 2, 3), &room)?;
     let mut cache = no_entries(alloc, pairs)?;
     let additions = additions(rt, &mut table, &mut cache, first, second)?;
-    assert!(rt; additions <= 2 * u64::from(pairs), "{first} {second}: {additions}");
+    assert!(rt;
+        additions <= 2 * u64::from(pairs),
+        "{first} {second}: {additions}"
+    );
     Ok(())
 }
 
