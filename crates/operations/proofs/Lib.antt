@@ -1,3 +1,4 @@
 pub mod NodeParts
 pub mod Splits
 pub mod Kept
+pub mod Cached

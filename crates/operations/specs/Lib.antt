@@ -2,3 +2,4 @@ pub mod Operands
 pub mod Sides
 pub mod Results
 pub mod Entries
+pub mod Caches

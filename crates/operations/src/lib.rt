@@ -7,6 +7,6 @@ mod laws;
 mod operands;
 mod parts;
 
-pub use laws::{entry_law, operand_law};
+pub use laws::{cache_law, entry_law, operand_law};
 pub use operands::{Operands, split};
 pub use parts::{Side, down_part, just_part, up_part};
