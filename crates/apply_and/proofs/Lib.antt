@@ -11,4 +11,4 @@ pub mod Pairs
 pub mod Price
 pub mod Retiring
 pub mod Calls
-pub mod OpenCalls
+pub mod Opened

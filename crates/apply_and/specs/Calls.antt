@@ -1,24 +1,24 @@
--- A whole call of a conjunction, however it ends: as one relation, from which the calls around it go on. Beside it what a
--- look-up answers, and the last step of a call that was split.
-use Rattle.std.specs.Prelude.{◌≡◌, ◌≢◌, ◌≤◌, ◌<◌, ◌⊎◌, ◌∷◌, ℕ, Bool, List, Option, None, Some, Result, Ok, Err, Contains, IfOk, IsFalse, length}
+-- A whole call of a conjunction, however it ends: as one relation, from which the calls around it go on. Beside it the last
+-- step of a call that was split, and the operation of both.
+use Rattle.std.specs.Prelude.{◌≡◌, ◌≢◌, ◌≤◌, ◌<◌, ◌⊎◌, ◌∷◌, ℕ, Bool, List, Option, None, Some, Result, Ok, Err, Contains, IfOk, IsFalse, IsTrue, length, min}
 use Rattle.host_io.specs.Channel.{Channel}
 use Rattle.host_io.specs.Beside.{Beside}
 use Rattle.node_table.specs.declared.error.TableError.{TableError}
 use Rattle.node_table.specs.declared.error.TableError.TheVariants.{NodeLimit}
 use Rattle.node_table.specs.declared.node.Node.{Node}
 use Rattle.node_table.specs.declared.node.Just.{Just}
-use Rattle.node_table.specs.declared.node.Just.TheVariants.{Clause}
-use Rattle.node_table.specs.Table.{TableState, HasChildren, UnlessTorn}
+use Rattle.node_table.specs.declared.node.Just.TheVariants.{Trivial, Clause}
+use Rattle.node_table.specs.Diagram.{is_node, level_of}
+use Rattle.node_table.specs.Table.{TableState, IsSound, HasChildren, UnlessTorn}
 use Rattle.node_table.specs.Made.{LacksPart, MakesOnly, ReachesNew}
 use Rattle.node_table.specs.Progress.{Steps, error_of}
 use Rattle.operations.specs.declared.operands.Operands.{Operands}
-use Rattle.operations.specs.Operands.{levels_from}
+use Rattle.operations.specs.Operands.{AreSplit, levels_from}
+use Rattle.operations.specs.Machine.{Calls}
 use Rattle.operations.specs.Results.{Conjoined}
-use Rattle.operations.specs.Entries.{Entry, Accounts, Conjunction, Fits, NamesOnly, RetiresOwn}
+use Rattle.operations.specs.Entries.{Entry, Accounts, Conjunction, Fits, HaveSame, NamesOnly, RetiresOwn}
 use Rattle.apply_and.specs.declared.cache.AndCache.{AndCache}
-use Rattle.apply_and.specs.declared.frames.Turn.{Turn}
-use Rattle.apply_and.specs.declared.frames.Turn.TheVariants.{Open, Give}
-use Rattle.apply_and.specs.Conjunction.{IsNoConstant, conjunction_of, most_additions}
+use Rattle.apply_and.specs.Conjunction.{IsNoConstant, IsPlain, conjunction_of, most_additions}
 use Rattle.apply_and.specs.Cache.{HasOperands, Pair, StandInFront, entries, is_one, most_entries}
 use Rattle.apply_and.specs.Price.{AreAmong, CoverReached, Pays}
 
@@ -79,8 +79,37 @@ pub record IsUnknown (cache : AndCache) (u v : Node) : Type 0 where
   pub none : (w : Node) (just : Just) → Contains (entries cache) (Conjunction u v w just) → ⊥
   pub unused : (used : List Pair) → StandInFront cache used → IsFalse (is_one used (u, v))
 
--- What is to be done with a call: it is to be opened, and nothing changed, or it is answered, and nothing changed in the
--- table.
-abbrev pub IsAnswer : {S : Type 0} → Bool → (S → Channel) → (S → Beside) → TableState S → AndCache → AndCache → Node → Node → Turn → Type 0
-IsAnswer tells channel lent table before after u v (Open a b) = (a ≡ u) × (b ≡ v) × (after ≡ before) × IsUnknown before u v
-IsAnswer tells channel lent table before after u v (Give found) = Conjoins tells channel lent table before u v table after (Ok found)
+-- What a call may begin with.
+pub record CanConjoin {S : Type 0} (table : TableState S) (cache : AndCache) (u v : Node) : Type 0 where
+  pub sound : IsSound table
+  pub first : IsTrue (is_node table.graph u)
+  pub second : IsTrue (is_node table.graph v)
+  pub fits : Fits table (entries cache)
+
+-- What the last step may begin with: the results of both sides.
+pub record CanClose {S : Type 0} (table : TableState S) (cache : AndCache) (o : Operands) (high low : Node × Just) : Type 0 where
+  pub sound : IsSound table
+  pub fits : Fits table (entries cache)
+  pub split : AreSplit table.graph o
+  pub on_high : Conjoined table.graph table.book.state.live o.u_high o.v_high high.0 high.1
+  pub on_low : Conjoined table.graph table.book.state.live o.u_low o.v_low low.0 low.1
+
+-- A call, and what a plain pair and one that is kept are answered.
+pub record Answers {S : Type 0} (tells : Bool) (channel : S → Channel) (lent : S → Beside) (old : TableState S) (before : AndCache) (u v : Node) (new : TableState S) (after : AndCache)
+    (result : Result (Node × Just) TableError) : Type 0 where
+  pub call : Conjoins tells channel lent old before u v new after result
+  pub known : (w : Node) (just : Just) → Contains (entries before) (Conjunction u v w just) → (result ≡ Ok (w, just)) × (new ≡ old) × HaveSame (entries before) (entries after)
+  pub plain : (w : Node) → IsPlain u v w → (result ≡ Ok (w, Trivial)) × (new ≡ old) × (after ≡ before)
+
+-- The conjunction as an operation on diagrams: a pair is split into that of its high cofactors and that of its low ones.
+abbrev pub conjunctions : {S : Type 0} → Bool → (S → Channel) → (S → Beside) → Calls S AndCache Pair Operands (Node × Just)
+conjunctions tells channel lent = record {
+  can = λ table cache pair. CanConjoin table cache pair.0 pair.1;
+  ends = λ old before pair new after result. Answers tells channel lent old before pair.0 pair.1 new after result;
+  can_close = CanClose;
+  closes = Closes tells channel lent;
+  high = λ o. (o.u_high, o.v_high);
+  low = λ o. (o.u_low, o.v_low);
+  level = λ o. o.level;
+  floor = λ table pair. min (level_of table.graph pair.0) (level_of table.graph pair.1);
+}

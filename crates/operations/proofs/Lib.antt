@@ -1,3 +1,5 @@
 pub mod NodeParts
 pub mod Splits
 pub mod Kept
+pub mod OpenCalls
+pub mod Cached

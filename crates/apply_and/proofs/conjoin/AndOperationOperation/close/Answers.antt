@@ -14,10 +14,10 @@ use Rattle.apply_and.specs.Conjunction.{conjunction_of}
 use Rattle.apply_and.proofs.Calls.{Answer, memory_no_limit}
 use Rattle.apply_and.proofs.Named.{HaveSame-itself, NamesOnly-same, no_fewer_itself}
 use Rattle.apply_and.proofs.Retiring.{accounts_failed, accounts_kept, accounts_refused, conjoined_new, fits_kept, fits_mid, fits_refused, named_kept, retires_failed, retires_kept, retires_refused, sound_left, unretired_kept, just_given, given_of}
-use Rattle.apply_and.proofs.conjoin.close.Goals as goal
+use Rattle.apply_and.proofs.conjoin.AndOperationOperation.close.Goals as goal
 
-pub returns-in_err-found : goal.returns-in_err-found
-returns-in_err-found g c =
+pub returns-in_err-found-clause-closes : goal.returns-in_err-found-clause-closes
+returns-in_err-found-clause-closes g c =
     let o = c.args.operands.now in
     let old = c.args.table.now in
     let cache = c.args.cache.now in
@@ -52,17 +52,17 @@ pub retire-requires-clause-own : goal.retire-requires-clause-own
 retire-requires-clause-own g c id is =
     let done = c.in_ok-found.ensures in
     let before = entries c.args.cache.now in
-    (fits_mid c.steps_law.ensures c.entry_law.ensures c.args.table.now c.finish.new.table before c.requires.sound c.requires.fits done.steps.leaves.sound done.steps.extends done.retires).own id (c.in-Ok.ensures.kept.named id is)
+    (fits_mid c.steps_law.ensures c.entry_law.ensures c.args.table.now c.finish.new.table before c.requires.sound c.requires.fits done.steps.leaves.sound done.steps.extends done.retires).own id (c.in-Ok.ensures.kept.one.named id is)
 
 pub retire-requires-clause-unretired : goal.retire-requires-clause-unretired
 retire-requires-clause-unretired g c id is gone =
     let done = c.in_ok-found.ensures in
     let before = entries c.args.cache.now in
     (fits_mid c.steps_law.ensures c.entry_law.ensures c.args.table.now c.finish.new.table before c.requires.sound c.requires.fits done.steps.leaves.sound done.steps.extends done.retires).unretired id
-    (c.in-Ok.ensures.kept.named id is) gone
+    (c.in-Ok.ensures.kept.one.named id is) gone
 
-pub returns-in-Ok : goal.returns-in-Ok
-returns-in-Ok g c =
+pub returns-in-Ok-clause-closes : goal.returns-in-Ok-clause-closes
+returns-in-Ok-clause-closes g c =
     let o = c.args.operands.now in
     let old = c.args.table.now in
     let cache = c.args.cache.now in
@@ -94,9 +94,9 @@ returns-in-Ok g c =
       accounts = λ whole.
           accounts_kept law fitting old mid before c.requires.sound c.requires.fits sound_mid done.steps.extends done.retires found.1 gives o.u o.v found.0 nodes done.conjoined new given one cache after refl kept;
       unretired = unretired_kept law fitting old mid before c.requires.sound c.requires.fits sound_mid done.steps.extends done.retires found.1 gives o.u o.v found.0 nodes done.conjoined new given one cache after refl kept;
-      kept = kept.kept;
+      kept = kept.one.kept;
       others = kept.others;
-      no_fewer = kept.no_fewer;
+      no_fewer = kept.one.no_fewer;
       capacity = kept.capacity;
       used = λ used front apart room. kept.used used front apart room;
       children = subst (λ (graph : Graph). HasChildren graph o.level c.args.high.now.0 c.args.low.now.0 found.0) (sym same) done.children;
@@ -106,8 +106,8 @@ returns-in-Ok g c =
       beside = c.retire.ensures.beside ∙ done.beside;
     }
 
-pub returns-in-Err : goal.returns-in-Err
-returns-in-Err g c =
+pub returns-in-Err-clause-closes : goal.returns-in-Err-clause-closes
+returns-in-Err-clause-closes g c =
     let o = c.args.operands.now in
     let old = c.args.table.now in
     let cache = c.args.cache.now in
