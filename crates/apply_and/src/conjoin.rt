@@ -14,23 +14,24 @@ ghost use Rattle.operations.specs.Operands.{AreSplit, levels_from};
 ghost use Rattle.operations.specs.Results.{Conjoined};
 ghost use Rattle.operations.specs.Entries.{Entry, Accounts, AreApart, Conjunction, Fits, HaveSame, IsNewJust, NamesOnly, RetiresOwn};
 ghost use Rattle.apply_and.specs.Conjunction.{IsNoConstant, IsPlain, conjunction_of, most_additions};
-ghost use Rattle.apply_and.specs.Additions.{GivesOne, RetiresNew, found_just};
+ghost use Rattle.operations.specs.Accounts.{GivesOne, RetiresNew, found_just};
 ghost use Rattle.apply_and.specs.Cache.{IsLooked, entries, most_entries};
 ghost use Rattle.apply_and.specs.Price.{HoldsReached};
-ghost use Rattle.apply_and.specs.Calls.{Closes, Conjoins, IsAnswer, IsUnknown, RetiresOne};
+ghost use Rattle.apply_and.specs.Calls.{Closes, Conjoins, IsAnswer, IsUnknown};
 ghost use Rattle.apply_and.specs.declared.frames.Turn.TheVariants.{Give};
 
 use crate::additions::justify;
 use crate::cache::{AndCache, Found};
 use crate::frames::{Frame, Turn, pop, push};
-use cnf_base::Id;
 use host_io::Sink;
 use node_table::{
     Just, Node, Table, TableError, canonical_law, cofactor_law, growth_law, missing_law, reach_law,
     steps_law, subfunction_law,
 };
 use op_cache::front_law;
-use operations::{Operands, entry_law, operand_law, split};
+use operations::{
+    Operands, accounts_law, cache_law, clause_of, entry_law, operand_law, retire, split,
+};
 use std::alloc::Global;
 
 /// The conjunction of two nodes, and why its clause holds. Nodes and clauses that were there stay; what was made before
@@ -76,7 +77,7 @@ pub fn and<S: Sink + Drop>(
     ensures lacks { result ≡ Err NodeLimit → LacksPart table.new.graph (conjunction_of table.old.graph u v) }
     ensures beside { S.beside table.new.book.sink ≡ S.beside table.old.book.sink }
 {
-    entry_law::<S>();
+    accounts_law::<S>();
     steps_law::<S>();
     front_law::<(Node, Node), Found>();
     match ask(table, cache, u, v) {
@@ -97,7 +98,7 @@ fn ask<S: Sink + Drop>(table: &Table<S>, cache: &mut AndCache, u: Node, v: Node)
     ensures plain { (w : NodeValue) → IsPlain u v w → (result ≡ Give (w, Trivial)) × (cache.new ≡ cache.old) }
 {
     steps_law::<S>();
-    entry_law::<S>();
+    accounts_law::<S>();
     subfunction_law();
     reach_law();
     canonical_law();
@@ -126,6 +127,8 @@ fn conjoin<S: Sink + Drop>(
     ensures { Conjoins S.tells S.channel S.beside table.old cache.old u v table.new cache.new result }
 {
     steps_law::<S>();
+    accounts_law::<S>();
+    cache_law::<(Node, Node), Found>();
     entry_law::<S>();
     operand_law();
     growth_law();
@@ -174,7 +177,7 @@ fn close<S: Sink + Drop>(
     ensures { Closes S.tells S.channel S.beside table.old cache.old operands.now high.now low.now table.new cache.new result }
 {
     steps_law::<S>();
-    entry_law::<S>();
+    accounts_law::<S>();
     operand_law();
     growth_law();
     let found = finish(cache.alloc(), table, operands, high, low)?;
@@ -187,30 +190,6 @@ fn close<S: Sink + Drop>(
             retire(table, clause_of(&found.1));
             Err(TableError::OutOfMemory)
         }
-    }
-}
-
-// Retires a clause, if one is given.
-fn retire<S: Sink + Drop>(table: &mut Table<S>, clause: Option<Id>)
-    requires sound { IsSound table.old }
-    requires own { (id : ℕ) → clause ≡ Some id → IsAddedTo table.old id }
-    requires unretired { (id : ℕ) → clause ≡ Some id → Contains table.old.retired id → ⊥ }
-    ensures one { RetiresOne S.tells S.channel table.old table.new clause }
-    ensures beside { S.beside table.new.book.sink ≡ S.beside table.old.book.sink }
-{
-    steps_law::<S>();
-    if let Some(id) = clause {
-        table.retire(id);
-    }
-}
-
-// The clause that a justification names.
-fn clause_of(just: &Just) -> Option<Id>
-    ensures { MatchOption result (just.now ≡ Trivial) (λ id. just.now ≡ Clause id) }
-{
-    match just {
-        Just::Trivial => None,
-        Just::Clause(id) => Some(*id),
     }
 }
 
@@ -252,6 +231,7 @@ fn finish<S: Sink + Drop>(
     ensures beside { S.beside table.new.book.sink ≡ S.beside table.old.book.sink }
 {
     steps_law::<S>();
+    accounts_law::<S>();
     entry_law::<S>();
     operand_law();
     cofactor_law();

@@ -3,3 +3,4 @@ pub mod Sides
 pub mod Results
 pub mod Entries
 pub mod Caches
+pub mod Accounts

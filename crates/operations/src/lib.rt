@@ -6,7 +6,9 @@
 mod laws;
 mod operands;
 mod parts;
+mod retired;
 
-pub use laws::{cache_law, entry_law, operand_law};
+pub use laws::{accounts_law, cache_law, entry_law, operand_law};
 pub use operands::{Operands, split};
 pub use parts::{Side, down_part, just_part, up_part};
+pub use retired::{clause_of, retire};

@@ -1,5 +1,5 @@
 -- A plain pair and one that is kept are answered with nothing changed in the table.
-use Rattle.std.proofs.Common.{ap, refl, inl}
+use Rattle.std.proofs.Common.{ap, arith, refl, inl}
 use Rattle.node_table.specs.declared.node.Just.TheVariants.{Trivial}
 use Rattle.node_table.specs.HandedOn.{no_error}
 use Rattle.operations.specs.Entries.{Conjunction}
@@ -9,9 +9,8 @@ use Rattle.apply_and.specs.Conjunction.{conjunction_of}
 use Rattle.apply_and.proofs.Conjunctions.{only_answer}
 use Rattle.apply_and.proofs.Handed.{steps_none}
 use Rattle.apply_and.proofs.Made.{not_plain}
-use Rattle.apply_and.proofs.Named.{same_some, Accounts-same, NamesOnly-same, HaveSame-itself, RetiresOwn-none, fits_looked, no_fewer_itself, no_found}
+use Rattle.apply_and.proofs.Named.{no_clause, no_found, same_some}
 use Rattle.apply_and.proofs.Price.{paid_looked, paid_plain}
-use Rattle.apply_and.proofs.Retiring.{no_clause}
 use Rattle.apply_and.proofs.conjoin.ask.Goals as goal
 
 pub returns-in-Some-clause-answer : goal.returns-in-Some-clause-answer
@@ -20,15 +19,10 @@ returns-in-Some-clause-answer g c =
     let before = entries c.args.cache.now in record {
       conjoined = c.in-Some.ensures.conjoined _ _ c.requires.first c.requires.second;
       steps = steps_none c.steps_law.ensures table c.requires.sound _;
-      fits = λ whole. c.requires.fits;
-      named = λ whole. NamesOnly-same before before table.book.state table.book.state (HaveSame-itself before);
-      retires = RetiresOwn-none table table before refl;
-      accounts = λ whole. Accounts-same table c.requires.sound before before (HaveSame-itself before);
+      accounts = c.accounts_law.ensures.none table before _ c.requires.sound c.requires.fits;
       unretired = λ id is. absurd (no_clause id is);
       kept = λ differ first second. absurd (not_plain c.args.u c.args.v c.in-Some.w differ first second c.in-Some.ensures.plain);
-      remembered = λ entry there. inl there;
-      no_fewer = no_fewer_itself before;
-      capacity = refl;
+      remembers = record { entries = λ entry there. inl there; no_fewer = omega arith; capacity = refl };
       price = λ all used cover room front among. paid_plain table c.args.cache.now c.args.u c.args.v all used front among;
       made = c.subfunction_law.ensures.none_made table.graph (conjunction_of table.graph c.args.u c.args.v);
       reachable = c.reach_law.ensures.none_made table.graph c.in-Some.w;
@@ -60,15 +54,10 @@ returns-in-Some-look-clause-answer g c =
     let apart = c.in_default.ensures.conjoined in record {
       conjoined = (c.requires.fits.each own there).1;
       steps = steps_none c.steps_law.ensures table c.requires.sound _;
-      fits = λ whole. fits_looked c.entry_law.ensures table before looked same_list c.requires.fits;
-      named = λ whole. NamesOnly-same before looked table.book.state table.book.state same_list;
-      retires = RetiresOwn-none table table before refl;
-      accounts = λ whole. Accounts-same table c.requires.sound before looked same_list;
+      accounts = c.accounts_law.ensures.same table before looked _ c.requires.sound same_list c.requires.fits;
       unretired = λ id is. c.requires.fits.unretired id (own, there, is);
       kept = λ differ first second. c.in-Some-look.ensures.found;
-      remembered = λ entry had. inl (same_list.there entry had);
-      no_fewer = c.look.ensures.looked.no_fewer;
-      capacity = c.look.ensures.looked.capacity;
+      remembers = record { entries = λ entry had. inl (same_list.there entry had); no_fewer = c.look.ensures.looked.no_fewer; capacity = c.look.ensures.looked.capacity };
       price = λ all used cover room front among.
           paid_looked table c.look.new.self c.args.u c.args.v all used (c.in-Some-look.ensures.used used front) among
           (cover c.args.u c.args.v (c.reach_law.ensures.itself table.graph c.args.u) (c.reach_law.ensures.itself table.graph c.args.v) apart.1 apart.2);
