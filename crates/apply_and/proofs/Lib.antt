@@ -9,6 +9,5 @@ pub mod Named
 pub mod Handed
 pub mod Pairs
 pub mod Price
-pub mod Retiring
 pub mod Calls
 pub mod Opened

@@ -6,7 +6,7 @@ use Rattle.node_table.specs.declared.node.Just.{Just}
 use Rattle.node_table.specs.declared.node.Just.TheVariants.{Trivial, Clause}
 use Rattle.node_table.specs.contracts.node.NodePartialEq.TheImpl as node_equality
 use Rattle.op_cache.specs.Laws.{AreInFront, is_among}
-use Rattle.operations.specs.Caches.{IsOfKey, KeepsEntry, LeavesEntries, with_key}
+use Rattle.operations.specs.Caches.{KeepsEntry, LeavesEntries, with_key}
 use Rattle.operations.specs.Entries.{Entry, Conjunction}
 use Rattle.apply_and.specs.declared.cache.AndCache.{AndCache}
 use Rattle.apply_and.specs.declared.cache.Found.{Found}
@@ -29,10 +29,6 @@ entries cache = map entry_of cache.results.entries
 -- how many entries there may be
 abbrev pub most_entries : AndCache → ℕ
 most_entries cache = cache.results.capacity
-
--- the entry is of these operands
-abbrev pub HasOperands : Entry → Node → Node → Type 0
-HasOperands entry u v = IsOfKey entry_of (u, v) entry
 
 -- Whether two pairs of operands are the same.
 abbrev pub same_pair : Pair → Pair → Bool

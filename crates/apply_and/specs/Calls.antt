@@ -1,6 +1,6 @@
 -- A whole call of a conjunction, however it ends: as one relation, from which the calls around it go on. Beside it the last
 -- step of a call that was split, and the operation of both.
-use Rattle.std.specs.Prelude.{◌≡◌, ◌≢◌, ◌≤◌, ◌<◌, ◌⊎◌, ◌∷◌, ℕ, Bool, List, Option, None, Some, Result, Ok, Err, Contains, IfOk, IsFalse, IsTrue, length, min}
+use Rattle.std.specs.Prelude.{◌≡◌, ◌≢◌, ◌≤◌, ◌<◌, ◌∷◌, ℕ, Bool, List, Result, Ok, Err, Contains, IfOk, IsFalse, IsTrue, length, min}
 use Rattle.host_io.specs.Channel.{Channel}
 use Rattle.host_io.specs.Beside.{Beside}
 use Rattle.node_table.specs.declared.error.TableError.{TableError}
@@ -9,17 +9,19 @@ use Rattle.node_table.specs.declared.node.Node.{Node}
 use Rattle.node_table.specs.declared.node.Just.{Just}
 use Rattle.node_table.specs.declared.node.Just.TheVariants.{Trivial, Clause}
 use Rattle.node_table.specs.Diagram.{is_node, level_of}
-use Rattle.node_table.specs.Table.{TableState, IsSound, HasChildren, UnlessTorn}
+use Rattle.node_table.specs.Table.{TableState, IsSound, HasChildren}
 use Rattle.node_table.specs.Made.{LacksPart, MakesOnly, ReachesNew}
 use Rattle.node_table.specs.Progress.{Steps, error_of}
 use Rattle.operations.specs.declared.operands.Operands.{Operands}
 use Rattle.operations.specs.Operands.{AreSplit, levels_from}
 use Rattle.operations.specs.Machine.{Calls}
 use Rattle.operations.specs.Results.{Conjoined}
-use Rattle.operations.specs.Entries.{Entry, Accounts, Conjunction, Fits, HaveSame, NamesOnly, RetiresOwn}
+use Rattle.operations.specs.Accounts.{AccountsFor}
+use Rattle.operations.specs.Caches.{MakesRoom, Remembers}
+use Rattle.operations.specs.Entries.{Conjunction, Fits, HaveSame}
 use Rattle.apply_and.specs.declared.cache.AndCache.{AndCache}
 use Rattle.apply_and.specs.Conjunction.{IsNoConstant, IsPlain, conjunction_of, most_additions}
-use Rattle.apply_and.specs.Cache.{HasOperands, Pair, StandInFront, entries, is_one, most_entries}
+use Rattle.apply_and.specs.Cache.{Pair, StandInFront, entries, entry_of, is_one, most_entries}
 use Rattle.apply_and.specs.Price.{AreAmong, CoverReached, Pays}
 
 -- The call for u and v began with this table and this cache, and ended with those and this result: what it found, made,
@@ -28,15 +30,10 @@ pub record Conjoins {S : Type 0} (tells : Bool) (channel : S → Channel) (lent 
     (result : Result (Node × Just) TableError) : Type 0 where
   pub conjoined : IfOk result (λ found. Conjoined new.graph new.book.state.live u v found.0 found.1)
   pub steps : Steps tells (channel old.book.sink) (channel new.book.sink) old new (most_additions (levels_from old.graph u v)) (error_of result)
-  pub fits : UnlessTorn result (Fits new (entries after))
-  pub named : UnlessTorn result (NamesOnly (entries before) (entries after) old.book.state new.book.state)
-  pub retires : RetiresOwn old new (entries before)
-  pub accounts : UnlessTorn result (Accounts old new (entries before) (entries after))
+  pub accounts : AccountsFor old new (entries before) (entries after) (error_of result)
   pub unretired : IfOk result (λ found. (id : ℕ) → found.1 ≡ Clause id → Contains new.retired id → ⊥)
   pub kept : u ≢ v → IsNoConstant u → IsNoConstant v → IfOk result (λ found. Contains (entries after) (Conjunction u v found.0 found.1))
-  pub remembered : (entry : Entry) → Contains (entries before) entry → Contains (entries after) entry ⊎ (most_entries before ≤ length (entries after))
-  pub no_fewer : length (entries before) ≤ length (entries after)
-  pub capacity : most_entries after ≡ most_entries before
+  pub remembers : Remembers entry_of before.results after.results
   pub price : (all used : List Pair) → CoverReached old.graph u v all → length all ≤ most_entries before → StandInFront before used → AreAmong used all → Pays old new after u v all used result
   pub made : MakesOnly old.graph new.graph (conjunction_of old.graph u v)
   pub reachable : IfOk result (λ found. ReachesNew old.graph new.graph found.0)
@@ -48,28 +45,16 @@ pub record Closes {S : Type 0} (tells : Bool) (channel : S → Channel) (lent : 
     (result : Result (Node × Just) TableError) : Type 0 where
   pub conjoined : IfOk result (λ found. Conjoined new.graph new.book.state.live o.u o.v found.0 found.1)
   pub steps : Steps tells (channel old.book.sink) (channel new.book.sink) old new 2 (error_of result)
-  pub fits : UnlessTorn result (Fits new (entries after))
-  pub named : UnlessTorn result (NamesOnly (entries before) (entries after) old.book.state new.book.state)
-  pub retires : RetiresOwn old new (entries before)
-  pub accounts : UnlessTorn result (Accounts old new (entries before) (entries after))
+  pub accounts : AccountsFor old new (entries before) (entries after) (error_of result)
   pub unretired : IfOk result (λ found. (id : ℕ) → found.1 ≡ Clause id → Contains new.retired id → ⊥)
   pub kept : IfOk result (λ found. Contains (entries after) (Conjunction o.u o.v found.0 found.1))
-  pub others : (entry : Entry) → Contains (entries before) entry → Contains (entries after) entry ⊎ (HasOperands entry o.u o.v ⊎ (most_entries before ≤ length (entries before)))
-  pub no_fewer : length (entries before) ≤ length (entries after)
-  pub capacity : most_entries after ≡ most_entries before
+  pub room : MakesRoom entry_of before.results after.results (o.u, o.v)
   pub used : (used : List Pair) → StandInFront before used → IsFalse (is_one used (o.u, o.v)) → length used < most_entries before → IfOk result (λ found. StandInFront after ((o.u, o.v) ∷ used))
   pub children : IfOk result (λ found. HasChildren new.graph o.level high.0 low.0 found.0)
   pub made : MakesOnly old.graph new.graph (conjunction_of old.graph o.u o.v)
   pub reachable : IfOk result (λ found. ReachesNew old.graph new.graph found.0)
   pub lacks : result ≡ Err NodeLimit → LacksPart new.graph (conjunction_of old.graph o.u o.v)
   pub beside : lent new.book.sink ≡ lent old.book.sink
-
--- A clause is retired, if one is given, and nothing else.
-pub record RetiresOne {S : Type 0} (tells : Bool) (channel : S → Channel) (old new : TableState S) (given : Option ℕ) : Type 0 where
-  pub steps : Steps tells (channel old.book.sink) (channel new.book.sink) old new 0 None
-  pub same : new ≡ record old { retired = new.retired }
-  pub only : (id : ℕ) → Contains new.retired id → Contains old.retired id ⊎ (given ≡ Some id)
-  pub retired : (id : ℕ) → given ≡ Some id → Contains new.retired id
 
 -- No plain pair, and no entry has it, so that it isn't one of those that stand in front.
 pub record IsUnknown (cache : AndCache) (u v : Node) : Type 0 where

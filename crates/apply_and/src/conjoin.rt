@@ -7,28 +7,30 @@ ghost use Rattle.node_table.specs.declared.node.Node.{Node as NodeValue};
 ghost use Rattle.node_table.specs.declared.node.Just.{Just as JustValue};
 ghost use Rattle.node_table.specs.declared.node.Just.TheVariants.{Trivial, Clause};
 ghost use Rattle.node_table.specs.Diagram.{Graph, is_node};
-ghost use Rattle.node_table.specs.Table.{IsSound, IsAddedTo, AddsAtMost, HasChildren, UnlessTorn};
+ghost use Rattle.node_table.specs.Table.{IsSound, AddsAtMost, HasChildren, UnlessTorn};
 ghost use Rattle.node_table.specs.Made.{LacksPart, MakesOnly, ReachesNew};
 ghost use Rattle.node_table.specs.Progress.{Steps, error_of};
 ghost use Rattle.operations.specs.Operands.{AreSplit, levels_from};
 ghost use Rattle.operations.specs.Results.{Conjoined};
 ghost use Rattle.operations.specs.Entries.{Entry, Accounts, AreApart, Conjunction, Fits, HaveSame, IsNewJust, NamesOnly, RetiresOwn};
 ghost use Rattle.apply_and.specs.Conjunction.{IsNoConstant, IsPlain, conjunction_of, most_additions};
-ghost use Rattle.apply_and.specs.Additions.{GivesOne, RetiresNew, found_just};
+ghost use Rattle.operations.specs.Accounts.{GivesOne, RetiresNew, found_just};
 ghost use Rattle.apply_and.specs.Cache.{entries, most_entries};
 ghost use Rattle.apply_and.specs.Price.{HoldsReached};
-ghost use Rattle.apply_and.specs.Calls.{Answers, CanConjoin, IsUnknown, RetiresOne, conjunctions};
+ghost use Rattle.apply_and.specs.Calls.{Answers, CanConjoin, IsUnknown, conjunctions};
 
 use crate::additions::justify;
 use crate::cache::{AndCache, Found};
-use cnf_base::Id;
 use host_io::Sink;
 use node_table::{
     Just, Node, Table, TableError, canonical_law, cofactor_law, growth_law, missing_law, reach_law,
     steps_law, subfunction_law,
 };
 use op_cache::front_law;
-use operations::{Operands, Operation, Turn, entry_law, operand_law, split, work_off};
+use operations::{
+    Operands, Operation, Turn, accounts_law, cache_law, clause_of, entry_law, operand_law, retire,
+    split, work_off,
+};
 use std::alloc::Global;
 
 /// The conjunction of two nodes, and why its clause holds. Nodes and clauses that were there stay; what was made before
@@ -74,7 +76,7 @@ pub fn and<S: Sink + Drop>(
     ensures lacks { result ≡ Err NodeLimit → LacksPart table.new.graph (conjunction_of table.old.graph u v) }
     ensures beside { S.beside table.new.book.sink ≡ S.beside table.old.book.sink }
 {
-    entry_law::<S>();
+    accounts_law::<S>();
     steps_law::<S>();
     front_law::<(Node, Node), Found>();
     work_off::<S, AndOperation>(table, cache, (u, v))
@@ -104,6 +106,8 @@ impl<S: Sink + Drop> Operation<S> for AndOperation {
         question: (Node, Node),
     ) -> Result<Turn<Operands, (Node, Just)>, TableError> {
         steps_law::<S>();
+        accounts_law::<S>();
+        cache_law::<(Node, Node), Found>();
         entry_law::<S>();
         operand_law();
         growth_law();
@@ -133,7 +137,7 @@ impl<S: Sink + Drop> Operation<S> for AndOperation {
         low: &(Node, Just),
     ) -> Result<(Node, Just), TableError> {
         steps_law::<S>();
-        entry_law::<S>();
+        accounts_law::<S>();
         operand_law();
         growth_law();
         let found = finish(cache.alloc(), table, operands, high, low)?;
@@ -162,7 +166,7 @@ fn answer<S: Sink + Drop>(
     ensures unknown { result ≡ None → (cache.new ≡ cache.old) × IsUnknown cache.old u v }
 {
     steps_law::<S>();
-    entry_law::<S>();
+    accounts_law::<S>();
     subfunction_law();
     reach_law();
     canonical_law();
@@ -170,30 +174,6 @@ fn answer<S: Sink + Drop>(
         return Some((w, Just::Trivial));
     }
     cache.look(u, v)
-}
-
-// Retires a clause, if one is given.
-fn retire<S: Sink + Drop>(table: &mut Table<S>, clause: Option<Id>)
-    requires sound { IsSound table.old }
-    requires own { (id : ℕ) → clause ≡ Some id → IsAddedTo table.old id }
-    requires unretired { (id : ℕ) → clause ≡ Some id → Contains table.old.retired id → ⊥ }
-    ensures one { RetiresOne S.tells S.channel table.old table.new clause }
-    ensures beside { S.beside table.new.book.sink ≡ S.beside table.old.book.sink }
-{
-    steps_law::<S>();
-    if let Some(id) = clause {
-        table.retire(id);
-    }
-}
-
-// The clause that a justification names.
-fn clause_of(just: &Just) -> Option<Id>
-    ensures { MatchOption result (just.now ≡ Trivial) (λ id. just.now ≡ Clause id) }
-{
-    match just {
-        Just::Trivial => None,
-        Just::Clause(id) => Some(*id),
-    }
 }
 
 // The conjunction of two nodes of which one is a constant, or which are the same.
@@ -234,6 +214,7 @@ fn finish<S: Sink + Drop>(
     ensures beside { S.beside table.new.book.sink ≡ S.beside table.old.book.sink }
 {
     steps_law::<S>();
+    accounts_law::<S>();
     entry_law::<S>();
     operand_law();
     cofactor_law();

@@ -3,3 +3,4 @@ pub mod Splits
 pub mod Kept
 pub mod OpenCalls
 pub mod Cached
+pub mod Accounts

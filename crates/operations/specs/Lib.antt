@@ -4,3 +4,4 @@ pub mod Results
 pub mod Entries
 pub mod Machine
 pub mod Caches
+pub mod Accounts

@@ -1,4 +1,6 @@
-// Laws of operands, of entries and of the caches that hold them, as clauses of functions without work.
+// Laws of operands, of entries, of the caches that hold them and of the clauses that they name, as clauses of functions
+// without work.
+ghost use Rattle.operations.specs.Accounts.{Accounting};
 ghost use Rattle.operations.specs.Caches.{Keeping};
 ghost use Rattle.operations.specs.Entries.{Fitting};
 ghost use Rattle.operations.specs.Operands.{Splitting};
@@ -33,4 +35,12 @@ pub fn cache_law<K: Eq + Hash + Copy, V: Copy>()
     entries_law::<K, V>();
     front_law::<K, V>();
     keep_law::<K, V>();
+}
+
+/// How a call comes to account for the entries of its cache and for its clauses.
+pub fn accounts_law<S: Sink + Drop>()
+    ensures { Accounting S }
+{
+    entry_law::<S>();
+    steps_law::<S>();
 }

@@ -9,9 +9,11 @@ mod laws;
 mod machine;
 mod operands;
 mod parts;
+mod retired;
 
 pub use frames::Turn;
-pub use laws::{cache_law, entry_law, operand_law};
+pub use laws::{accounts_law, cache_law, entry_law, operand_law};
 pub use machine::{Operation, work_off};
 pub use operands::{Operands, split};
 pub use parts::{Side, down_part, just_part, up_part};
+pub use retired::{clause_of, retire};

@@ -1,5 +1,7 @@
 -- The call as it is worked off.
-use Rattle.apply_and.proofs.Calls.{beside_others, price_called, sound_of}
+use Rattle.operations.specs.Accounts.{whole_result}
+use Rattle.apply_and.specs.Cache.{entries}
+use Rattle.apply_and.proofs.Calls.{price_called}
 use Rattle.apply_and.proofs.conjoin.and.Goals as goal
 
 pub returns : goal.returns
@@ -8,21 +10,21 @@ returns g c =
     let call = answers.call in record {
       conjoined = call.conjoined;
       steps = call.steps;
-      fits = call.fits;
+      fits = λ whole. call.accounts.fits (whole_result c.work_off.result whole);
       others = λ list fits apart whole.
-          beside_others c.entry_law.ensures c.args.table.now c.work_off.new.table c.args.cache.now c.work_off.new.cache c.work_off.result c.requires.sound (sound_of _ _ _ _ _ c.work_off.result call.steps.leaves whole)
-          call list fits apart whole;
-      named = call.named;
-      retires = call.retires;
-      accounts = call.accounts;
+          c.accounts_law.ensures.beside _ _ _ c.args.table.now c.work_off.new.table (entries c.args.cache.now) (entries c.work_off.new.cache) list _ _ c.requires.sound call.steps call.accounts fits apart
+          (whole_result c.work_off.result whole);
+      named = λ whole. call.accounts.named (whole_result c.work_off.result whole);
+      retires = call.accounts.retires;
+      accounts = λ whole. call.accounts.accounts (whole_result c.work_off.result whole);
       unretired = call.unretired;
       price = λ us vs first second room.
           price_called c.front_law.ensures.none c.args.table.now c.work_off.new.table c.args.cache.now c.work_off.new.cache c.args.u c.args.v us vs c.work_off.result call first second room;
       known = answers.known;
       kept = call.kept;
-      remembered = call.remembered;
-      no_fewer = call.no_fewer;
-      capacity = call.capacity;
+      remembered = call.remembers.entries;
+      no_fewer = call.remembers.no_fewer;
+      capacity = call.remembers.capacity;
       made = call.made;
       reachable = call.reachable;
       plain = answers.plain;

@@ -1,5 +1,5 @@
 -- A plain pair and one that is kept are answered with nothing changed in the table.
-use Rattle.std.proofs.Common.{◌≡◌, ◌∙◌, Option, None, Some, Ok, Contains, ap, refl, inl, subst, sym}
+use Rattle.std.proofs.Common.{◌≡◌, ◌∙◌, Option, None, Some, Ok, Contains, arith, ap, refl, inl, subst, sym}
 use Rattle.std.specs.Prelude.{IfSome, IsFalse, MatchOption}
 use Rattle.node_table.specs.declared.node.Node.{Node}
 use Rattle.node_table.specs.declared.node.Just.{Just}
@@ -12,9 +12,8 @@ use Rattle.apply_and.specs.Conjunction.{conjunction_of}
 use Rattle.apply_and.proofs.Conjunctions.{only_answer}
 use Rattle.apply_and.proofs.Handed.{steps_none}
 use Rattle.apply_and.proofs.Made.{not_plain}
-use Rattle.apply_and.proofs.Named.{same_some, Accounts-same, NamesOnly-same, HaveSame-itself, RetiresOwn-none, fits_looked, no_fewer_itself, no_found}
+use Rattle.apply_and.proofs.Named.{no_clause, no_found, same_some}
 use Rattle.apply_and.proofs.Price.{paid_looked, paid_plain}
-use Rattle.apply_and.proofs.Retiring.{no_clause}
 use Rattle.apply_and.proofs.conjoin.answer.Goals as goal
 
 pub returns-in-Some-clause-answers : goal.returns-in-Some-clause-answers
@@ -27,15 +26,10 @@ returns-in-Some-clause-answers g c =
       call = record {
         conjoined = c.in-Some.ensures.conjoined _ _ can.first can.second;
         steps = steps_none c.steps_law.ensures table can.sound _;
-        fits = λ whole. can.fits;
-        named = λ whole. NamesOnly-same before before table.book.state table.book.state (HaveSame-itself before);
-        retires = RetiresOwn-none table table before refl;
-        accounts = λ whole. Accounts-same table can.sound before before (HaveSame-itself before);
+        accounts = c.accounts_law.ensures.none table before _ can.sound can.fits;
         unretired = λ id is. absurd (no_clause id is);
         kept = λ differ first second. absurd (not_plain u v c.in-Some.w differ first second c.in-Some.ensures.plain);
-        remembered = λ entry there. inl there;
-        no_fewer = no_fewer_itself before;
-        capacity = refl;
+        remembers = record { entries = λ entry there. inl there; no_fewer = omega arith; capacity = refl };
         price = λ all used cover room front among. paid_plain table c.args.cache.now u v all used front among;
         made = c.subfunction_law.ensures.none_made table.graph (conjunction_of table.graph u v);
         reachable = c.reach_law.ensures.none_made table.graph c.in-Some.w;
@@ -45,7 +39,7 @@ returns-in-Some-clause-answers g c =
       known = λ w just there.
           let same = only_answer c.canonical_law.ensures table.graph can.sound.tied.reduced table.book.state.live u v c.in-Some.w w just
           (c.in-Some.ensures.conjoined _ _ can.first can.second) (can.fits.each (Conjunction u v w just) there).1 in
-          (λ i. Ok (same.0 i, same.1 i), refl, HaveSame-itself before);
+          (λ i. Ok (same.0 i, same.1 i), refl, record { there = λ entry had. had; back = λ entry had. had });
       plain = λ w plain. (λ i. Ok (same_some _ _ (c.in-Some.ensures.exact w plain) i, Trivial), refl, refl);
     }
 
@@ -69,15 +63,10 @@ returns-clause-answers g c =
             call = record {
               conjoined = (can.fits.each own there).1;
               steps = steps_none c.steps_law.ensures table can.sound _;
-              fits = λ whole. fits_looked c.entry_law.ensures table before looked same_list can.fits;
-              named = λ whole. NamesOnly-same before looked table.book.state table.book.state same_list;
-              retires = RetiresOwn-none table table before refl;
-              accounts = λ whole. Accounts-same table can.sound before looked same_list;
+              accounts = c.accounts_law.ensures.same table before looked _ can.sound same_list can.fits;
               unretired = λ id names. can.fits.unretired id (own, there, names);
               kept = λ differ first second. kept;
-              remembered = λ entry had. inl (same_list.there entry had);
-              no_fewer = c.look.ensures.looked.no_fewer;
-              capacity = c.look.ensures.looked.capacity;
+              remembers = record { entries = λ entry had. inl (same_list.there entry had); no_fewer = c.look.ensures.looked.no_fewer; capacity = c.look.ensures.looked.capacity };
               price = λ all used cover room front among.
                   let in_front = subst (λ (r : Option (Node × Just)). MatchOption r (IsFalse (is_one used (u, v))) (λ f. StandInFront c.look.new.self (with_used used (u, v)))) is (c.look.ensures.used used front) in
                   paid_looked table c.look.new.self u v all used in_front among
