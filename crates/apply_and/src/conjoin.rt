@@ -28,7 +28,7 @@ use node_table::{
     steps_law, subfunction_law,
 };
 use op_cache::front_law;
-use operations::{Operands, Operation, Turn, entry_law, operand_law, split, work_off};
+use operations::{Operands, Operation, Reply, entry_law, operand_law, split, work_off};
 use std::alloc::Global;
 
 /// The conjunction of two nodes, and why its clause holds. Nodes and clauses that were there stay; what was made before
@@ -102,7 +102,7 @@ impl<S: Sink + Drop> Operation<S> for AndOperation {
         table: &mut Table<S>,
         cache: &mut AndCache,
         question: (Node, Node),
-    ) -> Result<Turn<Operands, (Node, Just)>, TableError> {
+    ) -> Result<Reply<Operands, (Node, Just)>, TableError> {
         steps_law::<S>();
         entry_law::<S>();
         operand_law();
@@ -111,8 +111,8 @@ impl<S: Sink + Drop> Operation<S> for AndOperation {
         reach_law();
         let (u, v) = question;
         match answer(table, cache, u, v) {
-            Some(found) => Ok(Turn::Give(found)),
-            None => Ok(Turn::Open(split(table, u, v))),
+            Some(found) => Ok(Reply::Give(found)),
+            None => Ok(Reply::Open(split(table, u, v))),
         }
     }
 

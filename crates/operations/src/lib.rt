@@ -10,7 +10,7 @@ mod machine;
 mod operands;
 mod parts;
 
-pub use frames::Turn;
+pub use frames::Reply;
 pub use laws::{entry_law, operand_law};
 pub use machine::{Operation, work_off};
 pub use operands::{Operands, split};
