@@ -14,7 +14,7 @@ use Rattle.operations.specs.declared.operands.Operands.{Operands}
 use Rattle.operations.specs.Operands.{AreSplit, IsInner, Splitting}
 use Rattle.operations.specs.Accounts.{Accounting, none_whole}
 use Rattle.operations.specs.Entries.{Fits, Fitting}
-use Rattle.operations.specs.declared.frames.Turn.TheVariants.{Open}
+use Rattle.operations.specs.declared.frames.Reply.TheVariants.{Open}
 use Rattle.operations.specs.Machine.{AwaitsLow, HighCame, IsAnswer, IsOpened, LowCame}
 use Rattle.apply_and.specs.declared.cache.AndCache.{AndCache}
 use Rattle.operations.specs.Caches.{Keeping}

@@ -28,7 +28,7 @@ use node_table::{
 };
 use op_cache::front_law;
 use operations::{
-    Operands, Operation, Turn, accounts_law, cache_law, clause_of, entry_law, operand_law, retire,
+    Operands, Operation, Reply, accounts_law, cache_law, clause_of, entry_law, operand_law, retire,
     split, work_off,
 };
 use std::alloc::Global;
@@ -104,7 +104,7 @@ impl<S: Sink + Drop> Operation<S> for AndOperation {
         table: &mut Table<S>,
         cache: &mut AndCache,
         question: (Node, Node),
-    ) -> Result<Turn<Operands, (Node, Just)>, TableError> {
+    ) -> Result<Reply<Operands, (Node, Just)>, TableError> {
         steps_law::<S>();
         accounts_law::<S>();
         cache_law::<(Node, Node), Found>();
@@ -115,8 +115,8 @@ impl<S: Sink + Drop> Operation<S> for AndOperation {
         reach_law();
         let (u, v) = question;
         match answer(table, cache, u, v) {
-            Some(found) => Ok(Turn::Give(found)),
-            None => Ok(Turn::Open(split(table, u, v))),
+            Some(found) => Ok(Reply::Give(found)),
+            None => Ok(Reply::Open(split(table, u, v))),
         }
     }
 

@@ -6,8 +6,8 @@ use Rattle.node_table.specs.declared.error.TableError.{TableError}
 use Rattle.node_table.specs.declared.error.TableError.TheVariants.{OutOfMemory}
 use Rattle.node_table.specs.Diagram.{levels}
 use Rattle.node_table.specs.Table.{TableState}
-use Rattle.operations.specs.declared.frames.Turn.{Turn}
-use Rattle.operations.specs.declared.frames.Turn.TheVariants.{Open, Give}
+use Rattle.operations.specs.declared.frames.Reply.{Reply}
+use Rattle.operations.specs.declared.frames.Reply.TheVariants.{Open, Give}
 
 -- what holds once a call has ended with this table, this cache and this result
 abbrev pub Outcome : Type 0 → Type 0 → Type 0 → Type 1
@@ -59,11 +59,11 @@ pub record IsOpened {S Cache Question Parts Answer : Type 0} (calls : Calls S Ca
   pub high : (new : TableState S) (after : Cache) (result : Result Answer TableError) → calls.ends now cache (calls.high parts) new after result → HighCame calls rest parts new after result
 
 -- What is next for a call from this level on: it has failed or is answered, and so has ended, or it was split.
-abbrev pub IsNext : {S Cache Question Parts Answer : Type 0} → Calls S Cache Question Parts Answer → Outcome S Cache Answer → ℕ → TableState S → Cache → Result (Turn Parts Answer) TableError → Type 0
+abbrev pub IsNext : {S Cache Question Parts Answer : Type 0} → Calls S Cache Question Parts Answer → Outcome S Cache Answer → ℕ → TableState S → Cache → Result (Reply Parts Answer) TableError → Type 0
 IsNext calls rest floor now cache (Err error) = rest now cache (Err error)
 IsNext calls rest floor now cache (Ok (Give answer)) = rest now cache (Ok answer)
 IsNext calls rest floor now cache (Ok (Open parts)) = (floor ≤ calls.level parts) × IsOpened calls rest now cache parts
 
 -- What a call answers: the rest follows from its end.
-abbrev pub IsAnswer : {S Cache Question Parts Answer : Type 0} → Calls S Cache Question Parts Answer → TableState S → Cache → Question → TableState S → Cache → Result (Turn Parts Answer) TableError → Type 0
+abbrev pub IsAnswer : {S Cache Question Parts Answer : Type 0} → Calls S Cache Question Parts Answer → TableState S → Cache → Question → TableState S → Cache → Result (Reply Parts Answer) TableError → Type 0
 IsAnswer calls old before question new after result = IsNext calls (calls.ends old before question) (calls.floor old question) new after result

@@ -11,7 +11,7 @@ mod operands;
 mod parts;
 mod retired;
 
-pub use frames::Turn;
+pub use frames::Reply;
 pub use laws::{accounts_law, cache_law, entry_law, operand_law};
 pub use machine::{Operation, work_off};
 pub use operands::{Operands, split};
