@@ -16,14 +16,16 @@ use Rattle.operations.specs.Operands.{AreSplit, IsInner, Splitting, levels_from}
 use Rattle.operations.specs.Accounts.{Accounting, none_whole}
 use Rattle.operations.specs.Caches.{Keeping}
 use Rattle.operations.specs.Entries.{Fits, Fitting}
+use Rattle.operations.specs.Pairs.{IsNoConstant, Pair, same_pair}
+use Rattle.operations.specs.Price.{Pricing}
 use Rattle.apply_and.specs.declared.cache.Found.{Found}
 use Rattle.apply_and.specs.declared.cache.AndCache.{AndCache}
 use Rattle.apply_and.specs.declared.frames.Frame.{Frame}
 use Rattle.apply_and.specs.declared.frames.Turn.{Turn}
 use Rattle.apply_and.specs.declared.frames.Turn.TheVariants.{Open, Give}
-use Rattle.apply_and.specs.Cache.{IsLooked, Pair, entries, same_pair}
+use Rattle.apply_and.specs.Cache.{IsLooked, entries}
 use Rattle.apply_and.specs.Calls.{Closes, Conjoins, IsAnswer, IsUnknown}
-use Rattle.apply_and.specs.Conjunction.{IsNoConstant, most_additions}
+use Rattle.apply_and.specs.Conjunction.{most_additions}
 use Rattle.apply_and.proofs.Calls.{Answer, closed, high_failed, low_failed, ready, refused, split_high}
 use Rattle.apply_and.proofs.Conjunctions.{IsReady}
 use Rattle.apply_and.proofs.Handed.{within_both}
@@ -106,23 +108,23 @@ module _ {S : Type 0} (tells : Bool) (channel : S → Channel) (lent : S → Bes
   low_given rest o high new after (Ok low) given = given
 
   -- a call that is opened: its high side goes to its frame
-  module _ (law : StepByStep tells channel) (splits : Splitting) (growth : Growth) (fitting : Fitting S) (accounts : Accounting S) (caches : Keeping Pair Found same_pair) (parts : Subfunctions) (paths : Reachability)
+  module _ (law : StepByStep tells channel) (splits : Splitting) (growth : Growth) (fitting : Fitting S) (accounts : Accounting S) (caches : Keeping Pair Found same_pair) (pricing : Pricing S Found) (parts : Subfunctions) (paths : Reachability)
       (rest : Outcome S) (old : TableState S) (before : AndCache) (sound : IsSound old) (o : Operands) (split : AreSplit old.graph o) (opened : IsOpened tells channel lent rest old before o.u o.v) where
     low_awaited : (one : TableState S) (cache_one : AndCache) (high : Node × Just) → Conjoins tells channel lent old before o.u_high o.v_high one cache_one (Ok high)
         → (two : TableState S) (cache_two : AndCache) (result : Answer) → Conjoins tells channel lent one cache_one o.u_low o.v_low two cache_two result → LowCame tells channel lent rest o high two cache_two result
     low_awaited one cache_one high by_high two cache_two (Err came) by_low =
-        opened.ends two cache_two (Err came) (low_failed law splits growth fitting accounts caches parts paths old before sound o split opened.unknown one cache_one high by_high two cache_two came by_low)
+        opened.ends two cache_two (Err came) (low_failed law splits growth fitting accounts caches pricing parts paths old before sound o split opened.unknown one cache_one high by_high two cache_two came by_low)
     low_awaited one cache_one high by_high two cache_two (Ok low) by_low = record {
-      sides = ready law splits growth fitting accounts caches parts paths old before sound o split opened.unknown one cache_one high by_high two cache_two low by_low;
+      sides = ready law splits growth fitting accounts caches pricing parts paths old before sound o split opened.unknown one cache_one high by_high two cache_two low by_low;
       closes = λ three cache_three result closing.
-          opened.ends three cache_three result (closed law splits growth fitting accounts caches parts paths old before sound o split opened.unknown one cache_one high by_high two cache_two low by_low three cache_three result closing);
+          opened.ends three cache_three result (closed law splits growth fitting accounts caches pricing parts paths old before sound o split opened.unknown one cache_one high by_high two cache_two low by_low three cache_three result closing);
     }
 
     pub high_given : (one : TableState S) (cache_one : AndCache) (result : Answer) → Conjoins tells channel lent old before o.u_high o.v_high one cache_one result → ComesTo tells channel lent rest (frame_of o None) one cache_one result
     high_given one cache_one (Err came) by_high =
-        opened.ends one cache_one (Err came) (high_failed law splits growth fitting accounts caches parts paths old before sound o split opened.unknown one cache_one came by_high)
+        opened.ends one cache_one (Err came) (high_failed law splits growth fitting accounts caches pricing parts paths old before sound o split opened.unknown one cache_one came by_high)
     high_given one cache_one (Ok high) by_high = record {
-      split = split_high law splits growth fitting accounts caches parts paths old before sound o split opened.unknown one cache_one high by_high;
+      split = split_high law splits growth fitting accounts caches pricing parts paths old before sound o split opened.unknown one cache_one high by_high;
       low = low_awaited one cache_one high by_high;
     }
 
@@ -149,22 +151,22 @@ module _ {S : Type 0} {tells : Bool} {channel : S → Channel} {lent : S → Bes
       let on_top : Given tells channel lent whole (frame ∷ below) now cache (Ok found) = subst (λ (list : List Frame). Given tells channel lent whole list now cache (Ok found)) top given in
       subst (λ (h : Option (Node × Just)). Comes tells channel lent (Given tells channel lent whole below) frame.operands h now cache found) high on_top
 
-  module _ (law : StepByStep tells channel) (accounts : Accounting S) (parts : Subfunctions) where
+  module _ (law : StepByStep tells channel) (accounts : Accounting S) (pricing : Pricing S Found) (parts : Subfunctions) where
     pub open_refused : (u v : Node) → turn ≡ Open u v → whole now cache (Err OutOfMemory)
-    open_refused u v is = error_given tells channel lent whole frames now cache OutOfMemory ((opened_by u v is).ends now cache (Err OutOfMemory) (refused law accounts parts now cache goes_on.sound goes_on.fits u v))
+    open_refused u v is = error_given tells channel lent whole frames now cache OutOfMemory ((opened_by u v is).ends now cache (Err OutOfMemory) (refused law accounts pricing parts now cache goes_on.sound goes_on.fits u v))
 
     pub low_refused : (found : Node × Just) → turn ≡ Give found → (frame : Frame) (below : List Frame) → frames ≡ frame ∷ below → frame.high ≡ None → whole now cache (Err OutOfMemory)
     low_refused found is frame below top high =
         error_given tells channel lent whole below now cache OutOfMemory
-        ((comes_by found is frame below top None high).low now cache (Err OutOfMemory) (refused law accounts parts now cache goes_on.sound goes_on.fits frame.operands.u_low frame.operands.v_low))
+        ((comes_by found is frame below top None high).low now cache (Err OutOfMemory) (refused law accounts pricing parts now cache goes_on.sound goes_on.fits frame.operands.u_low frame.operands.v_low))
 
   module _ (splits : Splitting) (fitting : Fitting S) where
     fits_after : (looked : AndCache) → IsLooked cache looked → Fits now (entries looked)
     fits_after looked look = fits_looked fitting now (entries cache) (entries looked) look.same goes_on.fits
 
-    pub open_next : StepByStep tells channel → Growth → Accounting S → Keeping Pair Found same_pair → Subfunctions → Reachability → (u v : Node) → turn ≡ Open u v → (o : Operands) → AreSplit now.graph o → (o.u ≡ u) × (o.v ≡ v) → (looked : AndCache) → IsLooked cache looked
+    pub open_next : StepByStep tells channel → Growth → Accounting S → Keeping Pair Found same_pair → Pricing S Found → Subfunctions → Reachability → (u v : Node) → turn ≡ Open u v → (o : Operands) → AreSplit now.graph o → (o.u ≡ u) × (o.v ≡ v) → (looked : AndCache) → IsLooked cache looked
         → (top : List Frame) → top ≡ frame_of o None ∷ frames → (next : Turn) → IsAnswer tells channel lent now cache looked o.u_high o.v_high next → GoesOn tells channel lent whole top now looked next
-    open_next law growth accounts caches parts paths u v is o split same looked look top on_top next answer =
+    open_next law growth accounts caches pricing parts paths u v is o split same looked look top on_top next answer =
         let rest : Outcome S = Given tells channel lent whole frames in
         let opened : IsOpened tells channel lent rest now cache o.u o.v =
         subst (λ (x : Node). IsOpened tells channel lent rest now cache x o.v) (sym same.0) (subst (λ (y : Node). IsOpened tells channel lent rest now cache u y) (sym same.1) (opened_by u v is)) in
@@ -173,7 +175,7 @@ module _ {S : Type 0} {tells : Bool} {channel : S → Channel} {lent : S → Bes
           fits = fits_after looked look;
           next = is_next tells channel lent (Given tells channel lent whole (frame_of o None ∷ frames)) now cache looked o.u_high o.v_high next
               (splits.u_high now.graph goes_on.sound.tied.reduced o split).stands (splits.v_high now.graph goes_on.sound.tied.reduced o split).stands
-              (high_given tells channel lent law splits growth fitting accounts caches parts paths rest now cache goes_on.sound o split opened) answer;
+              (high_given tells channel lent law splits growth fitting accounts caches pricing parts paths rest now cache goes_on.sound o split opened) answer;
         })
 
     pub low_next : (found : Node × Just) → turn ≡ Give found → (frame : Frame) (below : List Frame) → frames ≡ frame ∷ below → frame.high ≡ None → (looked : AndCache) → IsLooked cache looked

@@ -13,10 +13,11 @@ ghost use Rattle.node_table.specs.Progress.{Steps, error_of};
 ghost use Rattle.operations.specs.Operands.{AreSplit, levels_from};
 ghost use Rattle.operations.specs.Results.{Conjoined};
 ghost use Rattle.operations.specs.Entries.{Entry, Accounts, AreApart, Conjunction, Fits, HaveSame, IsNewJust, NamesOnly, RetiresOwn};
-ghost use Rattle.apply_and.specs.Conjunction.{IsNoConstant, IsPlain, conjunction_of, most_additions};
 ghost use Rattle.operations.specs.Accounts.{GivesOne, RetiresNew, found_just};
+ghost use Rattle.operations.specs.Pairs.{IsNoConstant};
+ghost use Rattle.operations.specs.Price.{HoldsReached};
+ghost use Rattle.apply_and.specs.Conjunction.{IsPlain, conjunction_of, most_additions};
 ghost use Rattle.apply_and.specs.Cache.{IsLooked, entries, most_entries};
-ghost use Rattle.apply_and.specs.Price.{HoldsReached};
 ghost use Rattle.apply_and.specs.Calls.{Closes, Conjoins, IsAnswer, IsUnknown};
 ghost use Rattle.apply_and.specs.declared.frames.Turn.TheVariants.{Give};
 
@@ -28,9 +29,8 @@ use node_table::{
     Just, Node, Table, TableError, canonical_law, cofactor_law, growth_law, missing_law, reach_law,
     steps_law, subfunction_law,
 };
-use op_cache::front_law;
 use operations::{
-    Operands, accounts_law, cache_law, clause_of, entry_law, operand_law, retire, split,
+    Operands, accounts_law, cache_law, clause_of, entry_law, operand_law, price_law, retire, split,
 };
 use std::alloc::Global;
 
@@ -79,7 +79,7 @@ pub fn and<S: Sink + Drop>(
 {
     accounts_law::<S>();
     steps_law::<S>();
-    front_law::<(Node, Node), Found>();
+    price_law::<S, Found>();
     match ask(table, cache, u, v) {
         Turn::Give(found) => Ok(found),
         Turn::Open(..) => conjoin(table, cache, u, v),
@@ -99,6 +99,7 @@ fn ask<S: Sink + Drop>(table: &Table<S>, cache: &mut AndCache, u: Node, v: Node)
 {
     steps_law::<S>();
     accounts_law::<S>();
+    price_law::<S, Found>();
     subfunction_law();
     reach_law();
     canonical_law();
@@ -128,6 +129,7 @@ fn conjoin<S: Sink + Drop>(
 {
     steps_law::<S>();
     accounts_law::<S>();
+    price_law::<S, Found>();
     cache_law::<(Node, Node), Found>();
     entry_law::<S>();
     operand_law();

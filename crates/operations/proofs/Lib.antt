@@ -3,3 +3,5 @@ pub mod Splits
 pub mod Kept
 pub mod Cached
 pub mod Accounts
+pub mod Pairs
+pub mod Price

@@ -4,3 +4,5 @@ pub mod Results
 pub mod Entries
 pub mod Caches
 pub mod Accounts
+pub mod Pairs
+pub mod Price

@@ -7,7 +7,7 @@ use Rattle.operations.specs.Accounts.{whole_result}
 use Rattle.apply_and.specs.Cache.{entries}
 use Rattle.apply_and.specs.Calls.{Conjoins}
 use Rattle.apply_and.specs.declared.frames.Turn.TheVariants.{Give}
-use Rattle.apply_and.proofs.Calls.{Answer, price_called}
+use Rattle.apply_and.proofs.Calls.{Answer}
 use Rattle.apply_and.proofs.Made.{not_plain}
 use Rattle.apply_and.proofs.conjoin.and.Goals as goal
 
@@ -26,7 +26,7 @@ returns-in-Give g c =
       retires = call.accounts.retires;
       accounts = λ whole. call.accounts.accounts (whole_result (Ok c.in-Give.found) whole);
       unretired = call.unretired;
-      price = λ us vs first second room. price_called c.front_law.ensures.none c.args.table.now c.args.table.now c.args.cache.now c.ask.new.cache c.args.u c.args.v us vs (Ok c.in-Give.found) call first second room;
+      price = λ us vs first second room. c.price_law.ensures.whole c.args.table.now c.args.table.now c.args.cache.now.results c.ask.new.cache.results c.args.u c.args.v us vs _ call.price first second room;
       known = λ w just there. (same_given _ _ (c.in-Give.ensures.known w just there), refl, c.in-Give.ensures.looked.same);
       kept = call.kept;
       remembered = call.remembers.entries;
@@ -53,7 +53,7 @@ returns-in-Open g c =
       retires = call.accounts.retires;
       accounts = λ whole. call.accounts.accounts (whole_result c.conjoin.result whole);
       unretired = call.unretired;
-      price = λ us vs first second room. price_called c.front_law.ensures.none c.args.table.now c.conjoin.new.table c.args.cache.now c.conjoin.new.cache c.args.u c.args.v us vs c.conjoin.result call first second room;
+      price = λ us vs first second room. c.price_law.ensures.whole c.args.table.now c.conjoin.new.table c.args.cache.now.results c.conjoin.new.cache.results c.args.u c.args.v us vs _ call.price first second room;
       known = λ w just there. absurd (unknown.none w just there);
       kept = call.kept;
       remembered = call.remembers.entries;

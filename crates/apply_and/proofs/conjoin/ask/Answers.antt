@@ -10,7 +10,6 @@ use Rattle.apply_and.proofs.Conjunctions.{only_answer}
 use Rattle.apply_and.proofs.Handed.{steps_none}
 use Rattle.apply_and.proofs.Made.{not_plain}
 use Rattle.apply_and.proofs.Named.{no_clause, no_found, same_some}
-use Rattle.apply_and.proofs.Price.{paid_looked, paid_plain}
 use Rattle.apply_and.proofs.conjoin.ask.Goals as goal
 
 pub returns-in-Some-clause-answer : goal.returns-in-Some-clause-answer
@@ -23,7 +22,7 @@ returns-in-Some-clause-answer g c =
       unretired = λ id is. absurd (no_clause id is);
       kept = λ differ first second. absurd (not_plain c.args.u c.args.v c.in-Some.w differ first second c.in-Some.ensures.plain);
       remembers = record { entries = λ entry there. inl there; no_fewer = omega arith; capacity = refl };
-      price = λ all used cover room front among. paid_plain table c.args.cache.now c.args.u c.args.v all used front among;
+      price = c.price_law.ensures.none table c.args.cache.now.results c.args.u c.args.v _;
       made = c.subfunction_law.ensures.none_made table.graph (conjunction_of table.graph c.args.u c.args.v);
       reachable = c.reach_law.ensures.none_made table.graph c.in-Some.w;
       lacks = λ is. absurd (no_error is);
@@ -58,9 +57,7 @@ returns-in-Some-look-clause-answer g c =
       unretired = λ id is. c.requires.fits.unretired id (own, there, is);
       kept = λ differ first second. c.in-Some-look.ensures.found;
       remembers = record { entries = λ entry had. inl (same_list.there entry had); no_fewer = c.look.ensures.looked.no_fewer; capacity = c.look.ensures.looked.capacity };
-      price = λ all used cover room front among.
-          paid_looked table c.look.new.self c.args.u c.args.v all used (c.in-Some-look.ensures.used used front) among
-          (cover c.args.u c.args.v (c.reach_law.ensures.itself table.graph c.args.u) (c.reach_law.ensures.itself table.graph c.args.v) apart.1 apart.2);
+      price = c.price_law.ensures.looked table c.args.cache.now.results c.look.new.self.results c.args.u c.args.v apart.1 apart.2 c.in-Some-look.ensures.used;
       made = c.subfunction_law.ensures.none_made table.graph (conjunction_of table.graph c.args.u c.args.v);
       reachable = c.reach_law.ensures.none_made table.graph found.0;
       lacks = λ is. absurd (no_error is);

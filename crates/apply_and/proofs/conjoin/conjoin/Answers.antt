@@ -26,7 +26,7 @@ pub returns-in_err-push-in-Open : goal.returns-in_err-push-in-Open
 returns-in_err-push-in-Open g c =
     subst (λ (r : Answer). Conjoins g.S.Sink.tells g.S.Sink.channel g.S.Sink.beside c.args.table.now c.args.cache.now c.args.u c.args.v c.calls.table c.calls.cache r)
     (sym (handed_on _ OutOfMemory OutOfMemory c.from_residual.ensures.1 refl))
-    (open_refused _ (reverse c.calls.frames.items) c.calls.table c.calls.cache c.calls.turn c.calls.invariant c.steps_law.ensures c.accounts_law.ensures c.subfunction_law.ensures c.in-Open.u c.in-Open.v c.in-Open.is)
+    (open_refused _ (reverse c.calls.frames.items) c.calls.table c.calls.cache c.calls.turn c.calls.invariant c.steps_law.ensures c.accounts_law.ensures c.price_law.ensures c.subfunction_law.ensures c.in-Open.u c.in-Open.v c.in-Open.is)
 
 pub calls-smaller-in-Open : goal.calls-smaller-in-Open
 calls-smaller-in-Open g c =
@@ -36,7 +36,7 @@ calls-smaller-in-Open g c =
 
 pub calls-preserved-in-Open : goal.calls-preserved-in-Open
 calls-preserved-in-Open g c =
-    open_next _ (reverse c.calls.frames.items) c.calls.table c.calls.cache c.calls.turn c.calls.invariant c.operand_law.ensures c.entry_law.ensures c.steps_law.ensures c.growth_law.ensures c.accounts_law.ensures c.cache_law.ensures c.subfunction_law.ensures
+    open_next _ (reverse c.calls.frames.items) c.calls.table c.calls.cache c.calls.turn c.calls.invariant c.operand_law.ensures c.entry_law.ensures c.steps_law.ensures c.growth_law.ensures c.accounts_law.ensures c.cache_law.ensures c.price_law.ensures c.subfunction_law.ensures
     c.reach_law.ensures c.in-Open.u c.in-Open.v c.in-Open.is c.split-operands.result c.split-operands.ensures.split c.split-operands.ensures.operands c.ask-turn.new.cache c.ask-turn.ensures.looked
     (reverse c.push.new.frames.items) c.in_ok-push-in-Open.ensures c.ask-turn.result c.ask-turn.ensures.answer
 
@@ -44,7 +44,7 @@ pub returns-in_err-push-in-None : goal.returns-in_err-push-in-None
 returns-in_err-push-in-None g c =
     subst (λ (r : Answer). Conjoins g.S.Sink.tells g.S.Sink.channel g.S.Sink.beside c.args.table.now c.args.cache.now c.args.u c.args.v c.calls.table c.calls.cache r)
     (sym (handed_on _ OutOfMemory OutOfMemory c.from_residual-in_err-push-in-None.ensures.1 refl))
-    (low_refused _ (reverse c.calls.frames.items) c.calls.table c.calls.cache c.calls.turn c.calls.invariant c.steps_law.ensures c.accounts_law.ensures c.subfunction_law.ensures c.in-Give.found c.in-Give.is
+    (low_refused _ (reverse c.calls.frames.items) c.calls.table c.calls.cache c.calls.turn c.calls.invariant c.steps_law.ensures c.accounts_law.ensures c.price_law.ensures c.subfunction_law.ensures c.in-Give.found c.in-Give.is
     c.in-Some.frame (reverse c.pop.new.frames.items) c.in-Some.ensures c.in-None.is)
 
 pub calls-smaller-in-None : goal.calls-smaller-in-None
