@@ -7,7 +7,5 @@ pub mod Added
 pub mod HighClause
 pub mod Named
 pub mod Handed
-pub mod Pairs
-pub mod Price
 pub mod Calls
 pub mod Opened

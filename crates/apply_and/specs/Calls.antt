@@ -1,6 +1,6 @@
 -- A whole call of a conjunction, however it ends: as one relation, from which the calls around it go on. Beside it the last
 -- step of a call that was split, and the operation of both.
-use Rattle.std.specs.Prelude.{◌≡◌, ◌≢◌, ◌≤◌, ◌<◌, ◌∷◌, ℕ, Bool, List, Result, Ok, Err, Contains, IfOk, IsFalse, IsTrue, length, min}
+use Rattle.std.specs.Prelude.{◌≡◌, ◌≢◌, ◌<◌, ◌∷◌, ℕ, Bool, List, Result, Ok, Err, Contains, IfOk, IsFalse, IsTrue, length, min}
 use Rattle.host_io.specs.Channel.{Channel}
 use Rattle.host_io.specs.Beside.{Beside}
 use Rattle.node_table.specs.declared.error.TableError.{TableError}
@@ -19,10 +19,11 @@ use Rattle.operations.specs.Results.{Conjoined}
 use Rattle.operations.specs.Accounts.{AccountsFor}
 use Rattle.operations.specs.Caches.{MakesRoom, Remembers}
 use Rattle.operations.specs.Entries.{Conjunction, Fits, HaveSame}
+use Rattle.operations.specs.Pairs.{IsNoConstant}
+use Rattle.operations.specs.Price.{Prices}
 use Rattle.apply_and.specs.declared.cache.AndCache.{AndCache}
-use Rattle.apply_and.specs.Conjunction.{IsNoConstant, IsPlain, conjunction_of, most_additions}
+use Rattle.apply_and.specs.Conjunction.{IsPlain, conjunction_of, most_additions}
 use Rattle.apply_and.specs.Cache.{Pair, StandInFront, entries, entry_of, is_one, most_entries}
-use Rattle.apply_and.specs.Price.{AreAmong, CoverReached, Pays}
 
 -- The call for u and v began with this table and this cache, and ended with those and this result: what it found, made,
 -- kept and retired, and how many clauses it added.
@@ -34,7 +35,7 @@ pub record Conjoins {S : Type 0} (tells : Bool) (channel : S → Channel) (lent 
   pub unretired : IfOk result (λ found. (id : ℕ) → found.1 ≡ Clause id → Contains new.retired id → ⊥)
   pub kept : u ≢ v → IsNoConstant u → IsNoConstant v → IfOk result (λ found. Contains (entries after) (Conjunction u v found.0 found.1))
   pub remembers : Remembers entry_of before.results after.results
-  pub price : (all used : List Pair) → CoverReached old.graph u v all → length all ≤ most_entries before → StandInFront before used → AreAmong used all → Pays old new after u v all used result
+  pub price : Prices old before.results u v new after.results (error_of result)
   pub made : MakesOnly old.graph new.graph (conjunction_of old.graph u v)
   pub reachable : IfOk result (λ found. ReachesNew old.graph new.graph found.0)
   pub lacks : result ≡ Err NodeLimit → LacksPart new.graph (conjunction_of old.graph u v)

@@ -13,10 +13,11 @@ ghost use Rattle.node_table.specs.Progress.{Steps, error_of};
 ghost use Rattle.operations.specs.Operands.{AreSplit, levels_from};
 ghost use Rattle.operations.specs.Results.{Conjoined};
 ghost use Rattle.operations.specs.Entries.{Entry, Accounts, AreApart, Conjunction, Fits, HaveSame, IsNewJust, NamesOnly, RetiresOwn};
-ghost use Rattle.apply_and.specs.Conjunction.{IsNoConstant, IsPlain, conjunction_of, most_additions};
 ghost use Rattle.operations.specs.Accounts.{GivesOne, RetiresNew, found_just};
+ghost use Rattle.operations.specs.Pairs.{IsNoConstant};
+ghost use Rattle.operations.specs.Price.{HoldsReached};
+ghost use Rattle.apply_and.specs.Conjunction.{IsPlain, conjunction_of, most_additions};
 ghost use Rattle.apply_and.specs.Cache.{entries, most_entries};
-ghost use Rattle.apply_and.specs.Price.{HoldsReached};
 ghost use Rattle.apply_and.specs.Calls.{Answers, CanConjoin, IsUnknown, conjunctions};
 
 use crate::additions::justify;
@@ -26,10 +27,9 @@ use node_table::{
     Just, Node, Table, TableError, canonical_law, cofactor_law, growth_law, missing_law, reach_law,
     steps_law, subfunction_law,
 };
-use op_cache::front_law;
 use operations::{
-    Operands, Operation, Reply, accounts_law, cache_law, clause_of, entry_law, operand_law, retire,
-    split, work_off,
+    Operands, Operation, Reply, accounts_law, cache_law, clause_of, entry_law, operand_law, price_law,
+    retire, split, work_off,
 };
 use std::alloc::Global;
 
@@ -78,7 +78,7 @@ pub fn and<S: Sink + Drop>(
 {
     accounts_law::<S>();
     steps_law::<S>();
-    front_law::<(Node, Node), Found>();
+    price_law::<S, Found>();
     work_off::<S, AndOperation>(table, cache, (u, v))
 }
 
@@ -108,6 +108,7 @@ impl<S: Sink + Drop> Operation<S> for AndOperation {
         steps_law::<S>();
         accounts_law::<S>();
         cache_law::<(Node, Node), Found>();
+        price_law::<S, Found>();
         entry_law::<S>();
         operand_law();
         growth_law();
@@ -167,6 +168,7 @@ fn answer<S: Sink + Drop>(
 {
     steps_law::<S>();
     accounts_law::<S>();
+    price_law::<S, Found>();
     subfunction_law();
     reach_law();
     canonical_law();

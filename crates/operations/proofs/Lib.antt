@@ -4,3 +4,5 @@ pub mod Kept
 pub mod OpenCalls
 pub mod Cached
 pub mod Accounts
+pub mod Pairs
+pub mod Price

@@ -5,3 +5,5 @@ pub mod Entries
 pub mod Machine
 pub mod Caches
 pub mod Accounts
+pub mod Pairs
+pub mod Price

@@ -1,13 +1,14 @@
-// Laws of operands, of entries, of the caches that hold them and of the clauses that they name, as clauses of functions
-// without work.
+// Laws of operands, of entries, of the caches that hold them, of the clauses that they name and of those that are added, as
+// clauses of functions without work.
 ghost use Rattle.operations.specs.Accounts.{Accounting};
 ghost use Rattle.operations.specs.Caches.{Keeping};
 ghost use Rattle.operations.specs.Entries.{Fitting};
 ghost use Rattle.operations.specs.Operands.{Splitting};
+ghost use Rattle.operations.specs.Price.{Pricing};
 
 use hint_chain::clause_law;
 use host_io::Sink;
-use node_table::{cofactor_law, growth_law, steps_law};
+use node_table::{Node, cofactor_law, growth_law, reach_law, steps_law};
 use op_cache::{entries_law, front_law, keep_law};
 use std::hash::Hash;
 
@@ -43,4 +44,14 @@ pub fn accounts_law<S: Sink + Drop>()
 {
     entry_law::<S>();
     steps_law::<S>();
+}
+
+/// How many clauses a call adds where its cache is as large as the pairs that it may come to.
+pub fn price_law<S: Sink + Drop, V: Copy>()
+    ensures { Pricing S V }
+{
+    front_law::<(Node, Node), V>();
+    growth_law();
+    operand_law();
+    reach_law();
 }

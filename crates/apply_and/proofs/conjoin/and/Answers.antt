@@ -1,7 +1,6 @@
 -- The call as it is worked off.
 use Rattle.operations.specs.Accounts.{whole_result}
 use Rattle.apply_and.specs.Cache.{entries}
-use Rattle.apply_and.proofs.Calls.{price_called}
 use Rattle.apply_and.proofs.conjoin.and.Goals as goal
 
 pub returns : goal.returns
@@ -19,7 +18,7 @@ returns g c =
       accounts = λ whole. call.accounts.accounts (whole_result c.work_off.result whole);
       unretired = call.unretired;
       price = λ us vs first second room.
-          price_called c.front_law.ensures.none c.args.table.now c.work_off.new.table c.args.cache.now c.work_off.new.cache c.args.u c.args.v us vs c.work_off.result call first second room;
+          c.price_law.ensures.whole c.args.table.now c.work_off.new.table c.args.cache.now.results c.work_off.new.cache.results c.args.u c.args.v us vs _ call.price first second room;
       known = answers.known;
       kept = call.kept;
       remembered = call.remembers.entries;

@@ -13,7 +13,6 @@ use Rattle.apply_and.proofs.Conjunctions.{only_answer}
 use Rattle.apply_and.proofs.Handed.{steps_none}
 use Rattle.apply_and.proofs.Made.{not_plain}
 use Rattle.apply_and.proofs.Named.{no_clause, no_found, same_some}
-use Rattle.apply_and.proofs.Price.{paid_looked, paid_plain}
 use Rattle.apply_and.proofs.conjoin.answer.Goals as goal
 
 pub returns-in-Some-clause-answers : goal.returns-in-Some-clause-answers
@@ -30,7 +29,7 @@ returns-in-Some-clause-answers g c =
         unretired = λ id is. absurd (no_clause id is);
         kept = λ differ first second. absurd (not_plain u v c.in-Some.w differ first second c.in-Some.ensures.plain);
         remembers = record { entries = λ entry there. inl there; no_fewer = omega arith; capacity = refl };
-        price = λ all used cover room front among. paid_plain table c.args.cache.now u v all used front among;
+        price = c.price_law.ensures.none table c.args.cache.now.results u v _;
         made = c.subfunction_law.ensures.none_made table.graph (conjunction_of table.graph u v);
         reachable = c.reach_law.ensures.none_made table.graph c.in-Some.w;
         lacks = λ is. absurd (no_error is);
@@ -67,10 +66,8 @@ returns-clause-answers g c =
               unretired = λ id names. can.fits.unretired id (own, there, names);
               kept = λ differ first second. kept;
               remembers = record { entries = λ entry had. inl (same_list.there entry had); no_fewer = c.look.ensures.looked.no_fewer; capacity = c.look.ensures.looked.capacity };
-              price = λ all used cover room front among.
-                  let in_front = subst (λ (r : Option (Node × Just)). MatchOption r (IsFalse (is_one used (u, v))) (λ f. StandInFront c.look.new.self (with_used used (u, v)))) is (c.look.ensures.used used front) in
-                  paid_looked table c.look.new.self u v all used in_front among
-                  (cover u v (c.reach_law.ensures.itself table.graph u) (c.reach_law.ensures.itself table.graph v) apart.1 apart.2);
+              price = c.price_law.ensures.looked table c.args.cache.now.results c.look.new.self.results u v apart.1 apart.2
+                  (λ used front. subst (λ (r : Option (Node × Just)). MatchOption r (IsFalse (is_one used (u, v))) (λ f. StandInFront c.look.new.self (with_used used (u, v)))) is (c.look.ensures.used used front));
               made = c.subfunction_law.ensures.none_made table.graph (conjunction_of table.graph u v);
               reachable = c.reach_law.ensures.none_made table.graph found.0;
               lacks = λ error. absurd (no_error error);
