@@ -7,7 +7,7 @@ use Rattle.node_table.specs.declared.node.Just.TheVariants.{Trivial, Clause}
 use Rattle.node_table.specs.declared.node.Node.{Node}
 use Rattle.node_table.specs.Table.{TableState, IsSound, IsAddedTo}
 use Rattle.operations.specs.Entries.{Entry, Accounts, Conjunction, Fits, Fitting, HaveSame, IsNewJust, NamesOnly, RetiresOwn, just_of}
-use Rattle.apply_and.specs.Cache.{HasOperands}
+use Rattle.apply_and.specs.Cache.{HasOperands, just_numbered}
 
 pub no_less : (first second third : ℕ) → first ≤ second → second ≤ third → first ≤ third
 no_less first second third one two = omega arith
@@ -146,7 +146,7 @@ still_kept u v entry list first second one two same more none had (inr full) nex
 still_kept u v entry list first second one two same more none had (inl there) next = elim (next there) [
   | inl still ↦ inl still
   | inr other ↦ elim other [
-    | inl own ↦ absurd (none own.0 own.1 (subst (Contains list) own.2 had))
+    | inl own ↦ absurd (none own.0.node (just_numbered own.0.clause) (subst (Contains list) own.1 had))
     | inr full ↦ inr (omega (arith, same, full, more))
   ]
 ]

@@ -13,10 +13,11 @@ use Rattle.node_table.specs.Laws.{StepByStep}
 use Rattle.node_table.specs.Progress.{Leaves}
 use Rattle.node_table.specs.Table.{TableState, IsSound, IsAddedTo, AddsNone, Extends}
 use Rattle.operations.specs.Entries.{Entry, Accounts, AreNodes, Conjunction, FitsEntry, Fits, Fitting, IsNamed, IsNewJust, Names, NamesOnly, RetiresOwn}
+use Rattle.operations.specs.Caches.{AreNamedOnce}
 use Rattle.operations.specs.Results.{Conjoined}
 use Rattle.apply_and.specs.declared.cache.AndCache.{AndCache}
 use Rattle.apply_and.specs.Additions.{GivesOne, RetiresNew, found_just}
-use Rattle.apply_and.specs.Cache.{AreNamedOnce, IsKept, entries}
+use Rattle.apply_and.specs.Cache.{IsKept, entries}
 use Rattle.apply_and.specs.Calls.{RetiresOne}
 use Rattle.apply_and.proofs.Named.{IsNewJust-within, NamesOnly-kept, not_above, same_clause, same_some}
 
@@ -146,10 +147,10 @@ module _ {S : Type 0} {tells : Bool} {channel : S → Channel} (law : StepByStep
         -- it was kept
         module _ (cache after : AndCache) (same : entries cache ≡ before) (kept : IsKept cache after u v w just given) where
           kept_named : (id : ℕ) → given ≡ Some id → IsNamed before id
-          kept_named id is = subst (λ (list : List Entry). IsNamed list id) same (kept.named id is)
+          kept_named id is = subst (λ (list : List Entry). IsNamed list id) same (kept.one.named id is)
 
           kept_only : (entry : Entry) → Contains (entries after) entry → (entry ≡ own_entry) ⊎ Contains before entry
-          kept_only entry there = elim (kept.only entry there) [ inl is ↦ inl is | inr was ↦ inr (subst (λ (list : List Entry). Contains list entry) same was) ]
+          kept_only entry there = elim (kept.one.only entry there) [ inl is ↦ inl is | inr was ↦ inr (subst (λ (list : List Entry). Contains list entry) same was) ]
 
           apart_listed : AreNamedOnce (entries cache)
           apart_listed one other id first second =
@@ -167,7 +168,7 @@ module _ {S : Type 0} {tells : Bool} {channel : S → Channel} (law : StepByStep
             | inr handed ↦ elim (kept_only by.0 by.1) [
               | inl is ↦ unnamed id (names_own by.0 id is by.2) (kept_named id handed)
               | inr had ↦
-                  let is = kept.given_up apart_listed by.0 id handed by.2 (subst (λ (list : List Entry). Contains list by.0) (sym same) had) by.1 in
+                  let is = kept.one.given_up apart_listed by.0 id handed by.2 (subst (λ (list : List Entry). Contains list by.0) (sym same) had) by.1 in
                   unnamed id (names_own by.0 id is by.2) (kept_named id handed)
             ]
           ]
@@ -178,7 +179,7 @@ module _ {S : Type 0} {tells : Bool} {channel : S → Channel} (law : StepByStep
               kept_only kept_unretired
 
           pub unretired_kept : (id : ℕ) → just ≡ Clause id → Contains new.retired id → ⊥
-          unretired_kept id is = kept_unretired id (own_entry, kept.kept, is)
+          unretired_kept id is = kept_unretired id (own_entry, kept.one.kept, is)
 
           pub named_kept : IsNewJust old.book.state mid.book.state just → NamesOnly before (entries after) old.book.state new.book.state
           named_kept came = NamesOnly-kept before (entries after) old.book.state new.book.state own_entry
@@ -196,7 +197,7 @@ module _ {S : Type 0} {tells : Bool} {channel : S → Channel} (law : StepByStep
           accounts_kept = record {
             still = λ id accounted. elim accounted [
               | inl gone ↦ inl (still_retired mid new one.steps.extends id (still_retired old mid extends id gone))
-              | inr by ↦ elim (kept.gone by.0 id (subst (λ (list : List Entry). Contains list by.0) (sym same) by.1) by.2) [
+              | inr by ↦ elim (kept.one.gone by.0 id (subst (λ (list : List Entry). Contains list by.0) (sym same) by.1) by.2) [
                 | inl named ↦ inr named
                 | inr handed ↦ inl (one.retired id handed)
               ]
@@ -206,7 +207,7 @@ module _ {S : Type 0} {tells : Bool} {channel : S → Channel} (law : StepByStep
                 let top : new.book.state.top ≡ mid.book.state.top = ap (λ (t : TableState S). t.book.state.top) one.same in
                 elim (gives.others id above (law.was_added mid new one.steps.extends id (omega (arith, within, top)) own)) [
                   | inl gone ↦ inl (still_retired mid new one.steps.extends id gone)
-                  | inr is ↦ inr (own_entry, kept.kept, is)
+                  | inr is ↦ inr (own_entry, kept.one.kept, is)
                 ];
           }
 

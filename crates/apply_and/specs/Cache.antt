@@ -1,12 +1,13 @@
 -- The computed cache of conjunctions, as a list of entries, those that were used last in front. (Brace, Rudell, Bryant:
 -- Efficient Implementation of a BDD Package, DAC 1990.)
-use Rattle.std.specs.Prelude.{◌≡◌, ◌&&◌, ◌∷◌, ◌≤◌, ◌<◌, ◌⊎◌, ℕ, zero, suc, Bool, List, Option, Some, IsFalse, Contains, length, map, if◌then◌else◌}
+use Rattle.std.specs.Prelude.{◌&&◌, ℕ, zero, suc, Bool, List, Option, map}
 use Rattle.node_table.specs.declared.node.Node.{Node}
 use Rattle.node_table.specs.declared.node.Just.{Just}
 use Rattle.node_table.specs.declared.node.Just.TheVariants.{Trivial, Clause}
 use Rattle.node_table.specs.contracts.node.NodePartialEq.TheImpl as node_equality
 use Rattle.op_cache.specs.Laws.{AreInFront, is_among}
-use Rattle.operations.specs.Entries.{Entry, Conjunction, HaveSame, IsNamed, Names}
+use Rattle.operations.specs.Caches.{IsOfKey, KeepsEntry, LeavesEntries, with_key}
+use Rattle.operations.specs.Entries.{Entry, Conjunction}
 use Rattle.apply_and.specs.declared.cache.AndCache.{AndCache}
 use Rattle.apply_and.specs.declared.cache.Found.{Found}
 
@@ -31,7 +32,7 @@ most_entries cache = cache.results.capacity
 
 -- the entry is of these operands
 abbrev pub HasOperands : Entry → Node → Node → Type 0
-HasOperands entry u v = (w : Node) × (just : Just) × (entry ≡ Conjunction u v w just)
+HasOperands entry u v = IsOfKey entry_of (u, v) entry
 
 -- Whether two pairs of operands are the same.
 abbrev pub same_pair : Pair → Pair → Bool
@@ -47,29 +48,13 @@ StandInFront cache pairs = AreInFront same_pair cache.results.entries pairs
 
 -- these pairs, and one more, which may be among them
 abbrev pub with_used : List Pair → Pair → List Pair
-with_used pairs pair = if is_one pairs pair then pairs else pair ∷ pairs
+with_used pairs pair = with_key same_pair pairs pair
 
 -- a look-up leaves the same entries
-pub record IsLooked (before after : AndCache) : Type 0 where
-  pub same : HaveSame (entries before) (entries after)
-  pub no_fewer : length (entries before) ≤ length (entries after)
-  pub capacity : most_entries after ≡ most_entries before
-
--- no two of these entries name one clause
-abbrev pub AreNamedOnce : List Entry → Type 0
-AreNamedOnce listed = (one other : Entry) (id : ℕ) → Contains listed one → Contains listed other → Names one id → Names other id → one ≡ other
+abbrev pub IsLooked : AndCache → AndCache → Type 0
+IsLooked before after = LeavesEntries entry_of before.results after.results
 
 -- One entry is kept: it takes the place of the one of its operands, or of the last one where the cache was full. The
 -- clause of the entry that isn't there any more is handed back.
-pub record IsKept (before after : AndCache) (u v w : Node) (just : Just) (given : Option ℕ) : Type 0 where
-  pub kept : Contains (entries after) (Conjunction u v w just)
-  pub only : (entry : Entry) → Contains (entries after) entry → (entry ≡ Conjunction u v w just) ⊎ Contains (entries before) entry
-  pub others : (entry : Entry) → Contains (entries before) entry → Contains (entries after) entry ⊎ (HasOperands entry u v ⊎ (most_entries before ≤ length (entries before)))
-  pub gone : (entry : Entry) (id : ℕ) → Contains (entries before) entry → Names entry id → IsNamed (entries after) id ⊎ (given ≡ Some id)
-  pub named : (id : ℕ) → given ≡ Some id → IsNamed (entries before) id
-  -- it is named no more, but by the new entry
-  pub given_up : AreNamedOnce (entries before) → (entry : Entry) (id : ℕ) → given ≡ Some id → Names entry id → Contains (entries before) entry → Contains (entries after) entry → entry ≡ Conjunction u v w just
-  pub no_fewer : length (entries before) ≤ length (entries after)
-  pub capacity : most_entries after ≡ most_entries before
-  -- while the pairs that were used are no more than the capacity, none of them is pushed out
-  pub used : (pairs : List Pair) → StandInFront before pairs → IsFalse (is_one pairs (u, v)) → length pairs < most_entries before → StandInFront after ((u, v) ∷ pairs)
+abbrev pub IsKept : AndCache → AndCache → Node → Node → Node → Just → Option ℕ → Type 0
+IsKept before after u v w just given = KeepsEntry entry_of same_pair before.results after.results (u, v) (Conjunction u v w just) given

@@ -9,7 +9,8 @@ ghost use Rattle.node_table.specs.declared.node.Just.TheVariants.{Trivial, Claus
 
 use cnf_base::{Id, OutOfMemory};
 use node_table::{Just, Node};
-use op_cache::{Bounded, entries_law, front_law, keep_law};
+use op_cache::Bounded;
+use operations::cache_law;
 use std::alloc::Global;
 use std::mem::size_of;
 
@@ -52,8 +53,7 @@ impl AndCache {
         ensures missed { result ≡ None → self.new ≡ self.old }
         ensures used { (pairs : List Pair) → StandInFront self.old pairs → MatchOption result (IsFalse (is_one pairs (u, v))) (λ f. StandInFront self.new (with_used pairs (u, v))) }
     {
-        entries_law::<(Node, Node), Found>();
-        front_law::<(Node, Node), Found>();
+        cache_law::<(Node, Node), Found>();
         let _ = self.results.len();
         match self.results.look(&(u, v)) {
             None => None,
@@ -73,9 +73,7 @@ impl AndCache {
         ensures kept { IfOk result (λ given. IsKept self.old self.new u v found.now.0 found.now.1 given) }
         ensures refused { OnErr result (self.new ≡ self.old) }
     {
-        entries_law::<(Node, Node), Found>();
-        front_law::<(Node, Node), Found>();
-        keep_law::<(Node, Node), Found>();
+        cache_law::<(Node, Node), Found>();
         let _ = self.results.len();
         let value = Found {
             node: found.0,

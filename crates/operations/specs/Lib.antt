@@ -3,3 +3,4 @@ pub mod Sides
 pub mod Results
 pub mod Entries
 pub mod Machine
+pub mod Caches

@@ -11,7 +11,7 @@ mod operands;
 mod parts;
 
 pub use frames::Turn;
-pub use laws::{entry_law, operand_law};
+pub use laws::{cache_law, entry_law, operand_law};
 pub use machine::{Operation, work_off};
 pub use operands::{Operands, split};
 pub use parts::{Side, down_part, just_part, up_part};

@@ -52,14 +52,14 @@ pub retire-requires-clause-own : goal.retire-requires-clause-own
 retire-requires-clause-own g c id is =
     let done = c.in_ok-found.ensures in
     let before = entries c.args.cache.now in
-    (fits_mid c.steps_law.ensures c.entry_law.ensures c.args.table.now c.finish.new.table before c.requires.sound c.requires.fits done.steps.leaves.sound done.steps.extends done.retires).own id (c.in-Ok.ensures.kept.named id is)
+    (fits_mid c.steps_law.ensures c.entry_law.ensures c.args.table.now c.finish.new.table before c.requires.sound c.requires.fits done.steps.leaves.sound done.steps.extends done.retires).own id (c.in-Ok.ensures.kept.one.named id is)
 
 pub retire-requires-clause-unretired : goal.retire-requires-clause-unretired
 retire-requires-clause-unretired g c id is gone =
     let done = c.in_ok-found.ensures in
     let before = entries c.args.cache.now in
     (fits_mid c.steps_law.ensures c.entry_law.ensures c.args.table.now c.finish.new.table before c.requires.sound c.requires.fits done.steps.leaves.sound done.steps.extends done.retires).unretired id
-    (c.in-Ok.ensures.kept.named id is) gone
+    (c.in-Ok.ensures.kept.one.named id is) gone
 
 pub returns-in-Ok : goal.returns-in-Ok
 returns-in-Ok g c =
@@ -94,9 +94,9 @@ returns-in-Ok g c =
       accounts = λ whole.
           accounts_kept law fitting old mid before c.requires.sound c.requires.fits sound_mid done.steps.extends done.retires found.1 gives o.u o.v found.0 nodes done.conjoined new given one cache after refl kept;
       unretired = unretired_kept law fitting old mid before c.requires.sound c.requires.fits sound_mid done.steps.extends done.retires found.1 gives o.u o.v found.0 nodes done.conjoined new given one cache after refl kept;
-      kept = kept.kept;
+      kept = kept.one.kept;
       others = kept.others;
-      no_fewer = kept.no_fewer;
+      no_fewer = kept.one.no_fewer;
       capacity = kept.capacity;
       used = λ used front apart room. kept.used used front apart room;
       children = subst (λ (graph : Graph). HasChildren graph o.level c.args.high.now.0 c.args.low.now.0 found.0) (sym same) done.children;

@@ -1,20 +1,25 @@
 -- One more entry by the laws of the bounded cache.
-use Rattle.std.proofs.Common.{None, refl, sym}
-use Rattle.apply_and.proofs.Cached.{is_kept}
+use Rattle.std.proofs.Common.{None, refl, subst, sym}
+use Rattle.node_table.specs.declared.node.Just.{Just}
+use Rattle.operations.specs.Caches.{KeepsEntry}
+use Rattle.operations.specs.Entries.{Conjunction}
+use Rattle.apply_and.specs.declared.cache.Found.{Found}
+use Rattle.apply_and.specs.Cache.{entry_of, same_pair}
+use Rattle.apply_and.proofs.Cached.{tells_pairs}
 use Rattle.apply_and.proofs.cache.AndCache.keep.Goals as goal
 
 pub returns-in-None-clause-kept : goal.returns-in-None-clause-kept
 returns-in-None-clause-kept c =
-    is_kept c.entries_law.ensures c.keep_law.ensures c.args.self.now c.args.u c.args.v
-    (record { node = c.args.found.now.0; clause = c.number_of.result }) c.len.ensures.bounded
-    c.args.found.now.0 c.args.found.now.1 refl c.number_of.ensures None
-    (rw (sym c.in-Ok.ensures.handed_back, c.in-None.is) refl) c.front_law.ensures c.keep.new.self c.in-Ok.ensures.entries
-    c.len-2.ensures.bounded c.in-Ok.ensures.found
+    let found = c.args.found.now in
+    let value : Found = record { node = found.0; clause = c.number_of.result } in
+    subst (λ (just : Just). KeepsEntry entry_of same_pair c.args.self.now.results c.keep.new.self (c.args.u, c.args.v) (Conjunction c.args.u c.args.v found.0 just) None) c.number_of.ensures
+    (c.cache_law.ensures.kept entry_of tells_pairs c.args.self.now.results c.keep.new.self c.len.ensures.bounded c.len-2.ensures.bounded (c.args.u, c.args.v) value c.in-Ok.ensures.entries c.in-Ok.ensures.found None
+    (rw (sym c.in-Ok.ensures.handed_back, c.in-None.is) refl))
 
 pub returns-in-Some-clause-kept : goal.returns-in-Some-clause-kept
 returns-in-Some-clause-kept c =
-    is_kept c.entries_law.ensures c.keep_law.ensures c.args.self.now c.args.u c.args.v
-    (record { node = c.args.found.now.0; clause = c.number_of.result }) c.len.ensures.bounded
-    c.args.found.now.0 c.args.found.now.1 refl c.number_of.ensures c.id_of.result
-    (rw (sym c.in-Ok.ensures.handed_back, c.in-Some.is) c.id_of.ensures) c.front_law.ensures c.keep.new.self c.in-Ok.ensures.entries
-    c.len-2.ensures.bounded c.in-Ok.ensures.found
+    let found = c.args.found.now in
+    let value : Found = record { node = found.0; clause = c.number_of.result } in
+    subst (λ (just : Just). KeepsEntry entry_of same_pair c.args.self.now.results c.keep.new.self (c.args.u, c.args.v) (Conjunction c.args.u c.args.v found.0 just) c.id_of.result) c.number_of.ensures
+    (c.cache_law.ensures.kept entry_of tells_pairs c.args.self.now.results c.keep.new.self c.len.ensures.bounded c.len-2.ensures.bounded (c.args.u, c.args.v) value c.in-Ok.ensures.entries c.in-Ok.ensures.found c.id_of.result
+    (rw (sym c.in-Ok.ensures.handed_back, c.in-Some.is) c.id_of.ensures))
