@@ -49,6 +49,11 @@ module _ (laws : Growth) (old new : Graph) (keeps : KeepsNodes old new) (reduced
   disjoined_kept : (u v w : Node) → AreNodes old u v → Disjoined old u v w → Disjoined new u v w
   disjoined_kept u v w nodes found = record {
     stands = laws.stands old new keeps w found.stands;
+    not_above = λ level below_u below_v.
+        let u_level : level_of new u ≡ level_of old u = laws.level old new keeps u nodes.first in
+        let v_level : level_of new v ≡ level_of old v = laws.level old new keeps v nodes.second in
+        let w_level : level_of new w ≡ level_of old w = laws.level old new keeps w found.stands in
+        omega (arith, w_level, found.not_above level (omega (arith, u_level, below_u)) (omega (arith, v_level, below_v)));
     value = λ a.
         laws.value old new reduced keeps a w found.stands ∙ found.value a
         ∙ (λ i. sym (laws.value old new reduced keeps a u nodes.first) i || sym (laws.value old new reduced keeps a v nodes.second) i);
@@ -57,6 +62,10 @@ module _ (laws : Growth) (old new : Graph) (keeps : KeepsNodes old new) (reduced
   quantified_kept : (u : Node) (level : ℕ) (w : Node) → IsTrue (is_node old u) → Quantified old u level w → Quantified new u level w
   quantified_kept u level w stands found = record {
     stands = laws.stands old new keeps w found.stands;
+    not_above =
+        let u_level : level_of new u ≡ level_of old u = laws.level old new keeps u stands in
+        let w_level : level_of new w ≡ level_of old w = laws.level old new keeps w found.stands in
+        omega (arith, u_level, w_level, found.not_above);
     value = λ a.
         laws.value old new reduced keeps a w found.stands ∙ found.value a
         ∙ (λ i. sym (laws.value old new reduced keeps (with_level a level true) u stands) i || sym (laws.value old new reduced keeps (with_level a level false) u stands) i);

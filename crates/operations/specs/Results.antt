@@ -31,16 +31,18 @@ pub record Implied (graph : Graph) (live : Live) (u v : Node) (just : Just) : Ty
   pub value : (a : Levels) → value_of graph a u ≡ true → value_of graph a v ≡ true
   pub justified : IsJustified live (implication_atoms graph u v) just
 
--- The node w is the disjunction of u and v.
+-- The node w is the disjunction of u and v, and stands before neither.
 pub record Disjoined (graph : Graph) (u v w : Node) : Type 0 where
   pub stands : IsTrue (is_node graph w)
+  pub not_above : (level : ℕ) → level ≤ level_of graph u → level ≤ level_of graph v → level ≤ level_of graph w
   pub value : (a : Levels) → value_of graph a w ≡ (value_of graph a u || value_of graph a v)
 
 -- the values with that of one level set
 abbrev pub with_level : Levels → ℕ → Bool → Levels
 with_level a level value i = if i == level then value else a i
 
--- The node w holds where some value of this level's variable makes u hold.
+-- The node w holds where some value of this level's variable makes u hold, and doesn't stand before u.
 pub record Quantified (graph : Graph) (u : Node) (level : ℕ) (w : Node) : Type 0 where
   pub stands : IsTrue (is_node graph w)
+  pub not_above : level_of graph u ≤ level_of graph w
   pub value : (a : Levels) → value_of graph a w ≡ (value_of graph (with_level a level true) u || value_of graph (with_level a level false) u)

@@ -1,0 +1,11 @@
+//! The disjunction of two nodes of a table, and the existential quantification of a node by one variable. Neither adds a
+//! clause: what they find are nodes with these functions. Results are kept in caches, which name no clause either. It stands
+//! on `operations` and the nodes of `node_table`.
+#![tactic(auto)]
+
+mod disjoin;
+mod join;
+mod or_cache;
+
+pub use disjoin::or;
+pub use or_cache::OrCache;
