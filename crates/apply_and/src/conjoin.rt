@@ -28,8 +28,8 @@ use node_table::{
     steps_law, subfunction_law,
 };
 use operations::{
-    Operands, Operation, Reply, accounts_law, cache_law, clause_of, entry_law, operand_law, price_law,
-    retire, split, work_off,
+    Operands, Operation, Reply, accounts_law, cache_law, clause_of, entry_law, operand_law,
+    price_law, retire, split, work_off,
 };
 use std::alloc::Global;
 
