@@ -68,7 +68,7 @@ module _ {S : Type 0} {tells : Bool} {channel : S → Channel} {lent : S → Bes
       unretired = tt;
       kept = λ differ first second. tt;
       remembers = by_high.remembers;
-      price = pricing.high_failed old one before.results cache_one.results o came split by_high.price;
+      price = pricing.high_only old one before.results cache_one.results o (Some came) sound.tied.reduced split by_high.price;
       made = made_high parts growth splits old.graph sound.tied.reduced o split o.u o.v (refl, refl) one.graph by_high.made;
       reachable = tt;
       lacks = λ is. lacks_high parts growth splits old.graph sound.tied.reduced o split o.u o.v (refl, refl) one.graph (by_high.lacks is);
@@ -99,7 +99,8 @@ module _ {S : Type 0} {tells : Bool} {channel : S → Channel} {lent : S → Bes
         unretired = tt;
         kept = λ differ first second. tt;
         remembers = remembers_both two cache_two (Err came) by_low;
-        price = pricing.low_failed old one two before.results cache_one.results cache_two.results o came sound.tied.reduced by_high.steps.extends.nodes split by_high.remembers.capacity by_high.price by_low.price;
+        price = pricing.low_last old one two before.results cache_one.results cache_two.results o (Some came) sound.tied.reduced sound_one.tied.reduced by_high.steps.extends.nodes split by_high.remembers.capacity
+            by_high.price by_low.price;
         made = made_low parts growth splits old.graph sound.tied.reduced o split o.u o.v (refl, refl) one.graph sound_one.tied.reduced by_high.steps.extends.nodes by_high.made
             two.graph by_low.steps.extends.nodes by_low.made;
         reachable = tt;

@@ -75,7 +75,7 @@ module _ {S : Type 0} {tells : Bool} {channel : S → Channel} {lent : S → Bes
                 ended three cache_three result (closed law splits growth fitting accounts caches pricing parts paths old before sound o split unknown one cache_one high by_high two cache_two low by_low three cache_three result closing);
           }
 
-      awaits_low : AwaitsLow (conjunctions tells channel lent) (Answers tells channel lent old before o.u o.v) one cache_one o high
+      awaits_low : AwaitsLow (conjunctions tells channel lent) (Answers tells channel lent old before o.u o.v) one cache_one o high (o.u_low, o.v_low)
       awaits_low =
           let sound_one = by_high.steps.leaves.sound in
           let split_one = split_high law splits growth fitting accounts caches pricing parts paths old before sound o split unknown one cache_one high by_high in

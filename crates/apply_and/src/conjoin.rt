@@ -125,8 +125,8 @@ impl<S: Sink + Drop> Operation<S> for AndOperation {
         (operands.u_high, operands.v_high)
     }
 
-    fn low(operands: &Operands) -> (Node, Node) {
-        (operands.u_low, operands.v_low)
+    fn low(operands: &Operands, _high: &(Node, Just)) -> Option<(Node, Node)> {
+        Some((operands.u_low, operands.v_low))
     }
 
     // The conjunction is kept. The clause that no entry names any more is retired.
