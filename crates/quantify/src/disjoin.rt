@@ -103,8 +103,8 @@ impl<S: Sink + Drop> Operation<S> for OrOperation {
         (operands.u_high, operands.v_high)
     }
 
-    fn low(operands: &Operands) -> (Node, Node) {
-        (operands.u_low, operands.v_low)
+    fn low(operands: &Operands, _high: &Node) -> Option<(Node, Node)> {
+        Some((operands.u_low, operands.v_low))
     }
 
     // The disjunction is the node of both results, and is kept.
