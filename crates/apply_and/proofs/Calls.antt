@@ -14,9 +14,10 @@ use Rattle.operations.specs.Operands.{AreSplit, Splitting}
 use Rattle.operations.specs.Accounts.{Accounting, AccountsFor}
 use Rattle.operations.specs.Caches.{Keeping, Remembers}
 use Rattle.operations.specs.Entries.{Fits, Fitting}
+use Rattle.operations.specs.Numbers.{just_numbered}
 use Rattle.operations.specs.Price.{Prices, Pricing}
 use Rattle.apply_and.specs.declared.cache.AndCache.{AndCache}
-use Rattle.apply_and.specs.Cache.{Pair, entries, entry_of, just_numbered, same_pair}
+use Rattle.apply_and.specs.Cache.{Pair, entries, entry_of, same_pair}
 use Rattle.apply_and.specs.declared.cache.Found.{Found}
 use Rattle.node_table.specs.Progress.{error_of}
 use Rattle.apply_and.specs.Calls.{Closes, Conjoins, IsUnknown}

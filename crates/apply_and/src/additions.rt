@@ -27,7 +27,7 @@ use hint_chain::{
 };
 use host_io::Sink;
 use node_table::{Just, Node, Table, TableError, growth_law, steps_law};
-use operations::{Operands, Side, down_part, just_part, operand_law, up_part};
+use operations::{Operands, Side, behind, down_part, just_part, operand_law, up_part};
 use std::alloc::Global;
 
 /// Justifies that w is the conjunction of the operands, where it is neither of them. Unless a write failed, the high
@@ -176,17 +176,4 @@ fn add_low<S: Sink + Drop>(
     ];
     let hints = and_low(alloc, clause, parts);
     table.justify(clause, hints.as_slice())
-}
-
-// A clause with one literal before it.
-fn behind(literal: Lit, clause: &[Lit]) -> ShortClause
-    requires { length clause.now ≤ 3 }
-    ensures { result ≡ literal ∷ clause.now }
-{
-    let mut long = ShortClause::new();
-    long.push(literal);
-    for own in clause {
-        long.push(*own);
-    }
-    long
 }
