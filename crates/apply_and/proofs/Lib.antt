@@ -6,6 +6,5 @@ pub mod Made
 pub mod Added
 pub mod HighClause
 pub mod Named
-pub mod Handed
 pub mod Calls
 pub mod Opened
