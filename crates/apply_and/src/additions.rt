@@ -27,7 +27,9 @@ use hint_chain::{
 };
 use host_io::Sink;
 use node_table::{Just, Node, Table, TableError, growth_law, steps_law};
-use operations::{Operands, Side, behind, down_part, just_part, operand_law, up_part};
+use operations::{
+    Operands, Side, behind, down_part, high_clause_law, just_part, operand_law, up_part,
+};
 use std::alloc::Global;
 
 /// Justifies that w is the conjunction of the operands, where it is neither of them. Unless a write failed, the high
@@ -61,6 +63,7 @@ pub fn justify<S: Sink + Drop>(
     operand_law();
     growth_law();
     clause_law();
+    high_clause_law::<S>();
     let Some(clause) = conjunction_clause(table, operands, w) else {
         return Ok(Just::Trivial);
     };
@@ -121,6 +124,7 @@ fn add_high<S: Sink + Drop>(
     conjunction_law();
     greedy_law();
     clause_law();
+    high_clause_law::<S>();
     let level = operands.level;
     let long = behind(table.variable(level).negated(), clause);
     let parts = [
@@ -166,6 +170,7 @@ fn add_low<S: Sink + Drop>(
     conjunction_law();
     greedy_law();
     clause_law();
+    high_clause_law::<S>();
     let level = operands.level;
     let parts = [
         Some(first),

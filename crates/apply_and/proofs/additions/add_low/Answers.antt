@@ -1,13 +1,16 @@
-use Rattle.std.proofs.Common.{◌≡◌, ◌<◌, ◌≤◌, ◌∙◌, pos, ℕ, List, [], ◌∷◌, true, arith, Some, ap, sym, subst}
+use Rattle.std.proofs.Common.{◌≡◌, ◌<◌, ◌≤◌, ◌+◌, ◌∙◌, pos, ℕ, List, [], ◌∷◌, true, arith, Some, Result, Ok, Err, ap, sym, subst}
+use Rattle.std.specs.Prelude.{IfOk}
+use Rattle.lrat_rules.specs.State.{clause_at}
 use Rattle.lrat_rules.specs.Strict.{RefutesStrictly}
+use Rattle.clause_ledger.specs.Book.{with_next}
 use Rattle.hint_chain.specs.Closing.{are_among}
 use Rattle.lrat_rules.specs.Soundness.{is_nonzero}
+use Rattle.node_table.specs.declared.error.TableError.{TableError}
 use Rattle.node_table.specs.Diagram.{variable_at}
 use Rattle.node_table.specs.Defined.{atom_of}
 use Rattle.operations.specs.Results.{conjunction_atoms}
 use Rattle.operations.specs.Sides.{cofactor_at}
 use Rattle.operations.specs.declared.parts.Side.TheVariants.{Low}
-use Rattle.apply_and.proofs.Added.{added_if}
 use Rattle.apply_and.proofs.Closed.{low_apart, low_over, high_clause, side_justified, variable_within}
 use Rattle.apply_and.proofs.additions.add_low.Goals as goal
 
@@ -58,4 +61,11 @@ just_part-requires g c =
     (conjunction_atoms graph (cofactor_at Low graph o.level o.u) (cofactor_at Low graph o.level o.v) c.args.low.now.0, three_of_four, c.requires.side.justified)
 
 pub returns-clause-added : goal.returns-clause-added
-returns-clause-added g c = added_if c.justify.result c.args.table.now.book.state c.justify.new.self.book.state c.args.clause.now c.justify.ensures.added
+returns-clause-added g c =
+    let old = c.args.table.now.book.state in
+    let new = c.justify.new.self.book.state in
+    let clause = c.args.clause.now in
+    elim (c.justify.result) as (λ (r : Result ℕ TableError). IfOk r (λ id. (id ≡ old.top + 1) × (new ≡ with_next old clause)) → IfOk r (λ id. clause_at new.live id ≡ Some clause)) [
+      | Ok id ↦ λ is. c.high_clause_law.ensures.added old new id clause is
+      | Err error ↦ λ is. tt
+    ] c.justify.ensures.added
