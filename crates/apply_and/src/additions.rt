@@ -28,7 +28,7 @@ use hint_chain::{
 use host_io::Sink;
 use node_table::{Just, Node, Table, TableError, growth_law, steps_law};
 use operations::{
-    Operands, Side, behind, down_part, high_clause_law, just_part, operand_law, up_part,
+    Operands, Side, behind, down_part, high_clause_law, just_part, literal_law, operand_law, up_part,
 };
 use std::alloc::Global;
 
@@ -63,6 +63,7 @@ pub fn justify<S: Sink + Drop>(
     operand_law();
     growth_law();
     clause_law();
+    literal_law();
     high_clause_law::<S>();
     let Some(clause) = conjunction_clause(table, operands, w) else {
         return Ok(Just::Trivial);
@@ -124,6 +125,7 @@ fn add_high<S: Sink + Drop>(
     conjunction_law();
     greedy_law();
     clause_law();
+    literal_law();
     high_clause_law::<S>();
     let level = operands.level;
     let long = behind(table.variable(level).negated(), clause);
@@ -170,6 +172,7 @@ fn add_low<S: Sink + Drop>(
     conjunction_law();
     greedy_law();
     clause_law();
+    literal_law();
     high_clause_law::<S>();
     let level = operands.level;
     let parts = [

@@ -29,7 +29,7 @@ use node_table::{
 };
 use operations::{
     Operands, Operation, Reply, accounts_law, budget_law, cache_law, clause_of, entry_law,
-    operand_law, price_law, retire, split, work_off,
+    literal_law, operand_law, price_law, retire, split, work_off,
 };
 use std::alloc::Global;
 
@@ -225,6 +225,7 @@ fn finish<S: Sink + Drop>(
     subfunction_law();
     reach_law();
     missing_law();
+    literal_law();
     let made = table.node(operands.level, high.0, low.0);
     // The nodes are reduced after a failed write too.
     table.table_law();

@@ -81,7 +81,7 @@ returns-in-Ok-clause-justified g c =
     let among : are_among (conjunction_atoms graph o.u o.v c.args.w) c.as_slice-2.result.now ≡ true = c.clause_law.ensures.among (conjunction_atoms graph o.u o.v c.args.w) c.as_slice-2.result.now is in
     subst (λ (new : TableState g.row.S.Denot). IsJustified new.book.state.live (conjunction_atoms new.graph o.u o.v c.args.w) (Clause c.in-Ok.id)) (sym c.retire.ensures.retired)
     (subst (λ (new : Graph). IsJustified c.add_low.new.table.book.state.live (conjunction_atoms new o.u o.v c.args.w) (Clause c.in-Ok.id)) (sym (c.in-Ok.ensures.nodes ∙ c.in_ok-first.ensures.nodes)) (
-      is_open c.operand_law.ensures graph tied.reduced tied.ordered c.args.table.now.book.state.live o c.requires.split c.args.w High c.args.high.now c.requires.sides.on_high c.as_slice-2.result.now is among,
+      is_open c.literal_law.ensures c.operand_law.ensures graph tied.reduced tied.ordered c.args.table.now.book.state.live o c.requires.split c.args.w High c.args.high.now c.requires.sides.on_high c.as_slice-2.result.now is among,
       c.in-Ok.ensures.added ∙ sym is,
     ))
 

@@ -45,7 +45,7 @@ returns-then-is_operand-clause-conjoined g c =
     let extends = c.node-made.ensures.steps.extends in
     let ready = ready_kept c.operand_law.ensures c.entry_law.ensures old mid c.requires.sound extends o c.requires.split c.args.high.now c.args.low.now c.requires.high c.requires.low in
     conjoined_ready c.cofactor_law.ensures c.operand_law.ensures mid.graph c.table_law.ensures.reduced mid.book.state.live o c.args.high.now c.args.low.now ready c.in_ok-w.w c.in_ok-w.ensures.children mid.book.state.live Trivial
-    (trivial_operand mid.graph o.u o.v c.in_ok-w.w ready.split.first ready.split.second (c.is_operand.ensures.0 c.if-is_operand.true))
+    (trivial_operand mid.graph o.u o.v c.in_ok-w.w (c.literal_law.ensures.differ mid.graph c.table_law.ensures.reduced o.u o.v ready.split.first ready.split.second ready.split.differ) (c.is_operand.ensures.0 c.if-is_operand.true))
 
 pub justify-requires-clause-sides : goal.justify-requires-clause-sides
 justify-requires-clause-sides g c =
