@@ -1,5 +1,5 @@
 -- The clause of a conjunction: its literals are of different variables, each the extension variable of a node.
-use Rattle.std.proofs.Common.{◌≡◌, ◌≢◌, ◌<◌, ◌≤◌, ◌||◌, ◌&&◌, ℕ, zero, suc, ℤ, pos, neg_ℤ, nat_abs, int_eq, Bool, true, false, not, List, [], ◌∷◌, Option, None, Some, refl, sym, ap, ◌∙◌, subst, arith, inl, inr, ne_eqb}
+use Rattle.std.proofs.Common.{◌≡◌, ◌≢◌, ◌<◌, ◌||◌, ◌&&◌, ℕ, zero, suc, ℤ, pos, neg_ℤ, nat_abs, int_eq, Bool, true, false, not, List, [], ◌∷◌, Option, None, Some, refl, sym, ap, ◌∙◌, subst, arith, inl, inr, ne_eqb}
 use Rattle.std.specs.Prelude.{◌==◌}
 use Rattle.std.specs.List.{list_any, list_all}
 use Rattle.std.proofs.Math.IntN.{neg_ℤ-neg_ℤ}

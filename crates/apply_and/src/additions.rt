@@ -3,12 +3,11 @@
 // justified. The low one drops -x: the high clause makes x false, and the same holds on the low side. The high one has
 // served then, and is retired. (Bryant, Heule: Generating Extended Resolution Proofs with a BDD-Based SAT Solver, 2021,
 // section 4.2.)
-ghost use Rattle.std.specs.Prelude.{◌≡◌, ◌≢◌, ◌≤◌, ◌<◌, ◌+◌, ◌++◌, ℕ, neg_ℤ, pos, [], ◌∷◌, Contains, Ok, Err, IsTrue, IfOk, IfErr, Some, length};
+ghost use Rattle.std.specs.Prelude.{◌≡◌, ◌≢◌, ◌+◌, ◌++◌, ℕ, neg_ℤ, pos, [], ◌∷◌, Contains, Ok, Err, IfOk, IfErr, Some};
 ghost use Rattle.lrat_rules.specs.State.{clause_at};
 ghost use Rattle.hint_chain.specs.Atoms.{clause_of};
-ghost use Rattle.hint_chain.specs.Additions.{where_true};
 ghost use Rattle.node_table.specs.declared.error.TableError.TheVariants.{NodeLimit, WriteFault};
-ghost use Rattle.node_table.specs.Diagram.{is_node, levels, variable_at, high_at, low_at};
+ghost use Rattle.node_table.specs.Diagram.{variable_at};
 ghost use Rattle.node_table.specs.Table.{IsSound, IsAddedTo, IsSame, UnlessTorn};
 ghost use Rattle.node_table.specs.declared.node.Just.TheVariants.{Trivial, Clause};
 ghost use Rattle.node_table.specs.Just.{IsJustified};
@@ -28,7 +27,8 @@ use hint_chain::{
 use host_io::Sink;
 use node_table::{Just, Node, Table, TableError, growth_law, steps_law};
 use operations::{
-    Operands, Side, behind, down_part, high_clause_law, just_part, literal_law, operand_law, up_part,
+    Operands, Side, behind, down_part, high_clause_law, just_part, literal_law, operand_law,
+    up_part,
 };
 use std::alloc::Global;
 
