@@ -1,11 +1,11 @@
 -- The entries of both caches as one list: they name no clause, and a disjunction changes one part of it.
-use Rattle.std.proofs.Common.{◌≡◌, ◌++◌, ℕ, Bool, List, Contains, refl, inl, inr}
+use Rattle.std.proofs.Common.{◌≡◌, ℕ, Bool, List, refl, subst, sym}
 use Rattle.std.proofs.lemmas.List.Elements.{Contains-append_left, Contains-append_right}
 use Rattle.host_io.specs.Channel.{Channel}
 use Rattle.host_io.specs.Beside.{Beside}
 use Rattle.node_table.specs.Table.{TableState, IsSound}
 use Rattle.node_table.specs.Value.{Levels}
-use Rattle.operations.specs.Entries.{Fits, FitsEntry, Fitting, HaveSame, Quantification}
+use Rattle.operations.specs.Entries.{Entry, Fits, FitsEntry, Fitting, HaveSame, Quantification}
 use Rattle.quantify.specs.declared.exists_cache.ExistsCache.{ExistsCache}
 use Rattle.quantify.specs.declared.or_cache.OrCache.{OrCache}
 use Rattle.node_table.specs.declared.node.Node.{Node}
@@ -57,3 +57,7 @@ runs_beside fitting old sound cache ors fits function new ors_after result runs 
   lacks = runs.lacks;
   beside = runs.beside;
 }
+
+-- what holds of entries holds of those that a cache came back with
+pub carried : (P : List Entry → Type 0) (listed after : List Entry) → after ≡ listed → P listed → P after
+carried P listed after same holds = subst P (sym same) holds

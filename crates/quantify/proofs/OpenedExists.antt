@@ -1,12 +1,11 @@
 -- A quantification that is split: its sides may be called and closed, and however they end, the call has ended.
-use Rattle.std.proofs.Common.{◌≡◌, ◌<◌, ℕ, Bool, List, Result, Ok, Err, Contains, refl, ◌∙◌, arith, subst, sym}
+use Rattle.std.proofs.Common.{◌≡◌, ℕ, Bool, List, Result, Ok, Err, Contains, refl, ◌∙◌, arith, subst, sym}
 use Rattle.std.specs.Prelude.{IfOk, IsErrAnd}
 use Rattle.host_io.specs.Channel.{Channel}
 use Rattle.host_io.specs.Beside.{Beside}
 use Rattle.node_table.specs.declared.error.TableError.{TableError}
 use Rattle.node_table.specs.declared.error.TableError.TheVariants.{OutOfMemory}
 use Rattle.node_table.specs.declared.node.Node.{Node}
-use Rattle.node_table.specs.Diagram.{is_node, level_of}
 use Rattle.node_table.specs.HandedOn.{handed_on, no_error}
 use Rattle.node_table.specs.Laws.{Cofactors, Growth, Reachability, StepByStep, Subfunctions}
 use Rattle.node_table.specs.Made.{ReachesNew}

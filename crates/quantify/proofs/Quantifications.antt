@@ -21,9 +21,9 @@ set_level a level value = rw (eq-eqb level level refl) refl
 
 other_level : (a : Levels) (level : ℕ) (value : Bool) (i : ℕ) → (i ≡ level → ⊥) → with_level a level value i ≡ a i
 other_level a level value i differ = elim (i == level) as (λ b. (i == level) ≡ b → (if b then value else a i) ≡ a i) [
-    true ↦ λ is. absurd (differ (eqb-true i level is))
+  | true ↦ λ is. absurd (differ (eqb-true i level is))
   | false ↦ λ is. refl
-  ] refl
+] refl
 
 -- a later level is set before or after the first ones are fixed
 set_fixed : (a fixed : Levels) (first level : ℕ) (value : Bool) → first ≤ level → fixed_to first fixed (with_level a level value) ≡ with_level (fixed_to first fixed a) level value
@@ -31,12 +31,12 @@ set_fixed a fixed first level value later = λ k i. at i k
   where
     at : (i : ℕ) → fixed_to first fixed (with_level a level value) i ≡ with_level (fixed_to first fixed a) level value i
     at i = elim (i == level) as (λ b. (i == level) ≡ b → (if nat_lt i first then fixed i else (if b then value else a i)) ≡ (if b then value else (if nat_lt i first then fixed i else a i))) [
-        false ↦ λ is. refl
+      | false ↦ λ is. refl
       | true ↦ λ is. elim (nat_lt i first) as (λ c. nat_lt i first ≡ c → (if c then fixed i else value) ≡ value) [
-          false ↦ λ no. refl
+        | false ↦ λ no. refl
         | true ↦ λ yes. absurd (let small = ltb-true i first yes in let same = eqb-true i level is in omega (arith, small, same, later))
-        ] refl
       ] refl
+    ] refl
 
 either_same : (b : Bool) → b ≡ (b || b)
 either_same true = refl
@@ -81,6 +81,9 @@ module _ (laws : Cofactors) (graph : Graph) (reduced : IsReduced graph) where
 
     pub quantification_at : disjunction_of graph (high_at graph level node) (low_at graph level node) ≡ quantification_of graph node level
     quantification_at = λ i a. sym (value_at true a) i || sym (value_at false a) i
+
+    pub quantification_by : (high low : Node) → high ≡ high_at graph level node → low ≡ low_at graph level node → disjunction_of graph high low ≡ quantification_of graph node level
+    quantification_by high low is_high is_low = (λ i. disjunction_of graph (is_high i) (is_low i)) ∙ quantification_at
 
   -- above the level
   module _ (p : Above) (above : IsAbove graph p) where

@@ -91,8 +91,11 @@ struct ExistsOperation<'a>(&'a u8);
 
 impl<'a, S: Sink + Drop> Operation<S> for ExistsOperation<'a> {
     type Cache = Caches<'a>;
+
     type Question = (Node, u32);
+
     type Parts = Above;
+
     type Answer = Node;
 
     ghost calls = { quantifying S.tells S.channel S.beside };

@@ -1,5 +1,5 @@
 -- What is plain, kept or of the level is answered; a node above the level is left.
-use Rattle.std.proofs.Common.{◌≡◌, ◌∙◌, Option, Result, Ok, None, Some, Err, Contains, ap, refl, arith, sym, subst}
+use Rattle.std.proofs.Common.{◌≡◌, Option, Result, Ok, None, Some, Err, Contains, ap, refl, arith, sym, subst}
 use Rattle.std.proofs.lemmas.List.Elements.{Contains-append_left}
 use Rattle.node_table.specs.declared.error.TableError.{TableError}
 use Rattle.node_table.specs.declared.node.Node.{Node}
@@ -36,9 +36,12 @@ returns-then-level-own g c =
       quantified = found;
       reachable = c.reach_law.ensures.none_made table.graph u;
       kept = λ at. absurd (omega (arith, at, c.if-level-own.true, c.level_of-own.ensures));
-      known = λ other there.
-          (ap Ok (only_quantification c.canonical_law.ensures table.graph can.sound.tied.reduced u level u other found (can.fits.each (Quantification u level other) (Contains-append_left (quantifications cache) (disjunctions ors) _ there)).1),
-          refl, have_same (quantifications cache), refl);
+      known = λ other there. (
+        ap Ok (only_quantification c.canonical_law.ensures table.graph can.sound.tied.reduced u level u other found (can.fits.each (Quantification u level other) (Contains-append_left (quantifications cache) (disjunctions ors) _ there)).1),
+        refl,
+        have_same (quantifications cache),
+        refl,
+      );
       plain = λ below. (refl, refl, refl, refl);
     }
 

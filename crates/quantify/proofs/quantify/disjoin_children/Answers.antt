@@ -1,21 +1,19 @@
 -- The disjunction of both children, with the cache of quantifications beside its own; it is kept.
-use Rattle.std.proofs.Common.{◌≡◌, ◌∙◌, Contains, Ok, Err, refl, arith, subst, sym}
+use Rattle.std.proofs.Common.{Contains, Ok, Err, refl, arith, subst, sym}
 use Rattle.node_table.specs.declared.error.TableError.TheVariants.{OutOfMemory}
 use Rattle.node_table.specs.declared.node.Node.{Node}
 use Rattle.node_table.specs.Diagram.{high_at, low_at}
 use Rattle.node_table.specs.HandedOn.{handed_on, no_error}
 use Rattle.node_table.specs.Made.{LacksPart, MakesOnly}
-use Rattle.node_table.specs.Value.{Levels}
 use Rattle.operations.specs.Results.{Disjoined}
 use Rattle.quantify.specs.declared.exists_cache.ExistsCache.{ExistsCache}
 use Rattle.quantify.specs.ExistsCache.{HasQuestion, both_caches, most_quantifications, quantifications}
 use Rattle.quantify.specs.OrCache.{disjunctions}
-use Rattle.quantify.specs.Disjunction.{disjunction_of}
 use Rattle.quantify.specs.Quantification.{Quantifies, quantification_of}
 use Rattle.quantify.specs.Runs.{Runs}
 use Rattle.quantify.proofs.BothCaches.{kept_part, ors_part, runs_beside}
 use Rattle.quantify.proofs.Lists.{remembers_all, remembers_new}
-use Rattle.quantify.proofs.Quantifications.{quantification_at, quantified_disjoined}
+use Rattle.quantify.proofs.Quantifications.{quantification_by, quantified_disjoined}
 use Rattle.quantify.proofs.Running.{Answer, runs_further, runs_none, runs_refused}
 use Rattle.quantify.proofs.quantify.disjoin_children.Goals as goal
 
@@ -34,8 +32,7 @@ returns-in_err-w g c =
     let done = c.in_err-w.ensures in
     let came = c.in_err-w.field-0.0 in
     let children = c.cofactors-high.ensures in
-    let at : disjunction_of old.graph c.cofactors-high.result.0 c.cofactors-high.result.1 ≡ quantification_of old.graph u level =
-    (λ i. disjunction_of old.graph (children.high i) (children.low i)) ∙ quantification_at c.cofactor_law.ensures old.graph can.sound.tied.reduced level u can.stands c.requires.at can.within in
+    let at = quantification_by c.cofactor_law.ensures old.graph can.sound.tied.reduced level u can.stands c.requires.at can.within c.cofactors-high.result.0 c.cofactors-high.result.1 children.high children.low in
     let own : Runs g.S.Sink.tells g.S.Sink.channel g.S.Sink.beside old (disjunctions ors) (quantification_of old.graph u level) new (disjunctions c.or.new.cache) (Err came) = record {
       steps = done.steps;
       retired = done.retired;
@@ -68,8 +65,7 @@ returns-in_err-keep g c =
     let done = c.in_ok-w.ensures in
     let w = c.in_ok-w.w in
     let children = c.cofactors-high.ensures in
-    let at : disjunction_of old.graph c.cofactors-high.result.0 c.cofactors-high.result.1 ≡ quantification_of old.graph u level =
-    (λ i. disjunction_of old.graph (children.high i) (children.low i)) ∙ quantification_at c.cofactor_law.ensures old.graph can.sound.tied.reduced level u can.stands c.requires.at can.within in
+    let at = quantification_by c.cofactor_law.ensures old.graph can.sound.tied.reduced level u can.stands c.requires.at can.within c.cofactors-high.result.0 c.cofactors-high.result.1 children.high children.low in
     let own : Runs g.S.Sink.tells g.S.Sink.channel g.S.Sink.beside old (disjunctions ors) (quantification_of old.graph u level) new (disjunctions c.or.new.cache) (Ok w) = record {
       steps = done.steps;
       retired = done.retired;
@@ -106,8 +102,7 @@ returns g c =
     let done = c.in_ok-w.ensures in
     let w = c.in_ok-w.w in
     let children = c.cofactors-high.ensures in
-    let at : disjunction_of old.graph c.cofactors-high.result.0 c.cofactors-high.result.1 ≡ quantification_of old.graph u level =
-    (λ i. disjunction_of old.graph (children.high i) (children.low i)) ∙ quantification_at c.cofactor_law.ensures old.graph can.sound.tied.reduced level u can.stands c.requires.at can.within in
+    let at = quantification_by c.cofactor_law.ensures old.graph can.sound.tied.reduced level u can.stands c.requires.at can.within c.cofactors-high.result.0 c.cofactors-high.result.1 children.high children.low in
     let own : Runs g.S.Sink.tells g.S.Sink.channel g.S.Sink.beside old (disjunctions ors) (quantification_of old.graph u level) new (disjunctions c.or.new.cache) (Ok w) = record {
       steps = done.steps;
       retired = done.retired;

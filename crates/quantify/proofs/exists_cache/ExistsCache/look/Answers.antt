@@ -21,8 +21,8 @@ returns-clause-missed c none =
 pub returns-clause-found : goal.returns-clause-found
 returns-clause-found c =
     elim (c.look.result) as (λ (r : Option Node). c.look.result ≡ r → IfSome r (λ w. Contains (listed quantification c.look.new.self) (Quantification c.args.u c.args.level w))) [
-      None ↦ λ is. tt
-    | Some w ↦ λ is.
+      | None ↦ λ is. tt
+      | Some w ↦ λ is.
           (returns-clause-looked c).same.there _
           (c.cache_law.ensures.found quantification tells_questions c.args.self.now.results (c.args.u, c.args.level) w (sym c.look.ensures.value ∙ is))
     ] refl

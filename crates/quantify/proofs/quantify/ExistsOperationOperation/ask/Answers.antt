@@ -1,5 +1,5 @@
 -- A call that fails, and one whose node stands above the level.
-use Rattle.std.proofs.Common.{◌≡◌, Option, None, Ok, refl, subst}
+use Rattle.std.proofs.Common.{Option, Ok, refl, subst}
 use Rattle.node_table.specs.declared.node.Node.{Node}
 use Rattle.quantify.specs.Quantification.{IsAnswered}
 use Rattle.quantify.proofs.OpenedExists.{failed_answer, split_answered}

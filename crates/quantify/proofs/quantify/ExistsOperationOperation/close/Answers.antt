@@ -1,5 +1,5 @@
 -- The node of both results is kept as the quantification, or its step or the cache is refused.
-use Rattle.std.proofs.Common.{◌≡◌, Ok, Err, length, ap, refl, subst, sym}
+use Rattle.std.proofs.Common.{Ok, Err, length, ap, refl, subst, sym}
 use Rattle.node_table.specs.declared.error.TableError.TheVariants.{OutOfMemory}
 use Rattle.node_table.specs.HandedOn.{handed_on, no_error}
 use Rattle.quantify.specs.declared.exists_cache.ExistsCache.{ExistsCache}
@@ -56,17 +56,17 @@ returns-in_err-keep-clause-closes g c =
     let sides = quantification_sides c.cofactor_law.ensures old.graph c.requires.sound.tied.reduced p c.requires.above c.args.high.now c.args.low.now c.requires.on_high c.requires.on_low in
     let first = c.in_ok-w.ensures.runs list function c.requires.fits sides in (
       subst (λ (r : Answer). Closes g.S.Sink.tells g.S.Sink.channel g.S.Sink.beside old cache ors p c.args.high.now c.args.low.now new c.keep.new.self ors r)
-      (sym (handed_on _ OutOfMemory OutOfMemory c.from_residual-in_err-keep.ensures.1 refl))
-      (subst (λ (after : ExistsCache). Closes g.S.Sink.tells g.S.Sink.channel g.S.Sink.beside old cache ors p c.args.high.now c.args.low.now new after ors (Err OutOfMemory)) (sym c.in_err-keep.ensures.refused) (record {
-        runs = runs_further c.steps_law.ensures c.subfunction_law.ensures old list function new list (Err OutOfMemory) new list c.in_ok-w.w first
-            (runs_refused c.steps_law.ensures c.subfunction_law.ensures new list function first.steps.leaves.sound list (first.fits no_error));
-        remembers = remembers_but_all (HasQuestion p.node p.level) (most_quantifications cache) (quantifications cache);
-        same_ors = refl;
-        quantified = tt;
-        kept = tt;
-        children = tt;
-        reachable = tt;
-      })),
+          (sym (handed_on _ OutOfMemory OutOfMemory c.from_residual-in_err-keep.ensures.1 refl))
+          (subst (λ (after : ExistsCache). Closes g.S.Sink.tells g.S.Sink.channel g.S.Sink.beside old cache ors p c.args.high.now c.args.low.now new after ors (Err OutOfMemory)) (sym c.in_err-keep.ensures.refused) (record {
+            runs = runs_further c.steps_law.ensures c.subfunction_law.ensures old list function new list (Err OutOfMemory) new list c.in_ok-w.w first
+                (runs_refused c.steps_law.ensures c.subfunction_law.ensures new list function first.steps.leaves.sound list (first.fits no_error));
+            remembers = remembers_but_all (HasQuestion p.node p.level) (most_quantifications cache) (quantifications cache);
+            same_ors = refl;
+            quantified = tt;
+            kept = tt;
+            children = tt;
+            reachable = tt;
+          })),
       record { exists = refl; ors = refl },
     )
 
