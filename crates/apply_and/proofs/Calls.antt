@@ -1,57 +1,55 @@
 -- A call of a conjunction from its parts: it is refused, its sides fail, or it is closed from the results of both.
-use Rattle.std.proofs.Common.{◌≡◌, ◌≢◌, ◌∙◌, ◌⊎◌, ◌≤◌, ◌<◌, ◌*◌, ◌++◌, List, [], ap, arith, refl, Bool, Result, Ok, Err, Some, Contains, IfOk, length, inl}
+use Rattle.std.proofs.Common.{◌≡◌, ◌∙◌, arith, refl, Bool, Result, Ok, Err, None, Some, IfOk, inl}
 use Rattle.host_io.specs.Channel.{Channel}
 use Rattle.host_io.specs.Beside.{Beside}
 use Rattle.node_table.specs.declared.error.TableError.{TableError}
-use Rattle.node_table.specs.declared.error.TableError.TheVariants.{NodeLimit, OutOfMemory, WriteFault}
+use Rattle.node_table.specs.declared.error.TableError.TheVariants.{NodeLimit, OutOfMemory}
 use Rattle.node_table.specs.declared.node.Node.{Node}
 use Rattle.node_table.specs.declared.node.Just.{Just}
-use Rattle.node_table.specs.HandedOn.{no_error}
 use Rattle.node_table.specs.Laws.{Growth, Reachability, StepByStep, Subfunctions}
-use Rattle.node_table.specs.Table.{TableState, AddsAtMost, IsSound}
+use Rattle.node_table.specs.Table.{TableState, IsSound}
 use Rattle.node_table.specs.Made.{ReachesNew}
 use Rattle.operations.specs.declared.operands.Operands.{Operands}
 use Rattle.operations.specs.Operands.{AreSplit, Splitting}
-use Rattle.operations.specs.Entries.{Entry, Accounts, AreApart, Fits, Fitting, NamesOnly, RetiresOwn}
+use Rattle.operations.specs.Accounts.{Accounting, AccountsFor}
+use Rattle.operations.specs.Caches.{Keeping, Remembers}
+use Rattle.operations.specs.Entries.{Fits, Fitting}
+use Rattle.operations.specs.Price.{Prices, Pricing}
 use Rattle.apply_and.specs.declared.cache.AndCache.{AndCache}
-use Rattle.apply_and.specs.Cache.{Pair, StandInFront, entries, most_entries, same_pair}
+use Rattle.apply_and.specs.Cache.{Pair, entries, entry_of, just_numbered, same_pair}
 use Rattle.apply_and.specs.declared.cache.Found.{Found}
-use Rattle.op_cache.specs.Laws.{AreInFront}
-use Rattle.node_table.specs.Progress.{Leaves, error_of}
-use Rattle.apply_and.specs.Price.{AreAmong, CoverReached, HoldsReached, Pays}
+use Rattle.node_table.specs.Progress.{error_of}
 use Rattle.apply_and.specs.Calls.{Closes, Conjoins, IsUnknown}
 use Rattle.apply_and.specs.Conjunction.{conjunction_of}
 use Rattle.apply_and.proofs.Conjunctions.{IsReady, high_kept}
 use Rattle.apply_and.proofs.Made.{made_high, made_low, made_all, reached_all, lacks_high, lacks_low, lacks_both}
-use Rattle.apply_and.proofs.Named.{no_less, NamesOnly-same, NamesOnly-further, HaveSame-itself, RetiresOwn-none, RetiresOwn-further, Accounts-same, Accounts-further, still_full, still_kept, no_fewer_than, no_fewer_itself}
-use Rattle.apply_and.proofs.Pairs.{pairs_of, pairs_of-length}
-use Rattle.apply_and.proofs.Price.{above_both, adds_both, among_both, cover_high, cover_low_grown, cover_of, no_more, one_left, paid_all, price_of, still_unused}
-use Rattle.apply_and.proofs.Retiring.{sound_left}
 use Rattle.apply_and.proofs.Handed.{steps_high, steps_low, steps_both}
 
 abbrev pub Answer : Type 0
 Answer = Result (Node × Just) TableError
+
+when_ok : {P : Type 0} (result : Answer) → IfOk result (λ found. P) → error_of result ≡ None → P
+when_ok (Ok found) holds none = holds
+when_ok (Err came) holds none = absurd (some_error none)
+  where
+    some_error : Some came ≡ None → ⊥
+    some_error is = cc
 
 pub memory_no_limit : ◌≡◌ {A = Answer} (Err OutOfMemory) (Err NodeLimit) → ⊥
 memory_no_limit is = cc
 
 module _ {S : Type 0} {tells : Bool} {channel : S → Channel} {lent : S → Beside} where
   -- a call that is refused for want of memory before anything changed
-  pub refused : StepByStep tells channel → Subfunctions → (table : TableState S) (cache : AndCache) → IsSound table → Fits table (entries cache) → (u v : Node)
+  pub refused : StepByStep tells channel → Accounting S → Pricing S Found → Subfunctions → (table : TableState S) (cache : AndCache) → IsSound table → Fits table (entries cache) → (u v : Node)
       → Conjoins tells channel lent table cache u v table cache (Err OutOfMemory)
-  refused law parts table cache sound fits u v = record {
+  refused law accounts pricing parts table cache sound fits u v = record {
     conjoined = tt;
     steps = law.at_most _ _ _ _ _ _ _ (omega arith) (law.no_memory table sound);
-    fits = λ whole. fits;
-    named = λ whole. NamesOnly-same (entries cache) (entries cache) table.book.state table.book.state (HaveSame-itself (entries cache));
-    retires = RetiresOwn-none table table (entries cache) refl;
-    accounts = λ whole. Accounts-same table sound (entries cache) (entries cache) (HaveSame-itself (entries cache));
+    accounts = accounts.none table (entries cache) (Some OutOfMemory) sound fits;
     unretired = tt;
     kept = λ differ first second. tt;
-    remembered = λ entry there. inl there;
-    no_fewer = no_fewer_itself (entries cache);
-    capacity = refl;
-    price = λ all used cover room front among. omega arith;
+    remembers = record { entries = λ entry there. inl there; no_fewer = omega arith; capacity = refl };
+    price = pricing.none table cache.results u v (Some OutOfMemory);
     made = parts.none_made table.graph (conjunction_of table.graph u v);
     reachable = tt;
     lacks = λ is. absurd (memory_no_limit is);
@@ -59,23 +57,18 @@ module _ {S : Type 0} {tells : Bool} {channel : S → Channel} {lent : S → Bes
   }
 
   -- a call that is split: its high side, its low one, and the node of their results
-  module _ (law : StepByStep tells channel) (splits : Splitting) (growth : Growth) (fitting : Fitting S) (parts : Subfunctions) (paths : Reachability)
+  module _ (law : StepByStep tells channel) (splits : Splitting) (growth : Growth) (fitting : Fitting S) (accounts : Accounting S) (caches : Keeping Pair Found same_pair) (pricing : Pricing S Found) (parts : Subfunctions) (paths : Reachability)
       (old : TableState S) (before : AndCache) (sound : IsSound old) (o : Operands) (split : AreSplit old.graph o) (unknown : IsUnknown before o.u o.v) where
     pub high_failed : (one : TableState S) (cache_one : AndCache) (came : TableError) → Conjoins tells channel lent old before o.u_high o.v_high one cache_one (Err came)
         → Conjoins tells channel lent old before o.u o.v one cache_one (Err came)
     high_failed one cache_one came by_high = record {
       conjoined = tt;
       steps = steps_high splits growth old sound o split o.u o.v (refl, refl) law one (Some came) by_high.steps;
-      fits = by_high.fits;
-      named = by_high.named;
-      retires = by_high.retires;
       accounts = by_high.accounts;
       unretired = tt;
       kept = λ differ first second. tt;
-      remembered = by_high.remembered;
-      no_fewer = by_high.no_fewer;
-      capacity = by_high.capacity;
-      price = λ all used cover room front among. by_high.price all used (cover_high paths splits old.graph o split all cover) room front among;
+      remembers = by_high.remembers;
+      price = pricing.high_only old one before.results cache_one.results o (Some came) sound.tied.reduced split by_high.price;
       made = made_high parts growth splits old.graph sound.tied.reduced o split o.u o.v (refl, refl) one.graph by_high.made;
       reachable = tt;
       lacks = λ is. lacks_high parts growth splits old.graph sound.tied.reduced o split o.u o.v (refl, refl) one.graph (by_high.lacks is);
@@ -86,50 +79,28 @@ module _ {S : Type 0} {tells : Bool} {channel : S → Channel} {lent : S → Bes
       sound_one : IsSound one
       sound_one = by_high.steps.leaves.sound
 
-      named_one : NamesOnly (entries before) (entries cache_one) old.book.state one.book.state
-      named_one = by_high.named no_error
-
       pub split_high : AreSplit one.graph o
       split_high = splits.kept old.graph one.graph by_high.steps.extends.nodes o split
 
-      cover_low : (all : List Pair) → CoverReached old.graph o.u o.v all → CoverReached one.graph o.u_low o.v_low all
-      cover_low = cover_low_grown paths splits old.graph one.graph sound.tied.reduced by_high.steps.extends.nodes o split
-
       -- what the low side adds to the high one, however it ends
       module _ (two : TableState S) (cache_two : AndCache) (by : Answer) (by_low : Conjoins tells channel lent one cache_one o.u_low o.v_low two cache_two by) where
-        retires_both : RetiresOwn old two (entries before)
-        retires_both = RetiresOwn-further old one two (entries before) (entries cache_one) by_high.steps.extends.numbers.no_less by_high.retires named_one by_low.retires
+        accounts_both : AccountsFor old two (entries before) (entries cache_two) (error_of by)
+        accounts_both = accounts.further old one two (entries before) (entries cache_one) (entries cache_two) (error_of by) by_high.steps.extends by_low.steps.extends by_high.accounts by_low.accounts
 
-        remembered_both : (entry : Entry) → Contains (entries before) entry → Contains (entries cache_two) entry ⊎ (most_entries before ≤ length (entries cache_two))
-        remembered_both entry there =
-            still_full entry (entries cache_one) (entries cache_two) (most_entries cache_one) (most_entries before) by_high.capacity by_low.no_fewer (by_high.remembered entry there) (by_low.remembered entry)
-
-        accounts_both : Accounts one two (entries cache_one) (entries cache_two) → Accounts old two (entries before) (entries cache_two)
-        accounts_both next = Accounts-further (law.was_added one two by_low.steps.extends) (entries before) (entries cache_one) (entries cache_two) (by_high.accounts no_error) next
-
-        no_fewer_both : length (entries before) ≤ length (entries cache_two)
-        no_fewer_both = no_fewer_than (entries before) (entries cache_one) (entries cache_two) by_high.no_fewer by_low.no_fewer
+        remembers_both : Remembers entry_of before.results cache_two.results
+        remembers_both = caches.further entry_of before.results cache_one.results cache_two.results by_high.remembers by_low.remembers
 
       pub low_failed : (two : TableState S) (cache_two : AndCache) (came : TableError) → Conjoins tells channel lent one cache_one o.u_low o.v_low two cache_two (Err came)
           → Conjoins tells channel lent old before o.u o.v two cache_two (Err came)
       low_failed two cache_two came by_low = record {
         conjoined = tt;
         steps = steps_low splits growth old sound o split o.u o.v (refl, refl) law one by_high.steps two (Some came) by_low.steps;
-        fits = by_low.fits;
-        named = λ whole. NamesOnly-further (entries before) (entries cache_one) (entries cache_two) old.book.state one.book.state two.book.state by_high.steps.extends.numbers.no_less by_low.steps.extends.numbers.no_less
-            named_one (by_low.named whole);
-        retires = retires_both two cache_two (Err came) by_low;
-        accounts = λ whole. accounts_both two cache_two (Err came) by_low (by_low.accounts whole);
+        accounts = accounts_both two cache_two (Err came) by_low;
         unretired = tt;
         kept = λ differ first second. tt;
-        remembered = remembered_both two cache_two (Err came) by_low;
-        no_fewer = no_fewer_both two cache_two (Err came) by_low;
-        capacity = by_low.capacity ∙ by_high.capacity;
-        price = λ all used cover room front among.
-            let each = by_high.price all used (cover_high paths splits old.graph o split all cover) room front among in
-            let few = no_more all each.used cache_one each.in_front each.among in
-            let more = by_low.price all each.used (cover_low all cover) (omega (arith, room, by_high.capacity)) each.in_front each.among in
-            adds_both old one two (length used) (length each.used) (length all) each.no_fewer few each.adds more;
+        remembers = remembers_both two cache_two (Err came) by_low;
+        price = pricing.low_last old one two before.results cache_one.results cache_two.results o (Some came) sound.tied.reduced sound_one.tied.reduced by_high.steps.extends.nodes split by_high.remembers.capacity
+            by_high.price by_low.price;
         made = made_low parts growth splits old.graph sound.tied.reduced o split o.u o.v (refl, refl) one.graph sound_one.tied.reduced by_high.steps.extends.nodes by_high.made
             two.graph by_low.steps.extends.nodes by_low.made;
         reachable = tt;
@@ -145,23 +116,12 @@ module _ {S : Type 0} {tells : Bool} {channel : S → Channel} {lent : S → Bes
           on_low = by_low.conjoined;
         }
 
-        named_both : NamesOnly (entries before) (entries cache_two) old.book.state two.book.state
-        named_both = NamesOnly-further (entries before) (entries cache_one) (entries cache_two) old.book.state one.book.state two.book.state by_high.steps.extends.numbers.no_less by_low.steps.extends.numbers.no_less
-            named_one (by_low.named no_error)
-
-        -- two clauses for each pair that was used, these operands among them
         price_all : (three : TableState S) (cache_three : AndCache) (result : Answer) → Closes tells channel lent two cache_two o high low three cache_three result
-            → (all used : List Pair) → CoverReached old.graph o.u o.v all → length all ≤ most_entries before → StandInFront before used → AreAmong used all → Pays old three cache_three o.u o.v all used result
-        price_all three cache_three result closes all used cover room front among =
-            let each = by_high.price all used (cover_high paths splits old.graph o split all cover) room front among in
-            let more = by_low.price all each.used (cover_low all cover) (omega (arith, room, by_high.capacity)) each.in_front each.among in
-            let own = cover o.u o.v (paths.itself old.graph o.u) (paths.itself old.graph o.v) unknown.first unknown.second in
-            let unused = still_unused growth splits old.graph one.graph sound.tied.reduced sound_one.tied.reduced by_high.steps.extends.nodes o split used each.used more.used each.same_above more.same_above (unknown.unused used front) in
-            let fewer = one_left all more.used (o.u, o.v) cache_two more.in_front more.among unused own in
-            let room_two : length more.used < most_entries cache_two = omega (arith, fewer, room, by_high.capacity, by_low.capacity) in
-            paid_all old one two three cache_three o.u o.v all used each.used more.used result each.no_fewer more.no_fewer fewer each.adds more.adds closes.steps.adds (closes.used more.used more.in_front unused room_two)
-            (among_both all more.used (o.u, o.v) more.among own)
-            (above_both growth splits old.graph one.graph sound.tied.reduced sound_one.tied.reduced by_high.steps.extends.nodes o split used each.used more.used each.same_above more.same_above)
+            → Prices old before.results o.u o.v three cache_three.results (error_of result)
+        price_all three cache_three result closes =
+            pricing.closed old one two three before.results cache_one.results cache_two.results cache_three.results o (error_of result) sound.tied.reduced sound_one.tied.reduced by_high.steps.extends.nodes split
+            unknown.first unknown.second unknown.unused by_high.remembers.capacity by_low.remembers.capacity by_high.price by_low.price closes.steps.adds
+            (λ used front unused few. when_ok result (closes.used used front unused few))
 
         reached : (three : TableState S) (cache_three : AndCache) (result : Answer) → Closes tells channel lent two cache_two o high low three cache_three result
             → IfOk result (λ found. ReachesNew old.graph three.graph found.0)
@@ -175,22 +135,12 @@ module _ {S : Type 0} {tells : Bool} {channel : S → Channel} {lent : S → Bes
         closed three cache_three result closes = record {
           conjoined = closes.conjoined;
           steps = steps_both splits growth old sound o split o.u o.v (refl, refl) law one by_high.steps two three _ by_low.steps closes.steps;
-          fits = closes.fits;
-          named = λ whole. NamesOnly-further (entries before) (entries cache_two) (entries cache_three) old.book.state two.book.state three.book.state
-              (no_less old.book.state.top one.book.state.top two.book.state.top by_high.steps.extends.numbers.no_less by_low.steps.extends.numbers.no_less) closes.steps.extends.numbers.no_less
-              named_both (closes.named whole);
-          retires = RetiresOwn-further old two three (entries before) (entries cache_two)
-              (no_less old.book.state.top one.book.state.top two.book.state.top by_high.steps.extends.numbers.no_less by_low.steps.extends.numbers.no_less)
-              (retires_both two cache_two (Ok low) by_low) named_both closes.retires;
-          accounts = λ whole. Accounts-further (law.was_added two three closes.steps.extends) (entries before) (entries cache_two) (entries cache_three)
-              (accounts_both two cache_two (Ok low) by_low (by_low.accounts no_error)) (closes.accounts whole);
+          accounts = accounts.further old two three (entries before) (entries cache_two) (entries cache_three) (error_of result) (law.extend old one two by_high.steps.extends by_low.steps.extends) closes.steps.extends
+              (accounts_both two cache_two (Ok low) by_low) closes.accounts;
           unretired = closes.unretired;
           kept = λ differ first second. closes.kept;
-          remembered = λ entry there.
-              still_kept o.u o.v entry (entries before) (entries cache_two) (entries cache_three) (most_entries cache_two) (most_entries before) (by_low.capacity ∙ by_high.capacity) closes.no_fewer unknown.none there
-              (remembered_both two cache_two (Ok low) by_low entry there) (closes.others entry);
-          no_fewer = no_fewer_than (entries before) (entries cache_two) (entries cache_three) (no_fewer_both two cache_two (Ok low) by_low) closes.no_fewer;
-          capacity = closes.capacity ∙ (by_low.capacity ∙ by_high.capacity);
+          remembers = caches.makes_room entry_of before.results cache_two.results cache_three.results (o.u, o.v) (λ found. unknown.none found.node (just_numbered found.clause))
+              (remembers_both two cache_two (Ok low) by_low) closes.room;
           price = price_all three cache_three result closes;
           made = made_all parts growth splits old.graph sound.tied.reduced o split o.u o.v (refl, refl) one.graph sound_one.tied.reduced by_high.steps.extends.nodes by_high.made
               two.graph three.graph by_low.steps.leaves.sound.tied.reduced by_low.steps.extends.nodes closes.steps.extends.nodes by_low.made closes.made;
@@ -199,23 +149,3 @@ module _ {S : Type 0} {tells : Bool} {channel : S → Channel} {lent : S → Bes
               two.graph three.graph by_low.steps.extends.nodes (closes.lacks is);
           beside = closes.beside ∙ (by_low.beside ∙ by_high.beside);
         }
-
--- a table is sound, unless a write failed
-pub sound_of : {S : Type 0} (tells : Bool) (before after : Channel) (old new : TableState S) (result : Answer) → Leaves tells before after old new (error_of result) → (result ≢ Err WriteFault) → IsSound new
-sound_of tells before after old new (Ok found) leaves whole = leaves.sound
-sound_of tells before after old new (Err came) leaves whole = sound_left tells before after old new came leaves (λ is. whole (ap Err is))
-
-module _ {S : Type 0} {tells : Bool} {channel : S → Channel} {lent : S → Beside} where
-  -- the entries of other caches beside those of a call
-  pub beside_others : Fitting S → (old new : TableState S) (before after : AndCache) {u v : Node} (result : Answer) → IsSound old → IsSound new → Conjoins tells channel lent old before u v new after result
-      → (others : List Entry) → Fits old (entries before ++ others) → AreApart (entries before) others → (result ≢ Err WriteFault) → Fits new (entries after ++ others) × AreApart (entries after) others
-  beside_others fitting old new before after result sound still call others fits apart whole =
-      fitting.beside old new (entries before) (entries after) others sound still call.steps.extends call.retires (call.named whole) fits apart (call.fits whole)
-
-  -- the price by the numbers of inner nodes that the operands reach
-  pub price_called : ((entries : List (Pair × Found)) → AreInFront same_pair entries []) → (old new : TableState S) (before after : AndCache) (u v : Node) (us vs : List Node) (result : Answer)
-      → Conjoins tells channel lent old before u v new after result → HoldsReached old.graph u us → HoldsReached old.graph v vs → length us * length vs ≤ most_entries before
-      → AddsAtMost (2 * (length us * length vs)) old new
-  price_called none old new before after u v us vs result call first second room =
-      price_of old new after u v us vs result
-      (call.price (pairs_of us vs) [] (cover_of old.graph u v us vs first second) (let all = pairs_of-length us vs in omega (arith, all, room)) (none before.results.entries) (λ pair is. cc))

@@ -13,7 +13,7 @@ use Rattle.node_table.specs.declared.node.Just.TheVariants.{Trivial, Clause}
 use Rattle.node_table.specs.Table.{TableState, IsSound, IsAddedTo, IsSame, UnlessTorn, live_nodes}
 use Rattle.node_table.specs.Progress.{Leaves, Steps}
 use Rattle.node_table.specs.Laws.{StepByStep}
-use Rattle.apply_and.specs.Additions.{GivesOne, RetiresNew, given_just}
+use Rattle.operations.specs.Accounts.{GivesOne, RetiresNew, given_just}
 
 trivial : (id : ℕ) → ◌≡◌ {A = Just} Trivial (Clause id) → ⊥
 trivial id is = cc

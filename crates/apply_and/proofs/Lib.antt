@@ -7,8 +7,5 @@ pub mod Added
 pub mod HighClause
 pub mod Named
 pub mod Handed
-pub mod Pairs
-pub mod Price
-pub mod Retiring
 pub mod Calls
-pub mod OpenCalls
+pub mod Opened

@@ -11,7 +11,8 @@ use Rattle.node_table.specs.Made.{LacksPart, MakesOnly, Reaches, ReachesNew, inn
 use Rattle.node_table.specs.Laws.{Cofactors, Growth, Missing, Reachability, Subfunctions}
 use Rattle.operations.specs.declared.operands.Operands.{Operands}
 use Rattle.operations.specs.Operands.{AreSplit, Splitting}
-use Rattle.apply_and.specs.Conjunction.{conjunction_of, IsNoConstant, IsPlain}
+use Rattle.operations.specs.Pairs.{IsNoConstant}
+use Rattle.apply_and.specs.Conjunction.{conjunction_of, IsPlain}
 use Rattle.apply_and.proofs.Conjunctions.{IsReady, high_below, low_below, sides_value, value_ready}
 
 -- no conjunction of two inner nodes that differ is plain

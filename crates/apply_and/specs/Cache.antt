@@ -1,18 +1,15 @@
 -- The computed cache of conjunctions, as a list of entries, those that were used last in front. (Brace, Rudell, Bryant:
 -- Efficient Implementation of a BDD Package, DAC 1990.)
-use Rattle.std.specs.Prelude.{◌&&◌, ℕ, zero, suc, Bool, List, Option, map}
+use Rattle.std.specs.Prelude.{ℕ, zero, suc, List, Option, map}
 use Rattle.node_table.specs.declared.node.Node.{Node}
 use Rattle.node_table.specs.declared.node.Just.{Just}
 use Rattle.node_table.specs.declared.node.Just.TheVariants.{Trivial, Clause}
-use Rattle.node_table.specs.contracts.node.NodePartialEq.TheImpl as node_equality
-use Rattle.op_cache.specs.Laws.{AreInFront, is_among}
-use Rattle.operations.specs.Caches.{IsOfKey, KeepsEntry, LeavesEntries, with_key}
+use Rattle.op_cache.specs.Laws.{AreInFront}
+use Rattle.operations.specs.Caches.{KeepsEntry, LeavesEntries, with_key}
 use Rattle.operations.specs.Entries.{Entry, Conjunction}
+pub use Rattle.operations.specs.Pairs.{Pair, is_one, same_pair}
 use Rattle.apply_and.specs.declared.cache.AndCache.{AndCache}
 use Rattle.apply_and.specs.declared.cache.Found.{Found}
-
-abbrev pub Pair : Type 0
-Pair = Node × Node
 
 -- why a conjunction holds, by the number of its clause; 0 stands for none
 abbrev pub just_numbered : ℕ → Just
@@ -29,18 +26,6 @@ entries cache = map entry_of cache.results.entries
 -- how many entries there may be
 abbrev pub most_entries : AndCache → ℕ
 most_entries cache = cache.results.capacity
-
--- the entry is of these operands
-abbrev pub HasOperands : Entry → Node → Node → Type 0
-HasOperands entry u v = IsOfKey entry_of (u, v) entry
-
--- Whether two pairs of operands are the same.
-abbrev pub same_pair : Pair → Pair → Bool
-same_pair one other = node_equality.ghosts.eq one.0 other.0 && node_equality.ghosts.eq one.1 other.1
-
--- the pair is one of these
-abbrev pub is_one : List Pair → Pair → Bool
-is_one pairs pair = is_among same_pair pairs pair
 
 -- the entries of these pairs stand in front
 abbrev pub StandInFront : AndCache → List Pair → Type 0

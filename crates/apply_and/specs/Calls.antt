@@ -1,26 +1,29 @@
--- A whole call of a conjunction, however it ends: as one relation, from which the calls around it go on. Beside it what a
--- look-up answers, and the last step of a call that was split.
-use Rattle.std.specs.Prelude.{◌≡◌, ◌≢◌, ◌≤◌, ◌<◌, ◌⊎◌, ◌∷◌, ℕ, Bool, List, Option, None, Some, Result, Ok, Err, Contains, IfOk, IsFalse, length}
+-- A whole call of a conjunction, however it ends: as one relation, from which the calls around it go on. Beside it the last
+-- step of a call that was split, and the operation of both.
+use Rattle.std.specs.Prelude.{◌≡◌, ◌≢◌, ◌<◌, ◌∷◌, ℕ, Bool, List, Some, Result, Ok, Err, Contains, IfOk, IsFalse, IsTrue, length, min}
 use Rattle.host_io.specs.Channel.{Channel}
 use Rattle.host_io.specs.Beside.{Beside}
 use Rattle.node_table.specs.declared.error.TableError.{TableError}
 use Rattle.node_table.specs.declared.error.TableError.TheVariants.{NodeLimit}
 use Rattle.node_table.specs.declared.node.Node.{Node}
 use Rattle.node_table.specs.declared.node.Just.{Just}
-use Rattle.node_table.specs.declared.node.Just.TheVariants.{Clause}
-use Rattle.node_table.specs.Table.{TableState, HasChildren, UnlessTorn}
+use Rattle.node_table.specs.declared.node.Just.TheVariants.{Trivial, Clause}
+use Rattle.node_table.specs.Diagram.{is_node, level_of}
+use Rattle.node_table.specs.Table.{TableState, IsSound, HasChildren}
 use Rattle.node_table.specs.Made.{LacksPart, MakesOnly, ReachesNew}
 use Rattle.node_table.specs.Progress.{Steps, error_of}
 use Rattle.operations.specs.declared.operands.Operands.{Operands}
-use Rattle.operations.specs.Operands.{levels_from}
+use Rattle.operations.specs.Operands.{AreSplit, levels_from}
+use Rattle.operations.specs.Machine.{Calls}
 use Rattle.operations.specs.Results.{Conjoined}
-use Rattle.operations.specs.Entries.{Entry, Accounts, Conjunction, Fits, NamesOnly, RetiresOwn}
+use Rattle.operations.specs.Accounts.{AccountsFor}
+use Rattle.operations.specs.Caches.{MakesRoom, Remembers}
+use Rattle.operations.specs.Entries.{Conjunction, Fits, HaveSame}
+use Rattle.operations.specs.Pairs.{IsNoConstant}
+use Rattle.operations.specs.Price.{Prices}
 use Rattle.apply_and.specs.declared.cache.AndCache.{AndCache}
-use Rattle.apply_and.specs.declared.frames.Turn.{Turn}
-use Rattle.apply_and.specs.declared.frames.Turn.TheVariants.{Open, Give}
-use Rattle.apply_and.specs.Conjunction.{IsNoConstant, conjunction_of, most_additions}
-use Rattle.apply_and.specs.Cache.{HasOperands, Pair, StandInFront, entries, is_one, most_entries}
-use Rattle.apply_and.specs.Price.{AreAmong, CoverReached, Pays}
+use Rattle.apply_and.specs.Conjunction.{IsPlain, conjunction_of, most_additions}
+use Rattle.apply_and.specs.Cache.{Pair, StandInFront, entries, entry_of, is_one, most_entries}
 
 -- The call for u and v began with this table and this cache, and ended with those and this result: what it found, made,
 -- kept and retired, and how many clauses it added.
@@ -28,16 +31,11 @@ pub record Conjoins {S : Type 0} (tells : Bool) (channel : S → Channel) (lent 
     (result : Result (Node × Just) TableError) : Type 0 where
   pub conjoined : IfOk result (λ found. Conjoined new.graph new.book.state.live u v found.0 found.1)
   pub steps : Steps tells (channel old.book.sink) (channel new.book.sink) old new (most_additions (levels_from old.graph u v)) (error_of result)
-  pub fits : UnlessTorn result (Fits new (entries after))
-  pub named : UnlessTorn result (NamesOnly (entries before) (entries after) old.book.state new.book.state)
-  pub retires : RetiresOwn old new (entries before)
-  pub accounts : UnlessTorn result (Accounts old new (entries before) (entries after))
+  pub accounts : AccountsFor old new (entries before) (entries after) (error_of result)
   pub unretired : IfOk result (λ found. (id : ℕ) → found.1 ≡ Clause id → Contains new.retired id → ⊥)
   pub kept : u ≢ v → IsNoConstant u → IsNoConstant v → IfOk result (λ found. Contains (entries after) (Conjunction u v found.0 found.1))
-  pub remembered : (entry : Entry) → Contains (entries before) entry → Contains (entries after) entry ⊎ (most_entries before ≤ length (entries after))
-  pub no_fewer : length (entries before) ≤ length (entries after)
-  pub capacity : most_entries after ≡ most_entries before
-  pub price : (all used : List Pair) → CoverReached old.graph u v all → length all ≤ most_entries before → StandInFront before used → AreAmong used all → Pays old new after u v all used result
+  pub remembers : Remembers entry_of before.results after.results
+  pub price : Prices old before.results u v new after.results (error_of result)
   pub made : MakesOnly old.graph new.graph (conjunction_of old.graph u v)
   pub reachable : IfOk result (λ found. ReachesNew old.graph new.graph found.0)
   pub lacks : result ≡ Err NodeLimit → LacksPart new.graph (conjunction_of old.graph u v)
@@ -48,28 +46,16 @@ pub record Closes {S : Type 0} (tells : Bool) (channel : S → Channel) (lent : 
     (result : Result (Node × Just) TableError) : Type 0 where
   pub conjoined : IfOk result (λ found. Conjoined new.graph new.book.state.live o.u o.v found.0 found.1)
   pub steps : Steps tells (channel old.book.sink) (channel new.book.sink) old new 2 (error_of result)
-  pub fits : UnlessTorn result (Fits new (entries after))
-  pub named : UnlessTorn result (NamesOnly (entries before) (entries after) old.book.state new.book.state)
-  pub retires : RetiresOwn old new (entries before)
-  pub accounts : UnlessTorn result (Accounts old new (entries before) (entries after))
+  pub accounts : AccountsFor old new (entries before) (entries after) (error_of result)
   pub unretired : IfOk result (λ found. (id : ℕ) → found.1 ≡ Clause id → Contains new.retired id → ⊥)
   pub kept : IfOk result (λ found. Contains (entries after) (Conjunction o.u o.v found.0 found.1))
-  pub others : (entry : Entry) → Contains (entries before) entry → Contains (entries after) entry ⊎ (HasOperands entry o.u o.v ⊎ (most_entries before ≤ length (entries before)))
-  pub no_fewer : length (entries before) ≤ length (entries after)
-  pub capacity : most_entries after ≡ most_entries before
+  pub room : MakesRoom entry_of before.results after.results (o.u, o.v)
   pub used : (used : List Pair) → StandInFront before used → IsFalse (is_one used (o.u, o.v)) → length used < most_entries before → IfOk result (λ found. StandInFront after ((o.u, o.v) ∷ used))
   pub children : IfOk result (λ found. HasChildren new.graph o.level high.0 low.0 found.0)
   pub made : MakesOnly old.graph new.graph (conjunction_of old.graph o.u o.v)
   pub reachable : IfOk result (λ found. ReachesNew old.graph new.graph found.0)
   pub lacks : result ≡ Err NodeLimit → LacksPart new.graph (conjunction_of old.graph o.u o.v)
   pub beside : lent new.book.sink ≡ lent old.book.sink
-
--- A clause is retired, if one is given, and nothing else.
-pub record RetiresOne {S : Type 0} (tells : Bool) (channel : S → Channel) (old new : TableState S) (given : Option ℕ) : Type 0 where
-  pub steps : Steps tells (channel old.book.sink) (channel new.book.sink) old new 0 None
-  pub same : new ≡ record old { retired = new.retired }
-  pub only : (id : ℕ) → Contains new.retired id → Contains old.retired id ⊎ (given ≡ Some id)
-  pub retired : (id : ℕ) → given ≡ Some id → Contains new.retired id
 
 -- No plain pair, and no entry has it, so that it isn't one of those that stand in front.
 pub record IsUnknown (cache : AndCache) (u v : Node) : Type 0 where
@@ -79,8 +65,37 @@ pub record IsUnknown (cache : AndCache) (u v : Node) : Type 0 where
   pub none : (w : Node) (just : Just) → Contains (entries cache) (Conjunction u v w just) → ⊥
   pub unused : (used : List Pair) → StandInFront cache used → IsFalse (is_one used (u, v))
 
--- What is to be done with a call: it is to be opened, and nothing changed, or it is answered, and nothing changed in the
--- table.
-abbrev pub IsAnswer : {S : Type 0} → Bool → (S → Channel) → (S → Beside) → TableState S → AndCache → AndCache → Node → Node → Turn → Type 0
-IsAnswer tells channel lent table before after u v (Open a b) = (a ≡ u) × (b ≡ v) × (after ≡ before) × IsUnknown before u v
-IsAnswer tells channel lent table before after u v (Give found) = Conjoins tells channel lent table before u v table after (Ok found)
+-- What a call may begin with.
+pub record CanConjoin {S : Type 0} (table : TableState S) (cache : AndCache) (u v : Node) : Type 0 where
+  pub sound : IsSound table
+  pub first : IsTrue (is_node table.graph u)
+  pub second : IsTrue (is_node table.graph v)
+  pub fits : Fits table (entries cache)
+
+-- What the last step may begin with: the results of both sides.
+pub record CanClose {S : Type 0} (table : TableState S) (cache : AndCache) (o : Operands) (high low : Node × Just) : Type 0 where
+  pub sound : IsSound table
+  pub fits : Fits table (entries cache)
+  pub split : AreSplit table.graph o
+  pub on_high : Conjoined table.graph table.book.state.live o.u_high o.v_high high.0 high.1
+  pub on_low : Conjoined table.graph table.book.state.live o.u_low o.v_low low.0 low.1
+
+-- A call, and what a plain pair and one that is kept are answered.
+pub record Answers {S : Type 0} (tells : Bool) (channel : S → Channel) (lent : S → Beside) (old : TableState S) (before : AndCache) (u v : Node) (new : TableState S) (after : AndCache)
+    (result : Result (Node × Just) TableError) : Type 0 where
+  pub call : Conjoins tells channel lent old before u v new after result
+  pub known : (w : Node) (just : Just) → Contains (entries before) (Conjunction u v w just) → (result ≡ Ok (w, just)) × (new ≡ old) × HaveSame (entries before) (entries after)
+  pub plain : (w : Node) → IsPlain u v w → (result ≡ Ok (w, Trivial)) × (new ≡ old) × (after ≡ before)
+
+-- The conjunction as an operation on diagrams: a pair is split into that of its high cofactors and that of its low ones.
+abbrev pub conjunctions : {S : Type 0} → Bool → (S → Channel) → (S → Beside) → Calls S AndCache Pair Operands (Node × Just)
+conjunctions tells channel lent = record {
+  can = λ table cache pair. CanConjoin table cache pair.0 pair.1;
+  ends = λ old before pair new after result. Answers tells channel lent old before pair.0 pair.1 new after result;
+  can_close = CanClose;
+  closes = Closes tells channel lent;
+  high = λ o. (o.u_high, o.v_high);
+  low = λ o high. Some (o.u_low, o.v_low);
+  level = λ o. o.level;
+  floor = λ table pair. min (level_of table.graph pair.0) (level_of table.graph pair.1);
+}

@@ -1,6 +1,6 @@
 -- What is asked of a conjunction, and what it may cost. (Bryant, Heule: Generating Extended Resolution Proofs with a
 -- BDD-Based SAT Solver, 2021, section 4.2.)
-use Rattle.std.specs.Prelude.{◌≡◌, ◌≢◌, ◌⊎◌, ◌&&◌, ◌+◌, ℕ, zero, suc, Bool}
+use Rattle.std.specs.Prelude.{◌≡◌, ◌⊎◌, ◌&&◌, ◌+◌, ℕ, zero, suc, Bool}
 use Rattle.node_table.specs.declared.node.Node.{Node}
 use Rattle.node_table.specs.declared.node.Node.TheVariants.{False, True}
 use Rattle.node_table.specs.Diagram.{Graph}
@@ -13,10 +13,6 @@ conjunction_of graph u v a = value_of graph a u && value_of graph a v
 -- The conjunction w of a constant with a node, or of a node with itself.
 abbrev pub IsPlain : Node → Node → Node → Type 0
 IsPlain u v w = (((u ≡ False) ⊎ (v ≡ False)) × (w ≡ False)) ⊎ (((u ≡ True) × (w ≡ v)) ⊎ (((v ≡ True) × (w ≡ u)) ⊎ ((u ≡ v) × (w ≡ u))))
-
--- an inner node of some graph
-abbrev pub IsNoConstant : Node → Type 0
-IsNoConstant node = (node ≢ False) × (node ≢ True)
 
 -- The most clauses that a conjunction may add over so many levels, whatever the cache holds: two for each pair of nodes
 -- that it may come to.

@@ -15,7 +15,8 @@ ghost use Rattle.node_table.specs.Just.{IsJustified};
 ghost use Rattle.node_table.specs.Progress.{Steps, error_of};
 ghost use Rattle.operations.specs.Operands.{AreSplit};
 ghost use Rattle.operations.specs.Results.{conjunction_atoms};
-ghost use Rattle.apply_and.specs.Additions.{AreSides, IsSide, GivesOne, RetiresNew, given_just};
+ghost use Rattle.operations.specs.Accounts.{GivesOne, RetiresNew, given_just};
+ghost use Rattle.apply_and.specs.Additions.{AreSides, IsSide};
 ghost use Rattle.operations.specs.Entries.{IsNewJust};
 ghost use Rattle.operations.specs.declared.parts.Side.TheVariants.{High, Low};
 

@@ -1,36 +1,36 @@
 // The conjunction of two nodes, by their cofactors at the earlier of their variables. (Bryant: Graph-Based Algorithms
 // for Boolean Function Manipulation, 1986, section 4.3: apply.)
-ghost use Rattle.std.specs.Prelude.{◌≡◌, ◌≢◌, ◌↔◌, ◌⊎◌, ◌≤◌, ◌*◌, ◌++◌, ℕ, List, Ok, Err, Contains, IsTrue, IfOk, IfSome, MatchOption, Some, length};
+ghost use Rattle.std.specs.Prelude.{◌≡◌, ◌≢◌, ◌↔◌, ◌⊎◌, ◌≤◌, ◌*◌, ◌++◌, ℕ, List, Ok, Err, Contains, IsTrue, IfOk, IfSome, MatchOption, None, Some, length};
 ghost use Rattle.lrat_rules.specs.State.{Live};
 ghost use Rattle.node_table.specs.declared.error.TableError.TheVariants.{NodeLimit};
 ghost use Rattle.node_table.specs.declared.node.Node.{Node as NodeValue};
 ghost use Rattle.node_table.specs.declared.node.Just.{Just as JustValue};
 ghost use Rattle.node_table.specs.declared.node.Just.TheVariants.{Trivial, Clause};
 ghost use Rattle.node_table.specs.Diagram.{Graph, is_node};
-ghost use Rattle.node_table.specs.Table.{IsSound, IsAddedTo, AddsAtMost, HasChildren, UnlessTorn};
+ghost use Rattle.node_table.specs.Table.{IsSound, AddsAtMost, HasChildren, UnlessTorn};
 ghost use Rattle.node_table.specs.Made.{LacksPart, MakesOnly, ReachesNew};
 ghost use Rattle.node_table.specs.Progress.{Steps, error_of};
 ghost use Rattle.operations.specs.Operands.{AreSplit, levels_from};
 ghost use Rattle.operations.specs.Results.{Conjoined};
 ghost use Rattle.operations.specs.Entries.{Entry, Accounts, AreApart, Conjunction, Fits, HaveSame, IsNewJust, NamesOnly, RetiresOwn};
-ghost use Rattle.apply_and.specs.Conjunction.{IsNoConstant, IsPlain, conjunction_of, most_additions};
-ghost use Rattle.apply_and.specs.Additions.{GivesOne, RetiresNew, found_just};
-ghost use Rattle.apply_and.specs.Cache.{IsLooked, entries, most_entries};
-ghost use Rattle.apply_and.specs.Price.{HoldsReached};
-ghost use Rattle.apply_and.specs.Calls.{Closes, Conjoins, IsAnswer, IsUnknown, RetiresOne};
-ghost use Rattle.apply_and.specs.declared.frames.Turn.TheVariants.{Give};
+ghost use Rattle.operations.specs.Accounts.{GivesOne, RetiresNew, found_just};
+ghost use Rattle.operations.specs.Pairs.{IsNoConstant};
+ghost use Rattle.operations.specs.Price.{HoldsReached};
+ghost use Rattle.apply_and.specs.Conjunction.{IsPlain, conjunction_of, most_additions};
+ghost use Rattle.apply_and.specs.Cache.{entries, most_entries};
+ghost use Rattle.apply_and.specs.Calls.{Answers, CanConjoin, IsUnknown, conjunctions};
 
 use crate::additions::justify;
 use crate::cache::{AndCache, Found};
-use crate::frames::{Frame, Turn, pop, push};
-use cnf_base::Id;
 use host_io::Sink;
 use node_table::{
     Just, Node, Table, TableError, canonical_law, cofactor_law, growth_law, missing_law, reach_law,
     steps_law, subfunction_law,
 };
-use op_cache::front_law;
-use operations::{Operands, entry_law, operand_law, split};
+use operations::{
+    Operands, Operation, Reply, accounts_law, cache_law, clause_of, entry_law, operand_law,
+    price_law, retire, split, work_off,
+};
 use std::alloc::Global;
 
 /// The conjunction of two nodes, and why its clause holds. Nodes and clauses that were there stay; what was made before
@@ -76,142 +76,106 @@ pub fn and<S: Sink + Drop>(
     ensures lacks { result ≡ Err NodeLimit → LacksPart table.new.graph (conjunction_of table.old.graph u v) }
     ensures beside { S.beside table.new.book.sink ≡ S.beside table.old.book.sink }
 {
-    entry_law::<S>();
+    accounts_law::<S>();
     steps_law::<S>();
-    front_law::<(Node, Node), Found>();
-    match ask(table, cache, u, v) {
-        Turn::Give(found) => Ok(found),
-        Turn::Open(..) => conjoin(table, cache, u, v),
+    price_law::<S, Found>();
+    work_off::<S, AndOperation>(table, cache, (u, v))
+}
+
+/// The conjunction as an operation on diagrams.
+struct AndOperation;
+
+impl<S: Sink + Drop> Operation<S> for AndOperation {
+    type Cache = AndCache;
+
+    type Question = (Node, Node);
+
+    type Parts = Operands;
+
+    type Answer = (Node, Just);
+
+    ghost calls = { conjunctions S.tells S.channel S.beside };
+
+    fn alloc(cache: &AndCache) -> Global {
+        cache.alloc()
+    }
+
+    fn ask(
+        table: &mut Table<S>,
+        cache: &mut AndCache,
+        question: (Node, Node),
+    ) -> Result<Reply<Operands, (Node, Just)>, TableError> {
+        steps_law::<S>();
+        accounts_law::<S>();
+        cache_law::<(Node, Node), Found>();
+        price_law::<S, Found>();
+        entry_law::<S>();
+        operand_law();
+        growth_law();
+        subfunction_law();
+        reach_law();
+        let (u, v) = question;
+        match answer(table, cache, u, v) {
+            Some(found) => Ok(Reply::Give(found)),
+            None => Ok(Reply::Open(split(table, u, v))),
+        }
+    }
+
+    fn high(operands: &Operands) -> (Node, Node) {
+        (operands.u_high, operands.v_high)
+    }
+
+    fn low(operands: &Operands, _high: &(Node, Just)) -> Option<(Node, Node)> {
+        Some((operands.u_low, operands.v_low))
+    }
+
+    // The conjunction is kept. The clause that no entry names any more is retired.
+    fn close(
+        table: &mut Table<S>,
+        cache: &mut AndCache,
+        operands: &Operands,
+        high: &(Node, Just),
+        low: &(Node, Just),
+    ) -> Result<(Node, Just), TableError> {
+        steps_law::<S>();
+        accounts_law::<S>();
+        operand_law();
+        growth_law();
+        let found = finish(cache.alloc(), table, operands, high, low)?;
+        match cache.keep(operands.u, operands.v, &found) {
+            Ok(given) => {
+                retire(table, given);
+                Ok(found)
+            }
+            Err(_) => {
+                retire(table, clause_of(&found.1));
+                Err(TableError::OutOfMemory)
+            }
+        }
     }
 }
 
-// What is next for a call: its answer, where it is a plain pair or is kept, or else that it is opened.
-fn ask<S: Sink + Drop>(table: &Table<S>, cache: &mut AndCache, u: Node, v: Node) -> Turn
-    requires sound { IsSound table.now }
-    requires first { IsTrue (is_node table.now.graph u) }
-    requires second { IsTrue (is_node table.now.graph v) }
-    requires fits { Fits table.now (entries cache.old) }
-    ensures answer { IsAnswer S.tells S.channel S.beside table.now cache.old cache.new u v result }
-    ensures looked { IsLooked cache.old cache.new }
-    ensures known { (w : NodeValue) (just : JustValue) → Contains (entries cache.old) (Conjunction u v w just) → result ≡ Give (w, just) }
-    ensures plain { (w : NodeValue) → IsPlain u v w → (result ≡ Give (w, Trivial)) × (cache.new ≡ cache.old) }
+// The conjunction of a plain pair, and one that is kept.
+fn answer<S: Sink + Drop>(
+    table: &Table<S>,
+    cache: &mut AndCache,
+    u: Node,
+    v: Node,
+) -> Option<(Node, Just)>
+    requires can { CanConjoin table.now cache.old u v }
+    ensures answers { IfSome result (λ found. Answers S.tells S.channel S.beside table.now cache.old u v table.now cache.new (Ok found)) }
+    ensures unknown { result ≡ None → (cache.new ≡ cache.old) × IsUnknown cache.old u v }
 {
     steps_law::<S>();
-    entry_law::<S>();
+    accounts_law::<S>();
+    price_law::<S, Found>();
     subfunction_law();
     reach_law();
     canonical_law();
     if let Some(w) = plain(u, v) {
-        return Turn::Give((w, Just::Trivial));
+        return Some((w, Just::Trivial));
     }
-    if let Some(found) = cache.look(u, v) {
-        return Turn::Give(found);
-    }
-    Turn::Open(u, v)
-}
-
-// The conjunction of two nodes whose answer isn't known. Each call inside it stands on a stack of frames while it is
-// open, so that deep diagrams take no more of the machine's stack than flat ones.
-fn conjoin<S: Sink + Drop>(
-    table: &mut Table<S>,
-    cache: &mut AndCache,
-    u: Node,
-    v: Node,
-) -> Result<(Node, Just), TableError>
-    requires sound { IsSound table.old }
-    requires first { IsTrue (is_node table.old.graph u) }
-    requires second { IsTrue (is_node table.old.graph v) }
-    requires fits { Fits table.old (entries cache.old) }
-    requires unknown { IsUnknown cache.old u v }
-    ensures { Conjoins S.tells S.channel S.beside table.old cache.old u v table.new cache.new result }
-{
-    steps_law::<S>();
-    entry_law::<S>();
-    operand_law();
-    growth_law();
-    subfunction_law();
-    reach_law();
-    let mut frames: Vec<Frame> = Vec::new(cache.alloc());
-    let mut turn = Turn::Open(u, v);
-    'calls: loop {
-        match turn {
-            Turn::Open(u, v) => {
-                let operands = split(table, u, v);
-                push(&mut frames, operands, None)?;
-                turn = ask(table, cache, operands.u_high, operands.v_high);
-            }
-            Turn::Give(found) => {
-                let Some(frame) = pop(&mut frames) else {
-                    return Ok(found);
-                };
-                let operands = frame.operands;
-                let high = frame.high;
-                match high {
-                    None => {
-                        push(&mut frames, operands, Some(found))?;
-                        turn = ask(table, cache, operands.u_low, operands.v_low);
-                    }
-                    Some(high) => turn = Turn::Give(close(table, cache, &operands, &high, &found)?),
-                }
-            }
-        }
-    }
-}
-
-// The conjunction from the results of its two sides; it is kept. The clause that no entry names any more is retired.
-fn close<S: Sink + Drop>(
-    table: &mut Table<S>,
-    cache: &mut AndCache,
-    operands: &Operands,
-    high: &(Node, Just),
-    low: &(Node, Just),
-) -> Result<(Node, Just), TableError>
-    requires sound { IsSound table.old }
-    requires fits { Fits table.old (entries cache.old) }
-    requires split { AreSplit table.old.graph operands.now }
-    requires high { Conjoined table.old.graph table.old.book.state.live operands.now.u_high operands.now.v_high high.now.0 high.now.1 }
-    requires low { Conjoined table.old.graph table.old.book.state.live operands.now.u_low operands.now.v_low low.now.0 low.now.1 }
-    ensures { Closes S.tells S.channel S.beside table.old cache.old operands.now high.now low.now table.new cache.new result }
-{
-    steps_law::<S>();
-    entry_law::<S>();
-    operand_law();
-    growth_law();
-    let found = finish(cache.alloc(), table, operands, high, low)?;
-    match cache.keep(operands.u, operands.v, &found) {
-        Ok(given) => {
-            retire(table, given);
-            Ok(found)
-        }
-        Err(_) => {
-            retire(table, clause_of(&found.1));
-            Err(TableError::OutOfMemory)
-        }
-    }
-}
-
-// Retires a clause, if one is given.
-fn retire<S: Sink + Drop>(table: &mut Table<S>, clause: Option<Id>)
-    requires sound { IsSound table.old }
-    requires own { (id : ℕ) → clause ≡ Some id → IsAddedTo table.old id }
-    requires unretired { (id : ℕ) → clause ≡ Some id → Contains table.old.retired id → ⊥ }
-    ensures one { RetiresOne S.tells S.channel table.old table.new clause }
-    ensures beside { S.beside table.new.book.sink ≡ S.beside table.old.book.sink }
-{
-    steps_law::<S>();
-    if let Some(id) = clause {
-        table.retire(id);
-    }
-}
-
-// The clause that a justification names.
-fn clause_of(just: &Just) -> Option<Id>
-    ensures { MatchOption result (just.now ≡ Trivial) (λ id. just.now ≡ Clause id) }
-{
-    match just {
-        Just::Trivial => None,
-        Just::Clause(id) => Some(*id),
-    }
+    cache.look(u, v)
 }
 
 // The conjunction of two nodes of which one is a constant, or which are the same.
@@ -252,6 +216,7 @@ fn finish<S: Sink + Drop>(
     ensures beside { S.beside table.new.book.sink ≡ S.beside table.old.book.sink }
 {
     steps_law::<S>();
+    accounts_law::<S>();
     entry_law::<S>();
     operand_law();
     cofactor_law();

@@ -6,7 +6,6 @@
 mod additions;
 mod cache;
 mod conjoin;
-mod frames;
 
 pub use cache::AndCache;
 pub use conjoin::and;

@@ -2,15 +2,18 @@
 ghost use Rattle.std.specs.Prelude.{◌≡◌, ◌≢◌, ◌<◌, ◌≤◌, [], length, OnOk};
 ghost use Rattle.cnf_base.specs.Truth.{AreClausesOf};
 ghost use Rattle.node_table.specs.Diagram.{IsOrder};
-ghost use Rattle.node_table.specs.Table.{IsSound};
+ghost use Rattle.node_table.specs.Table.{IsSound, TableState};
 ghost use Rattle.operations.specs.Entries.{Fits};
 ghost use Rattle.apply_and.specs.Cache.{entries};
+ghost use Rattle.diagram_tests.specs.declared.support.ProofText.{ProofText as ProofTextValue};
 
+use crate::checked::expect_good_lines;
 use crate::script::{conjoin, end_of, no_entries, play, play_over, told};
 use crate::support::{ProofText, is_known, make, open, order, room_of};
 use apply_and::AndCache;
 use cnf_base::{Cnf, CnfBuilder};
 use node_table::{Node, Table, TableError};
+use operations::entry_law;
 use std::alloc::Global;
 use std::process::Abort;
 use std::test::Fail;
@@ -93,7 +96,7 @@ fn value(table: &Table<ProofText>, node: Node, values: &[bool]) -> bool {
     is_known(table, node) && table.value(node, values)
 }
 
-// Conjoins two nodes into the third one.
+// Conjoins two nodes into the third one, and deletes the clauses that were retired.
 fn expect_conjunction(
     rt: &impl Abort,
     table: &mut Table<ProofText>,
@@ -107,12 +110,13 @@ fn expect_conjunction(
     ensures sound { OnOk result (IsSound table.new) }
     ensures fits { OnOk result (Fits table.new (entries cache.new)) }
 {
+    entry_law::<ProofText>();
     let (w, _) = conjoin(rt, table, cache, u, v)?;
     assert!(rt;
         w == expected && is_conjunction(table, u, v, w),
         "{u:?} {v:?}"
     );
-    Ok(())
+    table.settle()
 }
 
 // The nodes of all functions of two variables, by their rows.
@@ -137,20 +141,27 @@ fn node_at(nodes: &[Node], row: usize) -> Node {
     }
 }
 
-// Each pair of functions of two variables, whose conjunction is the node of the function.
-fn each_pair(rt: &impl Abort, alloc: Global, reversed: bool) -> Result<(), Fail> {
+// Each pair of functions of two variables, whose conjunction is the node of the function, with one cache for all of them.
+fn each_pair(rt: &impl Abort, alloc: Global, reversed: bool, capacity: u32) -> Result<(), Fail> {
     let formula = no_clauses(alloc, 2);
     let room = room_of("100 10000, 100000 999")?;
     let mut table = open(alloc, &formula, &order(reversed), &room)?;
-    each_pair_on(rt, alloc, &mut table)
+    each_pair_on(rt, alloc, &mut table, capacity)?;
+    expect_good_lines(rt, alloc, &formula, table)
 }
 
-fn each_pair_on(rt: &impl Abort, alloc: Global, table: &mut Table<ProofText>) -> Result<(), Fail>
+fn each_pair_on(
+    rt: &impl Abort,
+    alloc: Global,
+    table: &mut Table<ProofText>,
+    capacity: u32,
+) -> Result<(), Fail>
     requires sound { IsSound table.old }
 {
+    assert!(rt; 1 <= capacity);
     let mut nodes = Vec::new(alloc);
     all_functions(rt, table, &mut nodes)?;
-    let mut cache = no_entries(alloc)?;
+    let mut cache = no_entries(alloc, capacity)?;
     each_pair_of(rt, table, &mut cache, nodes.as_slice())
 }
 
@@ -178,11 +189,15 @@ fn each_pair_of(
     Ok(())
 }
 
-/// All pairs of functions of two variables, in both orders.
+/// All pairs of functions of two variables, in both orders, with a cache of one entry, of two, and of all. The checker
+/// finds each line good, the deletions between them too.
 #[test]
 fn all_pairs(rt: HostRuntime) -> Result<(), Fail> {
-    each_pair(&rt, rt.alloc(), false)?;
-    each_pair(&rt, rt.alloc(), true)
+    for capacity in [1, 2, 1_000] {
+        each_pair(&rt, rt.alloc(), false, capacity)?;
+        each_pair(&rt, rt.alloc(), true, capacity)?;
+    }
+    Ok(())
 }
 
 // The order of three variables that three digits write; the natural one where another text is given.
@@ -230,14 +245,16 @@ fn expect_pair(
     rt: &impl Abort,
     alloc: Global,
     table: &mut Table<ProofText>,
+    capacity: u32,
     first: usize,
     second: usize,
 ) -> Result<(), TableError>
     requires sound { IsSound table.old }
     ensures sound { OnOk result (IsSound table.new) }
 {
+    assert!(rt; 1 <= capacity);
     let [u, v, w] = three_functions(rt, table, first, second)?;
-    let mut cache = no_entries(alloc)?;
+    let mut cache = no_entries(alloc, capacity)?;
     expect_conjunction(rt, table, &mut cache, u, v, w)
 }
 
@@ -258,23 +275,87 @@ fn function_row(place: usize) -> usize {
     }
 }
 
-fn each_pair_of_three(rt: &impl Abort, alloc: Global, digits: &str) -> Result<(), Fail> {
+fn each_pair_of_three(
+    rt: &impl Abort,
+    alloc: Global,
+    digits: &str,
+    capacity: u32,
+) -> Result<(), Fail> {
     let formula = no_clauses(alloc, 3);
     let room = room_of("1000 100000, 100000 999")?;
     let mut table = open(alloc, &formula, &order_of_three(digits), &room)?;
     for pair in 0..100_usize {
         let first = function_row(pair / 10);
         let second = function_row(pair % 10);
-        expect_pair(rt, alloc, &mut table, first, second)?;
+        expect_pair(rt, alloc, &mut table, capacity, first, second)?;
+    }
+    expect_good_lines(rt, alloc, &formula, table)
+}
+
+/// Pairs of functions of three variables, in each order, and with caches of one entry and of two.
+#[test]
+fn pairs_of_three(rt: HostRuntime) -> Result<(), Fail> {
+    for digits in "123 132 213 231 312 321".split_whitespace() {
+        each_pair_of_three(&rt, rt.alloc(), digits, 1_000)?;
+    }
+    for capacity in [1, 2] {
+        each_pair_of_three(&rt, rt.alloc(), "231", capacity)?;
     }
     Ok(())
 }
 
-/// Pairs of functions of three variables, in each order.
+// How many clauses the conjunction of two functions adds beside those of nodes. Its own nodes stand before, so that it
+// makes none.
+fn additions(
+    rt: &impl Abort,
+    table: &mut Table<ProofText>,
+    cache: &mut AndCache,
+    first: usize,
+    second: usize,
+) -> Result<u64, Fail>
+    requires sound { IsSound table.old }
+    requires fits { (any : TableState ProofTextValue) → Fits any (entries cache.old) }
+{
+    let [u, v, w] = three_functions(rt, table, first, second)?;
+    let (nodes, last) = (table.live(), table.ledger().last_id());
+    expect_conjunction(rt, table, cache, u, v, w)?;
+    assert_eq!(rt; table.live(), nodes, "{first} {second}");
+    Ok(table.ledger().last_id().saturating_sub(last))
+}
+
+// At most two clauses for each of so many pairs of inner nodes, where the cache has room for all of these.
+fn expect_price(
+    rt: &impl Abort,
+    alloc: Global,
+    first: usize,
+    second: usize,
+    pairs: u32,
+) -> Result<(), Fail> {
+    assert!(rt; 1 <= pairs);
+    let formula = no_clauses(alloc, 3);
+    let room = room_of("100 1000, 1000 999")?;
+    let mut table = open(alloc, &formula, &three(1, 2, 3), &room)?;
+    let mut cache = no_entries(alloc, pairs)?;
+    let additions = additions(rt, &mut table, &mut cache, first, second)?;
+    assert!(rt;
+        additions <= 2 * u64::from(pairs),
+        "{first} {second}: {additions}"
+    );
+    Ok(())
+}
+
+/// A variable and its negation, each of one inner node; parity and its negation, of five each, of which five pairs meet;
+/// parity and majority, of four, of which four pairs meet, one of them twice.
 #[test]
-fn pairs_of_three(rt: HostRuntime) -> Result<(), Fail> {
-    for digits in "123 132 213 231 312 321".split_whitespace() {
-        each_pair_of_three(&rt, rt.alloc(), digits)?;
+fn prices(rt: HostRuntime) -> Result<(), Fail> {
+    for (first, second, pairs) in [
+        (0b1111_0000, 0b0000_1111, 1),
+        (0b1001_0110, 0b0110_1001, 5),
+        (0b1001_0110, 0b0110_1001, 25),
+        (0b1001_0110, 0b1110_1000, 4),
+        (0b1001_0110, 0b1110_1000, 20),
+    ] {
+        expect_price(&rt, rt.alloc(), first, second, pairs)?;
     }
     Ok(())
 }

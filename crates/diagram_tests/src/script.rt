@@ -81,16 +81,17 @@ fn take_script(
 {
     let (made, joined) = halves(script);
     make_all(rt, table, results, made)?;
-    let mut cache = no_entries(alloc)?;
+    let mut cache = no_entries(alloc, 1_000)?;
     join_all(rt, table, &mut cache, results, joined)
 }
 
-/// A cache without entries. It fits each table.
-pub fn no_entries(alloc: Global) -> Result<AndCache, OutOfMemory>
+/// A cache without entries, for at most so many. It fits each table.
+pub fn no_entries(alloc: Global, capacity: u32) -> Result<AndCache, OutOfMemory>
+    requires { 1 ≤ capacity }
     ensures { IfOk result (λ cache. (table : TableState ProofTextValue) → Fits table (entries cache)) }
 {
     entry_law::<ProofText>();
-    AndCache::new(alloc, 1)
+    AndCache::new(alloc, capacity)
 }
 
 fn halves(script: &str) -> (&str, &str) {

@@ -36,6 +36,11 @@ impl ProofText {
         }
     }
 
+    /// What was written.
+    pub fn bytes(&self) -> &[u8] {
+        self.bytes.as_slice()
+    }
+
     /// What was written, with a slash for each line feed.
     pub fn lines(&self, alloc: Global) -> Result<String, Fail> {
         let mut lines = String::new(alloc);

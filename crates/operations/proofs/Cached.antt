@@ -12,7 +12,7 @@ use Rattle.node_table.specs.declared.node.Just.TheVariants.{Trivial, Clause}
 use Rattle.op_cache.specs.Cache.{Cache, IsBounded, looked, kept, without_last, last_of}
 use Rattle.op_cache.specs.Laws.{AreInFront, HandsBack, OnlyKept, UsedInFront, is_among}
 use Rattle.operations.specs.Entries.{Entry, IsNamed, Names, just_of}
-use Rattle.operations.specs.Caches.{AreNamedOnce, IsGiven, IsOfKey, KeepsEntry, Keeping, LeavesEntries, TellsKeys, with_key}
+use Rattle.operations.specs.Caches.{AreNamedOnce, IsGiven, IsOfKey, KeepsEntry, Keeping, LeavesEntries, MakesRoom, Remembers, TellsKeys, with_key}
 use borrow.Author.Tests.{ltb-true, ltb-false}
 
 -- elements of a list that begins with x
@@ -272,12 +272,46 @@ module _ {K V : Type 0} (eq : K → K → Bool) (equal : IsEquivalence eq) where
                 gone = gone_listed;
                 named = named_listed;
                 given_up = given_up_listed distinct_now found_now;
-                no_fewer = omega (arith, length-map es entry_of, length-map after entry_of, only.no_fewer es capacity key value);
               };
-              others = others_listed;
-              capacity = refl;
+              room = record {
+                others = others_listed;
+                no_fewer = omega (arith, length-map es entry_of, length-map after entry_of, only.no_fewer es capacity key value);
+                capacity = refl;
+              };
               used = λ keys stand unused few. front.kept_more es keys capacity key value stand unused (omega (arith, few));
             })
+
+-- what is still there, or was forgotten by a full cache
+module _ {K V : Type 0} (entry_of : K × V → Entry) where
+  further : (before mid after : Cache K V) → Remembers entry_of before mid → Remembers entry_of mid after → Remembers entry_of before after
+  further before mid after first second = record {
+    entries = λ entry had. elim (first.entries entry had) [
+      | inl there ↦ elim (second.entries entry there) [
+        | inl still ↦ inl still
+        | inr full ↦ inr (omega (arith, first.capacity, full))
+      ]
+      | inr full ↦ inr (omega (arith, full, second.no_fewer))
+    ];
+    no_fewer = omega (arith, first.no_fewer, second.no_fewer);
+    capacity = second.capacity ∙ first.capacity;
+  }
+
+  makes_room : (before mid after : Cache K V) (key : K) → ((value : V) → Contains (map entry_of before.entries) (entry_of (key, value)) → ⊥) → Remembers entry_of before mid → MakesRoom entry_of mid after key
+      → Remembers entry_of before after
+  makes_room before mid after key none first room = record {
+    entries = λ entry had. elim (first.entries entry had) [
+      | inl there ↦ elim (room.others entry there) [
+        | inl still ↦ inl still
+        | inr other ↦ elim other [
+          | inl own ↦ absurd (none own.0 (subst (Contains (map entry_of before.entries)) own.1 had))
+          | inr full ↦ inr (omega (arith, first.capacity, full, room.no_fewer))
+        ]
+      ]
+      | inr full ↦ inr (omega (arith, full, room.no_fewer))
+    ];
+    no_fewer = omega (arith, first.no_fewer, room.no_fewer);
+    capacity = room.capacity ∙ first.capacity;
+  }
 
 pub keeping : {K V : Type 0} (eq : K → K → Bool) → IsEquivalence eq → OnlyKept K V eq → UsedInFront K V eq → HandsBack K V eq → Keeping K V eq
 keeping eq equal only front back = record {
@@ -289,4 +323,6 @@ keeping eq equal only front back = record {
   used = λ cache. found_used eq equal front cache.entries;
   kept = λ entry_of tells before after bounded still key value same found given is.
       is_kept eq equal only back entry_of tells before bounded key value given is front after same still found;
+  further = further;
+  makes_room = makes_room;
 }

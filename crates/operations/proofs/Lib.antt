@@ -3,3 +3,9 @@ pub mod Splits
 pub mod Kept
 pub mod OpenCalls
 pub mod Cached
+pub mod Accounts
+pub mod Pairs
+pub mod Price
+pub mod Budget
+pub mod HighClauses
+pub mod Literals

@@ -1,6 +1,6 @@
 -- The computed caches as one list: what operations found before. A clause that an entry names was added and is not
 -- retired, and no two entries name one clause. (Brace, Rudell, Bryant: Efficient Implementation of a BDD Package, DAC 1990.)
-use Rattle.std.specs.Prelude.{◌≡◌, ◌⊎◌, ◌<◌, ◌≤◌, ◌++◌, ℕ, List, [], Contains, IsTrue}
+use Rattle.std.specs.Prelude.{◌≡◌, ◌⊎◌, ◌<◌, ◌≤◌, ◌++◌, ℕ, List, [], Option, Contains, IsTrue, MatchOption}
 use Rattle.lrat_rules.specs.State.{State, Live, clause_at}
 use Rattle.node_table.specs.declared.node.Node.{Node}
 use Rattle.node_table.specs.declared.node.Just.{Just}
@@ -25,6 +25,10 @@ just_of (Quantification u level w) = Trivial
 -- the entry names this clause
 abbrev pub Names : Entry → ℕ → Type 0
 Names entry id = just_of entry ≡ Clause id
+
+-- the clause of this justification, if it has one
+abbrev pub IsClauseOf : Just → Option ℕ → Type 0
+IsClauseOf just given = MatchOption given (just ≡ Trivial) (λ id. just ≡ Clause id)
 
 -- a clause that some entry names
 abbrev pub IsNamed : List Entry → ℕ → Type 0

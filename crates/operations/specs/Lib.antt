@@ -4,3 +4,9 @@ pub mod Results
 pub mod Entries
 pub mod Machine
 pub mod Caches
+pub mod Accounts
+pub mod Pairs
+pub mod Price
+pub mod Budget
+pub mod Numbers
+pub mod Additions

@@ -1,11 +1,16 @@
-// Laws of operands, of entries and of the caches that hold them, as clauses of functions without work.
+// Laws of operands, of entries, of the caches that hold them, of the clauses that they name and of those that are added, as
+// clauses of functions without work.
+ghost use Rattle.operations.specs.Accounts.{Accounting};
+ghost use Rattle.operations.specs.Additions.{HighClauses, Literals};
+ghost use Rattle.operations.specs.Budget.{Budget};
 ghost use Rattle.operations.specs.Caches.{Keeping};
 ghost use Rattle.operations.specs.Entries.{Fitting};
 ghost use Rattle.operations.specs.Operands.{Splitting};
+ghost use Rattle.operations.specs.Price.{Pricing};
 
 use hint_chain::clause_law;
 use host_io::Sink;
-use node_table::{cofactor_law, growth_law, steps_law};
+use node_table::{Node, cofactor_law, growth_law, reach_law, steps_law};
 use op_cache::{entries_law, front_law, keep_law};
 use std::hash::Hash;
 
@@ -34,3 +39,42 @@ pub fn cache_law<K: Eq + Hash + Copy, V: Copy>()
     front_law::<K, V>();
     keep_law::<K, V>();
 }
+
+/// How a call comes to account for the entries of its cache and for its clauses.
+pub fn accounts_law<S: Sink + Drop>()
+    ensures { Accounting S }
+{
+    entry_law::<S>();
+    steps_law::<S>();
+}
+
+/// How many clauses a call adds where its cache is as large as the pairs that it may come to.
+pub fn price_law<S: Sink + Drop, V: Copy>()
+    ensures { Pricing S V }
+{
+    front_law::<(Node, Node), V>();
+    growth_law();
+    operand_law();
+    reach_law();
+}
+
+/// How many clauses a call adds over its levels, from what its sides do.
+pub fn budget_law<S: Sink + Drop>()
+    ensures { Budget S.tells S.channel }
+{
+    operand_law();
+    growth_law();
+    steps_law::<S>();
+}
+
+/// What the two additions of a step leave, of which the first one is retired.
+pub fn high_clause_law<S: Sink + Drop>()
+    ensures { HighClauses S.tells S.channel }
+{
+    steps_law::<S>();
+}
+
+/// Of which nodes the literals of a clause are.
+pub fn literal_law()
+    ensures { Literals }
+{}

@@ -1,17 +1,25 @@
 //! What every operation on diagrams stands on, once: the split of two operands at the earlier variable, the defining
 //! clauses that may serve as hints on either side of it, what an operation finds, and the entries of the computed
-//! caches, which fit a table as one list; and the machine that works an operation off with a stack of its own. It stands
-//! on the hint lists of `hint_chain` and the nodes of `node_table`.
+//! caches, which fit a table as one list. Beside it the laws of a call: what its cache keeps and forgets, how it accounts
+//! for its clauses, and how many it adds; and the machine that works an operation off with a stack of its own. It stands
+//! on the hint lists of `hint_chain`, the caches of `op_cache` and the nodes of `node_table`.
 #![tactic(auto)]
 
+mod clauses;
 mod frames;
 mod laws;
 mod machine;
 mod operands;
 mod parts;
+mod retired;
 
-pub use frames::Turn;
-pub use laws::{cache_law, entry_law, operand_law};
+pub use clauses::{behind, id_of, just_of, number_of};
+pub use frames::Reply;
+pub use laws::{
+    accounts_law, budget_law, cache_law, entry_law, high_clause_law, literal_law, operand_law,
+    price_law,
+};
 pub use machine::{Operation, work_off};
 pub use operands::{Operands, split};
 pub use parts::{Side, down_part, just_part, up_part};
+pub use retired::{clause_of, retire};

@@ -5,7 +5,7 @@ ghost use Rattle.node_table.specs.Diagram.{levels};
 ghost use Rattle.node_table.specs.Table.{TableState};
 ghost use Rattle.operations.specs.Machine.{Calls, IsAnswer};
 
-use crate::frames::{Frame, Turn, pop, push};
+use crate::frames::{Frame, Reply, Turn, pop, push};
 use host_io::Sink;
 use node_table::{Table, TableError};
 use std::alloc::Global;
@@ -32,7 +32,7 @@ pub trait Operation<S: Sink + Drop> {
         table: &mut Table<S>,
         cache: &mut Self::Cache,
         question: Self::Question,
-    ) -> Result<Turn<Self::Parts, Self::Answer>, TableError>
+    ) -> Result<Reply<Self::Parts, Self::Answer>, TableError>
         requires { calls.can table.old cache.old question }
         ensures answer { IsAnswer calls table.old cache.old question table.new cache.new result }
         ensures levels { levels table.new.graph ≡ levels table.old.graph };
@@ -41,9 +41,9 @@ pub trait Operation<S: Sink + Drop> {
     fn high(parts: &Self::Parts) -> Self::Question
         ensures { result ≡ calls.high parts.now };
 
-    /// The call of the low side.
-    fn low(parts: &Self::Parts) -> Self::Question
-        ensures { result ≡ calls.low parts.now };
+    /// The call of the low side; none where the answer of the high side is that of the whole call.
+    fn low(parts: &Self::Parts, high: &Self::Answer) -> Option<Self::Question>
+        ensures { result ≡ calls.low parts.now high.now };
 
     /// Closes a call that was split, from the answers of both sides.
     fn close(
@@ -68,25 +68,33 @@ pub fn work_off<S: Sink + Drop, O: Operation<S>>(
     ensures { O.calls.ends table.old cache.old question table.new cache.new result }
 {
     let mut frames: Vec<Frame<O::Parts, O::Answer>> = Vec::new(O::alloc(cache));
-    let mut turn = O::ask(table, cache, question)?;
+    let mut turn = Turn::Ask(question);
     'calls: loop {
         match turn {
-            Turn::Open(parts) => {
-                push(&mut frames, parts, None)?;
-                turn = O::ask(table, cache, O::high(&parts))?;
-            }
-            Turn::Give(found) => {
+            Turn::Ask(question) => match O::ask(table, cache, question)? {
+                Reply::Open(parts) => {
+                    push(&mut frames, parts, None)?;
+                    turn = Turn::Ask(O::high(&parts));
+                }
+                Reply::Give(found) => turn = Turn::Answer(found),
+            },
+            Turn::Answer(found) => {
                 let Some(frame) = pop(&mut frames) else {
                     return Ok(found);
                 };
                 let parts = frame.parts;
                 let high = frame.high;
                 match high {
-                    None => {
-                        push(&mut frames, parts, Some(found))?;
-                        turn = O::ask(table, cache, O::low(&parts))?;
-                    }
-                    Some(high) => turn = Turn::Give(O::close(table, cache, &parts, &high, &found)?),
+                    None => match O::low(&parts, &found) {
+                        None => turn = Turn::Answer(found),
+                        Some(question) => {
+                            push(&mut frames, parts, Some(found))?;
+                            turn = Turn::Ask(question);
+                        }
+                    },
+                    Some(high) => turn = Turn::Answer(O::close(
+                        table, cache, &parts, &high, &found,
+                    )?),
                 }
             }
         }

@@ -13,7 +13,7 @@ use Rattle.node_table.specs.Made.{ReachesNew}
 use Rattle.node_table.specs.Table.{TableState, IsSound}
 use Rattle.node_table.specs.Value.{Levels, IsSubfunction}
 use Rattle.operations.specs.declared.operands.Operands.{Operands}
-use Rattle.operations.specs.declared.frames.Turn.TheVariants.{Open}
+use Rattle.operations.specs.declared.frames.Reply.TheVariants.{Open}
 use Rattle.operations.specs.Operands.{AreSplit, Splitting}
 use Rattle.operations.specs.Results.{Disjoined}
 use Rattle.operations.specs.Entries.{Entry, Fits, Fitting}
@@ -120,7 +120,7 @@ module _ {S : Type 0} {tells : Bool} {channel : S → Channel} {lent : S → Bes
       closes = closed two cache_two low by_low;
     }
 
-    awaits_low : AwaitsLow (disjoining tells channel lent) (Disjoins tells channel lent old before o.u o.v) one cache_one o high
+    awaits_low : AwaitsLow (disjoining tells channel lent) (Disjoins tells channel lent old before o.u o.v) one cache_one o high (o.u_low, o.v_low)
     awaits_low =
         let first = splits.u_low one.graph sound_one.tied.reduced o split_one in
         let second = splits.v_low one.graph sound_one.tied.reduced o split_one in record {

@@ -1,6 +1,6 @@
 -- The disjunction as an operation on diagrams: what is asked, a whole call, however it ends, and the step that closes one
 -- that was split. (Bryant: Graph-Based Algorithms for Boolean Function Manipulation, 1986, section 4.3: apply.)
-use Rattle.std.specs.Prelude.{◌≡◌, ◌≢◌, ◌⊎◌, ◌||◌, Bool, Result, Ok, Contains, IfOk, IsTrue, min}
+use Rattle.std.specs.Prelude.{◌≡◌, ◌≢◌, ◌⊎◌, ◌||◌, Bool, Some, Result, Ok, Contains, IfOk, IsTrue, min}
 use Rattle.host_io.specs.Channel.{Channel}
 use Rattle.host_io.specs.Beside.{Beside}
 use Rattle.node_table.specs.declared.error.TableError.{TableError}
@@ -78,7 +78,7 @@ disjoining tells channel lent = record {
   can_close = CanClose;
   closes = Closes tells channel lent;
   high = λ o. (o.u_high, o.v_high);
-  low = λ o. (o.u_low, o.v_low);
+  low = λ o high. Some (o.u_low, o.v_low);
   level = λ o. o.level;
   floor = λ table pair. min (level_of table.graph pair.0) (level_of table.graph pair.1);
 }

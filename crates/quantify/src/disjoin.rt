@@ -20,7 +20,7 @@ use node_table::{
     Node, Table, TableError, canonical_law, cofactor_law, growth_law, reach_law, steps_law,
     subfunction_law,
 };
-use operations::{Operands, Operation, Turn, entry_law, operand_law, split, work_off};
+use operations::{Operands, Operation, Reply, entry_law, operand_law, split, work_off};
 use std::alloc::Global;
 
 /// The disjunction of two nodes. Nodes and clauses that were there stay; what was made before a refusal stays too. No clause
@@ -85,7 +85,7 @@ impl<S: Sink + Drop> Operation<S> for OrOperation {
         table: &mut Table<S>,
         cache: &mut OrCache,
         question: (Node, Node),
-    ) -> Result<Turn<Operands, Node>, TableError> {
+    ) -> Result<Reply<Operands, Node>, TableError> {
         steps_law::<S>();
         entry_law::<S>();
         operand_law();
@@ -94,8 +94,8 @@ impl<S: Sink + Drop> Operation<S> for OrOperation {
         reach_law();
         let (u, v) = question;
         match answer(table, cache, u, v) {
-            Some(w) => Ok(Turn::Give(w)),
-            None => Ok(Turn::Open(split(table, u, v))),
+            Some(w) => Ok(Reply::Give(w)),
+            None => Ok(Reply::Open(split(table, u, v))),
         }
     }
 
@@ -103,8 +103,8 @@ impl<S: Sink + Drop> Operation<S> for OrOperation {
         (operands.u_high, operands.v_high)
     }
 
-    fn low(operands: &Operands) -> (Node, Node) {
-        (operands.u_low, operands.v_low)
+    fn low(operands: &Operands, _high: &Node) -> Option<(Node, Node)> {
+        Some((operands.u_low, operands.v_low))
     }
 
     // The disjunction is the node of both results, and is kept.

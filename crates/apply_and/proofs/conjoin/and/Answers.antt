@@ -1,63 +1,32 @@
--- A call whose answer is known, and one that is opened and worked off.
-use Rattle.std.proofs.Common.{◌≡◌, Ok, ap, refl, subst}
-use Rattle.node_table.specs.declared.node.Just.{Just}
-use Rattle.node_table.specs.declared.node.Node.{Node}
-use Rattle.apply_and.specs.declared.cache.AndCache.{AndCache}
-use Rattle.apply_and.specs.Calls.{Conjoins}
-use Rattle.apply_and.specs.declared.frames.Turn.TheVariants.{Give}
-use Rattle.apply_and.proofs.Calls.{Answer, beside_others, price_called, sound_of}
-use Rattle.apply_and.proofs.Made.{not_plain}
+-- The call as it is worked off.
+use Rattle.operations.specs.Accounts.{whole_result}
+use Rattle.apply_and.specs.Cache.{entries}
 use Rattle.apply_and.proofs.conjoin.and.Goals as goal
 
-same_given : (one other : Node × Just) → Give one ≡ Give other → ◌≡◌ {A = Answer} (Ok one) (Ok other)
-same_given one other is = let same : one ≡ other = cc in ap Ok same
-
-pub returns-in-Give : goal.returns-in-Give
-returns-in-Give g c =
-    let call = c.in-Give.ensures.answer in record {
+pub returns : goal.returns
+returns g c =
+    let answers = c.work_off.ensures in
+    let call = answers.call in record {
       conjoined = call.conjoined;
       steps = call.steps;
-      fits = call.fits;
-      others = λ list fits apart whole. beside_others c.entry_law.ensures c.args.table.now c.args.table.now c.args.cache.now c.ask.new.cache (Ok c.in-Give.found) c.requires.sound (sound_of _ _ _ _ _ (Ok c.in-Give.found) call.steps.leaves whole) call list fits apart whole;
-      named = call.named;
-      retires = call.retires;
-      accounts = call.accounts;
+      fits = λ whole. call.accounts.fits (whole_result c.work_off.result whole);
+      others = λ list fits apart whole.
+          c.accounts_law.ensures.beside _ _ _ c.args.table.now c.work_off.new.table (entries c.args.cache.now) (entries c.work_off.new.cache) list _ _ c.requires.sound call.steps call.accounts fits apart
+          (whole_result c.work_off.result whole);
+      named = λ whole. call.accounts.named (whole_result c.work_off.result whole);
+      retires = call.accounts.retires;
+      accounts = λ whole. call.accounts.accounts (whole_result c.work_off.result whole);
       unretired = call.unretired;
-      price = λ us vs first second room. price_called c.front_law.ensures.none c.args.table.now c.args.table.now c.args.cache.now c.ask.new.cache c.args.u c.args.v us vs (Ok c.in-Give.found) call first second room;
-      known = λ w just there. (same_given _ _ (c.in-Give.ensures.known w just there), refl, c.in-Give.ensures.looked.same);
+      price = λ us vs first second room.
+          c.price_law.ensures.whole c.args.table.now c.work_off.new.table c.args.cache.now.results c.work_off.new.cache.results c.args.u c.args.v us vs _ call.price first second room;
+      known = answers.known;
       kept = call.kept;
-      remembered = call.remembered;
-      no_fewer = call.no_fewer;
-      capacity = call.capacity;
+      remembered = call.remembers.entries;
+      no_fewer = call.remembers.no_fewer;
+      capacity = call.remembers.capacity;
       made = call.made;
       reachable = call.reachable;
-      plain = λ w plain. (same_given _ _ (c.in-Give.ensures.plain w plain).0, refl, (c.in-Give.ensures.plain w plain).1);
-      lacks = call.lacks;
-      beside = call.beside;
-    }
-
-pub returns-in-Open : goal.returns-in-Open
-returns-in-Open g c =
-    let same = c.in-Open.ensures.answer.2 in
-    let unknown = c.in-Open.ensures.answer.3 in
-    let call = subst (λ (cache : AndCache). Conjoins g.S.Sink.tells g.S.Sink.channel g.S.Sink.beside c.args.table.now cache c.args.u c.args.v c.conjoin.new.table c.conjoin.new.cache c.conjoin.result) same c.conjoin.ensures in record {
-      conjoined = call.conjoined;
-      steps = call.steps;
-      fits = call.fits;
-      others = λ list fits apart whole. beside_others c.entry_law.ensures c.args.table.now c.conjoin.new.table c.args.cache.now c.conjoin.new.cache c.conjoin.result c.requires.sound (sound_of _ _ _ _ _ c.conjoin.result call.steps.leaves whole) call list fits apart whole;
-      named = call.named;
-      retires = call.retires;
-      accounts = call.accounts;
-      unretired = call.unretired;
-      price = λ us vs first second room. price_called c.front_law.ensures.none c.args.table.now c.conjoin.new.table c.args.cache.now c.conjoin.new.cache c.args.u c.args.v us vs c.conjoin.result call first second room;
-      known = λ w just there. absurd (unknown.none w just there);
-      kept = call.kept;
-      remembered = call.remembered;
-      no_fewer = call.no_fewer;
-      capacity = call.capacity;
-      made = call.made;
-      reachable = call.reachable;
-      plain = λ w plain. absurd (not_plain c.args.u c.args.v w unknown.differ unknown.first unknown.second plain);
+      plain = answers.plain;
       lacks = call.lacks;
       beside = call.beside;
     }

@@ -11,10 +11,9 @@ use Rattle.apply_and.specs.Conjunction.{conjunction_of}
 use Rattle.apply_and.proofs.Conjunctions.{conjoined_ready, high_below, low_below, ready_kept, sides_from, trivial_operand}
 use Rattle.apply_and.proofs.Handed.{steps_handed}
 use Rattle.apply_and.proofs.Made.{lacks_one, made_node, reached_node}
-use Rattle.apply_and.proofs.Named.{not_both}
+use Rattle.apply_and.proofs.Named.{failed_just, not_both}
 use Rattle.node_table.specs.declared.node.Just.{Just}
-use Rattle.apply_and.specs.Additions.{GivesOne}
-use Rattle.apply_and.proofs.Retiring.{GivesOne-further, GivesOne-none, RetiresNew-further, failed_just}
+use Rattle.operations.specs.Accounts.{GivesOne}
 use Rattle.apply_and.proofs.conjoin.finish.Goals as goal
 
 pub returns-in_err-w-clause-made : goal.returns-in_err-w-clause-made
@@ -131,14 +130,14 @@ returns-in_err-w-clause-gives g c whole =
     let mid = c.node-made.new.self in
     let came = c.in_err-w.field-0.0 in
     let none = c.node-made.ensures.none_added (λ torn. whole (handed_on _ came WriteFault c.from_residual.ensures.1 (same_error (sym c.in_err-w.was ∙ torn)))) in
-    subst (λ (just : Just). GivesOne old mid just) (sym (failed_just _ came c.from_residual.ensures.1)) (GivesOne-none old mid c.requires.sound none)
+    subst (λ (just : Just). GivesOne old mid just) (sym (failed_just _ came c.from_residual.ensures.1)) (c.accounts_law.ensures.gives_none old mid c.requires.sound none)
 
 pub returns-then-is_operand-clause-gives : goal.returns-then-is_operand-clause-gives
-returns-then-is_operand-clause-gives g c whole = GivesOne-none c.args.table.now c.node-made.new.self c.requires.sound (c.in_ok-w.ensures.none_added no_error)
+returns-then-is_operand-clause-gives g c whole = c.accounts_law.ensures.gives_none c.args.table.now c.node-made.new.self c.requires.sound (c.in_ok-w.ensures.none_added no_error)
 
 pub returns-in_err-just-clause-retires : goal.returns-in_err-just-clause-retires
 returns-in_err-just-clause-retires g c =
-    RetiresNew-further c.args.table.now c.node-made.new.self c.justify.new.table c.node-made.ensures.retired c.in_ok-w.ensures.steps.leaves.no_less c.in_err-just.ensures.retires
+    c.accounts_law.ensures.retires_further c.args.table.now c.node-made.new.self c.justify.new.table c.node-made.ensures.retired c.in_ok-w.ensures.steps.leaves.no_less c.in_err-just.ensures.retires
 
 pub returns-in_err-just-clause-gives : goal.returns-in_err-just-clause-gives
 returns-in_err-just-clause-gives g c whole =
@@ -148,16 +147,15 @@ returns-in_err-just-clause-gives g c whole =
     let came = c.in_err-just.field-0.0 in
     let gives = c.in_err-just.ensures.gives (λ torn. whole (handed_on _ came WriteFault c.from_residual-in_err-just.ensures.1 (same_error torn))) in
     subst (λ (just : Just). GivesOne old new just) (sym (failed_just _ came c.from_residual-in_err-just.ensures.1))
-    (GivesOne-further old mid new Trivial c.requires.sound (c.in_ok-w.ensures.none_added no_error) c.in_ok-w.ensures.steps.leaves.no_less
-    (c.steps_law.ensures.was_added mid new c.in_err-just.ensures.steps.extends) gives)
+    (c.accounts_law.ensures.gives_further old mid new Trivial c.requires.sound (c.in_ok-w.ensures.none_added no_error) c.in_ok-w.ensures.steps.extends c.in_err-just.ensures.steps.extends gives)
 
 pub returns-clause-retires : goal.returns-clause-retires
 returns-clause-retires g c =
-    RetiresNew-further c.args.table.now c.node-made.new.self c.justify.new.table c.node-made.ensures.retired c.in_ok-w.ensures.steps.leaves.no_less c.in_ok-just.ensures.retires
+    c.accounts_law.ensures.retires_further c.args.table.now c.node-made.new.self c.justify.new.table c.node-made.ensures.retired c.in_ok-w.ensures.steps.leaves.no_less c.in_ok-just.ensures.retires
 
 pub returns-clause-gives : goal.returns-clause-gives
 returns-clause-gives g c whole =
     let mid = c.node-made.new.self in
     let new = c.justify.new.table in
-    GivesOne-further c.args.table.now mid new c.in_ok-just.just c.requires.sound (c.in_ok-w.ensures.none_added no_error) c.in_ok-w.ensures.steps.leaves.no_less
-    (c.steps_law.ensures.was_added mid new c.in_ok-just.ensures.steps.extends) (c.in_ok-just.ensures.gives no_error)
+    c.accounts_law.ensures.gives_further c.args.table.now mid new c.in_ok-just.just c.requires.sound (c.in_ok-w.ensures.none_added no_error) c.in_ok-w.ensures.steps.extends c.in_ok-just.ensures.steps.extends
+    (c.in_ok-just.ensures.gives no_error)

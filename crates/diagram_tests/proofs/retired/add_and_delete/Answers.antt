@@ -1,5 +1,5 @@
 -- The first clause is empty and live, so that it refutes the second one.
-use Rattle.std.proofs.Common.{◌≡◌, ◌∙◌, ◌+◌, ℤ, List, [], Some, cond, ap, eq-eqb}
+use Rattle.std.proofs.Common.{◌≡◌, ◌∙◌, ◌+◌, [], Some, cond, ap, eq-eqb}
 use Rattle.lrat_rules.specs.State.{State, Live, clause_at, with_clause}
 use Rattle.node_table.specs.Table.{TableState}
 use Rattle.diagram_tests.specs.declared.support.ProofText.{ProofText}

@@ -2,7 +2,7 @@ use Rattle.std.proofs.Common.{◌≡◌, List, [], sym, subst}
 use Rattle.std.proofs.lemmas.Result.{IfOk-weaker}
 use Rattle.node_table.specs.Table.{TableState}
 use Rattle.operations.specs.Entries.{Entry, Fits}
-use Rattle.apply_and.specs.Cache.{entries}
+use Rattle.apply_and.specs.Cache.{entries, most_entries}
 use Rattle.apply_and.specs.declared.cache.AndCache.{AndCache}
 use Rattle.diagram_tests.specs.declared.support.ProofText.{ProofText}
 use Rattle.diagram_tests.proofs.script.no_entries.Goals as goal
@@ -10,5 +10,5 @@ use Rattle.diagram_tests.proofs.script.no_entries.Goals as goal
 pub returns : goal.returns
 returns c =
     let fits : AndCache → Type 0 = λ cache. (table : TableState ProofText) → Fits table (entries cache) in
-    let empty : AndCache → Type 0 = λ cache. (entries cache ≡ []) × (cache.capacity ≡ 1) in
+    let empty : AndCache → Type 0 = λ cache. (entries cache ≡ []) × (most_entries cache ≡ c.args.capacity) in
     IfOk-weaker c.new.result empty fits (λ cache is table. subst (λ (list : List Entry). Fits table list) (sym is.0) (c.entry_law.ensures.none table)) c.new.ensures

@@ -89,7 +89,7 @@ returns-clause-closes g c =
     let fits = fits_more new list (disjunctions after) (Disjunction o.u o.v w) (unnamed disjunction (λ x. refl) after.results.entries) (first.fits no_error) (nodes, found) kept.one.only in record {
       runs = runs_further c.steps_law.ensures c.subfunction_law.ensures old list function new (disjunctions after) (Ok w) new list w first
           (runs_none c.steps_law.ensures c.subfunction_law.ensures new list function first.steps.leaves.sound (disjunctions after) fits w);
-      remembers = record { capacity = kept.capacity; no_fewer = kept.one.no_fewer; others = kept.others };
+      remembers = record { capacity = kept.room.capacity; no_fewer = kept.room.no_fewer; others = kept.room.others };
       disjoined = found;
       kept = kept.one.kept;
       children = joined.children;

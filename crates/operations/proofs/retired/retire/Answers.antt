@@ -1,9 +1,8 @@
 -- The clause that is given is retired.
 use Rattle.std.proofs.Common.{◌≡◌, ◌∙◌, ◌++◌, ℕ, List, [], ◌∷◌, Contains, sym, ap, subst, inl, inr}
 use Rattle.node_table.specs.Table.{TableState}
-use Rattle.apply_and.proofs.Retiring.{one_retired, one_there}
-use Rattle.apply_and.proofs.Named.{same_some}
-use Rattle.apply_and.proofs.conjoin.retire.Goals as goal
+use Rattle.operations.proofs.Accounts.{one_retired, one_there, same_some}
+use Rattle.operations.proofs.retired.retire.Goals as goal
 
 pub retire-requires-clause-own : goal.retire-requires-clause-own
 retire-requires-clause-own g c = c.requires.own c.in-Some.id c.in-Some.is

@@ -1,5 +1,5 @@
 -- Pairs of operands: when they are the same, how many of them there are, and those of two lists of nodes.
-use Rattle.std.proofs.Common.{◌≡◌, ◌∙◌, ◌≤◌, ◌<◌, ◌*◌, ◌++◌, ◌||◌, zero, suc, Bool, true, false, List, [], ◌∷◌, length, map, Contains, refl, sym, ap, subst, arith, inl, inr}
+use Rattle.std.proofs.Common.{◌≡◌, ◌∙◌, ◌≤◌, ◌<◌, ◌*◌, ◌++◌, ◌||◌, zero, suc, Bool, true, false, List, [], ◌∷◌, length, map, Contains, refl, sym, ap, eq-eqb, subst, arith, inl, inr}
 use Rattle.std.proofs.Math.Nat.{suc-mul}
 use Rattle.std.specs.Cmp.{IsEquivalence}
 use Rattle.std.specs.List.{AllByRecursion, IsDistinct}
@@ -7,20 +7,29 @@ use Rattle.std.proofs.lemmas.Bool.{or_left, or_right, or_cases}
 use Rattle.std.proofs.lemmas.List.{length-append, length-map}
 use Rattle.std.proofs.lemmas.Map.Made.{length-le_from_is_member}
 use Rattle.node_table.specs.declared.node.Node.{Node}
-use Rattle.apply_and.specs.Cache.{Pair, is_one, same_pair}
-use Rattle.apply_and.proofs.Cached.{same_pair-equal, equal-same_pair}
+use Rattle.node_table.specs.declared.node.Node.TheVariants.{False, True, Inner}
+use Rattle.node_table.specs.contracts.node.NodePartialEq.TheImpl as node_equality
+use Rattle.operations.specs.Pairs.{Pair, equal_pairs, is_one, same_pair}
+
+node_itself : (x : Node) → node_equality.ghosts.eq x x ≡ true
+node_itself False = refl
+node_itself True = refl
+node_itself (Inner a) = eq-eqb a.index a.index refl
+
+same_pair-itself : (pair : Pair) → same_pair pair pair ≡ true
+same_pair-itself pair = rw (node_itself pair.0, node_itself pair.1) refl
 
 pairs_equal : IsEquivalence same_pair
 pairs_equal = record {
-  refl = λ x. equal-same_pair x x refl;
+  refl = λ x. same_pair-itself x;
   symm = λ x y. elim (same_pair x y) as (λ b. same_pair x y ≡ b → b ≡ same_pair y x) [
-    | true ↦ λ is. sym (subst (λ (z : Pair). same_pair z x ≡ true) (same_pair-equal x y is) (equal-same_pair x x refl))
+    | true ↦ λ is. sym (subst (λ (z : Pair). same_pair z x ≡ true) (equal_pairs x y is) (same_pair-itself x))
     | false ↦ λ is. elim (same_pair y x) as (λ b. same_pair y x ≡ b → false ≡ b) [
-      | true ↦ λ back. sym is ∙ subst (λ (z : Pair). same_pair z y ≡ true) (same_pair-equal y x back) (equal-same_pair y y refl)
+      | true ↦ λ back. sym is ∙ subst (λ (z : Pair). same_pair z y ≡ true) (equal_pairs y x back) (same_pair-itself y)
       | false ↦ λ back. refl
     ] refl
   ] refl;
-  congr = λ x y z is. ap (λ (p : Pair). same_pair p z) (same_pair-equal x y is);
+  congr = λ x y z is. ap (λ (p : Pair). same_pair p z) (equal_pairs x y is);
 }
 
 -- so different pairs that are all among others are no more than those
@@ -45,21 +54,21 @@ unfolding IsDistinct
 one_more few more own distinct among apart there =
     let all : length (own ∷ few) ≤ length more = no_longer (own ∷ few) more (none_same few own apart, distinct)
     (λ pair is. elim (or_cases (same_pair pair own) (is_one few pair) is) [
-      | inl same ↦ subst (λ (p : Pair). is_one more p ≡ true) (sym (same_pair-equal pair own same)) there
+      | inl same ↦ subst (λ (p : Pair). is_one more p ≡ true) (sym (equal_pairs pair own same)) there
       | inr other ↦ among pair other
     ]) in
     omega (arith, all)
 
 pub among_more : (few more : List Pair) (own : Pair) → ((pair : Pair) → is_one few pair ≡ true → is_one more pair ≡ true) → is_one more own ≡ true → (pair : Pair) → is_one (own ∷ few) pair ≡ true → is_one more pair ≡ true
 among_more few more own among there pair is = elim (or_cases (same_pair pair own) (is_one few pair) is) [
-  | inl same ↦ subst (λ (p : Pair). is_one more p ≡ true) (sym (same_pair-equal pair own same)) there
+  | inl same ↦ subst (λ (p : Pair). is_one more p ≡ true) (sym (equal_pairs pair own same)) there
   | inr other ↦ among pair other
 ]
 
 -- another pair is among one more only where it was
 pub other_same : (few : List Pair) (own pair : Pair) → (pair ≡ own → ⊥) → is_one (own ∷ few) pair ≡ is_one few pair
 other_same few own pair differ = elim (same_pair pair own) as (λ b. same_pair pair own ≡ b → (b || is_one few pair) ≡ is_one few pair) [
-  | true ↦ λ is. absurd (differ (same_pair-equal pair own is))
+  | true ↦ λ is. absurd (differ (equal_pairs pair own is))
   | false ↦ λ is. refl
 ] refl
 
@@ -91,7 +100,7 @@ one_of_right (own ∷ one) two pair is = or_right (same_pair pair own) (is_one (
 
 row_has : (u : Node) (vs : List Node) (v : Node) → Contains vs v → is_one (map (λ w. (u, w)) vs) (u, v) ≡ true
 row_has u [] v there = absurd (omega (arith, there.1))
-row_has u (w ∷ vs) v (zero, small, is) = or_left (same_pair (u, v) (u, w)) (is_one (map (λ n. (u, n)) vs) (u, v)) (subst (λ (n : Node). same_pair (u, v) (u, n) ≡ true) (sym is) (equal-same_pair (u, v) (u, v) refl))
+row_has u (w ∷ vs) v (zero, small, is) = or_left (same_pair (u, v) (u, w)) (is_one (map (λ n. (u, n)) vs) (u, v)) (subst (λ (n : Node). same_pair (u, v) (u, n) ≡ true) (sym is) (same_pair-itself (u, v)))
 row_has u (w ∷ vs) v (suc k, small, is) = or_right (same_pair (u, v) (u, w)) (is_one (map (λ n. (u, n)) vs) (u, v)) (row_has u vs v (k, omega (arith, small), is))
 
 pub pairs_of-has : (us vs : List Node) (u v : Node) → Contains us u → Contains vs v → is_one (pairs_of us vs) (u, v) ≡ true
