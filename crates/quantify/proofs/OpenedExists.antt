@@ -11,8 +11,8 @@ use Rattle.node_table.specs.Laws.{Cofactors, Growth, Reachability, StepByStep, S
 use Rattle.node_table.specs.Made.{ReachesNew}
 use Rattle.node_table.specs.Table.{TableState, IsSound}
 use Rattle.node_table.specs.Value.{Levels, IsSubfunction}
-use Rattle.operations.specs.declared.frames.Turn.{Turn}
-use Rattle.operations.specs.declared.frames.Turn.TheVariants.{Open}
+use Rattle.operations.specs.declared.frames.Reply.{Reply}
+use Rattle.operations.specs.declared.frames.Reply.TheVariants.{Open}
 use Rattle.operations.specs.Results.{Quantified}
 use Rattle.operations.specs.Entries.{Entry, Fits, Fitting}
 use Rattle.operations.specs.Machine.{AwaitsLow, HighCame, IsAnswer, IsOpened, LowCame}
@@ -171,7 +171,7 @@ module _ {S : Type 0} {tells : Bool} {channel : S → Channel} {lent : S → Bes
         closes = closed two caches_two low by_low;
       }
 
-      awaits_low : AwaitsLow (quantifying tells channel lent) (Ends tells channel lent old before p.node p.level) one caches_one p high
+      awaits_low : AwaitsLow (quantifying tells channel lent) (Ends tells channel lent old before p.node p.level) one caches_one p high (p.low, p.level)
       awaits_low =
           let child = low_child_below laws one.graph sound_one.tied.reduced p above_one in record {
             refused = low_failed one caches_one OutOfMemory
@@ -204,10 +204,10 @@ module _ {S : Type 0} {tells : Bool} {channel : S → Channel} {lent : S → Bes
 
 module _ {S : Type 0} {tells : Bool} {channel : S → Channel} {lent : S → Beside} where
   -- a call that failed before it was split
-  pub failed_answer : (old : TableState S) (before after : Caches) (question : Question) (new : TableState S) (result : Result (Turn Above Node) TableError) (came : TableError) → IsErrAnd result (λ e. e ≡ came)
+  pub failed_answer : (old : TableState S) (before after : Caches) (question : Question) (new : TableState S) (result : Result (Reply Above Node) TableError) (came : TableError) → IsErrAnd result (λ e. e ≡ came)
       → Ends tells channel lent old before question.0 question.1 new after (Err came) → IsAnswer (quantifying tells channel lent) old before question new after result
   failed_answer old before after question new result came handed ends =
-      subst (λ (r : Result (Turn Above Node) TableError). IsAnswer (quantifying tells channel lent) old before question new after r) (sym (handed_on result came came handed refl)) ends
+      subst (λ (r : Result (Reply Above Node) TableError). IsAnswer (quantifying tells channel lent) old before question new after r) (sym (handed_on result came came handed refl)) ends
 
   -- a call that is split, with nothing changed
   pub split_answered : StepByStep tells channel → Cofactors → Growth → Fitting S → Subfunctions → Reachability → (old new : TableState S) → new ≡ old → (before after : Caches) → after ≡ before → (question : Question)

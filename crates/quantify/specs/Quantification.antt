@@ -99,7 +99,7 @@ quantifying tells channel lent = record {
   closes = λ old before p high low new after result.
       Closes tells channel lent old before.exists.now before.ors.now p high low new after.exists.now after.ors.now result × AreLent before after;
   high = λ p. (p.high, p.level);
-  low = λ p. (p.low, p.level);
+  low = λ p high. Some (p.low, p.level);
   level = λ p. p.own;
   floor = λ table question. level_of table.graph question.0;
 }

@@ -1,6 +1,6 @@
 // The existential quantification of a node by one variable: the disjunction of its cofactors there. (Bryant: Graph-Based
 // Algorithms for Boolean Function Manipulation, 1986, sections 4.3 and 4.4: apply and restrict.)
-ghost use Rattle.std.specs.Prelude.{◌≡◌, ◌⊎◌, ◌≤◌, ◌<◌, ◌++◌, List, Ok, Err, Contains, IsTrue, IfOk, length};
+ghost use Rattle.std.specs.Prelude.{◌≡◌, ◌⊎◌, ◌≤◌, ◌<◌, ◌++◌, List, Some, Ok, Err, Contains, IsTrue, IfOk, length};
 ghost use Rattle.node_table.specs.declared.error.TableError.TheVariants.{NodeLimit};
 ghost use Rattle.node_table.specs.declared.node.Node.{Node as NodeValue};
 ghost use Rattle.node_table.specs.Diagram.{is_node, level_of, levels};
@@ -23,7 +23,7 @@ use node_table::{
     Node, Table, TableError, canonical_law, cofactor_law, growth_law, reach_law, steps_law,
     subfunction_law,
 };
-use operations::{Operation, Turn, entry_law, work_off};
+use operations::{Operation, Reply, entry_law, work_off};
 use std::alloc::Global;
 
 /// The node that holds where some value of this level's variable makes u hold. Nodes and clauses that were there stay; what
@@ -108,7 +108,7 @@ impl<'a, S: Sink + Drop> Operation<S> for ExistsOperation<'a> {
         table: &mut Table<S>,
         caches: &mut Caches<'a>,
         question: (Node, u32),
-    ) -> Result<Turn<Above, Node>, TableError> {
+    ) -> Result<Reply<Above, Node>, TableError> {
         steps_law::<S>();
         entry_law::<S>();
         cofactor_law();
@@ -117,8 +117,8 @@ impl<'a, S: Sink + Drop> Operation<S> for ExistsOperation<'a> {
         reach_law();
         let (u, level) = question;
         match answer(table, caches.exists, caches.ors, u, level)? {
-            Some(w) => Ok(Turn::Give(w)),
-            None => Ok(Turn::Open(sides_of(table, u, level))),
+            Some(w) => Ok(Reply::Give(w)),
+            None => Ok(Reply::Open(sides_of(table, u, level))),
         }
     }
 
@@ -128,10 +128,10 @@ impl<'a, S: Sink + Drop> Operation<S> for ExistsOperation<'a> {
         (parts.high, parts.level)
     }
 
-    fn low(parts: &Above) -> (Node, u32)
-        ensures { result ≡ (parts.now.low, parts.now.level) }
+    fn low(parts: &Above, _high: &Node) -> Option<(Node, u32)>
+        ensures { result ≡ Some (parts.now.low, parts.now.level) }
     {
-        (parts.low, parts.level)
+        Some((parts.low, parts.level))
     }
 
     // The quantification is the node of both results, and is kept.

@@ -124,7 +124,7 @@ returns g c =
       runs = runs_further c.steps_law.ensures c.subfunction_law.ensures old (both_caches cache ors) (quantification_of old.graph u level) new (both_caches after c.or.new.cache) (Ok w) new list w first
           (runs_none c.steps_law.ensures c.subfunction_law.ensures new list (quantification_of old.graph u level) first.steps.leaves.sound (both_caches after c.or.new.cache) fits w);
       remembers = remembers_new (HasQuestion u level) _ _ _ (quantifications cache) (quantifications cache) (quantifications after) (remembers_all (most_quantifications cache) (quantifications cache))
-          (record { capacity = kept.capacity; no_fewer = kept.one.no_fewer; others = kept.others }) (λ entry asked there. c.requires.missed asked.0 (subst (Contains (quantifications cache)) asked.1 there));
+          (record { capacity = kept.room.capacity; no_fewer = kept.room.no_fewer; others = kept.room.others }) (λ entry asked there. c.requires.missed asked.0 (subst (Contains (quantifications cache)) asked.1 there));
       remembers_ors = record { capacity = done.capacity; no_fewer = done.no_fewer; remembered = done.remembered };
       quantified = found;
       reachable = done.reachable;

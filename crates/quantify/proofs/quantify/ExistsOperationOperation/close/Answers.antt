@@ -96,7 +96,7 @@ returns-clause-closes g c =
       record {
         runs = runs_further c.steps_law.ensures c.subfunction_law.ensures old list function new (both_caches after ors) (Ok w) new list w first
             (runs_none c.steps_law.ensures c.subfunction_law.ensures new list function first.steps.leaves.sound (both_caches after ors) fits w);
-        remembers = record { capacity = kept.capacity; no_fewer = kept.one.no_fewer; others = kept.others };
+        remembers = record { capacity = kept.room.capacity; no_fewer = kept.room.no_fewer; others = kept.room.others };
         same_ors = refl;
         quantified = found;
         kept = kept.one.kept;
