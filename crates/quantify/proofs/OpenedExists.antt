@@ -1,5 +1,5 @@
 -- A quantification that is split: its sides may be called and closed, and however they end, the call has ended.
-use Rattle.std.proofs.Common.{◌≡◌, ℕ, Bool, List, Result, Ok, Err, Contains, refl, ◌∙◌, arith, subst, sym}
+use Rattle.std.proofs.Common.{◌≡◌, ℕ, Bool, List, Result, Ok, Err, refl, ◌∙◌, arith, subst, sym}
 use Rattle.std.specs.Prelude.{IfOk, IsErrAnd}
 use Rattle.host_io.specs.Channel.{Channel}
 use Rattle.host_io.specs.Beside.{Beside}
@@ -18,12 +18,14 @@ use Rattle.operations.specs.Entries.{Entry, Fits, Fitting}
 use Rattle.operations.specs.Machine.{AwaitsLow, HighCame, IsAnswer, IsOpened, LowCame}
 use Rattle.quantify.specs.declared.quantify.Above.{Above}
 use Rattle.quantify.specs.declared.quantify.Caches.{Caches}
-use Rattle.quantify.specs.ExistsCache.{HasQuestion, Question, both_caches, most_quantifications, quantifications}
-use Rattle.quantify.specs.OrCache.{disjunctions, most_disjunctions}
+use Rattle.operations.specs.Caches.{Keeping}
+use Rattle.operations.specs.Pairs.{Pair, same_pair}
+use Rattle.quantify.specs.ExistsCache.{Question, RemembersQuantifications, both_caches, quantification, same_question}
+use Rattle.quantify.specs.OrCache.{RemembersDisjunctions, disjunction}
 use Rattle.quantify.specs.Quantification.{AreLent, CanQuantify, Closes, IsAbove, IsMissed, Quantifies, quantification_of, quantifying}
-use Rattle.quantify.specs.Runs.{Remembers, Runs}
+use Rattle.quantify.specs.Runs.{Runs}
 use Rattle.quantify.proofs.Joined.{reached_joined}
-use Rattle.quantify.proofs.Lists.{remembers_all, remembers_further, remembers_new}
+use Rattle.quantify.proofs.Lists.{remembers_all}
 use Rattle.quantify.proofs.Quantifications.{above_kept, high_child_below, high_quantified_part, low_child_below, low_quantified_part, quantification_of-kept, quantified_kept}
 use Rattle.quantify.proofs.Running.{Answer, runs_further, runs_part, runs_refused}
 
@@ -38,19 +40,19 @@ all_in caches = both_caches caches.exists.now caches.ors.now
 
 -- what both caches remember
 record RemembersBoth (before after : Caches) : Type 0 where
-  exists : Remembers (most_quantifications before.exists.now) (quantifications before.exists.now) (most_quantifications after.exists.now) (quantifications after.exists.now)
-  ors : Remembers (most_disjunctions before.ors.now) (disjunctions before.ors.now) (most_disjunctions after.ors.now) (disjunctions after.ors.now)
+  exists : RemembersQuantifications before.exists.now after.exists.now
+  ors : RemembersDisjunctions before.ors.now after.ors.now
   lent : AreLent before after
 
-both_further : (one two three : Caches) → RemembersBoth one two → RemembersBoth two three → RemembersBoth one three
-both_further one two three first second = record {
-  exists = remembers_further _ _ _ _ _ _ first.exists second.exists;
-  ors = remembers_further _ _ _ _ _ _ first.ors second.ors;
+both_further : Keeping Question Node same_question → Keeping Pair Node same_pair → (one two three : Caches) → RemembersBoth one two → RemembersBoth two three → RemembersBoth one three
+both_further exists_keeping or_keeping one two three first second = record {
+  exists = exists_keeping.further quantification one.exists.now.results two.exists.now.results three.exists.now.results first.exists second.exists;
+  ors = or_keeping.further disjunction one.ors.now.results two.ors.now.results three.ors.now.results first.ors second.ors;
   lent = lent_further one two three first.lent second.lent;
 }
 
 both_same : (caches : Caches) → RemembersBoth caches caches
-both_same caches = record { exists = remembers_all _ _; ors = remembers_all _ _; lent = lent_same caches }
+both_same caches = record { exists = remembers_all quantification caches.exists.now.results; ors = remembers_all disjunction caches.ors.now.results; lent = lent_same caches }
 
 module _ {S : Type 0} (tells : Bool) (channel : S → Channel) (lent : S → Beside) where
   -- a whole call, as the machine sees it
@@ -64,7 +66,7 @@ module _ {S : Type 0} {tells : Bool} {channel : S → Channel} {lent : S → Bes
   both_of : (old : TableState S) (before : Caches) (u : Node) (level : ℕ) (new : TableState S) (after : Caches) (result : Answer) → Ends tells channel lent old before u level new after result → RemembersBoth before after
   both_of old before u level new after result ends = record { exists = ends.0.remembers; ors = ends.0.remembers_ors; lent = ends.1 }
 
-  module _ (law : StepByStep tells channel) (laws : Cofactors) (growth : Growth) (fitting : Fitting S) (parts : Subfunctions) (paths : Reachability)
+  module _ (law : StepByStep tells channel) (exists_keeping : Keeping Question Node same_question) (or_keeping : Keeping Pair Node same_pair) (laws : Cofactors) (growth : Growth) (fitting : Fitting S) (parts : Subfunctions) (paths : Reachability)
       (old : TableState S) (before : Caches) (sound : IsSound old) (fits : Fits old (both_caches before.exists.now before.ors.now)) (p : Above) (above : IsAbove old.graph p) (missed : IsMissed before.exists.now p.node p.level) where
     -- the call failed
     failed : (new : TableState S) (after : Caches) (came : TableError) → RunsWith tells channel lent old before (quantification_of old.graph p.node p.level) new after (Err came) → RemembersBoth before after
@@ -115,7 +117,7 @@ module _ {S : Type 0} {tells : Bool} {channel : S → Channel} {lent : S → Bes
 
       low_failed : (two : TableState S) (caches_two : Caches) (came : TableError) → RunsWith tells channel lent one caches_one (quantification_of one.graph p.low p.level) two caches_two (Err came) → RemembersBoth caches_one caches_two
           → Ends tells channel lent old before p.node p.level two caches_two (Err came)
-      low_failed two caches_two came runs both = failed two caches_two came (runs_low two caches_two (Err came) runs) (both_further before caches_one caches_two both_one both)
+      low_failed two caches_two came runs both = failed two caches_two came (runs_low two caches_two (Err came) runs) (both_further exists_keeping or_keeping before caches_one caches_two both_one both)
 
       module _ (two : TableState S) (caches_two : Caches) (low : Node) (by_low : Ends tells channel lent one caches_one p.low p.level two caches_two (Ok low)) where
         on_high : Quantified two.graph p.high p.level high
@@ -128,7 +130,7 @@ module _ {S : Type 0} {tells : Bool} {channel : S → Channel} {lent : S → Bes
             ∙ quantification_of-kept growth old.graph one.graph sound.tied.reduced by_high.0.runs.steps.extends.nodes p.node p.level above.stands
 
         both_two : RemembersBoth before caches_two
-        both_two = both_further before caches_one caches_two both_one (both_of one caches_one p.low p.level two caches_two (Ok low) by_low)
+        both_two = both_further exists_keeping or_keeping before caches_one caches_two both_one (both_of one caches_one p.low p.level two caches_two (Ok low) by_low)
 
         -- the step that closes the call
         module _ (three : TableState S) (caches_three : Caches) where
@@ -145,9 +147,8 @@ module _ {S : Type 0} {tells : Bool} {channel : S → Channel} {lent : S → Bes
               runs = runs_further law parts old (both_caches before.exists.now before.ors.now) (quantification_of old.graph p.node p.level) three (both_caches caches_three.exists.now caches_three.ors.now) result
                   two (both_caches caches_two.exists.now caches_two.ors.now) low (runs_low two caches_two (Ok low) by_low.0.runs)
                   (subst (λ (f : Levels → Bool). RunsWith tells channel lent two caches_two f three caches_three result) asked_two closes.runs);
-              remembers = remembers_new (HasQuestion p.node p.level) _ _ _ (quantifications before.exists.now) _ _ both_two.exists closes.remembers
-                  (λ entry own there. missed own.0 (subst (Contains (quantifications before.exists.now)) own.1 there));
-              remembers_ors = subst (λ ors. Remembers (most_disjunctions before.ors.now) (disjunctions before.ors.now) (most_disjunctions ors) (disjunctions ors)) (sym closes.same_ors) both_two.ors;
+              remembers = exists_keeping.makes_room quantification before.exists.now.results caches_two.exists.now.results caches_three.exists.now.results (p.node, p.level) missed both_two.exists closes.room;
+              remembers_ors = subst (RemembersDisjunctions before.ors.now) (sym closes.same_ors) both_two.ors;
               quantified = closes.quantified;
               reachable = reached result closes;
               kept = λ at. closes.kept;
@@ -210,15 +211,15 @@ module _ {S : Type 0} {tells : Bool} {channel : S → Channel} {lent : S → Bes
       subst (λ (r : Result (Reply Above Node) TableError). IsAnswer (quantifying tells channel lent) old before question new after r) (sym (handed_on result came came handed refl)) ends
 
   -- a call that is split, with nothing changed
-  pub split_answered : StepByStep tells channel → Cofactors → Growth → Fitting S → Subfunctions → Reachability → (old new : TableState S) → new ≡ old → (before after : Caches) → after ≡ before → (question : Question)
+  pub split_answered : StepByStep tells channel → Keeping Question Node same_question → Keeping Pair Node same_pair → Cofactors → Growth → Fitting S → Subfunctions → Reachability → (old new : TableState S) → new ≡ old → (before after : Caches) → after ≡ before → (question : Question)
       → CanQuantify old before.exists.now before.ors.now question.0 question.1 → IsMissed before.exists.now question.0 question.1 → (p : Above) → IsAbove new.graph p → (p.node ≡ question.0) × (p.level ≡ question.1)
       → IsAnswer (quantifying tells channel lent) old before question new after (Ok (Open p))
-  split_answered law laws growth fitting parts paths old new same before after same_caches question can missed p above asked =
+  split_answered law exists_keeping or_keeping laws growth fitting parts paths old new same before after same_caches question can missed p above asked =
       let above_old : IsAbove old.graph p = subst (λ (t : TableState S). IsAbove t.graph p) same above in
       let own : (p.node, p.level) ≡ question = λ i. (asked.0 i, asked.1 i) in
       let missed_own : IsMissed before.exists.now p.node p.level = subst (λ (q : Question). IsMissed before.exists.now q.0 q.1) (sym own) missed in
       let answer : IsAnswer (quantifying tells channel lent) old before (p.node, p.level) old before (Ok (Open p)) =
-      (omega (arith, above_old.own), opened law laws growth fitting parts paths old before can.sound can.fits p above_old missed_own) in
+      (omega (arith, above_old.own), opened law exists_keeping or_keeping laws growth fitting parts paths old before can.sound can.fits p above_old missed_own) in
       subst (λ (t : TableState S). IsAnswer (quantifying tells channel lent) old before question t after (Ok (Open p))) (sym same)
       (subst (λ (c : Caches). IsAnswer (quantifying tells channel lent) old before question old c (Ok (Open p))) (sym same_caches)
       (subst (λ (q : Question). IsAnswer (quantifying tells channel lent) old before q old before (Ok (Open p))) own answer))

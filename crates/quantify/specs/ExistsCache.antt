@@ -3,7 +3,7 @@
 use Rattle.std.specs.Prelude.{◌&&◌, ◌==◌, ◌++◌, ℕ, Bool, List, None, map}
 use Rattle.node_table.specs.declared.node.Node.{Node}
 use Rattle.node_table.specs.contracts.node.NodePartialEq.TheImpl as node_equality
-use Rattle.operations.specs.Caches.{IsOfKey, KeepsEntry, LeavesEntries}
+use Rattle.operations.specs.Caches.{KeepsEntry, LeavesEntries, MakesRoom, Remembers}
 use Rattle.operations.specs.Entries.{Entry, Quantification}
 use Rattle.quantify.specs.declared.exists_cache.ExistsCache.{ExistsCache}
 use Rattle.quantify.specs.declared.or_cache.OrCache.{OrCache}
@@ -28,10 +28,6 @@ most_quantifications cache = cache.results.capacity
 abbrev pub both_caches : ExistsCache → OrCache → List Entry
 both_caches cache ors = quantifications cache ++ disjunctions ors
 
--- the entry is of this question
-abbrev pub HasQuestion : Node → ℕ → Entry → Type 0
-HasQuestion u level entry = IsOfKey quantification (u, level) entry
-
 -- Whether two questions are the same.
 abbrev pub same_question : Question → Question → Bool
 same_question one other = node_equality.ghosts.eq one.0 other.0 && (one.1 == other.1)
@@ -43,3 +39,11 @@ IsLooked before after = LeavesEntries quantification before.results after.result
 -- One entry is kept: it takes the place of the one of its question, or of the last one where the cache was full.
 abbrev pub IsKept : ExistsCache → ExistsCache → Node → ℕ → Node → Type 0
 IsKept before after u level w = KeepsEntry quantification same_question before.results after.results (u, level) (Quantification u level w) None
+
+-- entries are forgotten only where the cache is full
+abbrev pub RemembersQuantifications : ExistsCache → ExistsCache → Type 0
+RemembersQuantifications before after = Remembers quantification before.results after.results
+
+-- or where one of this question is kept
+abbrev pub MakesRoomFor : ExistsCache → ExistsCache → Node → ℕ → Type 0
+MakesRoomFor before after u level = MakesRoom quantification before.results after.results (u, level)

@@ -17,9 +17,9 @@ use Rattle.quantify.specs.declared.exists_cache.ExistsCache.{ExistsCache}
 use Rattle.quantify.specs.declared.or_cache.OrCache.{OrCache}
 use Rattle.quantify.specs.declared.quantify.Above.{Above}
 use Rattle.quantify.specs.declared.quantify.Caches.{Caches}
-use Rattle.quantify.specs.ExistsCache.{HasQuestion, Question, both_caches, most_quantifications, quantifications}
-use Rattle.quantify.specs.OrCache.{disjunctions, most_disjunctions}
-use Rattle.quantify.specs.Runs.{Remembers, RemembersBut, Runs}
+use Rattle.quantify.specs.ExistsCache.{MakesRoomFor, Question, RemembersQuantifications, both_caches, quantifications}
+use Rattle.quantify.specs.OrCache.{RemembersDisjunctions}
+use Rattle.quantify.specs.Runs.{Runs}
 
 -- the function that holds where some value of this level's variable makes u hold
 abbrev pub quantification_of : Graph → Node → ℕ → Levels → Bool
@@ -40,8 +40,8 @@ IsMissed cache u level = (w : Node) → Contains (quantifications cache) (Quanti
 pub record Quantifies {S : Type 0} (tells : Bool) (channel : S → Channel) (lent : S → Beside) (old : TableState S) (before : ExistsCache) (ors : OrCache) (u : Node) (level : ℕ)
     (new : TableState S) (after : ExistsCache) (ors_after : OrCache) (result : Result Node TableError) : Type 0 where
   pub runs : Runs tells channel lent old (both_caches before ors) (quantification_of old.graph u level) new (both_caches after ors_after) result
-  pub remembers : Remembers (most_quantifications before) (quantifications before) (most_quantifications after) (quantifications after)
-  pub remembers_ors : Remembers (most_disjunctions ors) (disjunctions ors) (most_disjunctions ors_after) (disjunctions ors_after)
+  pub remembers : RemembersQuantifications before after
+  pub remembers_ors : RemembersDisjunctions ors ors_after
   pub quantified : IfOk result (λ w. Quantified new.graph u level w)
   pub reachable : IfOk result (λ w. ReachesNew old.graph new.graph w)
   pub kept : level_of old.graph u ≤ level → IfOk result (λ w. Contains (quantifications after) (Quantification u level w))
@@ -77,7 +77,7 @@ pub record CanClose {S : Type 0} (table : TableState S) (cache : ExistsCache) (o
 pub record Closes {S : Type 0} (tells : Bool) (channel : S → Channel) (lent : S → Beside) (old : TableState S) (before : ExistsCache) (ors : OrCache) (p : Above) (high low : Node)
     (new : TableState S) (after : ExistsCache) (ors_after : OrCache) (result : Result Node TableError) : Type 0 where
   pub runs : Runs tells channel lent old (both_caches before ors) (quantification_of old.graph p.node p.level) new (both_caches after ors_after) result
-  pub remembers : RemembersBut (HasQuestion p.node p.level) (most_quantifications before) (quantifications before) (most_quantifications after) (quantifications after)
+  pub room : MakesRoomFor before after p.node p.level
   pub same_ors : ors_after ≡ ors
   pub quantified : IfOk result (λ w. Quantified new.graph p.node p.level w)
   pub kept : IfOk result (λ w. Contains (quantifications after) (Quantification p.node p.level w))

@@ -9,10 +9,9 @@ ghost use Rattle.node_table.specs.Made.{LacksPart, MakesOnly, ReachesNew};
 ghost use Rattle.node_table.specs.Progress.{Steps, error_of};
 ghost use Rattle.operations.specs.Results.{Quantified};
 ghost use Rattle.operations.specs.Entries.{Entry, Fits, HaveSame, Quantification};
-ghost use Rattle.quantify.specs.OrCache.{disjunctions, most_disjunctions};
+ghost use Rattle.quantify.specs.OrCache.{RemembersDisjunctions};
 ghost use Rattle.quantify.specs.ExistsCache.{both_caches, most_quantifications, quantifications};
 ghost use Rattle.quantify.specs.Quantification.{CanQuantify, IsAbove, IsAnswered, IsMissed, Quantifies, quantification_of, quantifying};
-ghost use Rattle.quantify.specs.Runs.{Remembers};
 
 use crate::disjoin::or;
 use crate::exists_cache::ExistsCache;
@@ -23,7 +22,7 @@ use node_table::{
     Node, Table, TableError, canonical_law, cofactor_law, growth_law, reach_law, steps_law,
     subfunction_law,
 };
-use operations::{Operation, Reply, entry_law, work_off};
+use operations::{Operation, Reply, cache_law, entry_law, work_off};
 use std::alloc::Global;
 
 /// The node that holds where some value of this level's variable makes u hold. Nodes and clauses that were there stay; what
@@ -54,7 +53,7 @@ pub fn exists<S: Sink + Drop>(
     ensures remembered { (entry : Entry) → Contains (quantifications cache.old) entry → Contains (quantifications cache.new) entry ⊎ (most_quantifications cache.old ≤ length (quantifications cache.new)) }
     ensures no_fewer { length (quantifications cache.old) ≤ length (quantifications cache.new) }
     ensures capacity { most_quantifications cache.new ≡ most_quantifications cache.old }
-    ensures ors { Remembers (most_disjunctions ors.old) (disjunctions ors.old) (most_disjunctions ors.new) (disjunctions ors.new) }
+    ensures ors { RemembersDisjunctions ors.old ors.new }
     // A constant, and a node below the level: nothing changes.
     ensures plain { level < level_of table.old.graph u → (result ≡ Ok u) × (table.new ≡ table.old) × (cache.new ≡ cache.old) × (ors.new ≡ ors.old) }
     // However it ends, each node that was made is a subfunction of the quantification; on success none is left over.
@@ -111,6 +110,8 @@ impl<'a, S: Sink + Drop> Operation<S> for ExistsOperation<'a> {
     ) -> Result<Reply<Above, Node>, TableError> {
         steps_law::<S>();
         entry_law::<S>();
+        cache_law::<(Node, u32), Node>();
+        cache_law::<(Node, Node), Node>();
         cofactor_law();
         growth_law();
         subfunction_law();
@@ -199,6 +200,7 @@ fn disjoin_children<S: Sink + Drop>(
 {
     steps_law::<S>();
     entry_law::<S>();
+    cache_law::<(Node, u32), Node>();
     cofactor_law();
     growth_law();
     subfunction_law();

@@ -6,11 +6,11 @@ use Rattle.node_table.specs.declared.node.Node.{Node}
 use Rattle.node_table.specs.HandedOn.{handed_on}
 use Rattle.operations.specs.Entries.{Quantification}
 use Rattle.quantify.specs.declared.exists_cache.ExistsCache.{ExistsCache}
-use Rattle.quantify.specs.ExistsCache.{both_caches, most_quantifications, quantifications}
-use Rattle.quantify.specs.OrCache.{disjunctions, most_disjunctions}
+use Rattle.quantify.specs.ExistsCache.{both_caches, quantification, quantifications}
+use Rattle.quantify.specs.OrCache.{disjunction, disjunctions}
 use Rattle.quantify.specs.Quantification.{IsAnswered, Quantifies, quantification_of}
 use Rattle.quantify.proofs.BothCaches.{looked_part}
-use Rattle.quantify.proofs.Lists.{have_same, remembers_all, remembers_same}
+use Rattle.quantify.proofs.Lists.{have_same, remembers_all, remembers_looked}
 use Rattle.quantify.proofs.Quantifications.{only_quantification, quantified_below}
 use Rattle.quantify.proofs.Running.{runs_none}
 use Rattle.quantify.proofs.quantify.answer.Goals as goal
@@ -31,8 +31,8 @@ returns-then-level-own g c =
     let can = c.requires.can in
     let found = quantified_below c.cofactor_law.ensures table.graph can.sound.tied.reduced level u (record { stands = can.stands; below = omega (arith, c.if-level-own.true, c.level_of-own.ensures) }) in record {
       runs = runs_none c.steps_law.ensures c.subfunction_law.ensures table (both_caches cache ors) (quantification_of table.graph u level) can.sound (both_caches cache ors) can.fits u;
-      remembers = remembers_all (most_quantifications cache) (quantifications cache);
-      remembers_ors = remembers_all (most_disjunctions ors) (disjunctions ors);
+      remembers = remembers_all quantification cache.results;
+      remembers_ors = remembers_all disjunction ors.results;
       quantified = found;
       reachable = c.reach_law.ensures.none_made table.graph u;
       kept = λ at. absurd (omega (arith, at, c.if-level-own.true, c.level_of-own.ensures));
@@ -59,8 +59,8 @@ returns-in-Some g c =
     let there = looked.same.back (Quantification u level w) c.in-Some.ensures.found in record {
       runs = runs_none c.steps_law.ensures c.subfunction_law.ensures table (both_caches cache ors) (quantification_of table.graph u level) can.sound (both_caches after ors)
           (looked_part c.entry_law.ensures table cache ors can.fits after looked.same) w;
-      remembers = remembers_same (most_quantifications cache) (most_quantifications after) (quantifications cache) (quantifications after) looked.capacity looked.no_fewer looked.same;
-      remembers_ors = remembers_all (most_disjunctions ors) (disjunctions ors);
+      remembers = remembers_looked quantification cache.results after.results looked;
+      remembers_ors = remembers_all disjunction ors.results;
       quantified = (can.fits.each (Quantification u level w) (Contains-append_left (quantifications cache) (disjunctions ors) _ there)).1;
       reachable = c.reach_law.ensures.none_made table.graph w;
       kept = λ at. c.in-Some.ensures.found;

@@ -1,5 +1,5 @@
 -- The disjunction of both children, with the cache of quantifications beside its own; it is kept.
-use Rattle.std.proofs.Common.{Contains, Ok, Err, refl, arith, subst, sym}
+use Rattle.std.proofs.Common.{Ok, Err, refl, arith, subst, sym}
 use Rattle.node_table.specs.declared.error.TableError.TheVariants.{OutOfMemory}
 use Rattle.node_table.specs.declared.node.Node.{Node}
 use Rattle.node_table.specs.Diagram.{high_at, low_at}
@@ -7,12 +7,12 @@ use Rattle.node_table.specs.HandedOn.{handed_on, no_error}
 use Rattle.node_table.specs.Made.{LacksPart, MakesOnly}
 use Rattle.operations.specs.Results.{Disjoined}
 use Rattle.quantify.specs.declared.exists_cache.ExistsCache.{ExistsCache}
-use Rattle.quantify.specs.ExistsCache.{HasQuestion, both_caches, most_quantifications, quantifications}
+use Rattle.quantify.specs.ExistsCache.{both_caches, quantification}
 use Rattle.quantify.specs.OrCache.{disjunctions}
 use Rattle.quantify.specs.Quantification.{Quantifies, quantification_of}
 use Rattle.quantify.specs.Runs.{Runs}
 use Rattle.quantify.proofs.BothCaches.{kept_part, ors_part, runs_beside}
-use Rattle.quantify.proofs.Lists.{remembers_all, remembers_new}
+use Rattle.quantify.proofs.Lists.{remembers_all}
 use Rattle.quantify.proofs.Quantifications.{quantification_by, quantified_disjoined}
 use Rattle.quantify.proofs.Running.{Answer, runs_further, runs_none, runs_refused}
 use Rattle.quantify.proofs.quantify.disjoin_children.Goals as goal
@@ -44,8 +44,8 @@ returns-in_err-w g c =
     } in
     subst (λ (r : Answer). Quantifies g.S.Sink.tells g.S.Sink.channel g.S.Sink.beside old cache ors u level new cache c.or.new.cache r) (sym (handed_on _ came came c.from_residual.ensures.1 refl)) (record {
       runs = runs_beside c.entry_law.ensures old can.sound cache ors can.fits (quantification_of old.graph u level) new c.or.new.cache (Err came) own;
-      remembers = remembers_all (most_quantifications cache) (quantifications cache);
-      remembers_ors = record { capacity = done.capacity; no_fewer = done.no_fewer; remembered = done.remembered };
+      remembers = remembers_all quantification cache.results;
+      remembers_ors = record { entries = done.remembered; no_fewer = done.no_fewer; capacity = done.capacity };
       quantified = tt;
       reachable = tt;
       kept = λ at. tt;
@@ -81,8 +81,8 @@ returns-in_err-keep g c =
     (subst (λ (after : ExistsCache). Quantifies g.S.Sink.tells g.S.Sink.channel g.S.Sink.beside old cache ors u level new after c.or.new.cache (Err OutOfMemory)) (sym c.in_err-keep.ensures.refused) (record {
       runs = runs_further c.steps_law.ensures c.subfunction_law.ensures old (both_caches cache ors) (quantification_of old.graph u level) new list (Err OutOfMemory) new list w first
           (runs_refused c.steps_law.ensures c.subfunction_law.ensures new list (quantification_of old.graph u level) first.steps.leaves.sound list (first.fits no_error));
-      remembers = remembers_all (most_quantifications cache) (quantifications cache);
-      remembers_ors = record { capacity = done.capacity; no_fewer = done.no_fewer; remembered = done.remembered };
+      remembers = remembers_all quantification cache.results;
+      remembers_ors = record { entries = done.remembered; no_fewer = done.no_fewer; capacity = done.capacity };
       quantified = tt;
       reachable = tt;
       kept = λ at. tt;
@@ -123,9 +123,8 @@ returns g c =
     let fits = kept_part c.entry_law.ensures new cache c.or.new.cache (first.fits no_error) after u w level (stands, found) kept in record {
       runs = runs_further c.steps_law.ensures c.subfunction_law.ensures old (both_caches cache ors) (quantification_of old.graph u level) new (both_caches after c.or.new.cache) (Ok w) new list w first
           (runs_none c.steps_law.ensures c.subfunction_law.ensures new list (quantification_of old.graph u level) first.steps.leaves.sound (both_caches after c.or.new.cache) fits w);
-      remembers = remembers_new (HasQuestion u level) _ _ _ (quantifications cache) (quantifications cache) (quantifications after) (remembers_all (most_quantifications cache) (quantifications cache))
-          (record { capacity = kept.room.capacity; no_fewer = kept.room.no_fewer; others = kept.room.others }) (λ entry asked there. c.requires.missed asked.0 (subst (Contains (quantifications cache)) asked.1 there));
-      remembers_ors = record { capacity = done.capacity; no_fewer = done.no_fewer; remembered = done.remembered };
+      remembers = c.cache_law.ensures.makes_room quantification cache.results cache.results after.results (u, level) c.requires.missed (remembers_all quantification cache.results) kept.room;
+      remembers_ors = record { entries = done.remembered; no_fewer = done.no_fewer; capacity = done.capacity };
       quantified = found;
       reachable = done.reachable;
       kept = λ at. kept.one.kept;

@@ -26,4 +26,4 @@ returns-clause-known g c w there =
 pub returns-clause-remembered : goal.returns-clause-remembered
 returns-clause-remembered g c entry there =
     carried (λ (all : List Entry). Contains all entry ⊎ (most_quantifications c.args.cache.now ≤ length all)) (quantifications c.work_off.new.cache.exists.now) _ (search rules)
-    (c.work_off.ensures.0.remembers.remembered entry there)
+    (c.work_off.ensures.0.remembers.entries entry there)

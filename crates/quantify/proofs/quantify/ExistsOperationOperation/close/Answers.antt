@@ -3,10 +3,10 @@ use Rattle.std.proofs.Common.{Ok, Err, length, ap, refl, subst, sym}
 use Rattle.node_table.specs.declared.error.TableError.TheVariants.{OutOfMemory}
 use Rattle.node_table.specs.HandedOn.{handed_on, no_error}
 use Rattle.quantify.specs.declared.exists_cache.ExistsCache.{ExistsCache}
-use Rattle.quantify.specs.ExistsCache.{HasQuestion, both_caches, most_quantifications, quantifications}
+use Rattle.quantify.specs.ExistsCache.{both_caches, quantification}
 use Rattle.quantify.specs.Quantification.{Closes, quantification_of}
 use Rattle.quantify.proofs.BothCaches.{kept_part}
-use Rattle.quantify.proofs.Lists.{remembers_but_all}
+use Rattle.quantify.proofs.Lists.{makes_no_room}
 use Rattle.quantify.proofs.Quantifications.{high_found_below, low_found_below, quantification_sides, quantified_joined}
 use Rattle.quantify.proofs.Running.{Answer, runs_further, runs_none, runs_refused}
 use Rattle.quantify.proofs.quantify.ExistsOperationOperation.close.Goals as goal
@@ -31,7 +31,7 @@ returns-in_err-w-clause-closes g c =
     let sides = quantification_sides c.cofactor_law.ensures old.graph c.requires.sound.tied.reduced p c.requires.above c.args.high.now c.args.low.now c.requires.on_high c.requires.on_low in (
       subst (λ (r : Answer). Closes g.S.Sink.tells g.S.Sink.channel g.S.Sink.beside old cache ors p c.args.high.now c.args.low.now new cache ors r) (sym (handed_on _ came came c.from_residual.ensures.1 refl)) (record {
         runs = c.in_err-w.ensures.runs list (quantification_of old.graph p.node p.level) c.requires.fits sides;
-        remembers = remembers_but_all (HasQuestion p.node p.level) (most_quantifications cache) (quantifications cache);
+        room = makes_no_room quantification cache.results (p.node, p.level);
         same_ors = refl;
         quantified = tt;
         kept = tt;
@@ -60,7 +60,7 @@ returns-in_err-keep-clause-closes g c =
           (subst (λ (after : ExistsCache). Closes g.S.Sink.tells g.S.Sink.channel g.S.Sink.beside old cache ors p c.args.high.now c.args.low.now new after ors (Err OutOfMemory)) (sym c.in_err-keep.ensures.refused) (record {
             runs = runs_further c.steps_law.ensures c.subfunction_law.ensures old list function new list (Err OutOfMemory) new list c.in_ok-w.w first
                 (runs_refused c.steps_law.ensures c.subfunction_law.ensures new list function first.steps.leaves.sound list (first.fits no_error));
-            remembers = remembers_but_all (HasQuestion p.node p.level) (most_quantifications cache) (quantifications cache);
+            room = makes_no_room quantification cache.results (p.node, p.level);
             same_ors = refl;
             quantified = tt;
             kept = tt;
@@ -96,7 +96,7 @@ returns-clause-closes g c =
       record {
         runs = runs_further c.steps_law.ensures c.subfunction_law.ensures old list function new (both_caches after ors) (Ok w) new list w first
             (runs_none c.steps_law.ensures c.subfunction_law.ensures new list function first.steps.leaves.sound (both_caches after ors) fits w);
-        remembers = record { capacity = kept.room.capacity; no_fewer = kept.room.no_fewer; others = kept.room.others };
+        room = kept.room;
         same_ors = refl;
         quantified = found;
         kept = kept.one.kept;
