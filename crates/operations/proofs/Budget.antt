@@ -37,7 +37,6 @@ levels_kept growth old new keeps u v first second =
 
 -- There are fewer levels from the cofactors on, and the steps are those of both sides and of the last one.
 module _ (splits : Splitting) (growth : Growth) {S : Type 0} (old : TableState S) (sound : IsSound old) (o : Operands) (split : AreSplit old.graph o) where
-
   pub high_falls : levels_from old.graph o.u_high o.v_high < levels_from old.graph o.u o.v
   high_falls =
       splits.fewer old.graph sound.tied.reduced o split o.u_high o.v_high (splits.u_high old.graph sound.tied.reduced o split) (splits.v_high old.graph sound.tied.reduced o split)

@@ -102,13 +102,16 @@ module _ {S Cache Question Parts Answer : Type 0} (calls : Calls S Cache Questio
     next_from : (floor : ℕ) (now : TableState S) (cache : Cache) (reply : Result (Reply Parts Answer) TableError) → IsNext calls one floor now cache reply → IsNext calls rest floor now cache reply
     next_from floor now cache (Err error) next = from now cache (Err error) next
     next_from floor now cache (Ok (Give answer)) next = from now cache (Ok answer) next
-    next_from floor now cache (Ok (Open parts)) next = (next.0, record {
-      refused = from now cache (Err OutOfMemory) next.1.refused;
-      level = next.1.level;
-      ready = next.1.ready;
-      later = next.1.later;
-      high = λ new after result ends. high_from new after parts result (next.1.high new after result ends);
-    })
+    next_from floor now cache (Ok (Open parts)) next = (
+      next.0,
+      record {
+        refused = from now cache (Err OutOfMemory) next.1.refused;
+        level = next.1.level;
+        ready = next.1.ready;
+        later = next.1.later;
+        high = λ new after result ends. high_from new after parts result (next.1.high new after result ends);
+      },
+    )
 
   -- How many turns the frames may still take, and the call that is to be asked.
   abbrev pub turns_in : ℕ → Parts → Option Answer → ℕ

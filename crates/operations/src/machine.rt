@@ -92,7 +92,9 @@ pub fn work_off<S: Sink + Drop, O: Operation<S>>(
                             turn = Turn::Ask(question);
                         }
                     },
-                    Some(high) => turn = Turn::Answer(O::close(table, cache, &parts, &high, &found)?),
+                    Some(high) => turn = Turn::Answer(O::close(
+                        table, cache, &parts, &high, &found,
+                    )?),
                 }
             }
         }
