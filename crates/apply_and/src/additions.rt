@@ -27,7 +27,9 @@ use hint_chain::{
 };
 use host_io::Sink;
 use node_table::{Just, Node, Table, TableError, growth_law, steps_law};
-use operations::{Operands, Side, down_part, just_part, operand_law, up_part};
+use operations::{
+    Operands, Side, behind, down_part, high_clause_law, just_part, operand_law, up_part,
+};
 use std::alloc::Global;
 
 /// Justifies that w is the conjunction of the operands, where it is neither of them. Unless a write failed, the high
@@ -58,6 +60,7 @@ pub fn justify<S: Sink + Drop>(
     ensures beside { S.beside table.new.book.sink ≡ S.beside table.old.book.sink }
 {
     steps_law::<S>();
+    high_clause_law::<S>();
     operand_law();
     growth_law();
     clause_law();
@@ -121,6 +124,7 @@ fn add_high<S: Sink + Drop>(
     conjunction_law();
     greedy_law();
     clause_law();
+    high_clause_law::<S>();
     let level = operands.level;
     let long = behind(table.variable(level).negated(), clause);
     let parts = [
@@ -166,6 +170,7 @@ fn add_low<S: Sink + Drop>(
     conjunction_law();
     greedy_law();
     clause_law();
+    high_clause_law::<S>();
     let level = operands.level;
     let parts = [
         Some(first),
@@ -176,17 +181,4 @@ fn add_low<S: Sink + Drop>(
     ];
     let hints = and_low(alloc, clause, parts);
     table.justify(clause, hints.as_slice())
-}
-
-// A clause with one literal before it.
-fn behind(literal: Lit, clause: &[Lit]) -> ShortClause
-    requires { length clause.now ≤ 3 }
-    ensures { result ≡ literal ∷ clause.now }
-{
-    let mut long = ShortClause::new();
-    long.push(literal);
-    for own in clause {
-        long.push(*own);
-    }
-    long
 }

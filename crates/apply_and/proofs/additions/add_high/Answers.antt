@@ -10,7 +10,6 @@ use Rattle.operations.specs.Results.{conjunction_atoms}
 use Rattle.operations.specs.Sides.{cofactor_at}
 use Rattle.operations.specs.declared.parts.Side.TheVariants.{High}
 use Rattle.lrat_rules.specs.State.{clause_at}
-use Rattle.apply_and.proofs.Added.{added_at}
 use Rattle.apply_and.proofs.Closed.{high_apart, high_over, high_clause, side_justified}
 use Rattle.apply_and.proofs.additions.add_high.Goals as goal
 
@@ -70,7 +69,7 @@ pub returns-clause-added : goal.returns-clause-added
 returns-clause-added g c =
     let old = c.args.table.now.book.state in
     let new = c.justify.new.self.book.state in
-    let at = added_at old new c.in_ok-id.id c.as_slice-2.result.now c.in_ok-id.ensures.added in
+    let at = c.high_clause_law.ensures.added old new c.in_ok-id.id c.as_slice-2.result.now c.in_ok-id.ensures.added in
     let same : c.new.result.clause ≡ c.as_slice-2.result.now = c.new.ensures.clause ∙ c.as_slice-4.ensures.literals ∙ sym c.as_slice-2.ensures.literals in (
       c.new.ensures.clause ∙ c.as_slice-4.ensures.literals ∙ c.behind-long.ensures ∙ ap (λ (l : ℤ). l ∷ c.args.clause.now) (c.negated.ensures ∙ ap neg_ℤ c.variable.ensures),
       ap (clause_at new.live) c.new.ensures.id ∙ at ∙ ap Some (sym same),

@@ -7,7 +7,6 @@ use Rattle.node_table.specs.Defined.{atom_of}
 use Rattle.operations.specs.Results.{conjunction_atoms}
 use Rattle.operations.specs.Sides.{cofactor_at}
 use Rattle.operations.specs.declared.parts.Side.TheVariants.{Low}
-use Rattle.apply_and.proofs.Added.{added_if}
 use Rattle.apply_and.proofs.Closed.{low_apart, low_over, high_clause, side_justified, variable_within}
 use Rattle.apply_and.proofs.additions.add_low.Goals as goal
 
@@ -56,6 +55,3 @@ just_part-requires g c =
     let graph = c.args.table.now.graph in
     let o = c.args.operands.now in
     (conjunction_atoms graph (cofactor_at Low graph o.level o.u) (cofactor_at Low graph o.level o.v) c.args.low.now.0, three_of_four, c.requires.side.justified)
-
-pub returns-clause-added : goal.returns-clause-added
-returns-clause-added g c = added_if c.justify.result c.args.table.now.book.state c.justify.new.self.book.state c.args.clause.now c.justify.ensures.added

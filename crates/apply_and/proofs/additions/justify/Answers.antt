@@ -1,4 +1,4 @@
-use Rattle.std.proofs.Common.{rules, ◌≡◌, ◌≢◌, ◌∙◌, ℕ, true, Some, Err, ap, sym, subst}
+use Rattle.std.proofs.Common.{rules, ◌≡◌, ◌≢◌, ◌∙◌, ◌+◌, ◌++◌, ◌∷◌, [], ℕ, Bool, true, Contains, None, Some, Err, ap, sym, subst}
 use Rattle.hint_chain.specs.Closing.{are_among}
 use Rattle.hint_chain.specs.Atoms.{clause_of}
 use Rattle.node_table.specs.declared.error.TableError.TheVariants.{WriteFault}
@@ -11,7 +11,9 @@ use Rattle.operations.specs.Results.{conjunction_atoms}
 use Rattle.operations.specs.declared.parts.Side.TheVariants.{High, Low}
 use Rattle.apply_and.specs.Additions.{IsSide}
 use Rattle.apply_and.proofs.Closed.{is_open}
-use Rattle.apply_and.proofs.HighClause.{retires_new, gives_low, gives_none, gives_nothing, gives_refused, steps_retired, unretired_still}
+use Rattle.host_io.specs.Channel.{Channel}
+use Rattle.node_table.specs.Progress.{Steps}
+use Rattle.operations.specs.Additions.{IsAdded, RetiresHigh}
 use Rattle.apply_and.proofs.additions.justify.Goals as goal
 
 pub add_low-requires-clause-side : goal.add_low-requires-clause-side
@@ -35,21 +37,6 @@ retire-requires-clause-own g c =
     (c.steps_law.ensures.added c.add_high.new.table c.add_low.new.table c.in_ok-first.ensures.steps.leaves.sound c.in-Ok.ensures.steps.leaves.sound c.in-Ok.ensures.steps.extends
     c.in_ok-first.first.id c.in_ok-first.ensures.own)
 
-pub retire-requires-clause-unretired : goal.retire-requires-clause-unretired
-retire-requires-clause-unretired g c there =
-    unretired_still c.add_high.new.table c.add_low.new.table c.in-Ok.ensures.retired c.id-high_clause.result c.in_ok-first.first.id c.id-high_clause.ensures c.in_ok-first.ensures.unretired there
-
-pub retire-requires-in-Err-2-clause-unretired : goal.retire-requires-in-Err-2-clause-unretired
-retire-requires-in-Err-2-clause-unretired g c there =
-    unretired_still c.add_high.new.table c.add_low.new.table c.in-Err.ensures.retired c.id-high_clause.result c.in_ok-first.first.id c.id-high_clause.ensures c.in_ok-first.ensures.unretired there
-
-pub returns-in_default-clause-gives : goal.returns-in_default-clause-gives
-returns-in_default-clause-gives g c untorn = gives_nothing c.args.table.now c.requires.sound
-
-pub returns-in_err-first-clause-gives : goal.returns-in_err-first-clause-gives
-returns-in_err-first-clause-gives g c =
-    gives_refused c.args.table.now c.add_high.new.table c.requires.sound c.from_residual.result c.in_err-first.field-0.0 c.from_residual.ensures.1 c.in_err-first.ensures.refused
-
 pub returns-in-Ok-clause-justified : goal.returns-in-Ok-clause-justified
 returns-in-Ok-clause-justified g c =
     let graph = c.args.table.now.graph in
@@ -63,21 +50,35 @@ returns-in-Ok-clause-justified g c =
       c.in-Ok.ensures.added ∙ sym is,
     ))
 
+-- the clause that an addition made, and that of the high one, which is retired
+added : {S : Type 0} (tells : Bool) (channel : S → Channel) (old new : TableState S) (id : ℕ) → Steps tells (channel old.book.sink) (channel new.book.sink) old new 1 None
+    → (id ≡ old.book.state.top + 1) × (new.book.state.top ≡ id) → IsAddedTo new id → new.retired ≡ old.retired → (Contains new.retired id → ⊥) → IsAdded tells channel old new id
+added tells channel old new id steps number own retired free = record { steps = steps; number = number.0; top = number.1; own = own; retired = retired; unretired = free }
+
+gone : {S : Type 0} (tells : Bool) (channel : S → Channel) (old new : TableState S) (high id : ℕ) → high ≡ id → Steps tells (channel old.book.sink) (channel new.book.sink) old new 0 None
+    → new ≡ record old { retired = old.retired ++ high ∷ [] } → RetiresHigh tells channel old new id
+gone tells channel old new high id same steps is = record { steps = steps; is = is ∙ ap (λ (i : ℕ). record old { retired = old.retired ++ i ∷ [] }) same }
+
 pub returns-in-Ok-clause-steps : goal.returns-in-Ok-clause-steps
 returns-in-Ok-clause-steps g c =
-    c.steps_law.ensures.further _ _ _ _ _ _ _ _ _ c.in_ok-first.ensures.steps (c.steps_law.ensures.further _ _ _ _ _ _ _ _ _ c.in-Ok.ensures.steps c.retire.ensures.steps)
+    (c.high_clause_law.ensures.served c.args.table.now c.add_high.new.table c.add_low.new.table c.retire.new.self c.in_ok-first.first.id c.in-Ok.id
+    (added _ _ c.args.table.now c.add_high.new.table c.in_ok-first.first.id c.in_ok-first.ensures.steps c.in_ok-first.ensures.number c.in_ok-first.ensures.own c.in_ok-first.ensures.retired c.in_ok-first.ensures.unretired)
+    (added _ _ c.add_high.new.table c.add_low.new.table c.in-Ok.id c.in-Ok.ensures.steps c.in-Ok.ensures.number c.in-Ok.ensures.own c.in-Ok.ensures.retired c.in-Ok.ensures.unretired)
+    (gone _ _ c.add_low.new.table c.retire.new.self c.id-high_clause.result c.in_ok-first.first.id c.id-high_clause.ensures c.retire.ensures.steps c.retire.ensures.retired)).0
 
 pub returns-in-Ok-clause-retires : goal.returns-in-Ok-clause-retires
 returns-in-Ok-clause-retires g c =
-    retires_new c.args.table.now c.add_high.new.table c.add_low.new.table c.id-high_clause.result (c.id-high_clause.ensures ∙ c.in_ok-first.ensures.number.0)
-    c.in_ok-first.ensures.retired c.in-Ok.ensures.retired c.retire.new.self c.retire.ensures.retired
+    (c.high_clause_law.ensures.served c.args.table.now c.add_high.new.table c.add_low.new.table c.retire.new.self c.in_ok-first.first.id c.in-Ok.id
+    (added _ _ c.args.table.now c.add_high.new.table c.in_ok-first.first.id c.in_ok-first.ensures.steps c.in_ok-first.ensures.number c.in_ok-first.ensures.own c.in_ok-first.ensures.retired c.in_ok-first.ensures.unretired)
+    (added _ _ c.add_high.new.table c.add_low.new.table c.in-Ok.id c.in-Ok.ensures.steps c.in-Ok.ensures.number c.in-Ok.ensures.own c.in-Ok.ensures.retired c.in-Ok.ensures.unretired)
+    (gone _ _ c.add_low.new.table c.retire.new.self c.id-high_clause.result c.in_ok-first.first.id c.id-high_clause.ensures c.retire.ensures.steps c.retire.ensures.retired)).1
 
 pub returns-in-Ok-clause-gives : goal.returns-in-Ok-clause-gives
-returns-in-Ok-clause-gives g c _ =
-    gives_low c.args.table.now c.add_high.new.table c.add_low.new.table c.id-high_clause.result (c.id-high_clause.ensures ∙ c.in_ok-first.ensures.number.0)
-    c.in_ok-first.ensures.retired c.in-Ok.ensures.retired (c.in_ok-first.ensures.number.1 ∙ sym c.id-high_clause.ensures)
-    c.in-Ok.id c.in-Ok.ensures.number.0 c.in-Ok.ensures.number.1 c.in-Ok.ensures.steps.leaves.sound c.in-Ok.ensures.own c.in-Ok.ensures.unretired
-    c.retire.new.self c.retire.ensures.retired
+returns-in-Ok-clause-gives g c whole =
+    (c.high_clause_law.ensures.served c.args.table.now c.add_high.new.table c.add_low.new.table c.retire.new.self c.in_ok-first.first.id c.in-Ok.id
+    (added _ _ c.args.table.now c.add_high.new.table c.in_ok-first.first.id c.in_ok-first.ensures.steps c.in_ok-first.ensures.number c.in_ok-first.ensures.own c.in_ok-first.ensures.retired c.in_ok-first.ensures.unretired)
+    (added _ _ c.add_high.new.table c.add_low.new.table c.in-Ok.id c.in-Ok.ensures.steps c.in-Ok.ensures.number c.in-Ok.ensures.own c.in-Ok.ensures.retired c.in-Ok.ensures.unretired)
+    (gone _ _ c.add_low.new.table c.retire.new.self c.id-high_clause.result c.in_ok-first.first.id c.id-high_clause.ensures c.retire.ensures.steps c.retire.ensures.retired)).2
 
 pub returns-in-Err-clause-steps : goal.returns-in-Err-clause-steps
 returns-in-Err-clause-steps g c = c.steps_law.ensures.further _ _ _ _ _ _ _ _ _ c.in_ok-first.ensures.steps c.in-Err.ensures.steps
@@ -85,18 +86,23 @@ returns-in-Err-clause-steps g c = c.steps_law.ensures.further _ _ _ _ _ _ _ _ _ 
 pub returns-in-Err-2-clause-steps : goal.returns-in-Err-2-clause-steps
 returns-in-Err-2-clause-steps g c =
     let other : c.in-Err.e ≢ WriteFault = search rules in
-    c.steps_law.ensures.further _ _ _ _ _ _ _ _ _ c.in_ok-first.ensures.steps
-    (steps_retired c.steps_law.ensures c.add_high.new.table c.add_low.new.table c.retire-in-Err-2.new.self c.id-high_clause.result c.retire-in-Err-2.ensures.retired
-    c.retire-in-Err-2.ensures.steps 1 c.in-Err.e other c.in-Err.ensures.steps)
+    (c.high_clause_law.ensures.left c.args.table.now c.add_high.new.table c.add_low.new.table c.retire-in-Err-2.new.self c.in_ok-first.first.id c.in-Err.e
+    (added _ _ c.args.table.now c.add_high.new.table c.in_ok-first.first.id c.in_ok-first.ensures.steps c.in_ok-first.ensures.number c.in_ok-first.ensures.own c.in_ok-first.ensures.retired c.in_ok-first.ensures.unretired)
+    (record { steps = c.in-Err.ensures.steps; whole = other; same = c.in-Err.ensures.refused other })
+    (gone _ _ c.add_low.new.table c.retire-in-Err-2.new.self c.id-high_clause.result c.in_ok-first.first.id c.id-high_clause.ensures c.retire-in-Err-2.ensures.steps c.retire-in-Err-2.ensures.retired)).0
 
 pub returns-in-Err-2-clause-retires : goal.returns-in-Err-2-clause-retires
 returns-in-Err-2-clause-retires g c =
-    retires_new c.args.table.now c.add_high.new.table c.add_low.new.table c.id-high_clause.result (c.id-high_clause.ensures ∙ c.in_ok-first.ensures.number.0)
-    c.in_ok-first.ensures.retired c.in-Err.ensures.retired c.retire-in-Err-2.new.self c.retire-in-Err-2.ensures.retired
+    let other : c.in-Err.e ≢ WriteFault = search rules in
+    (c.high_clause_law.ensures.left c.args.table.now c.add_high.new.table c.add_low.new.table c.retire-in-Err-2.new.self c.in_ok-first.first.id c.in-Err.e
+    (added _ _ c.args.table.now c.add_high.new.table c.in_ok-first.first.id c.in_ok-first.ensures.steps c.in_ok-first.ensures.number c.in_ok-first.ensures.own c.in_ok-first.ensures.retired c.in_ok-first.ensures.unretired)
+    (record { steps = c.in-Err.ensures.steps; whole = other; same = c.in-Err.ensures.refused other })
+    (gone _ _ c.add_low.new.table c.retire-in-Err-2.new.self c.id-high_clause.result c.in_ok-first.first.id c.id-high_clause.ensures c.retire-in-Err-2.ensures.steps c.retire-in-Err-2.ensures.retired)).1
 
 pub returns-in-Err-2-clause-gives : goal.returns-in-Err-2-clause-gives
 returns-in-Err-2-clause-gives g c untorn =
-    gives_none c.args.table.now c.add_high.new.table c.add_low.new.table c.id-high_clause.result (c.id-high_clause.ensures ∙ c.in_ok-first.ensures.number.0)
-    c.in_ok-first.ensures.retired c.in-Err.ensures.retired (c.in_ok-first.ensures.number.1 ∙ sym c.id-high_clause.ensures)
-    c.in_ok-first.ensures.steps.leaves.sound (c.in-Err.ensures.refused (λ is. untorn (ap Err is)))
-    c.retire-in-Err-2.new.self c.retire-in-Err-2.ensures.retired
+    let other : c.in-Err.e ≢ WriteFault = λ is. untorn (ap Err is) in
+    (c.high_clause_law.ensures.left c.args.table.now c.add_high.new.table c.add_low.new.table c.retire-in-Err-2.new.self c.in_ok-first.first.id c.in-Err.e
+    (added _ _ c.args.table.now c.add_high.new.table c.in_ok-first.first.id c.in_ok-first.ensures.steps c.in_ok-first.ensures.number c.in_ok-first.ensures.own c.in_ok-first.ensures.retired c.in_ok-first.ensures.unretired)
+    (record { steps = c.in-Err.ensures.steps; whole = other; same = c.in-Err.ensures.refused other })
+    (gone _ _ c.add_low.new.table c.retire-in-Err-2.new.self c.id-high_clause.result c.in_ok-first.first.id c.id-high_clause.ensures c.retire-in-Err-2.ensures.steps c.retire-in-Err-2.ensures.retired)).2
