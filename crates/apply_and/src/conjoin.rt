@@ -28,8 +28,8 @@ use node_table::{
     steps_law, subfunction_law,
 };
 use operations::{
-    Operands, Operation, Reply, accounts_law, cache_law, clause_of, entry_law, operand_law, price_law,
-    retire, split, work_off,
+    Operands, Operation, Reply, accounts_law, budget_law, cache_law, clause_of, entry_law,
+    operand_law, price_law, retire, split, work_off,
 };
 use std::alloc::Global;
 
@@ -109,6 +109,7 @@ impl<S: Sink + Drop> Operation<S> for AndOperation {
         accounts_law::<S>();
         cache_law::<(Node, Node), Found>();
         price_law::<S, Found>();
+        budget_law::<S>();
         entry_law::<S>();
         operand_law();
         growth_law();
