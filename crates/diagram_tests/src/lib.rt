@@ -1,10 +1,14 @@
-//! Tests of the layers of diagrams: `node_table`, `clause_terms`, `apply_and`, `term_runner`.
+//! Tests of the layers of diagrams: `node_table`, `clause_terms`, `apply_and`, `quantify`, `term_runner`.
 #![tactic(auto)]
 
 #[cfg(test)]
 mod checked;
 #[cfg(test)]
 mod conjunctions;
+#[cfg(test)]
+mod depth;
+#[cfg(test)]
+mod disjunctions;
 #[cfg(test)]
 mod nodes;
 #[cfg(test)]
