@@ -4,9 +4,10 @@ use Rattle.node_table.specs.declared.node.Node.{Node}
 use Rattle.node_table.specs.declared.node.Just.{Just}
 use Rattle.operations.specs.Caches.{TellsKeys}
 use Rattle.operations.specs.Entries.{Conjunction}
+use Rattle.operations.specs.Numbers.{just_numbered}
 use Rattle.operations.specs.Pairs.{Pair, equal_pairs, same_pair}
 use Rattle.apply_and.specs.declared.cache.Found.{Found}
-use Rattle.apply_and.specs.Cache.{entry_of, just_numbered}
+use Rattle.apply_and.specs.Cache.{entry_of}
 
 -- an entry tells its operands, and what was found
 pub tells_pair : (e : Pair × Found) (u v w : Node) (just : Just) → entry_of e ≡ Conjunction u v w just → (e.0 ≡ (u, v)) × (e.1.node ≡ w) × (just_numbered e.1.clause ≡ just)

@@ -12,18 +12,19 @@ use Rattle.node_table.specs.Made.{ReachesNew}
 use Rattle.operations.specs.declared.operands.Operands.{Operands}
 use Rattle.operations.specs.Operands.{AreSplit, Splitting}
 use Rattle.operations.specs.Accounts.{Accounting, AccountsFor}
+use Rattle.operations.specs.Budget.{Budget}
 use Rattle.operations.specs.Caches.{Keeping, Remembers}
 use Rattle.operations.specs.Entries.{Fits, Fitting}
+use Rattle.operations.specs.Numbers.{just_numbered}
 use Rattle.operations.specs.Price.{Prices, Pricing}
 use Rattle.apply_and.specs.declared.cache.AndCache.{AndCache}
-use Rattle.apply_and.specs.Cache.{Pair, entries, entry_of, just_numbered, same_pair}
+use Rattle.apply_and.specs.Cache.{Pair, entries, entry_of, same_pair}
 use Rattle.apply_and.specs.declared.cache.Found.{Found}
 use Rattle.node_table.specs.Progress.{error_of}
 use Rattle.apply_and.specs.Calls.{Closes, Conjoins, IsUnknown}
 use Rattle.apply_and.specs.Conjunction.{conjunction_of}
 use Rattle.apply_and.proofs.Conjunctions.{IsReady, high_kept}
 use Rattle.apply_and.proofs.Made.{made_high, made_low, made_all, reached_all, lacks_high, lacks_low, lacks_both}
-use Rattle.apply_and.proofs.Handed.{steps_high, steps_low, steps_both}
 
 abbrev pub Answer : Type 0
 Answer = Result (Node × Just) TableError
@@ -57,18 +58,18 @@ module _ {S : Type 0} {tells : Bool} {channel : S → Channel} {lent : S → Bes
   }
 
   -- a call that is split: its high side, its low one, and the node of their results
-  module _ (law : StepByStep tells channel) (splits : Splitting) (growth : Growth) (fitting : Fitting S) (accounts : Accounting S) (caches : Keeping Pair Found same_pair) (pricing : Pricing S Found) (parts : Subfunctions) (paths : Reachability)
+  module _ (law : StepByStep tells channel) (budget : Budget tells channel) (splits : Splitting) (growth : Growth) (fitting : Fitting S) (accounts : Accounting S) (caches : Keeping Pair Found same_pair) (pricing : Pricing S Found) (parts : Subfunctions) (paths : Reachability)
       (old : TableState S) (before : AndCache) (sound : IsSound old) (o : Operands) (split : AreSplit old.graph o) (unknown : IsUnknown before o.u o.v) where
     pub high_failed : (one : TableState S) (cache_one : AndCache) (came : TableError) → Conjoins tells channel lent old before o.u_high o.v_high one cache_one (Err came)
         → Conjoins tells channel lent old before o.u o.v one cache_one (Err came)
     high_failed one cache_one came by_high = record {
       conjoined = tt;
-      steps = steps_high splits growth old sound o split o.u o.v (refl, refl) law one (Some came) by_high.steps;
+      steps = budget.high old one o (Some came) sound split by_high.steps;
       accounts = by_high.accounts;
       unretired = tt;
       kept = λ differ first second. tt;
       remembers = by_high.remembers;
-      price = pricing.high_failed old one before.results cache_one.results o came split by_high.price;
+      price = pricing.high_only old one before.results cache_one.results o (Some came) sound.tied.reduced split by_high.price;
       made = made_high parts growth splits old.graph sound.tied.reduced o split o.u o.v (refl, refl) one.graph by_high.made;
       reachable = tt;
       lacks = λ is. lacks_high parts growth splits old.graph sound.tied.reduced o split o.u o.v (refl, refl) one.graph (by_high.lacks is);
@@ -94,12 +95,13 @@ module _ {S : Type 0} {tells : Bool} {channel : S → Channel} {lent : S → Bes
           → Conjoins tells channel lent old before o.u o.v two cache_two (Err came)
       low_failed two cache_two came by_low = record {
         conjoined = tt;
-        steps = steps_low splits growth old sound o split o.u o.v (refl, refl) law one by_high.steps two (Some came) by_low.steps;
+        steps = budget.low old one two o (Some came) sound split by_high.steps by_low.steps;
         accounts = accounts_both two cache_two (Err came) by_low;
         unretired = tt;
         kept = λ differ first second. tt;
         remembers = remembers_both two cache_two (Err came) by_low;
-        price = pricing.low_failed old one two before.results cache_one.results cache_two.results o came sound.tied.reduced by_high.steps.extends.nodes split by_high.remembers.capacity by_high.price by_low.price;
+        price = pricing.low_last old one two before.results cache_one.results cache_two.results o (Some came) sound.tied.reduced sound_one.tied.reduced by_high.steps.extends.nodes split by_high.remembers.capacity
+            by_high.price by_low.price;
         made = made_low parts growth splits old.graph sound.tied.reduced o split o.u o.v (refl, refl) one.graph sound_one.tied.reduced by_high.steps.extends.nodes by_high.made
             two.graph by_low.steps.extends.nodes by_low.made;
         reachable = tt;
@@ -133,7 +135,7 @@ module _ {S : Type 0} {tells : Bool} {channel : S → Channel} {lent : S → Bes
             → Conjoins tells channel lent old before o.u o.v three cache_three result
         closed three cache_three result closes = record {
           conjoined = closes.conjoined;
-          steps = steps_both splits growth old sound o split o.u o.v (refl, refl) law one by_high.steps two three _ by_low.steps closes.steps;
+          steps = budget.both old one two three o (error_of result) sound split by_high.steps by_low.steps closes.steps;
           accounts = accounts.further old two three (entries before) (entries cache_two) (entries cache_three) (error_of result) (law.extend old one two by_high.steps.extends by_low.steps.extends) closes.steps.extends
               (accounts_both two cache_two (Ok low) by_low) closes.accounts;
           unretired = closes.unretired;

@@ -1,5 +1,5 @@
 -- The two additions of a conjunction: their clauses are of different variables, and their hints close.
-use Rattle.std.proofs.Common.{◌≡◌, ◌<◌, ◌≤◌, ℕ, zero, suc, ℤ, pos, neg_ℤ, nat_abs, true, false, List, ◌∷◌, Some, refl, sym, ap, subst, arith}
+use Rattle.std.proofs.Common.{◌≡◌, ℤ, pos, neg_ℤ, true, false, List, ◌∷◌, Some, sym, ap, subst}
 use Rattle.std.specs.Option.{option_map}
 use Rattle.lrat_rules.specs.State.{Live}
 use Rattle.hint_chain.specs.Atoms.{clause_of, is_trivial}
@@ -7,52 +7,37 @@ use Rattle.hint_chain.specs.Closing.{are_apart, are_among}
 use Rattle.hint_chain.specs.Additions.{where_true}
 use Rattle.node_table.specs.declared.node.Node.{Node}
 use Rattle.node_table.specs.declared.node.Just.{Just}
-use Rattle.node_table.specs.Diagram.{Graph, IsReduced, IsOrder, levels, variable_at}
+use Rattle.node_table.specs.Diagram.{Graph, IsReduced, IsOrder, variable_at}
 use Rattle.node_table.specs.Tied.{IsOverNodes}
 use Rattle.node_table.specs.Just.{IsJustified}
+use Rattle.operations.specs.Additions.{Literals}
 use Rattle.operations.specs.declared.operands.Operands.{Operands}
 use Rattle.operations.specs.declared.parts.Side.{Side}
 use Rattle.operations.specs.Results.{conjunction_atoms}
 use Rattle.operations.specs.Operands.{AreSplit, Splitting}
 use Rattle.operations.specs.Sides.{cofactor_at}
 use Rattle.apply_and.specs.Additions.{IsSide}
-use Rattle.apply_and.proofs.ConjunctionClauses.{IsAt, IsAt-from, conjunction_apart, conjunction_open, conjunction_owned, behind_apart, behind_owned}
+use Rattle.apply_and.proofs.ConjunctionClauses.{conjunction_apart, conjunction_open, conjunction_owned}
 
--- its variable is one of the formula's
-pub variable_within : (graph : Graph) → IsOrder graph.order → (level : ℕ) → level < levels graph → (0 < variable_at graph level) × (variable_at graph level ≤ levels graph)
-variable_within graph order level small = order.within level small
-
-abs_of_neg : (n : ℕ) → nat_abs (neg_ℤ (pos n)) ≡ n
-abs_of_neg zero = refl
-abs_of_neg (suc n) = refl
-
-module _ (splits : Splitting) (graph : Graph) (reduced : IsReduced graph) (ordered : IsOrder graph.order) (live : Live) (o : Operands) (split : AreSplit graph o) (w : Node) (side : Side) (found : Node × Just)
+module _ (literals : Literals) (splits : Splitting) (graph : Graph) (reduced : IsReduced graph) (ordered : IsOrder graph.order) (live : Live) (o : Operands) (split : AreSplit graph o) (w : Node) (side : Side) (found : Node × Just)
     (finished : IsSide graph live o w side found) (clause : List ℤ) (is : clause_of (conjunction_atoms graph o.u o.v w) ≡ Some clause) (among : are_among (conjunction_atoms graph o.u o.v w) clause ≡ true) where
-  first_at : IsAt graph o.u
-  first_at = IsAt-from graph o.u split.first.branch split.first.is
-
-  second_at : IsAt graph o.v
-  second_at = IsAt-from graph o.v split.second.branch split.second.is
-
   pub low_apart : are_apart clause ≡ true
-  low_apart = conjunction_apart graph reduced o.u o.v w first_at second_at split.differ finished.first_differs finished.second_differs clause is
+  low_apart = conjunction_apart literals graph reduced o.u o.v w split.first split.second split.differ finished.first_differs finished.second_differs clause is
 
   pub is_open : is_trivial (conjunction_atoms graph o.u o.v w) ≡ false
-  is_open = conjunction_open graph reduced o.u o.v w first_at second_at split.differ finished.first_differs finished.second_differs clause is
+  is_open = conjunction_open literals graph reduced o.u o.v w split.first split.second split.differ finished.first_differs finished.second_differs clause is
 
   pub low_over : IsOverNodes graph clause
-  low_over y there above = conjunction_owned graph o.u o.v w clause among y there
+  low_over y there above = conjunction_owned literals graph o.u o.v w clause among y there
 
-  variable : (0 < variable_at graph o.level) × (variable_at graph o.level ≤ levels graph)
-  variable = variable_within graph ordered o.level (splits.level graph reduced o split)
+  high_both : (are_apart (neg_ℤ (pos (variable_at graph o.level)) ∷ clause) ≡ true) × IsOverNodes graph (neg_ℤ (pos (variable_at graph o.level)) ∷ clause)
+  high_both = literals.behind graph reduced ordered o.level (splits.level graph reduced o split) clause (conjunction_owned literals graph o.u o.v w clause among) low_apart
 
   pub high_apart : are_apart (neg_ℤ (pos (variable_at graph o.level)) ∷ clause) ≡ true
-  high_apart =
-      behind_apart graph reduced (neg_ℤ (pos (variable_at graph o.level))) clause (omega (arith, abs_of_neg (variable_at graph o.level), variable.0)) (omega (arith, abs_of_neg (variable_at graph o.level), variable.1))
-      (conjunction_owned graph o.u o.v w clause among) low_apart
+  high_apart = high_both.0
 
   pub high_over : IsOverNodes graph (neg_ℤ (pos (variable_at graph o.level)) ∷ clause)
-  high_over = behind_owned graph (neg_ℤ (pos (variable_at graph o.level))) clause (omega (arith, abs_of_neg (variable_at graph o.level), variable.1)) (conjunction_owned graph o.u o.v w clause among)
+  high_over = high_both.1
 
   pub high_clause : clause_of (where_true (pos (variable_at graph o.level)) (conjunction_atoms graph o.u o.v w)) ≡ Some (neg_ℤ (pos (variable_at graph o.level)) ∷ clause)
   high_clause = ap (λ c. option_map (λ literals. neg_ℤ (pos (variable_at graph o.level)) ∷ literals) c) is

@@ -1,5 +1,5 @@
 -- The clause of a conjunction: its literals are of different variables, each the extension variable of a node.
-use Rattle.std.proofs.Common.{◌≡◌, ◌≢◌, ◌<◌, ◌≤◌, ◌||◌, ◌&&◌, ℕ, zero, suc, ℤ, pos, neg_ℤ, nat_abs, int_eq, Bool, true, false, not, List, [], ◌∷◌, Option, None, Some, refl, sym, ap, ◌∙◌, subst, arith, inl, inr, ne_eqb}
+use Rattle.std.proofs.Common.{◌≡◌, ◌≢◌, ◌<◌, ◌||◌, ◌&&◌, ℕ, zero, suc, ℤ, pos, neg_ℤ, nat_abs, int_eq, Bool, true, false, not, List, [], ◌∷◌, Option, None, Some, refl, sym, ap, ◌∙◌, subst, arith, inl, inr, ne_eqb}
 use Rattle.std.specs.Prelude.{◌==◌}
 use Rattle.std.specs.List.{list_any, list_all}
 use Rattle.std.proofs.Math.IntN.{neg_ℤ-neg_ℤ}
@@ -15,9 +15,10 @@ use Rattle.node_table.specs.declared.node.Node.{Node}
 use Rattle.node_table.specs.declared.node.Node.TheVariants.{False, True, Inner}
 use Rattle.node_table.specs.declared.node.NodeKey.{NodeKey}
 use Rattle.node_table.specs.declared.node.Branch.{Branch}
-use Rattle.node_table.specs.Diagram.{Graph, IsReduced, branch_at, branch_of, levels}
+use Rattle.node_table.specs.Diagram.{Graph, IsReduced, branch_at}
 use Rattle.node_table.specs.Defined.{atom_of, atom_in}
-use Rattle.node_table.specs.Tied.{IsOwned}
+use Rattle.operations.specs.Additions.{AreLiterals, AreOwned, Literals}
+use Rattle.operations.specs.Operands.{IsInner}
 use Rattle.operations.specs.Results.{conjunction_atoms}
 
 -- whole numbers and their signs
@@ -38,24 +39,6 @@ apart_first x xs positive none rest =
     let nonzero : is_nonzero x ≡ true = grind (arith, positive) in
     and_from (is_nonzero x && not (list_any (λ y. nat_abs x == nat_abs y) xs)) (are_apart xs)
     (and_from (is_nonzero x) (not (list_any (λ y. nat_abs x == nat_abs y) xs)) nonzero (ap not none)) rest
-
-none_alike : (n : ℕ) (xs : List ℤ) → ((y : ℤ) → list_any (int_eq y) xs ≡ true → n ≡ nat_abs y → ⊥) → list_any (λ y. n == nat_abs y) xs ≡ false
-none_alike n [] h = refl
-none_alike n (x ∷ xs) h =
-    let here : (n == nat_abs x) ≡ false = ne_eqb n (nat_abs x) (h x (or_first (int_eq x x) (list_any (int_eq x) xs) (int_itself x))) in
-    let rest : list_any (λ y. n == nat_abs y) xs ≡ false = none_alike n xs (λ y is. h y (or_second (int_eq y x) (list_any (int_eq y) xs) is)) in
-    ap (λ b. b || list_any (λ y. n == nat_abs y) xs) here ∙ rest
-  where
-    or_first : (a b : Bool) → a ≡ true → (a || b) ≡ true
-    or_first true b is = refl
-    or_first false b is = cc
-
-    or_second : (a b : Bool) → b ≡ true → (a || b) ≡ true
-    or_second true b is = refl
-    or_second false b is = is
-
-    int_itself : (x : ℤ) → int_eq x x ≡ true
-    int_itself x = (Decides-int_eq x x).1 refl
 
 among_list : (p : ℤ → Bool) (xs : List ℤ) (y : ℤ) → list_all p xs ≡ true → list_any (int_eq y) xs ≡ true → p y ≡ true
 among_list p [] y all is = cc
@@ -113,122 +96,68 @@ module _ (x y : ℕ) (x_positive : 0 < x) (y_positive : 0 < y) (differ : x ≢ y
       let yl : int_eq (neg_ℤ (neg_ℤ (pos y))) l ≡ false = other_variable y l third.2 in
       λ i. (xy i || (xl i || false)) || ((yl i || false) || false)
 
--- an inner node of the graph, by its key
-pub record IsAt (graph : Graph) (node : Node) : Type 0 where
-  pub key : NodeKey
-  pub branch : Branch
-  pub named : node ≡ Inner key
-  pub at : branch_at graph key.index ≡ Some branch
+-- a node that is a literal is an inner one
+inner_at : (graph : Graph) (node : Node) (l : ℤ) → atom_of graph node ≡ Of l → IsInner graph node
+inner_at graph False l is = cc
+inner_at graph True l is = cc
+inner_at graph (Inner key) l is = inner_in graph key l (branch_at graph key.index) refl is
+  where
+    inner_in : (graph : Graph) (key : NodeKey) (l : ℤ) (o : Option Branch) → branch_at graph key.index ≡ o → atom_in o ≡ Of l → IsInner graph (Inner key)
+    inner_in graph key l None at is = cc
+    inner_in graph key l (Some branch) at is = record { branch = branch; is = at }
 
-pub IsAt-from : (graph : Graph) (node : Node) (branch : Branch) → branch_of graph node ≡ Some branch → IsAt graph node
-IsAt-from graph False branch is = cc
-IsAt-from graph True branch is = cc
-IsAt-from graph (Inner key) branch is = record { key = key; branch = branch; named = refl; at = is }
+same_size : (l m : ℤ) → Of l ≡ Of m → nat_abs l ≡ nat_abs m
+same_size l m is = let same : l ≡ m = cc in ap nat_abs same
 
 -- a clause over nodes of different variables
-same_key : (graph : Graph) → IsReduced graph → (one two : Node) (first : IsAt graph one) (second : IsAt graph two) → first.branch.variable ≡ second.branch.variable → one ≡ two
-same_key graph reduced one two first second same =
-    let index : first.key.index ≡ second.key.index = reduced.apart first.key.index second.key.index first.branch second.branch first.at second.at same in
-    first.named ∙ ap (λ i. Inner (record { index = i })) index ∙ sym second.named
+module _ (literals : Literals) (graph : Graph) (reduced : IsReduced graph) (u v w : Node) (first : IsInner graph u) (second : IsInner graph v) (differ : u ≢ v) (not_first : w ≢ u) (not_second : w ≢ v) where
+  both : AreLiterals graph u v
+  both = literals.differ graph reduced u v first second differ
 
-atom_at : (graph : Graph) (node : Node) (at : IsAt graph node) → atom_of graph node ≡ Of (pos at.branch.variable)
-atom_at graph node at = ap (atom_of graph) at.named ∙ ap atom_in at.at
-
--- a node that is literal l is an inner one of that variable
-literal_at : (graph : Graph) (node : Node) (l : ℤ) → atom_of graph node ≡ Of l → (at : IsAt graph node) × (l ≡ pos at.branch.variable)
-literal_at graph False l is = cc
-literal_at graph True l is = cc
-literal_at graph (Inner key) l is = literal_in graph key l (branch_at graph key.index) refl is
-  where
-    literal_in : (graph : Graph) (key : NodeKey) (l : ℤ) (o : Option Branch) → branch_at graph key.index ≡ o → atom_in o ≡ Of l → (at : IsAt graph (Inner key)) × (l ≡ pos at.branch.variable)
-    literal_in graph key l None at is = cc
-    literal_in graph key l (Some branch) at is = (record { key = key; branch = branch; named = refl; at = at }, cc)
-
-module _ (graph : Graph) (reduced : IsReduced graph) (u v w : Node) (first : IsAt graph u) (second : IsAt graph v) (differ : u ≢ v) (not_first : w ≢ u) (not_second : w ≢ v) where
-  positive : (node : Node) (at : IsAt graph node) → 0 < at.branch.variable
-  positive node at = omega (arith, reduced.above at.key.index at.branch at.at)
-
-  others : first.branch.variable ≢ second.branch.variable
-  others same = differ (same_key graph reduced u v first second same)
-
-  third : IsThird first.branch.variable second.branch.variable (atom_of graph w)
+  third : IsThird both.first both.second (atom_of graph w)
   third = record {
     apart = λ l is.
-        let at = literal_at graph w l is in
-        let size : nat_abs l ≡ at.0.branch.variable = ap nat_abs at.1 in
-        let some : 0 < at.0.branch.variable = positive w at.0 in
-        (omega arith, (λ same. not_first (same_key graph reduced w u at.0 first (sym size ∙ same))), (λ same. not_second (same_key graph reduced w v at.0 second (sym size ∙ same))));
+        let inner = inner_at graph w l is in
+        let beside_first = literals.differ graph reduced w u inner first not_first in
+        let beside_second = literals.differ graph reduced w v inner second not_second in
+        let size = same_size l (pos beside_first.first) (sym is ∙ beside_first.first_is) in
+        let size_again = same_size l (pos beside_second.first) (sym is ∙ beside_second.first_is) in
+        let own = same_size (pos both.first) (pos beside_first.second) (sym both.first_is ∙ beside_first.second_is) in
+        let own_again = same_size (pos both.second) (pos beside_second.second) (sym both.second_is ∙ beside_second.second_is) in
+        (omega (arith, size, beside_first.first_above), (λ same. beside_first.differ (sym size ∙ same ∙ own)), (λ same. beside_second.differ (sym size_again ∙ same ∙ own_again)));
   }
 
-  in_variables : conjunction_atoms graph u v w ≡ conjunction (Of (pos first.branch.variable)) (Of (pos second.branch.variable)) (atom_of graph w)
-  in_variables i = conjunction (atom_at graph u first i) (atom_at graph v second i) (atom_of graph w)
+  in_variables : conjunction_atoms graph u v w ≡ conjunction (Of (pos both.first)) (Of (pos both.second)) (atom_of graph w)
+  in_variables i = conjunction (both.first_is i) (both.second_is i) (atom_of graph w)
 
   pub conjunction_apart : (clause : List ℤ) → clause_of (conjunction_atoms graph u v w) ≡ Some clause → are_apart clause ≡ true
-  conjunction_apart clause e =
-      pair_apart first.branch.variable second.branch.variable (positive u first) (positive v second) others (atom_of graph w) third clause (sym (ap clause_of in_variables) ∙ e)
+  conjunction_apart clause e = pair_apart both.first both.second both.first_above both.second_above both.differ (atom_of graph w) third clause (sym (ap clause_of in_variables) ∙ e)
 
   pub conjunction_open : (clause : List ℤ) → clause_of (conjunction_atoms graph u v w) ≡ Some clause → is_trivial (conjunction_atoms graph u v w) ≡ false
   conjunction_open clause e =
-      ap is_trivial in_variables ∙ pair_open first.branch.variable second.branch.variable (positive u first) (positive v second) others (atom_of graph w) third (λ always. no_clause always)
+      ap is_trivial in_variables ∙ pair_open both.first both.second both.first_above both.second_above both.differ (atom_of graph w) third (λ always. no_clause always)
     where
-      e_in_variables : clause_of (conjunction (Of (pos first.branch.variable)) (Of (pos second.branch.variable)) (atom_of graph w)) ≡ Some clause
+      e_in_variables : clause_of (conjunction (Of (pos both.first)) (Of (pos both.second)) (atom_of graph w)) ≡ Some clause
       e_in_variables = sym (ap clause_of in_variables) ∙ e
 
       no_clause : atom_of graph w ≡ Always → ⊥
       no_clause always =
-          let none : None ≡ clause_of (conjunction (Of (pos first.branch.variable)) (Of (pos second.branch.variable)) (atom_of graph w)) =
-          ap (λ t. clause_of (conjunction (Of (pos first.branch.variable)) (Of (pos second.branch.variable)) t)) (sym always) in
-          let both : None ≡ Some clause = none ∙ e_in_variables in
+          let none : None ≡ clause_of (conjunction (Of (pos both.first)) (Of (pos both.second)) (atom_of graph w)) =
+          ap (λ t. clause_of (conjunction (Of (pos both.first)) (Of (pos both.second)) t)) (sym always) in
+          let never : None ≡ Some clause = none ∙ e_in_variables in
           cc
 
 -- each literal is that of a node
-owned_atom : (graph : Graph) (node : Node) (y : ℤ) → is_literal y (atom_of graph node) ≡ true → IsOwned graph (nat_abs y)
-owned_atom graph node y is = owned_by graph node y (atom_of graph node) refl is
-  where
-    owned_by : (graph : Graph) (node : Node) (y : ℤ) (atom : Atom) → atom_of graph node ≡ atom → is_literal y atom ≡ true → IsOwned graph (nat_abs y)
-    owned_by graph node y Always at is = cc
-    owned_by graph node y Never at is = cc
-    owned_by graph node y (Of l) at is =
-        let own = literal_at graph node l at in
-        record { key = own.0.key.index; branch = own.0.branch; stands = own.0.at; own = sym (ap nat_abs (same_int y l is ∙ own.1)) }
-
-owned_negated : (graph : Graph) (node : Node) (y : ℤ) → is_literal y (neg_atom (atom_of graph node)) ≡ true → IsOwned graph (nat_abs y)
-owned_negated graph node y is = owned_by graph node y (atom_of graph node) refl is
-  where
-    owned_by : (graph : Graph) (node : Node) (y : ℤ) (atom : Atom) → atom_of graph node ≡ atom → is_literal y (neg_atom atom) ≡ true → IsOwned graph (nat_abs y)
-    owned_by graph node y Always at is = cc
-    owned_by graph node y Never at is = cc
-    owned_by graph node y (Of l) at is =
-        let own = literal_at graph node l at in
-        record { key = own.0.key.index; branch = own.0.branch; stands = own.0.at; own = sym (ap nat_abs (same_int y (neg_ℤ l) is ∙ ap neg_ℤ own.1) ∙ abs_neg own.0.branch.variable) }
-
-pub conjunction_owned : (graph : Graph) (u v w : Node) (clause : List ℤ) → are_among (conjunction_atoms graph u v w) clause ≡ true
-    → (y : ℤ) → list_any (int_eq y) clause ≡ true → IsOwned graph (nat_abs y)
-conjunction_owned graph u v w clause among y there =
+pub conjunction_owned : Literals → (graph : Graph) (u v w : Node) (clause : List ℤ) → are_among (conjunction_atoms graph u v w) clause ≡ true → AreOwned graph clause
+conjunction_owned literals graph u v w clause among y there =
     let some : list_any (is_literal y) (conjunction_atoms graph u v w) ≡ true = among_list (λ x. list_any (is_literal x) (conjunction_atoms graph u v w)) clause y among there in
     elim (or_cases (is_literal y (neg_atom (atom_of graph u))) (is_literal y (neg_atom (atom_of graph v)) || (is_literal y (atom_of graph w) || false)) some) [
-      | inl is ↦ owned_negated graph u y is
+      | inl is ↦ literals.negated graph u y is
       | inr more ↦ elim (or_cases (is_literal y (neg_atom (atom_of graph v))) (is_literal y (atom_of graph w) || false) more) [
-        | inl is ↦ owned_negated graph v y is
+        | inl is ↦ literals.negated graph v y is
         | inr last ↦ elim (or_cases (is_literal y (atom_of graph w)) false last) [
-          | inl is ↦ owned_atom graph w y is
+          | inl is ↦ literals.own graph w y is
           | inr never ↦ cc
         ]
       ]
-    ]
-
--- a variable of the formula before it
-pub behind_apart : (graph : Graph) → IsReduced graph → (x : ℤ) (clause : List ℤ) → 0 < nat_abs x → nat_abs x ≤ levels graph
-    → ((y : ℤ) → list_any (int_eq y) clause ≡ true → IsOwned graph (nat_abs y)) → are_apart clause ≡ true → are_apart (x ∷ clause) ≡ true
-behind_apart graph reduced x clause positive small owned apart =
-    apart_first x clause positive (none_alike (nat_abs x) clause (λ y is same.
-    let own = owned y is in
-    omega (arith, reduced.above own.key own.branch own.stands, own.own, same, small))) apart
-
-pub behind_owned : (graph : Graph) (x : ℤ) (clause : List ℤ) → nat_abs x ≤ levels graph → ((y : ℤ) → list_any (int_eq y) clause ≡ true → IsOwned graph (nat_abs y))
-    → (y : ℤ) → list_any (int_eq y) (x ∷ clause) ≡ true → levels graph < nat_abs y → IsOwned graph (nat_abs y)
-behind_owned graph x clause small owned y is above =
-    elim (or_cases (int_eq y x) (list_any (int_eq y) clause) is) [
-      | inl here ↦ let same : nat_abs y ≡ nat_abs x = ap nat_abs (same_int y x here) in absurd (omega (arith, same, small, above))
-      | inr there ↦ owned y there
     ]

@@ -15,16 +15,16 @@ use Rattle.node_table.specs.declared.node.Just.{Just}
 use Rattle.node_table.specs.declared.node.Just.TheVariants.{Trivial, Clause}
 use Rattle.node_table.specs.Diagram.{Graph, IsReduced, IsBelow}
 use Rattle.node_table.specs.Value.{Levels, value_of}
-use Rattle.node_table.specs.Defined.{atom_of, atom_in}
+use Rattle.node_table.specs.Defined.{atom_of}
 use Rattle.node_table.specs.Just.{IsJustified}
 use Rattle.node_table.specs.Table.{TableState, IsSound, Extends, HasChildren}
 use Rattle.node_table.specs.Laws.{Canonical, Cofactors}
+use Rattle.operations.specs.Additions.{AreLiterals}
 use Rattle.operations.specs.declared.operands.Operands.{Operands}
-use Rattle.operations.specs.Operands.{AreSplit, IsInner, Splitting}
+use Rattle.operations.specs.Operands.{AreSplit, Splitting}
 use Rattle.operations.specs.Results.{Conjoined, conjunction_atoms}
 use Rattle.operations.specs.Entries.{Conjunction, Fitting}
 use Rattle.apply_and.specs.Additions.{AreSides}
-use Rattle.apply_and.proofs.ConjunctionClauses.{IsAt-from}
 
 -- what was found of two nodes below a level stands below it
 pub found_below : (graph : Graph) (live : Live) (level : ℕ) (u v w : Node) (just : Just) → IsBelow graph level u → IsBelow graph level v → Conjoined graph live u v w just → IsBelow graph level w
@@ -124,9 +124,6 @@ module _ (laws : Cofactors) (splits : Splitting) (graph : Graph) (reduced : IsRe
 itself : (x : ℕ) → int_eq (neg_ℤ (neg_ℤ (pos x))) (pos x) ≡ true
 itself x = (Decides-int_eq (neg_ℤ (neg_ℤ (pos x))) (pos x)).1 (neg_ℤ-neg_ℤ (pos x))
 
-inner_atom : (graph : Graph) (node : Node) (inner : IsInner graph node) → (x : ℕ) × (atom_of graph node ≡ Of (pos x))
-inner_atom graph node inner = let at = IsAt-from graph node inner.branch inner.is in (at.branch.variable, ap (atom_of graph) at.named ∙ ap atom_in at.at)
-
 first_again : (x : ℕ) (v : Atom) → is_trivial (conjunction (Of (pos x)) v (Of (pos x))) ≡ true
 first_again x v = or_left (list_any (is_literal (neg_ℤ (neg_ℤ (pos x)))) (neg_atom v ∷ Of (pos x) ∷ [])) (is_trivial (neg_atom v ∷ Of (pos x) ∷ []))
     (or_right (is_literal (neg_ℤ (neg_ℤ (pos x))) (neg_atom v)) (int_eq (neg_ℤ (neg_ℤ (pos x))) (pos x) || false) (or_left (int_eq (neg_ℤ (neg_ℤ (pos x))) (pos x)) false (itself x)))
@@ -135,14 +132,11 @@ second_again : (x y : ℕ) → is_trivial (conjunction (Of (pos x)) (Of (pos y))
 second_again x y = or_right (list_any (is_literal (neg_ℤ (neg_ℤ (pos x)))) (Of (neg_ℤ (pos y)) ∷ Of (pos y) ∷ [])) (is_trivial (Of (neg_ℤ (pos y)) ∷ Of (pos y) ∷ []))
     (or_left (int_eq (neg_ℤ (neg_ℤ (pos y))) (pos y) || false) (is_trivial (Of (pos y) ∷ [])) (or_left (int_eq (neg_ℤ (neg_ℤ (pos y))) (pos y)) false (itself y)))
 
-pub trivial_operand : (graph : Graph) (u v w : Node) → IsInner graph u → IsInner graph v → (w ≡ u) ⊎ (w ≡ v) → is_trivial (conjunction_atoms graph u v w) ≡ true
-trivial_operand graph u v w first second (inl is) =
-    let x = inner_atom graph u first in
-    ap (λ (n : Node). is_trivial (conjunction_atoms graph u v n)) is ∙ ap (λ (t : Atom). is_trivial (conjunction t (atom_of graph v) t)) x.1 ∙ first_again x.0 (atom_of graph v)
-trivial_operand graph u v w first second (inr is) =
-    let x = inner_atom graph u first in
-    let y = inner_atom graph v second in
-    ap (λ (n : Node). is_trivial (conjunction_atoms graph u v n)) is ∙ (λ i. is_trivial (conjunction (x.1 i) (y.1 i) (y.1 i))) ∙ second_again x.0 y.0
+pub trivial_operand : (graph : Graph) (u v w : Node) → AreLiterals graph u v → (w ≡ u) ⊎ (w ≡ v) → is_trivial (conjunction_atoms graph u v w) ≡ true
+trivial_operand graph u v w both (inl is) =
+    ap (λ (n : Node). is_trivial (conjunction_atoms graph u v n)) is ∙ ap (λ (t : Atom). is_trivial (conjunction t (atom_of graph v) t)) both.first_is ∙ first_again both.first (atom_of graph v)
+trivial_operand graph u v w both (inr is) =
+    ap (λ (n : Node). is_trivial (conjunction_atoms graph u v n)) is ∙ (λ i. is_trivial (conjunction (both.first_is i) (both.second_is i) (both.second_is i))) ∙ second_again both.first both.second
 
 -- one answer alone: the node by its function, and no clause where it is true by itself
 not_both : (b : Bool) → b ≡ true → b ≡ false → ⊥

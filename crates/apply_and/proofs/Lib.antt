@@ -3,9 +3,6 @@ pub mod ConjunctionClauses
 pub mod Closed
 pub mod Conjunctions
 pub mod Made
-pub mod Added
-pub mod HighClause
 pub mod Named
-pub mod Handed
 pub mod Calls
 pub mod Opened

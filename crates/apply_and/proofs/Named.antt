@@ -1,13 +1,11 @@
 -- Small facts of answers and justifications.
-use Rattle.std.proofs.Common.{◌≡◌, ℕ, Bool, true, false, List, None, Some, Result, Ok, Err, refl}
+use Rattle.std.proofs.Common.{◌≡◌, ℕ, Bool, true, false, None, Some, Result, Ok, Err, refl}
 use Rattle.std.specs.Prelude.{IsErrAnd}
 use Rattle.node_table.specs.declared.error.TableError.{TableError}
 use Rattle.node_table.specs.declared.node.Node.{Node}
 use Rattle.node_table.specs.declared.node.Just.{Just}
 use Rattle.node_table.specs.declared.node.Just.TheVariants.{Trivial, Clause}
-use Rattle.node_table.specs.Table.{TableState}
 use Rattle.operations.specs.Accounts.{found_just}
-use Rattle.operations.specs.Entries.{Entry, Fits, Fitting, HaveSame}
 
 pub not_both : (b : Bool) → b ≡ true → b ≡ false → ⊥
 not_both b holds fails = cc
@@ -25,6 +23,3 @@ no_clause id is = cc
 pub failed_just : (r : Result (Node × Just) TableError) (came : TableError) → IsErrAnd r (λ e. e ≡ came) → found_just r ≡ Trivial
 failed_just (Ok found) came is = absurd is
 failed_just (Err e) came is = refl
-
-pub fits_looked : {S : Type 0} → Fitting S → (table : TableState S) (before after : List Entry) → HaveSame before after → Fits table before → Fits table after
-fits_looked laws table before after same fits = laws.fewer table after before same.back fits

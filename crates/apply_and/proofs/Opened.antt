@@ -13,6 +13,7 @@ use Rattle.node_table.specs.Table.{TableState, IsSound}
 use Rattle.operations.specs.declared.operands.Operands.{Operands}
 use Rattle.operations.specs.Operands.{AreSplit, IsInner, Splitting}
 use Rattle.operations.specs.Accounts.{Accounting, none_whole}
+use Rattle.operations.specs.Budget.{Budget}
 use Rattle.operations.specs.Entries.{Fits, Fitting}
 use Rattle.operations.specs.declared.frames.Reply.TheVariants.{Open}
 use Rattle.operations.specs.Machine.{AwaitsLow, HighCame, IsAnswer, IsOpened, LowCame}
@@ -58,7 +59,7 @@ module _ {S : Type 0} {tells : Bool} {channel : S → Channel} {lent : S → Bes
     plain = λ w plain. absurd (not_plain u v w unknown.differ unknown.first unknown.second plain);
   }
 
-  module _ (law : StepByStep tells channel) (splits : Splitting) (growth : Growth) (fitting : Fitting S) (accounts : Accounting S) (caches : Keeping Pair Found same_pair) (pricing : Pricing S Found) (parts : Subfunctions) (paths : Reachability)
+  module _ (law : StepByStep tells channel) (budget : Budget tells channel) (splits : Splitting) (growth : Growth) (fitting : Fitting S) (accounts : Accounting S) (caches : Keeping Pair Found same_pair) (pricing : Pricing S Found) (parts : Subfunctions) (paths : Reachability)
       (old : TableState S) (before : AndCache) (sound : IsSound old) (fits : Fits old (entries before)) (o : Operands) (split : AreSplit old.graph o) (unknown : IsUnknown before o.u o.v) where
     ended : (new : TableState S) (after : AndCache) (result : Answer) → Conjoins tells channel lent old before o.u o.v new after result → Answers tells channel lent old before o.u o.v new after result
     ended = answers_unknown old before o.u o.v unknown
@@ -67,18 +68,18 @@ module _ {S : Type 0} {tells : Bool} {channel : S → Channel} {lent : S → Bes
       low_came : (two : TableState S) (cache_two : AndCache) (result : Answer) → Conjoins tells channel lent one cache_one o.u_low o.v_low two cache_two result
           → LowCame (conjunctions tells channel lent) (Answers tells channel lent old before o.u o.v) o high two cache_two result
       low_came two cache_two (Err came) by_low =
-          ended two cache_two (Err came) (low_failed law splits growth fitting accounts caches pricing parts paths old before sound o split unknown one cache_one high by_high two cache_two came by_low)
+          ended two cache_two (Err came) (low_failed law budget splits growth fitting accounts caches pricing parts paths old before sound o split unknown one cache_one high by_high two cache_two came by_low)
       low_came two cache_two (Ok low) by_low =
-          let sides = ready law splits growth fitting accounts caches pricing parts paths old before sound o split unknown one cache_one high by_high two cache_two low by_low in record {
+          let sides = ready law budget splits growth fitting accounts caches pricing parts paths old before sound o split unknown one cache_one high by_high two cache_two low by_low in record {
             ready = record { sound = by_low.steps.leaves.sound; fits = by_low.accounts.fits none_whole; split = sides.split; on_high = sides.on_high; on_low = sides.on_low };
             closes = λ three cache_three result closing.
-                ended three cache_three result (closed law splits growth fitting accounts caches pricing parts paths old before sound o split unknown one cache_one high by_high two cache_two low by_low three cache_three result closing);
+                ended three cache_three result (closed law budget splits growth fitting accounts caches pricing parts paths old before sound o split unknown one cache_one high by_high two cache_two low by_low three cache_three result closing);
           }
 
-      awaits_low : AwaitsLow (conjunctions tells channel lent) (Answers tells channel lent old before o.u o.v) one cache_one o high
+      awaits_low : AwaitsLow (conjunctions tells channel lent) (Answers tells channel lent old before o.u o.v) one cache_one o high (o.u_low, o.v_low)
       awaits_low =
           let sound_one = by_high.steps.leaves.sound in
-          let split_one = split_high law splits growth fitting accounts caches pricing parts paths old before sound o split unknown one cache_one high by_high in
+          let split_one = split_high law budget splits growth fitting accounts caches pricing parts paths old before sound o split unknown one cache_one high by_high in
           let first = splits.u_low one.graph sound_one.tied.reduced o split_one in
           let second = splits.v_low one.graph sound_one.tied.reduced o split_one in record {
             refused = low_came one cache_one (Err OutOfMemory) (refused law accounts pricing parts one cache_one sound_one (by_high.accounts.fits none_whole) o.u_low o.v_low);
@@ -89,7 +90,7 @@ module _ {S : Type 0} {tells : Bool} {channel : S → Channel} {lent : S → Bes
 
     high_came : (one : TableState S) (cache_one : AndCache) (result : Answer) → Conjoins tells channel lent old before o.u_high o.v_high one cache_one result
         → HighCame (conjunctions tells channel lent) (Answers tells channel lent old before o.u o.v) o one cache_one result
-    high_came one cache_one (Err came) by_high = ended one cache_one (Err came) (high_failed law splits growth fitting accounts caches pricing parts paths old before sound o split unknown one cache_one came by_high)
+    high_came one cache_one (Err came) by_high = ended one cache_one (Err came) (high_failed law budget splits growth fitting accounts caches pricing parts paths old before sound o split unknown one cache_one came by_high)
     high_came one cache_one (Ok high) by_high = awaits_low one cache_one high by_high
 
     opened : IsOpened (conjunctions tells channel lent) (Answers tells channel lent old before o.u o.v) old before o
@@ -104,12 +105,12 @@ module _ {S : Type 0} {tells : Bool} {channel : S → Channel} {lent : S → Bes
         }
 
   -- what a call is answered that was split
-  pub split_answered : StepByStep tells channel → Splitting → Growth → Fitting S → Accounting S → Keeping Pair Found same_pair → Pricing S Found → Subfunctions → Reachability → (old : TableState S) (before after : AndCache) (u v : Node) → CanConjoin old before u v
+  pub split_answered : StepByStep tells channel → Budget tells channel → Splitting → Growth → Fitting S → Accounting S → Keeping Pair Found same_pair → Pricing S Found → Subfunctions → Reachability → (old : TableState S) (before after : AndCache) (u v : Node) → CanConjoin old before u v
       → (o : Operands) → AreSplit old.graph o → (o.u ≡ u) × (o.v ≡ v) → (after ≡ before) × IsUnknown before u v → IsAnswer (conjunctions tells channel lent) old before (u, v) old after (Ok (Open o))
-  split_answered law splits growth fitting accounts caches pricing parts paths old before after u v can o split same missed =
+  split_answered law budget splits growth fitting accounts caches pricing parts paths old before after u v can o split same missed =
       let unknown : IsUnknown before o.u o.v = subst (λ (x : Node). IsUnknown before x o.v) (sym same.0) (subst (λ (y : Node). IsUnknown before u y) (sym same.1) missed.1) in
       let own : IsAnswer (conjunctions tells channel lent) old before (o.u, o.v) old before (Ok (Open o)) =
-      (no_later old.graph o split, opened law splits growth fitting accounts caches pricing parts paths old before can.sound can.fits o split unknown) in
+      (no_later old.graph o split, opened law budget splits growth fitting accounts caches pricing parts paths old before can.sound can.fits o split unknown) in
       subst (λ (c : AndCache). IsAnswer (conjunctions tells channel lent) old before (u, v) old c (Ok (Open o))) (sym missed.0)
       (subst (λ (y : Node). IsAnswer (conjunctions tells channel lent) old before (u, y) old before (Ok (Open o))) same.1
       (subst (λ (x : Node). IsAnswer (conjunctions tells channel lent) old before (x, o.v) old before (Ok (Open o))) same.0 own))

@@ -1,20 +1,15 @@
 -- The computed cache of conjunctions, as a list of entries, those that were used last in front. (Brace, Rudell, Bryant:
 -- Efficient Implementation of a BDD Package, DAC 1990.)
-use Rattle.std.specs.Prelude.{ℕ, zero, suc, List, Option, map}
+use Rattle.std.specs.Prelude.{ℕ, List, Option, map}
 use Rattle.node_table.specs.declared.node.Node.{Node}
 use Rattle.node_table.specs.declared.node.Just.{Just}
-use Rattle.node_table.specs.declared.node.Just.TheVariants.{Trivial, Clause}
 use Rattle.op_cache.specs.Laws.{AreInFront}
 use Rattle.operations.specs.Caches.{KeepsEntry, LeavesEntries, with_key}
 use Rattle.operations.specs.Entries.{Entry, Conjunction}
+use Rattle.operations.specs.Numbers.{just_numbered}
 pub use Rattle.operations.specs.Pairs.{Pair, is_one, same_pair}
 use Rattle.apply_and.specs.declared.cache.AndCache.{AndCache}
 use Rattle.apply_and.specs.declared.cache.Found.{Found}
-
--- why a conjunction holds, by the number of its clause; 0 stands for none
-abbrev pub just_numbered : ℕ → Just
-just_numbered zero = Trivial
-just_numbered (suc before) = Clause (suc before)
 
 -- the entry of these operands, their conjunction and its justification
 abbrev pub entry_of : Pair × Found → Entry

@@ -1,6 +1,6 @@
 -- A whole call of a conjunction, however it ends: as one relation, from which the calls around it go on. Beside it the last
 -- step of a call that was split, and the operation of both.
-use Rattle.std.specs.Prelude.{◌≡◌, ◌≢◌, ◌<◌, ◌∷◌, ℕ, Bool, List, Result, Ok, Err, Contains, IfOk, IsFalse, IsTrue, length, min}
+use Rattle.std.specs.Prelude.{◌≡◌, ◌≢◌, ◌<◌, ◌∷◌, ℕ, Bool, List, Some, Result, Ok, Err, Contains, IfOk, IsFalse, IsTrue, length, min}
 use Rattle.host_io.specs.Channel.{Channel}
 use Rattle.host_io.specs.Beside.{Beside}
 use Rattle.node_table.specs.declared.error.TableError.{TableError}
@@ -95,7 +95,7 @@ conjunctions tells channel lent = record {
   can_close = CanClose;
   closes = Closes tells channel lent;
   high = λ o. (o.u_high, o.v_high);
-  low = λ o. (o.u_low, o.v_low);
+  low = λ o high. Some (o.u_low, o.v_low);
   level = λ o. o.level;
   floor = λ table pair. min (level_of table.graph pair.0) (level_of table.graph pair.1);
 }

@@ -3,12 +3,11 @@
 // justified. The low one drops -x: the high clause makes x false, and the same holds on the low side. The high one has
 // served then, and is retired. (Bryant, Heule: Generating Extended Resolution Proofs with a BDD-Based SAT Solver, 2021,
 // section 4.2.)
-ghost use Rattle.std.specs.Prelude.{◌≡◌, ◌≢◌, ◌≤◌, ◌<◌, ◌+◌, ◌++◌, ℕ, neg_ℤ, pos, [], ◌∷◌, Contains, Ok, Err, IsTrue, IfOk, IfErr, Some, length};
+ghost use Rattle.std.specs.Prelude.{◌≡◌, ◌≢◌, ◌+◌, ◌++◌, ℕ, neg_ℤ, pos, [], ◌∷◌, Contains, Ok, Err, IfOk, IfErr, Some};
 ghost use Rattle.lrat_rules.specs.State.{clause_at};
 ghost use Rattle.hint_chain.specs.Atoms.{clause_of};
-ghost use Rattle.hint_chain.specs.Additions.{where_true};
 ghost use Rattle.node_table.specs.declared.error.TableError.TheVariants.{NodeLimit, WriteFault};
-ghost use Rattle.node_table.specs.Diagram.{is_node, levels, variable_at, high_at, low_at};
+ghost use Rattle.node_table.specs.Diagram.{variable_at};
 ghost use Rattle.node_table.specs.Table.{IsSound, IsAddedTo, IsSame, UnlessTorn};
 ghost use Rattle.node_table.specs.declared.node.Just.TheVariants.{Trivial, Clause};
 ghost use Rattle.node_table.specs.Just.{IsJustified};
@@ -27,7 +26,10 @@ use hint_chain::{
 };
 use host_io::Sink;
 use node_table::{Just, Node, Table, TableError, growth_law, steps_law};
-use operations::{Operands, Side, down_part, just_part, operand_law, up_part};
+use operations::{
+    Operands, Side, behind, down_part, high_clause_law, just_part, literal_law, operand_law,
+    up_part,
+};
 use std::alloc::Global;
 
 /// Justifies that w is the conjunction of the operands, where it is neither of them. Unless a write failed, the high
@@ -61,6 +63,8 @@ pub fn justify<S: Sink + Drop>(
     operand_law();
     growth_law();
     clause_law();
+    literal_law();
+    high_clause_law::<S>();
     let Some(clause) = conjunction_clause(table, operands, w) else {
         return Ok(Just::Trivial);
     };
@@ -121,6 +125,8 @@ fn add_high<S: Sink + Drop>(
     conjunction_law();
     greedy_law();
     clause_law();
+    literal_law();
+    high_clause_law::<S>();
     let level = operands.level;
     let long = behind(table.variable(level).negated(), clause);
     let parts = [
@@ -166,6 +172,8 @@ fn add_low<S: Sink + Drop>(
     conjunction_law();
     greedy_law();
     clause_law();
+    literal_law();
+    high_clause_law::<S>();
     let level = operands.level;
     let parts = [
         Some(first),
@@ -176,17 +184,4 @@ fn add_low<S: Sink + Drop>(
     ];
     let hints = and_low(alloc, clause, parts);
     table.justify(clause, hints.as_slice())
-}
-
-// A clause with one literal before it.
-fn behind(literal: Lit, clause: &[Lit]) -> ShortClause
-    requires { length clause.now ≤ 3 }
-    ensures { result ≡ literal ∷ clause.now }
-{
-    let mut long = ShortClause::new();
-    long.push(literal);
-    for own in clause {
-        long.push(*own);
-    }
-    long
 }

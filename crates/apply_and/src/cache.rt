@@ -2,15 +2,15 @@
 // the longest ago makes room. (Brace, Rudell, Bryant: Efficient Implementation of a BDD Package, DAC 1990.)
 ghost use Rattle.std.specs.Prelude.{◌≡◌, ◌≤◌, ◌<◌, ℕ, [], List, None, Some, Contains, IsFalse, IfOk, IfSome, MatchOption, OnErr};
 ghost use Rattle.operations.specs.Entries.{Conjunction};
-ghost use Rattle.apply_and.specs.Cache.{IsKept, IsLooked, Pair, StandInFront, entries, is_one, just_numbered, most_entries, with_used};
+ghost use Rattle.apply_and.specs.Cache.{IsKept, IsLooked, Pair, StandInFront, entries, is_one, most_entries, with_used};
 ghost use Rattle.node_table.specs.declared.node.Node.{Node as NodeValue};
 ghost use Rattle.node_table.specs.declared.node.Just.{Just as JustValue};
-ghost use Rattle.node_table.specs.declared.node.Just.TheVariants.{Trivial, Clause};
+ghost use Rattle.node_table.specs.declared.node.Just.TheVariants.{Clause};
 
 use cnf_base::{Id, OutOfMemory};
 use node_table::{Just, Node};
 use op_cache::Bounded;
-use operations::cache_law;
+use operations::{cache_law, id_of, just_of, number_of};
 use std::alloc::Global;
 use std::mem::size_of;
 
@@ -87,33 +87,5 @@ impl AndCache {
             None => Ok(None),
             Some(pair) => Ok(id_of(pair.1.clause)),
         }
-    }
-}
-
-// The justification by the clause of this number.
-fn just_of(number: u64) -> Just
-    ensures { result ≡ just_numbered number }
-{
-    match id_of(number) {
-        None => Just::Trivial,
-        Some(id) => Just::Clause(id),
-    }
-}
-
-// The clause of this number, which is none at 0.
-fn id_of(number: u64) -> Option<Id>
-    ensures { MatchOption result (just_numbered number ≡ Trivial) (λ id. just_numbered number ≡ Clause id) }
-{
-    if number == 0 { None } else { Some(Id(number)) }
-}
-
-// The number of the clause of a justification, and 0 for none.
-fn number_of(just: &Just) -> u64
-    requires { (id : ℕ) → just.now ≡ Clause id → 0 < id }
-    ensures { just_numbered result ≡ just.now }
-{
-    match *just {
-        Just::Trivial => 0,
-        Just::Clause(id) => id.get(),
     }
 }

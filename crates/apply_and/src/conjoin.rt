@@ -28,8 +28,8 @@ use node_table::{
     steps_law, subfunction_law,
 };
 use operations::{
-    Operands, Operation, Reply, accounts_law, cache_law, clause_of, entry_law, operand_law, price_law,
-    retire, split, work_off,
+    Operands, Operation, Reply, accounts_law, budget_law, cache_law, clause_of, entry_law,
+    literal_law, operand_law, price_law, retire, split, work_off,
 };
 use std::alloc::Global;
 
@@ -106,6 +106,7 @@ impl<S: Sink + Drop> Operation<S> for AndOperation {
         question: (Node, Node),
     ) -> Result<Reply<Operands, (Node, Just)>, TableError> {
         steps_law::<S>();
+        budget_law::<S>();
         accounts_law::<S>();
         cache_law::<(Node, Node), Found>();
         price_law::<S, Found>();
@@ -125,8 +126,8 @@ impl<S: Sink + Drop> Operation<S> for AndOperation {
         (operands.u_high, operands.v_high)
     }
 
-    fn low(operands: &Operands) -> (Node, Node) {
-        (operands.u_low, operands.v_low)
+    fn low(operands: &Operands, _high: &(Node, Just)) -> Option<(Node, Node)> {
+        Some((operands.u_low, operands.v_low))
     }
 
     // The conjunction is kept. The clause that no entry names any more is retired.
@@ -224,6 +225,7 @@ fn finish<S: Sink + Drop>(
     subfunction_law();
     reach_law();
     missing_law();
+    literal_law();
     let made = table.node(operands.level, high.0, low.0);
     // The nodes are reduced after a failed write too.
     table.table_law();

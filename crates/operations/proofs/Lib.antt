@@ -6,3 +6,6 @@ pub mod Cached
 pub mod Accounts
 pub mod Pairs
 pub mod Price
+pub mod Budget
+pub mod HighClauses
+pub mod Literals

@@ -11,7 +11,7 @@ use Rattle.operations.specs.declared.frames.Reply.{Reply}
 use Rattle.operations.specs.declared.frames.Reply.TheVariants.{Open, Give}
 use Rattle.operations.specs.declared.frames.Turn.{Turn}
 use Rattle.operations.specs.declared.frames.Turn.TheVariants.{Ask, Answer as Answered}
-use Rattle.operations.specs.Machine.{AwaitsClose, AwaitsLow, Calls, HighCame, IsAnswer, IsNext, IsOpened, LowCame, Outcome}
+use Rattle.operations.specs.Machine.{AwaitsClose, AwaitsLow, Calls, HighCame, IsAnswer, IsNext, IsOpened, LowCame, Outcome, ThenLow}
 
 abbrev pub frame_of : {Parts Answer : Type 0} → Parts → Option Answer → Frame Parts Answer
 frame_of parts high = record { parts = parts; high = high }
@@ -43,7 +43,7 @@ later_turns (suc few) (suc all) h = let less : turns (suc few) ≤ turns all = m
 module _ {S Cache Question Parts Answer : Type 0} (calls : Calls S Cache Question Parts Answer) where
   -- an answer comes to a frame without a high side, or to one that has it
   abbrev pub Comes : Outcome S Cache Answer → Parts → Option Answer → TableState S → Cache → Answer → Type 0
-  Comes rest parts None now cache found = AwaitsLow calls rest now cache parts found
+  Comes rest parts None now cache found = ThenLow calls rest now cache parts found (calls.low parts found)
   Comes rest parts (Some high) now cache found = AwaitsClose calls rest now cache parts high found
 
   -- an error goes on to the frames below
@@ -86,25 +86,32 @@ module _ {S Cache Question Parts Answer : Type 0} (calls : Calls S Cache Questio
     low_from now cache parts high (Err error) came = from now cache (Err error) came
     low_from now cache parts high (Ok low) came = close_from now cache parts high low came
 
-    high_from : (now : TableState S) (cache : Cache) (parts : Parts) (result : Result Answer TableError) → HighCame calls one parts now cache result → HighCame calls rest parts now cache result
-    high_from now cache parts (Err error) came = from now cache (Err error) came
-    high_from now cache parts (Ok high) came = record {
+    then_from : (now : TableState S) (cache : Cache) (parts : Parts) (high : Answer) (question : Option Question) → ThenLow calls one now cache parts high question → ThenLow calls rest now cache parts high question
+    then_from now cache parts high None came = from now cache (Ok high) came
+    then_from now cache parts high (Some question) came = record {
       refused = from now cache (Err OutOfMemory) came.refused;
       ready = came.ready;
       later = came.later;
       low = λ new after result ends. low_from new after parts high result (came.low new after result ends);
     }
 
+    high_from : (now : TableState S) (cache : Cache) (parts : Parts) (result : Result Answer TableError) → HighCame calls one parts now cache result → HighCame calls rest parts now cache result
+    high_from now cache parts (Err error) came = from now cache (Err error) came
+    high_from now cache parts (Ok high) came = then_from now cache parts high (calls.low parts high) came
+
     next_from : (floor : ℕ) (now : TableState S) (cache : Cache) (reply : Result (Reply Parts Answer) TableError) → IsNext calls one floor now cache reply → IsNext calls rest floor now cache reply
     next_from floor now cache (Err error) next = from now cache (Err error) next
     next_from floor now cache (Ok (Give answer)) next = from now cache (Ok answer) next
-    next_from floor now cache (Ok (Open parts)) next = (next.0, record {
-      refused = from now cache (Err OutOfMemory) next.1.refused;
-      level = next.1.level;
-      ready = next.1.ready;
-      later = next.1.later;
-      high = λ new after result ends. high_from new after parts result (next.1.high new after result ends);
-    })
+    next_from floor now cache (Ok (Open parts)) next = (
+      next.0,
+      record {
+        refused = from now cache (Err OutOfMemory) next.1.refused;
+        level = next.1.level;
+        ready = next.1.ready;
+        later = next.1.later;
+        high = λ new after result ends. high_from new after parts result (next.1.high new after result ends);
+      },
+    )
 
   -- How many turns the frames may still take, and the call that is to be asked.
   abbrev pub turns_in : ℕ → Parts → Option Answer → ℕ
@@ -162,22 +169,22 @@ module _ {S Cache Question Parts Answer : Type 0} (calls : Calls S Cache Questio
           subst (λ (h : Option Answer). Comes (Given whole below) frame.parts h now cache found) high on_top
 
       module _ (high : frame.high ≡ None) where
-        awaits_low : AwaitsLow calls (Given whole below) now cache frame.parts found
-        awaits_low = comes None high
+        module _ (question : Question) (asked : Some question ≡ calls.low frame.parts found) where
+          awaits_low : AwaitsLow calls (Given whole below) now cache frame.parts found question
+          awaits_low = subst (λ (q : Option Question). ThenLow calls (Given whole below) now cache frame.parts found q) (sym asked) (comes None high)
 
-        pub low_refused : whole now cache (Err OutOfMemory)
-        low_refused = error_given whole below now cache OutOfMemory awaits_low.refused
+          pub low_refused : whole now cache (Err OutOfMemory)
+          low_refused = error_given whole below now cache OutOfMemory awaits_low.refused
 
-        module _ (top : List (Frame Parts Answer)) (on_top : top ≡ frame_of frame.parts (Some found) ∷ below) (side : Question) (is_side : side ≡ calls.low frame.parts) where
-          pub low_smaller : turns_of (levels now.graph) top + turns_next now (Ask side) < turns_of (levels now.graph) frames + turns_next now turn
-          low_smaller =
+          pub low_smaller : (top : List (Frame Parts Answer)) → top ≡ frame_of frame.parts (Some found) ∷ below
+              → turns_of (levels now.graph) top + turns_next now (Ask question) < turns_of (levels now.graph) frames + turns_next now turn
+          low_smaller top on_top =
               let none : turns_next now turn ≡ 0 = ap (turns_next now) is in
               let had : turns_of (levels now.graph) frames ≡ turns_in (levels now.graph) frame.parts frame.high + turns_of (levels now.graph) below = ap (turns_of (levels now.graph)) was_top in
               let open_yet : turns_in (levels now.graph) frame.parts frame.high ≡ turns (levels now.graph - calls.level frame.parts) + 3 = ap (turns_in (levels now.graph) frame.parts) high in
               let all : turns_of (levels now.graph) top ≡ 1 + turns_of (levels now.graph) below = ap (turns_of (levels now.graph)) on_top in
-              let next : turns_next now (Ask side) ≡ turns_next now (Ask (calls.low frame.parts)) = ap (λ (q : Question). turns_next now (Ask q)) is_side in
-              let few = later_turns (levels now.graph - calls.floor now (calls.low frame.parts)) (levels now.graph - calls.level frame.parts) (omega (arith, awaits_low.later)) in
-              omega (arith, none, had, open_yet, all, next, few)
+              let few = later_turns (levels now.graph - calls.floor now question) (levels now.graph - calls.level frame.parts) (omega (arith, awaits_low.later)) in
+              omega (arith, none, had, open_yet, all, few)
 
       -- a frame with both sides
       module _ (high : Answer) (has : frame.high ≡ Some high) (new : TableState S) (after : Cache) where

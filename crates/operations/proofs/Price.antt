@@ -79,6 +79,9 @@ module _ (growth : Growth) (splits : Splitting) (old one : Graph) (reduced : IsR
   still_unused : is_one used (o.u, o.v) ≡ false → is_one second (o.u, o.v) ≡ false
   still_unused unused = not_below o.u o.v (splits.first old o split) (splits.second old o split) (omega arith) ∙ unused
 
+  above_low : SameAbove old o.u o.v used second
+  above_low x y x_stands y_stands more = not_below x y x_stands y_stands (omega (arith, more))
+
   above_both : SameAbove old o.u o.v used ((o.u, o.v) ∷ second)
   above_both x y x_stands y_stands more =
       other_same second (o.u, o.v) (x, y) differ ∙ not_below x y x_stands y_stands (omega (arith, more))
@@ -143,19 +146,50 @@ module _ {S V : Type 0} where
 cover_of : (graph : Graph) (u v : Node) (us vs : List Node) → HoldsReached graph u us → HoldsReached graph v vs → CoverReached graph u v (pairs_of us vs)
 cover_of graph u v us vs first second a b to_a to_b a_inner b_inner = pairs_of-has us vs a b (first a to_a a_inner) (second b to_b b_inner)
 
+module _ {S V : Type 0} where
+  -- a call that ends with its high side
+  as_high : Splitting → (old new : TableState S) (after : Cache Pair V) (o : Operands) (all used : List Pair) (error : Option TableError) → IsReduced old.graph → AreSplit old.graph o
+      → Pays old new after o.u_high o.v_high all used error → Pays old new after o.u o.v all used error
+  as_high splits old new after o all used (Some came) reduced split pays = pays
+  as_high splits old new after o all used None reduced split pays = record {
+    used = pays.used;
+    in_front = pays.in_front;
+    among = pays.among;
+    same_above = λ x y first second more.
+        let fewer = splits.fewer old.graph reduced o split o.u_high o.v_high (splits.u_high old.graph reduced o split) (splits.v_high old.graph reduced o split) in
+        pays.same_above x y first second (omega (arith, fewer, more));
+    no_fewer = pays.no_fewer;
+    adds = pays.adds;
+  }
+
+  -- or with its low side
+  as_low : Splitting → Growth → (old one new : TableState S) (between after : Cache Pair V) (o : Operands) (all used : List Pair) (error : Option TableError) → IsReduced old.graph → IsReduced one.graph
+      → KeepsNodes old.graph one.graph → AreSplit old.graph o → (high : PaysEach old one between o.u_high o.v_high all used) → Pays one new after o.u_low o.v_low all high.used error → Pays old new after o.u o.v all used error
+  as_low splits growth old one new between after o all used (Some came) reduced still keeps split high low =
+      let few = no_more all high.used between high.in_front high.among in omega (arith, high.no_fewer, few, high.adds, low)
+  as_low splits growth old one new between after o all used None reduced still keeps split high low = record {
+    used = low.used;
+    in_front = low.in_front;
+    among = low.among;
+    same_above = above_low growth splits old.graph one.graph reduced still keeps o split used high.used low.used high.same_above low.same_above;
+    no_fewer = omega (arith, high.no_fewer, low.no_fewer);
+    adds = omega (arith, high.no_fewer, low.no_fewer, high.adds, low.adds);
+  }
+
 -- A call from its sides.
 module _ (paths : Reachability) (splits : Splitting) (growth : Growth) {S V : Type 0} (old one two : TableState S) (before cache_one cache_two : Cache Pair V) (o : Operands) (split : AreSplit old.graph o) where
-  high_failed : (error : TableError) → Prices old before o.u_high o.v_high one cache_one (Some error) → Prices old before o.u o.v one cache_one (Some error)
-  high_failed error high = record { pays = λ all used cover room front among. high.pays all used (cover_high paths splits old.graph o split all cover) room front among }
+  high_only : (error : Option TableError) → IsReduced old.graph → Prices old before o.u_high o.v_high one cache_one error → Prices old before o.u o.v one cache_one error
+  high_only error reduced high = record {
+    pays = λ all used cover room front among. as_high splits old one cache_one o all used error reduced split (high.pays all used (cover_high paths splits old.graph o split all cover) room front among);
+  }
 
   module _ (reduced : IsReduced old.graph) (keeps : KeepsNodes old.graph one.graph) (same : cache_one.capacity ≡ before.capacity) (high : Prices old before o.u_high o.v_high one cache_one None) where
-    low_failed : (error : TableError) → Prices one cache_one o.u_low o.v_low two cache_two (Some error) → Prices old before o.u o.v two cache_two (Some error)
-    low_failed error low = record {
+    low_last : (error : Option TableError) → IsReduced one.graph → Prices one cache_one o.u_low o.v_low two cache_two error → Prices old before o.u o.v two cache_two error
+    low_last error reduced_one low = record {
       pays = λ all used cover room front among.
           let each = high.pays all used (cover_high paths splits old.graph o split all cover) room front among in
-          let few = no_more all each.used cache_one each.in_front each.among in
-          let more = low.pays all each.used (cover_low_grown paths splits old.graph one.graph reduced keeps o split all cover) (omega (arith, room, same)) each.in_front each.among in
-          omega (arith, each.no_fewer, few, each.adds, more);
+          as_low splits growth old one two cache_one cache_two o all used error reduced reduced_one keeps split each
+          (low.pays all each.used (cover_low_grown paths splits old.graph one.graph reduced keeps o split all cover) (omega (arith, room, same)) each.in_front each.among);
     }
 
     -- two clauses for each pair that was used, these operands among them
@@ -192,8 +226,9 @@ pricing paths splits growth in_front = record {
   looked = λ table before after u v first second look. record {
     pays = λ all used cover room front among. paid_looked table after u v all used (look used front) among (cover u v (paths.itself table.graph u) (paths.itself table.graph v) first second);
   };
-  high_failed = λ old one before cache_one o error split. high_failed paths splits growth old one one before cache_one cache_one o split error;
-  low_failed = λ old one two before cache_one cache_two o error reduced keeps split same high. low_failed paths splits growth old one two before cache_one cache_two o split reduced keeps same high error;
+  high_only = λ old one before cache_one o error reduced split. high_only paths splits growth old one one before cache_one cache_one o split error reduced;
+  low_last = λ old one two before cache_one cache_two o error reduced reduced_one keeps split same high low.
+      low_last paths splits growth old one two before cache_one cache_two o split reduced keeps same high error reduced_one low;
   closed = λ old one two new before cache_one cache_two after o error reduced reduced_one keeps split first second unknown same same_two high low.
       closed paths splits growth old one two before cache_one cache_two o split reduced keeps same high reduced_one same_two low first second unknown new after error;
   whole = priced in_front;

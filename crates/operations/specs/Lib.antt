@@ -7,3 +7,6 @@ pub mod Caches
 pub mod Accounts
 pub mod Pairs
 pub mod Price
+pub mod Budget
+pub mod Numbers
+pub mod Additions

@@ -20,7 +20,8 @@ same_pair one other = node_equality.ghosts.eq one.0 other.0 && node_equality.gho
 abbrev pub is_one : List Pair → Pair → Bool
 is_one pairs pair = is_among same_pair pairs pair
 
-same_node : (x y : Node) → node_equality.ghosts.eq x y ≡ true → x ≡ y
+-- nodes that are the same are equal
+pub same_node : (x y : Node) → node_equality.ghosts.eq x y ≡ true → x ≡ y
 same_node False False is = refl
 same_node False True is = cc
 same_node False (Inner b) is = cc

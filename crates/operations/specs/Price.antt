@@ -49,18 +49,18 @@ pub record Prices {S V : Type 0} (old : TableState S) (before : Cache Pair V) (u
   pub pays : (all used : List Pair) → CoverReached old.graph u v all → length all ≤ before.capacity → AreInFront same_pair before.entries used → AreAmong used all
       → Pays old new after u v all used error
 
--- What a call pays, from its sides: none or both are there, or one has failed.
+-- What a call pays, from its sides: none or both are there, or it ends as one of them does.
 pub record Pricing (S V : Type 0) : Type 0 where
   -- nothing changes
   pub none : (table : TableState S) (cache : Cache Pair V) (u v : Node) (error : Option TableError) → Prices table cache u v table cache error
   -- the operands come to be used by a look-up
   pub looked : (table : TableState S) (before after : Cache Pair V) (u v : Node) → IsNoConstant u → IsNoConstant v
       → ((used : List Pair) → AreInFront same_pair before.entries used → AreInFront same_pair after.entries (with_key same_pair used (u, v))) → Prices table before u v table after None
-  pub high_failed : (old one : TableState S) (before cache_one : Cache Pair V) (o : Operands) (error : TableError) → AreSplit old.graph o
-      → Prices old before o.u_high o.v_high one cache_one (Some error) → Prices old before o.u o.v one cache_one (Some error)
-  pub low_failed : (old one two : TableState S) (before cache_one cache_two : Cache Pair V) (o : Operands) (error : TableError) → IsReduced old.graph → KeepsNodes old.graph one.graph
-      → AreSplit old.graph o → cache_one.capacity ≡ before.capacity → Prices old before o.u_high o.v_high one cache_one None → Prices one cache_one o.u_low o.v_low two cache_two (Some error)
-      → Prices old before o.u o.v two cache_two (Some error)
+  pub high_only : (old one : TableState S) (before cache_one : Cache Pair V) (o : Operands) (error : Option TableError) → IsReduced old.graph → AreSplit old.graph o
+      → Prices old before o.u_high o.v_high one cache_one error → Prices old before o.u o.v one cache_one error
+  pub low_last : (old one two : TableState S) (before cache_one cache_two : Cache Pair V) (o : Operands) (error : Option TableError) → IsReduced old.graph → IsReduced one.graph → KeepsNodes old.graph one.graph
+      → AreSplit old.graph o → cache_one.capacity ≡ before.capacity → Prices old before o.u_high o.v_high one cache_one None → Prices one cache_one o.u_low o.v_low two cache_two error
+      → Prices old before o.u o.v two cache_two error
   -- the operands come to be used behind both sides
   pub closed : (old one two new : TableState S) (before cache_one cache_two after : Cache Pair V) (o : Operands) (error : Option TableError) → IsReduced old.graph → IsReduced one.graph
       → KeepsNodes old.graph one.graph → AreSplit old.graph o → IsNoConstant o.u → IsNoConstant o.v → ((used : List Pair) → AreInFront same_pair before.entries used → IsFalse (is_one used (o.u, o.v)))

@@ -1,6 +1,8 @@
 // Laws of operands, of entries, of the caches that hold them, of the clauses that they name and of those that are added, as
 // clauses of functions without work.
 ghost use Rattle.operations.specs.Accounts.{Accounting};
+ghost use Rattle.operations.specs.Additions.{HighClauses, Literals};
+ghost use Rattle.operations.specs.Budget.{Budget};
 ghost use Rattle.operations.specs.Caches.{Keeping};
 ghost use Rattle.operations.specs.Entries.{Fitting};
 ghost use Rattle.operations.specs.Operands.{Splitting};
@@ -55,3 +57,24 @@ pub fn price_law<S: Sink + Drop, V: Copy>()
     operand_law();
     reach_law();
 }
+
+/// How many clauses a call adds over its levels, from what its sides do.
+pub fn budget_law<S: Sink + Drop>()
+    ensures { Budget S.tells S.channel }
+{
+    operand_law();
+    growth_law();
+    steps_law::<S>();
+}
+
+/// What the two additions of a step leave, of which the first one is retired.
+pub fn high_clause_law<S: Sink + Drop>()
+    ensures { HighClauses S.tells S.channel }
+{
+    steps_law::<S>();
+}
+
+/// Of which nodes the literals of a clause are.
+pub fn literal_law()
+    ensures { Literals }
+{}

@@ -5,6 +5,7 @@
 //! on the hint lists of `hint_chain`, the caches of `op_cache` and the nodes of `node_table`.
 #![tactic(auto)]
 
+mod clauses;
 mod frames;
 mod laws;
 mod machine;
@@ -12,8 +13,12 @@ mod operands;
 mod parts;
 mod retired;
 
+pub use clauses::{behind, id_of, just_of, number_of};
 pub use frames::Reply;
-pub use laws::{accounts_law, cache_law, entry_law, operand_law, price_law};
+pub use laws::{
+    accounts_law, budget_law, cache_law, entry_law, high_clause_law, literal_law, operand_law,
+    price_law,
+};
 pub use machine::{Operation, work_off};
 pub use operands::{Operands, split};
 pub use parts::{Side, down_part, just_part, up_part};

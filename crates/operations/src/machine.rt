@@ -41,9 +41,9 @@ pub trait Operation<S: Sink + Drop> {
     fn high(parts: &Self::Parts) -> Self::Question
         ensures { result ≡ calls.high parts.now };
 
-    /// The call of the low side.
-    fn low(parts: &Self::Parts) -> Self::Question
-        ensures { result ≡ calls.low parts.now };
+    /// The call of the low side; none where the answer of the high side is that of the whole call.
+    fn low(parts: &Self::Parts, high: &Self::Answer) -> Option<Self::Question>
+        ensures { result ≡ calls.low parts.now high.now };
 
     /// Closes a call that was split, from the answers of both sides.
     fn close(
@@ -85,11 +85,16 @@ pub fn work_off<S: Sink + Drop, O: Operation<S>>(
                 let parts = frame.parts;
                 let high = frame.high;
                 match high {
-                    None => {
-                        push(&mut frames, parts, Some(found))?;
-                        turn = Turn::Ask(O::low(&parts));
-                    }
-                    Some(high) => turn = Turn::Answer(O::close(table, cache, &parts, &high, &found)?),
+                    None => match O::low(&parts, &found) {
+                        None => turn = Turn::Answer(found),
+                        Some(question) => {
+                            push(&mut frames, parts, Some(found))?;
+                            turn = Turn::Ask(question);
+                        }
+                    },
+                    Some(high) => turn = Turn::Answer(O::close(
+                        table, cache, &parts, &high, &found,
+                    )?),
                 }
             }
         }

@@ -57,7 +57,7 @@ pub disjoined_kept : {S : Type 0} → Fitting S → (old new : TableState S) →
 disjoined_kept fitting old new sound extends u v w first second found =
     let kept = fitting.one old new (Disjunction u v w) sound extends (record { first = first; second = second }, found) in kept.1
 
-choose_either : (t w1 w0 u1 u0 v1 v0 : Bool) → w1 ≡ (u1 || v1) → w0 ≡ (u0 || v0) → (if t then w1 else w0) ≡ ((if t then u1 else u0) || (if t then v1 else v0))
+pub choose_either : (t w1 w0 u1 u0 v1 v0 : Bool) → w1 ≡ (u1 || v1) → w0 ≡ (u0 || v0) → (if t then w1 else w0) ≡ ((if t then u1 else u0) || (if t then v1 else v0))
 choose_either true w1 w0 u1 u0 v1 v0 high low = high
 choose_either false w1 w0 u1 u0 v1 v0 high low = low
 

@@ -4,3 +4,6 @@ pub mod Running
 pub mod Joined
 pub mod Disjunctions
 pub mod OpenedOr
+pub mod BothCaches
+pub mod Quantifications
+pub mod OpenedExists

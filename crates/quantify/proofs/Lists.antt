@@ -1,10 +1,11 @@
 -- Entries that name no clause, on a list of their own and beside others; and what caches remember.
-use Rattle.std.proofs.Common.{◌≡◌, ◌∙◌, ◌≤◌, ◌++◌, ◌⊎◌, ℕ, zero, suc, List, [], ◌∷◌, map, length, Contains, refl, sym, subst, arith, inl, inr}
+use Rattle.std.proofs.Common.{◌≡◌, ◌∙◌, ◌++◌, ◌⊎◌, ℕ, zero, suc, List, [], ◌∷◌, map, Contains, refl, sym, subst, arith, inl, inr}
 use Rattle.std.proofs.lemmas.List.Elements.{Contains-append_right, Contains-append_cases}
 use Rattle.node_table.specs.declared.node.Just.TheVariants.{Trivial, Clause}
 use Rattle.node_table.specs.Table.{TableState, IsSound, Extends}
 use Rattle.operations.specs.Entries.{Entry, Fits, FitsEntry, Fitting, HaveSame, Names, just_of}
-use Rattle.quantify.specs.Runs.{Remembers, RemembersBut}
+use Rattle.op_cache.specs.Cache.{Cache}
+use Rattle.operations.specs.Caches.{LeavesEntries, MakesRoom, Remembers}
 
 -- none of these entries names a clause
 abbrev pub AreUnnamed : List Entry → Type 0
@@ -74,45 +75,14 @@ fits_more table before after found none fits right only = fits_unnamed table aft
 pub have_same : (list : List Entry) → HaveSame list list
 have_same list = record { there = λ entry has. has; back = λ entry has. has }
 
-pub remembers_all : (room : ℕ) (list : List Entry) → Remembers room list room list
-remembers_all room list = record { capacity = refl; no_fewer = omega arith; remembered = λ entry there. inl there }
+pub remembers_all : {K V : Type 0} (entry_of : K × V → Entry) (cache : Cache K V) → Remembers entry_of cache cache
+remembers_all entry_of cache = record { entries = λ entry there. inl there; no_fewer = omega arith; capacity = refl }
 
-pub remembers_same : (room after_room : ℕ) (before after : List Entry) → after_room ≡ room → length before ≤ length after → HaveSame before after → Remembers room before after_room after
-remembers_same room after_room before after capacity more same = record { capacity = capacity; no_fewer = more; remembered = λ entry there. inl (same.there entry there) }
+pub remembers_looked : {K V : Type 0} (entry_of : K × V → Entry) (before after : Cache K V) → LeavesEntries entry_of before after → Remembers entry_of before after
+remembers_looked entry_of before after looked = record { entries = λ entry there. inl (looked.same.there entry there); no_fewer = looked.no_fewer; capacity = looked.capacity }
 
-pub remembers_further : (room room_mid room_after : ℕ) (before mid after : List Entry) → Remembers room before room_mid mid → Remembers room_mid mid room_after after → Remembers room before room_after after
-remembers_further room room_mid room_after before mid after first second = record {
-  capacity = second.capacity ∙ first.capacity;
-  no_fewer = omega (arith, first.no_fewer, second.no_fewer);
-  remembered = λ entry there. elim (first.remembered entry there) [
-    | inr full ↦ inr (omega (arith, full, second.no_fewer))
-    | inl still ↦ elim (second.remembered entry still) [
-      | inl here ↦ inl here
-      | inr full ↦ inr (omega (arith, full, first.capacity))
-    ]
-  ];
-}
-
-pub remembers_but_all : (is_own : Entry → Type 0) (room : ℕ) (list : List Entry) → RemembersBut is_own room list room list
-remembers_but_all is_own room list = record { capacity = refl; no_fewer = omega arith; others = λ entry there. inl there }
-
--- no entry was for the question of the new one
-pub remembers_new : (is_own : Entry → Type 0) (room room_mid room_after : ℕ) (before mid after : List Entry) → Remembers room before room_mid mid → RemembersBut is_own room_mid mid room_after after
-    → ((entry : Entry) → is_own entry → Contains before entry → ⊥) → Remembers room before room_after after
-remembers_new is_own room room_mid room_after before mid after first second none = record {
-  capacity = second.capacity ∙ first.capacity;
-  no_fewer = omega (arith, first.no_fewer, second.no_fewer);
-  remembered = λ entry there. elim (first.remembered entry there) [
-    | inr full ↦ inr (omega (arith, full, second.no_fewer))
-    | inl still ↦ elim (second.others entry still) [
-      | inl here ↦ inl here
-      | inr other ↦ elim other [
-        | inl own ↦ absurd (none entry own there)
-        | inr full ↦ inr (omega (arith, full, first.capacity, second.no_fewer))
-      ]
-    ]
-  ];
-}
+pub makes_no_room : {K V : Type 0} (entry_of : K × V → Entry) (cache : Cache K V) (key : K) → MakesRoom entry_of cache cache key
+makes_no_room entry_of cache key = record { others = λ entry there. inl there; no_fewer = omega arith; capacity = refl }
 
 pub fits_same : {S : Type 0} → Fitting S → (table : TableState S) (before after : List Entry) → HaveSame before after → Fits table before → Fits table after
 fits_same fitting table before after same fits = fitting.fewer table after before same.back fits

@@ -1,5 +1,5 @@
 -- A disjunction that is split: its sides may be called and closed, and however they end, the call has ended.
-use Rattle.std.proofs.Common.{◌≡◌, Bool, List, Ok, Err, Contains, ◌∙◌, subst, sym}
+use Rattle.std.proofs.Common.{◌≡◌, Bool, List, Ok, Err, ◌∙◌, subst, sym}
 use Rattle.std.specs.Prelude.{IfOk}
 use Rattle.host_io.specs.Channel.{Channel}
 use Rattle.host_io.specs.Beside.{Beside}
@@ -19,19 +19,21 @@ use Rattle.operations.specs.Results.{Disjoined}
 use Rattle.operations.specs.Entries.{Entry, Fits, Fitting}
 use Rattle.operations.specs.Machine.{AwaitsLow, HighCame, IsAnswer, IsOpened, LowCame}
 use Rattle.quantify.specs.declared.or_cache.OrCache.{OrCache}
-use Rattle.quantify.specs.OrCache.{HasOperands, disjunctions, most_disjunctions}
+use Rattle.operations.specs.Caches.{Keeping}
+use Rattle.operations.specs.Pairs.{Pair, same_pair}
+use Rattle.quantify.specs.OrCache.{RemembersDisjunctions, disjunction, disjunctions}
 use Rattle.quantify.specs.Disjunction.{CanDisjoin, Closes, Disjoins, IsUnknown, disjoining, disjunction_of}
-use Rattle.quantify.specs.Runs.{Remembers, Runs}
+use Rattle.quantify.specs.Runs.{Runs}
 use Rattle.quantify.proofs.Disjunctions.{both_later, disjoined_kept, disjunction_of-kept, high_part, low_part, no_later, not_plain}
 use Rattle.quantify.proofs.Joined.{reached_joined}
-use Rattle.quantify.proofs.Lists.{remembers_all, remembers_further, remembers_new}
+use Rattle.quantify.proofs.Lists.{remembers_all}
 use Rattle.quantify.proofs.Running.{Answer, runs_further, runs_part, runs_refused}
 
-module _ {S : Type 0} {tells : Bool} {channel : S → Channel} {lent : S → Beside} (law : StepByStep tells channel) (splits : Splitting) (growth : Growth) (fitting : Fitting S) (parts : Subfunctions) (paths : Reachability)
+module _ {S : Type 0} {tells : Bool} {channel : S → Channel} {lent : S → Beside} (law : StepByStep tells channel) (keeping : Keeping Pair Node same_pair) (splits : Splitting) (growth : Growth) (fitting : Fitting S) (parts : Subfunctions) (paths : Reachability)
     (old : TableState S) (before : OrCache) (sound : IsSound old) (fits : Fits old (disjunctions before)) (o : Operands) (split : AreSplit old.graph o) (unknown : IsUnknown old.graph before o.u o.v) where
   -- the call failed
   failed : (new : TableState S) (after : OrCache) (came : TableError) → Runs tells channel lent old (disjunctions before) (disjunction_of old.graph o.u o.v) new (disjunctions after) (Err came)
-      → Remembers (most_disjunctions before) (disjunctions before) (most_disjunctions after) (disjunctions after) → Disjoins tells channel lent old before o.u o.v new after (Err came)
+      → RemembersDisjunctions before after → Disjoins tells channel lent old before o.u o.v new after (Err came)
   failed new after came runs remembers = record {
     runs = runs;
     remembers = remembers;
@@ -66,13 +68,13 @@ module _ {S : Type 0} {tells : Bool} {channel : S → Channel} {lent : S → Bes
         runs_further law parts old (disjunctions before) (disjunction_of old.graph o.u o.v) two listed by one (disjunctions cache_one) high runs_one
         (runs_part law parts one (disjunctions cache_one) (disjunction_of old.graph o.u o.v) two listed by (disjunction_of one.graph o.u_low o.v_low) low_is_part runs)
 
-    remembers_low : (cache_two : OrCache) → Remembers (most_disjunctions cache_one) (disjunctions cache_one) (most_disjunctions cache_two) (disjunctions cache_two)
-        → Remembers (most_disjunctions before) (disjunctions before) (most_disjunctions cache_two) (disjunctions cache_two)
+    remembers_low : (cache_two : OrCache) → RemembersDisjunctions cache_one cache_two
+        → RemembersDisjunctions before cache_two
     remembers_low cache_two next =
-        remembers_further (most_disjunctions before) (most_disjunctions cache_one) (most_disjunctions cache_two) (disjunctions before) (disjunctions cache_one) (disjunctions cache_two) by_high.remembers next
+        keeping.further disjunction before.results cache_one.results cache_two.results by_high.remembers next
 
     low_failed : (two : TableState S) (cache_two : OrCache) (came : TableError) → Runs tells channel lent one (disjunctions cache_one) (disjunction_of one.graph o.u_low o.v_low) two (disjunctions cache_two) (Err came)
-        → Remembers (most_disjunctions cache_one) (disjunctions cache_one) (most_disjunctions cache_two) (disjunctions cache_two) → Disjoins tells channel lent old before o.u o.v two cache_two (Err came)
+        → RemembersDisjunctions cache_one cache_two → Disjoins tells channel lent old before o.u o.v two cache_two (Err came)
     low_failed two cache_two came runs remembers = failed two cache_two came (runs_low two (disjunctions cache_two) (Err came) runs) (remembers_low cache_two remembers)
 
     module _ (two : TableState S) (cache_two : OrCache) (low : Node) (by_low : Disjoins tells channel lent one cache_one o.u_low o.v_low two cache_two (Ok low)) where
@@ -97,8 +99,7 @@ module _ {S : Type 0} {tells : Bool} {channel : S → Channel} {lent : S → Bes
       closed three cache_three result closes = record {
         runs = runs_further law parts old (disjunctions before) (disjunction_of old.graph o.u o.v) three (disjunctions cache_three) result two (disjunctions cache_two) low (runs_low two (disjunctions cache_two) (Ok low) by_low.runs)
             (subst (λ (f : Levels → Bool). Runs tells channel lent two (disjunctions cache_two) f three (disjunctions cache_three) result) asked_two closes.runs);
-        remembers = remembers_new (HasOperands o.u o.v) (most_disjunctions before) (most_disjunctions cache_two) (most_disjunctions cache_three) (disjunctions before) (disjunctions cache_two) (disjunctions cache_three)
-            (remembers_low cache_two by_low.remembers) closes.remembers (λ entry own there. unknown.none own.0 (subst (Contains (disjunctions before)) own.1 there));
+        remembers = keeping.makes_room disjunction before.results cache_two.results cache_three.results (o.u, o.v) unknown.none (remembers_low cache_two by_low.remembers) closes.room;
         disjoined = closes.disjoined;
         reachable = reached three cache_three result closes;
         kept = λ differ first second. closes.kept;
@@ -120,12 +121,12 @@ module _ {S : Type 0} {tells : Bool} {channel : S → Channel} {lent : S → Bes
       closes = closed two cache_two low by_low;
     }
 
-    awaits_low : AwaitsLow (disjoining tells channel lent) (Disjoins tells channel lent old before o.u o.v) one cache_one o high
+    awaits_low : AwaitsLow (disjoining tells channel lent) (Disjoins tells channel lent old before o.u o.v) one cache_one o high (o.u_low, o.v_low)
     awaits_low =
         let first = splits.u_low one.graph sound_one.tied.reduced o split_one in
         let second = splits.v_low one.graph sound_one.tied.reduced o split_one in record {
           refused = low_failed one cache_one OutOfMemory (runs_refused law parts one (disjunctions cache_one) (disjunction_of one.graph o.u_low o.v_low) sound_one (disjunctions cache_one) (by_high.runs.fits no_error))
-              (remembers_all (most_disjunctions cache_one) (disjunctions cache_one));
+              (remembers_all disjunction cache_one.results);
           ready = record { sound = sound_one; first = first.stands; second = second.stands; fits = by_high.runs.fits no_error };
           later = both_later o.level (level_of one.graph o.u_low) (level_of one.graph o.v_low) first.below second.below;
           low = low_came;
@@ -143,7 +144,7 @@ module _ {S : Type 0} {tells : Bool} {channel : S → Channel} {lent : S → Bes
   opened =
       let first = splits.u_high old.graph sound.tied.reduced o split in
       let second = splits.v_high old.graph sound.tied.reduced o split in record {
-        refused = failed old before OutOfMemory (runs_refused law parts old (disjunctions before) (disjunction_of old.graph o.u o.v) sound (disjunctions before) fits) (remembers_all (most_disjunctions before) (disjunctions before));
+        refused = failed old before OutOfMemory (runs_refused law parts old (disjunctions before) (disjunction_of old.graph o.u o.v) sound (disjunctions before) fits) (remembers_all disjunction before.results);
         level = splits.level old.graph sound.tied.reduced o split;
         ready = record { sound = sound; first = first.stands; second = second.stands; fits = fits };
         later = both_later o.level (level_of old.graph o.u_high) (level_of old.graph o.v_high) first.below second.below;
@@ -151,12 +152,12 @@ module _ {S : Type 0} {tells : Bool} {channel : S → Channel} {lent : S → Bes
       }
 
 module _ {S : Type 0} {tells : Bool} {channel : S → Channel} {lent : S → Beside} where
-  pub split_answered : StepByStep tells channel → Splitting → Growth → Fitting S → Subfunctions → Reachability → (old : TableState S) (before after : OrCache) (u v : Node) → CanDisjoin old before u v
+  pub split_answered : StepByStep tells channel → Keeping Pair Node same_pair → Splitting → Growth → Fitting S → Subfunctions → Reachability → (old : TableState S) (before after : OrCache) (u v : Node) → CanDisjoin old before u v
       → (o : Operands) → AreSplit old.graph o → (o.u ≡ u) × (o.v ≡ v) → (after ≡ before) × IsUnknown old.graph before u v → IsAnswer (disjoining tells channel lent) old before (u, v) old after (Ok (Open o))
-  split_answered law splits growth fitting parts paths old before after u v can o split same missed =
+  split_answered law keeping splits growth fitting parts paths old before after u v can o split same missed =
       let unknown : IsUnknown old.graph before o.u o.v = subst (λ (x : Node). IsUnknown old.graph before x o.v) (sym same.0) (subst (λ (y : Node). IsUnknown old.graph before u y) (sym same.1) missed.1) in
       let own : IsAnswer (disjoining tells channel lent) old before (o.u, o.v) old before (Ok (Open o)) =
-      (no_later old.graph o split, opened law splits growth fitting parts paths old before can.sound can.fits o split unknown) in
+      (no_later old.graph o split, opened law keeping splits growth fitting parts paths old before can.sound can.fits o split unknown) in
       subst (λ (c : OrCache). IsAnswer (disjoining tells channel lent) old before (u, v) old c (Ok (Open o))) (sym missed.0)
       (subst (λ (y : Node). IsAnswer (disjoining tells channel lent) old before (u, y) old before (Ok (Open o))) same.1
       (subst (λ (x : Node). IsAnswer (disjoining tells channel lent) old before (x, o.v) old before (Ok (Open o))) same.0 own))

@@ -1,6 +1,6 @@
 -- The disjunction as an operation on diagrams: what is asked, a whole call, however it ends, and the step that closes one
 -- that was split. (Bryant: Graph-Based Algorithms for Boolean Function Manipulation, 1986, section 4.3: apply.)
-use Rattle.std.specs.Prelude.{◌≡◌, ◌≢◌, ◌⊎◌, ◌||◌, Bool, Result, Ok, Contains, IfOk, IsTrue, min}
+use Rattle.std.specs.Prelude.{◌≡◌, ◌≢◌, ◌⊎◌, ◌||◌, Bool, Some, Result, Ok, Contains, IfOk, IsTrue, min}
 use Rattle.host_io.specs.Channel.{Channel}
 use Rattle.host_io.specs.Beside.{Beside}
 use Rattle.node_table.specs.declared.error.TableError.{TableError}
@@ -15,9 +15,10 @@ use Rattle.operations.specs.Operands.{AreSplit, IsInner}
 use Rattle.operations.specs.Machine.{Calls}
 use Rattle.operations.specs.Results.{Disjoined}
 use Rattle.operations.specs.Entries.{Disjunction, Fits, HaveSame}
+use Rattle.operations.specs.Pairs.{Pair}
 use Rattle.quantify.specs.declared.or_cache.OrCache.{OrCache}
-use Rattle.quantify.specs.OrCache.{HasOperands, Pair, disjunctions, most_disjunctions}
-use Rattle.quantify.specs.Runs.{Remembers, RemembersBut, Runs}
+use Rattle.quantify.specs.OrCache.{MakesRoomFor, RemembersDisjunctions, disjunctions}
+use Rattle.quantify.specs.Runs.{Runs}
 
 -- the function of either
 abbrev pub disjunction_of : Graph → Node → Node → Levels → Bool
@@ -45,7 +46,7 @@ pub record IsUnknown (graph : Graph) (cache : OrCache) (u v : Node) : Type 0 whe
 pub record Disjoins {S : Type 0} (tells : Bool) (channel : S → Channel) (lent : S → Beside) (old : TableState S) (before : OrCache) (u v : Node) (new : TableState S) (after : OrCache)
     (result : Result Node TableError) : Type 0 where
   pub runs : Runs tells channel lent old (disjunctions before) (disjunction_of old.graph u v) new (disjunctions after) result
-  pub remembers : Remembers (most_disjunctions before) (disjunctions before) (most_disjunctions after) (disjunctions after)
+  pub remembers : RemembersDisjunctions before after
   pub disjoined : IfOk result (λ w. Disjoined new.graph u v w)
   pub reachable : IfOk result (λ w. ReachesNew old.graph new.graph w)
   pub kept : u ≢ v → IsInner old.graph u → IsInner old.graph v → IfOk result (λ w. Contains (disjunctions after) (Disjunction u v w))
@@ -64,7 +65,7 @@ pub record CanClose {S : Type 0} (table : TableState S) (cache : OrCache) (o : O
 pub record Closes {S : Type 0} (tells : Bool) (channel : S → Channel) (lent : S → Beside) (old : TableState S) (before : OrCache) (o : Operands) (high low : Node) (new : TableState S) (after : OrCache)
     (result : Result Node TableError) : Type 0 where
   pub runs : Runs tells channel lent old (disjunctions before) (disjunction_of old.graph o.u o.v) new (disjunctions after) result
-  pub remembers : RemembersBut (HasOperands o.u o.v) (most_disjunctions before) (disjunctions before) (most_disjunctions after) (disjunctions after)
+  pub room : MakesRoomFor before after o.u o.v
   pub disjoined : IfOk result (λ w. Disjoined new.graph o.u o.v w)
   pub kept : IfOk result (λ w. Contains (disjunctions after) (Disjunction o.u o.v w))
   pub children : IfOk result (λ w. HasChildren new.graph o.level high low w)
@@ -78,7 +79,7 @@ disjoining tells channel lent = record {
   can_close = CanClose;
   closes = Closes tells channel lent;
   high = λ o. (o.u_high, o.v_high);
-  low = λ o. (o.u_low, o.v_low);
+  low = λ o high. Some (o.u_low, o.v_low);
   level = λ o. o.level;
   floor = λ table pair. min (level_of table.graph pair.0) (level_of table.graph pair.1);
 }

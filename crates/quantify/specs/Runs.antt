@@ -1,6 +1,6 @@
 -- Calls that look for the node of a function and add no clause, however they end: as one relation, from which the calls
--- around them go on. Beside it what a cache remembers, and the node of both sides.
-use Rattle.std.specs.Prelude.{◌≡◌, ◌≤◌, ◌⊎◌, ℕ, Bool, List, Result, Err, Contains, IfOk, length, if◌then◌else◌}
+-- around them go on. Beside it the node of both sides.
+use Rattle.std.specs.Prelude.{◌≡◌, ℕ, Bool, List, Result, Err, IfOk, if◌then◌else◌}
 use Rattle.host_io.specs.Channel.{Channel}
 use Rattle.host_io.specs.Beside.{Beside}
 use Rattle.node_table.specs.declared.error.TableError.{TableError}
@@ -23,18 +23,6 @@ pub record Runs {S : Type 0} (tells : Bool) (channel : S → Channel) (lent : S 
   pub made : MakesOnly old.graph new.graph function
   pub lacks : result ≡ Err NodeLimit → LacksPart new.graph function
   pub beside : lent new.book.sink ≡ lent old.book.sink
-
--- A cache forgets an entry only where it was full.
-pub record Remembers (room : ℕ) (before : List Entry) (room_after : ℕ) (after : List Entry) : Type 0 where
-  pub capacity : room_after ≡ room
-  pub no_fewer : length before ≤ length after
-  pub remembered : (entry : Entry) → Contains before entry → Contains after entry ⊎ (room ≤ length after)
-
--- One entry more: one is forgotten only where the cache was full, or where the new one is for the same question.
-pub record RemembersBut (is_own : Entry → Type 0) (room : ℕ) (before : List Entry) (room_after : ℕ) (after : List Entry) : Type 0 where
-  pub capacity : room_after ≡ room
-  pub no_fewer : length before ≤ length after
-  pub others : (entry : Entry) → Contains before entry → Contains after entry ⊎ (is_own entry ⊎ (room ≤ length before))
 
 -- at this level, the function of these children
 abbrev pub HasSides : (Levels → Node → Bool) → ℕ → Node → Node → (Levels → Bool) → Type 0

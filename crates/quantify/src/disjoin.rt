@@ -20,7 +20,7 @@ use node_table::{
     Node, Table, TableError, canonical_law, cofactor_law, growth_law, reach_law, steps_law,
     subfunction_law,
 };
-use operations::{Operands, Operation, Reply, entry_law, operand_law, split, work_off};
+use operations::{Operands, Operation, Reply, cache_law, entry_law, operand_law, split, work_off};
 use std::alloc::Global;
 
 /// The disjunction of two nodes. Nodes and clauses that were there stay; what was made before a refusal stays too. No clause
@@ -88,6 +88,7 @@ impl<S: Sink + Drop> Operation<S> for OrOperation {
     ) -> Result<Reply<Operands, Node>, TableError> {
         steps_law::<S>();
         entry_law::<S>();
+        cache_law::<(Node, Node), Node>();
         operand_law();
         growth_law();
         subfunction_law();
@@ -103,8 +104,8 @@ impl<S: Sink + Drop> Operation<S> for OrOperation {
         (operands.u_high, operands.v_high)
     }
 
-    fn low(operands: &Operands) -> (Node, Node) {
-        (operands.u_low, operands.v_low)
+    fn low(operands: &Operands, _high: &Node) -> Option<(Node, Node)> {
+        Some((operands.u_low, operands.v_low))
     }
 
     // The disjunction is the node of both results, and is kept.

@@ -4,8 +4,12 @@
 #![tactic(auto)]
 
 mod disjoin;
+mod exists_cache;
 mod join;
 mod or_cache;
+mod quantify;
 
 pub use disjoin::or;
+pub use exists_cache::ExistsCache;
 pub use or_cache::OrCache;
+pub use quantify::exists;

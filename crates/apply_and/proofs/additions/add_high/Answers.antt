@@ -10,7 +10,6 @@ use Rattle.operations.specs.Results.{conjunction_atoms}
 use Rattle.operations.specs.Sides.{cofactor_at}
 use Rattle.operations.specs.declared.parts.Side.TheVariants.{High}
 use Rattle.lrat_rules.specs.State.{clause_at}
-use Rattle.apply_and.proofs.Added.{added_at}
 use Rattle.apply_and.proofs.Closed.{high_apart, high_over, high_clause, side_justified}
 use Rattle.apply_and.proofs.additions.add_high.Goals as goal
 
@@ -35,15 +34,15 @@ and_high-hints-requires-clause-close g c =
     let x = pos (variable_at graph o.level) in
     let among : are_among (conjunction_atoms graph o.u o.v c.args.w) c.args.clause.now ≡ true = c.clause_law.ensures.among (conjunction_atoms graph o.u o.v c.args.w) c.args.clause.now c.requires.clause in
     let long : c.as_slice.result.now ≡ neg_ℤ x ∷ c.args.clause.now = c.as_slice.ensures.literals ∙ c.behind-long.ensures ∙ ap (λ (l : ℤ). l ∷ c.args.clause.now) (c.negated.ensures ∙ ap neg_ℤ c.variable.ensures) in
-    let apart : are_apart (neg_ℤ x ∷ c.args.clause.now) ≡ true = high_apart c.operand_law.ensures graph tied.reduced tied.ordered live o c.requires.split c.args.w High c.args.high.now c.requires.side c.args.clause.now c.requires.clause among in
+    let apart : are_apart (neg_ℤ x ∷ c.args.clause.now) ≡ true = high_apart c.literal_law.ensures c.operand_law.ensures graph tied.reduced tied.ordered live o c.requires.split c.args.w High c.args.high.now c.requires.side c.args.clause.now c.requires.clause among in
     subst (λ (clause : List ℤ). PartsClose (literals_of clause) (c.up_part.result ∷ c.down_part.result ∷ c.down_part-2.result ∷ c.just_part.result ∷ [])) (sym long)
     (c.conjunction_law.ensures.high x (atom_of graph o.u) (atom_of graph o.v) (atom_of graph c.args.w)
     (atom_of graph (cofactor_at High graph o.level o.u)) (atom_of graph (cofactor_at High graph o.level o.v)) (atom_of graph (cofactor_at High graph o.level c.args.w))
     (neg_ℤ x ∷ c.args.clause.now) c.up_part.result c.down_part.result c.down_part-2.result c.just_part.result
-    (high_clause c.operand_law.ensures graph tied.reduced tied.ordered live o c.requires.split c.args.w High c.args.high.now c.requires.side c.args.clause.now c.requires.clause among)
+    (high_clause c.literal_law.ensures c.operand_law.ensures graph tied.reduced tied.ordered live o c.requires.split c.args.w High c.args.high.now c.requires.side c.args.clause.now c.requires.clause among)
     (c.closing_law.ensures.consistent (neg_ℤ x ∷ c.args.clause.now) apart)
     c.up_part.ensures.up c.down_part.ensures.down c.down_part-2.ensures.down
-    (c.just_part.ensures.justifies _ (side_justified c.operand_law.ensures graph tied.reduced tied.ordered live o c.requires.split c.args.w High c.args.high.now c.requires.side c.args.clause.now c.requires.clause among)))
+    (c.just_part.ensures.justifies _ (side_justified c.literal_law.ensures c.operand_law.ensures graph tied.reduced tied.ordered live o c.requires.split c.args.w High c.args.high.now c.requires.side c.args.clause.now c.requires.clause among)))
 
 pub justify-requires-clause-strict : goal.justify-requires-clause-strict
 justify-requires-clause-strict g c =
@@ -64,13 +63,13 @@ justify-requires-clause-over_nodes g c =
     let among : are_among (conjunction_atoms graph o.u o.v c.args.w) c.args.clause.now ≡ true = c.clause_law.ensures.among (conjunction_atoms graph o.u o.v c.args.w) c.args.clause.now c.requires.clause in
     let long : c.as_slice-2.result.now ≡ neg_ℤ x ∷ c.args.clause.now = c.as_slice-2.ensures.literals ∙ c.behind-long.ensures ∙ ap (λ (l : ℤ). l ∷ c.args.clause.now) (c.negated.ensures ∙ ap neg_ℤ c.variable.ensures) in
     subst (λ (clause : List ℤ). IsOverNodes graph clause) (sym long)
-    (high_over c.operand_law.ensures graph tied.reduced tied.ordered live o c.requires.split c.args.w High c.args.high.now c.requires.side c.args.clause.now c.requires.clause among)
+    (high_over c.literal_law.ensures c.operand_law.ensures graph tied.reduced tied.ordered live o c.requires.split c.args.w High c.args.high.now c.requires.side c.args.clause.now c.requires.clause among)
 
 pub returns-clause-added : goal.returns-clause-added
 returns-clause-added g c =
     let old = c.args.table.now.book.state in
     let new = c.justify.new.self.book.state in
-    let at = added_at old new c.in_ok-id.id c.as_slice-2.result.now c.in_ok-id.ensures.added in
+    let at = c.high_clause_law.ensures.added old new c.in_ok-id.id c.as_slice-2.result.now c.in_ok-id.ensures.added in
     let same : c.new.result.clause ≡ c.as_slice-2.result.now = c.new.ensures.clause ∙ c.as_slice-4.ensures.literals ∙ sym c.as_slice-2.ensures.literals in (
       c.new.ensures.clause ∙ c.as_slice-4.ensures.literals ∙ c.behind-long.ensures ∙ ap (λ (l : ℤ). l ∷ c.args.clause.now) (c.negated.ensures ∙ ap neg_ℤ c.variable.ensures),
       ap (clause_at new.live) c.new.ensures.id ∙ at ∙ ap Some (sym same),

@@ -1,14 +1,17 @@
-use Rattle.std.proofs.Common.{◌≡◌, ◌<◌, ◌≤◌, ◌∙◌, pos, ℕ, List, [], ◌∷◌, true, arith, Some, ap, sym, subst}
+use Rattle.std.proofs.Common.{◌≡◌, ◌<◌, ◌≤◌, ◌+◌, ◌∙◌, pos, ℕ, List, [], ◌∷◌, true, arith, Some, Result, Ok, Err, ap, sym, subst}
+use Rattle.std.specs.Prelude.{IfOk}
+use Rattle.lrat_rules.specs.State.{clause_at}
 use Rattle.lrat_rules.specs.Strict.{RefutesStrictly}
+use Rattle.clause_ledger.specs.Book.{with_next}
 use Rattle.hint_chain.specs.Closing.{are_among}
 use Rattle.lrat_rules.specs.Soundness.{is_nonzero}
+use Rattle.node_table.specs.declared.error.TableError.{TableError}
 use Rattle.node_table.specs.Diagram.{variable_at}
 use Rattle.node_table.specs.Defined.{atom_of}
 use Rattle.operations.specs.Results.{conjunction_atoms}
 use Rattle.operations.specs.Sides.{cofactor_at}
 use Rattle.operations.specs.declared.parts.Side.TheVariants.{Low}
-use Rattle.apply_and.proofs.Added.{added_if}
-use Rattle.apply_and.proofs.Closed.{low_apart, low_over, high_clause, side_justified, variable_within}
+use Rattle.apply_and.proofs.Closed.{low_apart, low_over, high_clause, side_justified}
 use Rattle.apply_and.proofs.additions.add_low.Goals as goal
 
 three_of_four : 3 ≤ 4
@@ -24,16 +27,16 @@ and_low-hints-requires-clause-close g c =
     let o = c.args.operands.now in
     let tied = c.requires.sound.tied in
     let among : are_among (conjunction_atoms graph o.u o.v c.args.w) c.args.clause.now ≡ true = c.clause_law.ensures.among (conjunction_atoms graph o.u o.v c.args.w) c.args.clause.now c.requires.clause in
-    let variable : 0 < variable_at graph o.level = (variable_within graph tied.ordered o.level (c.operand_law.ensures.level graph tied.reduced o c.requires.split)).0 in
+    let variable : 0 < variable_at graph o.level = (tied.ordered.within o.level (c.operand_law.ensures.level graph tied.reduced o c.requires.split)).0 in
     let nonzero : is_nonzero (pos (variable_at graph o.level)) ≡ true = nonzero_variable (variable_at graph o.level) variable in
     c.conjunction_law.ensures.low (pos (variable_at graph o.level)) (atom_of graph o.u) (atom_of graph o.v) (atom_of graph c.args.w)
     (atom_of graph (cofactor_at Low graph o.level o.u)) (atom_of graph (cofactor_at Low graph o.level o.v)) (atom_of graph (cofactor_at Low graph o.level c.args.w))
     c.args.clause.now c.args.first c.up_part.result c.down_part.result c.down_part-2.result c.just_part.result
-    nonzero (high_clause c.operand_law.ensures graph tied.reduced tied.ordered live o c.requires.split c.args.w Low c.args.low.now c.requires.side c.args.clause.now c.requires.clause among ∙ ap Some (sym c.requires.first))
+    nonzero (high_clause c.literal_law.ensures c.operand_law.ensures graph tied.reduced tied.ordered live o c.requires.split c.args.w Low c.args.low.now c.requires.side c.args.clause.now c.requires.clause among ∙ ap Some (sym c.requires.first))
     c.requires.clause
-    (c.closing_law.ensures.consistent c.args.clause.now (low_apart c.operand_law.ensures graph tied.reduced tied.ordered live o c.requires.split c.args.w Low c.args.low.now c.requires.side c.args.clause.now c.requires.clause among))
+    (c.closing_law.ensures.consistent c.args.clause.now (low_apart c.literal_law.ensures c.operand_law.ensures graph tied.reduced tied.ordered live o c.requires.split c.args.w Low c.args.low.now c.requires.side c.args.clause.now c.requires.clause among))
     c.up_part.ensures.up c.down_part.ensures.down c.down_part-2.ensures.down
-    (c.just_part.ensures.justifies _ (side_justified c.operand_law.ensures graph tied.reduced tied.ordered live o c.requires.split c.args.w Low c.args.low.now c.requires.side c.args.clause.now c.requires.clause among))
+    (c.just_part.ensures.justifies _ (side_justified c.literal_law.ensures c.operand_law.ensures graph tied.reduced tied.ordered live o c.requires.split c.args.w Low c.args.low.now c.requires.side c.args.clause.now c.requires.clause among))
 
 pub justify-requires-clause-strict : goal.justify-requires-clause-strict
 justify-requires-clause-strict g c =
@@ -49,7 +52,7 @@ justify-requires-clause-over_nodes g c =
     let o = c.args.operands.now in
     let tied = c.requires.sound.tied in
     let among : are_among (conjunction_atoms graph o.u o.v c.args.w) c.args.clause.now ≡ true = c.clause_law.ensures.among (conjunction_atoms graph o.u o.v c.args.w) c.args.clause.now c.requires.clause in
-    low_over c.operand_law.ensures graph tied.reduced tied.ordered live o c.requires.split c.args.w Low c.args.low.now c.requires.side c.args.clause.now c.requires.clause among
+    low_over c.literal_law.ensures c.operand_law.ensures graph tied.reduced tied.ordered live o c.requires.split c.args.w Low c.args.low.now c.requires.side c.args.clause.now c.requires.clause among
 
 pub just_part-requires : goal.just_part-requires
 just_part-requires g c =
@@ -58,4 +61,11 @@ just_part-requires g c =
     (conjunction_atoms graph (cofactor_at Low graph o.level o.u) (cofactor_at Low graph o.level o.v) c.args.low.now.0, three_of_four, c.requires.side.justified)
 
 pub returns-clause-added : goal.returns-clause-added
-returns-clause-added g c = added_if c.justify.result c.args.table.now.book.state c.justify.new.self.book.state c.args.clause.now c.justify.ensures.added
+returns-clause-added g c =
+    let old = c.args.table.now.book.state in
+    let new = c.justify.new.self.book.state in
+    let clause = c.args.clause.now in
+    elim (c.justify.result) as (λ (r : Result ℕ TableError). IfOk r (λ id. (id ≡ old.top + 1) × (new ≡ with_next old clause)) → IfOk r (λ id. clause_at new.live id ≡ Some clause)) [
+      | Ok id ↦ λ is. c.high_clause_law.ensures.added old new id clause is
+      | Err error ↦ λ is. tt
+    ] c.justify.ensures.added

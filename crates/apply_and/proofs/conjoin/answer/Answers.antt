@@ -10,7 +10,6 @@ use Rattle.apply_and.specs.Cache.{StandInFront, entries, is_one, with_used}
 use Rattle.apply_and.specs.Calls.{Answers}
 use Rattle.apply_and.specs.Conjunction.{conjunction_of}
 use Rattle.apply_and.proofs.Conjunctions.{only_answer}
-use Rattle.apply_and.proofs.Handed.{steps_none}
 use Rattle.apply_and.proofs.Made.{not_plain}
 use Rattle.apply_and.proofs.Named.{no_clause, no_found, same_some}
 use Rattle.apply_and.proofs.conjoin.answer.Goals as goal
@@ -24,7 +23,7 @@ returns-in-Some-clause-answers g c =
     let can = c.requires.can in record {
       call = record {
         conjoined = c.in-Some.ensures.conjoined _ _ can.first can.second;
-        steps = steps_none c.steps_law.ensures table can.sound _;
+        steps = c.steps_law.ensures.at_most _ _ _ _ _ _ _ (omega arith) (c.steps_law.ensures.none table can.sound);
         accounts = c.accounts_law.ensures.none table before _ can.sound can.fits;
         unretired = λ id is. absurd (no_clause id is);
         kept = λ differ first second. absurd (not_plain u v c.in-Some.w differ first second c.in-Some.ensures.plain);
@@ -61,7 +60,7 @@ returns-clause-answers g c =
           let there = same_list.back own kept in record {
             call = record {
               conjoined = (can.fits.each own there).1;
-              steps = steps_none c.steps_law.ensures table can.sound _;
+              steps = c.steps_law.ensures.at_most _ _ _ _ _ _ _ (omega arith) (c.steps_law.ensures.none table can.sound);
               accounts = c.accounts_law.ensures.same table before looked _ can.sound same_list can.fits;
               unretired = λ id names. can.fits.unretired id (own, there, names);
               kept = λ differ first second. kept;

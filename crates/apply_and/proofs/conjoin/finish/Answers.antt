@@ -1,15 +1,16 @@
-use Rattle.std.proofs.Common.{◌∙◌, Err, ap, sym, subst, inl, inr, arith}
+use Rattle.std.proofs.Common.{◌∙◌, Err, refl, ap, sym, subst, inl, inr, arith}
 use Rattle.node_table.specs.declared.error.TableError.TheVariants.{NodeLimit, WriteFault}
 use Rattle.node_table.specs.declared.node.Just.TheVariants.{Trivial}
 use Rattle.node_table.specs.Diagram.{Graph}
 use Rattle.node_table.specs.HandedOn.{came_from, handed_on, no_error, same_answer, same_error}
 use Rattle.node_table.specs.Just.{IsJustified}
 use Rattle.node_table.specs.Made.{LacksPart, MakesOnly, ReachesNew}
+use Rattle.node_table.specs.Progress.{Steps, error_of}
 use Rattle.node_table.specs.Refused.{same_nodes}
 use Rattle.operations.specs.Results.{Conjoined, conjunction_atoms}
 use Rattle.apply_and.specs.Conjunction.{conjunction_of}
+use Rattle.apply_and.proofs.Calls.{Answer}
 use Rattle.apply_and.proofs.Conjunctions.{conjoined_ready, high_below, low_below, ready_kept, sides_from, trivial_operand}
-use Rattle.apply_and.proofs.Handed.{steps_handed}
 use Rattle.apply_and.proofs.Made.{lacks_one, made_node, reached_node}
 use Rattle.apply_and.proofs.Named.{failed_just, not_both}
 use Rattle.node_table.specs.declared.node.Just.{Just}
@@ -44,7 +45,7 @@ returns-then-is_operand-clause-conjoined g c =
     let extends = c.node-made.ensures.steps.extends in
     let ready = ready_kept c.operand_law.ensures c.entry_law.ensures old mid c.requires.sound extends o c.requires.split c.args.high.now c.args.low.now c.requires.high c.requires.low in
     conjoined_ready c.cofactor_law.ensures c.operand_law.ensures mid.graph c.table_law.ensures.reduced mid.book.state.live o c.args.high.now c.args.low.now ready c.in_ok-w.w c.in_ok-w.ensures.children mid.book.state.live Trivial
-    (trivial_operand mid.graph o.u o.v c.in_ok-w.w ready.split.first ready.split.second (c.is_operand.ensures.0 c.if-is_operand.true))
+    (trivial_operand mid.graph o.u o.v c.in_ok-w.w (c.literal_law.ensures.differ mid.graph c.table_law.ensures.reduced o.u o.v ready.split.first ready.split.second ready.split.differ) (c.is_operand.ensures.0 c.if-is_operand.true))
 
 pub justify-requires-clause-sides : goal.justify-requires-clause-sides
 justify-requires-clause-sides g c =
@@ -58,7 +59,10 @@ justify-requires-clause-sides g c =
 
 pub returns-in_err-just-clause-steps : goal.returns-in_err-just-clause-steps
 returns-in_err-just-clause-steps g c =
-    steps_handed _ c.in_err-just.field-0.0 c.from_residual-in_err-just.ensures.1
+    let old = c.args.table.now in
+    let new = c.justify.new.table in
+    let came = c.in_err-just.field-0.0 in
+    subst (λ (r : Answer). Steps g.S.Sink.tells (g.S.Sink.channel old.book.sink) (g.S.Sink.channel new.book.sink) old new 2 (error_of r)) (sym (handed_on _ came came c.from_residual-in_err-just.ensures.1 refl))
     (c.steps_law.ensures.further _ _ _ _ _ _ _ _ _ c.in_ok-w.ensures.steps c.in_err-just.ensures.steps)
 
 pub returns-in_err-just-clause-made : goal.returns-in_err-just-clause-made

@@ -1,5 +1,5 @@
 -- An error is that of the whole call, and with each turn fewer are left.
-use Rattle.std.proofs.Common.{reverse}
+use Rattle.std.proofs.Common.{reverse, sym, ◌∙◌}
 use Rattle.node_table.specs.declared.error.TableError.TheVariants.{OutOfMemory}
 use Rattle.operations.proofs.OpenCalls.{ask_failed, close_failed, handed, low_refused, low_smaller, open_refused, open_smaller}
 use Rattle.operations.proofs.machine.work_off.Goals as goal
@@ -28,19 +28,20 @@ calls-smaller-in-Open g c =
     c.ask.new.table c.ask.new.cache c.in_ok-parts-in-Ask.field-0 c.in_ok-parts-in-Ask.ensures.answer c.in-Open.parts c.in-Open.is
     (reverse c.push.new.frames.items) c.in_ok-push-in-Open.ensures c.high.result c.high.ensures c.in_ok-parts-in-Ask.ensures.levels
 
-pub returns-in_err-push-in-None : goal.returns-in_err-push-in-None
-returns-in_err-push-in-None g c =
+pub returns-in_err-push-in-Some-low : goal.returns-in_err-push-in-Some-low
+returns-in_err-push-in-Some-low g c =
     let calls = g.O.Operation.calls in
     let ends = calls.ends c.args.table.now c.args.cache.now c.args.question in
-    handed ends c.calls.table c.calls.cache c.from_residual-in_err-push-in-None.result OutOfMemory c.from_residual-in_err-push-in-None.ensures.1
+    handed ends c.calls.table c.calls.cache c.from_residual-in_err-push-in-Some-low.result OutOfMemory c.from_residual-in_err-push-in-Some-low.ensures.1
     (low_refused calls ends (reverse c.calls.frames.items) c.calls.table c.calls.cache c.calls.turn c.calls.invariant c.in-Answer.found c.in-Answer.is
-    c.in-Some.frame (reverse c.pop.new.frames.items) c.in-Some.ensures c.in-None.is)
+    c.in-Some.frame (reverse c.pop.new.frames.items) c.in-Some.ensures c.in-None.is c.in-Some-low.question (sym c.in-Some-low.is ∙ c.low.ensures))
 
-pub calls-smaller-in-None : goal.calls-smaller-in-None
-calls-smaller-in-None g c =
+pub calls-smaller-in-Some-low : goal.calls-smaller-in-Some-low
+calls-smaller-in-Some-low g c =
     let calls = g.O.Operation.calls in
     low_smaller calls (calls.ends c.args.table.now c.args.cache.now c.args.question) (reverse c.calls.frames.items) c.calls.table c.calls.cache c.calls.turn c.calls.invariant c.in-Answer.found c.in-Answer.is
-    c.in-Some.frame (reverse c.pop.new.frames.items) c.in-Some.ensures c.in-None.is (reverse c.push-in-None.new.frames.items) c.in_ok-push-in-None.ensures c.low.result c.low.ensures
+    c.in-Some.frame (reverse c.pop.new.frames.items) c.in-Some.ensures c.in-None.is c.in-Some-low.question (sym c.in-Some-low.is ∙ c.low.ensures)
+    (reverse c.push-in-Some-low.new.frames.items) c.in_ok-push-in-Some-low.ensures
 
 pub returns-in_err-close-in-Some-high : goal.returns-in_err-close-in-Some-high
 returns-in_err-close-in-Some-high g c =

@@ -3,10 +3,10 @@ use Rattle.std.proofs.Common.{◌≡◌, ◌∙◌, Option, None, Some, Ok, Cont
 use Rattle.std.specs.Prelude.{IfSome}
 use Rattle.node_table.specs.declared.node.Node.{Node}
 use Rattle.operations.specs.Entries.{Disjunction}
-use Rattle.quantify.specs.OrCache.{disjunctions, most_disjunctions}
+use Rattle.quantify.specs.OrCache.{disjunction, disjunctions}
 use Rattle.quantify.specs.Disjunction.{Disjoins, disjunction_of}
 use Rattle.quantify.proofs.Disjunctions.{not_plain, only_disjunction}
-use Rattle.quantify.proofs.Lists.{fits_same, have_same, remembers_all, remembers_same}
+use Rattle.quantify.proofs.Lists.{fits_same, have_same, remembers_all, remembers_looked}
 use Rattle.quantify.proofs.Running.{runs_none}
 use Rattle.quantify.proofs.disjoin.answer.Goals as goal
 
@@ -27,7 +27,7 @@ returns-in-Some-clause-answers g c =
     let can = c.requires.can in
     let found = c.in-Some.ensures.disjoined table.graph can.first can.second in record {
       runs = runs_none c.steps_law.ensures c.subfunction_law.ensures table list (disjunction_of table.graph u v) can.sound list can.fits w;
-      remembers = remembers_all (most_disjunctions cache) list;
+      remembers = remembers_all disjunction cache.results;
       disjoined = found;
       reachable = c.reach_law.ensures.none_made table.graph w;
       kept = λ differ first second. absurd (not_plain table.graph u v w differ first second c.in-Some.ensures.plain);
@@ -54,7 +54,7 @@ returns-clause-answers g c =
           let there = looked.same.back (Disjunction u v w) kept in record {
             runs = runs_none c.steps_law.ensures c.subfunction_law.ensures table list (disjunction_of table.graph u v) can.sound (disjunctions after)
                 (fits_same c.entry_law.ensures table list (disjunctions after) looked.same can.fits) w;
-            remembers = remembers_same (most_disjunctions cache) (most_disjunctions after) list (disjunctions after) looked.capacity looked.no_fewer looked.same;
+            remembers = remembers_looked disjunction cache.results after.results looked;
             disjoined = (can.fits.each (Disjunction u v w) there).1;
             reachable = c.reach_law.ensures.none_made table.graph w;
             kept = λ differ first second. kept;

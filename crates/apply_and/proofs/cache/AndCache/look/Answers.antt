@@ -2,8 +2,9 @@
 use Rattle.std.proofs.Common.{◌≡◌, ◌∙◌, ap, refl, subst, sym, Some}
 use Rattle.std.specs.Map.{lookup}
 use Rattle.op_cache.specs.Cache.{Cache}
+use Rattle.operations.specs.Numbers.{just_numbered}
 use Rattle.apply_and.specs.declared.cache.Found.{Found}
-use Rattle.apply_and.specs.Cache.{Pair, entry_of, just_numbered, same_pair}
+use Rattle.apply_and.specs.Cache.{Pair, entry_of, same_pair}
 use Rattle.apply_and.proofs.Cached.{tells_pair, tells_pairs}
 use Rattle.apply_and.proofs.cache.AndCache.look.Goals as goal
 

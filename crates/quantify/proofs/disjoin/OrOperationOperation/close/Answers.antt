@@ -4,10 +4,10 @@ use Rattle.node_table.specs.declared.error.TableError.TheVariants.{OutOfMemory}
 use Rattle.node_table.specs.HandedOn.{handed_on, no_error}
 use Rattle.operations.specs.Entries.{AreNodes, Disjunction}
 use Rattle.quantify.specs.declared.or_cache.OrCache.{OrCache}
-use Rattle.quantify.specs.OrCache.{HasOperands, disjunction, disjunctions, most_disjunctions}
+use Rattle.quantify.specs.OrCache.{disjunction, disjunctions}
 use Rattle.quantify.specs.Disjunction.{Closes, disjunction_of}
 use Rattle.quantify.proofs.Disjunctions.{disjoined_joined, disjunction_sides, high_below, low_below}
-use Rattle.quantify.proofs.Lists.{fits_more, remembers_but_all, unnamed}
+use Rattle.quantify.proofs.Lists.{fits_more, makes_no_room, unnamed}
 use Rattle.quantify.proofs.Running.{Answer, runs_further, runs_none, runs_refused}
 use Rattle.quantify.proofs.disjoin.OrOperationOperation.close.Goals as goal
 
@@ -30,7 +30,7 @@ returns-in_err-w-clause-closes g c =
     let sides = disjunction_sides c.operand_law.ensures old.graph c.requires.sound.tied.reduced o c.requires.split c.args.high.now c.args.low.now c.requires.on_high c.requires.on_low c.cofactor_law.ensures in
     subst (λ (r : Answer). Closes g.S.Sink.tells g.S.Sink.channel g.S.Sink.beside old cache o c.args.high.now c.args.low.now new cache r) (sym (handed_on _ came came c.from_residual.ensures.1 refl)) (record {
       runs = c.in_err-w.ensures.runs list (disjunction_of old.graph o.u o.v) c.requires.fits sides;
-      remembers = remembers_but_all (HasOperands o.u o.v) (most_disjunctions cache) list;
+      room = makes_no_room disjunction cache.results (o.u, o.v);
       disjoined = tt;
       kept = tt;
       children = tt;
@@ -55,7 +55,7 @@ returns-in_err-keep-clause-closes g c =
     (subst (λ (after : OrCache). Closes g.S.Sink.tells g.S.Sink.channel g.S.Sink.beside old cache o c.args.high.now c.args.low.now new after (Err OutOfMemory)) (sym c.in_err-keep.ensures.refused) (record {
       runs = runs_further c.steps_law.ensures c.subfunction_law.ensures old list function new list (Err OutOfMemory) new list c.in_ok-w.w first
           (runs_refused c.steps_law.ensures c.subfunction_law.ensures new list function first.steps.leaves.sound list (first.fits no_error));
-      remembers = remembers_but_all (HasOperands o.u o.v) (most_disjunctions cache) list;
+      room = makes_no_room disjunction cache.results (o.u, o.v);
       disjoined = tt;
       kept = tt;
       children = tt;
@@ -89,7 +89,7 @@ returns-clause-closes g c =
     let fits = fits_more new list (disjunctions after) (Disjunction o.u o.v w) (unnamed disjunction (λ x. refl) after.results.entries) (first.fits no_error) (nodes, found) kept.one.only in record {
       runs = runs_further c.steps_law.ensures c.subfunction_law.ensures old list function new (disjunctions after) (Ok w) new list w first
           (runs_none c.steps_law.ensures c.subfunction_law.ensures new list function first.steps.leaves.sound (disjunctions after) fits w);
-      remembers = record { capacity = kept.room.capacity; no_fewer = kept.room.no_fewer; others = kept.room.others };
+      room = kept.room;
       disjoined = found;
       kept = kept.one.kept;
       children = joined.children;

@@ -6,7 +6,8 @@ use Rattle.node_table.specs.declared.node.Node.{Node}
 use Rattle.op_cache.specs.Cache.{Cache}
 use Rattle.operations.specs.Caches.{listed}
 use Rattle.operations.specs.Entries.{Disjunction}
-use Rattle.quantify.specs.OrCache.{Pair, disjunction, same_pair}
+use Rattle.operations.specs.Pairs.{Pair, same_pair}
+use Rattle.quantify.specs.OrCache.{disjunction}
 use Rattle.quantify.proofs.Keys.{tells_pair, tells_pairs}
 use Rattle.quantify.proofs.or_cache.OrCache.look.Goals as goal
 

@@ -1,19 +1,21 @@
--- The high clause of a conjunction is retired, behind the low one or where that was refused: what the additions retire, and
--- what they give.
-use Rattle.std.proofs.Common.{◌≡◌, ◌≢◌, ◌+◌, ◌<◌, ◌≤◌, ℕ, Bool, true, List, [], ◌∷◌, ◌++◌, None, Some, Result, Ok, Err, is_some, Contains, slice_index_or, zero, suc, refl, sym, ap, ◌∙◌, subst, arith, inl, inr}
+-- The high clause is retired, behind the low one or where that was refused: what the additions retire, and what they give.
+use Rattle.std.proofs.Common.{◌≡◌, ◌≢◌, ◌+◌, ◌<◌, ◌≤◌, ℕ, ℤ, Bool, true, List, [], ◌∷◌, ◌++◌, None, Some, cond, is_some, Contains, slice_index_or, zero, suc, refl, sym, ap, ◌∙◌, subst, arith, inl, inr, eq-eqb}
 use Rattle.std.proofs.lemmas.Bool.{cases_eq}
-use Rattle.std.specs.Prelude.{IsErrAnd}
 use Rattle.std.proofs.lemmas.List.Elements.{Contains-append_cases, Contains-append_right}
+use Rattle.std.specs.FinMap as finmap
+use Rattle.std.specs.Cmp.{nat_cmp_total, unsigned_tied}
 use Rattle.host_io.specs.Channel.{Channel}
-use Rattle.lrat_rules.specs.State.{clause_at}
+use Rattle.lrat_rules.specs.State.{State, clause_at}
+use Rattle.clause_ledger.specs.Book.{with_next}
 use Rattle.node_table.specs.declared.error.TableError.{TableError}
 use Rattle.node_table.specs.declared.error.TableError.TheVariants.{NodeLimit, IdLimit, OutOfMemory, WriteFault}
 use Rattle.node_table.specs.declared.node.Just.{Just}
 use Rattle.node_table.specs.declared.node.Just.TheVariants.{Trivial, Clause}
-use Rattle.node_table.specs.Table.{TableState, IsSound, IsAddedTo, IsSame, UnlessTorn, live_nodes}
+use Rattle.node_table.specs.Table.{TableState, IsSound, IsAddedTo, IsSame, live_nodes}
 use Rattle.node_table.specs.Progress.{Leaves, Steps}
 use Rattle.node_table.specs.Laws.{StepByStep}
-use Rattle.operations.specs.Accounts.{GivesOne, RetiresNew, given_just}
+use Rattle.operations.specs.Accounts.{GivesOne, RetiresNew}
+use Rattle.operations.specs.Additions.{HighClauses}
 
 trivial : (id : ℕ) → ◌≡◌ {A = Just} Trivial (Clause id) → ⊥
 trivial id is = cc
@@ -43,14 +45,8 @@ gives_same {S} old new sound same = record {
   others = λ id above added. absurd (omega (arith, above, within old sound id (subst (λ (t : TableState S). IsAddedTo t id) same added)));
 }
 
--- nor where the call was refused
-pub gives_refused : {S : Type 0} (old new : TableState S) → IsSound old → (result : Result Just TableError) (came : TableError) → IsErrAnd result (λ e. e ≡ came)
-    → (came ≢ WriteFault → IsSame old new) → UnlessTorn result (GivesOne old new (given_just result))
-gives_refused old new sound (Ok just) came is same = absurd is
-gives_refused old new sound (Err error) came is same = λ untorn. gives_same old new sound (same (λ fault. untorn (ap Err (is ∙ fault))))
-
 -- a table with one retired clause more
-abbrev pub with_retired : {S : Type 0} → TableState S → ℕ → TableState S
+abbrev with_retired : {S : Type 0} → TableState S → ℕ → TableState S
 with_retired table id = record table { retired = table.retired ++ id ∷ [] }
 
 only : (x y : ℕ) → Contains (x ∷ []) y → x ≡ y
@@ -60,17 +56,12 @@ only x y is = at_first is.0 is.1 is.2
     at_first zero small there = there
     at_first (suc k) small there = absurd (omega (arith, small))
 
--- the high clause, which has this number, isn't retired by the low addition
-pub unretired_still : {S : Type 0} (one two : TableState S) → two.retired ≡ one.retired → (id high : ℕ) → id ≡ high → (Contains one.retired high → ⊥) → Contains two.retired id → ⊥
-unretired_still one two still id high named free there =
-    free (subst (λ (i : ℕ). Contains one.retired i) named (subst (λ (ids : List ℕ). Contains ids id) still there))
-
 -- Of three tables: the first one is that before, the second that with the high clause, and the third that behind the low addition.
 module _ {S : Type 0} (old one two : TableState S) (high : ℕ) (number : high ≡ old.book.state.top + 1) (unchanged : one.retired ≡ old.retired) (still : two.retired ≡ one.retired) where
-  pub retires_high : (new : TableState S) → new ≡ with_retired two high → new.retired ≡ old.retired ++ high ∷ []
+  retires_high : (new : TableState S) → new ≡ with_retired two high → new.retired ≡ old.retired ++ high ∷ []
   retires_high new is = ap (λ (t : TableState S). t.retired) is ∙ ap (λ (ids : List ℕ). ids ++ high ∷ []) (still ∙ unchanged)
 
-  pub retires_new : (new : TableState S) → new ≡ with_retired two high → RetiresNew old new
+  retires_new : (new : TableState S) → new ≡ with_retired two high → RetiresNew old new
   retires_new new is id there =
       elim (Contains-append_cases old.retired (high ∷ []) id (subst (λ (ids : List ℕ). Contains ids id) (retires_high new is) there)) [
         | inl before ↦ inl before
@@ -82,7 +73,7 @@ module _ {S : Type 0} (old one two : TableState S) (high : ℕ) (number : high �
 
   module _ (top : one.book.state.top ≡ high) where
     -- the low clause is given
-    pub gives_low : (id : ℕ) → id ≡ one.book.state.top + 1 → two.book.state.top ≡ id → IsSound two → IsAddedTo two id → (Contains two.retired id → ⊥)
+    gives_low : (id : ℕ) → id ≡ one.book.state.top + 1 → two.book.state.top ≡ id → IsSound two → IsAddedTo two id → (Contains two.retired id → ⊥)
         → (new : TableState S) → new ≡ with_retired two high → GivesOne old new (Clause id)
     gives_low id next last_number sound own free new is =
         subst (λ (t : TableState S). GivesOne old t (Clause id)) (sym is) (record {
@@ -99,7 +90,7 @@ module _ {S : Type 0} (old one two : TableState S) (high : ℕ) (number : high �
         })
 
     -- no clause is given where the low addition was refused
-    pub gives_none : IsSound one → IsSame one two → (new : TableState S) → new ≡ with_retired two high → GivesOne old new Trivial
+    gives_none : IsSound one → IsSame one two → (new : TableState S) → new ≡ with_retired two high → GivesOne old new Trivial
     gives_none sound same new is =
         subst (λ (t : TableState S). GivesOne old t Trivial) (sym is) (record {
           since = λ other no. absurd (trivial other no);
@@ -121,10 +112,37 @@ module _ {S : Type 0} {tells : Bool} {channel : S → Channel} (law : StepByStep
   leaves_retired OutOfMemory other leaves = law.go_on _ _ _ one two new leaves retiring.leaves
   leaves_retired WriteFault other leaves = absurd (other refl)
 
-  pub steps_retired : (few : ℕ) (error : TableError) → error ≢ WriteFault → Steps tells (channel one.book.sink) (channel two.book.sink) one two few (Some error)
+  steps_retired : (few : ℕ) (error : TableError) → error ≢ WriteFault → Steps tells (channel one.book.sink) (channel two.book.sink) one two few (Some error)
       → Steps tells (channel one.book.sink) (channel new.book.sink) one new few (Some error)
   steps_retired few error other steps = record {
     leaves = leaves_retired error other steps.leaves;
     extends = law.extend one two new steps.extends retiring.extends;
     adds = omega (arith, steps.adds, retiring.adds);
   }
+
+-- the clause that an addition made is live
+added_at : (old new : State) (id : ℕ) (clause : List ℤ) → (id ≡ old.top + 1) × (new ≡ with_next old clause) → clause_at new.live id ≡ Some clause
+added_at old new id clause is =
+    (λ i. clause_at (is.1 i).live (is.0 i))
+    ∙ finmap.get-insert nat_cmp_total old.live (old.top + 1) clause (old.top + 1)
+    ∙ ap (λ t. cond t (Some clause) (clause_at old.live (old.top + 1))) (unsigned_tied (old.top + 1) (old.top + 1) ∙ eq-eqb (old.top + 1) (old.top + 1) refl)
+
+same_list : {S : Type 0} (one two : TableState S) → IsSame one two → two.retired ≡ one.retired
+same_list one two same = ap (λ t. t.retired) same
+
+pub high_clauses : {S : Type 0} (tells : Bool) (channel : S → Channel) → StepByStep tells channel → HighClauses tells channel
+high_clauses tells channel law = record {
+  none = gives_nothing;
+  refused = gives_same;
+  added = added_at;
+  served = λ old one two new high low first second gone. (
+    law.further _ _ _ old one new 1 1 None first.steps (law.further _ _ _ one two new 1 0 None second.steps gone.steps),
+    retires_new old one two high first.number first.retired second.retired new gone.is,
+    gives_low old one two high first.number first.retired second.retired first.top low second.number second.top second.steps.leaves.sound second.own second.unretired new gone.is,
+  );
+  left = λ old one two new high error first second gone. (
+    law.further _ _ _ old one new 1 1 (Some error) first.steps (steps_retired law one two new high gone.is gone.steps 1 error second.whole second.steps),
+    retires_new old one two high first.number first.retired (same_list one two second.same) new gone.is,
+    gives_none old one two high first.number first.retired (same_list one two second.same) first.top first.steps.leaves.sound second.same new gone.is,
+  );
+}

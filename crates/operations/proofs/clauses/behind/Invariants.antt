@@ -1,5 +1,5 @@
 use Rattle.std.proofs.Common.{◌≡◌, ◌∷◌, take}
-use Rattle.apply_and.proofs.additions.behind.Given as goal
+use Rattle.operations.proofs.clauses.behind.Given as goal
 
 abbrev pub invariant-loop-own : goal.invariant-loop-own
 invariant-loop-own l = l.long ≡ l.fn.literal ∷ take l.own-index l.clause

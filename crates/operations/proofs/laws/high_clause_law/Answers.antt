@@ -1,0 +1,5 @@
+use Rattle.operations.proofs.HighClauses.{high_clauses}
+use Rattle.operations.proofs.laws.high_clause_law.Goals as goal
+
+pub returns : goal.returns
+returns g c = high_clauses _ _ c.steps_law.ensures

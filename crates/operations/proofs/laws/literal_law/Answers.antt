@@ -1,0 +1,5 @@
+use Rattle.operations.proofs.Literals.{literals}
+use Rattle.operations.proofs.laws.literal_law.Goals as goal
+
+pub returns : goal.returns
+returns c = literals
