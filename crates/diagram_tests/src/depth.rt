@@ -6,6 +6,7 @@ ghost use Rattle.node_table.specs.Table.{IsSound};
 
 use crate::conjunctions::{no_clauses, value};
 use crate::disjunctions::{disjoin, no_disjunctions};
+use crate::quantifications::{no_quantifications, quantify};
 use crate::support::{ProofText, make};
 use clause_ledger::Ledger;
 use cnf_base::Cnf;
@@ -105,5 +106,16 @@ fn deep_disjunction(rt: HostRuntime) -> Result<(), Fail> {
     expect_values(&rt, alloc, &table, v, (true, false))?;
     let mut cache = no_disjunctions(alloc, VARIABLES)?;
     let w = disjoin(&rt, &mut table, &mut cache, u, v)?;
+    expect_values(&rt, alloc, &table, w, (true, true))
+}
+
+/// The quantification of the clause by its last variable.
+#[test]
+fn deep_quantification(rt: HostRuntime) -> Result<(), Fail> {
+    let alloc = rt.alloc();
+    let mut table = wide_table(alloc, VARIABLES)?;
+    let (u, _) = two_chains(&rt, &mut table)?;
+    let (mut cache, mut ors) = no_quantifications(alloc, VARIABLES)?;
+    let w = quantify(&rt, &mut table, &mut cache, &mut ors, u, VARIABLES - 1)?;
     expect_values(&rt, alloc, &table, w, (true, true))
 }

@@ -12,6 +12,8 @@ mod disjunctions;
 #[cfg(test)]
 mod nodes;
 #[cfg(test)]
+mod quantifications;
+#[cfg(test)]
 mod retired;
 #[cfg(test)]
 mod runs;
