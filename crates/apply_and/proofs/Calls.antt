@@ -14,6 +14,7 @@ use Rattle.operations.specs.Operands.{AreSplit, Splitting}
 use Rattle.operations.specs.Accounts.{Accounting, AccountsFor}
 use Rattle.operations.specs.Budget.{Budget}
 use Rattle.operations.specs.Caches.{Keeping, Remembers}
+use Rattle.operations.specs.Ended.{reached_all}
 use Rattle.operations.specs.Entries.{Fits, Fitting}
 use Rattle.operations.specs.Numbers.{just_numbered}
 use Rattle.operations.specs.Price.{Prices, Pricing}
@@ -24,7 +25,7 @@ use Rattle.node_table.specs.Progress.{error_of}
 use Rattle.apply_and.specs.Calls.{Closes, Conjoins, IsUnknown}
 use Rattle.apply_and.specs.Conjunction.{conjunction_of}
 use Rattle.apply_and.proofs.Conjunctions.{IsReady, high_kept}
-use Rattle.apply_and.proofs.Made.{made_high, made_low, made_all, reached_all, lacks_high, lacks_low, lacks_both}
+use Rattle.apply_and.proofs.Made.{made_high, made_low, made_all, lacks_high, lacks_low, lacks_both}
 
 abbrev pub Answer : Type 0
 Answer = Result (Node × Just) TableError

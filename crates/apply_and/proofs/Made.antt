@@ -10,6 +10,7 @@ use Rattle.node_table.specs.Table.{HasChildren, IsWanted}
 use Rattle.node_table.specs.Made.{LacksPart, MakesOnly, Reaches, ReachesNew, inner}
 use Rattle.node_table.specs.Laws.{Cofactors, Growth, Missing, Reachability, Subfunctions}
 use Rattle.operations.specs.declared.operands.Operands.{Operands}
+use Rattle.operations.specs.Ended.{lacks_for}
 use Rattle.operations.specs.Operands.{AreSplit, Splitting}
 use Rattle.operations.specs.Pairs.{IsNoConstant}
 use Rattle.apply_and.specs.Conjunction.{conjunction_of, IsPlain}
@@ -51,9 +52,6 @@ module _ (parts : Subfunctions) (splits : Splitting) (graph : Graph) (reduced : 
 -- the function stays as the graph grows
 conjunction_of-kept : Growth → (old new : Graph) → IsReduced old → KeepsNodes old new → (u v : Node) → is_node old u ≡ true → is_node old v ≡ true → conjunction_of new u v ≡ conjunction_of old u v
 conjunction_of-kept growth old new reduced keeps u v first second = λ i a. growth.value old new reduced keeps a u first i && growth.value old new reduced keeps a v second i
-
-lacks_for : Subfunctions → (graph : Graph) (f g : Levels → Bool) → IsSubfunction f g → LacksPart graph g → LacksPart graph f
-lacks_for parts graph f g is lacks = record { part = lacks.part; is_part = parts.further f g lacks.part is lacks.is_part; nowhere = lacks.nowhere }
 
 -- the call for the high cofactors, that for the low ones, and the node of both results
 module _ (parts : Subfunctions) (growth : Growth) (splits : Splitting) (old : Graph) (reduced : IsReduced old) (o : Operands) (split : AreSplit old o) (u v : Node) (same : (o.u ≡ u) × (o.v ≡ v)) where
@@ -121,13 +119,6 @@ reached_node paths old new w only = record {
     | inr same ↦ inr (subst (Reaches new w) same (paths.itself new w))
   ];
 }
-
--- the result reaches those of both sides
-pub reached_all : Reachability → (old one two new : Graph) → IsReduced one → IsReduced two → KeepsNodes one two → KeepsNodes two new → (level : ℕ) (high low w : Node)
-    → is_node one high ≡ true → is_node two low ≡ true → ReachesNew old one high → ReachesNew one two low → ReachesNew two new w → HasChildren new level high low w → ReachesNew old new w
-reached_all paths old one two new reduced_one reduced_two second third level high low w high_stands low_stands by_high by_low by_both children =
-    paths.joined old one two new reduced_one reduced_two second third high low w high_stands low_stands by_high by_low by_both
-    (subst (Reaches new w) children.high_child (paths.high new level w)) (subst (Reaches new w) children.low_child (paths.low new level w))
 
 -- the node of both results that is refused
 pub lacks_one : Cofactors → Subfunctions → Missing → Splitting → (graph : Graph) → IsReduced graph → (live : Live) (o : Operands) (high low : Node × Just) → IsReady graph live o high low

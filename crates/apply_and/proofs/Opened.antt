@@ -1,5 +1,5 @@
 -- A call that is split: its sides may be called and closed, and however they end, the call has ended.
-use Rattle.std.proofs.Common.{◌≡◌, ◌<◌, ◌≤◌, ◌⊎◌, ℕ, min, Bool, true, is_some, Option, None, Some, Ok, Err, refl, sym, subst, arith, inl, inr}
+use Rattle.std.proofs.Common.{◌≡◌, Bool, true, is_some, Option, None, Some, Ok, Err, refl, sym, subst}
 use Rattle.host_io.specs.Channel.{Channel}
 use Rattle.host_io.specs.Beside.{Beside}
 use Rattle.node_table.specs.declared.error.TableError.TheVariants.{OutOfMemory}
@@ -11,7 +11,7 @@ use Rattle.node_table.specs.Diagram.{Graph, branch_at, branch_of, is_node, level
 use Rattle.node_table.specs.Laws.{Growth, Reachability, StepByStep, Subfunctions}
 use Rattle.node_table.specs.Table.{TableState, IsSound}
 use Rattle.operations.specs.declared.operands.Operands.{Operands}
-use Rattle.operations.specs.Operands.{AreSplit, IsInner, Splitting}
+use Rattle.operations.specs.Operands.{both_later, no_later, AreSplit, IsInner, Splitting}
 use Rattle.operations.specs.Accounts.{Accounting, none_whole}
 use Rattle.operations.specs.Budget.{Budget}
 use Rattle.operations.specs.Entries.{Fits, Fitting}
@@ -36,18 +36,6 @@ inner_of graph (Inner key) stands apart = inner_by graph (Inner key) (branch_at 
     inner_by : (graph : Graph) (node : Node) (found : Option Branch) → branch_of graph node ≡ found → is_some found ≡ true → IsInner graph node
     inner_by graph node None is stands = cc
     inner_by graph node (Some branch) is stands = record { branch = branch; is = is }
-
--- the earlier of two levels below one is below it
-both_later : (level one two : ℕ) → level < one → level < two → level < min one two
-both_later level one two first second = omega (arith, first, second)
-
--- the level of a split is the earlier one of its operands
-no_later : (graph : Graph) (o : Operands) → AreSplit graph o → min (level_of graph o.u) (level_of graph o.v) ≤ o.level
-no_later graph o split = lesser (level_of graph o.u) (level_of graph o.v) o.level split.earlier
-  where
-    lesser : (one two level : ℕ) → (one ≡ level) ⊎ (two ≡ level) → min one two ≤ level
-    lesser one two level (inl is) = omega (arith, is)
-    lesser one two level (inr is) = omega (arith, is)
 
 module _ {S : Type 0} {tells : Bool} {channel : S → Channel} {lent : S → Beside} where
   -- a pair whose answer isn't known is neither kept nor plain

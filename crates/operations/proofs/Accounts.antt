@@ -5,14 +5,13 @@ use Rattle.std.proofs.lemmas.List.Elements.{Contains-append_cases, Contains-appe
 use Rattle.host_io.specs.Channel.{Channel}
 use Rattle.lrat_rules.specs.State.{State, clause_at}
 use Rattle.node_table.specs.declared.error.TableError.{TableError}
-use Rattle.node_table.specs.declared.error.TableError.TheVariants.{NodeLimit, IdLimit, OutOfMemory, WriteFault}
 use Rattle.node_table.specs.declared.node.Just.{Just}
 use Rattle.node_table.specs.declared.node.Just.TheVariants.{Trivial, Clause}
 use Rattle.node_table.specs.Laws.{StepByStep}
-use Rattle.node_table.specs.Progress.{Leaves}
 use Rattle.node_table.specs.Table.{TableState, IsSound, IsAddedTo, AddsNone, Extends}
 use Rattle.operations.specs.Accounts.{Accounting, AccountsFor, GivesOne, HasFound, HasKept, IsWhole, RetiresNew, RetiresOne, none_whole}
 use Rattle.operations.specs.Caches.{IsOneKept}
+use Rattle.operations.specs.Ended.{sound_left}
 use Rattle.operations.specs.Entries.{Entry, Accounts, FitsEntry, Fits, Fitting, HaveSame, IsClauseOf, IsNamed, IsNewJust, Names, NamesOnly, RetiresOwn, just_of}
 
 no_clause : (id : ℕ) → Trivial ≡ Clause id → ⊥
@@ -32,14 +31,6 @@ just_given just (Some own) names id is = names ∙ ap Clause (same_some own id i
 given_of : (just : Just) (given : Option ℕ) → IsClauseOf just given → (id : ℕ) → just ≡ Clause id → given ≡ Some id
 given_of just None names id is = absurd (no_clause id (sym names ∙ is))
 given_of just (Some own) names id is = ap Some (same_clause own id (sym names ∙ is))
-
--- a table is sound, unless a write failed
-sound_left : {S : Type 0} (tells : Bool) (before after : Channel) (old new : TableState S) (error : Option TableError) → Leaves tells before after old new error → IsWhole error → IsSound new
-sound_left tells before after old new None leaves whole = leaves.sound
-sound_left tells before after old new (Some NodeLimit) leaves whole = leaves.0.sound
-sound_left tells before after old new (Some IdLimit) leaves whole = leaves.0.sound
-sound_left tells before after old new (Some OutOfMemory) leaves whole = leaves.sound
-sound_left tells before after old new (Some WriteFault) leaves whole = absurd (whole refl)
 
 IsNewJust-within : (old mid late new : State) → old.top ≤ mid.top → late.top ≤ new.top → (just : Just) → IsNewJust mid late just → IsNewJust old new just
 IsNewJust-within old mid late new first second just own id is = let both = own id is in (omega (arith, first, both.0), omega (arith, second, both.1))

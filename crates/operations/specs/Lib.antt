@@ -5,6 +5,7 @@ pub mod Entries
 pub mod Machine
 pub mod Caches
 pub mod Accounts
+pub mod Ended
 pub mod Pairs
 pub mod Price
 pub mod Budget

@@ -1,5 +1,6 @@
 -- The two operands of an operation, split by the earlier of their variables. (Bryant: Graph-Based Algorithms for Boolean
 -- Function Manipulation, 1986, section 4.3: apply.)
+use Rattle.std.proofs.Common.{arith, inl, inr}
 use Rattle.std.specs.Prelude.{◌≡◌, ◌≢◌, ◌⊎◌, ◌<◌, ◌≤◌, ◌-◌, ℕ, min, Some, IsTrue}
 use Rattle.node_table.specs.declared.node.Node.{Node}
 use Rattle.node_table.specs.declared.node.Branch.{Branch}
@@ -40,3 +41,15 @@ pub record Splitting : Type 0 where
   pub v_low : (graph : Graph) → IsReduced graph → (o : Operands) → AreSplit graph o → IsBelow graph o.level o.v_low
   pub fewer : (graph : Graph) → IsReduced graph → (o : Operands) → AreSplit graph o → (u v : Node) → IsBelow graph o.level u → IsBelow graph o.level v → levels_from graph u v < levels_from graph o.u o.v
   pub kept : (old new : Graph) → KeepsNodes old new → (o : Operands) → AreSplit old o → AreSplit new o
+
+-- the earlier of two levels below one is below it
+pub both_later : (level one two : ℕ) → level < one → level < two → level < min one two
+both_later level one two first second = omega (arith, first, second)
+
+-- the level of a split is the earlier one of its operands
+pub no_later : (graph : Graph) (o : Operands) → AreSplit graph o → min (level_of graph o.u) (level_of graph o.v) ≤ o.level
+no_later graph o split = lesser (level_of graph o.u) (level_of graph o.v) o.level split.earlier
+  where
+    lesser : (one two level : ℕ) → (one ≡ level) ⊎ (two ≡ level) → min one two ≤ level
+    lesser one two level (inl is) = omega (arith, is)
+    lesser one two level (inr is) = omega (arith, is)

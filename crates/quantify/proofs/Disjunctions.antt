@@ -1,11 +1,11 @@
 -- The disjunction by its cofactors.
-use Rattle.std.proofs.Common.{◌≡◌, ◌≢◌, ◌+◌, ◌<◌, ◌≤◌, ◌||◌, ◌⊎◌, ℕ, min, Bool, true, false, Option, None, Some, is_some, refl, sym, ◌∙◌, subst, arith, inl, inr}
+use Rattle.std.proofs.Common.{◌≡◌, ◌≢◌, ◌+◌, ◌||◌, ℕ, Bool, true, false, Option, None, Some, is_some, refl, sym, ◌∙◌, subst, arith, inl, inr}
 use Rattle.std.specs.Prelude.{if◌then◌else◌}
 use Rattle.node_table.specs.declared.node.Node.{Node}
 use Rattle.node_table.specs.declared.node.Node.TheVariants.{False, True, Inner}
 use Rattle.node_table.specs.declared.node.NodeKey.{NodeKey}
 use Rattle.node_table.specs.declared.node.Branch.{Branch}
-use Rattle.node_table.specs.Diagram.{Graph, IsBelow, IsReduced, KeepsNodes, branch_of, is_node, level_of}
+use Rattle.node_table.specs.Diagram.{Graph, IsBelow, IsReduced, KeepsNodes, branch_of, is_node}
 use Rattle.node_table.specs.Laws.{Canonical, Cofactors, Growth, Subfunctions}
 use Rattle.node_table.specs.Table.{TableState, IsSound, Extends, HasChildren}
 use Rattle.node_table.specs.Value.{Levels, IsSubfunction, value_of}
@@ -119,15 +119,3 @@ disjoined_joined growth splits old new reduced keeps o split high low w children
       ];
       value = λ a. value a ∙ (λ i. sym (disjunction_of-kept growth old new reduced keeps o.u o.v (splits.first old o split) (splits.second old o split)) i a);
     }
-
--- the earlier of two levels below one is below it
-pub both_later : (level one two : ℕ) → level < one → level < two → level < min one two
-both_later level one two first second = omega (arith, first, second)
-
--- the level of a split is the earlier one of its operands
-pub no_later : (graph : Graph) (o : Operands) → AreSplit graph o → min (level_of graph o.u) (level_of graph o.v) ≤ o.level
-no_later graph o split = lesser (level_of graph o.u) (level_of graph o.v) o.level split.earlier
-  where
-    lesser : (one two level : ℕ) → (one ≡ level) ⊎ (two ≡ level) → min one two ≤ level
-    lesser one two level (inl is) = omega (arith, is)
-    lesser one two level (inr is) = omega (arith, is)

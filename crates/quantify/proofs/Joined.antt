@@ -1,9 +1,9 @@
 -- The node of both sides: it has the function asked for, and is the only new one.
-use Rattle.std.proofs.Common.{◌≡◌, ◌∙◌, ◌<◌, ◌⊎◌, ℕ, Bool, true, Ok, Err, Some, sym, subst, inl, inr}
+use Rattle.std.proofs.Common.{◌≡◌, ◌∙◌, ◌<◌, ◌⊎◌, ℕ, Bool, Ok, Err, Some, sym, subst, inl, inr}
 use Rattle.std.specs.Prelude.{IfOk, if◌then◌else◌}
 use Rattle.node_table.specs.declared.node.Node.{Node}
 use Rattle.node_table.specs.declared.node.Branch.{Branch}
-use Rattle.node_table.specs.Diagram.{Graph, IsBelow, IsReduced, KeepsNodes, branch_at, is_node, levels}
+use Rattle.node_table.specs.Diagram.{Graph, IsBelow, IsReduced, KeepsNodes, branch_at, levels}
 use Rattle.node_table.specs.HandedOn.{no_error, same_answer}
 use Rattle.node_table.specs.Laws.{Cofactors, Growth, Missing, Reachability, Subfunctions}
 use Rattle.node_table.specs.Made.{LacksPart, MakesOnly, Reaches, ReachesNew, inner}
@@ -50,10 +50,3 @@ joined_reached paths old new (Ok w) given = record {
     | inr same ↦ inr (subst (Reaches new w) (same_answer same) (paths.itself new w))
   ];
 }
-
--- the result reaches those of both sides
-pub reached_joined : Reachability → (old one two new : Graph) → IsReduced one → IsReduced two → KeepsNodes one two → KeepsNodes two new → (level : ℕ) (high low w : Node) → is_node one high ≡ true → is_node two low ≡ true
-    → ReachesNew old one high → ReachesNew one two low → ReachesNew two new w → HasChildren new level high low w → ReachesNew old new w
-reached_joined paths old one two new reduced_one reduced_two second third level high low w high_stands low_stands by_high by_low by_both children =
-    paths.joined old one two new reduced_one reduced_two second third high low w high_stands low_stands by_high by_low by_both
-    (subst (Reaches new w) children.high_child (paths.high new level w)) (subst (Reaches new w) children.low_child (paths.low new level w))

@@ -14,6 +14,7 @@ use Rattle.node_table.specs.Value.{Levels, IsSubfunction}
 use Rattle.operations.specs.declared.frames.Reply.{Reply}
 use Rattle.operations.specs.declared.frames.Reply.TheVariants.{Open}
 use Rattle.operations.specs.Results.{Quantified}
+use Rattle.operations.specs.Ended.{reached_all}
 use Rattle.operations.specs.Entries.{Entry, Fits, Fitting}
 use Rattle.operations.specs.Machine.{AwaitsLow, HighCame, IsAnswer, IsOpened, LowCame}
 use Rattle.quantify.specs.declared.quantify.Above.{Above}
@@ -24,7 +25,6 @@ use Rattle.quantify.specs.ExistsCache.{Question, RemembersQuantifications, both_
 use Rattle.quantify.specs.OrCache.{RemembersDisjunctions, disjunction}
 use Rattle.quantify.specs.Quantification.{AreLent, CanQuantify, Closes, IsAbove, IsMissed, Quantifies, quantification_of, quantifying}
 use Rattle.quantify.specs.Runs.{Runs}
-use Rattle.quantify.proofs.Joined.{reached_joined}
 use Rattle.quantify.proofs.Lists.{remembers_all}
 use Rattle.quantify.proofs.Quantifications.{above_kept, high_child_below, high_quantified_part, low_child_below, low_quantified_part, quantification_of-kept, quantified_kept}
 use Rattle.quantify.proofs.Running.{Answer, runs_further, runs_part, runs_refused}
@@ -137,7 +137,7 @@ module _ {S : Type 0} {tells : Bool} {channel : S → Channel} {lent : S → Bes
           reached : (result : Answer) → Closes tells channel lent two caches_two.exists.now caches_two.ors.now p high low three caches_three.exists.now caches_three.ors.now result → IfOk result (λ w. ReachesNew old.graph three.graph w)
           reached (Err came) closes = tt
           reached (Ok w) closes =
-              reached_joined paths old.graph one.graph two.graph three.graph sound_one.tied.reduced by_low.0.runs.steps.leaves.sound.tied.reduced by_low.0.runs.steps.extends.nodes closes.runs.steps.extends.nodes
+              reached_all paths old.graph one.graph two.graph three.graph sound_one.tied.reduced by_low.0.runs.steps.leaves.sound.tied.reduced by_low.0.runs.steps.extends.nodes closes.runs.steps.extends.nodes
               p.own high low w by_high.0.quantified.stands by_low.0.quantified.stands by_high.0.reachable by_low.0.reachable closes.reachable closes.children
 
           closed : (result : Answer) → Closes tells channel lent two caches_two.exists.now caches_two.ors.now p high low three caches_three.exists.now caches_three.ors.now result × AreLent caches_two caches_three

@@ -14,7 +14,8 @@ use Rattle.node_table.specs.Table.{TableState, IsSound}
 use Rattle.node_table.specs.Value.{Levels, IsSubfunction}
 use Rattle.operations.specs.declared.operands.Operands.{Operands}
 use Rattle.operations.specs.declared.frames.Reply.TheVariants.{Open}
-use Rattle.operations.specs.Operands.{AreSplit, Splitting}
+use Rattle.operations.specs.Ended.{reached_all}
+use Rattle.operations.specs.Operands.{both_later, no_later, AreSplit, Splitting}
 use Rattle.operations.specs.Results.{Disjoined}
 use Rattle.operations.specs.Entries.{Entry, Fits, Fitting}
 use Rattle.operations.specs.Machine.{AwaitsLow, HighCame, IsAnswer, IsOpened, LowCame}
@@ -24,8 +25,7 @@ use Rattle.operations.specs.Pairs.{Pair, same_pair}
 use Rattle.quantify.specs.OrCache.{RemembersDisjunctions, disjunction, disjunctions}
 use Rattle.quantify.specs.Disjunction.{CanDisjoin, Closes, Disjoins, IsUnknown, disjoining, disjunction_of}
 use Rattle.quantify.specs.Runs.{Runs}
-use Rattle.quantify.proofs.Disjunctions.{both_later, disjoined_kept, disjunction_of-kept, high_part, low_part, no_later, not_plain}
-use Rattle.quantify.proofs.Joined.{reached_joined}
+use Rattle.quantify.proofs.Disjunctions.{disjoined_kept, disjunction_of-kept, high_part, low_part, not_plain}
 use Rattle.quantify.proofs.Lists.{remembers_all}
 use Rattle.quantify.proofs.Running.{Answer, runs_further, runs_part, runs_refused}
 
@@ -91,7 +91,7 @@ module _ {S : Type 0} {tells : Bool} {channel : S → Channel} {lent : S → Bes
       reached : (three : TableState S) (cache_three : OrCache) (result : Answer) → Closes tells channel lent two cache_two o high low three cache_three result → IfOk result (λ w. ReachesNew old.graph three.graph w)
       reached three cache_three (Err came) closes = tt
       reached three cache_three (Ok w) closes =
-          reached_joined paths old.graph one.graph two.graph three.graph sound_one.tied.reduced by_low.runs.steps.leaves.sound.tied.reduced by_low.runs.steps.extends.nodes closes.runs.steps.extends.nodes
+          reached_all paths old.graph one.graph two.graph three.graph sound_one.tied.reduced by_low.runs.steps.leaves.sound.tied.reduced by_low.runs.steps.extends.nodes closes.runs.steps.extends.nodes
           o.level high low w by_high.disjoined.stands by_low.disjoined.stands by_high.reachable by_low.reachable closes.reachable closes.children
 
       closed : (three : TableState S) (cache_three : OrCache) (result : Answer) → Closes tells channel lent two cache_two o high low three cache_three result

@@ -3,15 +3,15 @@ use Rattle.std.proofs.Common.{◌≡◌, ◌≢◌, ◌∙◌, Bool, List, Resul
 use Rattle.host_io.specs.Channel.{Channel}
 use Rattle.host_io.specs.Beside.{Beside}
 use Rattle.node_table.specs.declared.error.TableError.{TableError}
-use Rattle.node_table.specs.declared.error.TableError.TheVariants.{NodeLimit, IdLimit, OutOfMemory, WriteFault}
+use Rattle.node_table.specs.declared.error.TableError.TheVariants.{NodeLimit, OutOfMemory, WriteFault}
 use Rattle.node_table.specs.declared.node.Node.{Node}
-use Rattle.node_table.specs.Diagram.{Graph}
 use Rattle.node_table.specs.HandedOn.{no_error}
 use Rattle.node_table.specs.Laws.{StepByStep, Subfunctions}
-use Rattle.node_table.specs.Made.{LacksPart}
 use Rattle.node_table.specs.Progress.{Leaves, error_of}
 use Rattle.node_table.specs.Table.{TableState, IsSound}
 use Rattle.node_table.specs.Value.{Levels, IsSubfunction}
+use Rattle.operations.specs.Accounts.{whole_result}
+use Rattle.operations.specs.Ended.{lacks_for, sound_left}
 use Rattle.operations.specs.Entries.{Entry, Fits}
 use Rattle.quantify.specs.Runs.{Runs}
 
@@ -20,17 +20,10 @@ Answer = Result Node TableError
 
 -- a table is sound, unless a write failed
 pub sound_after : {S : Type 0} (tells : Bool) (before after : Channel) (old new : TableState S) (result : Answer) → Leaves tells before after old new (error_of result) → (result ≢ Err WriteFault) → IsSound new
-sound_after tells before after old new (Ok found) leaves whole = leaves.sound
-sound_after tells before after old new (Err NodeLimit) leaves whole = leaves.0.sound
-sound_after tells before after old new (Err IdLimit) leaves whole = leaves.0.sound
-sound_after tells before after old new (Err OutOfMemory) leaves whole = leaves.sound
-sound_after tells before after old new (Err WriteFault) leaves whole = absurd (whole refl)
+sound_after tells before after old new result leaves whole = sound_left tells before after old new (error_of result) leaves (whole_result result whole)
 
 pub memory_no_limit : ◌≡◌ {A = Answer} (Err OutOfMemory) (Err NodeLimit) → ⊥
 memory_no_limit is = cc
-
-lacks_for : Subfunctions → (graph : Graph) (function part : Levels → Bool) → IsSubfunction function part → LacksPart graph part → LacksPart graph function
-lacks_for parts graph function part is lacks = record { part = lacks.part; is_part = parts.further function part lacks.part is lacks.is_part; nowhere = lacks.nowhere }
 
 module _ {S : Type 0} {tells : Bool} {channel : S → Channel} {lent : S → Beside} (law : StepByStep tells channel) (parts : Subfunctions) (old : TableState S) (before : List Entry) (function : Levels → Bool) where
   -- nothing changes in the table

@@ -85,7 +85,7 @@ struct Above {
     low: Node,
 }
 
-/// The quantification as an operation on diagrams.
+/// The quantification as an operation on diagrams. Its lifetime is that of the caches that it is lent; no value is made.
 struct ExistsOperation<'a>(&'a u8);
 
 impl<'a, S: Sink + Drop> Operation<S> for ExistsOperation<'a> {

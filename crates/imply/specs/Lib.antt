@@ -1,0 +1,4 @@
+pub mod Cache
+pub mod Additions
+pub mod Implication
+pub mod Calls
