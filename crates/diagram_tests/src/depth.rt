@@ -6,6 +6,7 @@ ghost use Rattle.node_table.specs.Table.{IsSound};
 
 use crate::conjunctions::{no_clauses, value};
 use crate::disjunctions::{disjoin, no_disjunctions};
+use crate::implications::{no_implications, why_implied};
 use crate::quantifications::{no_quantifications, quantify};
 use crate::support::{ProofText, make};
 use clause_ledger::Ledger;
@@ -114,8 +115,24 @@ fn deep_disjunction(rt: HostRuntime) -> Result<(), Fail> {
 fn deep_quantification(rt: HostRuntime) -> Result<(), Fail> {
     let alloc = rt.alloc();
     let mut table = wide_table(alloc, VARIABLES)?;
-    let (u, _) = two_chains(&rt, &mut table)?;
+    let positive = make(&rt, &mut table, VARIABLES - 1, Node::True, Node::False)?;
+    let u = chain(&rt, &mut table, positive)?;
     let (mut cache, mut ors) = no_quantifications(alloc, VARIABLES)?;
     let w = quantify(&rt, &mut table, &mut cache, &mut ors, u, VARIABLES - 1)?;
     expect_values(&rt, alloc, &table, w, (true, true))
+}
+
+/// The clause doesn't imply the other one; that of all variables but the last one implies it.
+#[test]
+fn deep_implication(rt: HostRuntime) -> Result<(), Fail> {
+    let alloc = rt.alloc();
+    let mut table = wide_table(alloc, VARIABLES)?;
+    let (u, v) = two_chains(&rt, &mut table)?;
+    let shorter = chain(&rt, &mut table, Node::False)?;
+    let mut cache = no_implications(alloc, VARIABLES)?;
+    let other = why_implied(&rt, &mut table, &mut cache, u, v)?;
+    let longer = why_implied(&rt, &mut table, &mut cache, shorter, u)?;
+    assert!(&rt; other.is_none());
+    assert!(&rt; longer.is_some());
+    expect_values(&rt, alloc, &table, shorter, (false, false))
 }

@@ -1,4 +1,4 @@
-//! Tests of the layers of diagrams: `node_table`, `clause_terms`, `apply_and`, `quantify`, `term_runner`.
+//! Tests of the layers of diagrams: `node_table`, `clause_terms`, `apply_and`, `quantify`, `imply`, `term_runner`.
 #![tactic(auto)]
 
 #[cfg(test)]
@@ -9,6 +9,8 @@ mod conjunctions;
 mod depth;
 #[cfg(test)]
 mod disjunctions;
+#[cfg(test)]
+mod implications;
 #[cfg(test)]
 mod nodes;
 #[cfg(test)]
