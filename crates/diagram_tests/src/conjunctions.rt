@@ -18,9 +18,9 @@ use std::alloc::Global;
 use std::process::Abort;
 use std::test::Fail;
 
-// A formula of this many variables without clauses.
-fn no_clauses(alloc: Global, vars: u32) -> Cnf
-    requires { vars ≤ 3 }
+/// A formula of this many variables without clauses.
+pub fn no_clauses(alloc: Global, vars: u32) -> Cnf
+    requires { vars ≤ 1000000 }
     ensures { result.clauses ≡ [] }
 {
     CnfBuilder::new(alloc, vars).finish()
@@ -49,9 +49,9 @@ fn function_of_one(
     )
 }
 
-// The node of a function of the two variables from this level on, by its values where they are both true, the first
-// alone, the second alone, and none.
-fn function_of_two(
+/// The node of a function of the two variables from this level on, by its values where they are both true, the first
+/// alone, the second alone, and none.
+pub fn function_of_two(
     rt: &impl Abort,
     table: &mut Table<ProofText>,
     level: u32,
@@ -66,8 +66,8 @@ fn function_of_two(
     make(rt, table, level, high, low)
 }
 
-// The node of a function of three variables: its values where the first one is true stand before the others.
-fn function_of_three(
+/// The node of a function of three variables: its values where the first one is true stand before the others.
+pub fn function_of_three(
     rt: &impl Abort,
     table: &mut Table<ProofText>,
     row: usize,
@@ -80,19 +80,20 @@ fn function_of_three(
     make(rt, table, 0, high, low)
 }
 
-// Whether the third node is the conjunction of the others under each assignment of three variables.
-fn is_conjunction(table: &Table<ProofText>, u: Node, v: Node, w: Node) -> bool {
-    for number in 0..8_u8 {
+/// The values of a node under the eight assignments of three variables, each a bit: where all are true the last one.
+pub fn row_of(table: &Table<ProofText>, node: Node) -> usize {
+    let mut row = 0;
+    for number in 0..8_usize {
         let values = [number & 4 != 0, number & 2 != 0, number & 1 != 0];
-        let both = value(table, u, &values) && value(table, v, &values);
-        if value(table, w, &values) != both {
-            return false;
+        if value(table, node, &values) {
+            row |= 1 << number;
         }
     }
-    true
+    row
 }
 
-fn value(table: &Table<ProofText>, node: Node, values: &[bool]) -> bool {
+/// The value of a node of the table under an assignment.
+pub fn value(table: &Table<ProofText>, node: Node, values: &[bool]) -> bool {
     is_known(table, node) && table.value(node, values)
 }
 
@@ -112,15 +113,14 @@ fn expect_conjunction(
 {
     entry_law::<ProofText>();
     let (w, _) = conjoin(rt, table, cache, u, v)?;
-    assert!(rt;
-        w == expected && is_conjunction(table, u, v, w),
-        "{u:?} {v:?}"
-    );
+    assert!(rt; w == expected, "{u:?} {v:?}");
+    let both = row_of(table, u) & row_of(table, v);
+    assert_eq!(rt; row_of(table, w), both, "{u:?} {v:?}");
     table.settle()
 }
 
-// The nodes of all functions of two variables, by their rows.
-fn all_functions(
+/// The nodes of all functions of two variables, by their rows.
+pub fn all_functions(
     rt: &impl Abort,
     table: &mut Table<ProofText>,
     nodes: &mut Vec<Node>,
@@ -134,7 +134,8 @@ fn all_functions(
     Ok(())
 }
 
-fn node_at(nodes: &[Node], row: usize) -> Node {
+/// The node in this row.
+pub fn node_at(nodes: &[Node], row: usize) -> Node {
     match nodes.get(row) {
         Some(node) => *node,
         None => Node::False,
@@ -200,8 +201,8 @@ fn all_pairs(rt: HostRuntime) -> Result<(), Fail> {
     Ok(())
 }
 
-// The order of three variables that three digits write; the natural one where another text is given.
-fn order_of_three(digits: &str) -> [u32; 3]
+/// The order of three variables that three digits write; the natural one where another text is given.
+pub fn order_of_three(digits: &str) -> [u32; 3]
     ensures order { IsOrder result }
     ensures three { length result ≡ 3 }
 {
@@ -215,7 +216,8 @@ fn order_of_three(digits: &str) -> [u32; 3]
     }
 }
 
-fn three(first: u32, second: u32, third: u32) -> [u32; 3]
+/// An order of three variables.
+pub fn three(first: u32, second: u32, third: u32) -> [u32; 3]
     requires positive { (0 < first) × (0 < second) × (0 < third) }
     requires small { (first ≤ 3) × (second ≤ 3) × (third ≤ 3) }
     requires apart { (first ≢ second) × (first ≢ third) × (second ≢ third) }
@@ -225,19 +227,20 @@ fn three(first: u32, second: u32, third: u32) -> [u32; 3]
     [first, second, third]
 }
 
-// The nodes of two functions of three variables and of their conjunction.
-fn three_functions(
+/// The nodes of three functions of three variables.
+pub fn three_functions(
     rt: &impl Abort,
     table: &mut Table<ProofText>,
     first: usize,
     second: usize,
+    third: usize,
 ) -> Result<[Node; 3], TableError>
     requires sound { IsSound table.old }
     ensures sound { OnOk result (IsSound table.new) }
 {
     let u = function_of_three(rt, table, first)?;
     let v = function_of_three(rt, table, second)?;
-    let w = function_of_three(rt, table, first & second)?;
+    let w = function_of_three(rt, table, third)?;
     Ok([u, v, w])
 }
 
@@ -253,14 +256,14 @@ fn expect_pair(
     ensures sound { OnOk result (IsSound table.new) }
 {
     assert!(rt; 1 <= capacity);
-    let [u, v, w] = three_functions(rt, table, first, second)?;
+    let [u, v, w] = three_functions(rt, table, first, second, first & second)?;
     let mut cache = no_entries(alloc, capacity)?;
     expect_conjunction(rt, table, &mut cache, u, v, w)
 }
 
-// The functions of three variables that are tried: the variables, their parity, majority and choice, exactly one of
-// them, equal ones, a clause and a product.
-fn function_row(place: usize) -> usize {
+/// The functions of three variables that are tried: the variables, their parity, majority and choice, exactly one of
+/// them, equal ones, a clause and a product.
+pub fn function_row(place: usize) -> usize {
     match place {
         0 => 0b1111_0000,
         1 => 0b1100_1100,
@@ -316,7 +319,7 @@ fn additions(
     requires sound { IsSound table.old }
     requires fits { (any : TableState ProofTextValue) → Fits any (entries cache.old) }
 {
-    let [u, v, w] = three_functions(rt, table, first, second)?;
+    let [u, v, w] = three_functions(rt, table, first, second, first & second)?;
     let (nodes, last) = (table.live(), table.ledger().last_id());
     expect_conjunction(rt, table, cache, u, v, w)?;
     assert_eq!(rt; table.live(), nodes, "{first} {second}");

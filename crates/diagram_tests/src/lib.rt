@@ -1,4 +1,4 @@
-//! Tests of the layers of diagrams: `node_table`, `clause_terms`, `apply_and`, `term_runner`.
+//! Tests of the layers of diagrams: `node_table`, `clause_terms`, `apply_and`, `quantify`, `imply`, `term_runner`.
 #![tactic(auto)]
 
 #[cfg(test)]
@@ -6,7 +6,15 @@ mod checked;
 #[cfg(test)]
 mod conjunctions;
 #[cfg(test)]
+mod depth;
+#[cfg(test)]
+mod disjunctions;
+#[cfg(test)]
+mod implications;
+#[cfg(test)]
 mod nodes;
+#[cfg(test)]
+mod quantifications;
 #[cfg(test)]
 mod retired;
 #[cfg(test)]

@@ -94,14 +94,16 @@ pub fn no_entries(alloc: Global, capacity: u32) -> Result<AndCache, OutOfMemory>
     AndCache::new(alloc, capacity)
 }
 
-fn halves(script: &str) -> (&str, &str) {
+/// The parts of a script before and behind its bar.
+pub fn halves(script: &str) -> (&str, &str) {
     match script.split_once('|') {
         Some(halves) => halves,
         None => (script, ""),
     }
 }
 
-fn make_all(
+/// Makes the nodes that words write.
+pub fn make_all(
     rt: &impl Abort,
     table: &mut Table<ProofText>,
     results: &mut Vec<Named>,
@@ -182,7 +184,8 @@ fn children(results: &[Named], word: &str) -> (u32, Node, Node) {
     }
 }
 
-fn operands(results: &[Named], word: &str) -> (Node, Node) {
+/// The two nodes that a word names.
+pub fn operands(results: &[Named], word: &str) -> (Node, Node) {
     match word.as_bytes() {
         [u, v] => (node_of(results, *u), node_of(results, *v)),
         _ => (Node::False, Node::False),
