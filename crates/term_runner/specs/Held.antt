@@ -1,11 +1,13 @@
 -- A run between two moves: the table is ready, and its stack holds the plan's terms.
-use Rattle.std.specs.Prelude.{◌≡◌, ◌≢◌, ◌<◌, ◌≤◌, ◌+◌, ℕ, List, [], ◌∷◌, length, Some, Contains, IsFalse, slice_index_or}
+use Rattle.std.specs.Prelude.{◌≡◌, ◌≢◌, ◌<◌, ◌≤◌, ◌+◌, ℕ, List, [], ◌∷◌, length, Some, Contains, IsTrue, IsFalse, slice_index_or}
+use Rattle.cnf_base.specs.Truth.{Assignment}
 use Rattle.cnf_base.specs.Formula.{Formula}
 use Rattle.lrat_rules.specs.State.{Live, clause_at}
 use Rattle.node_table.specs.declared.node.Node.{Node}
 use Rattle.node_table.specs.declared.node.Node.TheVariants.{False, True}
 use Rattle.node_table.specs.declared.node.Just.TheVariants.{Clause}
-use Rattle.node_table.specs.Diagram.{Graph, levels}
+use Rattle.node_table.specs.Diagram.{Graph, is_node, levels}
+use Rattle.node_table.specs.Value.{by_level, value_of}
 use Rattle.node_table.specs.Table.{TableState, IsSound}
 use Rattle.operations.specs.Entries.{Entry, Fits, IsAccounted}
 use Rattle.clause_terms.specs.Term.{IsTerm}
@@ -24,6 +26,19 @@ AreHeld formula graph live [] [] = Unit {0}
 AreHeld formula graph live [] (term ∷ terms) = ⊥
 AreHeld formula graph live (held ∷ stack) [] = ⊥
 AreHeld formula graph live (held ∷ stack) (term ∷ terms) = IsHeld formula graph live held term × AreHeld formula graph live stack terms
+
+-- a quantified variable, with the node of the term before
+pub record IsKept (formula : Formula) (graph : Graph) (kept : ℕ × Node) (quantified : ℕ × Term) : Type 0 where
+  pub variable : kept.0 ≡ quantified.0
+  pub stands : IsTrue (is_node graph kept.1)
+  pub value : (a : Assignment) → value_of graph (by_level graph.order a) kept.1 ≡ term_holds formula a quantified.1
+
+-- those of a trail, the last quantified variable first
+abbrev pub AreKept : Formula → Graph → List (ℕ × Node) → List (ℕ × Term) → Type 0
+AreKept formula graph [] [] = Unit {0}
+AreKept formula graph [] (quantified ∷ trail) = ⊥
+AreKept formula graph (kept ∷ nodes) [] = ⊥
+AreKept formula graph (kept ∷ nodes) (quantified ∷ trail) = IsKept formula graph kept quantified × AreKept formula graph nodes trail
 
 -- the last term's node; where there is no term, that of the empty conjunction
 abbrev pub top_node : List Held → Node

@@ -36,5 +36,5 @@ pub record IsRecovered (formula : Formula) (order : List ℕ) (moves : List Move
   pub reached : after_moves formula no_stage moves ≡ Some last
   pub first : Assignment
   pub least : IsLeastIn order (λ a. stack_holds formula a last.stack) first
-  pub recovered : (variable : ℕ) → assignment_of values variable ≡ set_all_back formula first last.trail variable
+  pub recovered : (variable : ℕ) → 0 < variable → assignment_of values variable ≡ set_all_back formula first last.trail variable
   pub satisfied : Satisfies (assignment_of values) formula.clauses
