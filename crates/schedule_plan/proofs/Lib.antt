@@ -1,3 +1,3 @@
 pub mod Naturals
 pub mod Admissible
-pub mod Places
+pub mod Fresh

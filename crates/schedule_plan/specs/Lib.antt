@@ -2,3 +2,4 @@ pub mod Limits
 pub mod Order
 pub mod Plan
 pub mod Bucket
+pub mod Forest

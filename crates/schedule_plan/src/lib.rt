@@ -3,7 +3,11 @@
 //! stacked term and no later clause holds it, and leaves one term at most.
 #![tactic(auto)]
 
+mod emit;
+mod forest;
 mod limits;
+mod links;
+mod occurrence;
 mod order;
 mod plan;
 

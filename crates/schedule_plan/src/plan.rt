@@ -5,6 +5,10 @@ ghost use Rattle.std.specs.List.{slice_get};
 ghost use Rattle.schedule_plan.specs.Plan.{IsAdmissible, conjoin};
 ghost use Rattle.schedule_plan.specs.Bucket.{bucket};
 
+use crate::emit::bucket_moves;
+use crate::forest::buckets;
+use crate::links::linked;
+use crate::occurrence::occurrences;
 use crate::order::Order;
 use cnf_base::{Cnf, OutOfMemory};
 use std::alloc::Global;
@@ -22,24 +26,18 @@ pub enum Move {
 }
 
 /// A list of moves.
-// No move is stored: every plan so far conjoins all clauses one by one, so that its moves follow from how many clauses
-// there are.
 #[derive(Debug, Drop)]
 pub struct Plan {
-    clauses: u32,
+    moves: Vec<Move>,
 }
 
 impl Model for Plan {
-    ghost use Rattle.std.specs.Prelude.{List, ◌≤◌};
+    ghost use Rattle.std.specs.Prelude.{List};
     ghost use Rattle.schedule_plan.specs.declared.plan.Move.{Move};
 
     ghost Value = { List Move };
 
-    ghost use Rattle.schedule_plan.specs.Plan.{conjoin};
-
-    ghost view = { λ p. conjoin p.clauses };
-
-    ghost invariant = { λ p. p.clauses ≤ 10000000 };
+    ghost view = { λ p. p.moves.items };
 }
 
 impl Plan {
@@ -49,8 +47,14 @@ impl Plan {
         ensures admissible { IfOk result (IsAdmissible formula.now) }
     {
         formula.formula_law();
-        let clauses = formula.len() as u32;
-        Ok(Plan { clauses })
+        let mut moves = Vec::new(alloc);
+        for clause in 0..formula.len() as u32 {
+            moves.push(Move::Push(clause + 1))?;
+            if clause > 0 {
+                moves.push(Move::And)?;
+            }
+        }
+        Ok(Plan { moves })
     }
 
     /// The bucket plan: the variables are quantified in the order, each as soon as all terms that hold it are conjoined.
@@ -59,28 +63,24 @@ impl Plan {
         ensures moves { IfOk result (λ plan. plan ≡ bucket formula.now order.now) }
         ensures admissible { IfOk result (IsAdmissible formula.now) }
     {
-        Err(OutOfMemory)
+        formula.formula_law();
+        let occurrences = occurrences(alloc, formula, order)?;
+        let buckets = buckets(alloc, formula, order, occurrences.as_slice())?;
+        let links = linked(alloc, buckets.as_slice(), order.as_slice().len() + 2)?;
+        let moves = bucket_moves(alloc, formula, order, &links)?;
+        Ok(Plan { moves })
     }
 
     pub fn len(&self) -> usize
         ensures { result ≡ length self.now }
     {
-        (self.clauses as usize * 2).saturating_sub(1)
+        self.moves.len()
     }
 
     /// The move of a place, from 0; None exactly where there is none.
     pub fn get(&self, i: usize) -> Option<Move>
         ensures { result ≡ slice_get self.now i }
     {
-        // The number of the clause at work there. The first is pushed at place 0; each later one is pushed at an odd
-        // place, and conjoined at the next.
-        let clause = i / 2 + i % 2 + 1;
-        if clause > self.clauses as usize {
-            None
-        } else if i > 0 && i % 2 == 0 {
-            Some(Move::And)
-        } else {
-            Some(Move::Push(clause as u32))
-        }
+        self.moves.get(i).copied()
     }
 }
