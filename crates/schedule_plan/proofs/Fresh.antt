@@ -1,16 +1,11 @@
 -- The buckets before any occurrence is looked at: those of variables that occur are told apart.
-use Rattle.std.proofs.Common.{◌≡◌, ℕ, zero, suc, ◌+◌, ◌-◌, ◌<◌, ◌≤◌, ◌⊎◌, ◌≢◌, inl, inr, Bool, true, false, List, ◌∷◌, ◌++◌, length, replicate, set, slice_index, slice_index_or, All, Contains, refl, sym, ap, ◌∙◌, subst, arith, get_or-set_same, get_or-set_other}
+use Rattle.std.proofs.Common.{◌≡◌, ℕ, zero, suc, ◌+◌, ◌-◌, ◌<◌, ◌≤◌, ◌⊎◌, ◌≢◌, inl, inr, Bool, true, false, List, ◌∷◌, ◌++◌, length, replicate, set, slice_index, slice_index_or, All, Contains, refl, sym, ap, ◌∙◌, subst, arith, get_or-set_same, get_or-set_other, length-set}
 use Rattle.std.proofs.lemmas.Bool.{cases_eq, cases_Bool, cases_lt}
 use Rattle.std.proofs.lemmas.List.{get_or_default}
 use Rattle.cnf_base.specs.Formula.{Formula}
 use Rattle.schedule_plan.specs.declared.occurrence.Occurrence.{Occurrence}
+use Rattle.schedule_plan.proofs.Climb.{no_occurrence, place_at}
 use Rattle.schedule_plan.specs.Forest.{AreOccurrences, IsOccurrence, AreFresh, is_held}
-
-abbrev pub no_occurrence : Occurrence
-no_occurrence = record { place = 0; clause = 0 }
-
-abbrev pub place_at : List Occurrence → ℕ → ℕ
-place_at occurrences k = (slice_index_or occurrences k no_occurrence).place
 
 -- after some of the occurrences
 pub record IsFreshAfter (clauses variables : ℕ) (occurrences : List Occurrence) (n : ℕ) (buckets : List ℕ) : Type 0 where
@@ -39,7 +34,7 @@ fresh_more clauses variables occurrences n buckets inside before =
     let other : (item : ℕ) → item ≢ clauses + at → slice_index (set buckets (clauses + at) variables) item ≡ slice_index buckets item =
     λ item differ. get_or-set_other buckets (clauses + at) item variables 0 differ in
     record {
-      count = grind (arith, before.count);
+      count = length-set buckets (clauses + at) variables ∙ before.count;
       clauses_are = λ item small. other item (omega (arith, small)) ∙ before.clauses_are item small;
       results = λ place small. elim (cases_eq at place) [
         | inl same ↦ inl (ap (λ p. slice_index (set buckets (clauses + at) variables) (clauses + p)) (sym same)

@@ -1,3 +1,7 @@
 pub mod Naturals
 pub mod Admissible
+pub mod Terms
+pub mod Buckets
+pub mod Climb
+pub mod ItemFacts
 pub mod Fresh

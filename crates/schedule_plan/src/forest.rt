@@ -1,6 +1,7 @@
 // The bucket that each item belongs to, as the parents in the column elimination tree of sparse factorization, with
 // path compression. (Liu: A Compact Row Storage Scheme for Cholesky Factors Using Elimination Trees, 1986.)
 ghost use Rattle.std.specs.Prelude.{◌≡◌, ℕ, ◌+◌, length, replicate, None, IfOk};
+ghost use Rattle.schedule_plan.specs.Order.{IsOrder};
 ghost use Rattle.schedule_plan.specs.Forest.{AreOccurrences, AreBuckets, AreFresh, item_count};
 
 use crate::occurrence::Occurrence;
@@ -62,6 +63,7 @@ fn climb(
     requires order { length order.now ≡ formula.now.vars }
     requires occurrences { AreOccurrences formula.now order.now occurrences.now }
     requires fresh { AreFresh formula.now order.now buckets.old }
+    requires sound { IsOrder order.now }
     requires above { above.old ≡ replicate (item_count formula.now order.now) None }
     ensures { AreBuckets formula.now order.now buckets.new }
 {
