@@ -4,4 +4,5 @@ pub mod Terms
 pub mod Buckets
 pub mod Climb
 pub mod ItemFacts
+pub mod Linked
 pub mod Fresh
