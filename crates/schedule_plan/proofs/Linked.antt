@@ -2,7 +2,7 @@
 use Rattle.std.proofs.Common.{◌≡◌, ℕ, zero, suc, ◌+◌, ◌-◌, ◌<◌, ◌≤◌, ◌==◌, inl, inr, Bool, true, false, List, [], ◌∷◌, ◌++◌, length, filter, reverse, Option, None, Some, slice_index, slice_index_or, refl, sym, ap, ◌∙◌, subst, arith, eq-eqb, ne_eqb, eqb-true, append_assoc, length-append}
 use Rattle.std.specs.Prelude.{if◌then◌else◌}
 use Rattle.std.proofs.lemmas.Bool.{cases_eq, cases_lt, false≢true, cond-true, cond-false}
-use Rattle.std.proofs.lemmas.List.{append-nil, reverse-append, get_or_read}
+use Rattle.std.proofs.lemmas.List.{append-nil, reverse-append, length-reverse, get_or_read}
 use Rattle.std.proofs.lemmas.List.Elements.{filter-append}
 use Rattle.std.proofs.lemmas.Option.{none-some, same_Some}
 use Rattle.cnf_base.specs.Formula.{Formula}
@@ -299,3 +299,25 @@ opened formula order work moves item last move is =
     ap (λ front. front ++ reverse (moves ++ move ∷ [])) (moves_to_push formula order work last)
     ∙ turned (all ++ moves_to formula order last) moves move
     ∙ ap (λ front. front ++ reverse moves) (append_assoc all (moves_to formula order last) (move ∷ []) ∙ ap (λ rest. all ++ rest) (sym is))
+
+pub stepped : (formula : Formula) (order before popped between after : List ℕ) (start middle end : List Move) (item : ℕ) → before ≡ popped ++ item ∷ []
+    → (moves_to_all formula order between ++ moves_of_item formula order item) ++ reverse middle ≡ (moves_to_all formula order popped ++ moves_to formula order item) ++ reverse start
+    → moves_to_all formula order after ++ reverse end ≡ (moves_to_all formula order between ++ moves_of_item formula order item) ++ reverse middle
+    → moves_to_all formula order after ++ reverse end ≡ moves_to_all formula order before ++ reverse start
+stepped formula order before popped between after start middle end item is one other =
+    other ∙ one ∙ ap (λ front. front ++ reverse start) (sym (moves_to_push formula order popped item) ∙ ap (moves_to_all formula order) (sym is))
+
+pub fewer : (one other start end : List Move) → one ++ reverse end ≡ other ++ reverse start → length start < length end → length one < length other
+fewer one other start end same more =
+    omega (arith, more, ap length same, length-append one (reverse end), length-append other (reverse start), length-reverse end, length-reverse start)
+
+-- at first
+pub started : (formula : Formula) (order buckets : List ℕ) (last : ℕ) → AreBuckets formula order buckets → last_of buckets (length order) (length buckets) ≡ Some last
+    → IsItem formula order last × (moves_to_all formula order (last ∷ []) ++ [] ≡ bucket formula order)
+started formula order buckets last right some =
+    let link = last_moves formula order buckets (length order) last right (omega arith) some in
+    (link.0, append-nil (moves_to_all formula order (last ∷ [])) ∙ append-nil (moves_to formula order last) ∙ link.1)
+
+pub nothing_started : (formula : Formula) (order buckets : List ℕ) → AreBuckets formula order buckets → last_of buckets (length order) (length buckets) ≡ None
+    → moves_to_all formula order [] ++ [] ≡ bucket formula order
+nothing_started formula order buckets right none = ap moves_of_all (sym (no_moves formula order buckets (length order) right (omega arith) none))
