@@ -1,3 +1,5 @@
 pub mod Naturals
 pub mod Admissible
 pub mod Places
+pub mod Terms
+pub mod Buckets
