@@ -33,7 +33,7 @@ within (suc n) i positive small =
       | inr differ ↦ (λ k. ne_eqb (suc n) i differ k || within n i positive (omega (arith, small, differ)) k)
     ]
 
-append : (formula : Formula) (stage : Stage) (some more : List Move) → after_moves formula stage (some ++ more) ≡ option_and_then (λ later. after_moves formula later more) (after_moves formula stage some)
+pub append : (formula : Formula) (stage : Stage) (some more : List Move) → after_moves formula stage (some ++ more) ≡ option_and_then (λ later. after_moves formula later more) (after_moves formula stage some)
 append formula stage [] more = refl
 append formula stage (move ∷ some) more =
     elim (after_move formula stage move) as (λ o. option_and_then (λ later. after_moves formula later (some ++ more)) o

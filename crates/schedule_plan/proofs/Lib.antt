@@ -2,7 +2,10 @@ pub mod Naturals
 pub mod Admissible
 pub mod Terms
 pub mod Buckets
+pub mod Making
+pub mod BucketAdmissible
+pub mod Occurrences
 pub mod Climb
+pub mod Fresh
 pub mod ItemFacts
 pub mod Linked
-pub mod Fresh
