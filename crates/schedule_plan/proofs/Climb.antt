@@ -159,38 +159,44 @@ climb_next s n start starts buckets above at next facts all small before now bel
     let number : other < s.clauses = omega (arith, seen.1, old.1.2.3) in
     let held : s.held place other ≡ true = ap (λ p. s.held p other) (sym old.1.2.2) ∙ ap (s.held (place_at s.occurrences old.1.2.0)) (sym old.1.2.3) ∙ seen.2 in
     let upper = facts.meets at place other (omega (arith, old.1.3, old.1.4)) inner old.1.5 (facts.closed place other inner number held) in
-    let length_is : at < length above = omega (arith, within, now.above_count) in
-    (old.1.4, record {
-      buckets_count = now.buckets_count;
-      above_count = length-set above at (Some top) ∙ now.above_count;
-      inside = subst (λ (item : ℕ). 0 < s.amount item clause) (sym old.1.3) (upper.1 clause now.inside);
-      frontier = λ item lower has none.
-          let free = unset above at item top length_is none in
-          let there : item < count s = omega (arith, lower, one.0) in
-          let after : at < item = omega (arith, now.frontier item lower has free.1, free.0) in
-          elim (cases_lt item next) [
-            | inl early ↦
-                let result = further s at item clause facts after now.inside has in
-                let q = item - s.clauses in
-                let is : item ≡ s.clauses + q = omega (arith, result) in
-                let has_q : 0 < s.amount (s.clauses + q) clause = subst (λ (i : ℕ). 0 < s.amount i clause) is has in
-                let all_of = facts.meets at q clause (omega (arith, after, is)) (omega (arith, there, is)) now.inside has_q in
-                let has_other : 0 < s.amount item other = subst (λ (i : ℕ). 0 < s.amount i other) (sym is) (all_of.1 other old.1.5) in
-                absurd ((before.none item there (was_none s n start starts buckets above at item now there free.1)).1 place other old.1.2 (omega (arith, early, old.1.3)) has_other)
-            | inr late ↦ late
-          ];
-      changed = λ item there. elim (cases_eq item at) [
-        | inl same ↦ inr (omega (arith, same, old.1.4), omega (arith, same, below), subst (λ (i : ℕ). 0 < s.amount i clause) (sym same) now.inside,
+    let length_is : at < length above = omega (arith, within, now.above_count) in (
+      old.1.4,
+      record {
+        buckets_count = now.buckets_count;
+        above_count = length-set above at (Some top) ∙ now.above_count;
+        inside = subst (λ (item : ℕ). 0 < s.amount item clause) (sym old.1.3) (upper.1 clause now.inside);
+        frontier = λ item lower has none.
+            let free = unset above at item top length_is none in
+            let there : item < count s = omega (arith, lower, one.0) in
+            let after : at < item = omega (arith, now.frontier item lower has free.1, free.0) in
+            elim (cases_lt item next) [
+              | inl early ↦
+                  let result = further s at item clause facts after now.inside has in
+                  let q = item - s.clauses in
+                  let is : item ≡ s.clauses + q = omega (arith, result) in
+                  let has_q : 0 < s.amount (s.clauses + q) clause = subst (λ (i : ℕ). 0 < s.amount i clause) is has in
+                  let all_of = facts.meets at q clause (omega (arith, after, is)) (omega (arith, there, is)) now.inside has_q in
+                  let has_other : 0 < s.amount item other = subst (λ (i : ℕ). 0 < s.amount i other) (sym is) (all_of.1 other old.1.5) in
+                  absurd ((before.none item there (was_none s n start starts buckets above at item now there free.1)).1 place other old.1.2 (omega (arith, early, old.1.3)) has_other)
+              | inr late ↦ late
+            ];
+        changed = λ item there. elim (cases_eq item at) [
+          | inl same ↦ inr (
+            omega (arith, same, old.1.4),
+            omega (arith, same, below),
+            subst (λ (i : ℕ). 0 < s.amount i clause) (sym same) now.inside,
             ap (above_at (set above at (Some top))) same ∙ get_or-set_same above at (Some top) None length_is,
-            ap (slice_index buckets) same ∙ kept.1 ∙ old.0 ∙ ap s.first (sym same))
-        | inr differ ↦
-            let same : above_at (set above at (Some top)) item ≡ above_at above item = get_or-set_other above at item (Some top) None differ in
-            elim (now.changed item there) [
-              | inl as_before ↦ inl (same ∙ as_before.0, as_before.1)
-              | inr passed ↦ inr (omega (arith, passed.0, old.1.4), passed.1, passed.2, same ∙ passed.3, passed.4)
-            ]
-      ];
-    })
+            ap (slice_index buckets) same ∙ kept.1 ∙ old.0 ∙ ap s.first (sym same),
+          )
+          | inr differ ↦
+              let same : above_at (set above at (Some top)) item ≡ above_at above item = get_or-set_other above at item (Some top) None differ in
+              elim (now.changed item there) [
+                | inl as_before ↦ inl (same ∙ as_before.0, as_before.1)
+                | inr passed ↦ inr (omega (arith, passed.0, old.1.4), passed.1, passed.2, same ∙ passed.3, passed.4)
+              ]
+        ];
+      },
+    )
 
 pub climb_root : (s : Items) (n : ℕ) (start : List ℕ) (starts : List (Option ℕ)) (buckets : List ℕ) (above : List (Option ℕ)) (at : ℕ)
     → AreFacts s → AreSorted s → n < length s.occurrences → IsClimbed s n start starts
@@ -223,9 +229,13 @@ climb_root s n start starts buckets above at facts all small before now below po
           let all_of = facts.meets at q clause (omega (arith, after, is)) (omega (arith, lower, is, one.0)) now.inside has_q in
           absurd (omega (arith, all_of.0, first_is, lower, is));
       changed = λ item there. elim (cases_eq item at) [
-        | inl same ↦ inr (omega (arith, same, below), omega (arith, same, below), subst (λ (i : ℕ). 0 < s.amount i clause) (sym same) now.inside,
-            ap (above_at (set above at (Some top))) same ∙ get_or-set_same above at (Some top) None length_is,
-            ap (slice_index (set buckets at place)) same ∙ get_or-set_same buckets at place 0 buckets_are ∙ first_is ∙ ap s.first (sym same))
+        | inl same ↦ inr (
+          omega (arith, same, below),
+          omega (arith, same, below),
+          subst (λ (i : ℕ). 0 < s.amount i clause) (sym same) now.inside,
+          ap (above_at (set above at (Some top))) same ∙ get_or-set_same above at (Some top) None length_is,
+          ap (slice_index (set buckets at place)) same ∙ get_or-set_same buckets at place 0 buckets_are ∙ first_is ∙ ap s.first (sym same),
+        )
         | inr differ ↦
             let same : above_at (set above at (Some top)) item ≡ above_at above item = get_or-set_other above at item (Some top) None differ in
             let bucket : slice_index (set buckets at place) item ≡ slice_index buckets item = get_or-set_other buckets at item place 0 differ in
@@ -246,19 +256,20 @@ climb_last s n start starts buckets above at before now past = record {
   buckets_count = now.buckets_count;
   above_count = now.above_count;
   none = λ item within none.
-      let old = before.none item within (was_none s n start starts buckets above at item now within none) in
-      (elim (now.changed item within) [
-        | inl same ↦ same.1 ∙ old.0
-        | inr passed ↦ absurd (none-some (s.clauses + place_at s.occurrences n) (sym none ∙ passed.3))
-      ],
-      λ place clause seen lower has. elim (cases_lt seen.0 n) [
-        | inl early ↦ old.1 place clause (seen.0, early, seen.2, seen.3) lower has
-        | inr late ↦
-            let is : seen.0 ≡ n = omega (arith, late, seen.1) in
-            let place_is : place ≡ place_at s.occurrences n = sym seen.2 ∙ ap (place_at s.occurrences) is in
-            let clause_is : clause ≡ clause_at s.occurrences n = sym seen.3 ∙ ap (clause_at s.occurrences) is in
-            omega (arith, past, place_is, lower, now.frontier item (omega (arith, lower, place_is)) (subst (λ (i : ℕ). 0 < s.amount item i) clause_is has) none)
-      ]);
+      let old = before.none item within (was_none s n start starts buckets above at item now within none) in (
+        elim (now.changed item within) [
+          | inl same ↦ same.1 ∙ old.0
+          | inr passed ↦ absurd (none-some (s.clauses + place_at s.occurrences n) (sym none ∙ passed.3))
+        ],
+        λ place clause seen lower has. elim (cases_lt seen.0 n) [
+          | inl early ↦ old.1 place clause (seen.0, early, seen.2, seen.3) lower has
+          | inr late ↦
+              let is : seen.0 ≡ n = omega (arith, late, seen.1) in
+              let place_is : place ≡ place_at s.occurrences n = sym seen.2 ∙ ap (place_at s.occurrences) is in
+              let clause_is : clause ≡ clause_at s.occurrences n = sym seen.3 ∙ ap (clause_at s.occurrences) is in
+              omega (arith, past, place_is, lower, now.frontier item (omega (arith, lower, place_is)) (subst (λ (i : ℕ). 0 < s.amount item i) clause_is has) none)
+        ],
+      );
   some = λ item up within points. elim (now.changed item within) [
     | inl same ↦
         let old = before.some item up within (sym same.0 ∙ points) in

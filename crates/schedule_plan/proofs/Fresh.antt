@@ -37,17 +37,23 @@ fresh_more clauses variables occurrences n buckets inside before =
       count = length-set buckets (clauses + at) variables ∙ before.count;
       clauses_are = λ item small. other item (omega (arith, small)) ∙ before.clauses_are item small;
       results = λ place small. elim (cases_eq at place) [
-        | inl same ↦ inl (ap (λ p. slice_index (set buckets (clauses + at) variables) (clauses + p)) (sym same)
-            ∙ get_or-set_same buckets (clauses + at) variables 0 (omega (arith, before.count, inside)), (n, omega arith, same))
+        | inl same ↦ inl (
+          ap (λ p. slice_index (set buckets (clauses + at) variables) (clauses + p)) (sym same)
+              ∙ get_or-set_same buckets (clauses + at) variables 0 (omega (arith, before.count, inside)),
+          (n, omega arith, same),
+        )
         | inr differ ↦
             let kept : slice_index (set buckets (clauses + at) variables) (clauses + place) ≡ slice_index buckets (clauses + place) =
             other (clauses + place) (λ same. differ (omega (arith, same))) in
             elim (before.results place small) [
               | inl there ↦ inl (kept ∙ there.0, (there.1.0, omega (arith, there.1.1), there.1.2))
-              | inr none ↦ inr (kept ∙ none.0, λ k within. elim (cases_lt k n) [
+              | inr none ↦ inr (
+                kept ∙ none.0,
+                λ k within. elim (cases_lt k n) [
                   | inl early ↦ none.1 k early
                   | inr late ↦ λ same. differ (ap (place_at occurrences) (omega (arith, within, late)) ∙ same)
-                ])
+                ],
+              )
             ]
       ];
     }
@@ -62,12 +68,15 @@ fresh_last formula order occurrences buckets all done = record {
         let one = slice_index_or occurrences there.1.0 no_occurrence in
         let sound : IsOccurrence formula order one = all.sound there.1.0 no_occurrence there.1.1 in
         inl (there.0, (one.clause, sound.clause, subst (λ (p : ℕ). is_held formula order p one.clause ≡ true) there.1.2 sound.held))
-    | inr none ↦ inr (none.0, λ clause within. elim (cases_Bool (is_held formula order place clause)) [
+    | inr none ↦ inr (
+      none.0,
+      λ clause within. elim (cases_Bool (is_held formula order place clause)) [
         | inl held ↦
             let one : Occurrence = record { place = place; clause = clause } in
             let at = all.complete place clause small within held in
             absurd (none.1 at.0 at.1 (ap (λ (o : Occurrence). o.place) (get_or_default occurrences at.0 no_occurrence one at.1 ∙ at.2)))
         | inr free ↦ free
-      ])
+      ],
+    )
   ];
 }

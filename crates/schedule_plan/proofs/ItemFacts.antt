@@ -85,7 +85,7 @@ clause_meets formula order item place clause early small has has_too =
         term_bucket formula order item (input (suc item)) (clause_terms formula order item early),
       ),
       (λ other inside. subst (λ (number : ℕ). 0 < counted number (terms_of formula order (length formula.clauses + place))) (sym (alone other inside))
-      (omega (arith, in_items, result_amount formula order place (suc item)))),
+          (omega (arith, in_items, result_amount formula order place (suc item)))),
     )
 
 -- and so does a result
@@ -128,10 +128,13 @@ clause_held : (formula : Formula) (order : List ℕ) (item : ℕ) → item < len
 clause_held formula order item early inner =
     let is = term_bucket formula order item (input (suc item)) (clause_terms formula order item early) in
     let held = first_is_held formula order (input (suc item)) (omega (arith, is, inner)) in
-    let same = same_number held.0 (suc item) held.1 in
-    (item, early, omega (arith, clause_amount formula order item (suc item) early, times_itself (suc item)),
+    let same = same_number held.0 (suc item) held.1 in (
+      item,
+      early,
+      omega (arith, clause_amount formula order item (suc item) early, times_itself (suc item)),
       subst (λ (place : ℕ). is_held formula order place item ≡ true) (sym is)
-      (subst (λ (number : ℕ). holds_at formula order (first_place formula order (input (suc item))) number ≡ true) same held.2))
+          (subst (λ (number : ℕ). holds_at formula order (first_place formula order (input (suc item))) number ≡ true) same held.2),
+    )
 
 result_held : (formula : Formula) (order : List ℕ) (place : ℕ) → place < length order → bucket_of formula order (length formula.clauses + place) < length order
     → (clause : ℕ) × (clause < length formula.clauses) × (0 < counted (suc clause) (terms_of formula order (length formula.clauses + place)))
@@ -145,11 +148,13 @@ result_held formula order place small inner =
           let held = first_is_held formula order term (omega (arith, bucket_is, inner)) in
           let inside : 0 < counted held.0 (items formula order place) = omega (arith, held.1, result_times formula order place term held.0 is) in
           let number = held_is_number formula order place held.0 (omega (arith, small)) inside in
-          let same : held.0 ≡ suc (held.0 - 1) = omega (arith, number.0) in
-          (held.0 - 1, omega (arith, number.0, number.1),
+          let same : held.0 ≡ suc (held.0 - 1) = omega (arith, number.0) in (
+            held.0 - 1,
+            omega (arith, number.0, number.1),
             subst (λ (number : ℕ). 0 < counted number (terms_of formula order item)) same (omega (arith, inside, result_amount formula order place held.0)),
             subst (λ (p : ℕ). is_held formula order p (held.0 - 1) ≡ true) (sym bucket_is)
-            (subst (λ (number : ℕ). holds_at formula order (first_place formula order term) number ≡ true) same held.2))
+                (subst (λ (number : ℕ). holds_at formula order (first_place formula order term) number ≡ true) same held.2),
+          )
     ]
 
 item_held : (formula : Formula) (order : List ℕ) (item : ℕ) → item < item_count formula order → bucket_of formula order item < length order

@@ -48,14 +48,18 @@ some_linked formula order buckets place zero last right small some = absurd (non
 some_linked formula order buckets place (suc n) last right small some =
     elim (cases_eq (slice_index buckets n) place) [
       | inl same ↦
-          let is : n ≡ last = same_Some n last (sym (cond-true _ (Some n) (last_of buckets place n) (eq-eqb (slice_index buckets n) place same)) ∙ some) in
-          (omega (arith, is), ap (bucket_of formula order) (sym is) ∙ sym (right.right n (omega (arith, small))) ∙ same,
-            ap (λ k. terms_in formula order place (suc k)) is)
+          let is : n ≡ last = same_Some n last (sym (cond-true _ (Some n) (last_of buckets place n) (eq-eqb (slice_index buckets n) place same)) ∙ some) in (
+            omega (arith, is),
+            ap (bucket_of formula order) (sym is) ∙ sym (right.right n (omega (arith, small))) ∙ same,
+            ap (λ k. terms_in formula order place (suc k)) is,
+          )
       | inr differ ↦
           let before = some_linked formula order buckets place n last right (omega (arith, small))
-          (sym (cond-false _ (Some n) (last_of buckets place n) (ne_eqb (slice_index buckets n) place differ)) ∙ some) in
-          (omega (arith, before.0), before.1,
-            terms_elsewhere formula order place n (λ same. differ (right.right n (omega (arith, small)) ∙ same)) ∙ before.2)
+          (sym (cond-false _ (Some n) (last_of buckets place n) (ne_eqb (slice_index buckets n) place differ)) ∙ some) in (
+            omega (arith, before.0),
+            before.1,
+            terms_elsewhere formula order place n (λ same. differ (right.right n (omega (arith, small)) ∙ same)) ∙ before.2,
+          )
     ]
 
 -- the terms of a bucket among the clauses, and among the first results
@@ -195,13 +199,14 @@ next_moves formula order buckets item before right there some =
     let front : terms_in formula order place (suc before) ≡ terms_in formula order (bucket_of formula order before) (suc before) =
     ap (λ p. terms_in formula order p (suc before)) (sym link.1) in
     let count : length (terms_in formula order place (suc before)) ≡ length (terms_in formula order place before) + length (terms_of formula order before) =
-    ap length (terms_here formula order place before link.1) ∙ length-append (terms_in formula order place before) (terms_of formula order before) in
-    (here,
+    ap length (terms_here formula order place before link.1) ∙ length-append (terms_in formula order place before) (terms_of formula order before) in (
+      here,
       ap moves_of_all (terms_here formula order place item refl
-      ∙ ap (λ terms. terms ++ terms_of formula order item) link.2 ∙ ap (λ terms. terms_in formula order place (suc before) ++ terms) term.1)
-      ∙ moves_push (terms_in formula order place (suc before)) term.0 (omega (arith, count, ap length term_before.1))
-      ∙ ap (λ terms. (moves_of_all terms ++ moves_of term.0) ++ And ∷ []) front
-      ∙ ap (λ own. (moves_of_all (terms_in formula order (bucket_of formula order before) (suc before)) ++ moves_of_all own) ++ And ∷ []) (sym term.1))
+          ∙ ap (λ terms. terms ++ terms_of formula order item) link.2 ∙ ap (λ terms. terms_in formula order place (suc before) ++ terms) term.1)
+          ∙ moves_push (terms_in formula order place (suc before)) term.0 (omega (arith, count, ap length term_before.1))
+          ∙ ap (λ terms. (moves_of_all terms ++ moves_of term.0) ++ And ∷ []) front
+          ∙ ap (λ own. (moves_of_all (terms_in formula order (bucket_of formula order before) (suc before)) ++ moves_of_all own) ++ And ∷ []) (sym term.1),
+    )
 
 -- the moves that make an item
 pub clause_moves : (formula : Formula) (order : List ℕ) (item : ℕ) → item < length formula.clauses → moves_of_item formula order item ≡ Push (suc item) ∷ []
@@ -213,10 +218,11 @@ pub last_moves : (formula : Formula) (order buckets : List ℕ) (place last : �
     → last_of buckets place (length buckets) ≡ Some last → IsItem formula order last × (moves_to formula order last ≡ moves_of_all (items formula order place))
 unfolding moves_to
 last_moves formula order buckets place last right small some =
-    let link = some_linked formula order buckets place (length buckets) last right (omega (arith, right.count)) some in
-    (record { small = omega (arith, link.0, right.count); there = omega (arith, link.1, small) },
+    let link = some_linked formula order buckets place (length buckets) last right (omega (arith, right.count)) some in (
+      record { small = omega (arith, link.0, right.count); there = omega (arith, link.1, small) },
       ap (λ p. moves_of_all (terms_in formula order p (suc last))) link.1
-      ∙ ap moves_of_all (sym link.2 ∙ ap (terms_in formula order place) right.count ∙ sym (bucket_items formula order place small)))
+          ∙ ap moves_of_all (sym link.2 ∙ ap (terms_in formula order place) right.count ∙ sym (bucket_items formula order place small)),
+    )
 
 pub no_moves : (formula : Formula) (order buckets : List ℕ) (place : ℕ) → AreBuckets formula order buckets → place ≤ length order
     → last_of buckets place (length buckets) ≡ None → items formula order place ≡ []
@@ -230,21 +236,31 @@ pub result_moves : (formula : Formula) (order buckets : List ℕ) (place last : 
     × (moves_of_item formula order (length formula.clauses + place) ≡ moves_to formula order last ++ Exists (slice_index_or order place 0) ∷ [])
 unfolding moves_of_item
 result_moves formula order buckets place last right small some there =
-    let link = last_moves formula order buckets place last right (omega (arith, small)) some in
-    (link.0, elim (items formula order place) as (λ terms. items formula order place ≡ terms → moves_of_item formula order (length formula.clauses + place) ≡ moves_to formula order last ++ Exists (slice_index_or order place 0) ∷ []) [
-      | [] ↦ λ none. absurd (omega (arith, there.there, no_bucket formula order (length formula.clauses + place)
-          (result_terms formula order place ∙ ap (result_of (slice_index_or order place 0)) none)))
-      | first ∷ more ↦ λ is.
-          ap moves_of_all (result_terms formula order place ∙ ap (result_of (slice_index_or order place 0)) is)
-          ∙ ap (λ moves. moves ++ Exists (slice_index_or order place 0) ∷ []) (sym (link.1 ∙ ap moves_of_all is))
-    ] refl)
+    let link = last_moves formula order buckets place last right (omega (arith, small)) some in (
+      link.0,
+      elim (items formula order place) as (λ terms. items formula order place ≡ terms → moves_of_item formula order (length formula.clauses + place) ≡ moves_to formula order last ++ Exists (slice_index_or order place 0) ∷ []) [
+        | [] ↦ λ none. absurd (omega (
+          arith,
+          there.there,
+          no_bucket formula order (length formula.clauses + place)
+              (result_terms formula order place ∙ ap (result_of (slice_index_or order place 0)) none),
+        ))
+        | first ∷ more ↦ λ is.
+            ap moves_of_all (result_terms formula order place ∙ ap (result_of (slice_index_or order place 0)) is)
+            ∙ ap (λ moves. moves ++ Exists (slice_index_or order place 0) ∷ []) (sym (link.1 ∙ ap moves_of_all is))
+      ] refl,
+    )
 
 -- an item whose bucket has no last item is none
 pub no_result : (formula : Formula) (order buckets : List ℕ) (place : ℕ) → AreBuckets formula order buckets → place < length order
     → last_of buckets place (length buckets) ≡ None → IsItem formula order (length formula.clauses + place) → ⊥
 no_result formula order buckets place right small none there =
-    omega (arith, there.there, no_bucket formula order (length formula.clauses + place)
-    (result_terms formula order place ∙ ap (result_of (slice_index_or order place 0)) (no_moves formula order buckets place right (omega (arith, small)) none)))
+    omega (
+      arith,
+      there.there,
+      no_bucket formula order (length formula.clauses + place)
+          (result_terms formula order place ∙ ap (result_of (slice_index_or order place 0)) (no_moves formula order buckets place right (omega (arith, small)) none)),
+    )
 
 -- what is read of the links
 pub before_read : (formula : Formula) (order : List ℕ) (links : Links) (item : ℕ) (read : Option ℕ) (linked : IsLinked formula order links) → item < item_count formula order

@@ -47,11 +47,9 @@ fn join_before(
     requires links { IsLinked formula.now order.now links.now }
     requires item { IsItem formula.now order.now item }
     requires items { All (IsItem formula.now order.now) work.old.items }
-    ensures moves {
-        OnOk result
+    ensures moves { OnOk result
         (moves_to_all formula.now order.now work.new.items ++ moves_of_item formula.now order.now item ++ reverse moves.new.items
-        ≡ moves_to_all formula.now order.now work.old.items ++ moves_to formula.now order.now item ++ reverse moves.old.items)
-    }
+        ≡ moves_to_all formula.now order.now work.old.items ++ moves_to formula.now order.now item ++ reverse moves.old.items) }
     ensures more { OnOk result (length moves.old.items ≤ length moves.new.items) }
     ensures items { OnOk result (All (IsItem formula.now order.now) work.new.items) }
 {
@@ -75,11 +73,9 @@ fn open_item(
     requires links { IsLinked formula.now order.now links.now }
     requires item { IsItem formula.now order.now item }
     requires items { All (IsItem formula.now order.now) work.old.items }
-    ensures moves {
-        OnOk result
+    ensures moves { OnOk result
         (moves_to_all formula.now order.now work.new.items ++ reverse moves.new.items
-        ≡ moves_to_all formula.now order.now work.old.items ++ moves_of_item formula.now order.now item ++ reverse moves.old.items)
-    }
+        ≡ moves_to_all formula.now order.now work.old.items ++ moves_of_item formula.now order.now item ++ reverse moves.old.items) }
     ensures more { OnOk result (length moves.old.items < length moves.new.items) }
     ensures items { OnOk result (All (IsItem formula.now order.now) work.new.items) }
 {

@@ -54,7 +54,12 @@ fn gathered(alloc: Global, formula: &Cnf, places: &[u32]) -> Result<Vec<Occurren
     formula.formula_law();
     let mut occurrences = Vec::new(alloc);
     for clause in 0..formula.len() {
-        add_clause(&mut occurrences, places, clause as u32, formula.clause(clause + 1))?;
+        add_clause(
+            &mut occurrences,
+            places,
+            clause as u32,
+            formula.clause(clause + 1),
+        )?;
     }
     Ok(occurrences)
 }
