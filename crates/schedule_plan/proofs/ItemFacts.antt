@@ -1,5 +1,5 @@
 -- The items of the bucket plan, and what is used of them.
-use Rattle.std.proofs.Common.{◌≡◌, ℕ, zero, suc, ◌+◌, ◌-◌, ◌<◌, ◌≤◌, inl, inr, Bool, true, false, cond, List, [], ◌∷◌, length, slice_index, slice_index_or, refl, sym, ap, ◌∙◌, subst, arith, eqb-true, eq-eqb}
+use Rattle.std.proofs.Common.{◌≡◌, ℕ, suc, ◌+◌, ◌-◌, ◌<◌, ◌≤◌, inl, inr, true, List, [], ◌∷◌, length, slice_index, slice_index_or, refl, sym, ap, ◌∙◌, subst, arith}
 use Rattle.std.proofs.lemmas.Bool.{false≢true, cases_lt, cond-true, cond-false, lt-ltb, le-ltb}
 use Rattle.std.proofs.lemmas.List.{get_or_default}
 use Rattle.cnf_base.specs.Formula.{Formula}
@@ -9,8 +9,8 @@ use Rattle.schedule_plan.specs.Plan.{Term, input, some_value}
 use Rattle.schedule_plan.specs.Bucket.{first_place, conjunction, result_of, items}
 use Rattle.schedule_plan.specs.Forest.{is_held, terms_of, bucket_of, bucket_of_terms, item_count, AreFresh, AreOccurrences, IsOccurrence}
 use Rattle.schedule_plan.proofs.Terms.{times, counted, counted-result_of, times_itself, same_number}
-use Rattle.schedule_plan.proofs.Buckets.{IsResult, holds_at, first_within, first_of_result, result_of_held, result_times, held_is_number, result_closed, held_of_items, no_items, none_held, meets, first_is_held, first_upto, from_first}
-use Rattle.schedule_plan.proofs.Climb.{Items, AreFacts, AreSorted, no_occurrence, place_at, clause_at}
+use Rattle.schedule_plan.proofs.Buckets.{IsResult, holds_at, first_within, first_of_result, result_of_held, result_times, held_is_number, result_closed, held_of_items, none_held, meets, first_is_held, from_first}
+use Rattle.schedule_plan.proofs.Climb.{Items, AreFacts, AreSorted, no_occurrence}
 
 -- the terms and the buckets of items
 pub clause_terms : (formula : Formula) (order : List ℕ) (item : ℕ) → item < length formula.clauses → terms_of formula order item ≡ input (suc item) ∷ []

@@ -1,7 +1,7 @@
 -- The items of a bucket, followed from the last to the first, are its terms.
-use Rattle.std.proofs.Common.{◌≡◌, ℕ, zero, suc, ◌+◌, ◌-◌, ◌<◌, ◌≤◌, ◌==◌, inl, inr, Bool, true, false, List, [], ◌∷◌, ◌++◌, length, filter, reverse, Option, None, Some, slice_index, slice_index_or, refl, sym, ap, ◌∙◌, subst, arith, eq-eqb, ne_eqb, eqb-true, append_assoc, length-append}
+use Rattle.std.proofs.Common.{◌≡◌, ℕ, zero, suc, ◌+◌, ◌-◌, ◌<◌, ◌≤◌, ◌==◌, inl, inr, Bool, true, false, List, [], ◌∷◌, ◌++◌, length, reverse, Option, None, Some, slice_index, slice_index_or, refl, sym, ap, ◌∙◌, subst, arith, eq-eqb, ne_eqb, append_assoc, length-append}
 use Rattle.std.specs.Prelude.{if◌then◌else◌}
-use Rattle.std.proofs.lemmas.Bool.{cases_eq, cases_lt, false≢true, cond-true, cond-false}
+use Rattle.std.proofs.lemmas.Bool.{cases_eq, cases_lt, cond-true, cond-false}
 use Rattle.std.proofs.lemmas.List.{append-nil, reverse-append, length-reverse, get_or_read}
 use Rattle.std.proofs.lemmas.List.Elements.{filter-append}
 use Rattle.std.proofs.lemmas.Option.{none-some, same_Some}
@@ -11,7 +11,7 @@ use Rattle.schedule_plan.specs.declared.plan.Move.{Move}
 use Rattle.schedule_plan.specs.declared.plan.Move.TheVariants.{Push, And, Exists}
 use Rattle.schedule_plan.specs.Plan.{Term, input, both, some_value}
 use Rattle.schedule_plan.specs.Bucket.{first_place, all_inputs, belonging, conjunction, result_of, results, items, moves_of, moves_of_all, bucket}
-use Rattle.schedule_plan.specs.Forest.{terms_of, bucket_of, bucket_of_terms, item_count, AreBuckets, IsLinked, last_of, terms_in, moves_of_item, moves_to, moves_to_all, IsItem}
+use Rattle.schedule_plan.specs.Forest.{terms_of, bucket_of, item_count, AreBuckets, IsLinked, last_of, terms_in, moves_of_item, moves_to, moves_to_all, IsItem}
 use Rattle.schedule_plan.proofs.Buckets.{made}
 use Rattle.schedule_plan.proofs.ItemFacts.{clause_terms, result_terms, no_bucket, term_bucket, item_later}
 

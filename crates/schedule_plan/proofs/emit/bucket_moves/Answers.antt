@@ -1,8 +1,6 @@
-use Rattle.std.proofs.Common.{ℕ, ◌≡◌, ◌++◌, ◌∷◌, [], List, All, Some, length, reverse, ap, sym, ◌∙◌, subst, arith}
+use Rattle.std.proofs.Common.{ℕ, ◌≡◌, ◌++◌, ◌∷◌, [], List, All, Some, length, ap, sym, ◌∙◌, subst, arith}
 use Rattle.std.specs.Prelude.{slice_index_or}
 use Rattle.std.proofs.lemmas.List.Elements.{All-pop, All-nil, All-push}
-use Rattle.schedule_plan.specs.declared.plan.Move.{Move}
-use Rattle.schedule_plan.specs.Bucket.{bucket}
 use Rattle.schedule_plan.specs.Forest.{IsItem, moves_to_all}
 use Rattle.schedule_plan.proofs.Linked.{last_read, started, nothing_started, stepped, fewer}
 use Rattle.schedule_plan.proofs.emit.bucket_moves.Goals as goal

@@ -1,7 +1,7 @@
 use Rattle.std.proofs.Common.{ℕ, List, All, ap, sym, ◌∙◌, ◌++◌, subst}
 use Rattle.std.specs.Prelude.{reverse}
 use Rattle.std.proofs.lemmas.List.Elements.{All-push}
-use Rattle.schedule_plan.specs.Forest.{IsItem, moves_to_all, moves_of_item}
+use Rattle.schedule_plan.specs.Forest.{IsItem, moves_to_all}
 use Rattle.schedule_plan.proofs.Linked.{before_read, first_moves, next_moves, joined}
 use Rattle.schedule_plan.proofs.emit.join_before.Goals as goal
 

@@ -1,8 +1,8 @@
-use Rattle.std.proofs.Common.{ℕ, suc, ◌≡◌, ◌+◌, ◌-◌, ◌<◌, ◌≤◌, List, All, length, ap, sym, ◌∙◌, ◌++◌, subst, arith, add-one}
-use Rattle.std.specs.Prelude.{reverse, slice_index_or}
+use Rattle.std.proofs.Common.{ℕ, suc, ◌≡◌, ◌+◌, ◌-◌, ◌<◌, ◌≤◌, List, All, length, ap, sym, ◌∙◌, subst, arith, add-one}
+use Rattle.std.specs.Prelude.{slice_index_or}
 use Rattle.std.proofs.lemmas.List.Elements.{All-push}
 use Rattle.schedule_plan.specs.declared.plan.Move.TheVariants.{Push, Exists}
-use Rattle.schedule_plan.specs.Forest.{IsItem, moves_to_all, moves_of_item}
+use Rattle.schedule_plan.specs.Forest.{IsItem, moves_of_item}
 use Rattle.schedule_plan.proofs.Linked.{last_read, clause_moves, result_moves, no_result, pushed, opened}
 use Rattle.schedule_plan.proofs.emit.open_item.Goals as goal
 

@@ -1,4 +1,4 @@
-use Rattle.std.proofs.Common.{ℕ, ℤ, nat_abs, List, length, arith, sym, ap, ◌∙◌, ◌+◌, ◌-◌, ◌≡◌, suc, subst, add-one}
+use Rattle.std.proofs.Common.{ℤ, nat_abs, List, length, arith, sym, ap, ◌∙◌, ◌+◌, ◌-◌, ◌≡◌, suc, subst}
 use Rattle.std.specs.Prelude.{IsTrue, nat_lt, slice_index_or, []}
 use Rattle.std.specs.List.{list_all}
 use Rattle.schedule_plan.proofs.Occurrences.{literals_within}

@@ -1,4 +1,4 @@
-use Rattle.std.proofs.Common.{ℕ, List, length, subst, sym, ap, ◌∙◌, IsPermutation}
+use Rattle.std.proofs.Common.{ℕ, List, length, subst, ap, ◌∙◌, IsPermutation}
 use Rattle.schedule_plan.specs.declared.occurrence.Occurrence.{Occurrence}
 use Rattle.schedule_plan.specs.Forest.{ArePlaces, occurrences_of}
 use Rattle.schedule_plan.proofs.Occurrences.{all_occurrences}

@@ -1,6 +1,5 @@
-use Rattle.std.proofs.Common.{ℕ, ◌<◌, List, length, arith, sym, ap, ◌∙◌, subst}
+use Rattle.std.proofs.Common.{◌<◌, length, arith, sym, ap, subst}
 use Rattle.std.specs.Prelude.{slice_index}
-use Rattle.schedule_plan.specs.declared.plan.Move.{Move}
 use Rattle.schedule_plan.specs.Plan.{IsAdmissible}
 use Rattle.schedule_plan.specs.Forest.{item_count}
 use Rattle.schedule_plan.proofs.ItemFacts.{item_bucket}
