@@ -1,0 +1,87 @@
+"""A small judge of LRAT proofs for the scripts beside it, apart from the program: the rules of docs/FORMATS.md, without its limits."""
+import collections
+
+
+class Bad(Exception):
+    """A step that isn't good, with its line."""
+
+
+class Proof:
+    """The live clauses of a proof over a formula. A hint list is judged on the set of the literals that are false."""
+
+    def __init__(self, clauses):
+        self.top, self.has_empty = len(clauses), False
+        self.live, self.holders = {}, collections.defaultdict(set)
+        for number, clause in enumerate(clauses, 1):
+            self.keep(number, clause)
+
+    def keep(self, number, clause):
+        self.live[number] = clause
+        for literal in clause:
+            self.holders[literal].add(number)
+
+    def drop(self, number):
+        for literal in self.live.pop(number, []):
+            self.holders[literal].discard(number)
+
+    def conflicts(self, false, hints):
+        for hint in hints:
+            if hint not in self.live:
+                raise Bad(f"clause {hint} is not live")
+            rest = {literal for literal in self.live[hint] if literal not in false}
+            if not rest:
+                return True
+            if len(rest) > 1:
+                raise Bad(f"clause {hint} is not unit")
+            false.add(-rest.pop())
+        return False
+
+    def add(self, number, clause, hints):
+        if number <= self.top:
+            raise Bad("its number is not greater")
+        first = next((at for at, hint in enumerate(hints) if hint < 0), len(hints))
+        false = set(clause)
+        if not self.conflicts(false, hints[:first]):
+            if not clause:
+                raise Bad("no conflict")
+            self.resolvents(clause[0], false, hints[first:])
+        self.top, self.has_empty = number, self.has_empty or not clause
+        self.keep(number, clause)
+
+    def resolvents(self, pivot, false, hints):
+        """Each live clause with the negated pivot must be blocked, or have a group of hints that reach a conflict."""
+        starts = [at for at, hint in enumerate(hints) if hint < 0] + [len(hints)]
+        groups = [(-hints[start], hints[start + 1 : end]) for start, end in zip(starts, starts[1:])]
+        is_blocked = {it: any(-literal in false for literal in self.live[it] if literal != -pivot) for it in self.holders[-pivot]}
+        for candidate, own in groups:
+            if candidate not in is_blocked:
+                raise Bad(f"group {candidate} is stray")
+            others = {literal for literal in self.live[candidate] if literal != -pivot}
+            if not is_blocked[candidate] and not self.conflicts(false | others, own):
+                raise Bad(f"candidate {candidate} is open")
+        missing = {it for it, blocked in is_blocked.items() if not blocked} - {candidate for candidate, _ in groups}
+        if missing:
+            raise Bad(f"candidates {missing} have no group")
+
+
+def refutes(clauses, lines):
+    """Whether some line adds the empty clause. A line that isn't a good step is raised."""
+    proof = Proof(clauses)
+    for line in lines:
+        words = line.split()
+        try:
+            if words[1] == "d":
+                *numbers, end = map(int, words[2:])
+                if end or not words[0].isdigit() or min(numbers, default=1) < 1:
+                    raise Bad("no number")
+                for number in numbers:
+                    proof.drop(number)
+            else:
+                number, *rest, end = map(int, words)
+                cut = rest.index(0)
+                if end or 0 in rest[cut + 1 :]:
+                    raise Bad("zeros elsewhere")
+                proof.add(number, rest[:cut], rest[cut + 1 :])
+        except (Bad, ValueError, IndexError) as why:
+            raise Bad(line, why) from why
+    return proof.has_empty
