@@ -81,11 +81,12 @@ fn open_item(
 {
     formula.formula_law();
     let clauses = formula.len();
+    let variables = order.as_slice();
     if (item as usize) < clauses {
         moves.push(Move::Push(item + 1))?;
     } else {
         let place = item as usize - clauses;
-        moves.push(Move::Exists(order.as_slice()[place]))?;
+        moves.push(Move::Exists(variables[place]))?;
         if let Some(last) = links.last[place] {
             work.push(last)?;
         }

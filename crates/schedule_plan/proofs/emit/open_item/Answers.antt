@@ -23,7 +23,7 @@ returns-in_ok-push-3-clause-moves c =
     let same = place_is (length c.args.formula.now.clauses) c.args.item c.len-clauses.result c.len-clauses.ensures c.if-item-clauses.false in
     let own = result_moves c.args.formula.now c.args.order.now c.requires.links.buckets place c.in-Some.last c.requires.links.right small is
     (subst (IsItem c.args.formula.now c.args.order.now) same c.requires.item) in
-    rw (c.in_ok-push-2.ensures.items, c.in_ok-push-3.ensures.items, c.as_slice.ensures.value)
+    rw (c.in_ok-push-2.ensures.items, c.in_ok-push-3.ensures.items, c.as_slice-variables.ensures.value)
     (opened c.args.formula.now c.args.order.now c.args.work.now.items c.args.moves.now.items c.args.item c.in-Some.last (Exists (slice_index_or c.args.order.now place 0))
     (ap (moves_of_item c.args.formula.now c.args.order.now) same ∙ own.1))
 
