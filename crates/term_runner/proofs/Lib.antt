@@ -6,7 +6,6 @@ pub mod Plans
 pub mod Units
 pub mod Least
 pub mod Stacks
-pub mod Joins
 pub mod Inputs
 pub mod Taking
 pub mod Between
