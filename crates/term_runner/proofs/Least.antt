@@ -1,34 +1,50 @@
--- The assignment that is recovered from the last term's node.
-use Rattle.std.proofs.Common.{◌≡◌, ℕ, Bool, true, List, length, sym, ap, ◌∙◌}
-use Rattle.std.specs.Prelude.{IsFalse}
-use Rattle.std.specs.List.{list_any}
-use Rattle.cnf_base.specs.Truth.{Assignment, assignment_of}
+-- The assignment that is recovered from the last term's node, and from those of the trail.
+use Rattle.std.proofs.Common.{◌≡◌, ◌<◌, ℕ, Bool, true, false, not, List, [], ◌∷◌, refl, sym, ap, ◌∙◌}
+use Rattle.cnf_base.specs.Truth.{AreClausesOf, Assignment, assignment_of}
 use Rattle.cnf_base.specs.Formula.{Formula}
 use Rattle.node_table.specs.declared.node.Node.{Node}
 use Rattle.node_table.specs.Diagram.{Graph, levels}
 use Rattle.node_table.specs.Value.{by_level, value_of}
 use Rattle.schedule_plan.specs.declared.plan.Move.{Move}
-use Rattle.schedule_plan.specs.Plan.{IsAdmissible, Term}
-use Rattle.clause_terms.specs.Recovery.{IsLeast}
-use Rattle.clause_terms.specs.Walk.{levels_of}
-use Rattle.term_runner.specs.Moves.{quantifies}
-use Rattle.term_runner.specs.Recovered.{IsRecovered, stack_holds, set_all_back}
-use Rattle.term_runner.proofs.Plans.{no_trail, satisfied_by_stack}
+use Rattle.schedule_plan.specs.Plan.{IsAdmissible, Term, term_holds, with_value}
+use Rattle.clause_terms.specs.Recovery.{IsRecoveredFrom, set_node_back, set_nodes_back}
+use Rattle.term_runner.specs.Held.{AreKept, IsKept}
+use Rattle.term_runner.specs.Recovered.{IsRecovered, set_all_back, set_back, stack_holds}
+use Rattle.term_runner.proofs.Plans.{satisfied_alike, satisfied_by_recovered}
 
-pub recovered : (formula : Formula) (graph : Graph) (moves : List Move) (plan : IsAdmissible formula moves) → IsFalse (list_any quantifies moves) → levels graph ≡ formula.vars
+-- a kept node sets its variable back as its term does
+same_back : (formula : Formula) (graph : Graph) (a : Assignment) (kept : ℕ × Node) (quantified : ℕ × Term) → IsKept formula graph kept quantified → set_node_back graph a kept ≡ set_back formula a quantified
+same_back formula graph a kept quantified is =
+    ap (λ b. with_value a kept.0 (not b)) (is.value (with_value a kept.0 false))
+    ∙ ap (λ x. with_value a x (not (term_holds formula (with_value a x false) quantified.1))) is.variable
+
+all_same_back : (formula : Formula) (graph : Graph) (a : Assignment) (nodes : List (ℕ × Node)) (trail : List (ℕ × Term)) → AreKept formula graph nodes trail
+    → set_nodes_back graph a nodes ≡ set_all_back formula a trail
+all_same_back formula graph a [] [] are = refl
+all_same_back formula graph a [] (quantified ∷ trail) are = absurd are
+all_same_back formula graph a (kept ∷ nodes) [] are = absurd are
+all_same_back formula graph a (kept ∷ nodes) (quantified ∷ trail) are =
+    all_same_back formula graph (set_node_back graph a kept) nodes trail are.1
+    ∙ ap (λ (b : Assignment). set_all_back formula b trail) (same_back formula graph a kept quantified are.0)
+
+pub recovered : (formula : Formula) (graph : Graph) (moves : List Move) (plan : IsAdmissible formula moves) → AreClausesOf formula.vars formula.clauses → levels graph ≡ formula.vars
     → (node : Node) → ((a : Assignment) → value_of graph (by_level graph.order a) node ≡ stack_holds formula a plan.last.stack)
-    → (values : List Bool) → length values ≡ levels graph → IsLeast (levels graph) (λ a. value_of graph a node) (levels_of graph values) → IsRecovered formula graph.order moves values
-recovered formula graph moves plan joins vars node same values one_each least =
-    let holds : stack_holds formula (assignment_of values) plan.last.stack ≡ true = sym (same (assignment_of values)) ∙ least.satisfies in
+    → (trail : List (ℕ × Node)) → AreKept formula graph trail plan.last.trail → (values : List Bool) → IsRecoveredFrom graph node trail values → IsRecovered formula graph.order moves values
+recovered formula graph moves plan literals vars node same trail kept values from =
+    let holds : stack_holds formula from.first plan.last.stack ≡ true = sym (same from.first) ∙ from.least.satisfies in
+    let back : (variable : ℕ) → 0 < variable → assignment_of values variable ≡ set_all_back formula from.first plan.last.trail variable =
+    λ variable above. from.recovered variable above ∙ ap (λ (a : Assignment). a variable) (all_same_back formula graph from.first trail plan.last.trail kept) in
     record {
-      one_each = one_each ∙ vars;
+      one_each = from.one_each ∙ vars;
       last = plan.last;
       reached = plan.possible;
-      first = assignment_of values;
+      first = from.first;
       least = record {
         satisfies = holds;
-        least = λ other true_of place small earlier at. least.least (by_level graph.order other) (same other ∙ true_of) place small earlier at;
+        least = λ other true_of place small earlier at. from.least.least (by_level graph.order other) (same other ∙ true_of) place small earlier at;
       };
-      recovered = λ variable. ap (λ (trail : List (ℕ × Term)). set_all_back formula (assignment_of values) trail variable) (sym (no_trail formula moves plan.last joins plan.possible));
-      satisfied = satisfied_by_stack formula moves plan.last joins plan.possible plan.all_pushed (assignment_of values) holds;
+      recovered = back;
+      satisfied =
+          satisfied_alike formula.vars formula.clauses literals (set_all_back formula from.first plan.last.trail) (assignment_of values) (λ variable above. sym (back variable above))
+          (satisfied_by_recovered formula moves plan from.first holds);
     }
