@@ -14,3 +14,6 @@ pub mod Planned
 pub mod Parts
 pub mod Leaving
 pub mod OwnUnits
+pub mod AllCaches
+pub mod Quantified
+pub mod Trails

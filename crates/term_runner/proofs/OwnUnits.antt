@@ -29,7 +29,7 @@ one_some Always apart = absurd (let e : true ≡ false = apart in cc)
 one_some Never apart = refl
 one_some (Of x) apart = refl
 
-unit_live : (live : Live) (atom : Atom) (unit : Just) (id : ℕ) → IsJustified live (atom ∷ []) unit → unit ≡ Clause id → is_some (clause_at live id) ≡ true
+pub unit_live : (live : Live) (atom : Atom) (unit : Just) (id : ℕ) → IsJustified live (atom ∷ []) unit → unit ≡ Clause id → is_some (clause_at live id) ≡ true
 unit_live live atom unit id proved is =
     let own : IsJustified live (atom ∷ []) (Clause id) = subst (λ (j : Just). IsJustified live (atom ∷ []) j) is proved in
     ap is_some own.1 ∙ one_some atom own.0
@@ -67,25 +67,29 @@ module _ {S : Type 0} where
     | inr named ↦ within_top table sound id (fits.own id named).stands
   ]
 
+  -- what is neither retired nor named by an entry stays so through a call
+  pub unaccounted_after : (old mid : TableState S) (before after : List Entry) (id : ℕ) → id ≤ old.book.state.top → (IsAccounted old before id → ⊥) → RetiresOwn old mid before
+      → NamesOnly before after old.book.state mid.book.state → IsAccounted mid after id → ⊥
+  unaccounted_after old mid before after id within own retires names accounted = elim accounted [
+    | inl gone ↦ elim (retires.each id gone) [
+      | inl was ↦ own (inl was)
+      | inr since ↦ elim since [
+        | inl above ↦ omega (arith, within, above)
+        | inr named ↦ own (inr named)
+      ]
+    ]
+    | inr by ↦ elim (names.each by.0 by.1) [
+      | inl was ↦ own (inr (by.0, was, by.2))
+      | inr came ↦ let above = (came id by.2).0 in omega (arith, within, above)
+    ]
+  ]
+
   -- after an operation
   pub own_after : (old mid : TableState S) (before after : List Entry) (stack : List Held) → IsSound old → OwnUnits old before stack
       → ((held : Held) → Contains stack held → (id : ℕ) → held.unit ≡ Clause id → is_some (clause_at old.book.state.live id) ≡ true)
       → RetiresOwn old mid before → NamesOnly before after old.book.state mid.book.state → OwnUnits mid after stack
   own_after old mid before after stack sound own live retires names held there id is accounted =
-      let within = within_top old sound id (live held there id is) in
-      elim accounted [
-        | inl gone ↦ elim (retires.each id gone) [
-          | inl was ↦ own held there id is (inl was)
-          | inr since ↦ elim since [
-            | inl above ↦ absurd (omega (arith, within, above))
-            | inr named ↦ own held there id is (inr named)
-          ]
-        ]
-        | inr by ↦ elim (names.each by.0 by.1) [
-          | inl was ↦ own held there id is (inr (by.0, was, by.2))
-          | inr came ↦ absurd (let above = (came id by.2).0 in omega (arith, within, above))
-        ]
-      ]
+      unaccounted_after old mid before after id (within_top old sound id (live held there id is)) (own held there id is) retires names accounted
 
   pub own_behind : (old mid : TableState S) (before after : List Entry) (stack : List Held) (formula : Formula) (terms : List Term) → IsSound old
       → AreHeld formula old.graph old.book.state.live (reverse stack) terms → OwnUnits old before (reverse stack) → RetiresOwn old mid before → NamesOnly before after old.book.state mid.book.state
@@ -127,6 +131,11 @@ module _ {S : Type 0} where
       → IfOk result (λ unit. (unit ≡ u) ⊎ ((unit ≡ v) ⊎ IsNewJust old.book.state new.book.state unit))
   given_next old new u v (Err e) next = tt
   given_next old new u v (Ok unit) next = inr (inr (λ id is. let same = same_clause (old.book.state.top + 1) id (sym next.0 ∙ is) in (omega (arith, same), omega (arith, same, next.1))))
+
+  pub given_one : (old new : TableState S) (u : Just) (result : Result Just TableError) → IfOk result (λ unit. (unit ≡ Clause (old.book.state.top + 1)) × (new.book.state.top ≡ old.book.state.top + 1))
+      → IfOk result (λ unit. (unit ≡ u) ⊎ IsNewJust old.book.state new.book.state unit)
+  given_one old new u (Err e) next = tt
+  given_one old new u (Ok unit) next = inr (λ id is. let same = same_clause (old.book.state.top + 1) id (sym next.0 ∙ is) in (omega (arith, same), omega (arith, same, next.1)))
 
   -- the unit of a conjunction: an operand's, or a new one
   pub unit_own : (mid new : TableState S) (kept : List Entry) (u v unit : Just) → IsSound mid → Fits mid kept → new.retired ≡ mid.retired

@@ -15,7 +15,8 @@ use crate::caches::Caches;
 use crate::held::Held;
 use crate::moves::take_move;
 use crate::open::are_tautologies;
-use clause_terms::{Model, Trail, recover};
+use crate::stand_in::{Trail, recover};
+use clause_terms::Model;
 use cnf_base::Cnf;
 use host_io::Sink;
 use node_table::{Node, Table, TableError, steps_law};
@@ -47,6 +48,7 @@ pub fn decide<S: Sink + Drop>(
 {
     steps_law::<S>();
     formula.formula_law();
+    table.table_law();
     if are_tautologies(formula) {
         let model = recover(alloc, table, Node::True, &Trail::new(alloc))?;
         return Ok(Some(model));
@@ -74,6 +76,7 @@ fn run_moves<S: Sink + Drop>(
     ensures beside { S.beside table.new.book.sink ≡ S.beside table.old.book.sink }
 {
     steps_law::<S>();
+    formula.formula_law();
     let mut caches = Caches::new(alloc, capacity)?;
     let mut stack: Vec<Held> = Vec::new(alloc);
     let mut trail = Trail::new(alloc);
