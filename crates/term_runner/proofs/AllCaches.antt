@@ -1,5 +1,6 @@
 -- The entries of all caches as one list: what a call leaves of its own caches' entries beside the others.
 use Rattle.std.proofs.Common.{◌≡◌, ◌∙◌, ◌⊎◌, ◌++◌, ◌≤◌, ◌<◌, ℕ, zero, suc, List, [], ◌∷◌, map, Contains, Option, None, Some, Result, refl, sym, ap, subst, arith, inl, inr}
+use Rattle.std.specs.Prelude.{IsErrAnd}
 use Rattle.std.proofs.lemmas.List.Elements.{Contains-append_left, Contains-append_right, Contains-append_cases}
 use Rattle.lrat_rules.specs.State.{State}
 use Rattle.node_table.specs.declared.error.TableError.{TableError}
@@ -17,6 +18,7 @@ use Rattle.quantify.specs.ExistsCache.{both_caches, quantification, quantificati
 use Rattle.quantify.specs.OrCache.{disjunction, disjunctions}
 use Rattle.term_runner.specs.declared.caches.Caches.{Caches}
 use Rattle.term_runner.specs.Caches.{KeepsEntries}
+use Rattle.term_runner.proofs.Leaving.{error_handed}
 
 -- of which operation an entry is
 pub data Kind : Type 0 where
@@ -57,7 +59,7 @@ abbrev pub AreIn : List Entry → List Entry → Type 0
 AreIn few more = (entry : Entry) → Contains few entry → Contains more entry
 
 -- parts of a list in another order
-pub exchanged : (one two rest : List Entry) → AreIn (one ++ two ++ rest) (two ++ one ++ rest)
+pub exchanged : (one two rest : List Entry) → AreIn (one ++ (two ++ rest)) (two ++ (one ++ rest))
 exchanged one two rest entry there = elim (Contains-append_cases one (two ++ rest) entry there) [
   | inl first ↦ Contains-append_right two (one ++ rest) entry (Contains-append_left one rest entry first)
   | inr other ↦ elim (Contains-append_cases two rest entry other) [
@@ -66,7 +68,7 @@ exchanged one two rest entry there = elim (Contains-append_cases one (two ++ res
   ]
 ]
 
-pub last_first : (one two rest : List Entry) → AreIn (one ++ two ++ rest) (rest ++ one ++ two)
+pub last_first : (one two rest : List Entry) → AreIn (one ++ (two ++ rest)) (rest ++ (one ++ two))
 last_first one two rest entry there = elim (Contains-append_cases one (two ++ rest) entry there) [
   | inl first ↦ Contains-append_right rest (one ++ two) entry (Contains-append_left one two entry first)
   | inr other ↦ elim (Contains-append_cases two rest entry other) [
@@ -75,7 +77,7 @@ last_first one two rest entry there = elim (Contains-append_cases one (two ++ re
   ]
 ]
 
-pub first_last : (one two rest : List Entry) → AreIn (rest ++ one ++ two) (one ++ two ++ rest)
+pub first_last : (one two rest : List Entry) → AreIn (rest ++ (one ++ two)) (one ++ (two ++ rest))
 first_last one two rest entry there = elim (Contains-append_cases rest (one ++ two) entry there) [
   | inl last ↦ Contains-append_right one (two ++ rest) entry (Contains-append_right two rest entry last)
   | inr other ↦ elim (Contains-append_cases one two entry other) [
@@ -100,7 +102,7 @@ pub record AreParts (ands one rest : List Entry) : Type 0 where
   pub second : AreOf implies one
   pub third : AreUnnamed rest
 
-module _ {S : Type 0} (table : TableState S) (ands one rest : List Entry) (parts : AreParts ands one rest) (fits : Fits table (ands ++ one ++ rest)) where
+module _ {S : Type 0} (table : TableState S) (ands one rest : List Entry) (parts : AreParts ands one rest) (fits : Fits table (ands ++ (one ++ rest))) where
   -- no conjunction names the clause of an implication
   apart_kinds : (id : ℕ) → IsNamed ands id → IsNamed one id → ⊥
   apart_kinds id first second =
@@ -187,6 +189,10 @@ module _ {S : Type 0} where
     };
   }
 
+  pub keeps_handed : {T : Type 0} (old new : TableState S) (before after : List Entry) (r : Result T TableError) (came : TableError) → IsErrAnd r (λ e. e ≡ came) → KeepsEntries old new before after (Some came)
+      → KeepsEntries old new before after (error_of r)
+  keeps_handed old new before after r came is keeps = subst (KeepsEntries old new before after) (sym (error_handed r came is)) keeps
+
   pub keeps_all : Fitting S → (old new : TableState S) (listed : List Entry) (error : Option TableError) → IsSound old → (IsWhole error → IsSound new) → Extends old new → new.retired ≡ old.retired → Fits old listed
       → KeepsEntries old new listed listed error
   keeps_all fitting old new listed error sound still extends same fits = record {
@@ -203,35 +209,46 @@ caches_parts caches = record {
   third = both_unnamed caches.quantifications caches.ors;
 }
 
-module _ {S T : Type 0} (fitting : Fitting S) (old new : TableState S) (ands one rest : List Entry) (parts : AreParts ands one rest) (fits : Fits old (ands ++ one ++ rest)) (result : Result T TableError) where
+-- the entries of one cache fit by themselves
+module _ {S : Type 0} (fitting : Fitting S) (table : TableState S) (ands one rest : List Entry) (fits : Fits table (ands ++ (one ++ rest))) where
+  pub conjunctions_fit : Fits table ands
+  conjunctions_fit = fitting.fewer table ands (ands ++ (one ++ rest)) (λ entry there. Contains-append_left ands (one ++ rest) entry there) fits
+
+  pub implications_fit : Fits table one
+  implications_fit = fitting.fewer table one (ands ++ (one ++ rest)) (λ entry there. Contains-append_right ands (one ++ rest) entry (Contains-append_left one rest entry there)) fits
+
+  pub quantifications_fit : Fits table rest
+  quantifications_fit = fitting.fewer table rest (ands ++ (one ++ rest)) (λ entry there. Contains-append_right ands (one ++ rest) entry (Contains-append_right one rest entry there)) fits
+
+module _ {S T : Type 0} (fitting : Fitting S) (old new : TableState S) (ands one rest : List Entry) (parts : AreParts ands one rest) (fits : Fits old (ands ++ (one ++ rest))) (result : Result T TableError) where
   pub and_keeps : (after : List Entry) → ((others : List Entry) → Fits old (ands ++ others) → AreApart ands others → UnlessTorn result (Fits new (after ++ others) × AreApart after others))
-      → UnlessTorn result (NamesOnly ands after old.book.state new.book.state) → RetiresOwn old new ands → KeepsEntries old new (ands ++ one ++ rest) (after ++ one ++ rest) (error_of result)
+      → UnlessTorn result (NamesOnly ands after old.book.state new.book.state) → RetiresOwn old new ands → KeepsEntries old new (ands ++ (one ++ rest)) (after ++ (one ++ rest)) (error_of result)
   and_keeps after beside named retires = record {
     fits = λ whole. (beside (one ++ rest) fits (conjunctions_apart old ands one rest parts fits) (whole_error result whole)).0;
     named = λ whole. names_beside ands after (one ++ rest) old.book.state new.book.state (named (whole_error result whole));
-    retires = retires_in old new ands (ands ++ one ++ rest) (λ entry there. Contains-append_left ands (one ++ rest) entry there) retires;
+    retires = retires_in old new ands (ands ++ (one ++ rest)) (λ entry there. Contains-append_left ands (one ++ rest) entry there) retires;
   }
 
   pub implication_keeps : (after : List Entry) → ((others : List Entry) → Fits old (one ++ others) → AreApart one others → UnlessTorn result (Fits new (after ++ others) × AreApart after others))
-      → UnlessTorn result (NamesOnly one after old.book.state new.book.state) → RetiresOwn old new one → KeepsEntries old new (ands ++ one ++ rest) (ands ++ after ++ rest) (error_of result)
+      → UnlessTorn result (NamesOnly one after old.book.state new.book.state) → RetiresOwn old new one → KeepsEntries old new (ands ++ (one ++ rest)) (ands ++ (after ++ rest)) (error_of result)
   implication_keeps after beside named retires = record {
     fits = λ whole.
-        fitting.fewer new (ands ++ after ++ rest) (after ++ ands ++ rest) (exchanged ands after rest)
-        (beside (ands ++ rest) (fitting.fewer old (one ++ ands ++ rest) (ands ++ one ++ rest) (exchanged one ands rest) fits) (implications_apart old ands one rest parts fits) (whole_error result whole)).0;
+        fitting.fewer new (ands ++ (after ++ rest)) (after ++ (ands ++ rest)) (exchanged ands after rest)
+        (beside (ands ++ rest) (fitting.fewer old (one ++ (ands ++ rest)) (ands ++ (one ++ rest)) (exchanged one ands rest) fits) (implications_apart old ands one rest parts fits) (whole_error result whole)).0;
     named = λ whole.
-        names_in (one ++ ands ++ rest) (ands ++ one ++ rest) (after ++ ands ++ rest) (ands ++ after ++ rest) old.book.state new.book.state (exchanged one ands rest) (exchanged ands after rest)
+        names_in (one ++ (ands ++ rest)) (ands ++ (one ++ rest)) (after ++ (ands ++ rest)) (ands ++ (after ++ rest)) old.book.state new.book.state (exchanged one ands rest) (exchanged ands after rest)
         (names_beside one after (ands ++ rest) old.book.state new.book.state (named (whole_error result whole)));
-    retires = retires_in old new one (ands ++ one ++ rest) (λ entry there. Contains-append_right ands (one ++ rest) entry (Contains-append_left one rest entry there)) retires;
+    retires = retires_in old new one (ands ++ (one ++ rest)) (λ entry there. Contains-append_right ands (one ++ rest) entry (Contains-append_left one rest entry there)) retires;
   }
 
   pub quantification_keeps : (after : List Entry) → AreUnnamed after → ((others : List Entry) → Fits old (rest ++ others) → UnlessTorn result (Fits new (after ++ others))) → new.retired ≡ old.retired
-      → KeepsEntries old new (ands ++ one ++ rest) (ands ++ one ++ after) (error_of result)
+      → KeepsEntries old new (ands ++ (one ++ rest)) (ands ++ (one ++ after)) (error_of result)
   quantification_keeps after none beside same = record {
     fits = λ whole.
-        fitting.fewer new (ands ++ one ++ after) (after ++ ands ++ one) (last_first ands one after)
-        (beside (ands ++ one) (fitting.fewer old (rest ++ ands ++ one) (ands ++ one ++ rest) (first_last ands one rest) fits) (whole_error result whole));
+        fitting.fewer new (ands ++ (one ++ after)) (after ++ (ands ++ one)) (last_first ands one after)
+        (beside (ands ++ one) (fitting.fewer old (rest ++ (ands ++ one)) (ands ++ (one ++ rest)) (first_last ands one rest) fits) (whole_error result whole));
     named = λ whole.
-        names_in (rest ++ ands ++ one) (ands ++ one ++ rest) (after ++ ands ++ one) (ands ++ one ++ after) old.book.state new.book.state (first_last ands one rest) (last_first ands one after)
+        names_in (rest ++ (ands ++ one)) (ands ++ (one ++ rest)) (after ++ (ands ++ one)) (ands ++ (one ++ after)) old.book.state new.book.state (first_last ands one rest) (last_first ands one after)
         (names_beside rest after (ands ++ one) old.book.state new.book.state (names_unnamed rest after old.book.state new.book.state none));
     retires = record { each = λ id gone. inl (subst (λ (ids : List ℕ). Contains ids id) same gone) };
   }

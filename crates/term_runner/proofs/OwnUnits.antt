@@ -29,7 +29,7 @@ one_some Always apart = absurd (let e : true ≡ false = apart in cc)
 one_some Never apart = refl
 one_some (Of x) apart = refl
 
-pub unit_live : (live : Live) (atom : Atom) (unit : Just) (id : ℕ) → IsJustified live (atom ∷ []) unit → unit ≡ Clause id → is_some (clause_at live id) ≡ true
+unit_live : (live : Live) (atom : Atom) (unit : Just) (id : ℕ) → IsJustified live (atom ∷ []) unit → unit ≡ Clause id → is_some (clause_at live id) ≡ true
 unit_live live atom unit id proved is =
     let own : IsJustified live (atom ∷ []) (Clause id) = subst (λ (j : Just). IsJustified live (atom ∷ []) j) is proved in
     ap is_some own.1 ∙ one_some atom own.0
@@ -59,6 +59,9 @@ module _ {S : Type 0} where
 
   pub within_top : (table : TableState S) → IsSound table → (id : ℕ) → is_some (clause_at table.book.state.live id) ≡ true → id ≤ table.book.state.top
   within_top table sound id live = let clause = some_clause (clause_at table.book.state.live id) live in (sound.tied.numbers id clause.0 clause.1).1
+
+  pub unit_within : (table : TableState S) → IsSound table → (atom : Atom) (unit : Just) (id : ℕ) → IsJustified table.book.state.live (atom ∷ []) unit → unit ≡ Clause id → id ≤ table.book.state.top
+  unit_within table sound atom unit id proved is = within_top table sound id (unit_live table.book.state.live atom unit id proved is)
 
   -- what is retired or named isn't new
   pub accounted_within : (table : TableState S) → IsSound table → (kept : List Entry) → Fits table kept → (id : ℕ) → IsAccounted table kept id → id ≤ table.book.state.top

@@ -80,10 +80,10 @@ kept_in formula graph (first ∷ nodes) (quantified ∷ trail) are variables kep
 kept_in formula graph (first ∷ nodes) (quantified ∷ trail) are variables kept (suc k, small, at) = kept_in formula graph nodes trail are.1 variables.2 kept (k, omega (arith, small), at)
 
 in_reverse : {X : Type 0} (xs : List X) (x : X) → Contains xs x → Contains (reverse xs) x
-in_reverse [] x there = absurd (omega (arith, there.1))
-in_reverse (y ∷ xs) x (zero, small, at) =
+in_reverse {X} [] x there = absurd (omega (arith, there.1))
+in_reverse {X} (y ∷ xs) x (zero, small, at) =
     subst (λ (list : List X). Contains list x) (sym (reverse-append (y ∷ []) xs)) (Contains-append_right (reverse xs) (y ∷ []) x (zero, omega arith, at))
-in_reverse (y ∷ xs) x (suc k, small, at) =
+in_reverse {X} (y ∷ xs) x (suc k, small, at) =
     subst (λ (list : List X). Contains list x) (sym (reverse-append (y ∷ []) xs)) (Contains-append_left (reverse xs) (y ∷ []) x (in_reverse xs x (k, omega (arith, small), at)))
 
 pub kept_there : (formula : Formula) (graph : Graph) (nodes : List (ℕ × Node)) (trail : List (ℕ × Term)) → AreKept formula graph (reverse nodes) trail → AreVariables formula trail → (kept : ℕ × Node) → Contains nodes kept

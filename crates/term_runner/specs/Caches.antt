@@ -11,7 +11,7 @@ use Rattle.term_runner.specs.declared.caches.Caches.{Caches}
 
 -- the entries of all four
 abbrev pub all_entries : Caches → List Entry
-all_entries caches = conjunctions caches.ands ++ implications caches.implications ++ both_caches caches.quantifications caches.ors
+all_entries caches = conjunctions caches.ands ++ (implications caches.implications ++ both_caches caches.quantifications caches.ors)
 
 -- A call within a move leaves the entries right, unless a write failed: each fits, and was there before or names a clause
 -- that came since. It retired only clauses that came since, and those that an entry named.

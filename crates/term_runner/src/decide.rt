@@ -84,7 +84,15 @@ fn run_moves<S: Sink + Drop>(
         let Some(step) = plan.get(i) else {
             unreachable!();
         };
-        if take_move(alloc, table, &mut caches, &mut stack, &mut trail, formula, step)? {
+        if take_move(
+            alloc,
+            table,
+            &mut caches,
+            &mut stack,
+            &mut trail,
+            formula,
+            step,
+        )? {
             return Ok(None);
         }
     }

@@ -24,8 +24,8 @@ ghost use Rattle.term_runner.specs.Needs.{term_function};
 
 use crate::caches::Caches;
 use crate::held::{Held, put};
-use crate::unit::unit_of_implied;
 use crate::stand_in::Trail;
+use crate::unit::unit_of_implied;
 use host_io::Sink;
 use node_table::{Just, Node, Table, TableError, canonical_law, growth_law, steps_law};
 use operations::entry_law;

@@ -119,7 +119,7 @@ returns-clause-found g c =
     (recovered formula table.graph c.args.plan.now c.requires.plan c.formula_law.ensures.literals c.moves.invariant.ready.vars c.top.result
     (λ a. (λ k. value_of table.graph (by_level table.graph.order a) ((c.top.ensures ∙ (λ m. top_node (reverse (c.as_slice.ensures.value m)))) k))
     ∙ top_value formula table.graph table.book.state.live (reverse c.moves.stack.items) c.requires.plan.last.stack held.held c.requires.plan.one_term a)
-    (reverse c.moves.trail) held.kept c.in_ok-model.model c.in_ok-model.ensures)
+    (reverse c.moves.trail) held.kept c.in_ok-model.model c.in_ok-model.ensures.recovered)
 
 pub returns-clause-leaves : goal.returns-clause-leaves
 returns-clause-leaves g c = c.moves.invariant.continues

@@ -1,4 +1,4 @@
-use Rattle.std.proofs.Common.{◌≡◌, ◌≢◌, ◌∙◌, ◌+◌, ◌++◌, ℕ, false, List, [], ◌∷◌, Contains, reverse, None, Some, Result, Err, ap, sym, subst, arith}
+use Rattle.std.proofs.Common.{◌≡◌, ◌≢◌, ◌∙◌, ◌+◌, ◌++◌, ℕ, Bool, false, List, [], ◌∷◌, Contains, reverse, None, Some, Result, Err, ap, sym, subst, arith}
 use Rattle.std.specs.Prelude.{IsTrue}
 use Rattle.lrat_rules.specs.State.{clause_at}
 use Rattle.node_table.specs.declared.node.Node.TheVariants.{False}
@@ -169,7 +169,7 @@ returns-in_err-found-clause-steps g c =
     (c.steps_law.ensures.at_most _ _ old mid (most_additions (levels old.graph)) (most_additions (levels old.graph) + 1) _ (omega arith) c.in_err-found.ensures.steps)
 
 pub returns-in_err-found-clause-fits : goal.returns-in_err-found-clause-fits
-returns-in_err-found-clause-fits g c whole = c.in_err-found.ensures.keeps.fits (whole_result (Err c.in_err-found.field-0.0) (other_cause _ c.in_err-found.field-0.0 WriteFault c.from_residual.ensures.1 whole))
+returns-in_err-found-clause-fits g c whole = c.in_err-found.ensures.keeps.fits (whole_result {T = Bool} (Err c.in_err-found.field-0.0) (other_cause _ c.in_err-found.field-0.0 WriteFault c.from_residual.ensures.1 whole))
 
 pub returns-in_err-found-clause-made : goal.returns-in_err-found-clause-made
 returns-in_err-found-clause-made g c formula one other terms are =
