@@ -7,6 +7,7 @@ pub mod AddedLiteral
 pub mod Taken
 pub mod Down
 pub mod Set
+pub mod SetBack
 pub mod Ordered
 pub mod ClauseTerm
 pub mod ClauseParts

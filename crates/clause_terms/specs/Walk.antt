@@ -1,6 +1,6 @@
 -- On the way down from a node, with the values so far.
 use Rattle.std.specs.Prelude.{◌≡◌, ◌≢◌, ℕ, ◌<◌, ◌≤◌, Bool, true, false, List}
-use Rattle.cnf_base.specs.Truth.{assignment_of}
+use Rattle.cnf_base.specs.Truth.{Assignment, assignment_of}
 use Rattle.node_table.specs.declared.node.Node.{Node}
 use Rattle.node_table.specs.declared.node.Node.TheVariants.{False}
 use Rattle.node_table.specs.Diagram.{Graph, is_node, levels, level_of}
@@ -18,3 +18,7 @@ pub record IsDown (graph : Graph) (a : Levels) (first node : Node) : Type 0 wher
 -- the values by levels
 abbrev pub levels_of : Graph → List Bool → Levels
 levels_of graph values = by_level graph.order (assignment_of values)
+
+-- The same values; there is no variable 0.
+pub record AreAlike (one other : Assignment) : Type 0 where
+  pub same : (variable : ℕ) → 0 < variable → one variable ≡ other variable

@@ -16,6 +16,8 @@ mod nodes;
 #[cfg(test)]
 mod quantifications;
 #[cfg(test)]
+mod recoveries;
+#[cfg(test)]
 mod retired;
 #[cfg(test)]
 mod runs;

@@ -192,7 +192,8 @@ pub fn operands(results: &[Named], word: &str) -> (Node, Node) {
     }
 }
 
-fn node_of(results: &[Named], name: u8) -> Node {
+/// The node of a name.
+pub fn node_of(results: &[Named], name: u8) -> Node {
     match name {
         b'T' => Node::True,
         b'F' => Node::False,

@@ -7,7 +7,7 @@ ghost use Rattle.node_table.specs.Table.{IsSound};
 
 use crate::script::{end_of, number};
 use crate::support::{ProofText, is_known, one_clause, open, order, room_of};
-use clause_terms::{push_clause, recover};
+use clause_terms::{Trail, push_clause, recover};
 use cnf_base::{Cnf, Id};
 use lrat_rules::start_law;
 use node_table::{Just, Node, Table, TableError};
@@ -67,7 +67,7 @@ fn least(alloc: Global, table: &Table<ProofText>, node: Node) -> Result<String, 
     if matches!(node, Node::False) || !is_known(table, node) {
         return Ok(String::from_str(alloc, "none")?);
     }
-    let model = recover(alloc, table, node)?;
+    let model = recover(alloc, table, node, &Trail::new(alloc))?;
     values(alloc, model.as_slice())
 }
 
