@@ -1,15 +1,13 @@
 -- The entries of all caches as one list: what a call leaves of its own caches' entries beside the others.
-use Rattle.std.proofs.Common.{◌≡◌, ◌∙◌, ◌⊎◌, ◌++◌, ◌≤◌, ◌<◌, ℕ, zero, suc, List, [], ◌∷◌, map, Contains, Option, None, Some, Result, refl, sym, ap, subst, arith, inl, inr}
+use Rattle.std.proofs.Common.{◌≡◌, ◌∙◌, ◌⊎◌, ◌++◌, ℕ, zero, suc, List, [], ◌∷◌, map, Contains, Option, None, Some, Result, refl, sym, ap, subst, arith, inl, inr}
 use Rattle.std.specs.Prelude.{IsErrAnd}
 use Rattle.std.proofs.lemmas.List.Elements.{Contains-append_left, Contains-append_right, Contains-append_cases}
 use Rattle.lrat_rules.specs.State.{State}
 use Rattle.node_table.specs.declared.error.TableError.{TableError}
-use Rattle.node_table.specs.declared.node.Just.{Just}
-use Rattle.node_table.specs.declared.node.Just.TheVariants.{Trivial, Clause}
 use Rattle.node_table.specs.Table.{TableState, Extends, IsSound, UnlessTorn}
 use Rattle.node_table.specs.Progress.{error_of}
 use Rattle.operations.specs.Accounts.{IsWhole, none_whole, whole_error}
-use Rattle.operations.specs.Entries.{Entry, Conjunction, Implication, Disjunction, Quantification, AreApart, Fits, Fitting, IsNamed, IsNewJust, Names, NamesOnly, RetiresOwn, just_of}
+use Rattle.operations.specs.Entries.{Entry, Conjunction, Implication, Disjunction, Quantification, AreApart, Fits, Fitting, IsNamed, Names, NamesOnly, RetiresOwn}
 use Rattle.apply_and.specs.Cache.{entries as conjunctions, entry_of as conjunction_entry}
 use Rattle.imply.specs.Cache.{entries as implications, entry_of as implication_entry}
 use Rattle.quantify.specs.declared.exists_cache.ExistsCache.{ExistsCache}

@@ -1,25 +1,23 @@
 -- A quantified term: its node's function, its implication, and the trail.
-use Rattle.std.proofs.Common.{◌≡◌, ◌≢◌, ℕ, ◌+◌, ◌<◌, ◌≤◌, Bool, true, false, ◌||◌, List, [], ◌∷◌, ◌++◌, reverse, Option, None, Some, Contains, refl, sym, ap, ◌∙◌, subst, arith, inl, inr, eq-eqb, ne_eqb}
+use Rattle.std.proofs.Common.{◌≡◌, ◌≢◌, ℕ, ◌<◌, Bool, true, false, ◌||◌, [], ◌∷◌, refl, sym, ap, ◌∙◌, inl, inr, eq-eqb, ne_eqb}
 use Rattle.std.specs.Prelude.{◌==◌, if◌then◌else◌}
 use Rattle.std.proofs.lemmas.Bool.{cases_eq}
-use Rattle.std.proofs.lemmas.List.{reverse-append}
 use Rattle.cnf_base.specs.Truth.{Assignment}
 use Rattle.cnf_base.specs.Formula.{Formula}
 use Rattle.lrat_rules.specs.State.{Live}
 use Rattle.node_table.specs.declared.node.Node.{Node}
 use Rattle.node_table.specs.declared.node.Node.TheVariants.{False}
 use Rattle.node_table.specs.declared.node.Just.{Just}
-use Rattle.node_table.specs.Diagram.{Graph, IsOrder, IsReduced, KeepsNodes, is_node, levels, variable_at}
+use Rattle.node_table.specs.Diagram.{Graph, IsOrder, IsReduced, is_node, levels, variable_at}
 use Rattle.node_table.specs.Defined.{atom_of}
 use Rattle.node_table.specs.Just.{IsJustified}
-use Rattle.node_table.specs.Laws.{Growth}
 use Rattle.node_table.specs.Value.{Levels, by_level, value_of}
 use Rattle.operations.specs.Results.{Quantified, with_level}
 use Rattle.quantify.specs.Quantification.{quantification_of}
-use Rattle.clause_terms.specs.Term.{IsTerm, by_variable}
+use Rattle.clause_terms.specs.Term.{by_variable}
 use Rattle.schedule_plan.specs.Plan.{Term, some_value, term_holds, with_value}
 use Rattle.term_runner.specs.declared.held.Held.{Held}
-use Rattle.term_runner.specs.Held.{AreKept, IsHeld, IsKept}
+use Rattle.term_runner.specs.Held.{IsHeld}
 use Rattle.term_runner.specs.Needs.{term_function}
 use Rattle.term_runner.proofs.Planned.{agree_within, value_there}
 

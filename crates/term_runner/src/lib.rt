@@ -13,10 +13,9 @@ mod open;
 mod outcome;
 mod quantification;
 mod run;
-mod stand_in;
 mod unit;
 
-pub use clause_terms::{Model, push_clause};
+pub use clause_terms::{Model, Trail, push_clause, recover};
 pub use error::RunError;
 pub use outcome::{Outcome, Run};
 pub use run::{run_plan, run_plan_into};

@@ -1,6 +1,6 @@
 // A variable is quantified from the top term. The term implies what comes of it, and so the new unit follows from the old
 // one. (Bryant, Heule: Generating Extended Resolution Proofs with a BDD-Based SAT Solver, 2021, section 5.)
-ghost use Rattle.std.specs.Prelude.{◌≡◌, ◌≢◌, ◌≤◌, ◌<◌, ◌+◌, ◌++◌, ℕ, List, [], ◌∷◌, Err, Some, IsTrue, IfOk, Contains, false, reverse, true};
+ghost use Rattle.std.specs.Prelude.{◌≡◌, ◌≢◌, ◌≤◌, ◌<◌, ◌+◌, ℕ, List, [], ◌∷◌, Err, Some, IsTrue, IfOk, false, reverse, true};
 ghost use Rattle.lrat_rules.specs.State.{clause_at};
 ghost use Rattle.cnf_base.specs.Formula.{Formula};
 ghost use Rattle.node_table.specs.declared.error.TableError.TheVariants.{NodeLimit};
@@ -24,10 +24,10 @@ ghost use Rattle.term_runner.specs.Needs.{term_function};
 
 use crate::caches::Caches;
 use crate::held::{Held, put};
-use crate::stand_in::Trail;
 use crate::unit::unit_of_implied;
+use clause_terms::Trail;
 use host_io::Sink;
-use node_table::{Just, Node, Table, TableError, canonical_law, growth_law, steps_law};
+use node_table::{Just, Node, Table, TableError, growth_law, steps_law};
 use operations::entry_law;
 
 /// Quantifies a variable from the top term, and puts it on the trail with the node that it was quantified from.

@@ -1,5 +1,4 @@
 use Rattle.std.proofs.Common.{◌≡◌, ℕ, false, List, ◌∷◌, Contains, reverse, sym, subst, arith}
-use Rattle.node_table.specs.declared.node.Node.{Node}
 use Rattle.node_table.specs.Made.{LacksPart}
 use Rattle.schedule_plan.specs.Plan.{Stage, Term, input, both, some_value}
 use Rattle.term_runner.specs.Needs.{KeepsOrMakes, term_function, top_function}

@@ -1,18 +1,15 @@
-use Rattle.std.proofs.Common.{◌≡◌, ◌≢◌, ◌⊎◌, ◌+◌, ℕ, true, false, List, [], ◌∷◌, None, Some, Result, Err, inl, inr, ap, sym, subst, arith, ◌∙◌}
-use Rattle.node_table.specs.declared.error.TableError.TheVariants.{NodeLimit}
+use Rattle.std.proofs.Common.{◌≡◌, ◌⊎◌, ℕ, [], ◌∷◌, inl, inr, subst, ◌∙◌}
 use Rattle.node_table.specs.declared.node.Just.TheVariants.{Clause}
-use Rattle.node_table.specs.HandedOn.{came_from, no_answer}
-use Rattle.node_table.specs.Diagram.{Graph, is_node, levels}
+use Rattle.node_table.specs.Diagram.{Graph, levels}
 use Rattle.node_table.specs.Defined.{atom_of}
 use Rattle.node_table.specs.Just.{IsJustified}
-use Rattle.node_table.specs.Progress.{Steps}
 use Rattle.operations.specs.Accounts.{none_whole, whole_error}
 use Rattle.operations.specs.Budget.{most_additions}
 use Rattle.operations.specs.Entries.{IsAccounted, IsNewJust}
 use Rattle.imply.specs.Implication.{IsDecided, IsRefuted}
 use Rattle.term_runner.specs.Caches.{all_entries}
-use Rattle.term_runner.proofs.AllCaches.{keeps_all, keeps_further, keeps_handed}
-use Rattle.term_runner.proofs.Leaving.{steps_handed, went_on}
+use Rattle.term_runner.proofs.AllCaches.{keeps_all, keeps_further}
+use Rattle.term_runner.proofs.Leaving.{went_on}
 use Rattle.term_runner.proofs.OwnUnits.{unaccounted_after, unit_own, unit_within}
 use Rattle.term_runner.proofs.Stacks.{if_ok, justified_kept}
 use Rattle.term_runner.proofs.Units.{not_both}

@@ -1,4 +1,4 @@
-use Rattle.std.proofs.Common.{rules, ◌≡◌, ◌≢◌, ◌∙◌, ◌+◌, ◌++◌, ◌<◌, ℕ, Bool, false, List, [], ◌∷◌, Contains, length, reverse, None, Some, Result, Err, refl, ap, sym, subst, arith}
+use Rattle.std.proofs.Common.{◌≡◌, ◌≢◌, ◌∙◌, ◌++◌, ◌<◌, ℕ, Bool, false, List, [], ◌∷◌, length, reverse, Some, Err, refl, ap, sym, subst, arith}
 use Rattle.std.specs.Prelude.{IsTrue, slice_index_or}
 use Rattle.lrat_rules.specs.State.{clause_at}
 use Rattle.node_table.specs.declared.node.Node.TheVariants.{False}
@@ -7,11 +7,9 @@ use Rattle.node_table.specs.Diagram.{levels, variable_at}
 use Rattle.node_table.specs.HandedOn.{came_from, no_answer, other_cause}
 use Rattle.node_table.specs.Made.{LacksPart, MakesOnly}
 use Rattle.operations.specs.Accounts.{none_whole, whole_result}
-use Rattle.operations.specs.Budget.{most_additions}
 use Rattle.schedule_plan.specs.Plan.{some_value}
 use Rattle.term_runner.specs.Caches.{all_entries}
 use Rattle.term_runner.specs.Held.{AreHeld, AreKept, OwnUnits}
-use Rattle.term_runner.specs.Needs.{term_function}
 use Rattle.term_runner.proofs.Leaving.{after_all, steps_handed}
 use Rattle.term_runner.proofs.OwnUnits.{own_behind, own_popped, own_pushed}
 use Rattle.term_runner.proofs.Planned.{no_limit}

@@ -1,12 +1,11 @@
-use Rattle.std.proofs.Common.{◌≡◌, ◌≢◌, ◌∙◌, ◌+◌, ℕ, Bool, true, List, [], ◌∷◌, length, None, Some, Result, Err, ap, sym, subst, arith}
-use Rattle.node_table.specs.declared.error.TableError.TheVariants.{NodeLimit, WriteFault}
+use Rattle.std.proofs.Common.{◌≡◌, ◌∙◌, ◌+◌, ℕ, Bool, true, List, [], ◌∷◌, length, None, Some, Err, ap, sym, subst, arith}
+use Rattle.node_table.specs.declared.error.TableError.TheVariants.{NodeLimit}
 use Rattle.node_table.specs.Diagram.{Graph, levels}
 use Rattle.node_table.specs.Defined.{atom_of}
 use Rattle.node_table.specs.Just.{IsJustified}
-use Rattle.node_table.specs.HandedOn.{came_from, no_answer, other_cause}
+use Rattle.node_table.specs.HandedOn.{came_from, no_answer}
 use Rattle.node_table.specs.Made.{MakesOnly}
-use Rattle.node_table.specs.Progress.{Steps}
-use Rattle.operations.specs.Accounts.{none_whole, whole_result}
+use Rattle.operations.specs.Accounts.{none_whole}
 use Rattle.operations.specs.Budget.{most_additions}
 use Rattle.operations.specs.Results.{Quantified}
 use Rattle.quantify.specs.Quantification.{quantification_of}
