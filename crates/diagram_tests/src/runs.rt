@@ -10,11 +10,10 @@ use schedule_plan::{Order, Plan};
 use std::alloc::Global;
 use std::process::Abort;
 use std::test::Fail;
-use term_runner::{Limits, Outcome, Run, RunError, conjoining_law, run_plan};
+use term_runner::{Limits, Outcome, Run, RunError, run_plan};
 
 // What is told of the plan that conjoins the clauses one by one, with a cache of so many entries.
 fn ran(alloc: Global, formula: &Cnf, cache: u32, room: &Room) -> Result<String, Fail> {
-    conjoining_law();
     let order = Order::natural(alloc, formula.vars())?;
     let plan = Plan::conjoin(alloc, formula)?;
     if order.as_slice().len() != formula.vars() as usize {

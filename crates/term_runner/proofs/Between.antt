@@ -1,31 +1,33 @@
 -- A run between two moves of its plan.
-use Rattle.std.proofs.Common.{◌≡◌, ℕ, zero, suc, ◌+◌, ◌<◌, ◌≤◌, false, List, [], ◌∷◌, take, drop, length, reverse, Option, None, Some, refl, sym, ap, ◌∙◌, subst, arith}
-use Rattle.std.specs.List.{list_any, slice_get}
+use Rattle.std.proofs.Common.{◌≡◌, ℕ, zero, suc, ◌+◌, ◌<◌, ◌≤◌, List, [], ◌∷◌, take, drop, length, reverse, Option, None, Some, refl, sym, ap, ◌∙◌, subst, arith}
+use Rattle.std.specs.List.{slice_get}
 use Rattle.std.specs.Option.{option_and_then}
-use Rattle.std.proofs.lemmas.Bool.{or_parts}
 use Rattle.cnf_base.specs.Formula.{Formula}
 use Rattle.lrat_rules.specs.State.{Live}
+use Rattle.node_table.specs.declared.node.Node.{Node}
 use Rattle.node_table.specs.Diagram.{Graph}
 use Rattle.schedule_plan.specs.declared.plan.Move.{Move}
 use Rattle.schedule_plan.specs.Plan.{Stage, after_move, after_moves, no_stage}
-use Rattle.term_runner.specs.Moves.{quantifies}
 use Rattle.term_runner.specs.declared.held.Held.{Held}
-use Rattle.term_runner.specs.Held.{AreHeld}
+use Rattle.term_runner.specs.Held.{AreHeld, AreKept, IsAt}
 
--- The moves up to here lead to the stage, those from this one on lead where the whole plan does, and the stack holds
--- the stage's terms.
-pub record IsBetween (formula : Formula) (moves : List Move) (i : ℕ) (graph : Graph) (live : Live) (stack : List Held) : Type 0 where
+-- The moves up to here lead to the stage, those from this one on lead where the whole plan does, and the stack and the
+-- trail are the stage's.
+pub record IsBetween (formula : Formula) (moves : List Move) (i : ℕ) (graph : Graph) (live : Live) (stack : List Held) (trail : List (ℕ × Node)) : Type 0 where
   pub stage : Stage
   pub front : after_moves formula no_stage (take i moves) ≡ Some stage
   pub rest : after_moves formula stage (drop i moves) ≡ after_moves formula no_stage moves
-  pub held : AreHeld formula graph live (reverse stack) stage.stack
+  pub at : IsAt formula graph live stack trail stage
 
-pub at_first : (formula : Formula) (moves : List Move) (graph : Graph) (live : Live) (stack : List Held) → stack ≡ [] → IsBetween formula moves 0 graph live stack
-at_first formula moves graph live stack empty = record {
+pub at_first : (formula : Formula) (moves : List Move) (graph : Graph) (live : Live) (stack : List Held) (trail : List (ℕ × Node)) → stack ≡ [] → trail ≡ [] → IsBetween formula moves 0 graph live stack trail
+at_first formula moves graph live stack trail empty none = record {
   stage = no_stage;
   front = refl;
   rest = refl;
-  held = subst (λ (s : List Held). AreHeld formula graph live (reverse s) []) (sym empty) tt;
+  at = record {
+    held = subst (λ (s : List Held). AreHeld formula graph live (reverse s) []) (sym empty) tt;
+    kept = subst (λ (t : List (ℕ × Node)). AreKept formula graph (reverse t) []) (sym none) tt;
+  };
 }
 
 pub move_at : (moves : List Move) (i : ℕ) (step : Move) → slice_get moves i ≡ Some step → drop i moves ≡ step ∷ drop (i + 1) moves
@@ -39,15 +41,6 @@ move_at (move ∷ moves) (suc i) step at = move_at moves i step at ∙ (λ k. st
   where
     shift : suc (i + 1) ≡ suc i + 1
     shift = omega arith
-
-pub joins_at : (moves : List Move) (i : ℕ) (step : Move) → slice_get moves i ≡ Some step → list_any quantifies moves ≡ false → quantifies step ≡ false
-joins_at [] zero step at joins = cc
-joins_at [] (suc i) step at joins = cc
-joins_at (move ∷ moves) zero step at joins = ap quantifies (inside step move (sym at)) ∙ (or_parts (quantifies move) _ joins).0
-  where
-    inside : (x y : Move) → Some x ≡ Some y → x ≡ y
-    inside x y e = cc
-joins_at (move ∷ moves) (suc i) step at joins = joins_at moves i step at (or_parts (quantifies move) _ joins).1
 
 pub some_at : (moves : List Move) (i : ℕ) → i < length moves → slice_get moves i ≡ None → ⊥
 some_at [] i small none = omega (arith, small)
@@ -69,9 +62,9 @@ next_of formula moves i stage last step at reached =
     go (Some next) is e = record { next = next; is = is; rest = e }
 
 -- so it is where the plan is possible
-pub next_at : (formula : Formula) (moves : List Move) (i : ℕ) (graph : Graph) (live : Live) (stack : List Held) (last : Stage) (step : Move) → after_moves formula no_stage moves ≡ Some last → slice_get moves i ≡ Some step
-    → (between : IsBetween formula moves i graph live stack) → IsNext formula moves i between.stage step last
-next_at formula moves i graph live stack last step reached at between = next_of formula moves i between.stage last step at (between.rest ∙ reached)
+pub next_at : (formula : Formula) (moves : List Move) (i : ℕ) (graph : Graph) (live : Live) (stack : List Held) (trail : List (ℕ × Node)) (last : Stage) (step : Move) → after_moves formula no_stage moves ≡ Some last → slice_get moves i ≡ Some step
+    → (between : IsBetween formula moves i graph live stack trail) → IsNext formula moves i between.stage step last
+next_at formula moves i graph live stack trail last step reached at between = next_of formula moves i between.stage last step at (between.rest ∙ reached)
 
 drop_all : (moves : List Move) (i : ℕ) → length moves ≤ i → drop i moves ≡ []
 drop_all [] zero large = refl
@@ -80,11 +73,11 @@ drop_all (move ∷ moves) zero large = absurd (omega (arith, large))
 drop_all (move ∷ moves) (suc i) large = drop_all moves i (omega (arith, large))
 
 -- at the end the stage is the plan's last
-pub at_last : (formula : Formula) (moves : List Move) (i : ℕ) (graph : Graph) (live : Live) (stack : List Held) (last : Stage) → length moves ≤ i → after_moves formula no_stage moves ≡ Some last
-    → IsBetween formula moves i graph live stack → AreHeld formula graph live (reverse stack) last.stack
-at_last formula moves i graph live stack last large reached between =
-    subst (λ (s : Stage). AreHeld formula graph live (reverse stack) s.stack)
-    (inside between.stage last ((λ k. after_moves formula between.stage (sym (drop_all moves i large) k)) ∙ between.rest ∙ reached)) between.held
+pub at_last : (formula : Formula) (moves : List Move) (i : ℕ) (graph : Graph) (live : Live) (stack : List Held) (trail : List (ℕ × Node)) (last : Stage) → length moves ≤ i → after_moves formula no_stage moves ≡ Some last
+    → IsBetween formula moves i graph live stack trail → IsAt formula graph live stack trail last
+at_last formula moves i graph live stack trail last large reached between =
+    subst (IsAt formula graph live stack trail)
+    (inside between.stage last ((λ k. after_moves formula between.stage (sym (drop_all moves i large) k)) ∙ between.rest ∙ reached)) between.at
   where
     inside : (s t : Stage) → Some s ≡ Some t → s ≡ t
     inside s t e = cc

@@ -10,7 +10,7 @@ use Rattle.node_table.specs.Diagram.{levels}
 use Rattle.node_table.specs.Table.{TableState}
 use Rattle.node_table.specs.Progress.{Continues, BreaksOff, Leaves, Steps, error_of, number_limit}
 use Rattle.node_table.specs.Laws.{StepByStep}
-use Rattle.apply_and.specs.Conjunction.{most_additions}
+use Rattle.operations.specs.Budget.{most_additions}
 
 -- an error that is handed on is the one that came
 pub error_handed : {T E : Type 0} (r : Result T E) (came : E) → IsErrAnd r (λ e. e ≡ came) → error_of r ≡ Some came

@@ -6,7 +6,6 @@ pub mod Plans
 pub mod Units
 pub mod Least
 pub mod Stacks
-pub mod Joins
 pub mod Inputs
 pub mod Taking
 pub mod Between
@@ -15,3 +14,6 @@ pub mod Planned
 pub mod Parts
 pub mod Leaving
 pub mod OwnUnits
+pub mod AllCaches
+pub mod Quantified
+pub mod Trails

@@ -60,6 +60,9 @@ module _ {S : Type 0} where
   pub within_top : (table : TableState S) → IsSound table → (id : ℕ) → is_some (clause_at table.book.state.live id) ≡ true → id ≤ table.book.state.top
   within_top table sound id live = let clause = some_clause (clause_at table.book.state.live id) live in (sound.tied.numbers id clause.0 clause.1).1
 
+  pub unit_within : (table : TableState S) → IsSound table → (atom : Atom) (unit : Just) (id : ℕ) → IsJustified table.book.state.live (atom ∷ []) unit → unit ≡ Clause id → id ≤ table.book.state.top
+  unit_within table sound atom unit id proved is = within_top table sound id (unit_live table.book.state.live atom unit id proved is)
+
   -- what is retired or named isn't new
   pub accounted_within : (table : TableState S) → IsSound table → (kept : List Entry) → Fits table kept → (id : ℕ) → IsAccounted table kept id → id ≤ table.book.state.top
   accounted_within table sound kept fits id accounted = elim accounted [
@@ -67,25 +70,29 @@ module _ {S : Type 0} where
     | inr named ↦ within_top table sound id (fits.own id named).stands
   ]
 
+  -- what is neither retired nor named by an entry stays so through a call
+  pub unaccounted_after : (old mid : TableState S) (before after : List Entry) (id : ℕ) → id ≤ old.book.state.top → (IsAccounted old before id → ⊥) → RetiresOwn old mid before
+      → NamesOnly before after old.book.state mid.book.state → IsAccounted mid after id → ⊥
+  unaccounted_after old mid before after id within own retires names accounted = elim accounted [
+    | inl gone ↦ elim (retires.each id gone) [
+      | inl was ↦ own (inl was)
+      | inr since ↦ elim since [
+        | inl above ↦ omega (arith, within, above)
+        | inr named ↦ own (inr named)
+      ]
+    ]
+    | inr by ↦ elim (names.each by.0 by.1) [
+      | inl was ↦ own (inr (by.0, was, by.2))
+      | inr came ↦ let above = (came id by.2).0 in omega (arith, within, above)
+    ]
+  ]
+
   -- after an operation
   pub own_after : (old mid : TableState S) (before after : List Entry) (stack : List Held) → IsSound old → OwnUnits old before stack
       → ((held : Held) → Contains stack held → (id : ℕ) → held.unit ≡ Clause id → is_some (clause_at old.book.state.live id) ≡ true)
       → RetiresOwn old mid before → NamesOnly before after old.book.state mid.book.state → OwnUnits mid after stack
   own_after old mid before after stack sound own live retires names held there id is accounted =
-      let within = within_top old sound id (live held there id is) in
-      elim accounted [
-        | inl gone ↦ elim (retires.each id gone) [
-          | inl was ↦ own held there id is (inl was)
-          | inr since ↦ elim since [
-            | inl above ↦ absurd (omega (arith, within, above))
-            | inr named ↦ own held there id is (inr named)
-          ]
-        ]
-        | inr by ↦ elim (names.each by.0 by.1) [
-          | inl was ↦ own held there id is (inr (by.0, was, by.2))
-          | inr came ↦ absurd (let above = (came id by.2).0 in omega (arith, within, above))
-        ]
-      ]
+      unaccounted_after old mid before after id (within_top old sound id (live held there id is)) (own held there id is) retires names accounted
 
   pub own_behind : (old mid : TableState S) (before after : List Entry) (stack : List Held) (formula : Formula) (terms : List Term) → IsSound old
       → AreHeld formula old.graph old.book.state.live (reverse stack) terms → OwnUnits old before (reverse stack) → RetiresOwn old mid before → NamesOnly before after old.book.state mid.book.state
@@ -127,6 +134,11 @@ module _ {S : Type 0} where
       → IfOk result (λ unit. (unit ≡ u) ⊎ ((unit ≡ v) ⊎ IsNewJust old.book.state new.book.state unit))
   given_next old new u v (Err e) next = tt
   given_next old new u v (Ok unit) next = inr (inr (λ id is. let same = same_clause (old.book.state.top + 1) id (sym next.0 ∙ is) in (omega (arith, same), omega (arith, same, next.1))))
+
+  pub given_one : (old new : TableState S) (u : Just) (result : Result Just TableError) → IfOk result (λ unit. (unit ≡ Clause (old.book.state.top + 1)) × (new.book.state.top ≡ old.book.state.top + 1))
+      → IfOk result (λ unit. (unit ≡ u) ⊎ IsNewJust old.book.state new.book.state unit)
+  given_one old new u (Err e) next = tt
+  given_one old new u (Ok unit) next = inr (λ id is. let same = same_clause (old.book.state.top + 1) id (sym next.0 ∙ is) in (omega (arith, same), omega (arith, same, next.1)))
 
   -- the unit of a conjunction: an operand's, or a new one
   pub unit_own : (mid new : TableState S) (kept : List Entry) (u v unit : Just) → IsSound mid → Fits mid kept → new.retired ≡ mid.retired

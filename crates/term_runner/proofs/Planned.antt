@@ -26,13 +26,13 @@ use Rattle.term_runner.proofs.Parts.{some_of}
 
 -- the nodes look at no other levels than those of the order
 module _ (graph : Graph) (reduced : IsReduced graph) (ordered : IsOrder graph.order) where
-  value_there : (a : Levels) (level : ℕ) → level < levels graph → by_variable graph.order a (variable_at graph level) ≡ a level
+  pub value_there : (a : Levels) (level : ℕ) → level < levels graph → by_variable graph.order a (variable_at graph level) ≡ a level
   value_there a level small =
       ap a (position_or_len_is (λ x. x == variable_at graph level) graph.order level 0 (omega (arith, small))
       (λ k before. ne_eqb (variable_at graph k) (variable_at graph level) (λ same. omega (arith, before, ordered.apart k level (omega (arith, before, small)) small same)))
       (λ _. eq-eqb (variable_at graph level) (variable_at graph level) refl))
 
-  agree_within : (steps : ℕ) (a b : Levels) (node : Node) → is_node graph node ≡ true → ((level : ℕ) → level < levels graph → a level ≡ b level) → value_within steps graph a node ≡ value_within steps graph b node
+  pub agree_within : (steps : ℕ) (a b : Levels) (node : Node) → is_node graph node ≡ true → ((level : ℕ) → level < levels graph → a level ≡ b level) → value_within steps graph a node ≡ value_within steps graph b node
   agree_within steps a b False is same = refl
   agree_within steps a b True is same = refl
   agree_within zero a b (Inner key) is same = refl

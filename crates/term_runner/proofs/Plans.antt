@@ -91,16 +91,16 @@ satisfied_alike vars (clause ∷ more) literals a b agree satisfied =
 
 -- What each move needs, and what it gives.
 
-inside : (s t : Stage) → Some s ≡ Some t → s ≡ t
+pub inside : (s t : Stage) → Some s ≡ Some t → s ≡ t
 inside s t e = cc
 
 -- moves that are possible, the first one and those behind it
-record IsFirst (formula : Formula) (stage last : Stage) (move : Move) (moves : List Move) : Type 0 where
-  later : Stage
-  taken : after_move formula stage move ≡ Some later
-  rest : after_moves formula later moves ≡ Some last
+pub record IsFirst (formula : Formula) (stage last : Stage) (move : Move) (moves : List Move) : Type 0 where
+  pub later : Stage
+  pub taken : after_move formula stage move ≡ Some later
+  pub rest : after_moves formula later moves ≡ Some last
 
-first_of_moves : (formula : Formula) (stage last : Stage) (move : Move) (moves : List Move) → after_moves formula stage (move ∷ moves) ≡ Some last → IsFirst formula stage last move moves
+pub first_of_moves : (formula : Formula) (stage last : Stage) (move : Move) (moves : List Move) → after_moves formula stage (move ∷ moves) ≡ Some last → IsFirst formula stage last move moves
 first_of_moves formula stage last move moves is = go (after_move formula stage move) refl is
   where
     go : (o : Option Stage) → after_move formula stage move ≡ o → option_and_then (λ later. after_moves formula later moves) o ≡ Some last → IsFirst formula stage last move moves
@@ -321,7 +321,7 @@ some_of_own formula a x term holds = go (a x) refl
     go true own = or_left (term_holds formula (with_value a x true) term) _ (same true own)
     go false own = or_right (term_holds formula (with_value a x true) term) _ (same false own)
 
-true_after : (formula : Formula) (a : Assignment) → AllHold formula a → (stage next : Stage) (move : Move) → stack_holds formula a stage.stack ≡ true → after_move formula stage move ≡ Some next
+pub true_after : (formula : Formula) (a : Assignment) → AllHold formula a → (stage next : Stage) (move : Move) → stack_holds formula a stage.stack ≡ true → after_move formula stage move ≡ Some next
     → stack_holds formula a next.stack ≡ true
 true_after formula a all stage next (Push i) holds is =
     let pushed = pushed_of formula stage next i is in

@@ -122,6 +122,10 @@ pub if_ok : {T F : Type 0} (r : Result T F) (P Q : T → Type 0) → ((x : T) �
 if_ok (Ok x) P Q f p = f x p
 if_ok (Err e) P Q f p = tt
 
+pub both_ok : {T F : Type 0} (r : Result T F) (P Q R : T → Type 0) → ((x : T) → P x → Q x → R x) → IfOk r P → IfOk r Q → IfOk r R
+both_ok (Ok x) P Q R f p q = f x p q
+both_ok (Err e) P Q R f p q = tt
+
 pub held_one_kept : (growth : Growth) (old new : Graph) → IsReduced old → KeepsNodes old new → (live more : Live) → KeepsClauses live more → (formula : Formula) (held : Held) (term : Term)
     → IsHeld formula old live held term → IsHeld formula new more held term
 held_one_kept growth old new reduced keeps live more clauses formula held term is =

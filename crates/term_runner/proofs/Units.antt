@@ -1,4 +1,4 @@
--- The unit of a conjunction that is neither operand.
+-- The unit of a conjunction that is neither operand, and of what another node implies.
 use Rattle.std.proofs.Common.{◌≡◌, ◌≢◌, ℕ, zero, suc, ◌<◌, ◌==◌, Bool, true, false, not, ◌&&◌, ◌||◌, ℤ, pos, neg_ℤ, nat_abs, List, [], ◌∷◌, Option, None, Some, is_some, refl, sym, ap, ◌∙◌, subst, arith, inl, inr, ne_eqb}
 use Rattle.std.specs.Prelude.{IsTrue, IsFalse, nat_lt}
 use Rattle.std.specs.List.{list_any}
@@ -10,7 +10,7 @@ use Rattle.lrat_rules.specs.Strict.{RefutesStrictly}
 use Rattle.hint_chain.specs.declared.atom.Atom.{Atom}
 use Rattle.hint_chain.specs.declared.atom.Atom.TheVariants.{Never, Of}
 use Rattle.hint_chain.specs.Atoms.{clause_of, is_trivial}
-use Rattle.hint_chain.specs.Additions.{conjunction}
+use Rattle.hint_chain.specs.Additions.{conjunction, implication}
 use Rattle.hint_chain.specs.Closing.{are_apart, are_among}
 use Rattle.node_table.specs.declared.node.Node.{Node}
 use Rattle.node_table.specs.declared.node.Node.TheVariants.{False, True, Inner}
@@ -23,7 +23,7 @@ use Rattle.node_table.specs.Value.{value_of}
 use Rattle.node_table.specs.Defined.{atom_of, atom_in}
 use Rattle.node_table.specs.Just.{IsJustified}
 use Rattle.node_table.specs.Laws.{Canonical}
-use Rattle.operations.specs.Results.{Conjoined, conjunction_atoms}
+use Rattle.operations.specs.Results.{Conjoined, Implied, conjunction_atoms, implication_atoms}
 use Rattle.term_runner.proofs.Parts.{some_of}
 
 -- an inner node, with its branch
@@ -207,3 +207,53 @@ module _ (canonical : Canonical) (graph : Graph) (reduced : IsReduced graph) (li
       (unit_stands live (pos one.branch.variable) first (subst (λ (x : Atom). IsJustified live (x ∷ []) (Clause first)) one.atom unit_u))
       (unit_stands live (pos other.branch.variable) second (subst (λ (x : Atom). IsJustified live (x ∷ []) (Clause second)) other.atom unit_v))
       (proved.1 ∙ found.1) within
+
+-- What a node implies is another one, and isn't True; and the node isn't False.
+abbrev pub FollowsOne : Type 0
+FollowsOne = (live : Live) (u : ℤ) (w : Atom) (clause justified : List ℤ) (unit_u id : ℕ) → clause_of (w ∷ []) ≡ Some clause → IsTrue (are_apart (u ∷ clause))
+    → clause_at live unit_u ≡ Some (u ∷ []) → clause_at live id ≡ Some justified → IsTrue (are_among (implication (Of u) w) justified) → RefutesStrictly live clause (unit_u ∷ id ∷ [])
+
+implied_apart : (graph : Graph) → IsReduced graph → (u w : Node) (one : IsInner graph u) → is_node graph w ≡ true → w ≢ u → w ≢ True
+    → (clause : List ℤ) → clause_of (atom_of graph w ∷ []) ≡ Some clause → are_apart (pos one.branch.variable ∷ clause) ≡ true
+implied_apart graph reduced u False one is_w wu some clause at =
+    subst (λ (c : List ℤ). are_apart (pos one.branch.variable ∷ c) ≡ true) (inside [] clause at) (nonzero_apart _ (above_zero graph reduced u one) [] refl refl)
+  where
+    inside : (x y : List ℤ) → Some x ≡ Some y → x ≡ y
+    inside x y e = cc
+implied_apart graph reduced u True one is_w wu some clause at = absurd (some refl)
+implied_apart graph reduced u (Inner key) one is_w wu some clause at =
+    let own = inner_of graph (Inner key) is_w (λ e. cc) (λ e. cc) in
+    subst (λ (c : List ℤ). are_apart (pos one.branch.variable ∷ c) ≡ true) (inside _ clause (sym (ap (λ (x : Atom). clause_of (x ∷ [])) own.atom) ∙ at))
+    (two_apart _ _ (above_zero graph reduced u one) (above_zero graph reduced (Inner key) own) (apart_of graph reduced u (Inner key) one own (λ e. wu (sym e))))
+  where
+    inside : (x y : List ℤ) → Some x ≡ Some y → x ≡ y
+    inside x y e = cc
+
+implied_open : (graph : Graph) → IsReduced graph → (u w : Node) (one : IsInner graph u) → is_node graph w ≡ true → w ≢ u → w ≢ True → is_trivial (implication_atoms graph u w) ≡ false
+implied_open graph reduced u False one is_w wu some = λ k. is_trivial (implication (one.atom k) Never)
+implied_open graph reduced u True one is_w wu some = absurd (some refl)
+implied_open graph reduced u (Inner key) one is_w wu some =
+    let own = inner_of graph (Inner key) is_w (λ e. cc) (λ e. cc) in
+    (λ k. is_trivial (implication (one.atom k) (own.atom k)))
+    ∙ (λ k. (opposite_pos _ _ (above_zero graph reduced u one) (apart_of graph reduced u (Inner key) one own (λ e. wu (sym e))) k || false) || false)
+
+module _ (canonical : Canonical) (graph : Graph) (reduced : IsReduced graph) (live : Live) (u w : Node) (just : Just) (is_u : is_node graph u ≡ true) (is_w : is_node graph w ≡ true)
+    (implied : Implied graph live u w just) (some_u : u ≢ False) (wu : w ≢ u) (open_w : w ≢ True) where
+  implying : IsInner graph u
+  implying = inner_of graph u is_u some_u (λ is. open_w (canonical graph reduced w True is_w refl (λ a. implied.value a (λ k. value_of graph a (is k)))))
+
+  pub implying_named : (unit : Just) → IsJustified live (atom_of graph u ∷ []) unit → unit ≢ Trivial
+  implying_named unit proved = unit_given live (pos implying.branch.variable) unit (subst (λ (x : Atom). IsJustified live (x ∷ []) unit) implying.atom proved)
+
+  pub implication_named : just ≢ Trivial
+  implication_named = just_given live (implication_atoms graph u w) just (implied_open graph reduced u w implying is_w wu open_w) implied.justified
+
+  pub implied_refuted : Among → Given → FollowsOne → (first id : ℕ) → IsJustified live (atom_of graph u ∷ []) (Clause first) → IsJustified live (implication_atoms graph u w) (Clause id)
+      → (clause : List ℤ) → clause_of (atom_of graph w ∷ []) ≡ Some clause → RefutesStrictly live clause (first ∷ id ∷ [])
+  implied_refuted among given follows first id unit_u proved clause at =
+      let atoms = implication_atoms graph u w in
+      let found = clause_from (clause_of atoms) (given atoms proved.0) in
+      follows live (pos implying.branch.variable) (atom_of graph w) clause found.0 first id at (implied_apart graph reduced u w implying is_w wu open_w clause at)
+      (unit_stands live (pos implying.branch.variable) first (subst (λ (x : Atom). IsJustified live (x ∷ []) (Clause first)) implying.atom unit_u))
+      (proved.1 ∙ found.1)
+      (subst (λ (x : Atom). are_among (implication x (atom_of graph w)) found.0 ≡ true) implying.atom (among atoms found.0 found.1))

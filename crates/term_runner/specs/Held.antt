@@ -1,5 +1,5 @@
 -- A run between two moves: the table is ready, and its stack holds the plan's terms.
-use Rattle.std.specs.Prelude.{◌≡◌, ◌≢◌, ◌<◌, ◌≤◌, ◌+◌, ℕ, List, [], ◌∷◌, length, Some, Contains, IsTrue, IsFalse, slice_index_or}
+use Rattle.std.specs.Prelude.{◌≡◌, ◌≢◌, ◌<◌, ◌≤◌, ◌+◌, ℕ, List, [], ◌∷◌, length, Some, Contains, IsTrue, IsFalse, reverse, slice_index_or}
 use Rattle.cnf_base.specs.Truth.{Assignment}
 use Rattle.cnf_base.specs.Formula.{Formula}
 use Rattle.lrat_rules.specs.State.{Live, clause_at}
@@ -11,7 +11,7 @@ use Rattle.node_table.specs.Value.{by_level, value_of}
 use Rattle.node_table.specs.Table.{TableState, IsSound}
 use Rattle.operations.specs.Entries.{Entry, Fits, IsAccounted}
 use Rattle.clause_terms.specs.Term.{IsTerm}
-use Rattle.schedule_plan.specs.Plan.{Term, term_holds}
+use Rattle.schedule_plan.specs.Plan.{Stage, Term, term_holds}
 use Rattle.term_runner.specs.declared.held.Held.{Held}
 use Rattle.term_runner.specs.Clauses.{has_empty_clause}
 
@@ -40,6 +40,11 @@ AreKept formula graph [] (quantified ∷ trail) = ⊥
 AreKept formula graph (kept ∷ nodes) [] = ⊥
 AreKept formula graph (kept ∷ nodes) (quantified ∷ trail) = IsKept formula graph kept quantified × AreKept formula graph nodes trail
 
+-- The stack and the trail of a run, whose last element is the plan's first, are those of this stage.
+pub record IsAt (formula : Formula) (graph : Graph) (live : Live) (stack : List Held) (trail : List (ℕ × Node)) (stage : Stage) : Type 0 where
+  pub held : AreHeld formula graph live (reverse stack) stage.stack
+  pub kept : AreKept formula graph (reverse trail) stage.trail
+
 -- the last term's node; where there is no term, that of the empty conjunction
 abbrev pub top_node : List Held → Node
 top_node [] = True
@@ -49,7 +54,7 @@ top_node (held ∷ stack) = held.node
 abbrev pub OwnUnits : {S : Type 0} → TableState S → List Entry → List Held → Type 0
 OwnUnits table kept stack = (held : Held) → Contains stack held → (id : ℕ) → held.unit ≡ Clause id → IsAccounted table kept id → ⊥
 
--- The table is sound, the kept conjunctions fit it, and the clauses of the formula, none of them empty, are live under
+-- The table is sound, the entries of the caches fit it, and the clauses of the formula, none of them empty, are live under
 -- 1, 2, ..
 pub record IsReady {S : Type 0} (formula : Formula) (table : TableState S) (kept : List Entry) : Type 0 where
   pub sound : IsSound table

@@ -1,4 +1,4 @@
-pub mod Moves
+pub mod Caches
 pub mod Clauses
 pub mod Proofs
 pub mod Recovered

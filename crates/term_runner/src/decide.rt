@@ -1,22 +1,21 @@
 // From the moves of a plan to what was found.
 ghost use Rattle.std.specs.Prelude.{◌≡◌, ◌⊎◌, ◌≤◌, ℕ, [], Ok, Err, None, Some, IsTrue, IsFalse, IfOk, MatchOption, reverse};
-ghost use Rattle.std.specs.List.{list_all, list_any};
+ghost use Rattle.std.specs.List.{list_all};
 ghost use Rattle.std.specs.FinMap as map;
 ghost use Rattle.lrat_rules.specs.State.{clause_at};
 ghost use Rattle.node_table.specs.declared.error.TableError.TheVariants.{NodeLimit, IdLimit};
 ghost use Rattle.node_table.specs.Progress.{Leaves, error_of};
 ghost use Rattle.schedule_plan.specs.Plan.{IsAdmissible};
 ghost use Rattle.term_runner.specs.Clauses.{is_tautology};
-ghost use Rattle.term_runner.specs.Moves.{quantifies};
 ghost use Rattle.term_runner.specs.Recovered.{IsRecovered};
 ghost use Rattle.term_runner.specs.Needs.{RunsShort};
 ghost use Rattle.term_runner.specs.Held.{IsReady, top_node};
 
+use crate::caches::Caches;
 use crate::held::Held;
 use crate::moves::take_move;
 use crate::open::are_tautologies;
-use apply_and::AndCache;
-use clause_terms::{Model, recover};
+use clause_terms::{Model, Trail, recover};
 use cnf_base::Cnf;
 use host_io::Sink;
 use node_table::{Node, Table, TableError, steps_law};
@@ -33,7 +32,6 @@ pub fn decide<S: Sink + Drop>(
     capacity: u32,
 ) -> Result<Option<Model>, TableError>
     requires plan { IsAdmissible formula.now plan.now }
-    requires joins { IsFalse (list_any quantifies plan.now) }
     requires capacity { 1 ≤ capacity }
     requires ready { IsReady formula.now table.old [] }
     requires empty { table.old.graph.nodes ≡ map.empty }
@@ -49,8 +47,9 @@ pub fn decide<S: Sink + Drop>(
 {
     steps_law::<S>();
     formula.formula_law();
+    table.table_law();
     if are_tautologies(formula) {
-        let model = recover(alloc, table, Node::True)?;
+        let model = recover(alloc, table, Node::True, &Trail::new(alloc))?;
         return Ok(Some(model));
     }
     run_moves(alloc, table, formula, plan, capacity)
@@ -65,7 +64,6 @@ fn run_moves<S: Sink + Drop>(
     capacity: u32,
 ) -> Result<Option<Model>, TableError>
     requires plan { IsAdmissible formula.now plan.now }
-    requires joins { IsFalse (list_any quantifies plan.now) }
     requires capacity { 1 ≤ capacity }
     requires ready { IsReady formula.now table.old [] }
     requires empty { table.old.graph.nodes ≡ map.empty }
@@ -77,17 +75,27 @@ fn run_moves<S: Sink + Drop>(
     ensures beside { S.beside table.new.book.sink ≡ S.beside table.old.book.sink }
 {
     steps_law::<S>();
-    let mut cache = AndCache::new(alloc, capacity)?;
+    formula.formula_law();
+    let mut caches = Caches::new(alloc, capacity)?;
     let mut stack: Vec<Held> = Vec::new(alloc);
+    let mut trail = Trail::new(alloc);
     'moves: for i in 0..plan.len() {
         let Some(step) = plan.get(i) else {
             unreachable!();
         };
-        if take_move(alloc, table, &mut cache, &mut stack, formula, step)? {
+        if take_move(
+            alloc,
+            table,
+            &mut caches,
+            &mut stack,
+            &mut trail,
+            formula,
+            step,
+        )? {
             return Ok(None);
         }
     }
-    let model = recover(alloc, table, top(stack.as_slice()))?;
+    let model = recover(alloc, table, top(stack.as_slice()), &trail)?;
     Ok(Some(model))
 }
 

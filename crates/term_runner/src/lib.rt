@@ -1,22 +1,22 @@
-//! Runs a plan over a formula: pushes its clauses as terms, conjoins them, and ends with a refutation on the proof, with
-//! an assignment that satisfies the formula, or at a limit. It stands on `clause_terms` for the clauses' terms and for
-//! the assignment, and on `apply_and` for conjunctions.
+//! Runs a plan over a formula: pushes its clauses as terms, conjoins them, quantifies variables from them, and ends with a
+//! refutation on the proof, with an assignment that satisfies the formula, or at a limit. It stands on `clause_terms` for the
+//! clauses' terms and for the assignment, and on `apply_and`, `quantify` and `imply` for the operations.
 #![tactic(auto)]
 
+mod caches;
 mod decide;
 mod error;
 mod finish;
 mod held;
-mod law;
 mod moves;
 mod open;
 mod outcome;
+mod quantification;
 mod run;
 mod unit;
 
-pub use clause_terms::{Model, push_clause, recover};
+pub use clause_terms::{Model, Trail, push_clause, recover};
 pub use error::RunError;
-pub use law::conjoining_law;
 pub use outcome::{Outcome, Run};
 pub use run::{run_plan, run_plan_into};
 pub use schedule_plan::Limits;

@@ -1,29 +1,28 @@
 // One move of a plan. (Bryant, Heule: Generating Extended Resolution Proofs with a BDD-Based SAT Solver, 2021,
 // section 5.)
-ghost use Rattle.std.specs.Prelude.{◌≡◌, ◌≢◌, ◌↔◌, ◌≤◌, ◌<◌, ◌⊎◌, ◌+◌, ◌++◌, ℕ, List, [], ◌∷◌, Ok, Err, Some, IsTrue, IfOk, IfErr, false, length, reverse};
+ghost use Rattle.std.specs.Prelude.{◌≡◌, ◌↔◌, ◌≤◌, ◌⊎◌, ◌+◌, ℕ, List, [], ◌∷◌, Ok, Err, Some, IsTrue, IfOk, false, length, reverse};
 ghost use Rattle.lrat_rules.specs.State.{clause_at};
-ghost use Rattle.node_table.specs.declared.node.Node.TheVariants.{False};
-ghost use Rattle.node_table.specs.declared.error.TableError.TheVariants.{NodeLimit, OutOfMemory};
+ghost use Rattle.node_table.specs.declared.error.TableError.TheVariants.{NodeLimit};
 ghost use Rattle.node_table.specs.Diagram.{levels};
 ghost use Rattle.node_table.specs.Table.{IsSound, UnlessTorn};
 ghost use Rattle.node_table.specs.Made.{LacksPart, MakesOnly};
 ghost use Rattle.node_table.specs.Progress.{Leaves, Steps, error_of};
 ghost use Rattle.cnf_base.specs.Formula.{Formula};
+ghost use Rattle.operations.specs.Budget.{most_additions};
 ghost use Rattle.operations.specs.Entries.{Entry, Fits};
-ghost use Rattle.apply_and.specs.Conjunction.{most_additions};
-ghost use Rattle.apply_and.specs.Cache.{entries};
 ghost use Rattle.schedule_plan.specs.Plan.{Stage, Term as TermValue, after_move, both, input};
-ghost use Rattle.term_runner.specs.Moves.{quantifies};
+ghost use Rattle.term_runner.specs.Caches.{all_entries};
 ghost use Rattle.term_runner.specs.Needs.{KeepsOrMakes, term_function, top_function};
-ghost use Rattle.term_runner.specs.Held.{AreHeld, IsReady, OwnUnits};
+ghost use Rattle.term_runner.specs.Held.{AreHeld, IsAt, IsReady, OwnUnits};
 
-use crate::held::Held;
+use crate::caches::Caches;
+use crate::held::{Held, put};
+use crate::quantification::quantify_out;
 use crate::unit::unit_of;
-use apply_and::{AndCache, and};
-use clause_terms::push_clause;
+use clause_terms::{Trail, push_clause};
 use cnf_base::{Cnf, Id};
 use host_io::Sink;
-use node_table::{Just, Node, Table, TableError, growth_law, steps_law};
+use node_table::{Table, TableError, growth_law, steps_law};
 use operations::entry_law;
 use schedule_plan::Move;
 use std::alloc::Global;
@@ -33,32 +32,32 @@ use std::alloc::Global;
 pub fn take_move<S: Sink + Drop>(
     alloc: Global,
     table: &mut Table<S>,
-    cache: &mut AndCache,
+    caches: &mut Caches,
     stack: &mut Vec<Held>,
+    trail: &mut Trail,
     formula: &Cnf,
     step: Move,
 ) -> Result<bool, TableError>
-    requires ready { IsReady formula.now table.old (entries cache.old) }
-    requires possible { (stage next : Stage) × AreHeld formula.now table.old.graph table.old.book.state.live (reverse stack.old.items) stage.stack × (after_move formula.now stage step ≡ Some next) }
-    requires joins { quantifies step ≡ false }
+    requires ready { IsReady formula.now table.old (all_entries caches.old) }
+    requires possible { (stage next : Stage) × IsAt formula.now table.old.graph table.old.book.state.live stack.old.items trail.old stage × (after_move formula.now stage step ≡ Some next) }
     requires settled { table.old.retired ≡ [] }
-    requires own { OwnUnits table.old (entries cache.old) (reverse stack.old.items) }
-    ensures held { (stage next : Stage) → AreHeld formula.now table.old.graph table.old.book.state.live (reverse stack.old.items) stage.stack → after_move formula.now stage step ≡ Some next
-        → IfOk result (λ refuted. refuted ≡ false → AreHeld formula.now table.new.graph table.new.book.state.live (reverse stack.new.items) next.stack) }
+    requires own { OwnUnits table.old (all_entries caches.old) (reverse stack.old.items) }
+    ensures held { (stage next : Stage) → IsAt formula.now table.old.graph table.old.book.state.live stack.old.items trail.old stage → after_move formula.now stage step ≡ Some next
+        → IfOk result (λ refuted. refuted ≡ false → IsAt formula.now table.new.graph table.new.book.state.live stack.new.items trail.new next) }
     ensures refuted { IfOk result (λ refuted. IsTrue refuted → (id : ℕ) × (clause_at table.new.book.state.live id ≡ Some [])) }
-    ensures ready { UnlessTorn result (IsReady formula.now table.new (entries cache.new)) }
+    ensures ready { UnlessTorn result (IsReady formula.now table.new (all_entries caches.new)) }
     ensures settled { (result ≡ Ok false) ⊎ (result ≡ Err NodeLimit) → table.new.retired ≡ [] }
-    ensures own { IfOk result (λ refuted. refuted ≡ false → OwnUnits table.new (entries cache.new) (reverse stack.new.items)) }
+    ensures own { IfOk result (λ refuted. refuted ≡ false → OwnUnits table.new (all_entries caches.new) (reverse stack.new.items)) }
     ensures leaves { Leaves S.tells (S.channel table.old.book.sink) (S.channel table.new.book.sink) table.old table.new (error_of result) }
-    ensures made { (stage next : Stage) → AreHeld formula.now table.old.graph table.old.book.state.live (reverse stack.old.items) stage.stack → after_move formula.now stage step ≡ Some next
+    ensures made { (stage next : Stage) → IsAt formula.now table.old.graph table.old.book.state.live stack.old.items trail.old stage → after_move formula.now stage step ≡ Some next
         → KeepsOrMakes table.old.graph table.new.graph (top_function formula.now table.old.graph.order next.stack) }
-    ensures lacks { (stage next : Stage) → AreHeld formula.now table.old.graph table.old.book.state.live (reverse stack.old.items) stage.stack → after_move formula.now stage step ≡ Some next
+    ensures lacks { (stage next : Stage) → IsAt formula.now table.old.graph table.old.book.state.live stack.old.items trail.old stage → after_move formula.now stage step ≡ Some next
         → result ≡ Err NodeLimit → LacksPart table.new.graph (top_function formula.now table.old.graph.order next.stack) }
     ensures beside { S.beside table.new.book.sink ≡ S.beside table.old.book.sink }
 {
     entry_law::<S>();
     steps_law::<S>();
-    match carry_out(alloc, table, cache, stack, formula, step) {
+    match carry_out(alloc, table, caches, stack, trail, formula, step) {
         Ok(refuted) if refuted => Ok(refuted),
         Ok(refuted) => {
             table.settle()?;
@@ -82,25 +81,25 @@ fn is_node_limit(error: &TableError) -> bool
 fn carry_out<S: Sink + Drop>(
     alloc: Global,
     table: &mut Table<S>,
-    cache: &mut AndCache,
+    caches: &mut Caches,
     stack: &mut Vec<Held>,
+    trail: &mut Trail,
     formula: &Cnf,
     step: Move,
 ) -> Result<bool, TableError>
-    requires ready { IsReady formula.now table.old (entries cache.old) }
-    requires possible { (stage next : Stage) × AreHeld formula.now table.old.graph table.old.book.state.live (reverse stack.old.items) stage.stack × (after_move formula.now stage step ≡ Some next) }
-    requires joins { quantifies step ≡ false }
+    requires ready { IsReady formula.now table.old (all_entries caches.old) }
+    requires possible { (stage next : Stage) × IsAt formula.now table.old.graph table.old.book.state.live stack.old.items trail.old stage × (after_move formula.now stage step ≡ Some next) }
     requires settled { table.old.retired ≡ [] }
-    requires own { OwnUnits table.old (entries cache.old) (reverse stack.old.items) }
-    ensures held { (stage next : Stage) → AreHeld formula.now table.old.graph table.old.book.state.live (reverse stack.old.items) stage.stack → after_move formula.now stage step ≡ Some next
-        → IfOk result (λ refuted. refuted ≡ false → AreHeld formula.now table.new.graph table.new.book.state.live (reverse stack.new.items) next.stack) }
+    requires own { OwnUnits table.old (all_entries caches.old) (reverse stack.old.items) }
+    ensures held { (stage next : Stage) → IsAt formula.now table.old.graph table.old.book.state.live stack.old.items trail.old stage → after_move formula.now stage step ≡ Some next
+        → IfOk result (λ refuted. refuted ≡ false → IsAt formula.now table.new.graph table.new.book.state.live stack.new.items trail.new next) }
     ensures refuted { IfOk result (λ refuted. IsTrue refuted → (id : ℕ) × (clause_at table.new.book.state.live id ≡ Some [])) }
-    ensures own { IfOk result (λ refuted. refuted ≡ false → OwnUnits table.new (entries cache.new) (reverse stack.new.items)) }
-    ensures ready { UnlessTorn result (IsReady formula.now table.new (entries cache.new)) }
+    ensures own { IfOk result (λ refuted. refuted ≡ false → OwnUnits table.new (all_entries caches.new) (reverse stack.new.items)) }
+    ensures ready { UnlessTorn result (IsReady formula.now table.new (all_entries caches.new)) }
     ensures leaves { Leaves S.tells (S.channel table.old.book.sink) (S.channel table.new.book.sink) table.old table.new (error_of result) }
-    ensures made { (stage next : Stage) → AreHeld formula.now table.old.graph table.old.book.state.live (reverse stack.old.items) stage.stack → after_move formula.now stage step ≡ Some next
+    ensures made { (stage next : Stage) → IsAt formula.now table.old.graph table.old.book.state.live stack.old.items trail.old stage → after_move formula.now stage step ≡ Some next
         → KeepsOrMakes table.old.graph table.new.graph (top_function formula.now table.old.graph.order next.stack) }
-    ensures lacks { (stage next : Stage) → AreHeld formula.now table.old.graph table.old.book.state.live (reverse stack.old.items) stage.stack → after_move formula.now stage step ≡ Some next
+    ensures lacks { (stage next : Stage) → IsAt formula.now table.old.graph table.old.book.state.live stack.old.items trail.old stage → after_move formula.now stage step ≡ Some next
         → result ≡ Err NodeLimit → LacksPart table.new.graph (top_function formula.now table.old.graph.order next.stack) }
     ensures beside { S.beside table.new.book.sink ≡ S.beside table.old.book.sink }
 {
@@ -108,8 +107,8 @@ fn carry_out<S: Sink + Drop>(
     growth_law();
     match step {
         Move::Push(number) => push(alloc, table, stack, formula, number),
-        Move::And => conjoin(table, cache, stack),
-        Move::Exists(_) => unreachable!(),
+        Move::And => conjoin(table, caches, stack),
+        Move::Exists(variable) => quantify_out(table, caches, stack, trail, variable),
     }
 }
 
@@ -145,19 +144,19 @@ fn push<S: Sink + Drop>(
 // Conjoins the two top terms.
 fn conjoin<S: Sink + Drop>(
     table: &mut Table<S>,
-    cache: &mut AndCache,
+    caches: &mut Caches,
     stack: &mut Vec<Held>,
 ) -> Result<bool, TableError>
     requires sound { IsSound table.old }
-    requires fits { Fits table.old (entries cache.old) }
-    requires own { OwnUnits table.old (entries cache.old) (reverse stack.old.items) }
+    requires fits { Fits table.old (all_entries caches.old) }
+    requires own { OwnUnits table.old (all_entries caches.old) (reverse stack.old.items) }
     requires two { (formula : Formula) × (one other : TermValue) × (terms : List TermValue) × AreHeld formula table.old.graph table.old.book.state.live (reverse stack.old.items) (other ∷ one ∷ terms) }
     ensures held { (formula : Formula) (one other : TermValue) (terms : List TermValue) → AreHeld formula table.old.graph table.old.book.state.live (reverse stack.old.items) (other ∷ one ∷ terms)
         → IfOk result (λ refuted. refuted ≡ false → AreHeld formula table.new.graph table.new.book.state.live (reverse stack.new.items) (both one other ∷ terms)) }
     ensures refuted { IfOk result (λ refuted. IsTrue refuted → (id : ℕ) × (clause_at table.new.book.state.live id ≡ Some [])) }
-    ensures own { IfOk result (λ refuted. refuted ≡ false → OwnUnits table.new (entries cache.new) (reverse stack.new.items)) }
+    ensures own { IfOk result (λ refuted. refuted ≡ false → OwnUnits table.new (all_entries caches.new) (reverse stack.new.items)) }
     ensures steps { Steps S.tells (S.channel table.old.book.sink) (S.channel table.new.book.sink) table.old table.new (most_additions (levels table.old.graph) + 1) (error_of result) }
-    ensures fits { UnlessTorn result (Fits table.new (entries cache.new)) }
+    ensures fits { UnlessTorn result (Fits table.new (all_entries caches.new)) }
     ensures made { (formula : Formula) (one other : TermValue) (terms : List TermValue) → AreHeld formula table.old.graph table.old.book.state.live (reverse stack.old.items) (other ∷ one ∷ terms)
         → MakesOnly table.old.graph table.new.graph (term_function formula table.old.graph.order (both one other)) }
     ensures lacks { (formula : Formula) (one other : TermValue) (terms : List TermValue) → AreHeld formula table.old.graph table.old.book.state.live (reverse stack.old.items) (other ∷ one ∷ terms)
@@ -173,22 +172,7 @@ fn conjoin<S: Sink + Drop>(
     let Some(u) = stack.pop() else {
         unreachable!();
     };
-    let found = and(table, cache, u.node, v.node)?;
+    let found = caches.and(table, u.node, v.node)?;
     let unit = unit_of(table, &u, &v, found.0, &found.1)?;
     put(stack, found.0, unit)
-}
-
-// Stacks a term, unless its node is False: then its unit is the empty clause.
-fn put(stack: &mut Vec<Held>, node: Node, unit: Just) -> Result<bool, TableError>
-    ensures refuted { IfOk result (λ refuted. IsTrue refuted → node ≡ False) }
-    ensures stacked { IfOk result (λ refuted. refuted ≡ false → (node ≢ False) × (stack.new.items ≡ stack.old.items ++ record { node = node; unit = unit } ∷ [])) }
-    ensures failed { IfErr result (λ e. e ≡ OutOfMemory) }
-{
-    if matches!(node, Node::False) {
-        return Ok(true);
-    }
-    match stack.push(Held { node, unit }) {
-        Ok(()) => Ok(false),
-        Err(_) => Err(TableError::OutOfMemory),
-    }
 }

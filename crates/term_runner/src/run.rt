@@ -1,8 +1,6 @@
 // A run of a plan, from the formula to the flushed proof.
-ghost use Rattle.std.specs.Prelude.{◌≡◌, [], length, IsTrue, IsFalse};
-ghost use Rattle.std.specs.List.{list_any};
+ghost use Rattle.std.specs.Prelude.{◌≡◌, [], length, IsTrue};
 ghost use Rattle.schedule_plan.specs.Plan.{IsAdmissible};
-ghost use Rattle.term_runner.specs.Moves.{quantifies};
 ghost use Rattle.schedule_plan.specs.Limits.{AreLimits};
 ghost use Rattle.term_runner.specs.Ends.{Ends};
 
@@ -31,7 +29,6 @@ pub fn run_plan<S: Sink + Drop>(
 ) -> (S, Result<Run, RunError>)
     requires order { length order.now ≡ formula.now.vars }
     requires plan { IsAdmissible formula.now plan.now }
-    requires joins { IsFalse (list_any quantifies plan.now) }
     requires limits { AreLimits limits }
     requires fresh { IsTrue S.tells → (S.channel sink).written ≡ [] }
     ensures ends { Ends S.tells (S.channel sink) (S.channel result.0) formula.now order.now plan.now limits result.1 }
@@ -53,7 +50,6 @@ pub fn run_plan_into<S: Sink + Drop>(
 ) -> Result<Run, RunError>
     requires order { length order.now ≡ formula.now.vars }
     requires plan { IsAdmissible formula.now plan.now }
-    requires joins { IsFalse (list_any quantifies plan.now) }
     requires limits { AreLimits limits }
     requires fresh { IsTrue S.tells → (S.channel sink.old).written ≡ [] }
     ensures ends { Ends S.tells (S.channel sink.old) (S.channel sink.new) formula.now order.now plan.now limits result }

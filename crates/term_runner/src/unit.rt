@@ -1,5 +1,5 @@
-// The unit of a conjunction of two terms: an operand's own where the conjunction is that operand, else a clause that
-// follows from both units and the conjunction's clause.
+// The unit of a conjunction of two terms, and that of a node that a term implies: an operand's own where it is that
+// operand, else a clause that follows from the operands' units and the clause of the conjunction or the implication.
 ghost use Rattle.std.specs.Prelude.{◌≡◌, ◌≢◌, ◌<◌, ◌+◌, ◌⊎◌, ◌↔◌, ℤ, List, [], ◌∷◌, Err, Some, IsTrue, IfOk, MatchOption};
 ghost use Rattle.node_table.specs.declared.node.Node.TheVariants.{False, True};
 ghost use Rattle.node_table.specs.declared.node.Just.TheVariants.{Trivial, Clause};
@@ -11,7 +11,7 @@ ghost use Rattle.node_table.specs.Diagram.{is_node};
 ghost use Rattle.node_table.specs.Just.{IsJustified};
 ghost use Rattle.node_table.specs.Table.{IsSound};
 ghost use Rattle.node_table.specs.Progress.{Steps, error_of};
-ghost use Rattle.operations.specs.Results.{Conjoined};
+ghost use Rattle.operations.specs.Results.{Conjoined, Implied};
 ghost use Rattle.operations.specs.Entries.{IsNewJust};
 
 use crate::held::Held;
@@ -68,6 +68,49 @@ pub fn unit_of<S: Sink + Drop>(
         unreachable!();
     };
     add_unit(table, w, &[first, second, both])
+}
+
+/// The unit of the node w, which the term's node implies.
+pub fn unit_of_implied<S: Sink + Drop>(
+    table: &mut Table<S>,
+    u: &Held,
+    w: Node,
+    just: &Just,
+) -> Result<Just, TableError>
+    requires sound { IsSound table.old }
+    requires first { IsTrue (is_node table.old.graph u.now.node) }
+    requires second { IsTrue (is_node table.old.graph w) }
+    requires first_open { u.now.node ≢ False }
+    requires first_unit { IsJustified table.old.book.state.live (atom_of table.old.graph u.now.node ∷ []) u.now.unit }
+    requires implied { Implied table.old.graph table.old.book.state.live u.now.node w just.now }
+    ensures unit { IfOk result (λ unit. IsJustified table.new.book.state.live (atom_of table.old.graph w ∷ []) unit) }
+    ensures given { IfOk result (λ unit. (unit ≡ u.now.unit) ⊎ IsNewJust table.old.book.state table.new.book.state unit) }
+    // Its own unit, or none where w is True, without a clause more; or one clause.
+    ensures own { (w ≡ u.now.node) ⊎ (w ≡ True) → table.new ≡ table.old }
+    ensures number { w ≢ u.now.node → w ≢ True → IfOk result (λ unit. (unit ≡ Clause (table.old.book.state.top + 1)) × (table.new.book.state.top ≡ table.old.book.state.top + 1)) }
+    ensures nodes { table.new.graph ≡ table.old.graph }
+    ensures steps { Steps S.tells (S.channel table.old.book.sink) (S.channel table.new.book.sink) table.old table.new 1 (error_of result) }
+    ensures retired { table.new.retired ≡ table.old.retired }
+    ensures no_node_limit { result ≢ Err NodeLimit }
+    ensures beside { S.beside table.new.book.sink ≡ S.beside table.old.book.sink }
+{
+    steps_law::<S>();
+    canonical_law();
+    clause_law();
+    following_unit_law();
+    if is_same(w, u.node) {
+        return Ok(u.unit);
+    }
+    if is_same(w, Node::True) {
+        return Ok(Just::Trivial);
+    }
+    let Some(first) = clause_id(&u.unit) else {
+        unreachable!();
+    };
+    let Some(implication) = clause_id(just) else {
+        unreachable!();
+    };
+    add_unit(table, w, &[first, implication])
 }
 
 fn is_same(one: Node, other: Node) -> bool

@@ -14,10 +14,11 @@ use Rattle.term_runner.specs.Held.{IsReady, top_node}
 use Rattle.term_runner.specs.Recovered.{IsRecovered}
 use Rattle.node_table.specs.HandedOn.{no_error, came_from, no_answer}
 use Rattle.term_runner.proofs.Stacks.{top_stands, top_value}
-use Rattle.term_runner.proofs.Between.{at_first, at_last, joins_at, next_at, some_at}
-use Rattle.apply_and.specs.Cache.{entries}
+use Rattle.term_runner.proofs.Between.{at_first, at_last, next_at, some_at}
+use Rattle.term_runner.specs.Caches.{all_entries}
 use Rattle.term_runner.proofs.OwnUnits.{own_none}
 use Rattle.term_runner.proofs.Least.{recovered}
+use Rattle.term_runner.proofs.Trails.{are_variables, kept_there}
 use Rattle.term_runner.proofs.Leaving.{error_handed, leaves_after, memory_left}
 use Rattle.term_runner.proofs.Planned.{moved_on, more_made, none_made, runs_short}
 use Rattle.term_runner.proofs.decide.run_moves.Goals as goal
@@ -30,10 +31,10 @@ moves-init g c =
     let formula = c.args.formula.now in
     let table = c.args.table.now in
     record {
-      between = at_first formula c.args.plan.now table.graph table.book.state.live c.new-stack.result.items (search rules);
-      ready = subst (λ (kept : List Entry). IsReady formula table kept) (sym c.in_ok-cache.ensures.0) c.requires.ready;
+      between = at_first formula c.args.plan.now table.graph table.book.state.live c.new-stack.result.items c.new-trail.result (search rules) (search rules);
+      ready = subst (λ (kept : List Entry). IsReady formula table kept) (sym c.in_ok-caches.ensures) c.requires.ready;
       settled = c.requires.settled;
-      own = own_none table (entries c.in_ok-cache.cache) c.new-stack.result.items (search rules);
+      own = own_none table (all_entries c.in_ok-caches.caches) c.new-stack.result.items (search rules);
       continues = (c.steps_law.ensures.none table c.requires.ready.sound).leaves;
       made = none_made formula table.graph.order c.args.plan.now table.graph c.requires.empty;
       beside = refl;
@@ -52,17 +53,14 @@ pub take_move-requires-clause-possible : goal.take_move-requires-clause-possible
 take_move-requires-clause-possible g c =
     let between = c.moves.invariant.between in
     let at : slice_get c.args.plan.now c.moves.i ≡ Some c.in-Some.step = sym c.get.ensures ∙ c.in-Some.is in
-    let next = next_at c.args.formula.now c.args.plan.now c.moves.i c.moves.table.graph c.moves.table.book.state.live c.moves.stack.items c.requires.plan.last c.in-Some.step c.requires.plan.possible at between in
-    (between.stage, next.next, between.held, next.is)
-
-pub take_move-requires-clause-joins : goal.take_move-requires-clause-joins
-take_move-requires-clause-joins g c = joins_at c.args.plan.now c.moves.i c.in-Some.step (sym c.get.ensures ∙ c.in-Some.is) c.requires.joins
+    let next = next_at c.args.formula.now c.args.plan.now c.moves.i c.moves.table.graph c.moves.table.book.state.live c.moves.stack.items c.moves.trail c.requires.plan.last c.in-Some.step c.requires.plan.possible at between in
+    (between.stage, next.next, between.at, next.is)
 
 pub moves-preserved : goal.moves-preserved
 moves-preserved g c =
     let between = c.moves.invariant.between in
     let at : slice_get c.args.plan.now c.moves.i ≡ Some c.in-Some.step = sym c.get.ensures ∙ c.in-Some.is in
-    let next = next_at c.args.formula.now c.args.plan.now c.moves.i c.moves.table.graph c.moves.table.book.state.live c.moves.stack.items c.requires.plan.last c.in-Some.step c.requires.plan.possible at between in
+    let next = next_at c.args.formula.now c.args.plan.now c.moves.i c.moves.table.graph c.moves.table.book.state.live c.moves.stack.items c.moves.trail c.requires.plan.last c.in-Some.step c.requires.plan.possible at between in
     let moved : after_moves c.args.formula.now no_stage (take (suc c.moves.i) c.args.plan.now) ≡ Some next.next = moved_on c.args.formula.now c.args.plan.now c.moves.i c.in-Some.step no_stage between.stage next.next at between.front next.is in
     let shift : suc c.moves.i ≡ c.moves.i + 1 = omega arith in
     let front : after_moves c.args.formula.now no_stage (take (c.moves.i + 1) c.args.plan.now) ≡ Some next.next = subst (λ (n : ℕ). after_moves c.args.formula.now no_stage (take n c.args.plan.now) ≡ Some next.next) shift moved in
@@ -71,7 +69,7 @@ moves-preserved g c =
         stage = next.next;
         front = front;
         rest = next.rest ∙ sym c.requires.plan.possible;
-        held = c.in_ok-take_move.ensures.held between.stage next.next between.held next.is c.if-branch.false;
+        at = c.in_ok-take_move.ensures.held between.stage next.next between.at next.is c.if-branch.false;
       };
       ready = c.in_ok-take_move.ensures.ready no_error;
       settled = c.in_ok-take_move.ensures.settled (inl (ap Ok c.if-branch.false));
@@ -79,34 +77,49 @@ moves-preserved g c =
       continues = c.steps_law.ensures.go_on _ _ _ c.args.table.now c.moves.table c.take_move.new.table c.moves.invariant.continues c.in_ok-take_move.ensures.leaves;
       made = more_made c.args.formula.now c.args.table.now.graph.order c.args.plan.now c.moves.table.graph c.take_move.new.table.graph c.moves.invariant.made (suc c.moves.i) next.next moved
           (subst (λ (order : List ℕ). KeepsOrMakes c.moves.table.graph c.take_move.new.table.graph (top_function c.args.formula.now order next.next.stack)) c.moves.invariant.continues.order
-          (c.in_ok-take_move.ensures.made between.stage next.next between.held next.is));
+          (c.in_ok-take_move.ensures.made between.stage next.next between.at next.is));
       beside = c.in_ok-take_move.ensures.beside ∙ c.moves.invariant.beside;
     }
 
 pub recover-requires-clause-node : goal.recover-requires-clause-node
 recover-requires-clause-node g c =
     let table = c.moves.table in
-    let held = at_last c.args.formula.now c.args.plan.now c.moves.i table.graph table.book.state.live c.moves.stack.items c.requires.plan.last (omega (arith, c.moves-test.false, c.len-i-end.ensures)) c.requires.plan.possible c.moves.invariant.between in
+    let held = at_last c.args.formula.now c.args.plan.now c.moves.i table.graph table.book.state.live c.moves.stack.items c.moves.trail c.requires.plan.last (omega (arith, c.moves-test.false, c.len-i-end.ensures)) c.requires.plan.possible c.moves.invariant.between in
     subst (λ (n : Node). is_node table.graph n ≡ true) (sym (c.top.ensures ∙ (λ k. top_node (reverse (c.as_slice.ensures.value k)))))
-    (top_stands c.args.formula.now table.graph table.book.state.live (reverse c.moves.stack.items) c.requires.plan.last.stack held).0
+    (top_stands c.args.formula.now table.graph table.book.state.live (reverse c.moves.stack.items) c.requires.plan.last.stack held.held).0
 
 pub recover-requires-clause-some : goal.recover-requires-clause-some
 recover-requires-clause-some g c is =
     let table = c.moves.table in
-    let held = at_last c.args.formula.now c.args.plan.now c.moves.i table.graph table.book.state.live c.moves.stack.items c.requires.plan.last (omega (arith, c.moves-test.false, c.len-i-end.ensures)) c.requires.plan.possible c.moves.invariant.between in
-    (top_stands c.args.formula.now table.graph table.book.state.live (reverse c.moves.stack.items) c.requires.plan.last.stack held).1
+    let held = at_last c.args.formula.now c.args.plan.now c.moves.i table.graph table.book.state.live c.moves.stack.items c.moves.trail c.requires.plan.last (omega (arith, c.moves-test.false, c.len-i-end.ensures)) c.requires.plan.possible c.moves.invariant.between in
+    (top_stands c.args.formula.now table.graph table.book.state.live (reverse c.moves.stack.items) c.requires.plan.last.stack held.held).1
     (sym (c.top.ensures ∙ (λ k. top_node (reverse (c.as_slice.ensures.value k)))) ∙ is)
+
+pub recover-requires-clause-nodes : goal.recover-requires-clause-nodes
+recover-requires-clause-nodes g c kept there =
+    let table = c.moves.table in
+    let formula = c.args.formula.now in
+    let held = at_last formula c.args.plan.now c.moves.i table.graph table.book.state.live c.moves.stack.items c.moves.trail c.requires.plan.last (omega (arith, c.moves-test.false, c.len-i-end.ensures)) c.requires.plan.possible c.moves.invariant.between in
+    (kept_there formula table.graph c.moves.trail c.requires.plan.last.trail held.kept (are_variables formula c.args.plan.now no_stage c.requires.plan.last c.requires.plan.possible tt) kept there).stands
+
+pub recover-requires-clause-variables : goal.recover-requires-clause-variables
+recover-requires-clause-variables g c kept there =
+    let table = c.moves.table in
+    let formula = c.args.formula.now in
+    let held = at_last formula c.args.plan.now c.moves.i table.graph table.book.state.live c.moves.stack.items c.moves.trail c.requires.plan.last (omega (arith, c.moves-test.false, c.len-i-end.ensures)) c.requires.plan.possible c.moves.invariant.between in
+    let is = kept_there formula table.graph c.moves.trail c.requires.plan.last.trail held.kept (are_variables formula c.args.plan.now no_stage c.requires.plan.last c.requires.plan.possible tt) kept there in
+    (is.above, omega (arith, is.within, c.moves.invariant.ready.vars))
 
 pub returns-clause-found : goal.returns-clause-found
 returns-clause-found g c =
     let table = c.moves.table in
     let formula = c.args.formula.now in
-    let held = at_last formula c.args.plan.now c.moves.i table.graph table.book.state.live c.moves.stack.items c.requires.plan.last (omega (arith, c.moves-test.false, c.len-i-end.ensures)) c.requires.plan.possible c.moves.invariant.between in
+    let held = at_last formula c.args.plan.now c.moves.i table.graph table.book.state.live c.moves.stack.items c.moves.trail c.requires.plan.last (omega (arith, c.moves-test.false, c.len-i-end.ensures)) c.requires.plan.possible c.moves.invariant.between in
     subst (λ (order : List ℕ). IsRecovered formula order c.args.plan.now c.in_ok-model.model) c.moves.invariant.continues.order
-    (recovered formula table.graph c.args.plan.now c.requires.plan c.requires.joins c.moves.invariant.ready.vars c.top.result
+    (recovered formula table.graph c.args.plan.now c.requires.plan c.formula_law.ensures.literals c.moves.invariant.ready.vars c.top.result
     (λ a. (λ k. value_of table.graph (by_level table.graph.order a) ((c.top.ensures ∙ (λ m. top_node (reverse (c.as_slice.ensures.value m)))) k))
-    ∙ top_value formula table.graph table.book.state.live (reverse c.moves.stack.items) c.requires.plan.last.stack held c.requires.plan.one_term a)
-    c.in_ok-model.model c.in_ok-model.ensures.one_each c.in_ok-model.ensures.least)
+    ∙ top_value formula table.graph table.book.state.live (reverse c.moves.stack.items) c.requires.plan.last.stack held.held c.requires.plan.one_term a)
+    (reverse c.moves.trail) held.kept c.in_ok-model.model c.in_ok-model.ensures.recovered)
 
 pub returns-clause-leaves : goal.returns-clause-leaves
 returns-clause-leaves g c = c.moves.invariant.continues
@@ -139,14 +152,14 @@ returns-in_err-take_move-clause-short g c is =
     let new = c.take_move.new.table.graph in
     let between = c.moves.invariant.between in
     let at : slice_get plan c.moves.i ≡ Some c.in-Some.step = sym c.get.ensures ∙ c.in-Some.is in
-    let next = next_at formula plan c.moves.i c.moves.table.graph c.moves.table.book.state.live c.moves.stack.items c.requires.plan.last c.in-Some.step c.requires.plan.possible at between in
+    let next = next_at formula plan c.moves.i c.moves.table.graph c.moves.table.book.state.live c.moves.stack.items c.moves.trail c.requires.plan.last c.in-Some.step c.requires.plan.possible at between in
     let cause : c.in_err-take_move.field-0.0 ≡ NodeLimit = came_from _ c.in_err-take_move.field-0.0 NodeLimit c.from_residual-in_err-take_move.ensures.1 is in
     let moved : after_moves formula no_stage (take (suc c.moves.i) plan) ≡ Some next.next = moved_on formula plan c.moves.i c.in-Some.step no_stage between.stage next.next at between.front next.is in
     let same_order = c.moves.invariant.continues.order in
     let made = more_made formula order plan mid new c.moves.invariant.made (suc c.moves.i) next.next moved
-    (subst (λ (o : List ℕ). KeepsOrMakes mid new (top_function formula o next.next.stack)) same_order (c.in_err-take_move.ensures.made between.stage next.next between.held next.is)) in
+    (subst (λ (o : List ℕ). KeepsOrMakes mid new (top_function formula o next.next.stack)) same_order (c.in_err-take_move.ensures.made between.stage next.next between.at next.is)) in
     runs_short formula order plan new made (suc c.moves.i) next.next moved
-    (subst (λ (o : List ℕ). LacksPart new (top_function formula o next.next.stack)) same_order (c.in_err-take_move.ensures.lacks between.stage next.next between.held next.is (ap Err cause)))
+    (subst (λ (o : List ℕ). LacksPart new (top_function formula o next.next.stack)) same_order (c.in_err-take_move.ensures.lacks between.stage next.next between.at next.is (ap Err cause)))
 
 pub returns-in_err-take_move-clause-beside : goal.returns-in_err-take_move-clause-beside
 returns-in_err-take_move-clause-beside g c = c.in_err-take_move.ensures.beside ∙ c.moves.invariant.beside

@@ -1,6 +1,6 @@
 use Rattle.std.proofs.Common.{◌≡◌, [], reverse}
-use Rattle.apply_and.specs.Cache.{entries}
 use Rattle.node_table.specs.Progress.{Continues}
+use Rattle.term_runner.specs.Caches.{all_entries}
 use Rattle.term_runner.specs.Held.{IsReady, OwnUnits}
 use Rattle.term_runner.proofs.Between.{IsBetween}
 use Rattle.term_runner.proofs.Planned.{AreMade}
@@ -8,10 +8,10 @@ use Rattle.term_runner.proofs.decide.run_moves.Given as goal
 
 abbrev pub invariant-moves : goal.invariant-moves
 invariant-moves g l = record {
-  between : IsBetween l.formula l.plan l.i l.table.graph l.table.book.state.live l.stack.items;
-  ready : IsReady l.formula l.table (entries l.cache);
+  between : IsBetween l.formula l.plan l.i l.table.graph l.table.book.state.live l.stack.items l.trail;
+  ready : IsReady l.formula l.table (all_entries l.caches);
   settled : l.table.retired ≡ [];
-  own : OwnUnits l.table (entries l.cache) (reverse l.stack.items);
+  own : OwnUnits l.table (all_entries l.caches) (reverse l.stack.items);
   continues : Continues g.S.Sink.tells (g.S.Sink.channel l.fn.table.book.sink) (g.S.Sink.channel l.table.book.sink) l.fn.table l.table;
   made : AreMade l.formula l.fn.table.graph.order l.plan l.table.graph;
   beside : g.S.Sink.beside l.table.book.sink ≡ g.S.Sink.beside l.fn.table.book.sink;

@@ -1,11 +1,11 @@
-use Rattle.std.proofs.Common.{◌≡◌, ◌≢◌, ◌∙◌, ◌+◌, ◌++◌, ℕ, false, List, [], ◌∷◌, Contains, reverse, None, Some, Result, Err, ap, sym, subst, arith}
-use Rattle.std.specs.Prelude.{IsTrue, min}
+use Rattle.std.proofs.Common.{◌≡◌, ◌≢◌, ◌∙◌, ◌+◌, ◌++◌, ℕ, Bool, false, List, [], ◌∷◌, Contains, reverse, None, Some, Result, Err, ap, sym, subst, arith}
+use Rattle.std.specs.Prelude.{IsTrue}
 use Rattle.lrat_rules.specs.State.{clause_at}
 use Rattle.node_table.specs.declared.node.Node.TheVariants.{False}
-use Rattle.operations.specs.Operands.{levels_from}
-use Rattle.apply_and.specs.Cache.{entries}
-use Rattle.apply_and.specs.Conjunction.{most_additions}
-use Rattle.node_table.specs.Diagram.{Graph, levels, level_of}
+use Rattle.operations.specs.Accounts.{none_whole, whole_result}
+use Rattle.term_runner.specs.Caches.{all_entries}
+use Rattle.operations.specs.Budget.{most_additions}
+use Rattle.node_table.specs.Diagram.{Graph, levels}
 use Rattle.node_table.specs.Made.{LacksPart, MakesOnly}
 use Rattle.schedule_plan.specs.Plan.{both}
 use Rattle.term_runner.specs.Needs.{term_function}
@@ -13,9 +13,9 @@ use Rattle.term_runner.specs.Held.{AreHeld, OwnUnits}
 use Rattle.node_table.specs.declared.error.TableError.TheVariants.{NodeLimit, WriteFault}
 use Rattle.node_table.specs.declared.error.TableError.{TableError}
 use Rattle.node_table.specs.declared.node.Just.{Just}
-use Rattle.node_table.specs.HandedOn.{no_error, came_from, other_cause, no_answer}
+use Rattle.node_table.specs.HandedOn.{came_from, other_cause, no_answer}
 use Rattle.term_runner.proofs.Planned.{both_function, no_limit}
-use Rattle.term_runner.proofs.Leaving.{after_all, steps_handed, went_on, within_most}
+use Rattle.term_runner.proofs.Leaving.{after_all, steps_handed, went_on}
 use Rattle.term_runner.proofs.Stacks.{held_kept, held_one_kept, pushed, popped, none_left, false_refutes, if_ok, conjunction_kept}
 use Rattle.term_runner.proofs.OwnUnits.{own_behind, own_popped, own_pushed, own_same, unit_own}
 use Rattle.term_runner.proofs.moves.conjoin.Goals as goal
@@ -101,17 +101,17 @@ pub returns-clause-own : goal.returns-clause-own
 returns-clause-own g c =
     let mid = c.and.new.table in
     let new = c.unit_of.new.table in
-    let kept = entries c.and.new.cache in
+    let kept = all_entries c.and.new.self in
     let w = c.in_ok-found.found.0 in
     let done = c.in_ok-found.ensures in
-    let own = own_behind c.args.table.now mid (entries c.args.cache.now) kept c.args.stack.now.items c.requires.two.0 (c.requires.two.2 ∷ c.requires.two.1 ∷ c.requires.two.3) c.requires.sound c.requires.two.4 c.requires.own done.retires (done.named no_error) in
+    let own = own_behind c.args.table.now mid (all_entries c.args.caches.now) kept c.args.stack.now.items c.requires.two.0 (c.requires.two.2 ∷ c.requires.two.1 ∷ c.requires.two.3) c.requires.sound c.requires.two.4 c.requires.own done.keeps.retires (done.keeps.named none_whole) in
     let first = own_popped mid kept c.args.stack.now.items c.pop.new.self.items c.in-Some.v c.in-Some.ensures.items own in
     let second = own_popped mid kept c.pop.new.self.items c.pop-2.new.self.items c.in-Some-pop.u c.in-Some-pop.ensures.items first.1 in
     if_ok c.put.result (λ refuted. refuted ≡ false → (w ≢ False) × (c.put.new.stack.items ≡ c.pop-2.new.self.items ++ record { node = w; unit = c.in_ok-unit.unit } ∷ []))
     (λ refuted. refuted ≡ false → OwnUnits new kept (reverse c.put.new.stack.items))
     (λ refuted stacked is. own_pushed new kept c.pop-2.new.self.items c.put.new.stack.items (record { node = w; unit = c.in_ok-unit.unit }) (stacked is).1
     (own_same mid new kept (reverse c.pop-2.new.self.items) c.in_ok-unit.ensures.retired second.1)
-    (unit_own mid new kept c.in-Some-pop.u.unit c.in-Some.v.unit c.in_ok-unit.unit done.steps.leaves.sound (done.fits no_error) c.in_ok-unit.ensures.retired second.0 first.0 c.in_ok-unit.ensures.given))
+    (unit_own mid new kept c.in-Some-pop.u.unit c.in-Some.v.unit c.in_ok-unit.unit done.steps.leaves.sound (done.keeps.fits none_whole) c.in_ok-unit.ensures.retired second.0 first.0 c.in_ok-unit.ensures.given))
     c.put.ensures.stacked
 
 pub returns-in_err-found-clause-own : goal.returns-in_err-found-clause-own
@@ -128,17 +128,15 @@ returns-clause-steps g c =
     let first = g.S.Sink.channel old.book.sink in
     let second = g.S.Sink.channel mid.book.sink in
     let third = g.S.Sink.channel new.book.sink in
-    let few = most_additions (levels_from old.graph c.in-Some-pop.u.node c.in-Some.v.node) in
-    let most = within_most (levels old.graph) (min (level_of old.graph c.in-Some-pop.u.node) (level_of old.graph c.in-Some.v.node)) in
     after_all g.S.Sink.tells first third old new (most_additions (levels old.graph) + 1) c.put.result c.put.ensures.failed
-    (c.steps_law.ensures.further first second third old mid new (most_additions (levels old.graph)) 1 None (c.steps_law.ensures.at_most first second old mid few (most_additions (levels old.graph)) None most c.in_ok-found.ensures.steps) c.in_ok-unit.ensures.steps)
+    (c.steps_law.ensures.further first second third old mid new (most_additions (levels old.graph)) 1 None c.in_ok-found.ensures.steps c.in_ok-unit.ensures.steps)
 
 pub returns-clause-fits : goal.returns-clause-fits
 returns-clause-fits g c whole =
     let mid = c.and.new.table in
     let new = c.unit_of.new.table in
-    let kept = c.in_ok-found.ensures.fits no_error in
-    c.entry_law.ensures.kept mid new (entries c.and.new.cache) c.in_ok-found.ensures.steps.leaves.sound c.in_ok-unit.ensures.steps.leaves.sound c.in_ok-unit.ensures.steps.extends kept
+    let kept = c.in_ok-found.ensures.keeps.fits none_whole in
+    c.entry_law.ensures.kept mid new (all_entries c.and.new.self) c.in_ok-found.ensures.steps.leaves.sound c.in_ok-unit.ensures.steps.leaves.sound c.in_ok-unit.ensures.steps.extends kept
     (λ id named gone. kept.unretired id named (subst (λ (list : List ℕ). Contains list id) c.in_ok-unit.ensures.retired gone))
 
 pub returns-clause-made : goal.returns-clause-made
@@ -167,13 +165,11 @@ pub returns-in_err-found-clause-steps : goal.returns-in_err-found-clause-steps
 returns-in_err-found-clause-steps g c =
     let old = c.args.table.now in
     let mid = c.and.new.table in
-    let few = most_additions (levels_from old.graph c.in-Some-pop.u.node c.in-Some.v.node) in
-    let most = within_most (levels old.graph) (min (level_of old.graph c.in-Some-pop.u.node) (level_of old.graph c.in-Some.v.node)) in
     steps_handed _ _ _ old mid _ _ c.in_err-found.field-0.0 c.from_residual.ensures.1
-    (c.steps_law.ensures.at_most _ _ old mid few (most_additions (levels old.graph) + 1) _ (omega (arith, most)) c.in_err-found.ensures.steps)
+    (c.steps_law.ensures.at_most _ _ old mid (most_additions (levels old.graph)) (most_additions (levels old.graph) + 1) _ (omega arith) c.in_err-found.ensures.steps)
 
 pub returns-in_err-found-clause-fits : goal.returns-in_err-found-clause-fits
-returns-in_err-found-clause-fits g c whole = c.in_err-found.ensures.fits (other_cause _ c.in_err-found.field-0.0 WriteFault c.from_residual.ensures.1 whole)
+returns-in_err-found-clause-fits g c whole = c.in_err-found.ensures.keeps.fits (whole_result {T = Bool} (Err c.in_err-found.field-0.0) (other_cause _ c.in_err-found.field-0.0 WriteFault c.from_residual.ensures.1 whole))
 
 pub returns-in_err-found-clause-made : goal.returns-in_err-found-clause-made
 returns-in_err-found-clause-made g c formula one other terms are =
@@ -211,20 +207,18 @@ returns-in_err-unit-clause-steps g c =
     let first = g.S.Sink.channel old.book.sink in
     let second = g.S.Sink.channel mid.book.sink in
     let third = g.S.Sink.channel new.book.sink in
-    let few = most_additions (levels_from old.graph c.in-Some-pop.u.node c.in-Some.v.node) in
-    let most = within_most (levels old.graph) (min (level_of old.graph c.in-Some-pop.u.node) (level_of old.graph c.in-Some.v.node)) in
     steps_handed g.S.Sink.tells first third old new (most_additions (levels old.graph) + 1) _ c.in_err-unit.field-0.0 c.from_residual-in_err-unit.ensures.1
-    (c.steps_law.ensures.further first second third old mid new (most_additions (levels old.graph)) 1 (Some c.in_err-unit.field-0.0) (c.steps_law.ensures.at_most first second old mid few (most_additions (levels old.graph)) None most c.in_ok-found.ensures.steps) c.in_err-unit.ensures.steps)
+    (c.steps_law.ensures.further first second third old mid new (most_additions (levels old.graph)) 1 (Some c.in_err-unit.field-0.0) c.in_ok-found.ensures.steps c.in_err-unit.ensures.steps)
 
 pub returns-in_err-unit-clause-fits : goal.returns-in_err-unit-clause-fits
 returns-in_err-unit-clause-fits g c whole =
     let mid = c.and.new.table in
     let new = c.unit_of.new.table in
-    let kept = c.in_ok-found.ensures.fits no_error in
+    let kept = c.in_ok-found.ensures.keeps.fits none_whole in
     let came = c.in_err-unit.field-0.0 in
     let torn : ◌≡◌ {A = Result Just TableError} (Err came) (Err WriteFault) → ⊥ = other_cause _ came WriteFault c.from_residual-in_err-unit.ensures.1 whole in
     let sound = (went_on _ _ _ mid new (Err came) c.in_err-unit.ensures.steps.leaves torn).sound in
-    c.entry_law.ensures.kept mid new (entries c.and.new.cache) c.in_ok-found.ensures.steps.leaves.sound sound c.in_err-unit.ensures.steps.extends kept
+    c.entry_law.ensures.kept mid new (all_entries c.and.new.self) c.in_ok-found.ensures.steps.leaves.sound sound c.in_err-unit.ensures.steps.extends kept
     (λ id named gone. kept.unretired id named (subst (λ (list : List ℕ). Contains list id) c.in_err-unit.ensures.retired gone))
 
 pub returns-in_err-unit-clause-made : goal.returns-in_err-unit-clause-made

@@ -7,7 +7,8 @@ use Rattle.node_table.specs.HandedOn.{no_error}
 use Rattle.node_table.specs.Made.{LacksPart}
 use Rattle.node_table.specs.Progress.{Leaves}
 use Rattle.node_table.specs.Table.{TableState, live_nodes}
-use Rattle.apply_and.specs.Cache.{entries}
+use Rattle.term_runner.specs.Caches.{all_entries}
+use Rattle.term_runner.specs.Held.{AreKept}
 use Rattle.term_runner.specs.Needs.{KeepsOrMakes, top_function}
 use Rattle.term_runner.proofs.Leaving.{error_handed, leaves_after, limit_left}
 use Rattle.term_runner.proofs.OwnUnits.{held_settled, own_settled, ready_settled}
@@ -45,8 +46,12 @@ returns-in_ok-settle-in-Ok-2-clause-held g c stage next are is open_yet =
     let mid = c.carry_out.new.table in
     let new = c.settle.new.self in
     let none = ap (λ (t : TableState g.row.S.Denot). t.retired) c.in_ok-settle-in-Ok-2.ensures.settled in
-    held_settled c.args.formula.now mid new (entries c.carry_out.new.cache) c.settle.ensures.nodes none c.settle.ensures.stay (reverse c.carry_out.new.stack.items) next.stack
-    (c.in-Ok.ensures.own open_yet) (c.in-Ok.ensures.held stage next are is open_yet)
+    let at = c.in-Ok.ensures.held stage next are is open_yet in
+    record {
+      held = held_settled c.args.formula.now mid new (all_entries c.carry_out.new.caches) c.settle.ensures.nodes none c.settle.ensures.stay (reverse c.carry_out.new.stack.items) next.stack
+          (c.in-Ok.ensures.own open_yet) at.held;
+      kept = subst (λ (graph : Graph). AreKept c.args.formula.now graph (reverse c.carry_out.new.trail) next.trail) (sym c.settle.ensures.nodes) at.kept;
+    }
 
 pub returns-in_ok-settle-in-Ok-2-clause-ready : goal.returns-in_ok-settle-in-Ok-2-clause-ready
 returns-in_ok-settle-in-Ok-2-clause-ready g c whole =
@@ -54,13 +59,13 @@ returns-in_ok-settle-in-Ok-2-clause-ready g c whole =
     let new = c.settle.new.self in
     let none = ap (λ (t : TableState g.row.S.Denot). t.retired) c.in_ok-settle-in-Ok-2.ensures.settled in
     let inputs = ap (λ (t : TableState g.row.S.Denot). t.inputs) c.in_ok-settle-in-Ok-2.ensures.settled in
-    ready_settled c.args.formula.now mid new (entries c.carry_out.new.cache) c.settle.ensures.nodes none c.settle.ensures.stay c.entry_law.ensures inputs c.in_ok-settle-in-Ok-2.ensures.leaves.sound
+    ready_settled c.args.formula.now mid new (all_entries c.carry_out.new.caches) c.settle.ensures.nodes none c.settle.ensures.stay c.entry_law.ensures inputs c.in_ok-settle-in-Ok-2.ensures.leaves.sound
     (c.in-Ok-2.ensures.ready no_error)
 
 pub returns-in_ok-settle-in-Ok-2-clause-own : goal.returns-in_ok-settle-in-Ok-2-clause-own
 returns-in_ok-settle-in-Ok-2-clause-own g c open_yet =
     let none = ap (λ (t : TableState g.row.S.Denot). t.retired) c.in_ok-settle-in-Ok-2.ensures.settled in
-    own_settled c.args.formula.now c.carry_out.new.table c.settle.new.self (entries c.carry_out.new.cache) c.settle.ensures.nodes none c.settle.ensures.stay (reverse c.carry_out.new.stack.items) (c.in-Ok.ensures.own open_yet)
+    own_settled c.args.formula.now c.carry_out.new.table c.settle.new.self (all_entries c.carry_out.new.caches) c.settle.ensures.nodes none c.settle.ensures.stay (reverse c.carry_out.new.stack.items) (c.in-Ok.ensures.own open_yet)
 
 pub returns-in_err-settle-in-Err-clause-leaves : goal.returns-in_err-settle-in-Err-clause-leaves
 returns-in_err-settle-in-Err-clause-leaves g c =
@@ -91,7 +96,7 @@ returns-in_ok-settle-in-Err-clause-ready g c whole =
     let new = c.settle-in-Err.new.self in
     let none = ap (λ (t : TableState g.row.S.Denot). t.retired) c.in_ok-settle-in-Err.ensures.settled in
     let inputs = ap (λ (t : TableState g.row.S.Denot). t.inputs) c.in_ok-settle-in-Err.ensures.settled in
-    ready_settled c.args.formula.now mid new (entries c.carry_out.new.cache) c.settle-in-Err.ensures.nodes none c.settle-in-Err.ensures.stay c.entry_law.ensures inputs c.in_ok-settle-in-Err.ensures.leaves.sound
+    ready_settled c.args.formula.now mid new (all_entries c.carry_out.new.caches) c.settle-in-Err.ensures.nodes none c.settle-in-Err.ensures.stay c.entry_law.ensures inputs c.in_ok-settle-in-Err.ensures.leaves.sound
     (c.in-Err.ensures.ready whole)
 
 pub returns-in_ok-settle-in-Err-clause-leaves : goal.returns-in_ok-settle-in-Err-clause-leaves

@@ -1,0 +1,16 @@
+use Rattle.apply_and.specs.Cache.{entries as conjunctions}
+use Rattle.imply.specs.Cache.{entries as implications}
+use Rattle.quantify.specs.ExistsCache.{both_caches}
+use Rattle.term_runner.proofs.AllCaches.{both_unnamed, caches_parts, quantification_keeps, quantifications_fit}
+use Rattle.term_runner.proofs.caches.Caches.exists.Goals as goal
+
+pub returns-clause-keeps : goal.returns-clause-keeps
+returns-clause-keeps g c =
+    let caches = c.args.self.now in
+    quantification_keeps c.entry_law.ensures c.args.table.now c.exists.new.table (conjunctions caches.ands) (implications caches.implications) (both_caches caches.quantifications caches.ors) (caches_parts caches) c.requires.fits
+    c.exists.result (both_caches c.exists.new.cache c.exists.new.ors) (both_unnamed c.exists.new.cache c.exists.new.ors) c.exists.ensures.others c.exists.ensures.retired
+
+pub exists-requires-clause-fits : goal.exists-requires-clause-fits
+exists-requires-clause-fits g c =
+    let caches = c.args.self.now in
+    quantifications_fit c.entry_law.ensures c.args.table.now (conjunctions caches.ands) (implications caches.implications) (both_caches caches.quantifications caches.ors) c.requires.fits

@@ -1,0 +1,86 @@
+use Rattle.std.proofs.Common.{◌≡◌, ◌⊎◌, ℕ, [], ◌∷◌, inl, inr, subst, ◌∙◌}
+use Rattle.node_table.specs.declared.node.Just.TheVariants.{Clause}
+use Rattle.node_table.specs.Diagram.{Graph, levels}
+use Rattle.node_table.specs.Defined.{atom_of}
+use Rattle.node_table.specs.Just.{IsJustified}
+use Rattle.operations.specs.Accounts.{none_whole, whole_error}
+use Rattle.operations.specs.Budget.{most_additions}
+use Rattle.operations.specs.Entries.{IsAccounted, IsNewJust}
+use Rattle.imply.specs.Implication.{IsDecided, IsRefuted}
+use Rattle.term_runner.specs.Caches.{all_entries}
+use Rattle.term_runner.proofs.AllCaches.{keeps_all, keeps_further}
+use Rattle.term_runner.proofs.Leaving.{went_on}
+use Rattle.term_runner.proofs.OwnUnits.{unaccounted_after, unit_own, unit_within}
+use Rattle.term_runner.proofs.Stacks.{if_ok, justified_kept}
+use Rattle.term_runner.proofs.Units.{not_both}
+use Rattle.term_runner.proofs.quantification.implied_unit.Goals as goal
+
+pub unreachable-requires : goal.unreachable-requires
+unreachable-requires g c =
+    let mid = c.implies.new.table in
+    let u = c.args.u.now.node in
+    let refuted : IsRefuted mid.graph u c.args.w = subst (IsDecided mid.graph mid.book.state.live u c.args.w) c.in_default.is c.in_ok-just.ensures.decided in
+    let before : IsRefuted c.args.table.now.graph u c.args.w = subst (λ (graph : Graph). IsRefuted graph u c.args.w) c.implies.ensures.nodes refuted in
+    not_both _ (c.requires.implied before.values before.holds) before.fails
+
+pub unit_of_implied-requires : goal.unit_of_implied-requires
+unit_of_implied-requires g c =
+    let old = c.args.table.now in
+    let mid = c.implies.new.table in
+    let extends = c.in_ok-just.ensures.steps.extends in
+    let u = c.args.u.now in
+    record {
+      sound = c.in_ok-just.ensures.steps.leaves.sound;
+      first = c.growth_law.ensures.stands old.graph mid.graph extends.nodes u.node c.requires.first;
+      second = c.growth_law.ensures.stands old.graph mid.graph extends.nodes c.args.w c.requires.second;
+      first_open = c.requires.some;
+      first_unit = justified_kept c.growth_law.ensures old.graph mid.graph c.requires.sound.tied.reduced extends.nodes old.book.state.live mid.book.state.live extends.clauses u.node c.requires.first u.unit c.requires.unit;
+      implied = subst (IsDecided mid.graph mid.book.state.live u.node c.args.w) c.in-Some.is c.in_ok-just.ensures.decided;
+    }
+
+pub returns-clause-unit : goal.returns-clause-unit
+returns-clause-unit g c =
+    let new = c.unit_of_implied.new.table in
+    if_ok c.unit_of_implied.result (λ unit. IsJustified new.book.state.live (atom_of c.implies.new.table.graph c.args.w ∷ []) unit) (λ unit. IsJustified new.book.state.live (atom_of c.args.table.now.graph c.args.w ∷ []) unit)
+    (λ unit proved. subst (λ (graph : Graph). IsJustified new.book.state.live (atom_of graph c.args.w ∷ []) unit) c.implies.ensures.nodes proved) c.unit_of_implied.ensures.unit
+
+pub returns-clause-own : goal.returns-clause-own
+returns-clause-own g c =
+    let old = c.args.table.now in
+    let mid = c.implies.new.table in
+    let new = c.unit_of_implied.new.table in
+    let done = c.in_ok-just.ensures in
+    let kept = all_entries c.implies.new.self in
+    let u = c.args.u.now.unit in
+    let own : (id : ℕ) → u ≡ Clause id → IsAccounted mid kept id → ⊥ = λ id is.
+    unaccounted_after old mid (all_entries c.args.caches.now) kept id (unit_within old c.requires.sound (atom_of old.graph c.args.u.now.node) u id c.requires.unit is) (c.requires.own id is)
+    done.keeps.retires (done.keeps.named none_whole) in
+    if_ok c.unit_of_implied.result (λ unit. (unit ≡ u) ⊎ IsNewJust mid.book.state new.book.state unit) (λ unit. (id : ℕ) → unit ≡ Clause id → IsAccounted new kept id → ⊥)
+    (λ unit given. unit_own mid new kept u u unit done.steps.leaves.sound (done.keeps.fits none_whole) c.unit_of_implied.ensures.retired own own (elim given [ inl is ↦ inl is | inr came ↦ inr (inr came) ]))
+    c.unit_of_implied.ensures.given
+
+pub returns-clause-nodes : goal.returns-clause-nodes
+returns-clause-nodes g c = c.unit_of_implied.ensures.nodes ∙ c.implies.ensures.nodes
+
+pub returns-clause-steps : goal.returns-clause-steps
+returns-clause-steps g c =
+    let old = c.args.table.now in
+    c.steps_law.ensures.further _ _ _ old c.implies.new.table c.unit_of_implied.new.table (most_additions (levels old.graph)) 1 _ c.in_ok-just.ensures.steps c.unit_of_implied.ensures.steps
+
+pub returns-clause-keeps : goal.returns-clause-keeps
+returns-clause-keeps g c =
+    let old = c.args.table.now in
+    let mid = c.implies.new.table in
+    let new = c.unit_of_implied.new.table in
+    let done = c.in_ok-just.ensures in
+    let steps = c.unit_of_implied.ensures.steps in
+    let kept = all_entries c.implies.new.self in
+    keeps_further old mid new (all_entries c.args.caches.now) kept kept _ done.steps.extends steps.extends done.keeps
+    (keeps_all c.entry_law.ensures mid new kept _ done.steps.leaves.sound (λ whole. (went_on _ _ _ mid new c.unit_of_implied.result steps.leaves (whole_error c.unit_of_implied.result whole)).sound) steps.extends c.unit_of_implied.ensures.retired
+    (done.keeps.fits none_whole))
+
+pub returns-clause-no_node_limit : goal.returns-clause-no_node_limit
+returns-clause-no_node_limit g c = c.unit_of_implied.ensures.no_node_limit
+
+pub returns-clause-beside : goal.returns-clause-beside
+returns-clause-beside g c = c.unit_of_implied.ensures.beside ∙ c.implies.ensures.beside

@@ -1,0 +1,62 @@
+use Rattle.std.proofs.Common.{◌≢◌, [], ◌∷◌, refl, sym, subst, inl, inr}
+use Rattle.node_table.specs.declared.node.Node.{Node}
+use Rattle.node_table.specs.declared.node.Node.TheVariants.{True}
+use Rattle.node_table.specs.declared.node.Just.{Just}
+use Rattle.node_table.specs.declared.node.Just.TheVariants.{Trivial}
+use Rattle.node_table.specs.Defined.{atom_of}
+use Rattle.node_table.specs.Just.{IsJustified}
+use Rattle.operations.specs.Results.{implication_atoms}
+use Rattle.term_runner.proofs.Units.{not_both, implying_named, implication_named, implied_refuted}
+use Rattle.term_runner.proofs.OwnUnits.{no_clause, given_one}
+use Rattle.term_runner.proofs.unit.unit_of_implied.Goals as goal
+
+pub unreachable-requires : goal.unreachable-requires
+unreachable-requires g c =
+    let wu : c.args.w ≢ c.args.u.now.node = λ is. not_both c.is_same.result (c.is_same.ensures.1 is) c.if-is_same.false in
+    let open_w : c.args.w ≢ True = λ is. not_both c.is_same-2.result (c.is_same-2.ensures.1 is) c.if-is_same-2.false in
+    implying_named c.canonical_law.ensures c.args.table.now.graph c.requires.sound.tied.reduced c.args.table.now.book.state.live c.args.u.now.node c.args.w c.args.just.now
+    c.requires.first c.requires.second c.requires.implied c.requires.first_open wu open_w c.args.u.now.unit c.requires.first_unit c.in_default.ensures
+
+pub unreachable-requires-in_default-clause_id : goal.unreachable-requires-in_default-clause_id
+unreachable-requires-in_default-clause_id g c =
+    let wu : c.args.w ≢ c.args.u.now.node = λ is. not_both c.is_same.result (c.is_same.ensures.1 is) c.if-is_same.false in
+    let open_w : c.args.w ≢ True = λ is. not_both c.is_same-2.result (c.is_same-2.ensures.1 is) c.if-is_same-2.false in
+    implication_named c.canonical_law.ensures c.args.table.now.graph c.requires.sound.tied.reduced c.args.table.now.book.state.live c.args.u.now.node c.args.w c.args.just.now
+    c.requires.first c.requires.second c.requires.implied c.requires.first_open wu open_w c.in_default-clause_id.ensures
+
+pub add_unit-requires-clause-not_true : goal.add_unit-requires-clause-not_true
+add_unit-requires-clause-not_true g c = λ is. not_both c.is_same-2.result (c.is_same-2.ensures.1 is) c.if-is_same-2.false
+
+pub add_unit-requires-clause-strict : goal.add_unit-requires-clause-strict
+add_unit-requires-clause-strict g c =
+    let wu : c.args.w ≢ c.args.u.now.node = λ is. not_both c.is_same.result (c.is_same.ensures.1 is) c.if-is_same.false in
+    let open_w : c.args.w ≢ True = λ is. not_both c.is_same-2.result (c.is_same-2.ensures.1 is) c.if-is_same-2.false in
+    let graph = c.args.table.now.graph in
+    let live = c.args.table.now.book.state.live in
+    implied_refuted c.canonical_law.ensures graph c.requires.sound.tied.reduced live c.args.u.now.node c.args.w c.args.just.now
+    c.requires.first c.requires.second c.requires.implied c.requires.first_open wu open_w
+    c.clause_law.ensures.among c.clause_law.ensures.given c.following_unit_law.ensures.implication c.in-Some.first c.in-Some-clause_id.implication
+    (subst (λ (j : Just). IsJustified live (atom_of graph c.args.u.now.node ∷ []) j) c.in-Some.ensures c.requires.first_unit)
+    (subst (λ (j : Just). IsJustified live (implication_atoms graph c.args.u.now.node c.args.w) j) c.in-Some-clause_id.ensures c.requires.implied.justified)
+
+pub returns-then-is_same-clause-number : goal.returns-then-is_same-clause-number
+returns-then-is_same-clause-number g c differ other = absurd (differ (c.is_same.ensures.0 c.if-is_same.true))
+
+pub returns-then-is_same-2-clause-unit : goal.returns-then-is_same-2-clause-unit
+returns-then-is_same-2-clause-unit g c =
+    subst (λ (n : Node). IsJustified c.args.table.now.book.state.live (atom_of c.args.table.now.graph n ∷ []) Trivial) (sym (c.is_same-2.ensures.0 c.if-is_same-2.true)) refl
+
+pub returns-then-is_same-2-clause-given : goal.returns-then-is_same-2-clause-given
+returns-then-is_same-2-clause-given g c = inr (λ id is. absurd (no_clause id is))
+
+pub returns-then-is_same-2-clause-number : goal.returns-then-is_same-2-clause-number
+returns-then-is_same-2-clause-number g c differ other = absurd (other (c.is_same-2.ensures.0 c.if-is_same-2.true))
+
+pub returns-clause-own : goal.returns-clause-own
+returns-clause-own g c is = elim is [
+  | inl first ↦ absurd (not_both c.is_same.result (c.is_same.ensures.1 first) c.if-is_same.false)
+  | inr second ↦ absurd (not_both c.is_same-2.result (c.is_same-2.ensures.1 second) c.if-is_same-2.false)
+]
+
+pub returns-clause-given : goal.returns-clause-given
+returns-clause-given g c = given_one c.args.table.now c.add_unit.new.table c.args.u.now.unit c.add_unit.result c.add_unit.ensures.number

@@ -1,0 +1,120 @@
+// The computed caches of all operations, which a run keeps from move to move. Their entries stay right as one list.
+ghost use Rattle.std.specs.Prelude.{◌≡◌, ◌≢◌, ◌≤◌, ◌<◌, [], Err, IsTrue, IfOk};
+ghost use Rattle.node_table.specs.declared.error.TableError.TheVariants.{NodeLimit};
+ghost use Rattle.node_table.specs.Diagram.{is_node, levels};
+ghost use Rattle.node_table.specs.Made.{LacksPart, MakesOnly};
+ghost use Rattle.node_table.specs.Progress.{Steps, error_of};
+ghost use Rattle.node_table.specs.Table.{IsSound};
+ghost use Rattle.operations.specs.Budget.{most_additions};
+ghost use Rattle.operations.specs.Entries.{Fits};
+ghost use Rattle.operations.specs.Results.{Conjoined, Quantified};
+ghost use Rattle.apply_and.specs.Conjunction.{conjunction_of};
+ghost use Rattle.imply.specs.Implication.{IsDecided};
+ghost use Rattle.quantify.specs.Quantification.{quantification_of};
+ghost use Rattle.term_runner.specs.Caches.{KeepsEntries, all_entries};
+
+use apply_and::{AndCache, and};
+use cnf_base::OutOfMemory;
+use host_io::Sink;
+use imply::{ImplyCache, implies};
+use node_table::{Just, Node, Table, TableError, steps_law};
+use operations::entry_law;
+use quantify::{ExistsCache, OrCache, exists};
+use std::alloc::Global;
+
+/// The caches of conjunctions, implications, quantifications and disjunctions.
+#[derive(Drop)]
+pub struct Caches {
+    ands: AndCache,
+    implications: ImplyCache,
+    quantifications: ExistsCache,
+    ors: OrCache,
+}
+
+impl Caches {
+    /// Empty caches of at most so many entries each. Memory comes with the entries.
+    pub fn new(alloc: Global, capacity: u32) -> Result<Caches, OutOfMemory>
+        requires { 1 ≤ capacity }
+        ensures { IfOk result (λ caches. all_entries caches ≡ []) }
+    {
+        let ands = AndCache::new(alloc, capacity)?;
+        let implications = ImplyCache::new(alloc, capacity)?;
+        let quantifications = ExistsCache::new(alloc, capacity)?;
+        let ors = OrCache::new(alloc, capacity)?;
+        Ok(Caches {
+            ands,
+            implications,
+            quantifications,
+            ors,
+        })
+    }
+
+    /// The conjunction of two nodes, and why its clause holds.
+    pub fn and<S: Sink + Drop>(
+        &mut self,
+        table: &mut Table<S>,
+        u: Node,
+        v: Node,
+    ) -> Result<(Node, Just), TableError>
+        requires sound { IsSound table.old }
+        requires first { IsTrue (is_node table.old.graph u) }
+        requires second { IsTrue (is_node table.old.graph v) }
+        requires fits { Fits table.old (all_entries self.old) }
+        ensures conjoined { IfOk result (λ found. Conjoined table.new.graph table.new.book.state.live u v found.0 found.1) }
+        ensures steps { Steps S.tells (S.channel table.old.book.sink) (S.channel table.new.book.sink) table.old table.new (most_additions (levels table.old.graph)) (error_of result) }
+        ensures keeps { KeepsEntries table.old table.new (all_entries self.old) (all_entries self.new) (error_of result) }
+        ensures made { MakesOnly table.old.graph table.new.graph (conjunction_of table.old.graph u v) }
+        ensures lacks { result ≡ Err NodeLimit → LacksPart table.new.graph (conjunction_of table.old.graph u v) }
+        ensures beside { S.beside table.new.book.sink ≡ S.beside table.old.book.sink }
+    {
+        steps_law::<S>();
+        entry_law::<S>();
+        and(table, &mut self.ands, u, v)
+    }
+
+    /// Why v holds wherever u does; none where it doesn't. No node is made.
+    pub fn implies<S: Sink + Drop>(
+        &mut self,
+        table: &mut Table<S>,
+        u: Node,
+        v: Node,
+    ) -> Result<Option<Just>, TableError>
+        requires sound { IsSound table.old }
+        requires first { IsTrue (is_node table.old.graph u) }
+        requires second { IsTrue (is_node table.old.graph v) }
+        requires fits { Fits table.old (all_entries self.old) }
+        ensures decided { IfOk result (λ answer. IsDecided table.new.graph table.new.book.state.live u v answer) }
+        ensures steps { Steps S.tells (S.channel table.old.book.sink) (S.channel table.new.book.sink) table.old table.new (most_additions (levels table.old.graph)) (error_of result) }
+        ensures keeps { KeepsEntries table.old table.new (all_entries self.old) (all_entries self.new) (error_of result) }
+        ensures nodes { table.new.graph ≡ table.old.graph }
+        ensures no_node_limit { result ≢ Err NodeLimit }
+        ensures beside { S.beside table.new.book.sink ≡ S.beside table.old.book.sink }
+    {
+        steps_law::<S>();
+        entry_law::<S>();
+        implies(table, &mut self.implications, u, v)
+    }
+
+    /// The node that holds where some value of this level's variable makes u hold. No clause is added beside the definitions
+    /// of new nodes.
+    pub fn exists<S: Sink + Drop>(
+        &mut self,
+        table: &mut Table<S>,
+        u: Node,
+        level: u32,
+    ) -> Result<Node, TableError>
+        requires sound { IsSound table.old }
+        requires stands { IsTrue (is_node table.old.graph u) }
+        requires level { level < levels table.old.graph }
+        requires fits { Fits table.old (all_entries self.old) }
+        ensures quantified { IfOk result (λ w. Quantified table.new.graph u level w) }
+        ensures steps { Steps S.tells (S.channel table.old.book.sink) (S.channel table.new.book.sink) table.old table.new 0 (error_of result) }
+        ensures keeps { KeepsEntries table.old table.new (all_entries self.old) (all_entries self.new) (error_of result) }
+        ensures made { MakesOnly table.old.graph table.new.graph (quantification_of table.old.graph u level) }
+        ensures lacks { result ≡ Err NodeLimit → LacksPart table.new.graph (quantification_of table.old.graph u level) }
+        ensures beside { S.beside table.new.book.sink ≡ S.beside table.old.book.sink }
+    {
+        entry_law::<S>();
+        exists(table, &mut self.quantifications, &mut self.ors, u, level)
+    }
+}

@@ -1,0 +1,133 @@
+// A variable is quantified from the top term. The term implies what comes of it, and so the new unit follows from the old
+// one. (Bryant, Heule: Generating Extended Resolution Proofs with a BDD-Based SAT Solver, 2021, section 5.)
+ghost use Rattle.std.specs.Prelude.{◌≡◌, ◌≢◌, ◌≤◌, ◌<◌, ◌+◌, ℕ, List, [], ◌∷◌, Err, Some, IsTrue, IfOk, false, reverse, true};
+ghost use Rattle.lrat_rules.specs.State.{clause_at};
+ghost use Rattle.cnf_base.specs.Formula.{Formula};
+ghost use Rattle.node_table.specs.declared.error.TableError.TheVariants.{NodeLimit};
+ghost use Rattle.node_table.specs.declared.node.Node.TheVariants.{False};
+ghost use Rattle.node_table.specs.declared.node.Just.TheVariants.{Clause};
+ghost use Rattle.node_table.specs.Defined.{atom_of};
+ghost use Rattle.node_table.specs.Diagram.{is_node, levels};
+ghost use Rattle.node_table.specs.Just.{IsJustified};
+ghost use Rattle.node_table.specs.Made.{LacksPart, MakesOnly};
+ghost use Rattle.node_table.specs.Progress.{Steps, error_of};
+ghost use Rattle.node_table.specs.Table.{IsSound, UnlessTorn};
+ghost use Rattle.node_table.specs.Value.{Levels, value_of};
+ghost use Rattle.operations.specs.Budget.{most_additions};
+ghost use Rattle.operations.specs.Entries.{Fits, IsAccounted};
+ghost use Rattle.operations.specs.Results.{Quantified};
+ghost use Rattle.quantify.specs.Quantification.{quantification_of};
+ghost use Rattle.schedule_plan.specs.Plan.{Term as TermValue, some_value};
+ghost use Rattle.term_runner.specs.Caches.{KeepsEntries, all_entries};
+ghost use Rattle.term_runner.specs.Held.{AreHeld, AreKept, OwnUnits};
+ghost use Rattle.term_runner.specs.Needs.{term_function};
+
+use crate::caches::Caches;
+use crate::held::{Held, put};
+use crate::unit::unit_of_implied;
+use clause_terms::Trail;
+use host_io::Sink;
+use node_table::{Just, Node, Table, TableError, growth_law, steps_law};
+use operations::entry_law;
+
+/// Quantifies a variable from the top term, and puts it on the trail with the node that it was quantified from.
+pub fn quantify_out<S: Sink + Drop>(
+    table: &mut Table<S>,
+    caches: &mut Caches,
+    stack: &mut Vec<Held>,
+    trail: &mut Trail,
+    variable: u32,
+) -> Result<bool, TableError>
+    requires sound { IsSound table.old }
+    requires fits { Fits table.old (all_entries caches.old) }
+    requires own { OwnUnits table.old (all_entries caches.old) (reverse stack.old.items) }
+    requires from_one { 1 ≤ variable }
+    requires to_levels { variable ≤ levels table.old.graph }
+    requires one { (formula : Formula) × (term : TermValue) × (terms : List TermValue) × AreHeld formula table.old.graph table.old.book.state.live (reverse stack.old.items) (term ∷ terms) }
+    ensures held { (formula : Formula) (term : TermValue) (terms : List TermValue) → AreHeld formula table.old.graph table.old.book.state.live (reverse stack.old.items) (term ∷ terms)
+        → IfOk result (λ refuted. refuted ≡ false → AreHeld formula table.new.graph table.new.book.state.live (reverse stack.new.items) (some_value variable term ∷ terms)) }
+    ensures kept { (formula : Formula) (term : TermValue) (terms : List TermValue) (quantified : List (ℕ × TermValue)) → AreHeld formula table.old.graph table.old.book.state.live (reverse stack.old.items) (term ∷ terms)
+        → AreKept formula table.old.graph (reverse trail.old) quantified → IfOk result (λ refuted. AreKept formula table.new.graph (reverse trail.new) ((variable, term) ∷ quantified)) }
+    ensures refuted { IfOk result (λ refuted. IsTrue refuted → (id : ℕ) × (clause_at table.new.book.state.live id ≡ Some [])) }
+    ensures own { IfOk result (λ refuted. refuted ≡ false → OwnUnits table.new (all_entries caches.new) (reverse stack.new.items)) }
+    ensures steps { Steps S.tells (S.channel table.old.book.sink) (S.channel table.new.book.sink) table.old table.new (most_additions (levels table.old.graph) + 1) (error_of result) }
+    ensures fits { UnlessTorn result (Fits table.new (all_entries caches.new)) }
+    ensures made { (formula : Formula) (term : TermValue) (terms : List TermValue) → AreHeld formula table.old.graph table.old.book.state.live (reverse stack.old.items) (term ∷ terms)
+        → MakesOnly table.old.graph table.new.graph (term_function formula table.old.graph.order (some_value variable term)) }
+    ensures lacks { (formula : Formula) (term : TermValue) (terms : List TermValue) → AreHeld formula table.old.graph table.old.book.state.live (reverse stack.old.items) (term ∷ terms)
+        → result ≡ Err NodeLimit → LacksPart table.new.graph (term_function formula table.old.graph.order (some_value variable term)) }
+    ensures beside { S.beside table.new.book.sink ≡ S.beside table.old.book.sink }
+{
+    growth_law();
+    let Some(u) = stack.pop() else {
+        unreachable!();
+    };
+    let Some(level) = table.level(variable) else {
+        unreachable!();
+    };
+    let held = weaken(table, caches, &u, level)?;
+    trail.push(variable, u.node)?;
+    put(stack, held.node, held.unit)
+}
+
+// The term without the variable of this level, with its unit.
+fn weaken<S: Sink + Drop>(
+    table: &mut Table<S>,
+    caches: &mut Caches,
+    u: &Held,
+    level: u32,
+) -> Result<Held, TableError>
+    requires sound { IsSound table.old }
+    requires stands { IsTrue (is_node table.old.graph u.now.node) }
+    requires some { u.now.node ≢ False }
+    requires unit { IsJustified table.old.book.state.live (atom_of table.old.graph u.now.node ∷ []) u.now.unit }
+    requires level { level < levels table.old.graph }
+    requires fits { Fits table.old (all_entries caches.old) }
+    requires own { (id : ℕ) → u.now.unit ≡ Clause id → IsAccounted table.old (all_entries caches.old) id → ⊥ }
+    ensures quantified { IfOk result (λ held. Quantified table.new.graph u.now.node level held.node) }
+    ensures unit { IfOk result (λ held. IsJustified table.new.book.state.live (atom_of table.new.graph held.node ∷ []) held.unit) }
+    ensures own { IfOk result (λ held. (id : ℕ) → held.unit ≡ Clause id → IsAccounted table.new (all_entries caches.new) id → ⊥) }
+    ensures steps { Steps S.tells (S.channel table.old.book.sink) (S.channel table.new.book.sink) table.old table.new (most_additions (levels table.old.graph) + 1) (error_of result) }
+    ensures keeps { KeepsEntries table.old table.new (all_entries caches.old) (all_entries caches.new) (error_of result) }
+    ensures made { MakesOnly table.old.graph table.new.graph (quantification_of table.old.graph u.now.node level) }
+    ensures lacks { result ≡ Err NodeLimit → LacksPart table.new.graph (quantification_of table.old.graph u.now.node level) }
+    ensures beside { S.beside table.new.book.sink ≡ S.beside table.old.book.sink }
+{
+    growth_law();
+    steps_law::<S>();
+    let node = caches.exists(table, u.node, level)?;
+    let unit = implied_unit(table, caches, u, node)?;
+    Ok(Held { node, unit })
+}
+
+// The unit of a node that the term implies.
+fn implied_unit<S: Sink + Drop>(
+    table: &mut Table<S>,
+    caches: &mut Caches,
+    u: &Held,
+    w: Node,
+) -> Result<Just, TableError>
+    requires sound { IsSound table.old }
+    requires first { IsTrue (is_node table.old.graph u.now.node) }
+    requires second { IsTrue (is_node table.old.graph w) }
+    requires some { u.now.node ≢ False }
+    requires unit { IsJustified table.old.book.state.live (atom_of table.old.graph u.now.node ∷ []) u.now.unit }
+    requires implied { (a : Levels) → value_of table.old.graph a u.now.node ≡ true → value_of table.old.graph a w ≡ true }
+    requires fits { Fits table.old (all_entries caches.old) }
+    requires own { (id : ℕ) → u.now.unit ≡ Clause id → IsAccounted table.old (all_entries caches.old) id → ⊥ }
+    ensures unit { IfOk result (λ unit. IsJustified table.new.book.state.live (atom_of table.old.graph w ∷ []) unit) }
+    ensures own { IfOk result (λ unit. (id : ℕ) → unit ≡ Clause id → IsAccounted table.new (all_entries caches.new) id → ⊥) }
+    ensures nodes { table.new.graph ≡ table.old.graph }
+    ensures steps { Steps S.tells (S.channel table.old.book.sink) (S.channel table.new.book.sink) table.old table.new (most_additions (levels table.old.graph) + 1) (error_of result) }
+    ensures keeps { KeepsEntries table.old table.new (all_entries caches.old) (all_entries caches.new) (error_of result) }
+    ensures no_node_limit { result ≢ Err NodeLimit }
+    ensures beside { S.beside table.new.book.sink ≡ S.beside table.old.book.sink }
+{
+    growth_law();
+    steps_law::<S>();
+    entry_law::<S>();
+    let Some(just) = caches.implies(table, u.node, w)? else {
+        unreachable!();
+    };
+    unit_of_implied(table, u, w, &just)
+}
