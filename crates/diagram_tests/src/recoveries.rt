@@ -60,7 +60,12 @@ fn trail_of(
 // The values of the three variables behind a trail, from the last node.
 fn recovered(rt: &impl Abort, alloc: Global, name: u8, words: &str) -> Result<String, Fail> {
     let formula = no_clauses(alloc, 3);
-    let mut table = open(alloc, &formula, &order_of_three("123"), &room_of("9 99, 99 99")?)?;
+    let mut table = open(
+        alloc,
+        &formula,
+        &order_of_three("123"),
+        &room_of("9 99, 99 99")?,
+    )?;
     let mut results = Vec::new(alloc);
     make_all(rt, &mut table, &mut results, CHAIN)?;
     let trail = trail_of(rt, alloc, &table, results.as_slice(), words)?;
