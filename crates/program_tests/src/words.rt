@@ -82,12 +82,12 @@ fn plans(rt: HostRuntime) -> Result<(), Fail> {
 }
 
 // The call on standard output that fails, of those that move 16 bytes each: how the run ends, how many bytes of the help are
-// shown, and the first of them. The text has 749 bytes.
+// shown, and the first of them. The text has 745 bytes.
 const HELP: &str = "\
 1;WriteFault 0 ''
 3;WriteFault 32 'Decides FILE, and writes the pro'
-48;WriteFault 749 'Decides FILE, and writes the pro'
-49;Help 749 'Decides FILE, and writes the pro'";
+48;WriteFault 745 'Decides FILE, and writes the pro'
+49;Help 745 'Decides FILE, and writes the pro'";
 
 fn helped(alloc: Global, number: u64) -> Result<String, Fail> {
     let words = words_of(alloc, "bddsat solve --help")?;
