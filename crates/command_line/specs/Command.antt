@@ -8,12 +8,15 @@ use Rattle.clap.specs.declared.error.ErrorKind.{ErrorKind}
 use Rattle.clap.specs.declared.error.ErrorKind.TheVariants as kind
 use Rattle.cnf_base.specs.Number.{numeral_value}
 use Rattle.schedule_plan.specs.declared.limits.Limits.{Limits}
+use Rattle.command_line.specs.declared.plan.PlanName.{PlanName}
+use Rattle.command_line.specs.declared.plan.PlanName.TheVariants.{Bucket, Conjoin}
 use Rattle.command_line.specs.Parser.{the_app}
 
--- to decide the formula in a file within limits, and to write the proof to another one
+-- to decide the formula in a file by a plan and within limits, and to write the proof to another one
 pub record ToSolve : Type 0 where
   pub file : Text
   pub proof : Text
+  pub plan : PlanName
   pub limits : Limits
 
 -- to judge the proof in a file over the formula in another one
@@ -38,6 +41,10 @@ default_limits = record { cache = 1000000; max_nodes = 10000000; max_ids = 10000
 abbrev pub limits_of : Command → Limits
 limits_of (Solve task) = task.limits
 limits_of (Check task) = default_limits
+
+-- the plan where the words name none
+abbrev pub default_plan : PlanName
+default_plan = Bucket
 
 -- what words may mean: a command, the wish for help, or nothing that the program does
 pub data Meaning : Type 0 where
@@ -68,6 +75,15 @@ abbrev pub number_given : ℕ → ℕ → ℕ → Option Text → Option ℕ
 number_given least default greatest None = Some default
 number_given least default greatest (Some text) = number_within least greatest text
 
+-- the plan of this name, if it is one
+abbrev pub plan_named : Text → Option PlanName
+plan_named name = if bytes_eq name (codes "bucket") then Some Bucket else if bytes_eq name (codes "conjoin") then Some Conjoin else None
+
+-- the plan that `--plan` gives, or the default without it
+abbrev pub plan_given : Option Text → Option PlanName
+plan_given None = Some default_plan
+plan_given (Some name) = plan_named name
+
 -- the limits of these numbers of nodes, of identifiers and of the cache's entries
 abbrev pub limits_with : Option ℕ → Option ℕ → Option ℕ → Option Limits
 limits_with (Some nodes) (Some ids) (Some entries) = Some (record { cache = entries; max_nodes = nodes; max_ids = ids })
@@ -78,10 +94,10 @@ abbrev pub limits_given : Option Text → Option Text → Option Text → Option
 limits_given nodes ids entries =
     limits_with (number_given 0 default_limits.max_nodes 100000000 nodes) (number_given 0 default_limits.max_ids 1000000000 ids) (number_given 1 default_limits.cache 100000000 entries)
 
--- two files, and limits to solve within
-abbrev pub to_solve : Option (Text × Text) → Option Limits → Meaning
-to_solve (Some names) (Some limits) = Asks (Solve (record { file = names.0; proof = names.1; limits = limits }))
-to_solve _ _ = Misuse
+-- two files, a plan, and limits to solve within
+abbrev pub to_solve : Option (Text × Text) → Option PlanName → Option Limits → Meaning
+to_solve (Some names) (Some plan) (Some limits) = Asks (Solve (record { file = names.0; proof = names.1; plan = plan; limits = limits }))
+to_solve _ _ _ = Misuse
 
 -- two files to check
 abbrev pub to_check : Option (Text × Text) → Meaning
@@ -90,7 +106,8 @@ to_check None = Misuse
 
 abbrev pub solve_means : List Row → Meaning
 solve_means rows =
-    to_solve (two_names (first_of (codes "FILE") rows) (first_of (codes "proof") rows)) (limits_given (first_of (codes "max-nodes") rows) (first_of (codes "max-ids") rows) (first_of (codes "cache") rows))
+    to_solve (two_names (first_of (codes "FILE") rows) (first_of (codes "proof") rows)) (plan_given (first_of (codes "plan") rows))
+    (limits_given (first_of (codes "max-nodes") rows) (first_of (codes "max-ids") rows) (first_of (codes "cache") rows))
 
 abbrev pub check_means : List Row → Meaning
 check_means rows = to_check (two_names (first_of (codes "FILE") rows) (first_of (codes "PROOF") rows))

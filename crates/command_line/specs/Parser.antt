@@ -14,10 +14,11 @@ option_rule name = record (new_rule name) { long = Some name; value_names = 1 }
 abbrev pub proof_rule : Rule
 proof_rule = record (option_rule (codes "proof")) { required = true }
 
--- `solve FILE --proof P [--max-nodes N] [--max-ids N] [--cache N]`
+-- `solve FILE --proof P [--plan NAME] [--max-nodes N] [--max-ids N] [--cache N]`
 abbrev pub solve_app : App
 solve_app =
-    with_rule (with_rule (with_rule (with_rule (with_rule (new_app (codes "solve")) file_rule) proof_rule) (option_rule (codes "max-nodes"))) (option_rule (codes "max-ids"))) (option_rule (codes "cache"))
+    with_rule (with_rule (with_rule (with_rule (with_rule (with_rule (new_app (codes "solve")) file_rule) proof_rule) (option_rule (codes "plan"))) (option_rule (codes "max-nodes"))) (option_rule (codes "max-ids")))
+    (option_rule (codes "cache"))
 
 -- a proof's file, behind the formula's
 abbrev pub proof_file_rule : Rule

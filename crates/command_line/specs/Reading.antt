@@ -15,7 +15,7 @@ text_of = option_map (λ s. s.now)
 
 -- the command with its values
 abbrev pub command_of : Asked → Command
-command_of (asked.Solve files limits) = Solve (record { file = files.formula.now; proof = files.proof.now; limits = limits })
+command_of (asked.Solve files plan limits) = Solve (record { file = files.formula.now; proof = files.proof.now; plan = plan; limits = limits })
 command_of (asked.Check files) = Check (record { file = files.formula.now; proof = files.proof.now })
 
 -- What a refusal of the parser is, by its kind. Memory may run out in the parser, or where the text of help is made.

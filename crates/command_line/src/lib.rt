@@ -4,6 +4,8 @@
 
 mod limits;
 mod parser;
+mod plan;
 mod words;
 
+pub use plan::PlanName;
 pub use words::{Asked, FileNames, Refusal, gather, read_words};

@@ -10,10 +10,11 @@ use std::alloc::{AllocError, Global};
 const ABOUT: &str = "Decides a CNF formula and proves the answer, or checks a proof.";
 
 const USAGE: &str = "\
-bddsat solve FILE --proof P [--max-nodes N] [--max-ids N] [--cache N]
+bddsat solve FILE --proof P [--plan PLAN] [--max-nodes N] [--max-ids N] [--cache N]
        bddsat check FILE PROOF";
 
-const SOLVE_USAGE: &str = "bddsat solve FILE --proof P [--max-nodes N] [--max-ids N] [--cache N]";
+const SOLVE_USAGE: &str =
+    "bddsat solve FILE --proof P [--plan PLAN] [--max-nodes N] [--max-ids N] [--cache N]";
 
 const CHECK_USAGE: &str = "bddsat check FILE PROOF";
 
@@ -38,6 +39,9 @@ Example:
 const SOLVE_ABOUT: &str = "Decides FILE, and writes the proof to P where it is unsatisfiable";
 
 const PROOF_HELP: &str = "The file that the proof is written to, in LRAT";
+
+const PLAN_HELP: &str =
+    "The plan: bucket quantifies variables early, conjoin none [default: bucket]";
 
 const MAX_NODES_HELP: &str = "The most nodes in use at once, 0 to 100000000 [default: 10000000]";
 
@@ -75,6 +79,7 @@ fn solve_parser<'a>(alloc: Global) -> Result<Command<'a>, AllocError>
 {
     let file = formula_arg(alloc);
     let proof = option_arg(alloc, "proof", "P", PROOF_HELP).required(true);
+    let plan = option_arg(alloc, "plan", "PLAN", PLAN_HELP);
     let max_nodes = option_arg(alloc, "max-nodes", "N", MAX_NODES_HELP);
     let max_ids = option_arg(alloc, "max-ids", "N", MAX_IDS_HELP);
     let cache = option_arg(alloc, "cache", "N", CACHE_HELP);
@@ -84,6 +89,7 @@ fn solve_parser<'a>(alloc: Global) -> Result<Command<'a>, AllocError>
         .after_help(SOLVE_AFTER)
         .arg(file)?
         .arg(proof)?
+        .arg(plan)?
         .arg(max_nodes)?
         .arg(max_ids)?
         .arg(cache)

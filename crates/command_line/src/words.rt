@@ -11,6 +11,7 @@ ghost use Rattle.command_line.specs.Reading.{IsRefusal, IsRefusalOf, command_of,
 
 use crate::limits::limits_given;
 use crate::parser::parser;
+use crate::plan::{PlanName, plan_given};
 use clap::ArgMatches;
 use clap::error::ErrorKind;
 use cnf_base::OutOfMemory;
@@ -20,8 +21,8 @@ use std::alloc::Global;
 /// What the words ask for.
 #[derive(Drop)]
 pub enum Asked<'a> {
-    /// To decide the formula within the limits, and to write the proof.
-    Solve(FileNames<'a>, Limits),
+    /// To decide the formula by the plan and within the limits, and to write the proof.
+    Solve(FileNames<'a>, PlanName, Limits),
     /// To judge the proof over the formula.
     Check(FileNames<'a>),
 }
@@ -102,12 +103,13 @@ fn solve_asked<'a>(values: &ArgMatches<'a>) -> Option<Asked<'a>>
     ensures limits { IfSome result (λ asked. AreLimits (limits_of (command_of asked))) }
 {
     let files = two_names(values.get_str("FILE"), values.get_str("proof"))?;
+    let plan = plan_given(values.get_str("plan"))?;
     let limits = limits_given(
         values.get_str("max-nodes"),
         values.get_str("max-ids"),
         values.get_str("cache"),
     )?;
-    Some(Asked::Solve(files, limits))
+    Some(Asked::Solve(files, plan, limits))
 }
 
 fn check_asked<'a>(values: &ArgMatches<'a>) -> Option<Asked<'a>>

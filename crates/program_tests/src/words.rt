@@ -1,7 +1,7 @@
-// The limits that words give, help that is cut off, and that all words are kept.
+// The plan and the limits that words give, help that is cut off, and that all words are kept.
 use crate::support::{host_of, words_of};
 use host_io::{FailingHost, Role};
-use solver_cli::{Asked, gather, read_words, run};
+use solver_cli::{Asked, PlanName, gather, read_words, run};
 use std::alloc::Global;
 use std::process::Abort;
 use std::test::Fail;
@@ -26,7 +26,7 @@ const LIMITS: &str = "\
 fn limits_of(alloc: Global, line: &str) -> Result<String, Fail> {
     let words = words_of(alloc, line)?;
     match read_words(alloc, &words) {
-        Ok(Asked::Solve(_, limits)) => Ok(format!(in alloc;
+        Ok(Asked::Solve(_, _, limits)) => Ok(format!(in alloc;
             "{} {} {}",
             limits.cache, limits.max_nodes, limits.max_ids
         )?),
@@ -50,13 +50,44 @@ fn limits(rt: HostRuntime) -> Result<(), Fail> {
     Ok(())
 }
 
+// Options of `solve`, and the plan that they name.
+const PLANS: [(&str, PlanName); 4] = [
+    ("", PlanName::Bucket),
+    ("--plan bucket", PlanName::Bucket),
+    ("--plan=conjoin", PlanName::Conjoin),
+    ("--cache 1 --plan conjoin --max-nodes 5", PlanName::Conjoin),
+];
+
+fn expect_plan(
+    rt: &impl Abort,
+    alloc: Global,
+    options: &str,
+    expected: PlanName,
+) -> Result<(), Fail> {
+    let line = format!(in alloc; "bddsat solve in.cnf --proof out {options}")?;
+    let words = words_of(alloc, line.as_str())?;
+    match read_words(alloc, &words) {
+        Ok(Asked::Solve(_, plan, _)) => assert_eq!(rt; plan, expected, "{options}"),
+        _ => Err("no command to solve")?,
+    }
+    Ok(())
+}
+
+#[test]
+fn plans(rt: HostRuntime) -> Result<(), Fail> {
+    for (options, expected) in PLANS {
+        expect_plan(&rt, rt.alloc(), options, expected)?;
+    }
+    Ok(())
+}
+
 // The call on standard output that fails, of those that move 16 bytes each: how the run ends, how many bytes of the help are
-// shown, and the first of them. The text has 636 bytes.
+// shown, and the first of them. The text has 745 bytes.
 const HELP: &str = "\
 1;WriteFault 0 ''
 3;WriteFault 32 'Decides FILE, and writes the pro'
-41;WriteFault 636 'Decides FILE, and writes the pro'
-42;Help 636 'Decides FILE, and writes the pro'";
+48;WriteFault 745 'Decides FILE, and writes the pro'
+49;Help 745 'Decides FILE, and writes the pro'";
 
 fn helped(alloc: Global, number: u64) -> Result<String, Fail> {
     let words = words_of(alloc, "bddsat solve --help")?;

@@ -1,5 +1,5 @@
 -- What is promised of a run that took its formula.
-use Rattle.std.proofs.Common.{◌≡◌, ℕ, false, List, [], length, refl, sym, ap, ◌∙◌, subst, Some, Ok, Err, IsTrue, inl, inr}
+use Rattle.std.proofs.Common.{◌≡◌, ℕ, false, List, [], refl, sym, ap, ◌∙◌, subst, Some, Ok, Err, IsTrue, inl, inr}
 use Rattle.std.specs.Prelude.{Result, ◌⊎◌}
 use Rattle.cnf_base.specs.Formula.{Formula}
 use Rattle.host_io.specs.declared.role.Role.{Role}
@@ -11,14 +11,14 @@ use Rattle.solver_cli.specs.declared.status.Status.TheVariants.{Help, Usage, Cnf
 use Rattle.dimacs_reader.specs.declared.error.CnfError.{CnfError}
 use Rattle.dimacs_reader.specs.declared.error.CnfError.TheVariants.{ReadFault as CnfFault}
 use Rattle.schedule_plan.specs.Order.{natural}
-use Rattle.schedule_plan.specs.Plan.{conjoin}
 use Rattle.schedule_plan.specs.declared.plan.Move.{Move}
 use Rattle.term_runner.specs.declared.outcome.Outcome.{Outcome}
 use Rattle.term_runner.specs.declared.outcome.Outcome.TheVariants as outcome
 use Rattle.term_runner.specs.declared.error.RunError.{RunError}
 use Rattle.term_runner.specs.declared.error.RunError.TheVariants.{WriteFault as Torn}
 use Rattle.term_runner.specs.Proofs.{IsProof, IsProofSoFar}
-use Rattle.solver_cli.specs.Answer.{IsScheduled, status_of}
+use Rattle.command_line.specs.declared.plan.PlanName.{PlanName}
+use Rattle.solver_cli.specs.Answer.{IsScheduled, moves_of_plan, status_of}
 use Rattle.command_line.specs.Command.{Command, ToSolve, Solve, formula_file, command}
 use Rattle.solver_cli.specs.ErrorText.{is_answer}
 use Rattle.solver_cli.specs.ExitCode.{status_of_run}
@@ -39,12 +39,12 @@ took run asked problem gives takes t = elim (takes.read t) [
   ok_err : (problem : Formula) (error : CnfError) → ◌≡◌ {A = Result Formula CnfError} (Ok problem) (Err error) → ⊥
   ok_err problem error e = cc
 
-abbrev pub asks_for : (run : Run) (task : ToSolve) (problem : Formula) {order : List ℕ} {moves : List Move} → IsScheduled problem order moves → Asks run (Solve task) (formula problem) → AsksFor run problem
+abbrev pub asks_for : (run : Run) (task : ToSolve) (problem : Formula) {order : List ℕ} {moves : List Move} → IsScheduled task.plan problem order moves → Asks run (Solve task) (formula problem) → AsksFor run problem
 asks_for run task problem {order = order} {moves = moves} scheduled asks = record { task = task; asks = asks; order = order; moves = moves; scheduled = scheduled }
 
--- the order and the plan that every formula has
-pub natural_schedule : (problem : Formula) → IsScheduled problem (natural problem.vars) (conjoin (length problem.clauses))
-natural_schedule problem = record { ordered = refl; planned = refl }
+-- the order and the moves that every formula has, by a plan's name
+pub natural_schedule : (plan : PlanName) (problem : Formula) → IsScheduled plan problem (natural problem.vars) (moves_of_plan plan problem (natural problem.vars))
+natural_schedule plan problem = record { ordered = refl; planned = refl }
 
 -- for a text that was accepted no refusal is due
 pub accepted_refuses : (run : Run) (asked : Command) (problem : Formula) → Asks run asked (formula problem) → (other : Command) (kind : CnfKind) (line : ℕ) → Asks run other (refusal kind line) → ⊥
@@ -134,7 +134,7 @@ uncreated run task asked u =
         undecided = λ e. absurd (accepts.read e);
         quiet = quiet;
         write = λ e. failed;
-        accepted = λ e. inr ((Solve task, asked), λ t. inl (u.problem, asks_for run task u.problem (natural_schedule u.problem) (read t)));
+        accepted = λ e. inr ((Solve task, asked), λ t. inl (u.problem, asks_for run task u.problem (natural_schedule task.plan u.problem) (read t)));
       };
       output = quiet_output run unanswered accepts.help (same_written u.out);
       proof = no_proof run (whole_of (run.before ProofOut) (run.after ProofOut) u.opens.was_idle.written ∙ u.opens.idle.written);
@@ -149,7 +149,7 @@ pub proof_whole : (run : Run) (problem : Formula) → (run.before ProofOut).writ
 proof_whole run problem idle p = subst (λ (bytes : List ℕ). IsProof problem (limits_given run) bytes) (sym (whole_of (run.before ProofOut) (run.after ProofOut) idle)) p
 
 -- the formula was not decided
-pub undecided : (run : Run) (task : ToSolve) → command run.words ≡ Some (Solve task) → Undecided run.tells (streams_of run.before) (streams_of run.after) run.files task.file task.proof (limits_given run) run.status → Core run
+pub undecided : (run : Run) (task : ToSolve) → command run.words ≡ Some (Solve task) → Undecided run.tells (streams_of run.before) (streams_of run.after) run.files task.file task.proof task.plan (limits_given run) run.status → Core run
 undecided run task asked u = both (write_ends run.status u.error u.ends) where
   read : IsTrue run.tells → Asks run (Solve task) (formula u.problem)
   read = took run (Solve task) u.problem asked u.takes

@@ -56,7 +56,7 @@ unnamed_proof run none named = absurd (named none)
 
 accepted_for : (run : Run) (task : ToSolve) (problem : Formula) → command run.words ≡ Some (Solve task)
     → TakesFormula run.tells (run.before Cnf) (run.after Cnf) run.files task.file (Ok problem) → IsAccepted run
-accepted_for run task problem asked takes named = ((task, asked), λ t. (problem, asks_for run task problem (natural_schedule problem) (took run (Solve task) problem asked takes t)))
+accepted_for run task problem asked takes named = ((task, asked), λ t. (problem, asks_for run task problem (natural_schedule task.plan problem) (took run (Solve task) problem asked takes t)))
 
 later : (status : Status) → ends_before_proof status ≡ false → {A : Type 0} → IsTrue (ends_before_proof status) → A
 later status after before = absurd (true≢false (sym before ∙ after))
@@ -90,7 +90,7 @@ stream_names run unnamed (inr (inl h)) = record {
   accepted = unnamed_proof run (name_of h.proof (unnamed ProofOut));
 }
 stream_names run unnamed (inr (inr (inl t))) = came t.came where
-  came : Came run.tells (streams_of run.before) (streams_of run.after) run.files t.task.file t.task.proof t.task.limits run.status → StreamNames run
+  came : Came run.tells (streams_of run.before) (streams_of run.after) run.files t.task.file t.task.proof t.task.plan t.task.limits run.status → StreamNames run
   came (inl u) = record {
     cnf = given run (Solve t.task) t.asked u.takes.name;
     judged = inl (name_of u.judged (unnamed ProofIn));

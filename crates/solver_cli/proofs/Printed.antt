@@ -63,7 +63,7 @@ no_write outcome.Unsat e = cc
 no_write outcome.NodeLimit e = cc
 no_write outcome.IdLimit e = cc
 
-pub answered : (run : Run) (task : ToSolve) → command run.words ≡ Some (Solve task) → Answered run.tells (streams_of run.before) (streams_of run.after) run.files task.file task.proof (limits_given run) run.status → Core run
+pub answered : (run : Run) (task : ToSolve) → command run.words ≡ Some (Solve task) → Answered run.tells (streams_of run.before) (streams_of run.after) run.files task.file task.proof task.plan (limits_given run) run.status → Core run
 answered run task asked a = go a.printed a.puts a.ends where
   text : List ℕ
   text = outcome_text (limits_given run) a.outcome

@@ -14,6 +14,7 @@ use Rattle.term_runner.specs.declared.outcome.Outcome.{Outcome}
 use Rattle.term_runner.specs.declared.error.RunError.{RunError}
 use Rattle.solver_cli.specs.declared.status.Status.{Status}
 use Rattle.solver_cli.specs.declared.status.Status.TheVariants.{WriteFault, OutOfMemory}
+use Rattle.command_line.specs.declared.plan.PlanName.{PlanName}
 use Rattle.solver_cli.specs.Answer.{IsScheduled, outcome_text}
 use Rattle.solver_cli.specs.ExitCode.{status_of_run}
 use Rattle.solver_cli.specs.Phases.{TakesFormula, WritesProof, PutsText}
@@ -34,8 +35,8 @@ still_written {tells = tells} {old = old} {problem = problem} {order = order} {m
 pub printed_from : {tells : Bool} {start old new : Channel} {text : List ℕ} {result : Result ⊤ Failed} → old ≡ start → PutsText tells old new text result → PutsText tells start new text result
 printed_from {tells = tells} {new = new} {text = text} {result = result} same puts = subst (λ (c : Channel). PutsText tells c new text result) same puts
 
-pub unplanned : {tells : Bool} {file proof : List ℕ} {problem : Formula} {limits : Limits} (old new : Role → Channel) (files : Files)
-    → TakesFormula tells (old Cnf) (new Cnf) files file (Ok problem) → Others Cnf old new → Came tells (streams_of old) (streams_of new) files file proof limits OutOfMemory
+pub unplanned : {tells : Bool} {file proof : List ℕ} {plan : PlanName} {problem : Formula} {limits : Limits} (old new : Role → Channel) (files : Files)
+    → TakesFormula tells (old Cnf) (new Cnf) files file (Ok problem) → Others Cnf old new → Came tells (streams_of old) (streams_of new) files file proof plan limits OutOfMemory
 unplanned {problem = problem} old new files takes beside_taken =
     inr (inl (record {
       problem = problem;
@@ -46,9 +47,9 @@ unplanned {problem = problem} old new files takes beside_taken =
       ends = refl;
     }))
 
-pub uncreated : {tells : Bool} {file proof : List ℕ} {problem : Formula} {limits : Limits} {answer : Result ⊤ Failed} (old taken new : Role → Channel) (files : Files)
+pub uncreated : {tells : Bool} {file proof : List ℕ} {plan : PlanName} {problem : Formula} {limits : Limits} {answer : Result ⊤ Failed} (old taken new : Role → Channel) (files : Files)
     → TakesFormula tells (old Cnf) (taken Cnf) files file (Ok problem) → Others Cnf old taken
-    → Opens (taken ProofOut) (new ProofOut) proof answer → IsErr answer → Others ProofOut taken new → Came tells (streams_of old) (streams_of new) files file proof limits WriteFault
+    → Opens (taken ProofOut) (new ProofOut) proof answer → IsErr answer → Others ProofOut taken new → Came tells (streams_of old) (streams_of new) files file proof plan limits WriteFault
 uncreated {problem = problem} {answer = answer} old taken new files takes beside_taken opens failed beside_new =
     inr (inr (inl (record {
       problem = problem;
@@ -61,11 +62,11 @@ uncreated {problem = problem} {answer = answer} old taken new files takes beside
       ends = refl;
     })))
 
-pub undecided : {tells : Bool} {file proof : List ℕ} {problem : Formula} {order : List ℕ} {moves : List Move} {limits : Limits} {answer : Result ⊤ Failed} {error : RunError} {status : Status} (old taken made new : Role → Channel) (files : Files)
+pub undecided : {tells : Bool} {file proof : List ℕ} {plan : PlanName} {problem : Formula} {order : List ℕ} {moves : List Move} {limits : Limits} {answer : Result ⊤ Failed} {error : RunError} {status : Status} (old taken made new : Role → Channel) (files : Files)
     → TakesFormula tells (old Cnf) (taken Cnf) files file (Ok problem) → Others Cnf old taken
     → Opens (taken ProofOut) (made ProofOut) proof answer → IsOk answer → Others ProofOut taken made
-    → IsScheduled problem order moves → WritesProof tells (made ProofOut) (new ProofOut) problem order moves limits (Err error) → Others ProofOut made new → status ≡ status_of_run error
-    → Came tells (streams_of old) (streams_of new) files file proof limits status
+    → IsScheduled plan problem order moves → WritesProof tells (made ProofOut) (new ProofOut) problem order moves limits (Err error) → Others ProofOut made new → status ≡ status_of_run error
+    → Came tells (streams_of old) (streams_of new) files file proof plan limits status
 undecided {problem = problem} {order = order} {moves = moves} {answer = answer} {error = error} old taken made new files takes beside_taken opens done beside_made scheduled writes beside_new ends =
     inr (inr (inr (inl (record {
       problem = problem;
@@ -84,13 +85,13 @@ undecided {problem = problem} {order = order} {moves = moves} {answer = answer} 
       ends = ends;
     }))))
 
-pub answered : {tells : Bool} {file proof : List ℕ} {problem : Formula} {order : List ℕ} {moves : List Move} {limits : Limits} {answer : Result ⊤ Failed} {found : Outcome} {printed : Result ⊤ Failed} {status : Status}
+pub answered : {tells : Bool} {file proof : List ℕ} {plan : PlanName} {problem : Formula} {order : List ℕ} {moves : List Move} {limits : Limits} {answer : Result ⊤ Failed} {found : Outcome} {printed : Result ⊤ Failed} {status : Status}
     (old taken made proved new : Role → Channel) (files : Files)
     → TakesFormula tells (old Cnf) (taken Cnf) files file (Ok problem) → Others Cnf old taken
     → Opens (taken ProofOut) (made ProofOut) proof answer → IsOk answer → Others ProofOut taken made
-    → IsScheduled problem order moves → WritesProof tells (made ProofOut) (proved ProofOut) problem order moves limits (Ok found) → Others ProofOut made proved
+    → IsScheduled plan problem order moves → WritesProof tells (made ProofOut) (proved ProofOut) problem order moves limits (Ok found) → Others ProofOut made proved
     → PutsText tells (proved Out) (new Out) (outcome_text limits found) printed → Others Out proved new → status ≡ status_after found printed
-    → Came tells (streams_of old) (streams_of new) files file proof limits status
+    → Came tells (streams_of old) (streams_of new) files file proof plan limits status
 answered {problem = problem} {order = order} {moves = moves} {answer = answer} {found = found} {printed = printed} old taken made proved new files takes beside_taken opens done beside_made scheduled writes beside_proved puts beside_new ends =
     inr (inr (inr (inr (record {
       problem = problem;

@@ -11,6 +11,7 @@ use Rattle.schedule_plan.specs.declared.limits.Limits.{Limits}
 use Rattle.term_runner.specs.declared.outcome.Outcome.{Outcome}
 use Rattle.term_runner.specs.declared.error.RunError.{RunError}
 use Rattle.term_runner.specs.declared.error.RunError.TheVariants as run_error
+use Rattle.command_line.specs.declared.plan.PlanName.{PlanName}
 use Rattle.solver_cli.specs.declared.status.Status.{Status}
 use Rattle.solver_cli.specs.declared.status.Status.TheVariants.{Usage, ReadFault, WriteFault, OutOfMemory}
 use Rattle.solver_cli.specs.ExitCode.{status_of_error, status_of_run, status_of_check}
@@ -129,7 +130,7 @@ uncreated u = record {
   out = λ _. faults_of u.out;
 }
 
-undecided : {tells : Bool} {old new : Streams} {files : Files} {file proof : List ℕ} {limits : Limits} {status : Status} → Undecided tells old new files file proof limits status → Told old new status
+undecided : {tells : Bool} {old new : Streams} {files : Files} {file proof : List ℕ} {plan : PlanName} {limits : Limits} {status : Status} → Undecided tells old new files file proof plan limits status → Told old new status
 undecided u = record {
   quiet = λ e. absurd (run_read u.error u.ends e);
   cnf = λ _. u.takes.unfailed (λ e. cc);
@@ -138,7 +139,7 @@ undecided u = record {
   out = λ _. faults_of u.out;
 }
 
-answered : {tells : Bool} {old new : Streams} {files : Files} {file proof : List ℕ} {limits : Limits} {status : Status} → Answered tells old new files file proof limits status → Told old new status
+answered : {tells : Bool} {old new : Streams} {files : Files} {file proof : List ℕ} {plan : PlanName} {limits : Limits} {status : Status} → Answered tells old new files file proof plan limits status → Told old new status
 answered a = record {
   quiet = λ e. absurd (answer_read a.outcome a.printed a.ends e);
   cnf = λ _. a.takes.unfailed (λ e. cc);
@@ -165,7 +166,7 @@ judged j = record {
   out = λ differs. j.puts.unfailed (verdict_ok j.verdict j.printed (λ e. differs (j.ends ∙ e)));
 }
 
-came : {tells : Bool} {old new : Streams} {files : Files} {file proof : List ℕ} {limits : Limits} {status : Status} → Came tells old new files file proof limits status → Told old new status
+came : {tells : Bool} {old new : Streams} {files : Files} {file proof : List ℕ} {plan : PlanName} {limits : Limits} {status : Status} → Came tells old new files file proof plan limits status → Told old new status
 came (inl u) = untaken u
 came (inr (inl u)) = unplanned u
 came (inr (inr (inl u))) = uncreated u

@@ -26,14 +26,14 @@ core law run (inr (inr (inl t))) = came t.came where
   given : t.task.limits ≡ limits_given run
   given = sym (ap limits_asked t.asked)
 
-  came : Came run.tells (streams_of run.before) (streams_of run.after) run.files t.task.file t.task.proof t.task.limits run.status → Core run
+  came : Came run.tells (streams_of run.before) (streams_of run.after) run.files t.task.file t.task.proof t.task.plan t.task.limits run.status → Core run
   came (inl u) = untaken run (Solve t.task) t.asked u
   came (inr (inl u)) = unplanned run t.task t.asked u
   came (inr (inr (inl u))) = uncreated run t.task t.asked u
   came (inr (inr (inr (inl u)))) =
-      undecided run t.task t.asked (subst (λ (l : Limits). Undecided run.tells (streams_of run.before) (streams_of run.after) run.files t.task.file t.task.proof l run.status) given u)
+      undecided run t.task t.asked (subst (λ (l : Limits). Undecided run.tells (streams_of run.before) (streams_of run.after) run.files t.task.file t.task.proof t.task.plan l run.status) given u)
   came (inr (inr (inr (inr a)))) =
-      answered run t.task t.asked (subst (λ (l : Limits). Answered run.tells (streams_of run.before) (streams_of run.after) run.files t.task.file t.task.proof l run.status) given a)
+      answered run t.task t.asked (subst (λ (l : Limits). Answered run.tells (streams_of run.before) (streams_of run.after) run.files t.task.file t.task.proof t.task.plan l run.status) given a)
 core law run (inr (inr (inr c))) = came c.came where
   came : CameToCheck run.tells (streams_of run.before) (streams_of run.after) run.files c.task.file c.task.proof run.status → Core run
   came (inl u) = untaken run (Check c.task) c.asked u

@@ -3,6 +3,7 @@ use Rattle.std.specs.Prelude.{◌≡◌, ℕ, List, Option, length}
 use Rattle.cnf_base.specs.Formula.{Formula}
 use Rattle.schedule_plan.specs.Order.{natural}
 use Rattle.schedule_plan.specs.Plan.{conjoin}
+use Rattle.schedule_plan.specs.Bucket.{bucket}
 use Rattle.schedule_plan.specs.declared.plan.Move.{Move}
 use Rattle.schedule_plan.specs.declared.limits.Limits.{Limits}
 use Rattle.term_runner.specs.declared.outcome.Outcome.{Outcome}
@@ -10,16 +11,23 @@ use Rattle.term_runner.specs.declared.outcome.Outcome.TheVariants as outcome
 use Rattle.term_runner.specs.Ends.{Says, Shows}
 use Rattle.answer_text.specs.Status.{sat_text, unsat_line, node_limit_text, id_limit_text}
 use Rattle.command_line.specs.Command.{Command, limits_asked}
+use Rattle.command_line.specs.declared.plan.PlanName.{PlanName}
+use Rattle.command_line.specs.declared.plan.PlanName.TheVariants.{Bucket, Conjoin}
 use Rattle.solver_cli.specs.declared.status.Why.{Why}
 use Rattle.solver_cli.specs.declared.status.Why.TheVariants.{NodeLimit, IdLimit}
 use Rattle.solver_cli.specs.declared.status.Status.{Status}
 use Rattle.solver_cli.specs.declared.status.Status.TheVariants.{Sat, Unsat, Unknown}
 
--- The words and the texts give this order of the variables and this plan: the variables by rising number, and the clauses
--- conjoined one by one.
-pub record IsScheduled (problem : Formula) (order : List ℕ) (moves : List Move) : Type 0 where
+-- the moves of the plan of this name
+abbrev pub moves_of_plan : PlanName → Formula → List ℕ → List Move
+moves_of_plan Bucket formula order = bucket formula order
+moves_of_plan Conjoin formula order = conjoin (length formula.clauses)
+
+-- The formula and the plan's name give this order of the variables and these moves: the variables by rising number, and
+-- the moves of that plan over the order.
+pub record IsScheduled (plan : PlanName) (problem : Formula) (order : List ℕ) (moves : List Move) : Type 0 where
   pub ordered : order ≡ natural problem.vars
-  pub planned : moves ≡ conjoin (length problem.clauses)
+  pub planned : moves ≡ moves_of_plan plan problem order
 
 -- the outcome is true of the formula, and the proof that was written shows it
 pub record Holds (limits : Limits) (problem : Formula) (order : List ℕ) (moves : List Move) (bytes : List ℕ) (found : Outcome) : Type 0 where

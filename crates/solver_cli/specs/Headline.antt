@@ -84,13 +84,13 @@ pub record Asks (run : Run) (asked : Command) (text : CnfText) : Type 0 where
   pub stands : run.files (formula_file asked) ≡ Some bytes
   pub says : cnf bytes ≡ text
 
--- they ask to decide this formula; the words and the texts give the order of its variables and the plan
+-- they ask to decide this formula; the formula gives the order of its variables, and the words name the plan
 pub record AsksFor (run : Run) (problem : Formula) : Type 0 where
   pub task : ToSolve
   pub asks : Asks run (Solve task) (formula problem)
   pub order : List ℕ
   pub moves : List Move
-  pub scheduled : IsScheduled problem order moves
+  pub scheduled : IsScheduled task.plan problem order moves
 
 -- they ask to judge this proof over this formula
 pub record AsksToJudge (run : Run) (problem : Formula) (bytes : List ℕ) : Type 0 where

@@ -1,6 +1,5 @@
 -- The parts of a run, each over the one role that it serves.
-use Rattle.std.specs.Prelude.{◌≡◌, ◌≢◌, ◌⊎◌, ◌≤◌, ◌++◌, ℕ, Bool, List, [], None, Some, Result, Ok, Err, length, IsTrue, IsFalse, IsOk, IsErr, IfOk, ℤ, ⊤}
-use Rattle.std.specs.List.{list_any}
+use Rattle.std.specs.Prelude.{◌≡◌, ◌≢◌, ◌⊎◌, ◌≤◌, ◌++◌, ℕ, Bool, List, [], None, Some, Result, Ok, Err, length, IsTrue, IsOk, IsErr, IfOk, ℤ, ⊤}
 use Rattle.cnf_base.specs.Formula.{Formula, IsFormula}
 use Rattle.host_io.specs.declared.source.Failed.{Failed}
 use Rattle.host_io.specs.Channel.{Channel, Rose}
@@ -16,13 +15,11 @@ use Rattle.lrat_checker.specs.declared.verdict.CheckError.TheVariants.{ReadFault
 use Rattle.schedule_plan.specs.Plan.{IsAdmissible}
 use Rattle.schedule_plan.specs.declared.plan.Move.{Move}
 use Rattle.schedule_plan.specs.declared.limits.Limits.{Limits}
-use Rattle.term_runner.specs.Moves.{quantifies}
 use Rattle.term_runner.specs.Ends.{Says, Shows}
 use Rattle.term_runner.specs.Proofs.{IsProof, IsProofSoFar}
 use Rattle.term_runner.specs.declared.outcome.Outcome.{Outcome}
 use Rattle.term_runner.specs.declared.error.RunError.{RunError}
 use Rattle.term_runner.specs.declared.error.RunError.TheVariants.{WriteFault as Torn}
-use Rattle.solver_cli.specs.Answer.{IsScheduled}
 use Rattle.solver_cli.specs.ErrorText.{error_text}
 use Rattle.solver_cli.specs.declared.status.Status.{Status}
 
@@ -91,11 +88,10 @@ pub record OnlyWritten (old new : Channel) : Type 0 where
   pub name : new.name ≡ old.name
   pub faults : old.faults ≤ new.faults
 
--- a schedule that may be run
+-- an order and moves that may be run
 pub record IsRunnable (problem : Formula) (order : List ℕ) (moves : List Move) : Type 0 where
-  pub scheduled : IsScheduled problem order moves
+  pub one_each : length order ≡ problem.vars
   pub admissible : IsAdmissible problem moves
-  pub joins : IsFalse (list_any quantifies moves)
 
 -- A formula was decided, and its proof written: exactly the lines of good steps, within the limits, flushed where the
 -- formula was decided; a line that is cut short only after a failed write.

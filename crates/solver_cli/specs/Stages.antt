@@ -15,6 +15,7 @@ use Rattle.term_runner.specs.declared.outcome.Outcome.{Outcome}
 use Rattle.term_runner.specs.declared.error.RunError.{RunError}
 use Rattle.dimacs_reader.specs.declared.error.CnfError.{CnfError}
 use Rattle.schedule_plan.specs.declared.plan.Move.{Move}
+use Rattle.command_line.specs.declared.plan.PlanName.{PlanName}
 use Rattle.solver_cli.specs.Answer.{IsScheduled, outcome_text, status_of}
 use Rattle.solver_cli.specs.Verdict.{verdict_text, status_of_verdict}
 use Rattle.solver_cli.specs.ExitCode.{status_of_check, status_of_error, status_of_run}
@@ -86,7 +87,7 @@ pub record Uncreated (tells : Bool) (old new : Streams) (files : Files) (file pr
   pub ends : status ≡ WriteFault
 
 -- the formula was not decided
-pub record Undecided (tells : Bool) (old new : Streams) (files : Files) (file proof_file : List ℕ) (limits : Limits) (status : Status) : Type 0 where
+pub record Undecided (tells : Bool) (old new : Streams) (files : Files) (file proof_file : List ℕ) (plan : PlanName) (limits : Limits) (status : Status) : Type 0 where
   pub problem : Formula
   pub takes : TakesFormula tells old.cnf new.cnf files file (Ok problem)
   pub created : Channel
@@ -95,7 +96,7 @@ pub record Undecided (tells : Bool) (old new : Streams) (files : Files) (file pr
   pub opens : Opens old.proof created proof_file created_answer
   pub order : List ℕ
   pub moves : List Move
-  pub scheduled : IsScheduled problem order moves
+  pub scheduled : IsScheduled plan problem order moves
   pub error : RunError
   pub writes : WritesProof tells created new.proof problem order moves limits (Err error)
   pub judged : new.judged ≡ old.judged
@@ -108,7 +109,7 @@ status_after outcome (Ok x) = status_of outcome
 status_after outcome (Err e) = WriteFault
 
 -- it was decided, and the answer was printed or not
-pub record Answered (tells : Bool) (old new : Streams) (files : Files) (file proof_file : List ℕ) (limits : Limits) (status : Status) : Type 0 where
+pub record Answered (tells : Bool) (old new : Streams) (files : Files) (file proof_file : List ℕ) (plan : PlanName) (limits : Limits) (status : Status) : Type 0 where
   pub problem : Formula
   pub takes : TakesFormula tells old.cnf new.cnf files file (Ok problem)
   pub created : Channel
@@ -117,7 +118,7 @@ pub record Answered (tells : Bool) (old new : Streams) (files : Files) (file pro
   pub opens : Opens old.proof created proof_file created_answer
   pub order : List ℕ
   pub moves : List Move
-  pub scheduled : IsScheduled problem order moves
+  pub scheduled : IsScheduled plan problem order moves
   pub outcome : Outcome
   pub writes : WritesProof tells created new.proof problem order moves limits (Ok outcome)
   pub judged : new.judged ≡ old.judged
@@ -125,13 +126,13 @@ pub record Answered (tells : Bool) (old new : Streams) (files : Files) (file pro
   pub puts : PutsText tells old.out new.out (outcome_text limits outcome) printed
   pub ends : status ≡ status_after outcome printed
 
--- how far `solve` came, under these limits
-abbrev pub Came : Bool → Streams → Streams → Files → List ℕ → List ℕ → Limits → Status → Type 0
-Came tells old new files file proof limits status = Untaken tells old new files file status
+-- how far `solve` came, by this plan and under these limits
+abbrev pub Came : Bool → Streams → Streams → Files → List ℕ → List ℕ → PlanName → Limits → Status → Type 0
+Came tells old new files file proof plan limits status = Untaken tells old new files file status
     ⊎ (Unplanned tells old new files file status
     ⊎ (Uncreated tells old new files file proof status
-    ⊎ (Undecided tells old new files file proof limits status
-    ⊎ Answered tells old new files file proof limits status)))
+    ⊎ (Undecided tells old new files file proof plan limits status
+    ⊎ Answered tells old new files file proof plan limits status)))
 
 -- the proof was not judged
 pub record Unjudged (tells : Bool) (old new : Streams) (files : Files) (file proof_file : List ℕ) (status : Status) : Type 0 where
@@ -167,7 +168,7 @@ CameToCheck tells old new files file proof status = Untaken tells old new files 
 pub record Tried (tells : Bool) (words : List (List ℕ)) (old new : Streams) (files : Files) (status : Status) : Type 0 where
   pub task : ToSolve
   pub asked : command words ≡ Some (Solve task)
-  pub came : Came tells old new files task.file task.proof task.limits status
+  pub came : Came tells old new files task.file task.proof task.plan task.limits status
 
 -- `check` was tried
 pub record Checked (tells : Bool) (words : List (List ℕ)) (old new : Streams) (files : Files) (status : Status) : Type 0 where

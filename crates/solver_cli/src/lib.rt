@@ -15,7 +15,7 @@ mod proof;
 mod status;
 mod verdict;
 
-pub use command_line::{Asked, FileNames, Refusal, gather, read_words};
+pub use command_line::{Asked, FileNames, PlanName, Refusal, gather, read_words};
 pub use complaint::complain;
 pub use laws::solve_then_check_law;
 pub use program::{run, run_in_memory, run_with};

@@ -23,7 +23,7 @@ use crate::output::{put_answer, put_text};
 use crate::proof::{prove, schedule};
 use crate::status::Status;
 use crate::verdict::{put_verdict, verdict_status};
-use command_line::{Asked, FileNames, Refusal, gather, read_words};
+use command_line::{Asked, FileNames, PlanName, Refusal, gather, read_words};
 use host_io::{Host, MemoryHost, Role as HostRole};
 use lrat_checker::check_law;
 use lrat_rules::soundness_law;
@@ -38,7 +38,7 @@ fn work<H: Host>(alloc: Global, words: &[String], host: &mut H) -> Status
     ensures files { FilesBut (H.channel host.new ProofOut).name (H.files host.old) (H.files host.new) }
 {
     match read_words(alloc, words) {
-        Ok(Asked::Solve(files, limits)) => solve(alloc, &files, limits, host),
+        Ok(Asked::Solve(files, plan, limits)) => solve(alloc, &files, plan, limits, host),
         Ok(Asked::Check(files)) => check(alloc, &files, host),
         Err(Refusal::Help(text)) => show_help(&text, host),
         Err(Refusal::Usage) => Status::Usage,
@@ -59,10 +59,16 @@ fn show_help<H: Host>(text: &str, host: &mut H) -> Status
 
 // Reads the formula, decides it, writes the proof and prints the answer. The plan is made before the proof's file, so
 // that none is created where memory runs out by then.
-fn solve<H: Host>(alloc: Global, asked: &FileNames<'_>, limits: Limits, host: &mut H) -> Status
+fn solve<H: Host>(
+    alloc: Global,
+    asked: &FileNames<'_>,
+    plan_name: PlanName,
+    limits: Limits,
+    host: &mut H,
+) -> Status
     requires unnamed { (role : Role) → (H.channel host.old role).name ≡ None }
     requires limits { AreLimits limits }
-    ensures came { Came H.tells (streams_of (H.channel host.old)) (streams_of (H.channel host.new)) (H.files host.old) asked.now.formula.now asked.now.proof.now limits result }
+    ensures came { Came H.tells (streams_of (H.channel host.old)) (streams_of (H.channel host.new)) (H.files host.old) asked.now.formula.now asked.now.proof.now plan_name limits result }
     ensures others { (role : Role) → IsFalse (same_role role CnfRole) → IsFalse (same_role role ProofOut) → IsFalse (same_role role Out) → H.channel host.new role ≡ H.channel host.old role }
     ensures files { FilesBut (H.channel host.new ProofOut).name (H.files host.old) (H.files host.new) }
 {
@@ -70,7 +76,7 @@ fn solve<H: Host>(alloc: Global, asked: &FileNames<'_>, limits: Limits, host: &m
         Ok(formula) => formula,
         Err(error) => return Status::from(error),
     };
-    let Ok((order, plan)) = schedule(alloc, &formula) else {
+    let Ok((order, plan)) = schedule(alloc, plan_name, &formula) else {
         return Status::OutOfMemory;
     };
     if host.create(HostRole::ProofOut, asked.proof).is_err() {

@@ -1,9 +1,7 @@
-use Rattle.std.proofs.Common.{◌≡◌, List, Result, Ok, Err, Some, map, sym, subst}
+use Rattle.std.proofs.Common.{◌≡◌, Ok, Err, Some, map, sym, subst}
 use Rattle.std.specs.Prelude.{MatchResult}
 use Rattle.std.specs.String.{string_bytes}
 use Rattle.clap.specs.Words.{subcommand_rows_of}
-use Rattle.command_line.specs.declared.words.Asked.{Asked}
-use Rattle.command_line.specs.declared.words.Refusal.{Refusal}
 use Rattle.command_line.specs.declared.words.Refusal.TheVariants.{Usage}
 use Rattle.command_line.specs.Command.{Asks, Misuse, command, taken_means}
 use Rattle.command_line.specs.Reading.{IsRefusal, command_of}
