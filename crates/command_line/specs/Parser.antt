@@ -14,7 +14,7 @@ option_rule name = record (new_rule name) { long = Some name; value_names = 1 }
 abbrev pub proof_rule : Rule
 proof_rule = record (option_rule (codes "proof")) { required = true }
 
--- `solve FILE --proof P [--plan NAME] [--max-nodes N] [--max-ids N] [--cache N]`
+-- `solve FILE --proof P [--plan PLAN] [--max-nodes N] [--max-ids N] [--cache N]`
 abbrev pub solve_app : App
 solve_app =
     with_rule (with_rule (with_rule (with_rule (with_rule (with_rule (new_app (codes "solve")) file_rule) proof_rule) (option_rule (codes "plan"))) (option_rule (codes "max-nodes"))) (option_rule (codes "max-ids")))

@@ -47,7 +47,7 @@ const MAX_NODES_HELP: &str = "The most nodes in use at once, 0 to 100000000 [def
 
 const MAX_IDS_HELP: &str = "The greatest clause number, 0 to 1000000000 [default: 1000000000]";
 
-const CACHE_HELP: &str = "The most conjunctions in the cache, 1 to 100000000 [default: 1000000]";
+const CACHE_HELP: &str = "The most entries in each cache, 1 to 100000000 [default: 1000000]";
 
 const SOLVE_AFTER: &str = "\
 Example:
