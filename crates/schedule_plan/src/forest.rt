@@ -1,5 +1,8 @@
-// The bucket that each item belongs to, as the parents in the column elimination tree of sparse factorization, with
-// path compression. (Liu: A Compact Row Storage Scheme for Cholesky Factors Using Elimination Trees, 1986.)
+// The bucket that each item belongs to. Items are numbered: the clauses first, and then the results of the buckets.
+// Their buckets are the parents in the column elimination tree of sparse factorization. It is found in nearly linear
+// time, with path compression, and without any set of variables. (Liu: A Compact Row Storage Scheme for Cholesky Factors
+// Using Elimination Trees, 1986; George, Ng: Symbolic Factorization for Sparse Gaussian Elimination with Partial
+// Pivoting, 1987.)
 ghost use Rattle.std.specs.Prelude.{◌≡◌, ℕ, ◌+◌, length, replicate, None, IfOk};
 ghost use Rattle.schedule_plan.specs.Order.{IsOrder};
 ghost use Rattle.schedule_plan.specs.Forest.{AreOccurrences, AreBuckets, AreFresh, item_count};
@@ -52,7 +55,8 @@ fn fresh(
     Ok(buckets)
 }
 
-// Each clause climbs to the bucket of each of its variables. What has no item above it goes there.
+// Each clause climbs to the bucket of each of its variables, in their order, over all items that it is inside by then.
+// One that nothing is above yet goes to this bucket.
 fn climb(
     formula: &Cnf,
     order: &Order,
