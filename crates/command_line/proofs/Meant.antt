@@ -11,8 +11,9 @@ use Rattle.command_line.specs.declared.words.Refusal.TheVariants as refusal
 use Rattle.command_line.specs.Reading.{IsRefusal, IsRefusalOf}
 use Rattle.clap.proofs.OnLiterals.{clap_on_literals}
 use Rattle.clap.proofs.WalkLemmas.{first_value-rows}
+use Rattle.schedule_plan.specs.declared.limits.Limits.{Limits}
 use Rattle.command_line.specs.Parser.{the_app}
-use Rattle.command_line.specs.Command.{Command, Meaning, Asks, Misuse, IsOneOf, MayMean, check_means, command, command_means, limits_given, means, meanings, only_command, plan_given, refusal_means, solve_means, taken_means, to_check, to_solve, two_names}
+use Rattle.command_line.specs.Command.{Command, Meaning, Asks, Misuse, IsOneOf, MayMean, check_means, command, command_means, limits_among, means, meanings, only_command, refusal_means, solve_by, solve_means, taken_means, to_check, two_names}
 
 -- the parser is one whose meaning is known
 simple : is_simple the_app ≡ true
@@ -99,40 +100,34 @@ pub other_name : (name : Text) (rows : List Row) → bytes_eq name (codes "solve
 other_name name rows is and = ap₂ (λ (b c : Bool). command_by b c rows) is and
 
 -- the value that a getter reads is that of the row
-of_row : (values : ArgMatches) (name : Text) → first_of name (rows_of (found_of values)) ≡ first_value (found_of values) name
-of_row values name = sym (first_value-rows (found_of values) name)
+pub of_row : (values : ArgMatches) (name : Text) (value : Option Text) → value ≡ first_value (found_of values) name → first_of name (rows_of (found_of values)) ≡ value
+of_row values name value is = sym (is ∙ first_value-rows (found_of values) name)
 
 -- a function of three values that are equal in turn
 pub ap₃ : {A B C D : Type 0} (f : A → B → C → D) {a d : A} {b e : B} {c g : C} → a ≡ d → b ≡ e → c ≡ g → f a b c ≡ f d e g
 ap₃ f p q r = λ i. f (p i) (q i) (r i)
 
-pub solve_values : (values : ArgMatches) (file proof plan nodes ids entries : Option Text)
-    → file ≡ first_value (found_of values) (codes "FILE") → proof ≡ first_value (found_of values) (codes "proof") → plan ≡ first_value (found_of values) (codes "plan")
-    → nodes ≡ first_value (found_of values) (codes "max-nodes") → ids ≡ first_value (found_of values) (codes "max-ids") → entries ≡ first_value (found_of values) (codes "cache")
-    → solve_means (rows_of (found_of values)) ≡ to_solve (two_names file proof) (plan_given plan) (limits_given nodes ids entries)
-solve_values values file proof plan nodes ids entries file_is proof_is plan_is nodes_is ids_is entries_is =
-    ap₃ to_solve (ap₂ two_names (of_row values (codes "FILE") ∙ sym file_is) (of_row values (codes "proof") ∙ sym proof_is))
-    (ap plan_given (of_row values (codes "plan") ∙ sym plan_is))
-    (ap₃ limits_given (of_row values (codes "max-nodes") ∙ sym nodes_is) (of_row values (codes "max-ids") ∙ sym ids_is) (of_row values (codes "cache") ∙ sym entries_is))
+pub solve_values : (values : ArgMatches) (file proof order schedule plan : Option Text) (limits : Option Limits)
+    → file ≡ first_value (found_of values) (codes "FILE") → proof ≡ first_value (found_of values) (codes "proof") → order ≡ first_value (found_of values) (codes "order")
+    → schedule ≡ first_value (found_of values) (codes "schedule") → plan ≡ first_value (found_of values) (codes "plan") → limits ≡ limits_among (rows_of (found_of values))
+    → solve_means (rows_of (found_of values)) ≡ solve_by file proof order schedule plan limits
+solve_values values file proof order schedule plan limits file_is proof_is order_is schedule_is plan_is limits_are = λ i.
+    solve_by (of_row values (codes "FILE") file file_is i) (of_row values (codes "proof") proof proof_is i) (of_row values (codes "order") order order_is i)
+    (of_row values (codes "schedule") schedule schedule_is i) (of_row values (codes "plan") plan plan_is i) (sym limits_are i)
 
-pub solve_nameless : (values : ArgMatches) (file proof : Option Text)
-    → file ≡ first_value (found_of values) (codes "FILE") → proof ≡ first_value (found_of values) (codes "proof") → two_names file proof ≡ None
-    → solve_means (rows_of (found_of values)) ≡ Misuse
-solve_nameless values file proof file_is proof_is none =
-    ap₃ to_solve (ap₂ two_names (of_row values (codes "FILE") ∙ sym file_is) (of_row values (codes "proof") ∙ sym proof_is) ∙ none) refl refl
-
-pub solve_planless : (values : ArgMatches) (file proof plan : Option Text) (names : Text × Text)
-    → file ≡ first_value (found_of values) (codes "FILE") → proof ≡ first_value (found_of values) (codes "proof") → plan ≡ first_value (found_of values) (codes "plan")
-    → two_names file proof ≡ Some names → plan_given plan ≡ None → solve_means (rows_of (found_of values)) ≡ Misuse
-solve_planless values file proof plan names file_is proof_is plan_is some none =
-    ap₃ to_solve (ap₂ two_names (of_row values (codes "FILE") ∙ sym file_is) (of_row values (codes "proof") ∙ sym proof_is) ∙ some)
-    (ap plan_given (of_row values (codes "plan") ∙ sym plan_is) ∙ none) refl
+-- files that aren't named change nothing
+two_alone : (file proof : Option Text) → two_names file proof [] ≡ two_names file proof (None ∷ None ∷ [])
+two_alone None None = refl
+two_alone None (Some proof) = refl
+two_alone (Some file) None = refl
+two_alone (Some file) (Some proof) = refl
 
 pub check_values : (values : ArgMatches) (file proof : Option Text)
     → file ≡ first_value (found_of values) (codes "FILE") → proof ≡ first_value (found_of values) (codes "PROOF")
-    → check_means (rows_of (found_of values)) ≡ to_check (two_names file proof)
+    → check_means (rows_of (found_of values)) ≡ to_check (two_names file proof (None ∷ None ∷ []))
 check_values values file proof file_is proof_is =
-    ap to_check (ap₂ two_names (of_row values (codes "FILE") ∙ sym file_is) (of_row values (codes "PROOF") ∙ sym proof_is))
+    ap₂ (λ (f p : Option Text). to_check (two_names f p [])) (of_row values (codes "FILE") file file_is) (of_row values (codes "PROOF") proof proof_is)
+    ∙ ap to_check (two_alone file proof)
 
 -- what a refusal of the parser comes to is what the words may mean
 pub refusal_due : (words : List Text) (k : ErrorKind) (r : Refusal) → ((k ≡ kind.OutOfMemory → ⊥) → MayMean words (refusal_means k)) → IsRefusalOf k r → IsRefusal words r

@@ -1,6 +1,7 @@
 -- The meaning of the program's words, its own name first: what the parser of command lines makes of them (`fault_of`,
 -- `subcommand_of`: the kinds of its refusal, and the values that it reads), and then this program's own tests.
-use Rattle.std.specs.Prelude.{ℕ, List, [], ◌∷◌, Option, None, Some, codes, length, map, nat_le, if◌then◌else◌, ◌&&◌, ◌≡◌, ◌⊎◌}
+use Rattle.std.specs.Prelude.{ℕ, Bool, true, false, not, List, [], ◌∷◌, Option, None, Some, option_map, codes, length, map, nat_le, if◌then◌else◌, ◌&&◌, ◌≡◌, ◌⊎◌}
+use Rattle.std.specs.List.{list_any}
 use Rattle.std.specs.Option.{option_and_then}
 use Rattle.std.specs.Str.{bytes_eq}
 use Rattle.clap.specs.Words.{Row, Text, first_of, fault_of, subcommand_of}
@@ -12,11 +13,18 @@ use Rattle.command_line.specs.declared.plan.PlanName.{PlanName}
 use Rattle.command_line.specs.declared.plan.PlanName.TheVariants.{Bucket, Conjoin}
 use Rattle.command_line.specs.Parser.{the_app}
 
--- to decide the formula in a file by a plan and within limits, and to write the proof to another one
+-- what gives the plan of a run: its name, or a schedule's file
+pub data Planned : Type 0 where
+  ByName : PlanName → Planned
+  ByFile : Text → Planned
+
+-- to decide the formula in a file by a plan and within limits, and to write the proof to another one; the order of its
+-- variables stands in the file of that name, if one is named
 pub record ToSolve : Type 0 where
   pub file : Text
   pub proof : Text
-  pub plan : PlanName
+  pub order : Option Text
+  pub plan : Planned
   pub limits : Limits
 
 -- to judge the proof in a file over the formula in another one
@@ -57,10 +65,25 @@ abbrev pub refusal_means : ErrorKind → Meaning
 refusal_means kind.DisplayHelp = AsksHelp
 refusal_means _ = Misuse
 
--- two files have two names
-abbrev pub two_names : Option Text → Option Text → Option (Text × Text)
-two_names (Some file) (Some proof) = if bytes_eq file proof then None else Some (file, proof)
-two_names _ _ = None
+-- both files are named, and by the same name
+abbrev pub same_name : Option Text → Option Text → Bool
+same_name (Some file) (Some other) = bytes_eq file other
+same_name _ _ = false
+
+-- no two of these files that are named have the same name
+abbrev pub names_differ : List (Option Text) → Bool
+names_differ [] = true
+names_differ (file ∷ others) = not (list_any (same_name file) others) && names_differ others
+
+-- both names
+abbrev pub both : Option Text → Option Text → Option (Text × Text)
+both (Some file) (Some proof) = Some (file, proof)
+both _ _ = None
+
+-- The names of the formula's file and of the proof's, which must be there. All files that a command names, beside these
+-- two the others here, have different names.
+abbrev pub two_names : Option Text → Option Text → List (Option Text) → Option (Text × Text)
+two_names file proof others = if names_differ (file ∷ proof ∷ others) then both file proof else None
 
 -- a number, where it is neither below the least nor above the greatest
 abbrev pub in_range : ℕ → ℕ → ℕ → Option ℕ
@@ -79,10 +102,12 @@ number_given least default greatest (Some text) = number_within least greatest t
 abbrev pub plan_named : Text → Option PlanName
 plan_named name = if bytes_eq name (codes "bucket") then Some Bucket else if bytes_eq name (codes "conjoin") then Some Conjoin else None
 
--- the plan that `--plan` gives, or the default without it
-abbrev pub plan_given : Option Text → Option PlanName
-plan_given None = Some default_plan
-plan_given (Some name) = plan_named name
+-- what gives the plan: `--plan` or `--schedule`, not both; the default without both
+abbrev pub plan_given : Option Text → Option Text → Option Planned
+plan_given None None = Some (ByName default_plan)
+plan_given (Some name) None = option_map ByName (plan_named name)
+plan_given None (Some file) = Some (ByFile file)
+plan_given (Some name) (Some file) = None
 
 -- the limits of these numbers of nodes, of identifiers and of the cache's entries
 abbrev pub limits_with : Option ℕ → Option ℕ → Option ℕ → Option Limits
@@ -94,23 +119,31 @@ abbrev pub limits_given : Option Text → Option Text → Option Text → Option
 limits_given nodes ids entries =
     limits_with (number_given 0 default_limits.max_nodes 100000000 nodes) (number_given 0 default_limits.max_ids 1000000000 ids) (number_given 1 default_limits.cache 100000000 entries)
 
--- two files, a plan, and limits to solve within
-abbrev pub to_solve : Option (Text × Text) → Option PlanName → Option Limits → Meaning
-to_solve (Some names) (Some plan) (Some limits) = Asks (Solve (record { file = names.0; proof = names.1; plan = plan; limits = limits }))
-to_solve _ _ _ = Misuse
+-- two files, an order, what gives the plan, and limits to solve within
+abbrev pub to_solve : Option (Text × Text) → Option Text → Option Planned → Option Limits → Meaning
+to_solve (Some names) order (Some plan) (Some limits) = Asks (Solve (record { file = names.0; proof = names.1; order = order; plan = plan; limits = limits }))
+to_solve _ _ _ _ = Misuse
 
 -- two files to check
 abbrev pub to_check : Option (Text × Text) → Meaning
 to_check (Some names) = Asks (Check (record { file = names.0; proof = names.1 }))
 to_check None = Misuse
 
+-- the limits that the options among these values give
+abbrev pub limits_among : List Row → Option Limits
+limits_among rows = limits_given (first_of (codes "max-nodes") rows) (first_of (codes "max-ids") rows) (first_of (codes "cache") rows)
+
+-- `solve` by the values of its arguments
+abbrev pub solve_by : Option Text → Option Text → Option Text → Option Text → Option Text → Option Limits → Meaning
+solve_by file proof order schedule plan limits = to_solve (two_names file proof (order ∷ schedule ∷ [])) order (plan_given plan schedule) limits
+
 abbrev pub solve_means : List Row → Meaning
 solve_means rows =
-    to_solve (two_names (first_of (codes "FILE") rows) (first_of (codes "proof") rows)) (plan_given (first_of (codes "plan") rows))
-    (limits_given (first_of (codes "max-nodes") rows) (first_of (codes "max-ids") rows) (first_of (codes "cache") rows))
+    solve_by (first_of (codes "FILE") rows) (first_of (codes "proof") rows) (first_of (codes "order") rows) (first_of (codes "schedule") rows)
+    (first_of (codes "plan") rows) (limits_among rows)
 
 abbrev pub check_means : List Row → Meaning
-check_means rows = to_check (two_names (first_of (codes "FILE") rows) (first_of (codes "PROOF") rows))
+check_means rows = to_check (two_names (first_of (codes "FILE") rows) (first_of (codes "PROOF") rows) [])
 
 -- what the values of a command mean
 abbrev pub command_means : Text → List Row → Meaning

@@ -1,6 +1,11 @@
 -- The words that the program knows, as its parser of command lines has them.
-use Rattle.std.specs.Prelude.{true, Some, codes}
+use Rattle.std.specs.Prelude.{true, List, [], ◌∷◌, Some, codes}
 use Rattle.clap.specs.Words.{App, Rule, Text, new_app, new_rule, with_rule, with_subcommand}
+
+-- a command with these arguments, behind those that it has
+abbrev pub with_rules : App → List Rule → App
+with_rules app [] = app
+with_rules app (rule ∷ rules) = with_rules (with_rule app rule) rules
 
 -- a file that must be named, without an option in front of it
 abbrev pub file_rule : Rule
@@ -14,11 +19,15 @@ option_rule name = record (new_rule name) { long = Some name; value_names = 1 }
 abbrev pub proof_rule : Rule
 proof_rule = record (option_rule (codes "proof")) { required = true }
 
--- `solve FILE --proof P [--plan PLAN] [--max-nodes N] [--max-ids N] [--cache N]`
+-- `[--max-nodes N] [--max-ids N] [--cache N]`
+abbrev pub limit_rules : List Rule
+limit_rules = option_rule (codes "max-nodes") ∷ option_rule (codes "max-ids") ∷ option_rule (codes "cache") ∷ []
+
+-- `solve FILE --proof P [--order F] [--schedule F] [--plan PLAN] [--max-nodes N] [--max-ids N] [--cache N]`
 abbrev pub solve_app : App
 solve_app =
-    with_rule (with_rule (with_rule (with_rule (with_rule (with_rule (new_app (codes "solve")) file_rule) proof_rule) (option_rule (codes "plan"))) (option_rule (codes "max-nodes"))) (option_rule (codes "max-ids")))
-    (option_rule (codes "cache"))
+    with_rules (new_app (codes "solve"))
+    (file_rule ∷ proof_rule ∷ option_rule (codes "order") ∷ option_rule (codes "schedule") ∷ option_rule (codes "plan") ∷ limit_rules)
 
 -- a proof's file, behind the formula's
 abbrev pub proof_file_rule : Rule
@@ -26,7 +35,7 @@ proof_file_rule = record (new_rule (codes "PROOF")) { required = true }
 
 -- `check FILE PROOF`
 abbrev pub check_app : App
-check_app = with_rule (with_rule (new_app (codes "check")) file_rule) proof_file_rule
+check_app = with_rules (new_app (codes "check")) (file_rule ∷ proof_file_rule ∷ [])
 
 -- the program: one of two commands after its name
 abbrev pub the_app : App

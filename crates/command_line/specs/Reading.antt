@@ -3,19 +3,27 @@ use Rattle.std.specs.Prelude.{◌≡◌, ◌≢◌, ◌⊎◌, ℕ, List, ⊤, O
 use Rattle.std.specs.Borrow.{Bor}
 use Rattle.clap.specs.declared.error.ErrorKind.{ErrorKind}
 use Rattle.clap.specs.declared.error.ErrorKind.TheVariants as kind
+use Rattle.command_line.specs.declared.plan.PlanSource.{PlanSource}
+use Rattle.command_line.specs.declared.plan.PlanSource.TheVariants as source
 use Rattle.command_line.specs.declared.words.Asked.{Asked}
 use Rattle.command_line.specs.declared.words.Asked.TheVariants as asked
 use Rattle.command_line.specs.declared.words.Refusal.{Refusal}
 use Rattle.command_line.specs.declared.words.Refusal.TheVariants as refusal
-use Rattle.command_line.specs.Command.{Command, Solve, Check, AsksHelp, Misuse, MayMean, refusal_means}
+use Rattle.command_line.specs.Command.{Command, Solve, Check, Planned, ByName, ByFile, AsksHelp, Misuse, MayMean, refusal_means}
 
 -- the text behind a reference that may be there
 abbrev pub text_of : Option (Bor (List ℕ)) → Option (List ℕ)
 text_of = option_map (λ s. s.now)
 
+-- what gives the plan
+abbrev pub planned_of : PlanSource → Planned
+planned_of (source.Name name) = ByName name
+planned_of (source.Schedule file) = ByFile file.now
+
 -- the command with its values
 abbrev pub command_of : Asked → Command
-command_of (asked.Solve files plan limits) = Solve (record { file = files.formula.now; proof = files.proof.now; plan = plan; limits = limits })
+command_of (asked.Solve task) =
+    Solve (record { file = task.files.formula.now; proof = task.files.proof.now; order = text_of task.order; plan = planned_of task.plan; limits = task.limits })
 command_of (asked.Check files) = Check (record { file = files.formula.now; proof = files.proof.now })
 
 -- What a refusal of the parser is, by its kind. Memory may run out in the parser, or where the text of help is made.

@@ -3,9 +3,11 @@
 #![tactic(auto)]
 
 mod limits;
+mod names;
 mod parser;
 mod plan;
 mod words;
 
-pub use plan::PlanName;
-pub use words::{Asked, FileNames, Refusal, gather, read_words};
+pub use names::FileNames;
+pub use plan::{PlanName, PlanSource};
+pub use words::{Asked, Refusal, SolveTask, gather, read_words};

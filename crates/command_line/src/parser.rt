@@ -2,7 +2,7 @@
 ghost use Rattle.std.specs.Prelude.{◌≡◌, IfOk, false};
 ghost use Rattle.clap.specs.Words.{app_of, rule_of};
 ghost use Rattle.clap.specs.declared.Command.TheViews.{out-Command};
-ghost use Rattle.command_line.specs.Parser.{check_app, file_rule, option_rule, solve_app, the_app};
+ghost use Rattle.command_line.specs.Parser.{check_app, file_rule, limit_rules, option_rule, proof_rule, solve_app, the_app, with_rules};
 
 use clap::{Arg, Command};
 use std::alloc::{AllocError, Global};
@@ -10,11 +10,13 @@ use std::alloc::{AllocError, Global};
 const ABOUT: &str = "Decides a CNF formula and proves the answer, or checks a proof.";
 
 const USAGE: &str = "\
-bddsat solve FILE --proof P [--plan PLAN] [--max-nodes N] [--max-ids N] [--cache N]
+bddsat solve FILE --proof P [--order F] [--schedule F] [--plan PLAN]
+                    [--max-nodes N] [--max-ids N] [--cache N]
        bddsat check FILE PROOF";
 
-const SOLVE_USAGE: &str =
-    "bddsat solve FILE --proof P [--plan PLAN] [--max-nodes N] [--max-ids N] [--cache N]";
+const SOLVE_USAGE: &str = "\
+bddsat solve FILE --proof P [--order F] [--schedule F] [--plan PLAN]
+                    [--max-nodes N] [--max-ids N] [--cache N]";
 
 const CHECK_USAGE: &str = "bddsat check FILE PROOF";
 
@@ -40,8 +42,13 @@ const SOLVE_ABOUT: &str = "Decides FILE, and writes the proof to P where it is u
 
 const PROOF_HELP: &str = "The file that the proof is written to, in LRAT";
 
+const ORDER_HELP: &str =
+    "A file with the order of the variables, the top one first [default: 1, 2, ..]";
+
+const SCHEDULE_HELP: &str = "A file with the plan, as lines of the commands c, a and q";
+
 const PLAN_HELP: &str =
-    "The plan: bucket quantifies variables early, conjoin none [default: bucket]";
+    "The plan without a schedule: bucket quantifies variables early, conjoin none [default: bucket]";
 
 const MAX_NODES_HELP: &str = "The most nodes in use at once, 0 to 100000000 [default: 10000000]";
 
@@ -78,21 +85,38 @@ fn solve_parser<'a>(alloc: Global) -> Result<Command<'a>, AllocError>
     ensures local { IfOk result (λ command. (out-Command command).has_globals ≡ false) }
 {
     let file = formula_arg(alloc);
-    let proof = option_arg(alloc, "proof", "P", PROOF_HELP).required(true);
+    let proof = proof_arg(alloc);
+    let order = option_arg(alloc, "order", "F", ORDER_HELP);
+    let schedule = option_arg(alloc, "schedule", "F", SCHEDULE_HELP);
     let plan = option_arg(alloc, "plan", "PLAN", PLAN_HELP);
-    let max_nodes = option_arg(alloc, "max-nodes", "N", MAX_NODES_HELP);
-    let max_ids = option_arg(alloc, "max-ids", "N", MAX_IDS_HELP);
-    let cache = option_arg(alloc, "cache", "N", CACHE_HELP);
-    Command::new(alloc, "solve")
+    let command = Command::new(alloc, "solve")
         .about(SOLVE_ABOUT)
         .override_usage(SOLVE_USAGE)
         .after_help(SOLVE_AFTER)
         .arg(file)?
         .arg(proof)?
-        .arg(plan)?
-        .arg(max_nodes)?
-        .arg(max_ids)?
-        .arg(cache)
+        .arg(order)?
+        .arg(schedule)?
+        .arg(plan)?;
+    with_limits(alloc, command)
+}
+
+// The command with the options of limits behind its arguments.
+fn with_limits<'a>(alloc: Global, command: Command<'a>) -> Result<Command<'a>, AllocError>
+    ensures app { IfOk result (λ limited. app_of limited ≡ with_rules (app_of command.entry) limit_rules) }
+    ensures local { IfOk result (λ limited. (out-Command limited).has_globals ≡ (out-Command command.entry).has_globals) }
+{
+    let max_nodes = option_arg(alloc, "max-nodes", "N", MAX_NODES_HELP);
+    let max_ids = option_arg(alloc, "max-ids", "N", MAX_IDS_HELP);
+    let cache = option_arg(alloc, "cache", "N", CACHE_HELP);
+    command.arg(max_nodes)?.arg(max_ids)?.arg(cache)
+}
+
+fn proof_arg<'a>(alloc: Global) -> Arg<'a>
+    ensures rule { rule_of result ≡ proof_rule }
+    ensures local { result.global ≡ false }
+{
+    option_arg(alloc, "proof", "P", PROOF_HELP).required(true)
 }
 
 fn formula_arg<'a>(alloc: Global) -> Arg<'a>

@@ -1,17 +1,18 @@
 // The words of the command line: what the parser takes, and this program's own test of the names.
-ghost use Rattle.std.specs.Prelude.{◌≡◌, MatchOption, MatchResult, IfOk, IfErr, IfSome, None, Some, map};
+ghost use Rattle.std.specs.Prelude.{◌≡◌, MatchOption, MatchResult, IfOk, IfErr, IfSome, Some, map};
 ghost use Rattle.std.specs.String.{string_bytes};
 ghost use Rattle.std.specs.Iterator.{IsFinite};
 ghost use Rattle.std.specs.Iterator.Runs.{WholeRun};
 ghost use Rattle.clap.specs.Words.{found_of, kind_of, rows_of, subcommand_rows_of};
 ghost use Rattle.schedule_plan.specs.Limits.{AreLimits};
-ghost use Rattle.command_line.specs.Command.{Asks, Misuse, check_means, command, command_means, limits_of, solve_means, taken_means, two_names};
+ghost use Rattle.command_line.specs.Command.{Asks, Misuse, check_means, command, command_means, limits_among, limits_of, solve_means, taken_means};
 ghost use Rattle.command_line.specs.declared.words.Refusal.TheVariants.{Usage};
-ghost use Rattle.command_line.specs.Reading.{IsRefusal, IsRefusalOf, command_of, text_of};
+ghost use Rattle.command_line.specs.Reading.{IsRefusal, IsRefusalOf, command_of};
 
 use crate::limits::limits_given;
+use crate::names::{FileNames, two_names};
 use crate::parser::parser;
-use crate::plan::{PlanName, plan_given};
+use crate::plan::{PlanSource, plan_given};
 use clap::ArgMatches;
 use clap::error::ErrorKind;
 use cnf_base::OutOfMemory;
@@ -21,17 +22,20 @@ use std::alloc::Global;
 /// What the words ask for.
 #[derive(Drop)]
 pub enum Asked<'a> {
-    /// To decide the formula by the plan and within the limits, and to write the proof.
-    Solve(FileNames<'a>, PlanName, Limits),
+    /// To decide a formula, and to write the proof.
+    Solve(SolveTask<'a>),
     /// To judge the proof over the formula.
     Check(FileNames<'a>),
 }
 
-/// The files that a command is given: the formula's, and the proof's.
+/// What is to be decided, by what and how far.
 #[derive(Drop)]
-pub struct FileNames<'a> {
-    pub formula: &'a str,
-    pub proof: &'a str,
+pub struct SolveTask<'a> {
+    pub files: FileNames<'a>,
+    /// The file of the variables' order, if one is named.
+    pub order: Option<&'a str>,
+    pub plan: PlanSource<'a>,
+    pub limits: Limits,
 }
 
 /// Why the words ask for nothing that is to be done.
@@ -102,14 +106,34 @@ fn solve_asked<'a>(values: &ArgMatches<'a>) -> Option<Asked<'a>>
         (λ asked. solve_means (rows_of (found_of values.now)) ≡ Asks (command_of asked)) }
     ensures limits { IfSome result (λ asked. AreLimits (limits_of (command_of asked))) }
 {
-    let files = two_names(values.get_str("FILE"), values.get_str("proof"))?;
-    let plan = plan_given(values.get_str("plan"))?;
-    let limits = limits_given(
+    let order = values.get_str("order");
+    let schedule = values.get_str("schedule");
+    let files = two_names(
+        values.get_str("FILE"),
+        values.get_str("proof"),
+        order,
+        schedule,
+    )?;
+    let plan = plan_given(values.get_str("plan"), schedule)?;
+    let limits = limits_among(values)?;
+    Some(Asked::Solve(SolveTask {
+        files,
+        order,
+        plan,
+        limits,
+    }))
+}
+
+// The limits that options among these values give.
+fn limits_among(values: &ArgMatches<'_>) -> Option<Limits>
+    ensures given { result ≡ limits_among (rows_of (found_of values.now)) }
+    ensures range { IfSome result AreLimits }
+{
+    limits_given(
         values.get_str("max-nodes"),
         values.get_str("max-ids"),
         values.get_str("cache"),
-    )?;
-    Some(Asked::Solve(files, plan, limits))
+    )
 }
 
 fn check_asked<'a>(values: &ArgMatches<'a>) -> Option<Asked<'a>>
@@ -117,26 +141,8 @@ fn check_asked<'a>(values: &ArgMatches<'a>) -> Option<Asked<'a>>
         (λ asked. check_means (rows_of (found_of values.now)) ≡ Asks (command_of asked)) }
     ensures limits { IfSome result (λ asked. AreLimits (limits_of (command_of asked))) }
 {
-    let files = two_names(values.get_str("FILE"), values.get_str("PROOF"))?;
+    let files = two_names(values.get_str("FILE"), values.get_str("PROOF"), None, None)?;
     Some(Asked::Check(files))
-}
-
-// The two names, which have to differ.
-fn two_names<'a>(formula: Option<&'a str>, proof: Option<&'a str>) -> Option<FileNames<'a>>
-    ensures { MatchOption result (two_names (text_of formula.entry) (text_of proof.entry) ≡ None)
-        (λ files. two_names (text_of formula.entry) (text_of proof.entry) ≡ Some (files.formula.now, files.proof.now)) }
-{
-    let Some(formula) = formula else {
-        return None;
-    };
-    let Some(proof) = proof else {
-        return None;
-    };
-    if formula == proof {
-        None
-    } else {
-        Some(FileNames { formula, proof })
-    }
 }
 
 // What a refusal of the parser is; the text of help is made whole.

@@ -21,6 +21,18 @@ Out 3;WriteFault|s UNSATISFIABLE/|2 0 1 0/|error: write failed/
 Out 4;Unsat|s UNSATISFIABLE/|2 0 1 0/|
 Err 1;Unsat|s UNSATISFIABLE/|2 0 1 0/|";
 
+// The same by an order, which is opened and read at its end, and a schedule, which is read in one piece before.
+const SCHEDULED: &str = "\
+Cnf 4;ReadFault||none|error: read failed/
+Order 1;ReadFault||none|error: read failed/
+Order 2;ReadFault||none|error: read failed/
+Order 3;Unsat|s UNSATISFIABLE/|2 0 1 0/|
+Schedule 1;ReadFault||none|error: read failed/
+Schedule 2;ReadFault||none|error: read failed/
+Schedule 3;ReadFault||none|error: read failed/
+Schedule 4;Unsat|s UNSATISFIABLE/|2 0 1 0/|
+ProofOut 1;WriteFault||none|error: write failed/";
+
 // The formula is opened, read in three pieces, and read again at its end; the proof is read in two pieces; the verdict is written
 // in two pieces and flushed.
 const CHECK: &str = "\
@@ -85,6 +97,21 @@ fn of_solve(rt: HostRuntime) -> Result<(), Fail> {
             &rt,
             rt.alloc(),
             "bddsat solve in.cnf --proof out.lrat",
+            files,
+            row,
+        )?;
+    }
+    Ok(())
+}
+
+#[test]
+fn of_a_schedule(rt: HostRuntime) -> Result<(), Fail> {
+    let files = (b"p cnf 0 1\n0\n".as_slice(), b"".as_slice());
+    for row in SCHEDULED.lines() {
+        expect(
+            &rt,
+            rt.alloc(),
+            "bddsat solve in.cnf --proof out.lrat --order order --schedule schedule",
             files,
             row,
         )?;

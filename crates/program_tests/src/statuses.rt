@@ -21,6 +21,12 @@ fn expect(rt: &impl Abort, alloc: Global, status: Status, text: &str) -> Result<
 fn complaints(rt: HostRuntime) -> Result<(), Fail> {
     for (status, text, code) in [
         (Status::TooLong(Role::Cnf), "error: cnf too long\n", 2),
+        (Status::TooLong(Role::Order), "error: order too long\n", 2),
+        (
+            Status::TooLong(Role::Schedule),
+            "error: schedule too long\n",
+            2,
+        ),
         (Status::TooLong(Role::ProofIn), "error: proof too long\n", 2),
         (Status::OutOfMemory, "error: out of memory\n", 5),
     ] {

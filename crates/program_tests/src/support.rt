@@ -7,13 +7,16 @@ use host_io::{FailingHost, MemoryHost, OutOfMemory, Role};
 use solver_cli::Status;
 use std::alloc::{AllocError, Global};
 
-/// A host that has this formula in `in.cnf` and this proof in `in.lrat`.
+/// A host that has this formula in `in.cnf` and this proof in `in.lrat`, an order of no variables in `order`, and a schedule of
+/// one clause in `schedule`.
 pub fn host_of(alloc: Global, formula: &[u8], proof: &[u8]) -> Result<MemoryHost, OutOfMemory>
     ensures { IfOk result (λ host. (role : Role) → channel_of host role ≡ fresh) }
 {
     let mut host = MemoryHost::new(alloc);
     host.add_file("in.cnf", formula)?;
     host.add_file("in.lrat", proof)?;
+    host.add_file("order", b"")?;
+    host.add_file("schedule", b"c 1\n")?;
     Ok(host)
 }
 
@@ -30,6 +33,8 @@ pub fn words_of(alloc: Global, line: &str) -> Result<Vec<String>, AllocError> {
 pub fn role_of(name: &str) -> Option<Role> {
     match name {
         "Cnf" => Some(Role::Cnf),
+        "Order" => Some(Role::Order),
+        "Schedule" => Some(Role::Schedule),
         "ProofIn" => Some(Role::ProofIn),
         "ProofOut" => Some(Role::ProofOut),
         "Out" => Some(Role::Out),

@@ -1,7 +1,7 @@
 // The plan and the limits that words give, help that is cut off, and that all words are kept.
 use crate::support::{host_of, words_of};
 use host_io::{FailingHost, Role};
-use solver_cli::{Asked, PlanName, gather, read_words, run};
+use solver_cli::{Asked, PlanName, PlanSource, gather, read_words, run};
 use std::alloc::Global;
 use std::process::Abort;
 use std::test::Fail;
@@ -26,9 +26,9 @@ const LIMITS: &str = "\
 fn limits_of(alloc: Global, line: &str) -> Result<String, Fail> {
     let words = words_of(alloc, line)?;
     match read_words(alloc, &words) {
-        Ok(Asked::Solve(_, _, limits)) => Ok(format!(in alloc;
+        Ok(Asked::Solve(task)) => Ok(format!(in alloc;
             "{} {} {}",
-            limits.cache, limits.max_nodes, limits.max_ids
+            task.limits.cache, task.limits.max_nodes, task.limits.max_ids
         )?),
         _ => Err("no command to solve")?,
     }
@@ -67,7 +67,10 @@ fn expect_plan(
     let line = format!(in alloc; "bddsat solve in.cnf --proof out {options}")?;
     let words = words_of(alloc, line.as_str())?;
     match read_words(alloc, &words) {
-        Ok(Asked::Solve(_, plan, _)) => assert_eq!(rt; plan, expected, "{options}"),
+        Ok(Asked::Solve(task)) => match task.plan {
+            PlanSource::Name(plan) => assert_eq!(rt; plan, expected, "{options}"),
+            PlanSource::Schedule(_) => Err("a schedule")?,
+        },
         _ => Err("no command to solve")?,
     }
     Ok(())
@@ -82,12 +85,12 @@ fn plans(rt: HostRuntime) -> Result<(), Fail> {
 }
 
 // The call on standard output that fails, of those that move 16 bytes each: how the run ends, how many bytes of the help are
-// shown, and the first of them. The text has 745 bytes.
+// shown, and the first of them. The text has 976 bytes.
 const HELP: &str = "\
 1;WriteFault 0 ''
 3;WriteFault 32 'Decides FILE, and writes the pro'
-48;WriteFault 745 'Decides FILE, and writes the pro'
-49;Help 745 'Decides FILE, and writes the pro'";
+62;WriteFault 976 'Decides FILE, and writes the pro'
+63;Help 976 'Decides FILE, and writes the pro'";
 
 fn helped(alloc: Global, number: u64) -> Result<String, Fail> {
     let words = words_of(alloc, "bddsat solve --help")?;

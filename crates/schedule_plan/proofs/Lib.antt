@@ -9,3 +9,16 @@ pub mod Climb
 pub mod Fresh
 pub mod ItemFacts
 pub mod Linked
+pub mod Uses
+pub mod ToCome
+pub mod Starts
+pub mod Standing
+pub mod Steps
+pub mod Reached
+pub mod TakesError
+pub mod Drafted
+pub mod OrderVariables
+pub mod OrderFront
+pub mod OrderJudged
+pub mod Accepted
+pub mod Exits

@@ -1,7 +1,7 @@
 -- The bucket plan: the variables are quantified in their order, each as soon as all terms that hold it are conjoined.
 -- (Dechter, Rish: Directional Resolution, 1994; Pan, Vardi: Search vs. Symbolic Techniques in Satisfiability Solving, 2004;
 -- Bryant, Heule: Generating Extended Resolution Proofs with a BDD-Based SAT Solver, 2021, section 5.)
-use Rattle.std.specs.Prelude.{ℕ, zero, suc, ◌==◌, Bool, List, [], ◌∷◌, ◌++◌, length, slice_index_or}
+use Rattle.std.specs.Prelude.{ℕ, zero, suc, ◌==◌, List, [], ◌∷◌, ◌++◌, length, slice_index_or}
 use Rattle.std.specs.List.{filter, position_or_len}
 use Rattle.cnf_base.specs.Formula.{Formula}
 use Rattle.schedule_plan.specs.declared.plan.Move.{Move}

@@ -1,5 +1,5 @@
 -- Orders of the variables, the top one first. (Bryant: Graph-Based Algorithms for Boolean Function Manipulation, 1986.)
-use Rattle.std.specs.Prelude.{◌≡◌, ℕ, zero, suc, ◌<◌, ◌≤◌, ◌+◌, List, [], ◌∷◌, ◌++◌, length, slice_index_or}
+use Rattle.std.specs.Prelude.{◌≡◌, ℕ, zero, suc, ◌<◌, ◌≤◌, List, [], ◌∷◌, ◌++◌, length, slice_index_or}
 
 -- each of the variables 1, 2, .. up to their number stands once
 pub record IsOrder (order : List ℕ) : Type 0 where

@@ -1,8 +1,8 @@
 -- Plans: what is done with the clauses of a formula, one move after another. A term is a clause, the conjunction of
 -- two terms, or a term from which a variable is quantified. (Bryant, Heule: Generating Extended Resolution Proofs with
 -- a BDD-Based SAT Solver, 2021, section 5.)
-use Rattle.std.specs.Prelude.{◌≡◌, ℕ, zero, suc, ◌<◌, ◌≤◌, ◌+◌, ◌-◌, Bool, true, false, not, ◌&&◌, ◌||◌, ℤ, nat_abs, List, [], ◌∷◌, ◌++◌, length, Option, None, Some, IsTrue, nat_le, nat_lt, ◌==◌, if◌then◌else◌, slice_index_or}
-use Rattle.std.specs.List.{list_any, list_all}
+use Rattle.std.specs.Prelude.{◌≡◌, ℕ, zero, suc, ◌<◌, ◌≤◌, ◌-◌, Bool, true, false, not, ◌&&◌, ◌||◌, ℤ, nat_abs, List, [], ◌∷◌, ◌++◌, length, Option, None, Some, nat_le, nat_lt, ◌==◌, if◌then◌else◌, slice_index_or}
+use Rattle.std.specs.List.{list_any}
 use Rattle.std.specs.Option.{option_and_then}
 use Rattle.cnf_base.specs.Truth.{Assignment, clause_holds}
 use Rattle.cnf_base.specs.Formula.{Formula}

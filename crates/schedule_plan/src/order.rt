@@ -35,6 +35,14 @@ impl Order {
         Ok(Order { variables })
     }
 
+    /// The order in which the variables stand here, the top one first.
+    pub fn of_variables(variables: Vec<u32>) -> Order
+        requires { IsOrder variables.items }
+        ensures { result ≡ variables.items }
+    {
+        Order { variables }
+    }
+
     /// The variables, the top one first. Each stands once.
     pub fn as_slice(&self) -> &[u32]
         ensures value { result.now ≡ self.now }

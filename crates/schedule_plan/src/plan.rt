@@ -1,16 +1,24 @@
 // Plans: which clauses are pushed, conjoined and quantified in turn. (Bryant, Heule: Generating Extended Resolution
 // Proofs with a BDD-Based SAT Solver, 2021, section 5.)
-ghost use Rattle.std.specs.Prelude.{◌≡◌, IfOk, length};
+ghost use Rattle.std.specs.Prelude.{◌≡◌, ◌≢◌, Err, IsTrue, IfOk, length};
 ghost use Rattle.std.specs.List.{slice_get};
 ghost use Rattle.schedule_plan.specs.Plan.{IsAdmissible, conjoin};
 ghost use Rattle.schedule_plan.specs.Bucket.{bucket};
+ghost use Rattle.host_io.specs.Channel.{Rose};
+ghost use Rattle.text_scan.specs.Decides.{gained, Decides, OnlyReads};
+ghost use Rattle.schedule_plan.specs.declared.schedule.error.PlanError.TheVariants.{ReadFault};
+ghost use Rattle.schedule_plan.specs.ScheduleText.{schedule, schedule_so_far, overlong};
+ghost use Rattle.schedule_plan.specs.ScheduleState.{Answers};
 
 use crate::emit::bucket_moves;
 use crate::forest::buckets;
 use crate::links::linked;
 use crate::occurrence::occurrences;
 use crate::order::Order;
+use crate::schedule::error::PlanError;
+use crate::schedule::read::read_schedule;
 use cnf_base::{Cnf, OutOfMemory};
+use host_io::Source;
 use std::alloc::Global;
 use std::marker::Model;
 
@@ -69,6 +77,34 @@ impl Plan {
         let links = linked(alloc, buckets.as_slice(), order.as_slice().len() + 2)?;
         let moves = bucket_moves(alloc, formula, order, &links)?;
         Ok(Plan { moves })
+    }
+
+    /// A plan of these moves, whether it is admissible or not.
+    pub fn of_moves(moves: Vec<Move>) -> Plan
+        ensures { result ≡ moves.items }
+    {
+        Plan { moves }
+    }
+
+    /// Reads a schedule: one command a line, `c` with the clauses that are pushed, `a` with how many top terms are
+    /// conjoined, `q` with the variables that are quantified. Lines that begin with `#` are skipped. A text has at most
+    /// 4,000,000,000 bytes. No read follows once the answer is decided.
+    pub fn read<S: Source>(alloc: Global, formula: &Cnf, source: &mut S) -> Result<Plan, PlanError>
+        // The answer is the format's of the bytes that were taken and whatever may follow them, so of the whole text.
+        ensures decides { IsTrue S.tells → Decides (S.channel source.old) (S.channel source.new)
+            (λ bytes more. Answers result (schedule formula.now bytes)) }
+        ensures fault { result ≡ Err ReadFault → Rose (S.channel source.old).faults (S.channel source.new).faults }
+        // no failed read is told as anything else
+        ensures unfailed { result ≢ Err ReadFault → (S.channel source.new).faults ≡ (S.channel source.old).faults }
+        // a read fails only where the bytes taken decide nothing yet
+        ensures undecided { IsTrue S.tells → result ≡ Err ReadFault →
+            schedule_so_far formula.now (gained (S.channel source.old) (S.channel source.new)) ≡ overlong }
+        ensures admissible { IfOk result (IsAdmissible formula.now) }
+
+        ensures reads { OnlyReads (S.channel source.old) (S.channel source.new) }
+        ensures beside { S.beside source.new ≡ S.beside source.old }
+    {
+        read_schedule(alloc, formula, source)
     }
 
     pub fn len(&self) -> usize

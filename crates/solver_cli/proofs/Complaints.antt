@@ -1,13 +1,12 @@
 -- What was written of a complaint.
-use Rattle.std.proofs.Common.{◌≡◌, ℕ, Bool, List, [], ◌++◌, length, take, drop, refl, sym, ◌∙◌, append_assoc, subst, Ok, Err, arith}
+use Rattle.std.proofs.Common.{◌≡◌, ℕ, Bool, List, [], ◌++◌, length, take, drop, refl, sym, ap₂, ◌∙◌, append_assoc, subst, Ok, Err, arith}
 use Rattle.std.specs.Prelude.{Result, IsTrue, codes, decimal}
 use Rattle.std.proofs.lemmas.List.{append-nil, take-append-drop}
-use Rattle.dimacs_reader.specs.declared.error.CnfKind.{CnfKind}
+use Rattle.host_io.specs.declared.role.Role.{Role}
 use Rattle.host_io.specs.declared.source.Failed.{Failed}
 use Rattle.host_io.specs.Channel.{Channel, Rose, WritesAll, Flushes}
 use Rattle.solver_cli.specs.declared.status.Status.{Status}
-use Rattle.solver_cli.specs.declared.status.Status.TheVariants.{CnfRefused}
-use Rattle.solver_cli.specs.ErrorText.{kind_name, error_text}
+use Rattle.solver_cli.specs.ErrorText.{role_word, refused_line, error_text}
 use Rattle.solver_cli.specs.Phases.{Complains}
 
 -- a flush behind a write covers all bytes, where no call failed
@@ -36,15 +35,17 @@ complained tells old mid new status (Err e) flushed writes flushes = record {
   only = record { name = flushes.name ∙ writes.name; faults = omega (arith, flushes.faults.no_less, writes.faults.no_less) };
 }
 
--- the three parts of the line about a text that was refused
-three_parts : (start digits last kind : List ℕ) → ((start ++ digits) ++ last) ++ kind ++ codes "\n" ≡ start ++ (digits ++ (last ++ kind ++ codes "\n"))
-three_parts start digits last kind = simp append_assoc
+-- the parts of the line about a text that was refused
+pub parts : (start digits last kind : List ℕ) → ((start ++ digits) ++ last) ++ kind ++ codes "\n" ≡ start ++ (digits ++ (last ++ kind ++ codes "\n"))
+parts start digits last kind = simp append_assoc
 
 -- what is written behind the line's number
-abbrev pub kind_part : CnfKind → List ℕ
-kind_part kind = codes ": " ++ kind_name kind ++ codes "\n"
+abbrev pub kind_part : List ℕ → List ℕ
+kind_part kind = codes ": " ++ kind ++ codes "\n"
 
 -- writing the three parts writes the line
-pub refused : {T : Type 0} {tells : Bool} {old new : Channel} {result : Result T Failed} (kind : CnfKind) (line : ℕ) → WritesAll tells old new (codes "error: cnf line " ++ (decimal line ++ kind_part kind)) result → WritesAll tells old new (error_text (CnfRefused kind line)) result
-refused {tells = tells} {old = old} {new = new} {result = result} kind line writes =
-    subst (λ (text : List ℕ). WritesAll tells old new text result) (sym (three_parts (codes "error: cnf line ") (decimal line) (codes ": ") (kind_name kind))) writes
+pub refused : {T : Type 0} {tells : Bool} {old new : Channel} {result : Result T Failed} (role : Role) (line : ℕ) (kind start rest : List ℕ) → WritesAll tells old new (start ++ (decimal line ++ rest)) result
+    → start ≡ codes "error: " ++ role_word role ++ codes " line " → rest ≡ kind_part kind → WritesAll tells old new (refused_line role line kind) result
+refused {tells = tells} {old = old} {new = new} {result = result} role line kind start rest writes is_start is_rest =
+    subst (λ (text : List ℕ). WritesAll tells old new text result)
+    (ap₂ (λ (a b : List ℕ). a ++ (decimal line ++ b)) is_start is_rest ∙ sym (parts (codes "error: " ++ role_word role ++ codes " line ") (decimal line) (codes ": ") kind)) writes

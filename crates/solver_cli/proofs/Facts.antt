@@ -4,22 +4,15 @@ use Rattle.std.specs.Prelude.{Option, Result, drop, ◌⊎◌}
 use Rattle.std.proofs.Math.Seq.{drop-append_seam}
 use Rattle.cnf_base.specs.Formula.{Formula}
 use Rattle.host_io.specs.Channel.{Channel}
-use Rattle.host_io.specs.declared.role.Role.{Role}
-use Rattle.host_io.specs.declared.role.Role.TheVariants.{Cnf}
-use Rattle.dimacs_reader.specs.declared.error.CnfKind.{CnfKind}
-use Rattle.dimacs_reader.specs.declared.error.CnfError.{CnfError}
-use Rattle.dimacs_reader.specs.declared.error.CnfError.TheVariants.{Refused}
-use Rattle.dimacs_reader.specs.declared.error.CnfError.TheVariants as cnf_error
 use Rattle.term_runner.specs.declared.outcome.Outcome.{Outcome}
 use Rattle.term_runner.specs.declared.error.RunError.{RunError}
 use Rattle.term_runner.specs.declared.error.RunError.TheVariants as run_error
-use Rattle.dimacs_reader.specs.Cnf.{CnfText, formula, refusal, overlong}
+use Rattle.dimacs_reader.specs.Cnf.{CnfText, formula}
 use Rattle.solver_cli.specs.declared.status.Status.{Status}
-use Rattle.solver_cli.specs.declared.status.Status.TheVariants.{Help, Usage, CnfRefused, TooLong, ReadFault, WriteFault, OutOfMemory}
+use Rattle.solver_cli.specs.declared.status.Status.TheVariants.{WriteFault, OutOfMemory}
 use Rattle.solver_cli.specs.ErrorText.{is_answer}
 use Rattle.command_line.specs.Command.{Command, ToSolve, ToCheck, Solve, Check, formula_file, Meaning, Asks, AsksHelp, Misuse, IsOneOf, MayMean, CanOnlyMean, meanings, only_command, command}
-use Rattle.solver_cli.specs.ExitCode.{status_of_error, status_of_run}
-use Rattle.solver_cli.specs.Phases.{IsRead}
+use Rattle.solver_cli.specs.ExitCode.{status_of_run}
 
 -- what was written behind what stood there
 pub behind : (old new : Channel) (part : List ℕ) → new.written ≡ old.written ++ part → drop (length old.written) new.written ≡ part
@@ -38,45 +31,6 @@ whole_of old new idle = ap (λ (l : List ℕ). drop (length l) new.written) idle
 -- two statuses, one of which is an answer
 pub no_answer : {status other : Status} → is_answer status ≡ false → is_answer other ≡ true → status ≡ other → ⊥
 no_answer unanswered answers same = true≢false (sym answers ∙ ap is_answer (sym same) ∙ unanswered)
-
--- how reading ends a run
-pub record Refuses (status : Status) (text : CnfText) : Type 0 where
-  pub kind : CnfKind
-  pub line : ℕ
-  pub ends : status ≡ CnfRefused kind line
-  pub says : text ≡ refusal kind line
-
-pub record Exceeds (status : Status) (text : CnfText) : Type 0 where
-  pub ends : status ≡ TooLong Cnf
-  pub says : text ≡ overlong
-
-pub read_statuses : (status : Status) (error : CnfError) → status ≡ status_of_error error → (is_answer status ≡ false) × ((status ≡ WriteFault) → ⊥) × ((status ≡ Usage) → ⊥) × ((status ≡ Help) → ⊥)
-read_statuses status (Refused kind line) is = (ap is_answer is, (λ e. cc), (λ e. cc), λ e. cc)
-read_statuses status cnf_error.ReadFault is = (ap is_answer is, (λ e. cc), (λ e. cc), λ e. cc)
-read_statuses status cnf_error.TooLong is = (ap is_answer is, (λ e. cc), (λ e. cc), λ e. cc)
-read_statuses status cnf_error.OutOfMemory is = (ap is_answer is, (λ e. cc), (λ e. cc), λ e. cc)
-
--- the refusal of a text, or a fault or want of memory
-pub read_ends : (status : Status) (error : CnfError) (whole taken : CnfText) → status ≡ status_of_error error → IsRead (Err error) whole taken
-    → (status ≡ ReadFault) ⊎ ((status ≡ OutOfMemory) ⊎ ((taken ≡ whole) × (Refuses status whole ⊎ Exceeds status whole)))
-read_ends status (Refused kind line) whole taken ends is = inr (inr (is.1 ∙ sym is.0, inl (record { kind = kind; line = line; ends = ends; says = is.0 })))
-read_ends status cnf_error.TooLong whole taken ends is = inr (inr (is.1 ∙ sym is.0, inr (record { ends = ends; says = is.0 })))
-read_ends status cnf_error.ReadFault whole taken ends is = inl ends
-read_ends status cnf_error.OutOfMemory whole taken ends is = inr (inl ends)
-
--- a run that ends with a read fault read with one
-pub read_fault : (error : CnfError) → status_of_error error ≡ ReadFault → ◌≡◌ {A = Result Formula CnfError} (Err error) (Err cnf_error.ReadFault)
-read_fault (Refused kind line) e = cc
-read_fault cnf_error.ReadFault e = refl
-read_fault cnf_error.TooLong e = cc
-read_fault cnf_error.OutOfMemory e = cc
-
--- a text that is too long is the formula's
-pub long_is_cnf : (error : CnfError) (role : Role) → status_of_error error ≡ TooLong role → role ≡ Cnf
-long_is_cnf (Refused kind line) role e = cc
-long_is_cnf cnf_error.ReadFault role e = cc
-long_is_cnf cnf_error.TooLong role e = cc
-long_is_cnf cnf_error.OutOfMemory role e = cc
 
 -- how deciding a formula and writing its proof ends a run
 pub write_ends : (status : Status) (error : RunError) → status ≡ status_of_run error
@@ -148,20 +102,6 @@ only_misuse words {asked = asked} e only = misuse_apart (sym (only (Asks asked) 
 
 pub only_help : (words : List (List ℕ)) {asked : Command} → command words ≡ Some asked → CanOnlyMean words AsksHelp → ⊥
 only_help words {asked = asked} e only = help_apart (sym (only (Asks asked) (this_one (meanings words) asked e)))
-
-pub formula_refusal : {text : CnfText} {problem : Formula} {kind : CnfKind} {line : ℕ} → text ≡ formula problem → text ≡ refusal kind line → ⊥
-formula_refusal e d = cc
-
-pub formula_overlong : {text : CnfText} {problem : Formula} → text ≡ formula problem → text ≡ overlong → ⊥
-formula_overlong e d = cc
-
-pub refusal_overlong : {text : CnfText} {kind : CnfKind} {line : ℕ} → text ≡ refusal kind line → text ≡ overlong → ⊥
-refusal_overlong e d = cc
-
-pub same_refusal : {status : Status} {text : CnfText} {kind other : CnfKind} {line number : ℕ} → text ≡ refusal kind line → text ≡ refusal other number → status ≡ CnfRefused kind line → status ≡ CnfRefused other number
-same_refusal here there ends = ends ∙ inner _ _ _ _ (sym here ∙ there) where
-  inner : (kind other : CnfKind) (line number : ℕ) → refusal kind line ≡ refusal other number → CnfRefused kind line ≡ CnfRefused other number
-  inner kind other line number e = cc
 
 pub same_formula : {text : CnfText} {problem other : Formula} → text ≡ formula problem → text ≡ formula other → problem ≡ other
 same_formula e d = inner _ _ (sym e ∙ d) where

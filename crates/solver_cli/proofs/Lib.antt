@@ -4,12 +4,15 @@ pub mod Staged
 pub mod StagedCheck
 pub mod Complaints
 pub mod Facts
+pub mod CallsFor
 pub mod Promised
 pub mod Helped
+pub mod Untaken
 pub mod Accepted
 pub mod Printed
 pub mod Unjudged
 pub mod Verdicts
+pub mod Served
 pub mod Named
 pub mod Told
 pub mod Whole

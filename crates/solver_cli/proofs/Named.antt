@@ -14,11 +14,15 @@ use Rattle.term_runner.specs.declared.error.RunError.{RunError}
 use Rattle.term_runner.specs.declared.error.RunError.TheVariants as run_error
 use Rattle.solver_cli.specs.declared.status.Status.{Status}
 use Rattle.solver_cli.specs.ExitCode.{status_of_run}
-use Rattle.solver_cli.specs.Phases.{TakesFormula, Complains}
-use Rattle.solver_cli.specs.Stages.{Streams, streams_of, Came, CameToCheck, Stages, status_after}
+use Rattle.schedule_plan.specs.declared.plan.Move.{Move}
+use Rattle.schedule_plan.specs.declared.order_error.OrderError.{OrderError}
+use Rattle.schedule_plan.specs.declared.schedule.error.PlanError.{PlanError}
+use Rattle.solver_cli.specs.Phases.{HasOrder, HasPlan, Complains}
+use Rattle.solver_cli.specs.Stages.{Streams, streams_of, Prepared, Came, CameToCheck, Stages, status_after}
 use Rattle.solver_cli.specs.Headline.{Run, GivesSolve, AsksFor, ErrorStands, NamesAreGiven, name_given, ends_before_proof}
 use Rattle.solver_cli.proofs.Facts.{behind, grown_by}
-use Rattle.solver_cli.proofs.Accepted.{took, asks_for, natural_schedule}
+use Rattle.solver_cli.proofs.Served.{order_name, plan_name}
+use Rattle.solver_cli.proofs.Accepted.{asks_for}
 
 -- a role has no name, or the one that the words give it
 abbrev pub IsNamed : Run → Role → Type 0
@@ -30,6 +34,8 @@ IsAccepted run = (run.after ProofOut).name ≢ None → GivesSolve run × (IsTru
 
 pub record StreamNames (run : Run) : Type 0 where
   pub cnf : IsNamed run Cnf
+  pub order : IsNamed run Order
+  pub schedule : IsNamed run Schedule
   pub judged : IsNamed run ProofIn
   pub proof : IsNamed run ProofOut
   pub out : IsNamed run Out
@@ -54,9 +60,24 @@ given_proof run task asked (inr none) = inl none
 unnamed_proof : (run : Run) → (run.after ProofOut).name ≡ None → IsAccepted run
 unnamed_proof run none named = absurd (named none)
 
-accepted_for : (run : Run) (task : ToSolve) (problem : Formula) → command run.words ≡ Some (Solve task)
-    → TakesFormula run.tells (run.before Cnf) (run.after Cnf) run.files task.file (Ok problem) → IsAccepted run
-accepted_for run task problem asked takes named = ((task, asked), λ t. (problem, asks_for run task problem (natural_schedule task.plan problem) (took run (Solve task) problem asked takes t)))
+accepted_for : (run : Run) (task : ToSolve) {problem : Formula} {order : List ℕ} {moves : List Move} → command run.words ≡ Some (Solve task)
+    → Prepared run.tells (streams_of run.before) (streams_of run.after) run.files task problem order moves → IsAccepted run
+accepted_for run task {problem = problem} asked prepared named = ((task, asked), λ t. (problem, asks_for run task asked prepared t))
+
+-- the order's file, and the schedule's
+given_order : (run : Run) (task : ToSolve) → command run.words ≡ Some (Solve task) → (run.before Order).name ≡ None → {result : Result (List ℕ) OrderError} {vars : ℕ}
+    → HasOrder vars task.order run.tells (run.before Order) (run.after Order) run.files result → IsNamed run Order
+given_order run task asked unnamed has = elim (order_name task.order has) [
+  | inl same ↦ inl (same ∙ unnamed)
+  | inr other ↦ elim other [ inl named ↦ inr (Solve task, asked, named) | inr none ↦ inl none ]
+]
+
+given_schedule : (run : Run) (task : ToSolve) → command run.words ≡ Some (Solve task) → (run.before Schedule).name ≡ None → {result : Result (List Move) PlanError} {problem : Formula} {order : List ℕ}
+    → HasPlan problem order task.plan run.tells (run.before Schedule) (run.after Schedule) run.files result → IsNamed run Schedule
+given_schedule run task asked unnamed has = elim (plan_name task.plan has) [
+  | inl same ↦ inl (same ∙ unnamed)
+  | inr other ↦ elim other [ inl named ↦ inr (Solve task, asked, named) | inr none ↦ inl none ]
+]
 
 later : (status : Status) → ends_before_proof status ≡ false → {A : Type 0} → IsTrue (ends_before_proof status) → A
 later status after before = absurd (true≢false (sym before ∙ after))
@@ -75,6 +96,8 @@ run_later run_error.WriteFault = refl
 pub stream_names : (run : Run) → ((role : Role) → (run.before role).name ≡ None) → Stages run.tells run.words (streams_of run.before) (streams_of run.after) run.files run.status → StreamNames run
 stream_names run unnamed (inl m) = record {
   cnf = inl (name_of (ap (λ (s : Streams). s.cnf) m.same) (unnamed Cnf));
+  order = inl (name_of (ap (λ (s : Streams). s.order) m.same) (unnamed Order));
+  schedule = inl (name_of (ap (λ (s : Streams). s.schedule) m.same) (unnamed Schedule));
   judged = inl (name_of (ap (λ (s : Streams). s.judged) m.same) (unnamed ProofIn));
   proof = inl (name_of (ap (λ (s : Streams). s.proof) m.same) (unnamed ProofOut));
   out = inl (name_of (ap (λ (s : Streams). s.out) m.same) (unnamed Out));
@@ -83,6 +106,8 @@ stream_names run unnamed (inl m) = record {
 }
 stream_names run unnamed (inr (inl h)) = record {
   cnf = inl (name_of h.cnf (unnamed Cnf));
+  order = inl (name_of h.order (unnamed Order));
+  schedule = inl (name_of h.schedule (unnamed Schedule));
   judged = inl (name_of h.judged (unnamed ProofIn));
   proof = inl (name_of h.proof (unnamed ProofOut));
   out = inl (h.shows.puts.only.name ∙ unnamed Out);
@@ -90,9 +115,11 @@ stream_names run unnamed (inr (inl h)) = record {
   accepted = unnamed_proof run (name_of h.proof (unnamed ProofOut));
 }
 stream_names run unnamed (inr (inr (inl t))) = came t.came where
-  came : Came run.tells (streams_of run.before) (streams_of run.after) run.files t.task.file t.task.proof t.task.plan t.task.limits run.status → StreamNames run
+  came : Came run.tells (streams_of run.before) (streams_of run.after) run.files t.task run.status → StreamNames run
   came (inl u) = record {
     cnf = given run (Solve t.task) t.asked u.takes.name;
+    order = inl (name_of u.order (unnamed Order));
+    schedule = inl (name_of u.schedule (unnamed Schedule));
     judged = inl (name_of u.judged (unnamed ProofIn));
     proof = inl (name_of u.proof (unnamed ProofOut));
     out = inl (name_of u.out (unnamed Out));
@@ -101,6 +128,8 @@ stream_names run unnamed (inr (inr (inl t))) = came t.came where
   }
   came (inr (inl u)) = record {
     cnf = given run (Solve t.task) t.asked u.takes.name;
+    order = given_order run t.task t.asked (unnamed Order) u.orders;
+    schedule = inl (name_of u.schedule (unnamed Schedule));
     judged = inl (name_of u.judged (unnamed ProofIn));
     proof = inl (name_of u.proof (unnamed ProofOut));
     out = inl (name_of u.out (unnamed Out));
@@ -109,32 +138,50 @@ stream_names run unnamed (inr (inr (inl t))) = came t.came where
   }
   came (inr (inr (inl u))) = record {
     cnf = given run (Solve t.task) t.asked u.takes.name;
+    order = given_order run t.task t.asked (unnamed Order) u.orders;
+    schedule = given_schedule run t.task t.asked (unnamed Schedule) u.plans;
     judged = inl (name_of u.judged (unnamed ProofIn));
+    proof = inl (name_of u.proof (unnamed ProofOut));
+    out = inl (name_of u.out (unnamed Out));
+    read_first = λ _. name_of u.proof (unnamed ProofOut);
+    accepted = unnamed_proof run (name_of u.proof (unnamed ProofOut));
+  }
+  came (inr (inr (inr (inl u)))) = record {
+    cnf = given run (Solve t.task) t.asked u.prepared.takes.name;
+    order = given_order run t.task t.asked (unnamed Order) u.prepared.orders;
+    schedule = given_schedule run t.task t.asked (unnamed Schedule) u.prepared.plans;
+    judged = inl (name_of u.prepared.judged (unnamed ProofIn));
     proof = given_proof run t.task t.asked (u.opens.failed u.failed);
     out = inl (name_of u.out (unnamed Out));
     read_first = later run.status (ap ends_before_proof u.ends);
-    accepted = accepted_for run t.task u.problem t.asked u.takes;
+    accepted = accepted_for run t.task t.asked u.prepared;
   }
-  came (inr (inr (inr (inl u)))) = record {
-    cnf = given run (Solve t.task) t.asked u.takes.name;
-    judged = inl (name_of u.judged (unnamed ProofIn));
+  came (inr (inr (inr (inr (inl u))))) = record {
+    cnf = given run (Solve t.task) t.asked u.prepared.takes.name;
+    order = given_order run t.task t.asked (unnamed Order) u.prepared.orders;
+    schedule = given_schedule run t.task t.asked (unnamed Schedule) u.prepared.plans;
+    judged = inl (name_of u.prepared.judged (unnamed ProofIn));
     proof = given_proof run t.task t.asked (inl (u.writes.only.name ∙ u.opens.named u.done));
     out = inl (name_of u.out (unnamed Out));
     read_first = later run.status (ap ends_before_proof u.ends ∙ run_later u.error);
-    accepted = accepted_for run t.task u.problem t.asked u.takes;
+    accepted = accepted_for run t.task t.asked u.prepared;
   }
-  came (inr (inr (inr (inr a)))) = record {
-    cnf = given run (Solve t.task) t.asked a.takes.name;
-    judged = inl (name_of a.judged (unnamed ProofIn));
+  came (inr (inr (inr (inr (inr a))))) = record {
+    cnf = given run (Solve t.task) t.asked a.prepared.takes.name;
+    order = given_order run t.task t.asked (unnamed Order) a.prepared.orders;
+    schedule = given_schedule run t.task t.asked (unnamed Schedule) a.prepared.plans;
+    judged = inl (name_of a.prepared.judged (unnamed ProofIn));
     proof = given_proof run t.task t.asked (inl (a.writes.only.name ∙ a.opens.named a.done));
     out = inl (a.puts.only.name ∙ unnamed Out);
     read_first = later run.status (ap ends_before_proof a.ends ∙ answer_later a.outcome a.printed);
-    accepted = accepted_for run t.task a.problem t.asked a.takes;
+    accepted = accepted_for run t.task t.asked a.prepared;
   }
 stream_names run unnamed (inr (inr (inr c))) = came c.came where
   came : CameToCheck run.tells (streams_of run.before) (streams_of run.after) run.files c.task.file c.task.proof run.status → StreamNames run
   came (inl u) = record {
     cnf = given run (Check c.task) c.asked u.takes.name;
+    order = inl (name_of u.order (unnamed Order));
+    schedule = inl (name_of u.schedule (unnamed Schedule));
     judged = inl (name_of u.judged (unnamed ProofIn));
     proof = inl (name_of u.proof (unnamed ProofOut));
     out = inl (name_of u.out (unnamed Out));
@@ -143,6 +190,8 @@ stream_names run unnamed (inr (inr (inr c))) = came c.came where
   }
   came (inr (inl u)) = record {
     cnf = given run (Check c.task) c.asked u.takes.name;
+    order = inl (name_of u.order (unnamed Order));
+    schedule = inl (name_of u.schedule (unnamed Schedule));
     judged = given_judged run c.task c.asked u.judges.name;
     proof = inl (name_of u.proof (unnamed ProofOut));
     out = inl (name_of u.out (unnamed Out));
@@ -151,6 +200,8 @@ stream_names run unnamed (inr (inr (inr c))) = came c.came where
   }
   came (inr (inr j)) = record {
     cnf = given run (Check c.task) c.asked j.takes.name;
+    order = inl (name_of j.order (unnamed Order));
+    schedule = inl (name_of j.schedule (unnamed Schedule));
     judged = given_judged run c.task c.asked j.judges.name;
     proof = inl (name_of j.proof (unnamed ProofOut));
     out = inl (j.puts.only.name ∙ unnamed Out);
@@ -159,7 +210,7 @@ stream_names run unnamed (inr (inr (inr c))) = came c.came where
   }
 
 -- the names of all roles
-pub names : (run : Run) → StreamNames run → ((role : Role) → IsFalse (same_role role Cnf) → IsFalse (same_role role ProofIn) → IsFalse (same_role role ProofOut) → IsFalse (same_role role Out) → (run.after role).name ≡ None)
+pub names : (run : Run) → StreamNames run → ((role : Role) → IsFalse (same_role role Cnf) → IsFalse (same_role role Order) → IsFalse (same_role role Schedule) → IsFalse (same_role role ProofIn) → IsFalse (same_role role ProofOut) → IsFalse (same_role role Out) → (run.after role).name ≡ None)
     → FilesBut (run.after ProofOut).name run.files run.files_after → NamesAreGiven run
 names run streams others files = record {
   names = each;
@@ -169,13 +220,13 @@ names run streams others files = record {
 } where
   each : (role : Role) → IsNamed run role
   each Cnf = streams.cnf
-  each Order = inl (others Order refl refl refl refl)
-  each Schedule = inl (others Schedule refl refl refl refl)
+  each Order = streams.order
+  each Schedule = streams.schedule
   each ProofIn = streams.judged
   each ProofOut = streams.proof
-  each Made = inl (others Made refl refl refl refl)
+  each Made = inl (others Made refl refl refl refl refl refl)
   each Out = streams.out
-  each ErrRole = inl (others ErrRole refl refl refl refl)
+  each ErrRole = inl (others ErrRole refl refl refl refl refl refl)
 
 pub error_stands : (run : Run) → Complains run.tells (run.before ErrRole) (run.after ErrRole) run.status → ErrorStands run
 error_stands run complains = record {

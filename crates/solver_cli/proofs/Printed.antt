@@ -4,7 +4,7 @@ use Rattle.std.specs.Prelude.{Result, ⊤}
 use Rattle.host_io.specs.declared.role.Role.TheVariants.{ProofOut, Out}
 use Rattle.host_io.specs.declared.source.Failed.{Failed}
 use Rattle.lrat_rules.specs.declared.outcome.Reason.{Reason}
-use Rattle.dimacs_reader.specs.Cnf.{formula}
+use Rattle.schedule_plan.specs.declared.limits.Limits.{Limits}
 use Rattle.term_runner.specs.declared.outcome.Outcome.{Outcome}
 use Rattle.term_runner.specs.declared.outcome.Outcome.TheVariants as outcome
 use Rattle.term_runner.specs.declared.error.RunError.{RunError}
@@ -12,18 +12,18 @@ use Rattle.term_runner.specs.declared.error.RunError.TheVariants.{WriteFault as 
 use Rattle.term_runner.specs.Proofs.{Refutation, IsProof}
 use Rattle.term_runner.specs.Ends.{Says, Shows}
 use Rattle.term_runner.specs.Recovered.{IsRecovered}
-use Rattle.command_line.specs.Command.{ToSolve, Solve, command}
+use Rattle.command_line.specs.Command.{ToSolve, Solve, command, limits_asked}
 use Rattle.solver_cli.specs.declared.status.Status.TheVariants.{Sat, Unsat, Unknown, Verified, NotVerified, WriteFault}
 use Rattle.solver_cli.specs.declared.status.Why.{Why}
 use Rattle.solver_cli.specs.declared.status.Why.TheVariants.{NodeLimit, IdLimit}
 use Rattle.solver_cli.specs.Answer.{outcome_at, outcome_text, status_of}
 use Rattle.solver_cli.specs.ErrorText.{is_answer}
-use Rattle.solver_cli.specs.Phases.{PutsText}
+use Rattle.solver_cli.specs.Phases.{PutsText, WritesProof}
 use Rattle.solver_cli.specs.Stages.{streams_of, Answered, status_after}
-use Rattle.solver_cli.specs.Headline.{Run, written_in, limits_given, OutputFailed, Asks, AsksFor, AnswerTo, IsRefuted, IsSatisfied, IsUndecided, IsTrueAnswer, ProofStands}
+use Rattle.solver_cli.specs.Headline.{Run, written_in, limits_given, OutputFailed, AsksFor, AnswerTo, IsRefuted, IsSatisfied, IsUndecided, IsTrueAnswer, ProofStands}
 use Rattle.solver_cli.proofs.Facts.{behind, grown_by, whole_of, no_answer}
-use Rattle.solver_cli.proofs.Promised.{Core, no_verdict}
-use Rattle.solver_cli.proofs.Accepted.{took, asks_for, solve_complete, accepted_refusals, Accepts, accepts_write, accepts_answer, proof_whole}
+use Rattle.solver_cli.proofs.Promised.{Core, due, no_verdict}
+use Rattle.solver_cli.proofs.Accepted.{asks_for, solve_complete, answer_due, Accepts, accepts_write, accepts_answer, proof_whole}
 
 is_unsat : (found : Outcome) → status_of found ≡ Unsat → found ≡ outcome.Unsat
 is_unsat (outcome.Sat values) e = cc
@@ -63,26 +63,32 @@ no_write outcome.Unsat e = cc
 no_write outcome.NodeLimit e = cc
 no_write outcome.IdLimit e = cc
 
-pub answered : (run : Run) (task : ToSolve) → command run.words ≡ Some (Solve task) → Answered run.tells (streams_of run.before) (streams_of run.after) run.files task.file task.proof task.plan (limits_given run) run.status → Core run
-answered run task asked a = go a.printed a.puts a.ends where
+pub answered : (run : Run) (task : ToSolve) → command run.words ≡ Some (Solve task) → Answered run.tells (streams_of run.before) (streams_of run.after) run.files task run.status → Core run
+answered run task asked a = go a.printed puts_given a.ends where
   text : List ℕ
   text = outcome_text (limits_given run) a.outcome
 
-  read : IsTrue run.tells → Asks run (Solve task) (formula a.problem)
-  read = took run (Solve task) a.problem asked a.takes
-
   given : IsTrue run.tells → AsksFor run a.problem
-  given t = asks_for run task a.problem a.scheduled (read t)
+  given = asks_for run task asked a.prepared
+
+  same_limits : task.limits ≡ limits_given run
+  same_limits = sym (ap limits_asked asked)
+
+  writes : WritesProof run.tells a.created (run.after ProofOut) a.problem a.order a.moves (limits_given run) (Ok a.outcome)
+  writes = subst (λ (l : Limits). WritesProof run.tells a.created (run.after ProofOut) a.problem a.order a.moves l (Ok a.outcome)) same_limits a.writes
+
+  puts_given : PutsText run.tells (run.before Out) (run.after Out) text a.printed
+  puts_given = subst (λ (l : Limits). PutsText run.tells (run.before Out) (run.after Out) (outcome_text l a.outcome) a.printed) same_limits a.puts
 
   same_bytes : written_in run ProofOut ≡ (run.after ProofOut).written
   same_bytes = whole_of (run.before ProofOut) (run.after ProofOut) a.opens.was_idle.written
 
   shows : IsTrue run.tells → Shows a.problem (limits_given run) (written_in run ProofOut) a.outcome
-  shows t = subst (λ (bytes : List ℕ). Shows a.problem (limits_given run) bytes a.outcome) (sym same_bytes) (a.writes.shows t)
+  shows t = subst (λ (bytes : List ℕ). Shows a.problem (limits_given run) bytes a.outcome) (sym same_bytes) (writes.shows t)
 
   -- the same of an outcome that is known by its name
   says_as : (found : Outcome) → a.outcome ≡ found → Says a.problem a.order a.moves (limits_given run) found
-  says_as found is = subst (λ (x : Outcome). Says a.problem a.order a.moves (limits_given run) x) is a.writes.says
+  says_as found is = subst (λ (x : Outcome). Says a.problem a.order a.moves (limits_given run) x) is writes.says
 
   shows_as : (found : Outcome) → a.outcome ≡ found → IsTrue run.tells → Shows a.problem (limits_given run) (written_in run ProofOut) found
   shows_as found is t = subst (λ (x : Outcome). Shows a.problem (limits_given run) (written_in run ProofOut) x) is (shows t)
@@ -91,7 +97,7 @@ answered run task asked a = go a.printed a.puts a.ends where
   ok_err found error e = cc
 
   whole : IsTrue run.tells → IsProof a.problem (limits_given run) (written_in run ProofOut)
-  whole t = proof_whole run a.problem a.opens.was_idle.written (a.writes.whole (λ e. ok_err a.outcome Torn e) t)
+  whole t = proof_whole run a.problem a.opens.was_idle.written (writes.whole (λ e. ok_err a.outcome Torn e) t)
 
   stands : ProofStands run
   stands = record {
@@ -103,9 +109,9 @@ answered run task asked a = go a.printed a.puts a.ends where
   true_answer t rest front = record {
     found = record {
       asked = given t;
-      holds = record { says = a.writes.says; shows = shows t };
+      holds = record { says = writes.says; shows = shows t };
       proof = whole t;
-      flushed = a.writes.flushed refl t;
+      flushed = writes.flushed refl t;
     };
     rest = rest;
     front = front;
@@ -164,7 +170,7 @@ answered run task asked a = go a.printed a.puts a.ends where
           verified = λ e. absurd ((no_verdict_of a.outcome).0 (sym ends ∙ e));
           not_verified = λ line reason e. absurd ((no_verdict_of a.outcome).1 line reason (sym ends ∙ e));
         };
-        refusals = accepted_refusals run accepts;
+        refusals = answer_due run a.outcome ends;
         faults = λ quiet. record {
           read = λ e. absurd (accepts.read e);
           undecided = λ e. absurd (accepts.read e);
@@ -181,7 +187,7 @@ answered run task asked a = go a.printed a.puts a.ends where
           silent = λ unanswered. absurd (true≢false (sym yes_answer ∙ unanswered));
         };
         proof = stands;
-        complete = solve_complete run task a.problem asked read (λ unharmed. inl yes_answer);
+        complete = solve_complete run task a.problem asked given (λ unharmed. inl yes_answer);
       }
 
   failed : (e : Failed) → PutsText run.tells (run.before Out) (run.after Out) text (Err e) → run.status ≡ WriteFault → Core run
@@ -194,7 +200,7 @@ answered run task asked a = go a.printed a.puts a.ends where
         satisfiable = λ d. absurd (no_answer unanswered refl d);
         undecided = λ why d. absurd (no_answer unanswered refl d);
         verdict = no_verdict run unanswered;
-        refusals = accepted_refusals run accepts;
+        refusals = due run ends tt;
         faults = λ quiet. record {
           read = λ d. absurd (accepts.read d);
           undecided = λ d. absurd (accepts.read d);
@@ -211,7 +217,7 @@ answered run task asked a = go a.printed a.puts a.ends where
           silent = λ _ _ unfaulted. absurd (unfaulted ends);
         };
         proof = stands;
-        complete = solve_complete run task a.problem asked read (λ unharmed. absurd (unharmed.1 failure));
+        complete = solve_complete run task a.problem asked given (λ unharmed. absurd (unharmed.1 failure));
       }
 
   go : (printed : Result ⊤ Failed) → PutsText run.tells (run.before Out) (run.after Out) text printed → run.status ≡ status_after a.outcome printed → Core run

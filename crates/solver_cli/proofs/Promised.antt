@@ -1,23 +1,18 @@
 -- From how far a run came to what is promised of it.
-use Rattle.std.proofs.Common.{◌≡◌, ℕ, false, List, [], refl, sym, ap, ◌∙◌, Some, Err, IsTrue, inl, inr, true≢false}
-use Rattle.std.specs.Prelude.{Result, ◌⊎◌, ◌≢◌}
-use Rattle.cnf_base.specs.Formula.{Formula}
+use Rattle.std.proofs.Common.{◌≡◌, ℕ, Bool, true, false, List, [], refl, sym, ap, ◌∙◌, subst, Some, IsTrue, inl, inr, true≢false}
+use Rattle.std.specs.Prelude.{◌⊎◌, ◌≢◌}
 use Rattle.host_io.specs.Channel.{Channel}
 use Rattle.host_io.specs.declared.role.Role.{Role}
-use Rattle.host_io.specs.declared.role.Role.TheVariants.{Cnf, ProofIn, ProofOut, Out, Err as ErrRole}
+use Rattle.host_io.specs.declared.role.Role.TheVariants.{Cnf, Order, Schedule, ProofIn, ProofOut, Made, Out, Err as ErrRole}
 use Rattle.text_scan.specs.Decides.{gained, gained-none}
-use Rattle.dimacs_reader.specs.declared.error.CnfKind.{CnfKind}
-use Rattle.dimacs_reader.specs.declared.error.CnfError.{CnfError}
-use Rattle.dimacs_reader.specs.declared.error.CnfError.TheVariants.{ReadFault as CnfFault}
-use Rattle.dimacs_reader.specs.Cnf.{CnfText, formula, refusal, overlong, cnf}
 use Rattle.solver_cli.specs.declared.status.Status.{Status}
-use Rattle.solver_cli.specs.declared.status.Status.TheVariants.{Help, Usage, CnfRefused, TooLong, ReadFault, WriteFault, OutOfMemory}
-use Rattle.command_line.specs.Command.{Command, formula_file, AsksHelp, Misuse, command}
+use Rattle.solver_cli.specs.declared.status.Status.TheVariants.{Sat, Unsat, Unknown, Verified, NotVerified, Help, Usage, CnfRefused, OrderRefused, PlanRefused, TooLong, ReadFault, WriteFault, OutOfMemory}
+use Rattle.command_line.specs.Command.{Command, AsksHelp, Misuse, command}
 use Rattle.solver_cli.specs.ErrorText.{is_answer}
-use Rattle.solver_cli.specs.ExitCode.{status_of_error}
-use Rattle.solver_cli.specs.Stages.{Streams, streams_of, Misused, Untaken}
-use Rattle.solver_cli.specs.Headline.{Run, written_in, taken_in, InputFailed, UnsatisfiableIsProved, SatisfiableIsTrue, LimitsAreReached, VerdictIsTrue, RefusalsAreDue, IsOpenFormula, FaultsAreCounted, OutputStands, ProofStands, IsComplete, IsRefusedBy, Asks}
-use Rattle.solver_cli.proofs.Facts.{behind, grown_by, nothing_more, no_answer, Refuses, Exceeds, read_statuses, read_ends, read_fault, long_is_cnf, one_text, not_unasked, no_misuse, only_misuse, only_help, formula_refusal, formula_overlong, refusal_overlong, same_refusal}
+use Rattle.solver_cli.specs.Stages.{Streams, streams_of, Misused}
+use Rattle.solver_cli.specs.Headline.{Run, written_in, taken_in, InputFailed, UnsatisfiableIsProved, SatisfiableIsTrue, LimitsAreReached, VerdictIsTrue, IsDue, RefusalsAreDue, IsStillOpen, FaultsAreCounted, OutputStands, ProofStands, CallsFor, IsComplete}
+use Rattle.solver_cli.proofs.Facts.{behind, grown_by, nothing_more, no_answer, not_unasked, no_misuse, only_misuse, only_help}
+use Rattle.solver_cli.proofs.CallsFor.{one_call, no_call, no_call_judged, calls_give}
 
 -- after a read fault no role but standard error gained a byte
 abbrev pub QuietAtFaults : Run → Type 0
@@ -34,6 +29,10 @@ pub record Core (run : Run) : Type 0 where
   pub output : OutputStands run
   pub proof : ProofStands run
   pub complete : IsComplete run
+
+-- what is due by the status with which a run ends
+pub due : (run : Run) {status : Status} → run.status ≡ status → IsDue run status → RefusalsAreDue run
+due run ends is = subst (λ (s : Status). IsDue run s) (sym ends) is
 
 pub quiet_output : (run : Run) → is_answer run.status ≡ false → (run.status ≡ Help → ⊥) → (run.after Out).written ≡ (run.before Out).written → OutputStands run
 quiet_output run unanswered unhelped same =
@@ -69,16 +68,14 @@ none_written run role same = behind (run.before role) (run.after role) [] (nothi
 record Undone (status : Status) : Type 0 where
   pub unanswered : is_answer status ≡ false
   pub help : status ≡ Help → ⊥
-  pub refused : (kind : CnfKind) (line : ℕ) → status ≡ CnfRefused kind line → ⊥
-  pub too_long : (role : Role) → status ≡ TooLong role → ⊥
   pub read : status ≡ ReadFault → ⊥
   pub write : status ≡ WriteFault → ⊥
 
 undone_usage : (status : Status) → status ≡ Usage → Undone status
-undone_usage status is = record { unanswered = ap is_answer is; help = λ e. cc; refused = λ kind line e. cc; too_long = λ role e. cc; read = λ e. cc; write = λ e. cc }
+undone_usage status is = record { unanswered = ap is_answer is; help = λ e. cc; read = λ e. cc; write = λ e. cc }
 
 undone_memory : (status : Status) → status ≡ OutOfMemory → Undone status
-undone_memory status is = record { unanswered = ap is_answer is; help = λ e. cc; refused = λ kind line e. cc; too_long = λ role e. cc; read = λ e. cc; write = λ e. cc }
+undone_memory status is = record { unanswered = ap is_answer is; help = λ e. cc; read = λ e. cc; write = λ e. cc }
 
 -- the words may be faulty, or memory ran out
 pub misused : (run : Run) → Misused run.words (streams_of run.before) (streams_of run.after) run.status → Core run
@@ -89,12 +86,7 @@ misused run m =
       satisfiable = λ e. absurd (no_answer undone.unanswered refl e);
       undecided = λ why e. absurd (no_answer undone.unanswered refl e);
       verdict = no_verdict run undone.unanswered;
-      refusals = record {
-        usage = λ e. elim m.ends [ inl faulty ↦ faulty.1 | inr memory ↦ absurd (apart memory e) ];
-        help = λ e. absurd (undone.help e);
-        refused = λ kind line e. absurd (undone.refused kind line e);
-        too_long = λ role e. absurd (undone.too_long role e);
-      };
+      refusals = elim m.ends [ inl faulty ↦ due run faulty.0 faulty.1 | inr memory ↦ due run memory tt ];
       faults = λ quiet. record { read = λ e. absurd (undone.read e); undecided = λ e. absurd (undone.read e); quiet = quiet; write = λ e. absurd (undone.write e); accepted = λ e. absurd (undone.write e) };
       output = quiet_output run undone.unanswered undone.help (same_written (out_of m.same));
       proof = no_proof run (none_written run ProofOut (proof_of m.same));
@@ -104,148 +96,122 @@ misused run m =
         unasked = λ _ _. elim m.ends [ inl faulty ↦ inl faulty.0 | inr memory ↦ inr (inr memory) ];
         answers = λ problem asked t unharmed. elim m.ends [ inl faulty ↦ absurd (no_misuse run.words asked.asks.command faulty.1) | inr memory ↦ inr memory ];
         judges = λ problem bytes judged has t unharmed. elim m.ends [ inl faulty ↦ absurd (no_misuse run.words has.asked.asks.command faulty.1) | inr memory ↦ inr memory ];
-        refuses = λ asked kind line asks t unfailed. elim m.ends [ inl faulty ↦ absurd (no_misuse run.words asks.command faulty.1) | inr memory ↦ inr memory ];
-        overlong = λ asked asks t unfailed. elim m.ends [ inl faulty ↦ absurd (no_misuse run.words asks.command faulty.1) | inr memory ↦ inr memory ];
-        long_proof = λ problem bytes asked long t unfailed. elim m.ends [ inl faulty ↦ absurd (no_misuse run.words asked.asks.command faulty.1) | inr memory ↦ inr memory ];
+        refuses = λ status calls t unfailed. elim m.ends [ inl faulty ↦ absurd (no_misuse run.words (calls_give run status calls).1 faulty.1) | inr memory ↦ inr memory ];
       };
     } where
-      apart : {status : Status} → status ≡ OutOfMemory → status ≡ Usage → ⊥
-      apart d e = cc
-
       no_wish : Misuse ≡ AsksHelp → ⊥
       no_wish e = cc
 
--- The formula was not taken: a refusal of its text, a read fault, or want of memory.
-record TextSays (run : Run) (asked : Command) : Type 0 where
-  pub bytes : List ℕ
-  pub stands : run.files (formula_file asked) ≡ Some bytes
-  pub decided : cnf (taken_in run Cnf) ≡ cnf bytes
-  pub how : Refuses run.status (cnf bytes) ⊎ Exceeds run.status (cnf bytes)
+-- A run that a text, a read fault or want of memory ended before the proof's file.
 
-untaken_says : (run : Run) (asked : Command) → Untaken run.tells (streams_of run.before) (streams_of run.after) run.files (formula_file asked) run.status → IsTrue run.tells
-    → (run.status ≡ ReadFault) ⊎ ((run.status ≡ OutOfMemory) ⊎ TextSays run asked)
-untaken_says run asked u t = elim (u.takes.read t) [
-  | inl e ↦ inl (u.ends ∙ ap status_of_error (same_error u.error CnfFault e))
-  | inr text ↦ elim (read_ends run.status u.error (cnf text.0) (cnf (taken_in run Cnf)) u.ends text.2) [
-    | inl fault ↦ inl fault
-    | inr more ↦ elim more [
-      | inl memory ↦ inr (inl memory)
-      | inr says ↦ inr (inr (record { bytes = text.0; stands = text.1; decided = says.0; how = says.1 }))
-    ]
-  ]
-] where
-  same_error : (a b : CnfError) → ◌≡◌ {A = Result Formula CnfError} (Err a) (Err b) → a ≡ b
-  same_error a b e = cc
+abbrev pub stops : Status → Bool
+stops Sat = false
+stops Unsat = false
+stops (Unknown why) = false
+stops Verified = false
+stops (NotVerified line reason) = false
+stops Help = false
+stops Usage = false
+stops (CnfRefused kind line) = true
+stops (OrderRefused kind line) = true
+stops (PlanRefused kind line) = true
+stops (TooLong role) = true
+stops ReadFault = true
+stops WriteFault = false
+stops OutOfMemory = true
 
--- a read fault is that of a failed call
-untaken_rose : (run : Run) (asked : Command) → Untaken run.tells (streams_of run.before) (streams_of run.after) run.files (formula_file asked) run.status → run.status ≡ ReadFault → InputFailed run
-untaken_rose run asked u e = (Cnf, tt, u.takes.fault (read_fault u.error (sym u.ends ∙ e)))
+-- its status is no other
+pub record Stops (status : Status) : Type 0 where
+  pub unanswered : is_answer status ≡ false
+  pub help : status ≡ Help → ⊥
+  pub write : status ≡ WriteFault → ⊥
 
--- and the bytes taken decide nothing yet
-untaken_open : (run : Run) (asked : Command) → Untaken run.tells (streams_of run.before) (streams_of run.after) run.files (formula_file asked) run.status → run.status ≡ ReadFault → IsTrue run.tells → IsOpenFormula run
-untaken_open run asked u e t =
-    let fault : ◌≡◌ {A = Result Formula CnfError} (Err u.error) (Err CnfFault) = read_fault u.error (sym u.ends ∙ e) in
-    record {
-      failed = u.takes.fault fault;
-      undecided = u.takes.undecided t fault;
-      before_proof = ap (gained (run.before ProofIn)) u.judged ∙ gained-none (run.before ProofIn);
-    }
+by_stop : (status : Status) → stops status ≡ true → Stops status
+by_stop Sat is = cc
+by_stop Unsat is = cc
+by_stop (Unknown why) is = cc
+by_stop Verified is = cc
+by_stop (NotVerified line reason) is = cc
+by_stop Help is = cc
+by_stop Usage is = cc
+by_stop (CnfRefused kind line) is = record { unanswered = refl; help = λ e. cc; write = λ e. cc }
+by_stop (OrderRefused kind line) is = record { unanswered = refl; help = λ e. cc; write = λ e. cc }
+by_stop (PlanRefused kind line) is = record { unanswered = refl; help = λ e. cc; write = λ e. cc }
+by_stop (TooLong role) is = record { unanswered = refl; help = λ e. cc; write = λ e. cc }
+by_stop ReadFault is = record { unanswered = refl; help = λ e. cc; write = λ e. cc }
+by_stop WriteFault is = cc
+by_stop OutOfMemory is = record { unanswered = refl; help = λ e. cc; write = λ e. cc }
 
-refused_by : (run : Run) (asked : Command) (text : CnfText) → command run.words ≡ Some asked → (says : TextSays run asked) → cnf says.bytes ≡ text → IsRefusedBy run text
-refused_by run asked text gives says is = record {
-  asked = asked;
-  asks = record { command = gives; bytes = says.bytes; stands = says.stands; says = is };
-  decided = says.decided ∙ is;
-}
+-- a refusal that is due is called for, where the host tells its bytes
+calls_due : (run : Run) (status : Status) → stops status ≡ true → IsDue run status → IsTrue run.tells → (status ≡ ReadFault) ⊎ ((status ≡ OutOfMemory) ⊎ CallsFor run status)
+calls_due run Sat is d t = cc
+calls_due run Unsat is d t = cc
+calls_due run (Unknown why) is d t = cc
+calls_due run Verified is d t = cc
+calls_due run (NotVerified line reason) is d t = cc
+calls_due run Help is d t = cc
+calls_due run Usage is d t = cc
+calls_due run (CnfRefused kind line) is d t = let by = d.1 t in inr (inr (by.asked, by.asks))
+calls_due run (OrderRefused kind line) is d t = let by = d.1 t in inr (inr (by.problem, by.asks))
+calls_due run (PlanRefused kind line) is d t = let by = d.1 t in inr (inr (by.problem, by.asks))
+calls_due run (TooLong Cnf) is d t = let by = d.1 t in inr (inr (by.asked, by.asks))
+calls_due run (TooLong Order) is d t = let by = d.1 t in inr (inr (by.problem, by.asks))
+calls_due run (TooLong Schedule) is d t = let by = d.1 t in inr (inr (by.problem, by.asks))
+calls_due run (TooLong ProofIn) is d t = let by = d.1 t in inr (inr (by.problem, by.bytes, by.asked, by.judged))
+calls_due run (TooLong ProofOut) is d t = absurd d
+calls_due run (TooLong Made) is d t = absurd d
+calls_due run (TooLong Out) is d t = absurd d
+calls_due run (TooLong ErrRole) is d t = absurd d
+calls_due run ReadFault is d t = inl refl
+calls_due run WriteFault is d t = cc
+calls_due run OutOfMemory is d t = inr (inl refl)
 
-untaken_refused : (run : Run) (asked : Command) → command run.words ≡ Some asked → (kind : CnfKind) (line : ℕ) → run.status ≡ CnfRefused kind line
-    → (run.status ≡ ReadFault) ⊎ ((run.status ≡ OutOfMemory) ⊎ TextSays run asked) → IsRefusedBy run (refusal kind line)
-untaken_refused run asked gives kind line e (inl fault) = absurd (apart _ fault e) where
-  apart : (status : Status) → status ≡ ReadFault → status ≡ CnfRefused kind line → ⊥
-  apart status d e = cc
-untaken_refused run asked gives kind line e (inr (inl memory)) = absurd (apart _ memory e) where
-  apart : (status : Status) → status ≡ OutOfMemory → status ≡ CnfRefused kind line → ⊥
-  apart status d e = cc
-untaken_refused run asked gives kind line e (inr (inr says)) = elim says.how [
-  | inl r ↦ refused_by run asked (refusal kind line) gives says (r.says ∙ same r.kind r.line (sym r.ends ∙ e))
-  | inr x ↦ absurd (apart _ x.ends e)
-] where
-  same : (other : CnfKind) (number : ℕ) → CnfRefused other number ≡ CnfRefused kind line → refusal other number ≡ refusal kind line
-  same other number e = cc
-
-  apart : (status : Status) → status ≡ TooLong Cnf → status ≡ CnfRefused kind line → ⊥
-  apart status d e = cc
-
-untaken_long : (run : Run) (asked : Command) → command run.words ≡ Some asked → (role : Role) → run.status ≡ TooLong role
-    → (run.status ≡ ReadFault) ⊎ ((run.status ≡ OutOfMemory) ⊎ TextSays run asked) → IsRefusedBy run overlong
-untaken_long run asked gives role e (inl fault) = absurd (apart _ fault e) where
-  apart : (status : Status) → status ≡ ReadFault → status ≡ TooLong role → ⊥
-  apart status d e = cc
-untaken_long run asked gives role e (inr (inl memory)) = absurd (apart _ memory e) where
-  apart : (status : Status) → status ≡ OutOfMemory → status ≡ TooLong role → ⊥
-  apart status d e = cc
-untaken_long run asked gives role e (inr (inr says)) = elim says.how [
-  | inl r ↦ absurd (apart _ r.kind r.line r.ends e)
-  | inr x ↦ refused_by run asked overlong gives says x.says
-] where
-  apart : (status : Status) (kind : CnfKind) (line : ℕ) → status ≡ CnfRefused kind line → status ≡ TooLong role → ⊥
-  apart status kind line d e = cc
-
--- a text that is accepted leaves only faults and want of memory
-untaken_accepted : (run : Run) (asked : Command) → command run.words ≡ Some asked → Untaken run.tells (streams_of run.before) (streams_of run.after) run.files (formula_file asked) run.status
-    → (other : Command) (problem : Formula) → Asks run other (formula problem) → IsTrue run.tells → (InputFailed run → ⊥) → run.status ≡ OutOfMemory
-untaken_accepted run asked gives u other problem asks t unfailed = elim (untaken_says run asked u t) [
-  | inl fault ↦ absurd (unfailed (untaken_rose run asked u fault))
-  | inr more ↦ elim more [
-    | inl memory ↦ memory
-    | inr says ↦ let text : cnf says.bytes ≡ formula problem = ap cnf (one_text run.files gives asks.command says.stands asks.stands) ∙ asks.says in
-        elim says.how [ inl r ↦ absurd (formula_refusal text r.says) | inr x ↦ absurd (formula_overlong text x.says) ]
-  ]
-]
-
-untaken_complete : (run : Run) (asked : Command) → command run.words ≡ Some asked → Untaken run.tells (streams_of run.before) (streams_of run.after) run.files (formula_file asked) run.status → IsComplete run
-untaken_complete run asked gives u = record {
+stopped_complete : (run : Run) (asked : Command) → command run.words ≡ Some asked → stops run.status ≡ true → IsDue run run.status → (run.status ≡ ReadFault → InputFailed run) → IsComplete run
+stopped_complete run asked gives halts is failed = record {
   misused = λ only. absurd (only_misuse run.words gives only);
   helped = λ only _. absurd (only_help run.words gives only);
   unasked = λ none _. absurd (not_unasked gives none);
-  answers = λ problem asks t unharmed. inr (untaken_accepted run asked gives u _ problem asks.asks t unharmed.0);
-  judges = λ problem bytes judged has t unharmed. inr (untaken_accepted run asked gives u _ problem has.asked.asks t unharmed.0);
-  refuses = λ other kind line asks t unfailed. elim (untaken_says run asked u t) [
-    | inl fault ↦ absurd (unfailed (untaken_rose run asked u fault))
-    | inr more ↦ elim more [
-      | inl memory ↦ inr memory
-      | inr says ↦ let text : cnf says.bytes ≡ refusal kind line = ap cnf (one_text run.files gives asks.command says.stands asks.stands) ∙ asks.says in
-          elim says.how [ inl r ↦ inl (same_refusal r.says text r.ends) | inr x ↦ absurd (refusal_overlong text x.says) ]
-    ]
+  answers = λ problem asks t unharmed. inr (memory t unharmed.0 (no_call run problem asks run.status));
+  judges = λ problem bytes judged has t unharmed. inr (memory t unharmed.0 (no_call_judged run problem bytes judged has run.status));
+  refuses = λ status calls t unfailed. elim (calls_due run run.status halts is t) [
+    | inl fault ↦ absurd (unfailed (failed fault))
+    | inr more ↦ elim more [ inl wanted ↦ inr wanted | inr called ↦ inl (one_call run run.status status called calls) ]
   ];
-  overlong = λ other asks t unfailed. elim (untaken_says run asked u t) [
-    | inl fault ↦ absurd (unfailed (untaken_rose run asked u fault))
-    | inr more ↦ elim more [
-      | inl memory ↦ inr memory
-      | inr says ↦ let text : cnf says.bytes ≡ overlong = ap cnf (one_text run.files gives asks.command says.stands asks.stands) ∙ asks.says in
-          elim says.how [ inl r ↦ absurd (refusal_overlong r.says text) | inr x ↦ inl x.ends ]
-    ]
-  ];
-  long_proof = λ problem bytes asks _ t unfailed. inr (untaken_accepted run asked gives u _ problem asks.asks t unfailed);
-}
+} where
+  memory : IsTrue run.tells → (InputFailed run → ⊥) → (CallsFor run run.status → ⊥) → run.status ≡ OutOfMemory
+  memory t unfailed uncalled = elim (calls_due run run.status halts is t) [
+    | inl fault ↦ absurd (unfailed (failed fault))
+    | inr more ↦ elim more [ inl wanted ↦ wanted | inr called ↦ absurd (uncalled called) ]
+  ]
 
-pub untaken : (run : Run) (asked : Command) → command run.words ≡ Some asked → Untaken run.tells (streams_of run.before) (streams_of run.after) run.files (formula_file asked) run.status → Core run
-untaken run asked gives u =
-    let statuses = read_statuses run.status u.error u.ends in
-    let unanswered : is_answer run.status ≡ false = statuses.0 in
+pub stopped : (run : Run) (asked : Command) → command run.words ≡ Some asked → run.after ProofOut ≡ run.before ProofOut → run.after Out ≡ run.before Out
+    → stops run.status ≡ true → IsDue run run.status → (run.status ≡ ReadFault → InputFailed run × (IsTrue run.tells → IsStillOpen run)) → Core run
+stopped run asked gives proof out halts is fault =
+    let ends : Stops run.status = by_stop run.status halts in
     record {
-      unsatisfiable = λ e. absurd (no_answer unanswered refl e);
-      satisfiable = λ e. absurd (no_answer unanswered refl e);
-      undecided = λ why e. absurd (no_answer unanswered refl e);
-      verdict = no_verdict run unanswered;
-      refusals = record {
-        usage = λ e. absurd (statuses.2 e);
-        help = λ e. absurd (statuses.3 e);
-        refused = λ kind line e. ((asked, gives), λ t. untaken_refused run asked gives kind line e (untaken_says run asked u t));
-        too_long = λ role e. inl (long_is_cnf u.error role (sym u.ends ∙ e), (asked, gives), λ t. untaken_long run asked gives role e (untaken_says run asked u t));
-      };
-      faults = λ quiet. record { read = λ e. ((asked, gives), untaken_rose run asked u e); undecided = λ e t. inl (untaken_open run asked u e t); quiet = quiet; write = λ e. absurd (statuses.1 e); accepted = λ e. absurd (statuses.1 e) };
-      output = quiet_output run unanswered statuses.3 (same_written u.out);
-      proof = no_proof run (none_written run ProofOut u.proof);
-      complete = untaken_complete run asked gives u;
+      unsatisfiable = λ e. absurd (no_answer ends.unanswered refl e);
+      satisfiable = λ e. absurd (no_answer ends.unanswered refl e);
+      undecided = λ why e. absurd (no_answer ends.unanswered refl e);
+      verdict = no_verdict run ends.unanswered;
+      refusals = is;
+      faults = λ quiet. record { read = λ e. ((asked, gives), (fault e).0); undecided = λ e t. (fault e).1 t; quiet = quiet; write = λ e. absurd (ends.write e); accepted = λ e. absurd (ends.write e) };
+      output = quiet_output run ends.unanswered ends.help (same_written out);
+      proof = no_proof run (none_written run ProofOut proof);
+      complete = stopped_complete run asked gives halts is (λ e. (fault e).0);
     }
+
+-- the same by the status itself: a refusal that is due, want of memory, or a read fault
+pub refused : (run : Run) (asked : Command) {status : Status} → command run.words ≡ Some asked → run.after ProofOut ≡ run.before ProofOut → run.after Out ≡ run.before Out
+    → run.status ≡ status → stops status ≡ true → (status ≡ ReadFault → ⊥) → IsDue run status → Core run
+refused run asked gives proof out ends halts no_fault is = stopped run asked gives proof out (ap stops ends ∙ halts) (due run ends is) (λ e. absurd (no_fault (sym ends ∙ e)))
+
+pub short : (run : Run) (asked : Command) → command run.words ≡ Some asked → run.after ProofOut ≡ run.before ProofOut → run.after Out ≡ run.before Out → run.status ≡ OutOfMemory → Core run
+short run asked gives proof out ends = refused run asked gives proof out ends refl (λ e. cc) tt
+
+pub unread : (run : Run) (asked : Command) → command run.words ≡ Some asked → run.after ProofOut ≡ run.before ProofOut → run.after Out ≡ run.before Out
+    → run.status ≡ ReadFault → InputFailed run → (IsTrue run.tells → IsStillOpen run) → Core run
+unread run asked gives proof out ends failed is_open = stopped run asked gives proof out (ap stops ends) (due run ends tt) (λ _. (failed, is_open))
+
+-- none was taken of a file that was left alone
+pub untouched : (run : Run) (role : Role) → run.after role ≡ run.before role → taken_in run role ≡ []
+untouched run role same = ap (gained (run.before role)) same ∙ gained-none (run.before role)

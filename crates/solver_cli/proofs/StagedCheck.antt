@@ -3,7 +3,7 @@ use Rattle.std.proofs.Common.{◌≡◌, ℕ, Bool, List, ℤ, refl, sym, ◌∙
 use Rattle.std.specs.Prelude.{Result, ⊤, Option}
 use Rattle.cnf_base.specs.Formula.{Formula}
 use Rattle.host_io.specs.declared.role.Role.{Role}
-use Rattle.host_io.specs.declared.role.Role.TheVariants.{Cnf, ProofIn, ProofOut, Out}
+use Rattle.host_io.specs.declared.role.Role.TheVariants.{Cnf, Order, Schedule, ProofIn, ProofOut, Out}
 use Rattle.host_io.specs.declared.source.Failed.{Failed}
 use Rattle.host_io.specs.Channel.{Channel}
 use Rattle.host_io.specs.Files.{Files, FilesBut, Others}
@@ -48,6 +48,8 @@ unjudged {problem = problem} {error = error} old taken new before files takes be
     inr (inl (record {
       problem = problem;
       takes = still_taken (beside_new Cnf refl) takes;
+      order = beside_new Order refl ∙ beside_taken Order refl;
+      schedule = beside_new Schedule refl ∙ beside_taken Schedule refl;
       error = error;
       judges = judged_from (beside_taken ProofIn refl) refl (judged_in files before same judges);
       proof = beside_new ProofOut refl ∙ beside_taken ProofOut refl;
@@ -64,6 +66,8 @@ judged {problem = problem} {verdict = verdict} {printed = printed} old taken che
     inr (inr (record {
       problem = problem;
       takes = still_taken (beside_new Cnf refl ∙ beside_checked Cnf refl) takes;
+      order = beside_new Order refl ∙ beside_checked Order refl ∙ beside_taken Order refl;
+      schedule = beside_new Schedule refl ∙ beside_checked Schedule refl ∙ beside_taken Schedule refl;
       verdict = verdict;
       judges = judged_from (beside_taken ProofIn refl) (beside_new ProofIn refl) (judged_in files before same judges);
       proof = beside_new ProofOut refl ∙ beside_checked ProofOut refl ∙ beside_taken ProofOut refl;

@@ -7,17 +7,20 @@ use Rattle.host_io.specs.declared.source.Failed.{Failed}
 use Rattle.host_io.specs.declared.role.Role.{Role}
 use Rattle.host_io.specs.declared.role.Role.TheVariants.{Cnf, Order, Schedule, ProofIn, ProofOut, Made, Out, Err as ErrRole}
 use Rattle.lrat_checker.specs.declared.verdict.Verdict.{Verdict}
-use Rattle.schedule_plan.specs.declared.limits.Limits.{Limits}
+use Rattle.cnf_base.specs.Formula.{Formula}
+use Rattle.schedule_plan.specs.declared.plan.Move.{Move}
 use Rattle.term_runner.specs.declared.outcome.Outcome.{Outcome}
 use Rattle.term_runner.specs.declared.error.RunError.{RunError}
 use Rattle.term_runner.specs.declared.error.RunError.TheVariants as run_error
-use Rattle.command_line.specs.declared.plan.PlanName.{PlanName}
+use Rattle.command_line.specs.Command.{ToSolve}
 use Rattle.solver_cli.specs.declared.status.Status.{Status}
 use Rattle.solver_cli.specs.declared.status.Status.TheVariants.{Usage, ReadFault, WriteFault, OutOfMemory}
-use Rattle.solver_cli.specs.ExitCode.{status_of_error, status_of_run, status_of_check}
-use Rattle.solver_cli.specs.Stages.{Streams, streams_of, Misused, Helped, Untaken, Unplanned, Uncreated, Undecided, Answered, Unjudged, Judged, Came, CameToCheck, Stages, status_of_help, status_after, status_of_printed}
+use Rattle.solver_cli.specs.ExitCode.{status_of_error, status_of_order, status_of_plan, status_of_run, status_of_check}
+use Rattle.solver_cli.specs.Stages.{Streams, streams_of, Misused, Helped, Untaken, Unordered, Unplanned, Prepared, Uncreated, Undecided, Answered, Unjudged, Judged, Came, CameToCheck, Stages, status_of_help, status_after, status_of_printed}
 use Rattle.solver_cli.specs.Headline.{Run, FailuresAreTold, written_in}
 use Rattle.solver_cli.proofs.Facts.{behind, nothing_more}
+use Rattle.solver_cli.proofs.Reading.{ok_err, same_error}
+use Rattle.solver_cli.proofs.Served.{order_served, plan_served}
 use Rattle.solver_cli.proofs.Promised.{QuietAtFaults}
 use Rattle.solver_cli.proofs.Accepted.{accepts_answer}
 use Rattle.solver_cli.proofs.Verdicts.{accepts_verdict}
@@ -25,6 +28,8 @@ use Rattle.solver_cli.proofs.Verdicts.{accepts_verdict}
 -- no stream that a run serves gained a byte
 pub record IsQuiet (old new : Streams) : Type 0 where
   pub cnf : new.cnf.written ≡ old.cnf.written
+  pub order : new.order.written ≡ old.order.written
+  pub schedule : new.schedule.written ≡ old.schedule.written
   pub judged : new.judged.written ≡ old.judged.written
   pub proof : new.proof.written ≡ old.proof.written
   pub out : new.out.written ≡ old.out.written
@@ -33,6 +38,8 @@ pub record IsQuiet (old new : Streams) : Type 0 where
 pub record Told (old new : Streams) (status : Status) : Type 0 where
   pub quiet : status ≡ ReadFault → IsQuiet old new
   pub cnf : status ≢ ReadFault → new.cnf.faults ≡ old.cnf.faults
+  pub order : status ≢ ReadFault → new.order.faults ≡ old.order.faults
+  pub schedule : status ≢ ReadFault → new.schedule.faults ≡ old.schedule.faults
   pub judged : status ≢ ReadFault → new.judged.faults ≡ old.judged.faults
   pub proof : status ≢ WriteFault → new.proof.faults ≡ old.proof.faults
   pub out : status ≢ WriteFault → new.out.faults ≡ old.out.faults
@@ -82,13 +89,12 @@ verdict_ok : (verdict : Verdict) (printed : Result ⊤ Failed) → status_of_pri
 verdict_ok verdict (Ok x) differs = refl
 verdict_ok verdict (Err e) differs = absurd (differs refl)
 
-same_error : {T E : Type 0} {a b : E} → ◌≡◌ {A = Result T E} (Err a) (Err b) → a ≡ b
-same_error e = cc
-
 misused : {words : List (List ℕ)} {old new : Streams} {status : Status} → Misused words old new status → Told old new status
 misused m = record {
   quiet = λ e. absurd (misused_read m e);
   cnf = λ _. ap (λ (s : Streams). s.cnf.faults) m.same;
+  order = λ _. ap (λ (s : Streams). s.order.faults) m.same;
+  schedule = λ _. ap (λ (s : Streams). s.schedule.faults) m.same;
   judged = λ _. ap (λ (s : Streams). s.judged.faults) m.same;
   proof = λ _. ap (λ (s : Streams). s.proof.faults) m.same;
   out = λ _. ap (λ (s : Streams). s.out.faults) m.same;
@@ -98,6 +104,8 @@ helped : {tells : Bool} {words : List (List ℕ)} {old new : Streams} {status : 
 helped h = record {
   quiet = λ e. absurd (help_read h.shows.printed h.shows.ends e);
   cnf = λ _. faults_of h.cnf;
+  order = λ _. faults_of h.order;
+  schedule = λ _. faults_of h.schedule;
   judged = λ _. faults_of h.judged;
   proof = λ _. faults_of h.proof;
   out = λ differs. h.shows.puts.unfailed (help_ok h.shows.printed (λ e. differs (h.shows.ends ∙ e)));
@@ -105,53 +113,72 @@ helped h = record {
 
 untaken : {tells : Bool} {old new : Streams} {files : Files} {file : List ℕ} {status : Status} → Untaken tells old new files file status → Told old new status
 untaken u = record {
-  quiet = λ _. record { cnf = u.takes.written; judged = written_of u.judged; proof = written_of u.proof; out = written_of u.out };
+  quiet = λ _. record { cnf = u.takes.written; order = written_of u.order; schedule = written_of u.schedule; judged = written_of u.judged; proof = written_of u.proof; out = written_of u.out };
   cnf = λ differs. u.takes.unfailed (λ e. differs (u.ends ∙ ap status_of_error (same_error e)));
+  order = λ _. faults_of u.order;
+  schedule = λ _. faults_of u.schedule;
   judged = λ _. faults_of u.judged;
   proof = λ _. faults_of u.proof;
   out = λ _. faults_of u.out;
 }
 
-unplanned : {tells : Bool} {old new : Streams} {files : Files} {file : List ℕ} {status : Status} → Unplanned tells old new files file status → Told old new status
-unplanned u = record {
-  quiet = λ e. absurd (no_memory u.ends e);
-  cnf = λ _. u.takes.unfailed (λ e. cc);
-  judged = λ _. faults_of u.judged;
-  proof = λ _. faults_of u.proof;
-  out = λ _. faults_of u.out;
+unordered : {tells : Bool} {old new : Streams} {files : Files} {task : ToSolve} {status : Status} → Unordered tells old new files task status → Told old new status
+unordered {task = task} u =
+    let served = order_served task.order u.orders in
+    record {
+      quiet = λ _. record { cnf = u.takes.written; order = served.written; schedule = written_of u.schedule; judged = written_of u.judged; proof = written_of u.proof; out = written_of u.out };
+      cnf = λ _. u.takes.unfailed (λ e. ok_err e);
+      order = λ differs. served.unfailed (λ e. differs (u.ends ∙ ap status_of_order (same_error e)));
+      schedule = λ _. faults_of u.schedule;
+      judged = λ _. faults_of u.judged;
+      proof = λ _. faults_of u.proof;
+      out = λ _. faults_of u.out;
+    }
+
+unplanned : {tells : Bool} {old new : Streams} {files : Files} {task : ToSolve} {status : Status} → Unplanned tells old new files task status → Told old new status
+unplanned {task = task} u =
+    let orders = order_served task.order u.orders in
+    let plans = plan_served task.plan u.plans in
+    record {
+      quiet = λ _. record { cnf = u.takes.written; order = orders.written; schedule = plans.written; judged = written_of u.judged; proof = written_of u.proof; out = written_of u.out };
+      cnf = λ _. u.takes.unfailed (λ e. ok_err e);
+      order = λ _. orders.unfailed (λ e. ok_err e);
+      schedule = λ differs. plans.unfailed (λ e. differs (u.ends ∙ ap status_of_plan (same_error e)));
+      judged = λ _. faults_of u.judged;
+      proof = λ _. faults_of u.proof;
+      out = λ _. faults_of u.out;
+    }
+
+-- what was had before the proof's file failed no call
+prepared : {tells : Bool} {old new : Streams} {files : Files} {task : ToSolve} {problem : Formula} {order : List ℕ} {moves : List Move} {status : Status} → Prepared tells old new files task problem order moves
+    → (status ≡ ReadFault → ⊥) → (status ≢ WriteFault → new.proof.faults ≡ old.proof.faults) → (status ≢ WriteFault → new.out.faults ≡ old.out.faults) → Told old new status
+prepared {task = task} p unread proof out = record {
+  quiet = λ e. absurd (unread e);
+  cnf = λ _. p.takes.unfailed (λ e. ok_err e);
+  order = λ _. (order_served task.order p.orders).unfailed (λ e. ok_err e);
+  schedule = λ _. (plan_served task.plan p.plans).unfailed (λ e. ok_err e);
+  judged = λ _. faults_of p.judged;
+  proof = proof;
+  out = out;
 }
 
-uncreated : {tells : Bool} {old new : Streams} {files : Files} {file proof : List ℕ} {status : Status} → Uncreated tells old new files file proof status → Told old new status
-uncreated u = record {
-  quiet = λ e. absurd (no_writing u.ends e);
-  cnf = λ _. u.takes.unfailed (λ e. cc);
-  judged = λ _. faults_of u.judged;
-  proof = λ differs. absurd (differs u.ends);
-  out = λ _. faults_of u.out;
-}
+uncreated : {tells : Bool} {old new : Streams} {files : Files} {task : ToSolve} {status : Status} → Uncreated tells old new files task status → Told old new status
+uncreated u = prepared u.prepared (no_writing u.ends) (λ differs. absurd (differs u.ends)) (λ _. faults_of u.out)
 
-undecided : {tells : Bool} {old new : Streams} {files : Files} {file proof : List ℕ} {plan : PlanName} {limits : Limits} {status : Status} → Undecided tells old new files file proof plan limits status → Told old new status
-undecided u = record {
-  quiet = λ e. absurd (run_read u.error u.ends e);
-  cnf = λ _. u.takes.unfailed (λ e. cc);
-  judged = λ _. faults_of u.judged;
-  proof = λ differs. u.writes.unfailed (λ e. differs (u.ends ∙ ap status_of_run (same_error e))) ∙ u.opens.faults.unfailed u.done;
-  out = λ _. faults_of u.out;
-}
+undecided : {tells : Bool} {old new : Streams} {files : Files} {task : ToSolve} {status : Status} → Undecided tells old new files task status → Told old new status
+undecided u = prepared u.prepared (run_read u.error u.ends) (λ differs. u.writes.unfailed (λ e. differs (u.ends ∙ ap status_of_run (same_error e))) ∙ u.opens.faults.unfailed u.done)
+    (λ _. faults_of u.out)
 
-answered : {tells : Bool} {old new : Streams} {files : Files} {file proof : List ℕ} {plan : PlanName} {limits : Limits} {status : Status} → Answered tells old new files file proof plan limits status → Told old new status
-answered a = record {
-  quiet = λ e. absurd (answer_read a.outcome a.printed a.ends e);
-  cnf = λ _. a.takes.unfailed (λ e. cc);
-  judged = λ _. faults_of a.judged;
-  proof = λ _. a.writes.unfailed (λ e. cc) ∙ a.opens.faults.unfailed a.done;
-  out = λ differs. a.puts.unfailed (answer_ok a.outcome a.printed (λ e. differs (a.ends ∙ e)));
-}
+answered : {tells : Bool} {old new : Streams} {files : Files} {task : ToSolve} {status : Status} → Answered tells old new files task status → Told old new status
+answered a = prepared a.prepared (answer_read a.outcome a.printed a.ends) (λ _. a.writes.unfailed (λ e. ok_err e) ∙ a.opens.faults.unfailed a.done)
+    (λ differs. a.puts.unfailed (answer_ok a.outcome a.printed (λ e. differs (a.ends ∙ e))))
 
 unjudged : {tells : Bool} {old new : Streams} {files : Files} {file proof : List ℕ} {status : Status} → Unjudged tells old new files file proof status → Told old new status
 unjudged u = record {
-  quiet = λ _. record { cnf = u.takes.written; judged = u.judges.written; proof = written_of u.proof; out = written_of u.out };
-  cnf = λ _. u.takes.unfailed (λ e. cc);
+  quiet = λ _. record { cnf = u.takes.written; order = written_of u.order; schedule = written_of u.schedule; judged = u.judges.written; proof = written_of u.proof; out = written_of u.out };
+  cnf = λ _. u.takes.unfailed (λ e. ok_err e);
+  order = λ _. faults_of u.order;
+  schedule = λ _. faults_of u.schedule;
   judged = λ differs. u.judges.unfailed (λ e. differs (u.ends ∙ ap status_of_check (same_error e)));
   proof = λ _. faults_of u.proof;
   out = λ _. faults_of u.out;
@@ -160,18 +187,21 @@ unjudged u = record {
 judged : {tells : Bool} {old new : Streams} {files : Files} {file proof : List ℕ} {status : Status} → Judged tells old new files file proof status → Told old new status
 judged j = record {
   quiet = λ e. absurd (verdict_read j.verdict j.printed j.ends e);
-  cnf = λ _. j.takes.unfailed (λ e. cc);
+  cnf = λ _. j.takes.unfailed (λ e. ok_err e);
+  order = λ _. faults_of j.order;
+  schedule = λ _. faults_of j.schedule;
   judged = λ _. j.judges.unfailed (λ e. cc);
   proof = λ _. faults_of j.proof;
   out = λ differs. j.puts.unfailed (verdict_ok j.verdict j.printed (λ e. differs (j.ends ∙ e)));
 }
 
-came : {tells : Bool} {old new : Streams} {files : Files} {file proof : List ℕ} {plan : PlanName} {limits : Limits} {status : Status} → Came tells old new files file proof plan limits status → Told old new status
+came : {tells : Bool} {old new : Streams} {files : Files} {task : ToSolve} {status : Status} → Came tells old new files task status → Told old new status
 came (inl u) = untaken u
-came (inr (inl u)) = unplanned u
-came (inr (inr (inl u))) = uncreated u
-came (inr (inr (inr (inl u)))) = undecided u
-came (inr (inr (inr (inr a)))) = answered a
+came (inr (inl u)) = unordered u
+came (inr (inr (inl u))) = unplanned u
+came (inr (inr (inr (inl u)))) = uncreated u
+came (inr (inr (inr (inr (inl u))))) = undecided u
+came (inr (inr (inr (inr (inr a))))) = answered a
 
 came_to_check : {tells : Bool} {old new : Streams} {files : Files} {file proof : List ℕ} {status : Status} → CameToCheck tells old new files file proof status → Told old new status
 came_to_check (inl u) = untaken u
@@ -184,13 +214,12 @@ told (inr (inl h)) = helped h
 told (inr (inr (inl t))) = came t.came
 told (inr (inr (inr c))) = came_to_check c.came
 
-pub failures : (run : Run) → Told (streams_of run.before) (streams_of run.after) run.status → run.after Order ≡ run.before Order → run.after Schedule ≡ run.before Schedule
-    → run.after Made ≡ run.before Made → FailuresAreTold run
-failures run counts order schedule made = record { read = read; write = write } where
+pub failures : (run : Run) → Told (streams_of run.before) (streams_of run.after) run.status → run.after Made ≡ run.before Made → FailuresAreTold run
+failures run counts made = record { read = read; write = write } where
   read : run.status ≢ ReadFault → (role : Role) → IsInput role → (run.after role).faults ≡ (run.before role).faults
   read differs Cnf is = counts.cnf differs
-  read differs Order is = faults_of order
-  read differs Schedule is = faults_of schedule
+  read differs Order is = counts.order differs
+  read differs Schedule is = counts.schedule differs
   read differs ProofIn is = counts.judged differs
   read differs ProofOut is = absurd is
   read differs Made is = absurd is
@@ -212,16 +241,15 @@ failures run counts order schedule made = record { read = read; write = write } 
   write differs ErrRole (inl is) = absurd is
   write differs ErrRole (inr is) = cc
 
-pub quiet : (run : Run) → Told (streams_of run.before) (streams_of run.after) run.status → run.after Order ≡ run.before Order → run.after Schedule ≡ run.before Schedule
-    → run.after Made ≡ run.before Made → QuietAtFaults run
-quiet run counts order schedule made fault t = each where
+pub quiet : (run : Run) → Told (streams_of run.before) (streams_of run.after) run.status → run.after Made ≡ run.before Made → QuietAtFaults run
+quiet run counts made fault t = each where
   none : (role : Role) → (run.after role).written ≡ (run.before role).written → written_in run role ≡ []
   none role same = behind (run.before role) (run.after role) [] (nothing_more (run.before role) (run.after role) same)
 
   each : (role : Role) → role ≢ ErrRole → written_in run role ≡ []
   each Cnf other = none Cnf (counts.quiet fault).cnf
-  each Order other = none Order (written_of order)
-  each Schedule other = none Schedule (written_of schedule)
+  each Order other = none Order (counts.quiet fault).order
+  each Schedule other = none Schedule (counts.quiet fault).schedule
   each ProofIn other = none ProofIn (counts.quiet fault).judged
   each ProofOut other = none ProofOut (counts.quiet fault).proof
   each Made other = none Made (written_of made)

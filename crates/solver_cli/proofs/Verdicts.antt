@@ -20,11 +20,13 @@ use Rattle.solver_cli.specs.ErrorText.{is_answer}
 use Rattle.solver_cli.specs.Verdict.{verdict_text, status_of_verdict}
 use Rattle.solver_cli.specs.Phases.{JudgesText, PutsText}
 use Rattle.solver_cli.specs.Stages.{streams_of, Judged, status_of_printed}
-use Rattle.solver_cli.specs.Headline.{Run, written_in, taken_in, OutputFailed, Asks, AsksToJudge, HasVerdict, VerdictOn, IsTrueAnswer}
+use Rattle.solver_cli.specs.Headline.{Run, written_in, taken_in, OutputFailed, Asks, HasVerdict, RefusalsAreDue, CallsFor, VerdictOn, IsTrueAnswer}
 use Rattle.solver_cli.proofs.Facts.{behind, grown_by, no_answer}
-use Rattle.solver_cli.proofs.Promised.{Core, no_proof, no_verdict, none_written}
-use Rattle.solver_cli.proofs.Accepted.{took, accepted_refusals, Accepts, accepts_write}
-use Rattle.solver_cli.proofs.Unjudged.{Laws, one_verdict, none_some, one_some, check_complete}
+use Rattle.solver_cli.proofs.CallsFor.{no_call_judged}
+use Rattle.solver_cli.proofs.Promised.{Core, due, no_proof, no_verdict, none_written}
+use Rattle.solver_cli.proofs.Untaken.{took}
+use Rattle.solver_cli.proofs.Accepted.{Accepts, accepts_write}
+use Rattle.solver_cli.proofs.Unjudged.{Laws, one_verdict, one_some, check_complete}
 
 -- statuses of verdicts
 
@@ -37,8 +39,8 @@ no_write judgement.Verified e = cc
 no_write (judgement.Refused line reason) e = cc
 
 pub accepts_verdict : (status : Status) (judged : Verdict) → status ≡ status_of_verdict judged → Accepts status
-accepts_verdict status judgement.Verified is = record { usage = λ e. cc; help = λ e. cc; refused = λ kind line e. cc; too_long = λ role e. cc; read = λ e. cc }
-accepts_verdict status (judgement.Refused line reason) is = record { usage = λ e. cc; help = λ e. cc; refused = λ kind line e. cc; too_long = λ role e. cc; read = λ e. cc }
+accepts_verdict status judgement.Verified is = record { help = λ e. cc; read = λ e. cc }
+accepts_verdict status (judgement.Refused line reason) is = record { help = λ e. cc; read = λ e. cc }
 
 record Undecided (status : Status) : Type 0 where
   pub unsat : status ≡ Unsat → ⊥
@@ -58,6 +60,11 @@ is_refused judgement.Verified line reason e = cc
 is_refused (judgement.Refused number why) line reason e = inner e where
   inner : NotVerified number why ≡ NotVerified line reason → judgement.Refused number why ≡ judgement.Refused line reason
   inner e = cc
+
+-- no refusal is due of a verdict
+verdict_due : (run : Run) (judged : Verdict) → run.status ≡ status_of_verdict judged → RefusalsAreDue run
+verdict_due run judgement.Verified ends = due run ends tt
+verdict_due run (judgement.Refused line reason) ends = due run ends tt
 
 -- the proof was judged
 pub judged : Laws → (run : Run) (task : ToCheck) → command run.words ≡ Some (Check task) → Judged run.tells (streams_of run.before) (streams_of run.after) run.files task.file task.proof run.status → Core run
@@ -83,8 +90,8 @@ judged laws run task asked j = go j.printed j.puts j.ends where
   same_verdict : (other : Formula) (bytes : List ℕ) (v : Verdict) → HasVerdict run other bytes v → IsTrue run.tells → j.verdict ≡ v
   same_verdict other bytes v given t = let here = has t in one_some j.verdict v (one_verdict run given.asked here.asked ∙ here.judged) given.judged
 
-  not_long : (other : Formula) (bytes : List ℕ) → AsksToJudge run other bytes → text_verdict other.clauses bytes ≡ None → IsTrue run.tells → ⊥
-  not_long other bytes asks long t = let here = has t in none_some long (one_verdict run asks here.asked ∙ here.judged)
+  uncalled : IsTrue run.tells → (status : Status) → CallsFor run status → ⊥
+  uncalled t = no_call_judged run j.problem (judged_text t).bytes j.verdict (has t)
 
   true_answer : (t : IsTrue run.tells) (rest : List ℕ) → text ≡ written_in run Out ++ rest → IsTrueAnswer run (VerdictOn j.problem (judged_text t).bytes j.verdict)
   true_answer t rest front = record { found = has t; rest = rest; front = front }
@@ -117,7 +124,7 @@ judged laws run task asked j = go j.printed j.puts j.ends where
                   bytes = (judged_text t).bytes;
                   has = verified;
                   refuted = refutes;
-                  unsatisfiable = laws.sound j.problem.vars j.problem.clauses (judged_text t).bytes j.takes.formula.literals refutes;
+                  unsatisfiable = laws.sound j.problem.vars j.problem.clauses (judged_text t).bytes j.takes.fits.literals refutes;
                   printed = all t ∙ ap verdict_text is;
                 },
           );
@@ -135,7 +142,7 @@ judged laws run task asked j = go j.printed j.puts j.ends where
                 },
           );
         };
-        refusals = accepted_refusals run accepts;
+        refusals = verdict_due run j.verdict ends;
         faults = λ quiet. record {
           read = λ e. absurd (accepts.read e);
           undecided = λ e. absurd (accepts.read e);
@@ -152,9 +159,8 @@ judged laws run task asked j = go j.printed j.puts j.ends where
           silent = λ unanswered. absurd (true≢false (sym yes_answer ∙ unanswered));
         };
         proof = no_proof run (none_written run ProofOut j.proof);
-        complete = check_complete run task j.problem asked read
-            (λ other bytes v given t unharmed. inl (ends ∙ ap status_of_verdict (same_verdict other bytes v given t)))
-            (λ other bytes asks long t unfailed. absurd (not_long other bytes asks long t));
+        complete = check_complete run task asked uncalled
+            (λ other bytes v given t unharmed. inl (ends ∙ ap status_of_verdict (same_verdict other bytes v given t)));
       }
 
   failed : (e : Failed) → PutsText run.tells (run.before Out) (run.after Out) text (Err e) → run.status ≡ WriteFault → Core run
@@ -167,7 +173,7 @@ judged laws run task asked j = go j.printed j.puts j.ends where
         satisfiable = λ d. absurd (no_answer unanswered refl d);
         undecided = λ why d. absurd (no_answer unanswered refl d);
         verdict = no_verdict run unanswered;
-        refusals = accepted_refusals run accepts;
+        refusals = due run ends tt;
         faults = λ quiet. record {
           read = λ d. absurd (accepts.read d);
           undecided = λ d. absurd (accepts.read d);
@@ -184,7 +190,7 @@ judged laws run task asked j = go j.printed j.puts j.ends where
           silent = λ _ _ unfaulted. absurd (unfaulted ends);
         };
         proof = no_proof run (none_written run ProofOut j.proof);
-        complete = check_complete run task j.problem asked read (λ other bytes v given t unharmed. absurd (unharmed.1 failure)) (λ other bytes asks long t unfailed. absurd (not_long other bytes asks long t));
+        complete = check_complete run task asked uncalled (λ other bytes v given t unharmed. absurd (unharmed.1 failure));
       }
 
   go : (printed : Result ⊤ Failed) → PutsText run.tells (run.before Out) (run.after Out) text printed → run.status ≡ status_of_printed j.verdict printed → Core run

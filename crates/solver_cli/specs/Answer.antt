@@ -1,7 +1,10 @@
 -- The answers of `solve`: how a formula is decided, when an outcome holds, and its text on standard output.
-use Rattle.std.specs.Prelude.{◌≡◌, ℕ, List, Option, length}
+use Rattle.std.specs.Prelude.{◌≡◌, ℕ, List, Option, None, Some, length}
 use Rattle.cnf_base.specs.Formula.{Formula}
+use Rattle.host_io.specs.Files.{Files}
 use Rattle.schedule_plan.specs.Order.{natural}
+use Rattle.schedule_plan.specs.OrderText.{order_text, order as given_order}
+use Rattle.schedule_plan.specs.ScheduleText.{schedule, plan as given_plan}
 use Rattle.schedule_plan.specs.Plan.{conjoin}
 use Rattle.schedule_plan.specs.Bucket.{bucket}
 use Rattle.schedule_plan.specs.declared.plan.Move.{Move}
@@ -10,7 +13,7 @@ use Rattle.term_runner.specs.declared.outcome.Outcome.{Outcome}
 use Rattle.term_runner.specs.declared.outcome.Outcome.TheVariants as outcome
 use Rattle.term_runner.specs.Ends.{Says, Shows}
 use Rattle.answer_text.specs.Status.{sat_text, unsat_line, node_limit_text, id_limit_text}
-use Rattle.command_line.specs.Command.{Command, limits_asked}
+use Rattle.command_line.specs.Command.{Command, ToSolve, Planned, ByName, ByFile, limits_asked}
 use Rattle.command_line.specs.declared.plan.PlanName.{PlanName}
 use Rattle.command_line.specs.declared.plan.PlanName.TheVariants.{Bucket, Conjoin}
 use Rattle.solver_cli.specs.declared.status.Why.{Why}
@@ -23,11 +26,26 @@ abbrev pub moves_of_plan : PlanName → Formula → List ℕ → List Move
 moves_of_plan Bucket formula order = bucket formula order
 moves_of_plan Conjoin formula order = conjoin (length formula.clauses)
 
--- The formula and the plan's name give this order of the variables and these moves: the variables by rising number, and
--- the moves of that plan over the order.
-pub record IsScheduled (plan : PlanName) (problem : Formula) (order : List ℕ) (moves : List Move) : Type 0 where
-  pub ordered : order ≡ natural problem.vars
-  pub planned : moves ≡ moves_of_plan plan problem order
+-- the text that stands in the file of this name is read as that
+pub record IsRead {Text : Type 0} (files : Files) (file : List ℕ) (whole : List ℕ → Text) (text : Text) : Type 0 where
+  pub bytes : List ℕ
+  pub stands : files file ≡ Some bytes
+  pub says : whole bytes ≡ text
+
+-- the order of the formula's variables: the one in the named file, or without one the variables by rising number
+abbrev pub IsOrdered : Files → Option (List ℕ) → Formula → List ℕ → Type 0
+IsOrdered files None problem order = order ≡ natural problem.vars
+IsOrdered files (Some file) problem order = IsRead files file (order_text problem.vars) (given_order order)
+
+-- the moves: those of the plan of the given name over the order, or those of the schedule in the named file
+abbrev pub IsPlanned : Files → Planned → Formula → List ℕ → List Move → Type 0
+IsPlanned files (ByName name) problem order moves = moves ≡ moves_of_plan name problem order
+IsPlanned files (ByFile file) problem order moves = IsRead files file (schedule problem) (given_plan moves)
+
+-- The words and the texts give this order of the formula's variables and these moves.
+pub record IsScheduled (files : Files) (task : ToSolve) (problem : Formula) (order : List ℕ) (moves : List Move) : Type 0 where
+  pub ordered : IsOrdered files task.order problem order
+  pub planned : IsPlanned files task.plan problem order moves
 
 -- the outcome is true of the formula, and the proof that was written shows it
 pub record Holds (limits : Limits) (problem : Formula) (order : List ℕ) (moves : List Move) (bytes : List ℕ) (found : Outcome) : Type 0 where

@@ -4,8 +4,12 @@ use Rattle.host_io.specs.declared.role.Role.{Role}
 use Rattle.host_io.specs.declared.role.Role.TheVariants.{Cnf, Order, Schedule, ProofIn, ProofOut, Made, Out, Err}
 use Rattle.dimacs_reader.specs.declared.error.CnfKind.{CnfKind}
 use Rattle.dimacs_reader.specs.declared.error.CnfKind.TheVariants.{NoHeader, BadHeader, BadToken, LiteralRange, TooManyClauses, ClauseMissing, NoEndingZero, Limit}
+use Rattle.schedule_plan.specs.declared.order_error.OrderKind.{OrderKind}
+use Rattle.schedule_plan.specs.declared.order_error.OrderKind.TheVariants.{BadNumber, Range, Repeated, Missing}
+use Rattle.schedule_plan.specs.declared.schedule.error.PlanKind.{PlanKind}
+use Rattle.schedule_plan.specs.declared.schedule.error.PlanKind.TheVariants.{Syntax, ClauseRange, ClauseTwice, StackShort, VariableRange, VariableInUse, ClauseUnused, TermsLeft}
 use Rattle.solver_cli.specs.declared.status.Status.{Status}
-use Rattle.solver_cli.specs.declared.status.Status.TheVariants.{Sat, Unsat, Unknown, Verified, NotVerified, Help, Usage, CnfRefused, TooLong, ReadFault, WriteFault, OutOfMemory}
+use Rattle.solver_cli.specs.declared.status.Status.TheVariants.{Sat, Unsat, Unknown, Verified, NotVerified, Help, Usage, CnfRefused, OrderRefused, PlanRefused, TooLong, ReadFault, WriteFault, OutOfMemory}
 
 abbrev pub kind_name : CnfKind → List ℕ
 kind_name NoHeader = codes "NoHeader"
@@ -16,6 +20,22 @@ kind_name TooManyClauses = codes "TooManyClauses"
 kind_name ClauseMissing = codes "ClauseMissing"
 kind_name NoEndingZero = codes "NoEndingZero"
 kind_name Limit = codes "Limit"
+
+abbrev pub order_kind_name : OrderKind → List ℕ
+order_kind_name BadNumber = codes "BadNumber"
+order_kind_name Range = codes "Range"
+order_kind_name Repeated = codes "Repeated"
+order_kind_name Missing = codes "Missing"
+
+abbrev pub plan_kind_name : PlanKind → List ℕ
+plan_kind_name Syntax = codes "Syntax"
+plan_kind_name ClauseRange = codes "ClauseRange"
+plan_kind_name ClauseTwice = codes "ClauseTwice"
+plan_kind_name StackShort = codes "StackShort"
+plan_kind_name VariableRange = codes "VariableRange"
+plan_kind_name VariableInUse = codes "VariableInUse"
+plan_kind_name ClauseUnused = codes "ClauseUnused"
+plan_kind_name TermsLeft = codes "TermsLeft"
 
 -- the word for a text that is read
 abbrev pub role_word : Role → List ℕ
@@ -28,6 +48,10 @@ role_word Made = codes "made"
 role_word Out = codes "out"
 role_word Err = codes "err"
 
+-- the line about a text that is refused: which one, the line in it, and the kind
+abbrev pub refused_line : Role → ℕ → List ℕ → List ℕ
+refused_line role line kind = codes "error: " ++ role_word role ++ codes " line " ++ decimal line ++ codes ": " ++ kind ++ codes "\n"
+
 -- the text that a status puts there: nothing for an answer and for help
 abbrev pub error_text : Status → List ℕ
 error_text Sat = []
@@ -37,7 +61,9 @@ error_text Verified = []
 error_text (NotVerified line reason) = []
 error_text Help = []
 error_text Usage = codes "error: bad usage\n"
-error_text (CnfRefused kind line) = codes "error: cnf line " ++ decimal line ++ codes ": " ++ kind_name kind ++ codes "\n"
+error_text (CnfRefused kind line) = refused_line Cnf line (kind_name kind)
+error_text (OrderRefused kind line) = refused_line Order line (order_kind_name kind)
+error_text (PlanRefused kind line) = refused_line Schedule line (plan_kind_name kind)
 error_text (TooLong role) = codes "error: " ++ role_word role ++ codes " too long\n"
 error_text ReadFault = codes "error: read failed\n"
 error_text WriteFault = codes "error: write failed\n"
@@ -53,6 +79,8 @@ is_answer (NotVerified line reason) = true
 is_answer Help = false
 is_answer Usage = false
 is_answer (CnfRefused kind line) = false
+is_answer (OrderRefused kind line) = false
+is_answer (PlanRefused kind line) = false
 is_answer (TooLong role) = false
 is_answer ReadFault = false
 is_answer WriteFault = false

@@ -3,13 +3,17 @@
 use Rattle.std.specs.Prelude.{ℕ}
 use Rattle.dimacs_reader.specs.declared.error.CnfError.{CnfError}
 use Rattle.dimacs_reader.specs.declared.error.CnfError.TheVariants.{Refused, ReadFault as CnfReadFault, TooLong as CnfTooLong, OutOfMemory as CnfOutOfMemory}
-use Rattle.host_io.specs.declared.role.Role.TheVariants.{Cnf, ProofIn}
+use Rattle.host_io.specs.declared.role.Role.TheVariants.{Cnf, Order, Schedule, ProofIn}
 use Rattle.lrat_checker.specs.declared.verdict.CheckError.{CheckError}
 use Rattle.lrat_checker.specs.declared.verdict.CheckError.TheVariants.{ReadFault as CheckReadFault, TooLong as CheckTooLong, OutOfMemory as CheckOutOfMemory}
+use Rattle.schedule_plan.specs.declared.order_error.OrderError.{OrderError}
+use Rattle.schedule_plan.specs.declared.order_error.OrderError.TheVariants.{Refused as OrderIsRefused, ReadFault as OrderReadFault, TooLong as OrderTooLong, OutOfMemory as OrderOutOfMemory}
+use Rattle.schedule_plan.specs.declared.schedule.error.PlanError.{PlanError}
+use Rattle.schedule_plan.specs.declared.schedule.error.PlanError.TheVariants.{Refused as PlanIsRefused, ReadFault as PlanReadFault, TooLong as PlanTooLong, OutOfMemory as PlanOutOfMemory}
 use Rattle.term_runner.specs.declared.error.RunError.{RunError}
 use Rattle.term_runner.specs.declared.error.RunError.TheVariants.{OutOfMemory as RunOutOfMemory, WriteFault as RunWriteFault}
 use Rattle.solver_cli.specs.declared.status.Status.{Status}
-use Rattle.solver_cli.specs.declared.status.Status.TheVariants.{Sat, Unsat, Unknown, Verified, NotVerified, Help, Usage, CnfRefused, TooLong, ReadFault, WriteFault, OutOfMemory}
+use Rattle.solver_cli.specs.declared.status.Status.TheVariants.{Sat, Unsat, Unknown, Verified, NotVerified, Help, Usage, CnfRefused, OrderRefused, PlanRefused, TooLong, ReadFault, WriteFault, OutOfMemory}
 
 abbrev pub exit_code : Status → ℕ
 exit_code Sat = 10
@@ -20,6 +24,8 @@ exit_code (NotVerified line reason) = 1
 exit_code Help = 0
 exit_code Usage = 6
 exit_code (CnfRefused kind line) = 2
+exit_code (OrderRefused kind line) = 2
+exit_code (PlanRefused kind line) = 2
 exit_code (TooLong role) = 2
 exit_code ReadFault = 3
 exit_code WriteFault = 4
@@ -30,6 +36,18 @@ status_of_error (Refused kind line) = CnfRefused kind line
 status_of_error CnfReadFault = ReadFault
 status_of_error CnfTooLong = TooLong Cnf
 status_of_error CnfOutOfMemory = OutOfMemory
+
+abbrev pub status_of_order : OrderError → Status
+status_of_order (OrderIsRefused kind line) = OrderRefused kind line
+status_of_order OrderReadFault = ReadFault
+status_of_order OrderTooLong = TooLong Order
+status_of_order OrderOutOfMemory = OutOfMemory
+
+abbrev pub status_of_plan : PlanError → Status
+status_of_plan (PlanIsRefused kind line) = PlanRefused kind line
+status_of_plan PlanReadFault = ReadFault
+status_of_plan PlanTooLong = TooLong Schedule
+status_of_plan PlanOutOfMemory = OutOfMemory
 
 abbrev pub status_of_check : CheckError → Status
 status_of_check CheckReadFault = ReadFault

@@ -1,19 +1,20 @@
 -- What the program promises, over one run of it: its words, the host before and after, and how it ended. What it
 -- says of bytes is said of hosts that tell their bytes.
-use Rattle.std.specs.Prelude.{◌≡◌, ◌≢◌, ◌⊎◌, ◌++◌, ◌<◌, ℕ, Bool, true, false, List, [], Option, None, Some, length, drop, IsTrue, IsFalse}
+use Rattle.std.specs.Prelude.{◌≡◌, ◌≢◌, ◌⊎◌, ◌++◌, ◌<◌, ℕ, Bool, true, false, List, [], Option, None, Some, length, drop, IsTrue, IsFalse, ⊤}
 use Rattle.cnf_base.specs.Truth.{Satisfies, assignment_of}
 use Rattle.cnf_base.specs.Formula.{Formula}
 use Rattle.host_io.specs.declared.role.Role.{Role}
 use Rattle.host_io.specs.declared.role.Role.TheVariants.{Cnf, Order, Schedule, ProofIn, ProofOut, Made, Out, Err}
 use Rattle.host_io.specs.Channel.{Channel, Rose}
 use Rattle.host_io.specs.Files.{Files, FilesBut, IsInput, IsCreated}
-use Rattle.dimacs_reader.specs.declared.error.CnfKind.{CnfKind}
 use Rattle.dimacs_reader.specs.Cnf.{CnfText, formula, refusal, overlong, cnf, cnf_so_far}
 use Rattle.lrat_rules.specs.Run.{Refutes, verdict}
 use Rattle.lrat_rules.specs.declared.outcome.Reason.{Reason}
 use Rattle.lrat_checker.specs.TextVerdict.{max_bytes, text_verdict, verdict_so_far}
 use Rattle.lrat_checker.specs.declared.verdict.Verdict.{Verdict}
 use Rattle.lrat_checker.specs.declared.verdict.Verdict.TheVariants as judgement
+use Rattle.schedule_plan.specs.OrderText.{OrderText, refusal as order_refusal, overlong as overlong_order, order_text, order_so_far}
+use Rattle.schedule_plan.specs.ScheduleText.{ScheduleText, refusal as schedule_refusal, overlong as overlong_schedule, schedule, schedule_so_far}
 use Rattle.schedule_plan.specs.declared.plan.Move.{Move}
 use Rattle.schedule_plan.specs.declared.limits.Limits.{Limits}
 use Rattle.term_runner.specs.declared.outcome.Outcome.{Outcome}
@@ -22,12 +23,12 @@ use Rattle.term_runner.specs.Proofs.{AreUnsatisfiable, IsProof, IsProofSoFar}
 use Rattle.term_runner.specs.Ends.{Says, Shows}
 use Rattle.term_runner.specs.Recovered.{IsRecovered}
 use Rattle.answer_text.specs.Status.{sat_text, unsat_line, verified_line, refused_text}
-use Rattle.command_line.specs.Command.{Command, ToSolve, ToCheck, Solve, Check, formula_file, AsksHelp, Misuse, MayMean, CanOnlyMean, command, limits_asked}
+use Rattle.command_line.specs.Command.{Command, ToSolve, ToCheck, Solve, Check, Planned, ByName, ByFile, formula_file, AsksHelp, Misuse, MayMean, CanOnlyMean, command, limits_asked}
 use Rattle.solver_cli.specs.declared.status.Why.{Why}
 use Rattle.solver_cli.specs.declared.status.Status.{Status}
-use Rattle.solver_cli.specs.declared.status.Status.TheVariants.{Sat, Unsat, Unknown, Verified, NotVerified, Help, Usage, CnfRefused, TooLong, ReadFault, WriteFault, OutOfMemory}
+use Rattle.solver_cli.specs.declared.status.Status.TheVariants.{Sat, Unsat, Unknown, Verified, NotVerified, Help, Usage, CnfRefused, OrderRefused, PlanRefused, TooLong, ReadFault, WriteFault, OutOfMemory}
 use Rattle.solver_cli.specs.ErrorText.{error_text, is_answer}
-use Rattle.solver_cli.specs.Answer.{IsScheduled, Holds, answer_text, outcome_at, outcome_text, status_of}
+use Rattle.solver_cli.specs.Answer.{IsRead, IsOrdered, IsScheduled, Holds, answer_text, outcome_at, outcome_text, status_of}
 use Rattle.solver_cli.specs.Verdict.{verdict_text, status_of_verdict}
 
 -- One run of the program: whether the host tells its bytes, the words, the roles and the files before, the roles
@@ -80,17 +81,33 @@ GivesCheck run = (task : ToCheck) × (command run.words ≡ Some (Check task))
 -- the words ask for this command, and the text of its formula's file says this
 pub record Asks (run : Run) (asked : Command) (text : CnfText) : Type 0 where
   pub command : command run.words ≡ Some asked
-  pub bytes : List ℕ
-  pub stands : run.files (formula_file asked) ≡ Some bytes
-  pub says : cnf bytes ≡ text
+  pub read : IsRead run.files (formula_file asked) cnf text
 
--- they ask to decide this formula; the formula gives the order of its variables, and the words name the plan
+-- They ask to decide this formula by an order that stands in a file, whose text says this.
+pub record AsksByOrder (run : Run) (problem : Formula) (text : OrderText) : Type 0 where
+  pub task : ToSolve
+  pub asks : Asks run (Solve task) (formula problem)
+  pub file : List ℕ
+  pub named : task.order ≡ Some file
+  pub read : IsRead run.files file (order_text problem.vars) text
+
+-- They ask to decide this formula by a schedule, and the order is given; the text of the schedule's file says this.
+pub record AsksBySchedule (run : Run) (problem : Formula) (text : ScheduleText) : Type 0 where
+  pub task : ToSolve
+  pub asks : Asks run (Solve task) (formula problem)
+  pub order : List ℕ
+  pub ordered : IsOrdered run.files task.order problem order
+  pub file : List ℕ
+  pub named : task.plan ≡ ByFile file
+  pub read : IsRead run.files file (schedule problem) text
+
+-- they ask to decide this formula; the words and the texts give the order of its variables, and the moves
 pub record AsksFor (run : Run) (problem : Formula) : Type 0 where
   pub task : ToSolve
   pub asks : Asks run (Solve task) (formula problem)
   pub order : List ℕ
   pub moves : List Move
-  pub scheduled : IsScheduled task.plan problem order moves
+  pub scheduled : IsScheduled run.files task problem order moves
 
 -- they ask to judge this proof over this formula
 pub record AsksToJudge (run : Run) (problem : Formula) (bytes : List ℕ) : Type 0 where
@@ -184,11 +201,22 @@ pub record VerdictIsTrue (run : Run) : Type 0 where
   pub verified : run.status ≡ Verified → GivesCheck run × (IsTrue run.tells → IsVerified run)
   pub not_verified : (line : ℕ) (reason : Reason) → run.status ≡ NotVerified line reason → GivesCheck run × (IsTrue run.tells → IsNotVerified run line reason)
 
--- a refusal is that of the named file's whole text, and already that of the bytes taken
+-- a refusal of the formula is that of the named file's whole text, and already that of the bytes taken
 pub record IsRefusedBy (run : Run) (text : CnfText) : Type 0 where
   pub asked : Command
   pub asks : Asks run asked text
   pub decided : cnf (taken_in run Cnf) ≡ text
+
+-- and so is one of the order, and one of the schedule, of a formula that was accepted
+pub record OrderIsRefusedBy (run : Run) (text : OrderText) : Type 0 where
+  pub problem : Formula
+  pub asks : AsksByOrder run problem text
+  pub decided : order_text problem.vars (taken_in run Order) ≡ text
+
+pub record ScheduleIsRefusedBy (run : Run) (text : ScheduleText) : Type 0 where
+  pub problem : Formula
+  pub asks : AsksBySchedule run problem text
+  pub decided : schedule problem (taken_in run Schedule) ≡ text
 
 -- More bytes of the proof were taken than are looked at, and no line that ends among these is bad.
 pub record IsLongProof (run : Run) : Type 0 where
@@ -199,23 +227,67 @@ pub record IsLongProof (run : Run) : Type 0 where
   pub decided : text_verdict problem.clauses (taken_in run ProofIn) ≡ None
   pub long : max_bytes < length (taken_in run ProofIn)
 
--- Refusals: of words, or by help, only where they may mean that; of a text only where the format refuses it.
-pub record RefusalsAreDue (run : Run) : Type 0 where
-  pub usage : run.status ≡ Usage → MayMean run.words Misuse
-  pub help : run.status ≡ Help → MayMean run.words AsksHelp
-  pub refused : (kind : CnfKind) (line : ℕ) → run.status ≡ CnfRefused kind line → GivesCommand run × (IsTrue run.tells → IsRefusedBy run (refusal kind line))
-  pub too_long : (role : Role) → run.status ≡ TooLong role
-      → ((role ≡ Cnf) × GivesCommand run × (IsTrue run.tells → IsRefusedBy run overlong)) ⊎ ((role ≡ ProofIn) × GivesCheck run × (IsTrue run.tells → IsLongProof run))
+-- Refusals, of words, or by help, only where they may mean that; of a text only where its format refuses it, and only
+-- where the texts before it were accepted.
+abbrev pub IsDue : Run → Status → Type 0
+IsDue run Sat = ⊤
+IsDue run Unsat = ⊤
+IsDue run (Unknown why) = ⊤
+IsDue run Verified = ⊤
+IsDue run (NotVerified line reason) = ⊤
+IsDue run Help = MayMean run.words AsksHelp
+IsDue run Usage = MayMean run.words Misuse
+IsDue run (CnfRefused kind line) = GivesCommand run × (IsTrue run.tells → IsRefusedBy run (refusal kind line))
+IsDue run (OrderRefused kind line) = GivesSolve run × (IsTrue run.tells → OrderIsRefusedBy run (order_refusal kind line))
+IsDue run (PlanRefused kind line) = GivesSolve run × (IsTrue run.tells → ScheduleIsRefusedBy run (schedule_refusal kind line))
+IsDue run (TooLong Cnf) = GivesCommand run × (IsTrue run.tells → IsRefusedBy run overlong)
+IsDue run (TooLong Order) = GivesSolve run × (IsTrue run.tells → OrderIsRefusedBy run overlong_order)
+IsDue run (TooLong Schedule) = GivesSolve run × (IsTrue run.tells → ScheduleIsRefusedBy run overlong_schedule)
+IsDue run (TooLong ProofIn) = GivesCheck run × (IsTrue run.tells → IsLongProof run)
+IsDue run (TooLong ProofOut) = ⊥
+IsDue run (TooLong Made) = ⊥
+IsDue run (TooLong Out) = ⊥
+IsDue run (TooLong Err) = ⊥
+IsDue run ReadFault = ⊤
+IsDue run WriteFault = ⊤
+IsDue run OutOfMemory = ⊤
+
+abbrev pub RefusalsAreDue : Run → Type 0
+RefusalsAreDue run = IsDue run run.status
 
 -- the formula that is to be decided was accepted, or the proof was judged
 abbrev pub TextsAreRead : Run → Type 0
 TextsAreRead run = ((problem : Formula) × AsksFor run problem) ⊎ ((problem : Formula) × (bytes : List ℕ) × (judged : Verdict) × HasVerdict run problem bytes judged)
 
--- A call on the formula's file failed where the bytes taken of it decide nothing yet, and none of a proof was taken.
+-- A call on the formula's file failed where the bytes taken of it decide nothing yet, and none of another file was taken.
 pub record IsOpenFormula (run : Run) : Type 0 where
   pub failed : HasFault run Cnf
   pub undecided : cnf_so_far (taken_in run Cnf) ≡ overlong
-  pub before_proof : taken_in run ProofIn ≡ []
+  pub before_others : (role : Role) → IsInput role → role ≢ Cnf → taken_in run role ≡ []
+
+-- The words give `solve` with an order's file, the formula was accepted, and a call on that file failed where the bytes
+-- taken of it decide nothing yet. The file may be missing: then none was taken. None of a schedule was.
+pub record IsOpenOrder (run : Run) : Type 0 where
+  pub task : ToSolve
+  pub problem : Formula
+  pub asks : Asks run (Solve task) (formula problem)
+  pub file : List ℕ
+  pub named : task.order ≡ Some file
+  pub failed : HasFault run Order
+  pub undecided : order_so_far problem.vars (taken_in run Order) ≡ overlong_order
+  pub before_schedule : taken_in run Schedule ≡ []
+
+-- The same of a schedule's file, where the order is given too.
+pub record IsOpenSchedule (run : Run) : Type 0 where
+  pub task : ToSolve
+  pub problem : Formula
+  pub asks : Asks run (Solve task) (formula problem)
+  pub order : List ℕ
+  pub ordered : IsOrdered run.files task.order problem order
+  pub file : List ℕ
+  pub named : task.plan ≡ ByFile file
+  pub failed : HasFault run Schedule
+  pub undecided : schedule_so_far problem (taken_in run Schedule) ≡ overlong_schedule
 
 -- The words give `check`, the formula was accepted, and a call on the proof's file failed where the bytes taken of it
 -- decide nothing yet over the formula. That file may be missing: then none was taken.
@@ -226,9 +298,10 @@ pub record IsOpenProof (run : Run) : Type 0 where
   pub failed : HasFault run ProofIn
   pub undecided : verdict_so_far problem.clauses (taken_in run ProofIn) ≡ None
 
--- What was taken decides nothing yet: of the formula's text, or, over a formula that was accepted, of the proof's.
+-- What was taken decides nothing yet: of the formula's text, or, where the texts before it were accepted, of the order's,
+-- the schedule's or the proof's.
 abbrev pub IsStillOpen : Run → Type 0
-IsStillOpen run = IsOpenFormula run ⊎ IsOpenProof run
+IsStillOpen run = IsOpenFormula run ⊎ (IsOpenOrder run ⊎ (IsOpenSchedule run ⊎ IsOpenProof run))
 
 -- Faults: a read fault comes only where a call on a file that is read failed, and what was taken decides nothing yet, and
 -- then nothing was written but on standard error; a write fault only where all texts were read and accepted, or the words
@@ -324,16 +397,25 @@ ends_before_proof (NotVerified line reason) = true
 ends_before_proof Help = true
 ends_before_proof Usage = true
 ends_before_proof (CnfRefused kind line) = true
+ends_before_proof (OrderRefused kind line) = true
+ends_before_proof (PlanRefused kind line) = true
 ends_before_proof (TooLong role) = true
 ends_before_proof ReadFault = true
 ends_before_proof WriteFault = false
 ends_before_proof OutOfMemory = false
 
+-- the schedule's file, where one is named
+abbrev pub schedule_file : Planned → Option (List ℕ)
+schedule_file (ByName name) = None
+schedule_file (ByFile file) = Some file
+
 -- the roles that have a name only where the words give it
 abbrev pub name_given : Role → Command → Option (List ℕ)
 name_given Cnf asked = Some (formula_file asked)
-name_given Order asked = None
-name_given Schedule asked = None
+name_given Order (Solve task) = task.order
+name_given Order (Check task) = None
+name_given Schedule (Solve task) = schedule_file task.plan
+name_given Schedule (Check task) = None
 name_given ProofIn (Solve task) = None
 name_given ProofIn (Check task) = Some task.proof
 name_given ProofOut (Solve task) = Some task.proof
@@ -343,15 +425,40 @@ name_given Out asked = None
 name_given Err asked = None
 
 -- Names: a role has none, or the one that the words give it. Files: none changed but the proof's, which is created only
--- once all reading is over and the formula was accepted, however the run ends.
+-- once all reading is over and all texts were accepted, however the run ends.
 pub record NamesAreGiven (run : Run) : Type 0 where
   pub names : (role : Role) → ((run.after role).name ≡ None) ⊎ ((asked : Command) × (command run.words ≡ Some asked) × ((run.after role).name ≡ name_given role asked))
   pub files : FilesBut (run.after ProofOut).name run.files run.files_after
   pub read_first : IsTrue (ends_before_proof run.status) → (run.after ProofOut).name ≡ None
   pub accepted : (run.after ProofOut).name ≢ None → GivesSolve run × (IsTrue run.tells → (problem : Formula) × AsksFor run problem)
 
--- Complete: what is asked for is answered, unless a call of the host failed or memory ran out; words that can mean
--- nothing else are refused, or answered by help, and words that give no command by one of both.
+-- The words and the texts call for this refusal: it is that of the first text in turn that isn't accepted.
+abbrev pub CallsFor : Run → Status → Type 0
+CallsFor run Sat = ⊥
+CallsFor run Unsat = ⊥
+CallsFor run (Unknown why) = ⊥
+CallsFor run Verified = ⊥
+CallsFor run (NotVerified line reason) = ⊥
+CallsFor run Help = ⊥
+CallsFor run Usage = ⊥
+CallsFor run (CnfRefused kind line) = (asked : Command) × Asks run asked (refusal kind line)
+CallsFor run (OrderRefused kind line) = (problem : Formula) × AsksByOrder run problem (order_refusal kind line)
+CallsFor run (PlanRefused kind line) = (problem : Formula) × AsksBySchedule run problem (schedule_refusal kind line)
+CallsFor run (TooLong Cnf) = (asked : Command) × Asks run asked overlong
+CallsFor run (TooLong Order) = (problem : Formula) × AsksByOrder run problem overlong_order
+CallsFor run (TooLong Schedule) = (problem : Formula) × AsksBySchedule run problem overlong_schedule
+CallsFor run (TooLong ProofIn) = (problem : Formula) × (bytes : List ℕ) × AsksToJudge run problem bytes × (text_verdict problem.clauses bytes ≡ None)
+CallsFor run (TooLong ProofOut) = ⊥
+CallsFor run (TooLong Made) = ⊥
+CallsFor run (TooLong Out) = ⊥
+CallsFor run (TooLong Err) = ⊥
+CallsFor run ReadFault = ⊥
+CallsFor run WriteFault = ⊥
+CallsFor run OutOfMemory = ⊥
+
+-- Complete: what is asked for is answered, unless a call of the host failed or memory ran out; a text that isn't accepted
+-- is refused, unless a read failed or memory ran out; words that can mean nothing else are refused, or answered by help, and
+-- words that give no command by one of both.
 pub record IsComplete (run : Run) : Type 0 where
   pub misused : CanOnlyMean run.words Misuse → (run.status ≡ Usage) ⊎ (run.status ≡ OutOfMemory)
   pub helped : CanOnlyMean run.words AsksHelp → (HasFault run Out → ⊥) → (run.status ≡ Help) ⊎ (run.status ≡ OutOfMemory)
@@ -359,11 +466,7 @@ pub record IsComplete (run : Run) : Type 0 where
   pub answers : (problem : Formula) → AsksFor run problem → IsTrue run.tells → IsUnharmed run → IsTrue (is_answer run.status) ⊎ (run.status ≡ OutOfMemory)
   pub judges : (problem : Formula) (bytes : List ℕ) (judged : Verdict) → HasVerdict run problem bytes judged → IsTrue run.tells → IsUnharmed run
       → (run.status ≡ status_of_verdict judged) ⊎ (run.status ≡ OutOfMemory)
-  pub refuses : (asked : Command) (kind : CnfKind) (line : ℕ) → Asks run asked (refusal kind line) → IsTrue run.tells → (InputFailed run → ⊥)
-      → (run.status ≡ CnfRefused kind line) ⊎ (run.status ≡ OutOfMemory)
-  pub overlong : (asked : Command) → Asks run asked overlong → IsTrue run.tells → (InputFailed run → ⊥) → (run.status ≡ TooLong Cnf) ⊎ (run.status ≡ OutOfMemory)
-  pub long_proof : (problem : Formula) (bytes : List ℕ) → AsksToJudge run problem bytes → text_verdict problem.clauses bytes ≡ None → IsTrue run.tells → (InputFailed run → ⊥)
-      → (run.status ≡ TooLong ProofIn) ⊎ (run.status ≡ OutOfMemory)
+  pub refuses : (status : Status) → CallsFor run status → IsTrue run.tells → (InputFailed run → ⊥) → (run.status ≡ status) ⊎ (run.status ≡ OutOfMemory)
 
 -- All that the program promises of a run.
 pub record Promises (run : Run) : Type 0 where

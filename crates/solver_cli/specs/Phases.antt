@@ -1,19 +1,32 @@
 -- The parts of a run, each over the one role that it serves.
-use Rattle.std.specs.Prelude.{◌≡◌, ◌≢◌, ◌⊎◌, ◌≤◌, ◌++◌, ℕ, Bool, List, [], None, Some, Result, Ok, Err, length, IsTrue, IsOk, IsErr, IfOk, ℤ, ⊤}
+use Rattle.std.specs.Prelude.{◌≡◌, ◌≢◌, ◌⊎◌, ◌≤◌, ◌++◌, ℕ, Bool, List, [], Option, None, Some, Result, Ok, Err, length, IsTrue, IsOk, IsErr, IfOk, IfErr, ℤ, ⊤}
 use Rattle.cnf_base.specs.Formula.{Formula, IsFormula}
 use Rattle.host_io.specs.declared.source.Failed.{Failed}
 use Rattle.host_io.specs.Channel.{Channel, Rose}
 use Rattle.host_io.specs.Files.{Files}
 use Rattle.text_scan.specs.Decides.{gained}
-use Rattle.dimacs_reader.specs.Cnf.{CnfText, formula, refusal, overlong, cnf, cnf_so_far}
+use Rattle.dimacs_reader.specs.Cnf.{overlong as unread_cnf, cnf, cnf_so_far}
+use Rattle.dimacs_reader.specs.Answers.{Answers as CnfAnswers}
 use Rattle.dimacs_reader.specs.declared.error.CnfError.{CnfError}
-use Rattle.dimacs_reader.specs.declared.error.CnfError.TheVariants.{Refused, ReadFault, TooLong, OutOfMemory}
+use Rattle.dimacs_reader.specs.declared.error.CnfError.TheVariants.{ReadFault as CnfReadFault}
 use Rattle.lrat_checker.specs.TextVerdict.{text_verdict, verdict_so_far, Answers}
 use Rattle.lrat_checker.specs.declared.verdict.Verdict.{Verdict}
 use Rattle.lrat_checker.specs.declared.verdict.CheckError.{CheckError}
 use Rattle.lrat_checker.specs.declared.verdict.CheckError.TheVariants.{ReadFault as CheckReadFault}
+use Rattle.schedule_plan.specs.Order.{natural as natural_order, IsOrder}
+use Rattle.schedule_plan.specs.OrderText.{overlong as unread_order, order_text, order_so_far}
+use Rattle.schedule_plan.specs.OrderReader.{Answers as OrderAnswers}
+use Rattle.schedule_plan.specs.ScheduleText.{overlong as unread_schedule, schedule, schedule_so_far}
+use Rattle.schedule_plan.specs.ScheduleState.{Answers as ScheduleAnswers}
+use Rattle.schedule_plan.specs.declared.order_error.OrderError.{OrderError}
+use Rattle.schedule_plan.specs.declared.order_error.OrderError.TheVariants.{ReadFault as OrderReadFault, OutOfMemory as OrderOutOfMemory}
+use Rattle.schedule_plan.specs.declared.schedule.error.PlanError.{PlanError}
+use Rattle.schedule_plan.specs.declared.schedule.error.PlanError.TheVariants.{ReadFault as PlanReadFault, OutOfMemory as PlanOutOfMemory}
 use Rattle.schedule_plan.specs.Plan.{IsAdmissible}
 use Rattle.schedule_plan.specs.declared.plan.Move.{Move}
+use Rattle.command_line.specs.declared.plan.PlanName.{PlanName}
+use Rattle.command_line.specs.Command.{Planned, ByName, ByFile}
+use Rattle.solver_cli.specs.Answer.{moves_of_plan}
 use Rattle.schedule_plan.specs.declared.limits.Limits.{Limits}
 use Rattle.term_runner.specs.Ends.{Says, Shows}
 use Rattle.term_runner.specs.Proofs.{IsProof, IsProofSoFar}
@@ -23,36 +36,79 @@ use Rattle.term_runner.specs.declared.error.RunError.TheVariants.{WriteFault as 
 use Rattle.solver_cli.specs.ErrorText.{error_text}
 use Rattle.solver_cli.specs.declared.status.Status.{Status}
 
--- the answer of reading is what the text says; where it refuses, so do the bytes taken
-abbrev pub IsRead : Result Formula CnfError → CnfText → CnfText → Type 0
-IsRead (Ok problem) whole taken = whole ≡ formula problem
-IsRead (Err (Refused kind line)) whole taken = (whole ≡ refusal kind line) × (taken ≡ refusal kind line)
-IsRead (Err TooLong) whole taken = (whole ≡ overlong) × (taken ≡ overlong)
-IsRead (Err ReadFault) whole taken = ⊤
-IsRead (Err OutOfMemory) whole taken = ⊤
+-- A text was read: the answer is that of the whole text that stands in the file of this name, and already that of the
+-- bytes taken.
+pub record ReadsText {Text R : Type 0} (whole : List ℕ → Text) (answers : R → Text → Type 0) (files : Files) (file taken : List ℕ) (result : R) : Type 0 where
+  pub bytes : List ℕ
+  pub stands : files file ≡ Some bytes
+  pub told : answers result (whole bytes)
+  pub decided : answers result (whole taken)
 
--- The opened formula's file was read; where a call on it failed, the bytes taken decide nothing yet.
-pub record ReadsFormula (tells : Bool) (old new : Channel) (result : Result Formula CnfError) : Type 0 where
-  pub read : IsTrue tells → IsRead result (cnf old.left) (cnf (gained old new))
-  pub formula : IfOk result IsFormula
-  pub fault : result ≡ Err ReadFault → Rose old.faults new.faults
-  pub unfailed : result ≢ Err ReadFault → new.faults ≡ old.faults
-  pub undecided : IsTrue tells → result ≡ Err ReadFault → cnf_so_far (gained old new) ≡ overlong
+-- The text of an opened file was read. `whole` is what a text is, `so_far` what its front decides, `unread` where that is
+-- nothing yet; `answers` says which answers a text allows, `fit` what is promised of a value that was read, and `fault` is
+-- the answer where a call on the file failed. Then the bytes taken decide nothing yet.
+pub record ReadsOpened {Text T E : Type 0} (whole so_far : List ℕ → Text) (unread : Text) (answers : Result T E → Text → Type 0) (fit : T → Type 0) (fault : E)
+    (tells : Bool) (old new : Channel) (result : Result T E) : Type 0 where
+  pub told : IsTrue tells → answers result (whole old.left)
+  pub decided : IsTrue tells → answers result (whole (gained old new))
+  pub fits : IfOk result fit
+  pub failed : result ≡ Err fault → Rose old.faults new.faults
+  pub unfailed : result ≢ Err fault → new.faults ≡ old.faults
+  pub undecided : IsTrue tells → result ≡ Err fault → so_far (gained old new) ≡ unread
   pub written : new.written ≡ old.written
-  pub flushed : new.flushed ≡ old.flushed
   pub name : new.name ≡ old.name
   pub faults : old.faults ≤ new.faults
 
--- the formula's file was opened and read
-pub record TakesFormula (tells : Bool) (old new : Channel) (files : Files) (file : List ℕ) (result : Result Formula CnfError) : Type 0 where
-  pub read : IsTrue tells → (result ≡ Err ReadFault) ⊎ ((bytes : List ℕ) × (files file ≡ Some bytes) × IsRead result (cnf bytes) (cnf (gained old new)))
-  pub formula : IfOk result IsFormula
-  pub fault : result ≡ Err ReadFault → Rose old.faults new.faults
-  pub unfailed : result ≢ Err ReadFault → new.faults ≡ old.faults
-  pub undecided : IsTrue tells → result ≡ Err ReadFault → cnf_so_far (gained old new) ≡ overlong
+-- the same of a file that was opened for it
+pub record TakesText {Text T E : Type 0} (whole so_far : List ℕ → Text) (unread : Text) (answers : Result T E → Text → Type 0) (fit : T → Type 0) (fault : E)
+    (tells : Bool) (old new : Channel) (files : Files) (file : List ℕ) (result : Result T E) : Type 0 where
+  pub read : IsTrue tells → (result ≡ Err fault) ⊎ ReadsText whole answers files file (gained old new) result
+  pub fits : IfOk result fit
+  pub failed : result ≡ Err fault → Rose old.faults new.faults
+  pub unfailed : result ≢ Err fault → new.faults ≡ old.faults
+  pub undecided : IsTrue tells → result ≡ Err fault → so_far (gained old new) ≡ unread
   pub written : new.written ≡ old.written
   pub name : (new.name ≡ Some file) ⊎ (new.name ≡ None)
   pub faults : old.faults ≤ new.faults
+
+-- an order of so many variables
+abbrev pub IsOrderOf : ℕ → List ℕ → Type 0
+IsOrderOf vars order = IsOrder order × (length order ≡ vars)
+
+-- the three texts that a formula is decided by: its own, and those of an order of its variables and of a schedule
+abbrev pub ReadsFormula : Bool → Channel → Channel → Result Formula CnfError → Type 0
+ReadsFormula = ReadsOpened cnf cnf_so_far unread_cnf CnfAnswers IsFormula CnfReadFault
+
+abbrev pub TakesFormula : Bool → Channel → Channel → Files → List ℕ → Result Formula CnfError → Type 0
+TakesFormula = TakesText cnf cnf_so_far unread_cnf CnfAnswers IsFormula CnfReadFault
+
+abbrev pub ReadsOrder : ℕ → Bool → Channel → Channel → Result (List ℕ) OrderError → Type 0
+ReadsOrder vars = ReadsOpened (order_text vars) (order_so_far vars) unread_order OrderAnswers (IsOrderOf vars) OrderReadFault
+
+abbrev pub TakesOrder : ℕ → Bool → Channel → Channel → Files → List ℕ → Result (List ℕ) OrderError → Type 0
+TakesOrder vars = TakesText (order_text vars) (order_so_far vars) unread_order OrderAnswers (IsOrderOf vars) OrderReadFault
+
+abbrev pub ReadsSchedule : Formula → Bool → Channel → Channel → Result (List Move) PlanError → Type 0
+ReadsSchedule problem = ReadsOpened (schedule problem) (schedule_so_far problem) unread_schedule ScheduleAnswers (IsAdmissible problem) PlanReadFault
+
+abbrev pub TakesSchedule : Formula → Bool → Channel → Channel → Files → List ℕ → Result (List Move) PlanError → Type 0
+TakesSchedule problem = TakesText (schedule problem) (schedule_so_far problem) unread_schedule ScheduleAnswers (IsAdmissible problem) PlanReadFault
+
+-- A value was made without a file, unless memory ran out.
+pub record Makes {T E : Type 0} (value : T) (memory : E) (old new : Channel) (result : Result T E) : Type 0 where
+  pub made : IfOk result (λ made. made ≡ value)
+  pub refused : IfErr result (λ error. error ≡ memory)
+  pub same : new ≡ old
+
+-- The order was had: that of the named file, or without one the natural order.
+pub record HasOrder (vars : ℕ) (asked : Option (List ℕ)) (tells : Bool) (old new : Channel) (files : Files) (result : Result (List ℕ) OrderError) : Type 0 where
+  pub natural : asked ≡ None → Makes (natural_order vars) OrderOutOfMemory old new result
+  pub named : (file : List ℕ) → asked ≡ Some file → TakesOrder vars tells old new files file result
+
+-- The plan was had: the one of the given name over the order, or that of the schedule in the named file.
+pub record HasPlan (problem : Formula) (order : List ℕ) (asked : Planned) (tells : Bool) (old new : Channel) (files : Files) (result : Result (List Move) PlanError) : Type 0 where
+  pub named : (name : PlanName) → asked ≡ ByName name → Makes (moves_of_plan name problem order) PlanOutOfMemory old new result
+  pub scheduled : (file : List ℕ) → asked ≡ ByFile file → TakesSchedule problem tells old new files file result
 
 -- The answer of the check is the verdict of the text in the opened proof's file, and already of the bytes taken; where a
 -- call on it failed, these decide nothing yet.
@@ -87,11 +143,6 @@ pub record JudgesProof (tells : Bool) (old new : Channel) (files : Files) (file 
 pub record OnlyWritten (old new : Channel) : Type 0 where
   pub name : new.name ≡ old.name
   pub faults : old.faults ≤ new.faults
-
--- an order and moves that may be run
-pub record IsRunnable (problem : Formula) (order : List ℕ) (moves : List Move) : Type 0 where
-  pub one_each : length order ≡ problem.vars
-  pub admissible : IsAdmissible problem moves
 
 -- A formula was decided, and its proof written: exactly the lines of good steps, within the limits, flushed where the
 -- formula was decided; a line that is cut short only after a failed write.

@@ -3,7 +3,7 @@ use Rattle.std.specs.Prelude.{◌≡◌, ◌<◌, ℕ, List, Some, length, IsTru
 use Rattle.host_io.specs.declared.role.Role.TheVariants.{ProofIn, ProofOut}
 use Rattle.lrat_checker.specs.TextVerdict.{max_bytes}
 use Rattle.solver_cli.specs.declared.status.Status.{Status}
-use Rattle.solver_cli.specs.declared.status.Status.TheVariants.{Sat, Unsat, Unknown, Verified, NotVerified, Help, Usage, CnfRefused, TooLong, ReadFault, WriteFault, OutOfMemory}
+use Rattle.solver_cli.specs.declared.status.Status.TheVariants.{Sat, Unsat, Unknown, Verified, NotVerified, Help, Usage, CnfRefused, OrderRefused, PlanRefused, TooLong, ReadFault, WriteFault, OutOfMemory}
 use Rattle.command_line.specs.Command.{Command, ToCheck, Check, formula_file, command}
 use Rattle.solver_cli.specs.Headline.{Run, written_in, InputFailed, OutputFailed}
 
@@ -31,6 +31,8 @@ MayEnd run bytes (NotVerified line reason) = ⊥
 MayEnd run bytes Help = ⊥
 MayEnd run bytes Usage = ⊥
 MayEnd run bytes (CnfRefused kind line) = ⊥
+MayEnd run bytes (OrderRefused kind line) = ⊥
+MayEnd run bytes (PlanRefused kind line) = ⊥
 MayEnd run bytes (TooLong role) = (role ≡ ProofIn) × (max_bytes < length bytes)
 MayEnd run bytes ReadFault = InputFailed run
 MayEnd run bytes WriteFault = OutputFailed run

@@ -1,16 +1,16 @@
 // The line on standard error.
-ghost use Rattle.std.specs.Prelude.{◌≡◌, ◌++◌, codes};
+ghost use Rattle.std.specs.Prelude.{◌≡◌, ◌++◌, codes, decimal};
 ghost use Rattle.host_io.specs.declared.role.Role.TheVariants.{Err as ErrRole};
 ghost use Rattle.host_io.specs.Channel.{WritesAll};
 ghost use Rattle.host_io.specs.Files.{Kept};
-ghost use Rattle.solver_cli.specs.declared.status.Status.TheVariants.{CnfRefused};
-ghost use Rattle.solver_cli.specs.ErrorText.{kind_name, role_word, error_text};
+ghost use Rattle.solver_cli.specs.ErrorText.{kind_name, order_kind_name, plan_kind_name, role_word, error_text};
 ghost use Rattle.solver_cli.specs.Phases.{Complains};
 
 use crate::status::Status;
 use dimacs_reader::CnfKind;
 use host_io::{Failed, Host, HostSink, Role, Sink, beside_kept, write_all};
 use itoa::Buffer;
+use schedule_plan::{OrderKind, PlanKind};
 
 /// Writes the status's line on standard error, and nothing for an answer or for help, and flushes. That the line could not
 /// be written ends no run otherwise.
@@ -36,7 +36,15 @@ fn write_status<S: Sink>(sink: &mut S, status: Status) -> Result<(), Failed>
         | Status::NotVerified(..)
         | Status::Help => Ok(()),
         Status::Usage => write_all(sink, b"error: bad usage\n"),
-        Status::CnfRefused(kind, line) => write_refused(sink, kind, line),
+        Status::CnfRefused(kind, line) => {
+            write_refused(sink, "error: cnf line ", line, cnf_kind(kind))
+        }
+        Status::OrderRefused(kind, line) => {
+            write_refused(sink, "error: order line ", line, order_kind(kind))
+        }
+        Status::PlanRefused(kind, line) => {
+            write_refused(sink, "error: schedule line ", line, plan_kind(kind))
+        }
         Status::TooLong(role) => write_all(sink, too_long(role).as_bytes()),
         Status::ReadFault => write_all(sink, b"error: read failed\n"),
         Status::WriteFault => write_all(sink, b"error: write failed\n"),
@@ -44,18 +52,18 @@ fn write_status<S: Sink>(sink: &mut S, status: Status) -> Result<(), Failed>
     }
 }
 
-// What is wrong with the formula's text, and in which line.
-fn write_refused<S: Sink>(sink: &mut S, kind: CnfKind, line: u64) -> Result<(), Failed>
-    ensures writes { WritesAll S.tells (S.channel sink.old) (S.channel sink.new) (error_text (CnfRefused kind line)) result }
+// Which text is wrong, in which line, and how.
+fn write_refused<S: Sink>(sink: &mut S, text: &str, line: u64, kind: &str) -> Result<(), Failed>
+    ensures writes { WritesAll S.tells (S.channel sink.old) (S.channel sink.new) (text.now ++ (decimal line ++ kind.now)) result }
     ensures beside { S.beside sink.new ≡ S.beside sink.old }
 {
-    write_all(sink, b"error: cnf line ")?;
+    write_all(sink, text.as_bytes())?;
     write_all(sink, Buffer::new().format(line).as_bytes())?;
-    write_all(sink, kind_text(kind).as_bytes())
+    write_all(sink, kind.as_bytes())
 }
 
 // The end of a line that tells a kind.
-fn kind_text(kind: CnfKind) -> &'static str
+fn cnf_kind(kind: CnfKind) -> &'static str
     ensures { result.now ≡ codes ": " ++ kind_name kind ++ codes "\n" }
 {
     match kind {
@@ -67,6 +75,32 @@ fn kind_text(kind: CnfKind) -> &'static str
         CnfKind::ClauseMissing => ": ClauseMissing\n",
         CnfKind::NoEndingZero => ": NoEndingZero\n",
         CnfKind::Limit => ": Limit\n",
+    }
+}
+
+fn order_kind(kind: OrderKind) -> &'static str
+    ensures { result.now ≡ codes ": " ++ order_kind_name kind ++ codes "\n" }
+{
+    match kind {
+        OrderKind::BadNumber => ": BadNumber\n",
+        OrderKind::Range => ": Range\n",
+        OrderKind::Repeated => ": Repeated\n",
+        OrderKind::Missing => ": Missing\n",
+    }
+}
+
+fn plan_kind(kind: PlanKind) -> &'static str
+    ensures { result.now ≡ codes ": " ++ plan_kind_name kind ++ codes "\n" }
+{
+    match kind {
+        PlanKind::Syntax => ": Syntax\n",
+        PlanKind::ClauseRange => ": ClauseRange\n",
+        PlanKind::ClauseTwice => ": ClauseTwice\n",
+        PlanKind::StackShort => ": StackShort\n",
+        PlanKind::VariableRange => ": VariableRange\n",
+        PlanKind::VariableInUse => ": VariableInUse\n",
+        PlanKind::ClauseUnused => ": ClauseUnused\n",
+        PlanKind::TermsLeft => ": TermsLeft\n",
     }
 }
 

@@ -9,13 +9,17 @@ mod complaint;
 mod formula;
 mod judgement;
 mod laws;
+mod order;
 mod output;
+mod plan;
 mod program;
 mod proof;
 mod status;
 mod verdict;
 
-pub use command_line::{Asked, FileNames, PlanName, Refusal, gather, read_words};
+pub use command_line::{
+    Asked, FileNames, PlanName, PlanSource, Refusal, SolveTask, gather, read_words,
+};
 pub use complaint::complain;
 pub use laws::solve_then_check_law;
 pub use program::{run, run_in_memory, run_with};

@@ -4,7 +4,7 @@ ghost use Rattle.std.specs.String.{string_bytes};
 ghost use Rattle.std.specs.Iterator.{IsFinite};
 ghost use Rattle.std.specs.Iterator.Runs.{WholeRun};
 ghost use Rattle.host_io.specs.declared.role.Role.{Role};
-ghost use Rattle.host_io.specs.declared.role.Role.TheVariants.{Cnf as CnfRole, ProofIn, ProofOut, Out};
+ghost use Rattle.host_io.specs.declared.role.Role.TheVariants.{Cnf as CnfRole, Order as OrderRole, Schedule as ScheduleRole, ProofIn, ProofOut, Out};
 ghost use Rattle.host_io.specs.Files.{FilesBut, Kept, same_role};
 ghost use Rattle.host_io.specs.Memory.{channel_of, files_of};
 ghost use Rattle.schedule_plan.specs.Limits.{AreLimits};
@@ -13,32 +13,34 @@ ghost use Rattle.solver_cli.specs.ExitCode.{exit_code};
 ghost use Rattle.solver_cli.specs.Start.{OnlyTold, status_of_kind};
 ghost use Rattle.solver_cli.specs.declared.status.Status.{Status};
 ghost use Rattle.solver_cli.specs.declared.status.Status.TheVariants.{OutOfMemory};
-ghost use Rattle.solver_cli.specs.Stages.{Came, CameToCheck, ShowsHelp, Stages, streams_of};
+ghost use Rattle.solver_cli.specs.Stages.{Came, CameToCheck, ShowsHelp, Stages, streams_of, task_of};
 
 use crate::answer::status_of;
 use crate::complaint::complain;
 use crate::formula::take_formula;
 use crate::judgement::judge;
+use crate::order::take_order;
 use crate::output::{put_answer, put_text};
-use crate::proof::{prove, schedule};
+use crate::plan::take_plan;
+use crate::proof::prove;
 use crate::status::Status;
 use crate::verdict::{put_verdict, verdict_status};
-use command_line::{Asked, FileNames, PlanName, Refusal, gather, read_words};
+use command_line::{Asked, FileNames, Refusal, SolveTask, gather, read_words};
 use host_io::{Host, MemoryHost, Role as HostRole};
 use lrat_checker::check_law;
 use lrat_rules::soundness_law;
-use schedule_plan::Limits;
 use std::alloc::Global;
 use std::io::ErrorKind;
 
 fn work<H: Host>(alloc: Global, words: &[String], host: &mut H) -> Status
     requires unnamed { (role : Role) → (H.channel host.old role).name ≡ None }
     ensures stages { Stages H.tells (map string_bytes words.now) (streams_of (H.channel host.old)) (streams_of (H.channel host.new)) (H.files host.old) result }
-    ensures others { (role : Role) → IsFalse (same_role role CnfRole) → IsFalse (same_role role ProofIn) → IsFalse (same_role role ProofOut) → IsFalse (same_role role Out) → H.channel host.new role ≡ H.channel host.old role }
+    ensures others { (role : Role) → IsFalse (same_role role CnfRole) → IsFalse (same_role role OrderRole) → IsFalse (same_role role ScheduleRole)
+        → IsFalse (same_role role ProofIn) → IsFalse (same_role role ProofOut) → IsFalse (same_role role Out) → H.channel host.new role ≡ H.channel host.old role }
     ensures files { FilesBut (H.channel host.new ProofOut).name (H.files host.old) (H.files host.new) }
 {
     match read_words(alloc, words) {
-        Ok(Asked::Solve(files, plan, limits)) => solve(alloc, &files, plan, limits, host),
+        Ok(Asked::Solve(task)) => solve(alloc, &task, host),
         Ok(Asked::Check(files)) => check(alloc, &files, host),
         Err(Refusal::Help(text)) => show_help(&text, host),
         Err(Refusal::Usage) => Status::Usage,
@@ -57,36 +59,36 @@ fn show_help<H: Host>(text: &str, host: &mut H) -> Status
     }
 }
 
-// Reads the formula, decides it, writes the proof and prints the answer. The plan is made before the proof's file, so
-// that none is created where memory runs out by then.
-fn solve<H: Host>(
-    alloc: Global,
-    asked: &FileNames<'_>,
-    plan_name: PlanName,
-    limits: Limits,
-    host: &mut H,
-) -> Status
+// Reads the formula, the order and the plan, decides the formula, writes the proof and prints the answer. All reading is
+// over before the proof's file is created, so that none is where a text is refused or memory runs out by then.
+fn solve<H: Host>(alloc: Global, asked: &SolveTask<'_>, host: &mut H) -> Status
     requires unnamed { (role : Role) → (H.channel host.old role).name ≡ None }
-    requires limits { AreLimits limits }
-    ensures came { Came H.tells (streams_of (H.channel host.old)) (streams_of (H.channel host.new)) (H.files host.old) asked.now.formula.now asked.now.proof.now plan_name limits result }
-    ensures others { (role : Role) → IsFalse (same_role role CnfRole) → IsFalse (same_role role ProofOut) → IsFalse (same_role role Out) → H.channel host.new role ≡ H.channel host.old role }
+    requires limits { AreLimits asked.now.limits }
+    ensures came { Came H.tells (streams_of (H.channel host.old)) (streams_of (H.channel host.new)) (H.files host.old) (task_of asked.now) result }
+    ensures others { (role : Role) → IsFalse (same_role role CnfRole) → IsFalse (same_role role OrderRole) → IsFalse (same_role role ScheduleRole)
+        → IsFalse (same_role role ProofOut) → IsFalse (same_role role Out) → H.channel host.new role ≡ H.channel host.old role }
     ensures files { FilesBut (H.channel host.new ProofOut).name (H.files host.old) (H.files host.new) }
 {
-    let formula = match take_formula(alloc, host, asked.formula) {
+    let formula = match take_formula(alloc, host, asked.files.formula) {
         Ok(formula) => formula,
         Err(error) => return Status::from(error),
     };
-    let Ok((order, plan)) = schedule(alloc, plan_name, &formula) else {
-        return Status::OutOfMemory;
+    let order = match take_order(alloc, host, formula.vars(), asked.order) {
+        Ok(order) => order,
+        Err(error) => return Status::from(error),
     };
-    if host.create(HostRole::ProofOut, asked.proof).is_err() {
+    let plan = match take_plan(alloc, host, &formula, &order, &asked.plan) {
+        Ok(plan) => plan,
+        Err(error) => return Status::from(error),
+    };
+    if host.create(HostRole::ProofOut, asked.files.proof).is_err() {
         return Status::WriteFault;
     }
-    let outcome = match prove(alloc, host, &formula, &order, &plan, limits) {
+    let outcome = match prove(alloc, host, &formula, &order, &plan, asked.limits) {
         Ok(outcome) => outcome,
         Err(error) => return Status::from(error),
     };
-    match put_answer(host, &outcome, limits) {
+    match put_answer(host, &outcome, asked.limits) {
         Ok(()) => status_of(&outcome),
         Err(_) => Status::WriteFault,
     }

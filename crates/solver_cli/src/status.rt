@@ -6,6 +6,7 @@ use dimacs_reader::{CnfError, CnfKind};
 use host_io::Role;
 use lrat_checker::CheckError;
 use lrat_rules::Reason;
+use schedule_plan::{OrderError, OrderKind, PlanError, PlanKind};
 use std::io::ErrorKind;
 use term_runner::RunError;
 
@@ -37,6 +38,10 @@ pub enum Status {
     Usage,
     /// The formula's text is none; the line is where that shows.
     CnfRefused(CnfKind, u64),
+    /// The order's text is none of the formula's variables.
+    OrderRefused(OrderKind, u64),
+    /// The schedule's text is no plan for the formula.
+    PlanRefused(PlanKind, u64),
     /// The text of this role has more than 4,000,000,000 bytes.
     TooLong(Role),
     /// A file could not be opened or read.
@@ -57,7 +62,10 @@ impl Status {
             Status::Unsat => 20,
             Status::Unknown(_) | Status::Verified | Status::Help => 0,
             Status::NotVerified(..) => 1,
-            Status::CnfRefused(..) | Status::TooLong(_) => 2,
+            Status::CnfRefused(..)
+            | Status::OrderRefused(..)
+            | Status::PlanRefused(..)
+            | Status::TooLong(_) => 2,
             Status::ReadFault => 3,
             Status::WriteFault => 4,
             Status::OutOfMemory => 5,
@@ -77,6 +85,36 @@ impl From<CnfError> for Status {
             CnfError::ReadFault => Status::ReadFault,
             CnfError::TooLong => Status::TooLong(Role::Cnf),
             CnfError::OutOfMemory => Status::OutOfMemory,
+        }
+    }
+}
+
+impl From<OrderError> for Status {
+    ghost use Rattle.solver_cli.specs.ExitCode.{status_of_order};
+
+    ghost from_gives = { λ e status. status ≡ status_of_order e };
+
+    fn from(e: OrderError) -> Status {
+        match e {
+            OrderError::Refused(kind, line) => Status::OrderRefused(kind, line),
+            OrderError::ReadFault => Status::ReadFault,
+            OrderError::TooLong => Status::TooLong(Role::Order),
+            OrderError::OutOfMemory => Status::OutOfMemory,
+        }
+    }
+}
+
+impl From<PlanError> for Status {
+    ghost use Rattle.solver_cli.specs.ExitCode.{status_of_plan};
+
+    ghost from_gives = { λ e status. status ≡ status_of_plan e };
+
+    fn from(e: PlanError) -> Status {
+        match e {
+            PlanError::Refused(kind, line) => Status::PlanRefused(kind, line),
+            PlanError::ReadFault => Status::ReadFault,
+            PlanError::TooLong => Status::TooLong(Role::Schedule),
+            PlanError::OutOfMemory => Status::OutOfMemory,
         }
     }
 }

@@ -14,9 +14,13 @@ mod lines;
 #[cfg(test)]
 mod literals;
 #[cfg(test)]
+mod orders;
+#[cfg(test)]
 mod plans;
 #[cfg(test)]
 mod scanner;
+#[cfg(test)]
+mod schedules;
 #[cfg(test)]
 mod steps;
 #[cfg(test)]

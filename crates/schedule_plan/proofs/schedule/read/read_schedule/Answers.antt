@@ -1,0 +1,85 @@
+-- A token goes on with the line or ends it. The end, the limit or a line that is refused decides.
+use Rattle.std.proofs.Common.{◌≡◌, ℕ, [], Err, sym, ◌∙◌, ap, subst}
+use Rattle.text_scan.specs.Decides.{gained, Decides-then, OnlyReads-then, front-then, gained-then}
+use Rattle.text_scan.specs.Items.{the_end, too_long, next_word, items, items_of_front}
+use Rattle.text_scan.specs.Scan.{ahead, so_far}
+use Rattle.schedule_plan.specs.ScheduleText.{max_bytes, broken_off, schedule}
+use Rattle.schedule_plan.specs.ScheduleState.{no_draft, drafted, Answers}
+use Rattle.schedule_plan.proofs.Drafted.{drafted_same}
+use Rattle.schedule_plan.proofs.Exits.{whole, refused_answers, undecided_at}
+use Rattle.schedule_plan.proofs.TakesError.{was_reading, error_is}
+use Rattle.schedule_plan.proofs.schedule.read.read_schedule.Goals as goal
+
+pub tokens-preserved : goal.tokens-preserved
+tokens-preserved g c =
+    let formula = c.args.formula.now in
+    let moves = rw c.in-Ok-Some.field-0-is at c.in-Ok-Some.ensures.moves in
+    record {
+      same = λ told.
+          let gives = rw c.in-Ok-Some.field-0-is at (c.in-Ok-Some.ensures.gives told) in
+          Decides-then (λ bytes more. drafted formula (items 35 max_bytes bytes) no_draft [] ≡ drafted formula (ahead c.next.new.self more) c.take_token.new.line c.take_token.new.judge.moves.items)
+          (c.tokens.invariant.same told) gives
+          (λ bytes middle more p q. p ∙ ap (λ is. drafted formula is c.tokens.line c.tokens.judge.moves.items) q ∙ c.in_ok-take_token-in-Ok-Some.ensures.goes (ahead c.next.new.self more));
+      front = λ told reads.
+          let before = was_reading c.tokens.scanner c.next.new.self c.next.ensures.stopped_scanner reads in
+          let token = rw c.in-Ok-Some.field-0-is at (c.in-Ok-Some.ensures.so_far told before) in
+          front-then (λ l. drafted formula (broken_off (items_of_front 35 l)) no_draft []) (λ l. drafted formula (broken_off (so_far c.tokens.scanner l)) c.tokens.line c.tokens.judge.moves.items)
+          (λ l. drafted formula (broken_off (so_far c.next.new.self l)) c.take_token.new.line c.take_token.new.judge.moves.items)
+          (c.tokens.invariant.same told) (c.in-Ok-Some.ensures.gives told) (c.tokens.invariant.front told before)
+          (λ more. ap (λ is. drafted formula (broken_off is) c.tokens.line c.tokens.judge.moves.items) (token reads more)
+          ∙ c.in_ok-take_token-in-Ok-Some.ensures.goes (broken_off (so_far c.next.new.self more)));
+      stands = c.in_ok-take_token-in-Ok-Some.ensures.stands;
+      sound = moves.sound;
+      reads = OnlyReads-then c.tokens.invariant.reads c.next.ensures.reads;
+      unfailed = c.in-Ok-Some.ensures.unfailed (λ e. cc) ∙ c.tokens.invariant.unfailed;
+      beside = c.next.ensures.beside ∙ c.tokens.invariant.beside;
+    }
+
+-- a failed read says nothing of the text
+pub returns-in-Err-ReadFault-clause-decides : goal.returns-in-Err-ReadFault-clause-decides
+returns-in-Err-ReadFault-clause-decides g c = λ told. Decides-then (λ bytes more. Unit {0}) (c.tokens.invariant.same told) (c.in-Err-ReadFault.ensures.gives told) (λ bytes middle more p q. tt)
+
+pub returns-in_err-take_token-in-Ok-Some-clause-decides : goal.returns-in_err-take_token-in-Ok-Some-clause-decides
+returns-in_err-take_token-in-Ok-Some-clause-decides g c = λ told.
+    let formula = c.args.formula.now in
+    let gives = rw c.in-Ok-Some.field-0-is at (c.in-Ok-Some.ensures.gives told) in
+    let result = c.from_residual-in_err-take_token-in-Ok-Some.result in
+    let error = error_is result c.in_err-take_token-in-Ok-Some.field-0.0 c.from_residual-in_err-take_token-in-Ok-Some.ensures.1 in
+    Decides-then (λ bytes more. Answers result (schedule formula bytes)) (c.tokens.invariant.same told) gives
+    (λ bytes middle more p q. refused_answers result c.in_err-take_token-in-Ok-Some.field-0.0 (schedule formula bytes)
+    (drafted formula (next_word c.in-Ok-Some.token (ahead c.next.new.self more)) c.tokens.line c.tokens.judge.moves.items) _ error
+    (whole formula c.formula_law.ensures bytes _ (p ∙ ap (λ is. drafted formula is c.tokens.line c.tokens.judge.moves.items) q))
+    (c.in_err-take_token-in-Ok-Some.ensures.goes (ahead c.next.new.self more)))
+
+pub returns-in-Ok-None-clause-decides : goal.returns-in-Ok-None-clause-decides
+returns-in-Ok-None-clause-decides g c = λ told.
+    let formula = c.args.formula.now in
+    let gives = rw c.in-Ok-None.field-0-is at (c.in-Ok-None.ensures.gives told) in
+    Decides-then (λ bytes more. Answers c.at_end.result (schedule formula bytes)) (c.tokens.invariant.same told) gives
+    (λ bytes middle more p q. subst (λ t. Answers c.at_end.result t)
+    (sym (whole formula c.formula_law.ensures bytes _ (p ∙ ap (λ is. drafted formula is c.tokens.line c.tokens.judge.moves.items) q.0
+    ∙ ap (λ (n : ℕ). drafted formula (the_end n) c.tokens.line c.tokens.judge.moves.items) (sym c.line-in-Ok-None-2.ensures))))
+    c.at_end.ensures.answers)
+
+pub returns-in-Err-TooLong-clause-decides : goal.returns-in-Err-TooLong-clause-decides
+returns-in-Err-TooLong-clause-decides g c = λ told.
+    let formula = c.args.formula.now in
+    let gives = rw c.in-Err-TooLong.field-0-is at (c.in-Err-TooLong.ensures.gives told) in
+    Decides-then (λ bytes more. Answers (Err c.at_limit.result) (schedule formula bytes)) (c.tokens.invariant.same told) gives
+    (λ bytes middle more p q. subst (λ t. Answers (Err c.at_limit.result) t)
+    (sym (whole formula c.formula_law.ensures bytes _ (p ∙ ap (λ is. drafted formula is c.tokens.line c.tokens.judge.moves.items) q.0
+    ∙ ap (λ (n : ℕ). drafted formula (too_long n) c.tokens.line c.tokens.judge.moves.items) (sym c.line-in-Err-TooLong.ensures))))
+    c.at_limit.ensures.answers)
+
+-- A failed read was met while the bytes taken gave no further token.
+pub returns-in-Err-ReadFault-clause-undecided : goal.returns-in-Err-ReadFault-clause-undecided
+returns-in-Err-ReadFault-clause-undecided g c = λ told failed.
+    let formula = c.args.formula.now in
+    let law = c.formula_law.ensures in
+    let fault = rw c.in-Err-ReadFault.field-0-is at c.in-Err-ReadFault.ensures.stopped_answer in
+    let none = rw c.in-Err-ReadFault.field-0-is at (c.in-Err-ReadFault.ensures.so_far told) in
+    let last = undecided_at formula c.tokens.scanner c.next.new.self (gained (g.S.Source.channel c.tokens.source) (g.S.Source.channel c.next.new.source))
+    c.tokens.line c.tokens.judge.moves.items c.tokens.invariant.sound fault none in
+    sym (drafted_same formula law.count law.vars (broken_off (items_of_front 35 (gained (g.S.Source.channel c.args.source.now) (g.S.Source.channel c.next.new.source)))))
+    ∙ ap (λ l. drafted formula (broken_off (items_of_front 35 l)) no_draft []) (gained-then (c.tokens.invariant.same told) (c.in-Err-ReadFault.ensures.gives told))
+    ∙ c.tokens.invariant.front told last.0 (gained (g.S.Source.channel c.tokens.source) (g.S.Source.channel c.next.new.source)) ∙ last.1

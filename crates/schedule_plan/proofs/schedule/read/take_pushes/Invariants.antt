@@ -1,0 +1,11 @@
+use Rattle.std.proofs.Common.{◌≡◌, map, drop}
+use Rattle.schedule_plan.specs.declared.plan.Move.TheVariants.{Push}
+use Rattle.schedule_plan.specs.ScheduleText.{taken}
+use Rattle.schedule_plan.specs.ScheduleState.{Stands}
+use Rattle.schedule_plan.proofs.schedule.read.take_pushes.Given as goal
+
+abbrev pub invariant-numbers : goal.invariant-numbers
+invariant-numbers l = record {
+  stands : Stands l.formula l.judge;
+  rest : taken l.formula l.fn.judge.moves.items (map Push l.numbers) ≡ taken l.formula l.judge.moves.items (map Push (drop l.number-index l.numbers));
+}

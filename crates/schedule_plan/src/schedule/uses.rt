@@ -1,0 +1,74 @@
+// Where the variables stand: in how many clauses to come, and since which push.
+ghost use Rattle.std.specs.Prelude.{◌≡◌, ℕ, ◌<◌, ◌≤◌, nat_abs, nat_lt, length, IsTrue};
+ghost use Rattle.std.specs.List.{list_all};
+ghost use Rattle.schedule_plan.specs.ScheduleState.{counted, with_push, changed, use_at};
+
+use cnf_base::Lit;
+
+/// Of a variable.
+#[derive(Clone, Copy, Debug, Drop)]
+pub(crate) struct Use {
+    // how many clauses that hold it aren't pushed yet
+    pub(crate) to_come: u32,
+    // the earliest push of a clause that holds it; none once it is quantified
+    pub(crate) earliest: u32,
+    // the clause that was looked at last, so that one which holds it twice counts once
+    pub(crate) seen: u32,
+}
+
+/// Later than every push.
+pub(crate) const NEVER: u32 = u32::MAX;
+
+#[inline(always)]
+fn counted(one: Use, mark: u32) -> Use
+    requires { one.to_come ≤ 10000001 }
+    ensures { result ≡ counted mark one }
+{
+    if one.seen == mark {
+        return one;
+    }
+    Use {
+        to_come: one.to_come + 1,
+        earliest: one.earliest,
+        seen: mark,
+    }
+}
+
+#[inline(always)]
+fn with_push(one: Use, mark: u32, place: u32) -> Use
+    ensures { result ≡ with_push mark place one }
+{
+    if one.seen == mark {
+        return one;
+    }
+    Use {
+        to_come: one.to_come.saturating_sub(1),
+        earliest: one.earliest.min(place),
+        seen: mark,
+    }
+}
+
+/// A clause is there.
+pub(crate) fn count_clause(uses: &mut Vec<Use>, clause: &[Lit], mark: u32)
+    requires few { (x : ℕ) → (use_at uses.old.items x).to_come ≤ 10000000 }
+    requires within { IsTrue (list_all (λ literal. nat_lt (nat_abs literal) (length uses.old.items)) clause.now) }
+    ensures count { length uses.new.items ≡ length uses.old.items }
+    ensures uses { (x : ℕ) → use_at uses.new.items x ≡ changed (counted mark) clause.now uses.old.items x }
+{
+    'literals: for literal in clause {
+        let variable = literal.var() as usize;
+        uses[variable] = counted(uses[variable], mark);
+    }
+}
+
+/// It is pushed, behind so many others.
+pub(crate) fn push_clause(uses: &mut Vec<Use>, clause: &[Lit], mark: u32, place: u32)
+    requires within { IsTrue (list_all (λ literal. nat_lt (nat_abs literal) (length uses.old.items)) clause.now) }
+    ensures count { length uses.new.items ≡ length uses.old.items }
+    ensures uses { (x : ℕ) → use_at uses.new.items x ≡ changed (with_push mark place) clause.now uses.old.items x }
+{
+    'literals: for literal in clause {
+        let variable = literal.var() as usize;
+        uses[variable] = with_push(uses[variable], mark, place);
+    }
+}

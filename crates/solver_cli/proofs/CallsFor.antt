@@ -1,0 +1,172 @@
+-- What the words and the texts call for: the refusal of the first text in turn that isn't accepted, or none.
+use Rattle.std.proofs.Common.{◌≡◌, ℕ, List, refl, sym, ap, ◌∙◌, Some, None}
+use Rattle.std.specs.Prelude.{Option}
+use Rattle.cnf_base.specs.Formula.{Formula}
+use Rattle.host_io.specs.Files.{Files}
+use Rattle.host_io.specs.declared.role.Role.TheVariants.{Cnf, Order, Schedule, ProofIn, ProofOut, Made, Out, Err}
+use Rattle.dimacs_reader.specs.Cnf.{CnfText, formula, refusal, overlong, cnf}
+use Rattle.lrat_checker.specs.TextVerdict.{text_verdict}
+use Rattle.lrat_checker.specs.declared.verdict.Verdict.{Verdict}
+use Rattle.schedule_plan.specs.Order.{natural}
+use Rattle.schedule_plan.specs.OrderText.{OrderText, order as given_order, refusal as order_refusal, overlong as overlong_order, order_text}
+use Rattle.schedule_plan.specs.ScheduleText.{ScheduleText, plan as given_plan, refusal as schedule_refusal, overlong as overlong_schedule, schedule}
+use Rattle.schedule_plan.specs.declared.plan.Move.{Move}
+use Rattle.command_line.specs.Command.{Command, ToSolve, ToCheck, Solve, Check, Planned, ByName, ByFile, formula_file, command}
+use Rattle.solver_cli.specs.declared.status.Status.{Status}
+use Rattle.solver_cli.specs.declared.status.Status.TheVariants.{Sat, Unsat, Unknown, Verified, NotVerified, Help, Usage, CnfRefused, OrderRefused, PlanRefused, TooLong, ReadFault, WriteFault, OutOfMemory}
+use Rattle.solver_cli.specs.Answer.{IsRead, IsOrdered, IsPlanned}
+use Rattle.solver_cli.specs.Headline.{Run, GivesCommand, Asks, AsksFor, AsksByOrder, AsksBySchedule, AsksToJudge, HasVerdict, CallsFor}
+use Rattle.solver_cli.proofs.Facts.{one_text}
+
+-- The refusals, text by text: what a text is refused by, and what comes next where it is accepted.
+
+abbrev pub by_formula : CnfText → (Formula → Option Status) → Option Status
+by_formula (formula problem) next = next problem
+by_formula (refusal kind line) next = Some (CnfRefused kind line)
+by_formula overlong next = Some (TooLong Cnf)
+
+abbrev pub by_order : OrderText → (List ℕ → Option Status) → Option Status
+by_order (given_order order) next = next order
+by_order (order_refusal kind line) next = Some (OrderRefused kind line)
+by_order overlong_order next = Some (TooLong Order)
+
+abbrev pub by_schedule : ScheduleText → Option Status
+by_schedule (given_plan moves) = None
+by_schedule (schedule_refusal kind line) = Some (PlanRefused kind line)
+by_schedule overlong_schedule = Some (TooLong Schedule)
+
+abbrev pub by_proof : Option Verdict → Option Status
+by_proof None = Some (TooLong ProofIn)
+by_proof (Some judged) = None
+
+-- by what stands in a file
+abbrev pub in_file : Option (List ℕ) → (List ℕ → Option Status) → Option Status
+in_file None says = None
+in_file (Some bytes) says = says bytes
+
+abbrev pub after_order : Run → Planned → Formula → Option Status
+after_order run (ByName name) problem = None
+after_order run (ByFile file) problem = in_file (run.files file) (λ bytes. by_schedule (schedule problem bytes))
+
+abbrev pub with_order : Run → Option (List ℕ) → Formula → (List ℕ → Option Status) → Option Status
+with_order run None problem next = next (natural problem.vars)
+with_order run (Some file) problem next = in_file (run.files file) (λ bytes. by_order (order_text problem.vars bytes) next)
+
+abbrev pub after_formula : Run → Command → Formula → Option Status
+after_formula run (Solve task) problem = with_order run task.order problem (λ order. after_order run task.plan problem)
+after_formula run (Check task) problem = in_file (run.files task.proof) (λ bytes. by_proof (text_verdict problem.clauses bytes))
+
+abbrev pub by_words : Run → Option Command → Option Status
+by_words run None = None
+by_words run (Some asked) = in_file (run.files (formula_file asked)) (λ bytes. by_formula (cnf bytes) (after_formula run asked))
+
+abbrev pub refusal_due : Run → Option Status
+refusal_due run = by_words run (command run.words)
+
+-- a file that is read as that
+reads : {Text : Type 0} (files : Files) {file : List ℕ} {whole : List ℕ → Text} {text : Text} (says : Text → Option Status) → IsRead files file whole text → in_file (files file) (λ bytes. says (whole bytes)) ≡ says text
+reads files {whole = whole} says read = ap (λ (bytes : Option (List ℕ)). in_file bytes (λ b. says (whole b))) read.stands ∙ ap says read.says
+
+-- the words name one formula's file, and it has one text
+pub same_text : (run : Run) {asked other : Command} {text said : CnfText} → Asks run asked text → Asks run other said → text ≡ said
+same_text run here there = sym here.read.says ∙ ap cnf (one_text run.files here.command there.command here.read.stands there.read.stands) ∙ there.read.says
+
+asks : (run : Run) (asked : Command) (text : CnfText) → Asks run asked text → refusal_due run ≡ by_formula text (after_formula run asked)
+asks run asked text a = ap (by_words run) a.command ∙ reads run.files (λ t. by_formula t (after_formula run asked)) a.read
+
+ordered : (run : Run) (file : Option (List ℕ)) (problem : Formula) (order : List ℕ) (next : Option Status) → IsOrdered run.files file problem order → with_order run file problem (λ order. next) ≡ next
+ordered run None problem order next is = refl
+ordered run (Some file) problem order next is = reads run.files (λ t. by_order t (λ order. next)) is
+
+by_its_order : (run : Run) (problem : Formula) (text : OrderText) (a : AsksByOrder run problem text) → refusal_due run ≡ by_order text (λ order. after_order run a.task.plan problem)
+by_its_order run problem text a =
+    asks run (Solve a.task) (formula problem) a.asks
+    ∙ ap (λ (file : Option (List ℕ)). with_order run file problem (λ order. after_order run a.task.plan problem)) a.named
+    ∙ reads run.files (λ t. by_order t (λ order. after_order run a.task.plan problem)) a.read
+
+by_its_schedule : (run : Run) (problem : Formula) (text : ScheduleText) → AsksBySchedule run problem text → refusal_due run ≡ by_schedule text
+by_its_schedule run problem text a =
+    asks run (Solve a.task) (formula problem) a.asks
+    ∙ ordered run a.task.order problem a.order (after_order run a.task.plan problem) a.ordered
+    ∙ ap (λ (plan : Planned). after_order run plan problem) a.named
+    ∙ reads run.files by_schedule a.read
+
+to_judge : (run : Run) (problem : Formula) (bytes : List ℕ) → AsksToJudge run problem bytes → refusal_due run ≡ by_proof (text_verdict problem.clauses bytes)
+to_judge run problem bytes a =
+    asks run (Check a.task) (formula problem) a.asks
+    ∙ ap (λ (b : Option (List ℕ)). in_file b (λ bytes. by_proof (text_verdict problem.clauses bytes))) a.stands
+
+-- the refusal that is called for is this one
+pub called : (run : Run) (status : Status) → CallsFor run status → refusal_due run ≡ Some status
+called run Sat is = absurd is
+called run Unsat is = absurd is
+called run (Unknown why) is = absurd is
+called run Verified is = absurd is
+called run (NotVerified line reason) is = absurd is
+called run Help is = absurd is
+called run Usage is = absurd is
+called run (CnfRefused kind line) is = asks run is.0 (refusal kind line) is.1
+called run (OrderRefused kind line) is = by_its_order run is.0 (order_refusal kind line) is.1
+called run (PlanRefused kind line) is = by_its_schedule run is.0 (schedule_refusal kind line) is.1
+called run (TooLong Cnf) is = asks run is.0 overlong is.1
+called run (TooLong Order) is = by_its_order run is.0 overlong_order is.1
+called run (TooLong Schedule) is = by_its_schedule run is.0 overlong_schedule is.1
+called run (TooLong ProofIn) is = to_judge run is.0 is.1 is.2 ∙ ap by_proof is.3
+called run (TooLong ProofOut) is = absurd is
+called run (TooLong Made) is = absurd is
+called run (TooLong Out) is = absurd is
+called run (TooLong Err) is = absurd is
+called run ReadFault is = absurd is
+called run WriteFault is = absurd is
+called run OutOfMemory is = absurd is
+
+some_none : {status : Status} {due : Option Status} → due ≡ Some status → due ≡ None → ⊥
+some_none e d = cc
+
+same_some : {status other : Status} {due : Option Status} → due ≡ Some status → due ≡ Some other → status ≡ other
+same_some e d = inner (sym e ∙ d) where
+  inner : {status other : Status} → ◌≡◌ {A = Option Status} (Some status) (Some other) → status ≡ other
+  inner e = cc
+
+-- only one is
+pub one_call : (run : Run) (status other : Status) → CallsFor run status → CallsFor run other → status ≡ other
+one_call run status other here there = same_some (called run status here) (called run other there)
+
+-- none is where all texts are accepted
+planned : (run : Run) (plan : Planned) (problem : Formula) (order : List ℕ) (moves : List Move) → IsPlanned run.files plan problem order moves → after_order run plan problem ≡ None
+planned run (ByName name) problem order moves is = refl
+planned run (ByFile file) problem order moves is = reads run.files by_schedule is
+
+pub no_call : (run : Run) (problem : Formula) → AsksFor run problem → (status : Status) → CallsFor run status → ⊥
+no_call run problem a status is = some_none (called run status is) (
+    asks run (Solve a.task) (formula problem) a.asks
+    ∙ ordered run a.task.order problem a.order (after_order run a.task.plan problem) a.scheduled.ordered
+    ∙ planned run a.task.plan problem a.order a.moves a.scheduled.planned)
+
+-- or where the proof has a verdict
+pub no_call_judged : (run : Run) (problem : Formula) (bytes : List ℕ) (judged : Verdict) → HasVerdict run problem bytes judged → (status : Status) → CallsFor run status → ⊥
+no_call_judged run problem bytes judged has status is = some_none (called run status is) (to_judge run problem bytes has.asked ∙ ap by_proof has.judged)
+
+-- a refusal is called for only where the words give a command
+pub calls_give : (run : Run) (status : Status) → CallsFor run status → GivesCommand run
+calls_give run Sat is = absurd is
+calls_give run Unsat is = absurd is
+calls_give run (Unknown why) is = absurd is
+calls_give run Verified is = absurd is
+calls_give run (NotVerified line reason) is = absurd is
+calls_give run Help is = absurd is
+calls_give run Usage is = absurd is
+calls_give run (CnfRefused kind line) is = (is.0, is.1.command)
+calls_give run (OrderRefused kind line) is = (Solve is.1.task, is.1.asks.command)
+calls_give run (PlanRefused kind line) is = (Solve is.1.task, is.1.asks.command)
+calls_give run (TooLong Cnf) is = (is.0, is.1.command)
+calls_give run (TooLong Order) is = (Solve is.1.task, is.1.asks.command)
+calls_give run (TooLong Schedule) is = (Solve is.1.task, is.1.asks.command)
+calls_give run (TooLong ProofIn) is = (Check is.2.task, is.2.asks.command)
+calls_give run (TooLong ProofOut) is = absurd is
+calls_give run (TooLong Made) is = absurd is
+calls_give run (TooLong Out) is = absurd is
+calls_give run (TooLong Err) is = absurd is
+calls_give run ReadFault is = absurd is
+calls_give run WriteFault is = absurd is
+calls_give run OutOfMemory is = absurd is

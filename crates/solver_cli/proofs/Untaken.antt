@@ -1,0 +1,157 @@
+-- What is promised of a run that a text ended: the formula's, the order's or the schedule's.
+use Rattle.std.proofs.Common.{◌≡◌, ℕ, List, [], refl, sym, ap, ◌∙◌, Some, None, Ok, Err, IsTrue, inl, inr}
+use Rattle.std.specs.Prelude.{Bool, Option, Result, ◌≢◌}
+use Rattle.cnf_base.specs.Formula.{Formula}
+use Rattle.host_io.specs.Channel.{Channel}
+use Rattle.host_io.specs.Files.{Files, IsInput}
+use Rattle.host_io.specs.declared.role.Role.{Role}
+use Rattle.host_io.specs.declared.role.Role.TheVariants.{Cnf, Order, Schedule, ProofIn, ProofOut, Made, Out, Err as ErrRole}
+use Rattle.dimacs_reader.specs.Cnf.{CnfText, formula, cnf}
+use Rattle.dimacs_reader.specs.declared.error.CnfError.{CnfError}
+use Rattle.dimacs_reader.specs.declared.error.CnfError.TheVariants as cnf_error
+use Rattle.schedule_plan.specs.OrderText.{OrderText, order_text}
+use Rattle.schedule_plan.specs.ScheduleText.{ScheduleText, schedule}
+use Rattle.schedule_plan.specs.declared.plan.Move.{Move}
+use Rattle.schedule_plan.specs.declared.order_error.OrderError.{OrderError}
+use Rattle.schedule_plan.specs.declared.order_error.OrderError.TheVariants as order_error
+use Rattle.schedule_plan.specs.declared.schedule.error.PlanError.{PlanError}
+use Rattle.schedule_plan.specs.declared.schedule.error.PlanError.TheVariants as plan_error
+use Rattle.command_line.specs.Command.{Command, ToSolve, Solve, Planned, ByName, ByFile, formula_file, command}
+use Rattle.solver_cli.specs.declared.status.Status.{Status}
+use Rattle.solver_cli.specs.Answer.{IsOrdered, IsPlanned}
+use Rattle.solver_cli.specs.ExitCode.{status_of_error, status_of_order, status_of_plan}
+use Rattle.solver_cli.specs.Phases.{ReadsText, TakesFormula, TakesOrder, TakesSchedule, HasOrder, HasPlan}
+use Rattle.solver_cli.specs.Stages.{streams_of, Untaken, Unordered, Unplanned}
+use Rattle.solver_cli.specs.Headline.{Run, taken_in, Asks, AsksByOrder, AsksBySchedule, IsRefusedBy, OrderIsRefusedBy, ScheduleIsRefusedBy, IsOpenFormula}
+use Rattle.solver_cli.proofs.Reading.{text_read, ok_err, same_error}
+use Rattle.solver_cli.proofs.Promised.{Core, refused, short, unread, untouched}
+
+-- the formula was not taken
+pub untaken : (run : Run) (asked : Command) → command run.words ≡ Some asked → Untaken run.tells (streams_of run.before) (streams_of run.after) run.files (formula_file asked) run.status → Core run
+untaken run asked gives u = go u.error u.takes u.ends where
+  text : {Answer : Result Formula CnfError → CnfText → Type 0} {result : Result Formula CnfError} {said : CnfText} → (says : ReadsText cnf Answer run.files (formula_file asked) (taken_in run Cnf) result)
+      → cnf says.bytes ≡ said → cnf (taken_in run Cnf) ≡ said → IsRefusedBy run said
+  text says told decided = record { asked = asked; asks = record { command = gives; read = record { bytes = says.bytes; stands = says.stands; says = told } }; decided = decided }
+
+  is_open : TakesFormula run.tells (run.before Cnf) (run.after Cnf) run.files (formula_file asked) (Err cnf_error.ReadFault) → IsTrue run.tells → IsOpenFormula run
+  is_open takes t = record { failed = takes.failed refl; undecided = takes.undecided t refl; before_others = others } where
+    others : (role : Role) → IsInput role → role ≢ Cnf → taken_in run role ≡ []
+    others Cnf is other = absurd (other refl)
+    others Order is other = untouched run Order u.order
+    others Schedule is other = untouched run Schedule u.schedule
+    others ProofIn is other = untouched run ProofIn u.judged
+    others ProofOut is other = absurd is
+    others Made is other = absurd is
+    others Out is other = absurd is
+    others ErrRole is other = absurd is
+
+  go : (error : CnfError) → TakesFormula run.tells (run.before Cnf) (run.after Cnf) run.files (formula_file asked) (Err error) → run.status ≡ status_of_error error → Core run
+  go (cnf_error.Refused kind line) takes ends =
+      refused run asked gives u.proof u.out ends refl (λ e. cc) ((asked, gives), λ t. let says = text_read (λ e. cc) takes t in text says says.told says.decided)
+  go cnf_error.TooLong takes ends =
+      refused run asked gives u.proof u.out ends refl (λ e. cc) ((asked, gives), λ t. let says = text_read (λ e. cc) takes t in text says says.told says.decided)
+  go cnf_error.ReadFault takes ends = unread run asked gives u.proof u.out ends (Cnf, tt, takes.failed refl) (λ t. inl (is_open takes t))
+  go cnf_error.OutOfMemory takes ends = short run asked gives u.proof u.out ends
+
+-- the formula that is asked for was read
+pub took : (run : Run) (asked : Command) (problem : Formula) → command run.words ≡ Some asked → TakesFormula run.tells (run.before Cnf) (run.after Cnf) run.files (formula_file asked) (Ok problem) → IsTrue run.tells
+    → Asks run asked (formula problem)
+took run asked problem gives takes t =
+    let says = text_read (λ e. ok_err e) takes t in
+    record { command = gives; read = record { bytes = says.bytes; stands = says.stands; says = says.told } }
+
+-- the order that was had is the one that is asked for
+pub ordered : {tells : Bool} {old new : Channel} {files : Files} (problem : Formula) {order : List ℕ} (file : Option (List ℕ)) → HasOrder problem.vars file tells old new files (Ok order) → IsTrue tells → IsOrdered files file problem order
+ordered problem None has t = (has.natural refl).made
+ordered problem (Some file) has t = let says = text_read (λ e. ok_err e) (has.named file refl) t in record { bytes = says.bytes; stands = says.stands; says = says.told }
+
+-- and so is the plan
+pub planned : {tells : Bool} {old new : Channel} {files : Files} {problem : Formula} {order : List ℕ} {moves : List Move} (plan : Planned) → HasPlan problem order plan tells old new files (Ok moves) → IsTrue tells
+    → IsPlanned files plan problem order moves
+planned (ByName name) has t = (has.named name refl).made
+planned (ByFile file) has t = let says = text_read (λ e. ok_err e) (has.scheduled file refl) t in record { bytes = says.bytes; stands = says.stands; says = says.told }
+
+-- the order was not had
+pub unordered : (run : Run) (task : ToSolve) → command run.words ≡ Some (Solve task) → Unordered run.tells (streams_of run.before) (streams_of run.after) run.files task run.status → Core run
+unordered run task gives u = by task.order refl u.orders where
+  asks : IsTrue run.tells → Asks run (Solve task) (formula u.problem)
+  asks = took run (Solve task) u.problem gives u.takes
+
+  go : (file : List ℕ) → task.order ≡ Some file → (error : OrderError) → TakesOrder u.problem.vars run.tells (run.before Order) (run.after Order) run.files file (Err error) → run.status ≡ status_of_order error → Core run
+  go file named error takes ends = by_error error takes ends where
+    text : {Answer : Result (List ℕ) OrderError → OrderText → Type 0} {result : Result (List ℕ) OrderError} {said : OrderText} → IsTrue run.tells
+        → (says : ReadsText (order_text u.problem.vars) Answer run.files file (taken_in run Order) result) → order_text u.problem.vars says.bytes ≡ said → order_text u.problem.vars (taken_in run Order) ≡ said
+        → OrderIsRefusedBy run said
+    text t says told decided = record {
+      problem = u.problem;
+      asks = record { task = task; asks = asks t; file = file; named = named; read = record { bytes = says.bytes; stands = says.stands; says = told } };
+      decided = decided;
+    }
+
+    by_error : (error : OrderError) → TakesOrder u.problem.vars run.tells (run.before Order) (run.after Order) run.files file (Err error) → run.status ≡ status_of_order error → Core run
+    by_error (order_error.Refused kind line) takes ends =
+        refused run (Solve task) gives u.proof u.out ends refl (λ e. cc) ((task, gives), λ t. let says = text_read (λ e. cc) takes t in text t says says.told says.decided)
+    by_error order_error.TooLong takes ends =
+        refused run (Solve task) gives u.proof u.out ends refl (λ e. cc) ((task, gives), λ t. let says = text_read (λ e. cc) takes t in text t says says.told says.decided)
+    by_error order_error.ReadFault takes ends = unread run (Solve task) gives u.proof u.out ends (Order, tt, takes.failed refl) (λ t. inr (inl (record {
+      task = task;
+      problem = u.problem;
+      asks = asks t;
+      file = file;
+      named = named;
+      failed = takes.failed refl;
+      undecided = takes.undecided t refl;
+      before_schedule = untouched run Schedule u.schedule;
+    })))
+    by_error order_error.OutOfMemory takes ends = short run (Solve task) gives u.proof u.out ends
+
+  by : (file : Option (List ℕ)) → task.order ≡ file → HasOrder u.problem.vars file run.tells (run.before Order) (run.after Order) run.files (Err u.error) → Core run
+  by None named has = short run (Solve task) gives u.proof u.out (u.ends ∙ ap status_of_order (has.natural refl).refused)
+  by (Some file) named has = go file named u.error (has.named file refl) u.ends
+
+-- the plan was not had
+pub unplanned : (run : Run) (task : ToSolve) → command run.words ≡ Some (Solve task) → Unplanned run.tells (streams_of run.before) (streams_of run.after) run.files task run.status → Core run
+unplanned run task gives u = by task.plan refl u.plans where
+  asks : IsTrue run.tells → Asks run (Solve task) (formula u.problem)
+  asks = took run (Solve task) u.problem gives u.takes
+
+  go : (file : List ℕ) → task.plan ≡ ByFile file → (error : PlanError) → TakesSchedule u.problem run.tells (run.before Schedule) (run.after Schedule) run.files file (Err error) → run.status ≡ status_of_plan error → Core run
+  go file named error takes ends = by_error error takes ends where
+    text : {Answer : Result (List Move) PlanError → ScheduleText → Type 0} {result : Result (List Move) PlanError} {said : ScheduleText} → IsTrue run.tells
+        → (says : ReadsText (schedule u.problem) Answer run.files file (taken_in run Schedule) result) → schedule u.problem says.bytes ≡ said → schedule u.problem (taken_in run Schedule) ≡ said
+        → ScheduleIsRefusedBy run said
+    text t says told decided = record {
+      problem = u.problem;
+      asks = record {
+        task = task;
+        asks = asks t;
+        order = u.order;
+        ordered = ordered u.problem task.order u.orders t;
+        file = file;
+        named = named;
+        read = record { bytes = says.bytes; stands = says.stands; says = told };
+      };
+      decided = decided;
+    }
+
+    by_error : (error : PlanError) → TakesSchedule u.problem run.tells (run.before Schedule) (run.after Schedule) run.files file (Err error) → run.status ≡ status_of_plan error → Core run
+    by_error (plan_error.Refused kind line) takes ends =
+        refused run (Solve task) gives u.proof u.out ends refl (λ e. cc) ((task, gives), λ t. let says = text_read (λ e. cc) takes t in text t says says.told says.decided)
+    by_error plan_error.TooLong takes ends =
+        refused run (Solve task) gives u.proof u.out ends refl (λ e. cc) ((task, gives), λ t. let says = text_read (λ e. cc) takes t in text t says says.told says.decided)
+    by_error plan_error.ReadFault takes ends = unread run (Solve task) gives u.proof u.out ends (Schedule, tt, takes.failed refl) (λ t. inr (inr (inl (record {
+      task = task;
+      problem = u.problem;
+      asks = asks t;
+      order = u.order;
+      ordered = ordered u.problem task.order u.orders t;
+      file = file;
+      named = named;
+      failed = takes.failed refl;
+      undecided = takes.undecided t refl;
+    }))))
+    by_error plan_error.OutOfMemory takes ends = short run (Solve task) gives u.proof u.out ends
+
+  by : (plan : Planned) → task.plan ≡ plan → HasPlan u.problem u.order plan run.tells (run.before Schedule) (run.after Schedule) run.files (Err u.error) → Core run
+  by (ByName name) named has = short run (Solve task) gives u.proof u.out (u.ends ∙ ap status_of_plan (has.named name refl).refused)
+  by (ByFile file) named has = go file named u.error (has.scheduled file refl) u.ends

@@ -1,0 +1,66 @@
+// Taking the order of a formula's variables: from the file that is named, or the natural one.
+ghost use Rattle.std.specs.Prelude.{◌≡◌, ◌≢◌, None, length, IfErr, IfOk};
+ghost use Rattle.host_io.specs.declared.role.Role.TheVariants.{Order as OrderRole};
+ghost use Rattle.host_io.specs.Files.{Kept};
+ghost use Rattle.schedule_plan.specs.Order.{natural};
+ghost use Rattle.schedule_plan.specs.declared.order_error.OrderError.TheVariants.{OutOfMemory};
+ghost use Rattle.command_line.specs.Reading.{text_of};
+ghost use Rattle.solver_cli.specs.Phases.{HasOrder, ReadsOrder, TakesOrder};
+
+use host_io::{Host, HostSource, Role, beside_kept};
+use schedule_plan::{Order, OrderError};
+use std::alloc::Global;
+
+/// The order of so many variables: the one in the file of this name, or without a name the variables by rising number.
+pub fn take_order<H: Host>(
+    alloc: Global,
+    host: &mut H,
+    vars: u32,
+    name: Option<&str>,
+) -> Result<Order, OrderError>
+    requires { (H.channel host.old OrderRole).name ≡ None }
+    ensures takes { HasOrder vars (text_of name.entry) H.tells (H.channel host.old OrderRole) (H.channel host.new OrderRole) (H.files host.old) result }
+    ensures one_each { IfOk result (λ order. length order ≡ vars) }
+    ensures kept { Kept OrderRole None (H.channel host.old) (H.channel host.new) (H.files host.old) (H.files host.new) }
+{
+    match name {
+        Some(name) => take_named(alloc, host, vars, name),
+        None => natural_order(alloc, vars),
+    }
+}
+
+fn natural_order(alloc: Global, vars: u32) -> Result<Order, OrderError>
+    ensures made { IfOk result (λ order. order ≡ natural vars) }
+    ensures one_each { IfOk result (λ order. length order ≡ vars) }
+    ensures refused { IfErr result (λ error. error ≡ OutOfMemory) }
+{
+    let order = Order::natural(alloc, vars)?;
+    Ok(order)
+}
+
+// Opens the file of this name and reads the order.
+fn take_named<H: Host>(
+    alloc: Global,
+    host: &mut H,
+    vars: u32,
+    name: &str,
+) -> Result<Order, OrderError>
+    requires { (H.channel host.old OrderRole).name ≡ None }
+    ensures takes { TakesOrder vars H.tells (H.channel host.old OrderRole) (H.channel host.new OrderRole) (H.files host.old) name.now result }
+    ensures kept { Kept OrderRole None (H.channel host.old) (H.channel host.new) (H.files host.old) (H.files host.new) }
+{
+    if host.open_read(Role::Order, name).is_err() {
+        return Err(OrderError::ReadFault);
+    }
+    read_order(alloc, host, vars)
+}
+
+fn read_order<H: Host>(alloc: Global, host: &mut H, vars: u32) -> Result<Order, OrderError>
+    requires { (H.channel host.old OrderRole).name ≢ None }
+    ensures reads { ReadsOrder vars H.tells (H.channel host.old OrderRole) (H.channel host.new OrderRole) result }
+    ensures kept { Kept OrderRole None (H.channel host.old) (H.channel host.new) (H.files host.old) (H.files host.new) }
+{
+    beside_kept::<H>();
+    let mut source = HostSource::new(host, Role::Order);
+    Order::read(alloc, vars, &mut source)
+}
