@@ -1,0 +1,15 @@
+use Rattle.std.proofs.Common.{◌≡◌, ◌-◌, Ok}
+use Rattle.std.specs.List.{flat_map}
+use Rattle.schedule_plan.specs.Order.{natural}
+use Rattle.workload.specs.Schedule.{column_commands}
+use Rattle.workload.specs.Cursor.{StandsAt}
+use Rattle.workload.specs.Emitted.{Emits}
+use Rattle.workload.specs.Texts.{command_line}
+use Rattle.workload.proofs.schedule.emit_columns.Given as goal
+
+abbrev pub invariant-loop-column : goal.invariant-loop-column
+invariant-loop-column g l = record {
+  emits : Emits g.S.Sink.tells (g.S.Sink.channel l.fn.sink) (g.S.Sink.channel l.sink) l.fn.held.items l.held.items (flat_map command_line (flat_map (column_commands l.n) (natural (l.column - 1)))) (Ok tt);
+  beside : g.S.Sink.beside l.sink ≡ g.S.Sink.beside l.fn.sink;
+  cursor : StandsAt l.n l.column l.cursor;
+}

@@ -1,0 +1,26 @@
+use Rattle.std.proofs.Common.{◌≡◌, ℕ, List, [], ◌∷◌, length, arith, ◌++◌, ap, sym, ◌∙◌, refl}
+use Rattle.std.specs.Prelude.{map, decimal}
+use Rattle.std.specs.List.{flat_map, join_with_byte}
+use Rattle.workload.specs.Texts.{spaced}
+use Rattle.workload.proofs.Emitting.{in_turn, fails_within, same_text, nothing, spaced_row}
+use Rattle.workload.proofs.texts.emit_row.Goals as goal
+
+none : (order : List ℕ) → length order ≡ 0 → order ≡ []
+none [] is = refl
+none (x ∷ more) is = absurd (omega (arith, is))
+
+pub returns-in_err-emit_number-clause-emits : goal.returns-in_err-emit_number-clause-emits
+returns-in_err-emit_number-clause-emits g c =
+    let is : c.args.order.now ≡ c.in-Some.first.now ∷ c.in-Some.more.now = c.in-Some.ensures.cases.0 in
+    let text = ap (λ (l : List ℕ). join_with_byte 32 (map decimal l)) is ∙ spaced_row c.in-Some.first.now c.in-Some.more.now in
+    fails_within c.in_err-emit_number.ensures.emits refl c.from_residual.ensures.0 (join_with_byte 32 (map decimal c.args.order.now)) (flat_map spaced c.in-Some.more.now) c.emit_number.new.held.items text
+
+pub returns-in_ok-emit_number-clause-emits : goal.returns-in_ok-emit_number-clause-emits
+returns-in_ok-emit_number-clause-emits g c =
+    let is : c.args.order.now ≡ c.in-Some.first.now ∷ c.in-Some.more.now = c.in-Some.ensures.cases.0 in
+    let text = ap (λ (l : List ℕ). join_with_byte 32 (map decimal l)) is ∙ spaced_row c.in-Some.first.now c.in-Some.more.now in
+    same_text (in_turn c.in_ok-emit_number.ensures.emits refl c.emit_spaced.ensures.emits) (sym text)
+
+pub returns-in_default-clause-emits : goal.returns-in_default-clause-emits
+returns-in_default-clause-emits g c =
+    same_text (nothing (g.S.Sink.channel c.args.sink.now) c.args.held.now.items) (ap (λ (l : List ℕ). join_with_byte 32 (map decimal l)) (sym (none c.args.order.now c.in_default.ensures.cases)))

@@ -1,0 +1,5 @@
+pub mod Board
+pub mod Schedule
+pub mod Cursor
+pub mod Texts
+pub mod Emitted
