@@ -3,8 +3,7 @@ use Rattle.std.proofs.Common.{◌≡◌, ℕ, zero, suc, ◌+◌, ◌-◌, ◌<�
 use Rattle.std.specs.Prelude.{slice_set, slice_index_or, if◌then◌else◌, ◌==◌}
 use Rattle.std.proofs.lemmas.Bool.{cases_eq}
 use Rattle.std.proofs.lemmas.List.{get_or-set_same, get_or-set_other, set-set, take_more}
-use Rattle.cnf_base.specs.Truth.{Assignment, assignment_of}
-use Rattle.schedule_plan.specs.Plan.{with_value}
+use Rattle.cnf_base.specs.Truth.{Assignment, assignment_of, with_value}
 use Rattle.node_table.specs.declared.node.Node.{Node}
 use Rattle.node_table.specs.declared.node.Node.TheVariants.{False, True, Inner}
 use Rattle.node_table.specs.Diagram.{Graph, IsOrder, IsReduced, branch_at, levels}

@@ -3,11 +3,10 @@
 -- Graph-Based Algorithms for Boolean Function Manipulation, 1986, section 4.6; Bryant, Heule: Generating Extended Resolution
 -- Proofs with a BDD-Based SAT Solver, 2021, section 5.)
 use Rattle.std.specs.Prelude.{◌≡◌, ℕ, ◌<◌, Bool, true, false, not, List, [], ◌∷◌, length}
-use Rattle.cnf_base.specs.Truth.{Assignment, assignment_of}
+use Rattle.cnf_base.specs.Truth.{Assignment, assignment_of, with_value}
 use Rattle.node_table.specs.declared.node.Node.{Node}
 use Rattle.node_table.specs.Diagram.{Graph, levels}
 use Rattle.node_table.specs.Value.{Levels, by_level, value_of}
-use Rattle.schedule_plan.specs.Plan.{with_value}
 
 -- It makes the function true. Each other one that does has true where it has, at the first place where they differ.
 pub record IsLeast (levels : ℕ) (function : Levels → Bool) (a : Levels) : Type 0 where

@@ -4,3 +4,4 @@ pub mod Number
 pub mod Text
 pub mod ProofText
 pub mod Cut
+pub mod Order

@@ -1,6 +1,6 @@
 -- Truth of literals, clauses and formulas. A literal is a nonzero whole number, as in DIMACS: n is the variable
 -- n, and -n its negation.
-use Rattle.std.specs.Prelude.{ℕ, suc, ◌-◌, Bool, false, not, ◌&&◌, ℤ, pos, negsuc, nat_abs, List, IsTrue, nat_lt, nat_le, slice_index_or}
+use Rattle.std.specs.Prelude.{ℕ, suc, ◌-◌, Bool, false, not, ◌&&◌, ℤ, pos, negsuc, nat_abs, List, IsTrue, nat_lt, nat_le, slice_index_or, ◌==◌, if◌then◌else◌}
 use Rattle.std.specs.List.{list_any, list_all}
 
 -- which variables are true
@@ -19,6 +19,10 @@ clause_holds a clause = list_any (literal_holds a) clause
 -- an assignment satisfies clauses where each of them holds
 abbrev pub Satisfies : Assignment → List (List ℤ) → Type 0
 Satisfies a clauses = IsTrue (list_all (clause_holds a) clauses)
+
+-- one variable's value set
+abbrev pub with_value : Assignment → ℕ → Bool → Assignment
+with_value a variable value v = if v == variable then value else a v
 
 -- a list of values for the variables 1, 2, .., those beyond it false
 abbrev pub assignment_of : List Bool → Assignment

@@ -4,7 +4,7 @@ use Rattle.std.proofs.lemmas.Bool.{cases_eq}
 use Rattle.std.proofs.lemmas.List.Elements.{All-head, All-tail}
 use Rattle.cnf_base.specs.Truth.{AreClausesOf}
 use Rattle.cnf_base.specs.Formula.{Formula}
-use Rattle.schedule_plan.specs.Order.{IsOrder}
+use Rattle.cnf_base.specs.Order.{IsOrder}
 use Rattle.schedule_plan.specs.Plan.{Term, both, IsAdmissible, no_stage}
 use Rattle.schedule_plan.specs.Bucket.{conjunction, items, moves_of_all, bucket}
 use Rattle.schedule_plan.proofs.Terms.{times, counted, IsClosed, times-conjunction}

@@ -6,7 +6,7 @@ use Rattle.std.proofs.lemmas.Bool.{cases_eq, cases_lt, both_ways, and_from, and_
 use Rattle.std.proofs.lemmas.List.Elements.{All-nil, All-head, All-same, All-append, All-weaker, All-filter, All-contains, Contains-append_left, Contains-append_right, filter-append, filter_passes}
 use Rattle.std.proofs.lemmas.List.Sums.{prefix_len-le-length, passes_at_first, fails_before_first}
 use Rattle.cnf_base.specs.Formula.{Formula}
-use Rattle.schedule_plan.specs.Order.{IsOrder}
+use Rattle.cnf_base.specs.Order.{IsOrder}
 use Rattle.schedule_plan.specs.Plan.{Term, input, both, some_value, term_has, clause_has, clause_of_number}
 use Rattle.schedule_plan.specs.Bucket.{first_place, all_inputs, belonging, result_of, results, items}
 use Rattle.schedule_plan.proofs.Terms.{times, counted, IsClosed, same_number, counted-append, counted-result_of, counted_split, counted_none, counted_once, times_contained, times_filtered, is_number, variable_of_input, result_all, filter_all, inputs_all, closed_result, result_there, some_term, no_terms, input_contained, times_itself}

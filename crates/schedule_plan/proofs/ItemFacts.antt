@@ -4,7 +4,7 @@ use Rattle.std.proofs.lemmas.Bool.{false≢true, cases_lt, cond-true, cond-false
 use Rattle.std.proofs.lemmas.List.{get_or_default}
 use Rattle.cnf_base.specs.Formula.{Formula}
 use Rattle.schedule_plan.specs.declared.occurrence.Occurrence.{Occurrence}
-use Rattle.schedule_plan.specs.Order.{IsOrder}
+use Rattle.cnf_base.specs.Order.{IsOrder}
 use Rattle.schedule_plan.specs.Plan.{Term, input, some_value}
 use Rattle.schedule_plan.specs.Bucket.{first_place, conjunction, result_of, items}
 use Rattle.schedule_plan.specs.Forest.{is_held, terms_of, bucket_of, bucket_of_terms, item_count, AreFresh, AreOccurrences, IsOccurrence}

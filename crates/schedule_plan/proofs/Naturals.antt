@@ -2,7 +2,7 @@
 use Rattle.std.proofs.Common.{◌≡◌, ℕ, zero, suc, ◌+◌, ◌-◌, ◌<◌, List, [], ◌∷◌, ◌++◌, length, refl, ap, ◌∙◌, arith, inl, inr, length-append}
 use Rattle.std.specs.Prelude.{slice_index_or}
 use Rattle.std.proofs.lemmas.Bool.{cases_lt}
-use Rattle.schedule_plan.specs.Order.{natural, IsOrder}
+use Rattle.cnf_base.specs.Order.{natural, IsOrder}
 
 length-natural : (n : ℕ) → length (natural n) ≡ n
 length-natural zero = refl

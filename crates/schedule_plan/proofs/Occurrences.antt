@@ -12,7 +12,7 @@ use Rattle.std.proofs.lemmas.List.Sorted.{All-permutation, Contains-permutation}
 use Rattle.cnf_base.specs.Truth.{is_literal_of, AreClausesOf}
 use Rattle.cnf_base.specs.Formula.{Formula}
 use Rattle.schedule_plan.specs.declared.occurrence.Occurrence.{Occurrence}
-use Rattle.schedule_plan.specs.Order.{IsOrder}
+use Rattle.cnf_base.specs.Order.{IsOrder}
 use Rattle.schedule_plan.specs.Plan.{clause_of_number}
 use Rattle.schedule_plan.specs.Forest.{ArePlaces, is_held, occurrence_of, occurrences_of, IsOccurrence, AreOccurrences}
 

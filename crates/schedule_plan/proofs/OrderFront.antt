@@ -4,7 +4,7 @@ use Rattle.std.specs.Prelude.{nat_eq as eqb, ◌||◌, slice_index_or, slice_set
 use Rattle.std.proofs.Math.ListN.{get_or-eq_default}
 use Rattle.std.proofs.lemmas.Bool.{eqb-true}
 use Rattle.std.proofs.lemmas.List.{get_or-set_same, get_or-set_other}
-use Rattle.schedule_plan.specs.Order.{IsOrder}
+use Rattle.cnf_base.specs.Order.{IsOrder}
 use Rattle.schedule_plan.specs.OrderReader.{IsFront}
 use Rattle.schedule_plan.specs.OrderText.{stands_in, offence_of}
 use Rattle.schedule_plan.proofs.OrderVariables.{equal, or_true, or_false, stands_last, are_order, no_variables, one_more_variable}

@@ -10,7 +10,7 @@ use Rattle.cnf_base.specs.Number.{plain_number}
 use Rattle.text_scan.specs.Items.{Items, the_end, too_long, next_word}
 use Rattle.schedule_plan.specs.declared.order_error.OrderKind.{OrderKind}
 use Rattle.schedule_plan.specs.declared.order_error.OrderKind.TheVariants.{Range, Repeated, Missing}
-use Rattle.schedule_plan.specs.Order.{IsOrder}
+use Rattle.cnf_base.specs.Order.{IsOrder}
 use Rattle.schedule_plan.specs.OrderReader.{AreVariables}
 use Rattle.schedule_plan.specs.OrderText.{OrderText, order, refusal, stands_in, offence_of, with_read, judged, order_of}
 

@@ -1,5 +1,4 @@
 pub mod Limits
-pub mod Order
 pub mod OrderText
 pub mod OrderReader
 pub mod Plan

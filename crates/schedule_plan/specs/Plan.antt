@@ -4,7 +4,7 @@
 use Rattle.std.specs.Prelude.{◌≡◌, ℕ, zero, suc, ◌<◌, ◌≤◌, ◌-◌, Bool, true, false, not, ◌&&◌, ◌||◌, ℤ, nat_abs, List, [], ◌∷◌, ◌++◌, length, Option, None, Some, nat_le, nat_lt, ◌==◌, if◌then◌else◌, slice_index_or}
 use Rattle.std.specs.List.{list_any}
 use Rattle.std.specs.Option.{option_and_then}
-use Rattle.cnf_base.specs.Truth.{Assignment, clause_holds}
+use Rattle.cnf_base.specs.Truth.{Assignment, clause_holds, with_value}
 use Rattle.cnf_base.specs.Formula.{Formula}
 use Rattle.schedule_plan.specs.declared.plan.Move.{Move}
 use Rattle.schedule_plan.specs.declared.plan.Move.TheVariants.{Push, And, Exists}
@@ -17,10 +17,6 @@ pub data Term : Type 0 where
 -- the clause of a number, from 1
 abbrev pub clause_of_number : Formula → ℕ → List ℤ
 clause_of_number formula i = slice_index_or formula.clauses (i - 1) []
-
--- one variable's value set
-abbrev pub with_value : Assignment → ℕ → Bool → Assignment
-with_value a variable value v = if v == variable then value else a v
 
 -- a quantified term is true where some value of the variable makes it true
 abbrev pub term_holds : Formula → Assignment → Term → Bool

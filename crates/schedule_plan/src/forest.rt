@@ -4,7 +4,7 @@
 // Using Elimination Trees, 1986; George, Ng: Symbolic Factorization for Sparse Gaussian Elimination with Partial
 // Pivoting, 1987.)
 ghost use Rattle.std.specs.Prelude.{◌≡◌, ℕ, ◌+◌, length, replicate, None, IfOk};
-ghost use Rattle.schedule_plan.specs.Order.{IsOrder};
+ghost use Rattle.cnf_base.specs.Order.{IsOrder};
 ghost use Rattle.schedule_plan.specs.Forest.{AreOccurrences, AreBuckets, AreFresh, item_count};
 
 use crate::occurrence::Occurrence;

@@ -2,7 +2,7 @@
 ghost use Rattle.std.specs.Prelude.{◌≡◌, ◌+◌, ◌≤◌, ◌++◌, length, map, nat_abs, nat_lt, IfOk, OnOk, IsPermutation, IsTrue};
 ghost use Rattle.std.specs.List.{list_all};
 ghost use Rattle.std.specs.List.Sorted.{IsNonDecreasingBy};
-ghost use Rattle.schedule_plan.specs.Order.{IsOrder};
+ghost use Rattle.cnf_base.specs.Order.{IsOrder};
 ghost use Rattle.schedule_plan.specs.Forest.{ArePlaces, AreOccurrences, occurrence_of, occurrences_of};
 ghost use Rattle.schedule_plan.specs.declared.occurrence.Occurrence.{Occurrence as OccurrenceValue};
 

@@ -1,6 +1,6 @@
 // Orders of the variables.
 ghost use Rattle.std.specs.Prelude.{◌≡◌, IfOk};
-ghost use Rattle.schedule_plan.specs.Order.{natural, IsOrder};
+ghost use Rattle.cnf_base.specs.Order.{natural, IsOrder};
 
 use cnf_base::OutOfMemory;
 use std::alloc::Global;
@@ -14,7 +14,7 @@ pub struct Order {
 
 impl Model for Order {
     ghost use Rattle.std.specs.Prelude.{ℕ, List};
-    ghost use Rattle.schedule_plan.specs.Order.{IsOrder};
+    ghost use Rattle.cnf_base.specs.Order.{IsOrder};
 
     ghost Value = { List ℕ };
 

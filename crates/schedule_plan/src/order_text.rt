@@ -6,7 +6,7 @@ ghost use Rattle.text_scan.specs.Items.{items};
 ghost use Rattle.text_scan.specs.Decides.{gained, Decides, OnlyReads};
 ghost use Rattle.text_scan.specs.Scan.{ahead};
 ghost use Rattle.schedule_plan.specs.declared.order_error.OrderError.TheVariants.{ReadFault, OutOfMemory};
-ghost use Rattle.schedule_plan.specs.Order.{IsOrder};
+ghost use Rattle.cnf_base.specs.Order.{IsOrder};
 ghost use Rattle.schedule_plan.specs.OrderReader.{Answers, Takes, WantsMemory, answer_of};
 ghost use Rattle.schedule_plan.specs.OrderText.{max_bytes, order, overlong, order_text, order_so_far, stands_in, offence_of, text_end, with_read};
 

@@ -7,7 +7,7 @@ use Rattle.host_io.specs.declared.role.Role.TheVariants.{Cnf, Order, Schedule, P
 use Rattle.dimacs_reader.specs.Cnf.{CnfText, formula, refusal, overlong, cnf}
 use Rattle.lrat_checker.specs.TextVerdict.{text_verdict}
 use Rattle.lrat_checker.specs.declared.verdict.Verdict.{Verdict}
-use Rattle.schedule_plan.specs.Order.{natural}
+use Rattle.cnf_base.specs.Order.{natural}
 use Rattle.schedule_plan.specs.OrderText.{OrderText, order as given_order, refusal as order_refusal, overlong as overlong_order, order_text}
 use Rattle.schedule_plan.specs.ScheduleText.{ScheduleText, plan as given_plan, refusal as schedule_refusal, overlong as overlong_schedule, schedule}
 use Rattle.schedule_plan.specs.declared.plan.Move.{Move}

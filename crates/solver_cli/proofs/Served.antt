@@ -10,7 +10,7 @@ use Rattle.schedule_plan.specs.declared.order_error.OrderError.TheVariants.{Read
 use Rattle.schedule_plan.specs.declared.schedule.error.PlanError.{PlanError}
 use Rattle.schedule_plan.specs.declared.schedule.error.PlanError.TheVariants.{ReadFault as PlanFault, OutOfMemory as PlanMemory}
 use Rattle.command_line.specs.Command.{Planned, ByName, ByFile}
-use Rattle.schedule_plan.specs.Order.{natural}
+use Rattle.cnf_base.specs.Order.{natural}
 use Rattle.command_line.specs.declared.plan.PlanName.{PlanName}
 use Rattle.solver_cli.specs.Answer.{moves_of_plan}
 use Rattle.solver_cli.specs.Phases.{Makes, TakesOrder, TakesSchedule, HasOrder, HasPlan}

@@ -2,7 +2,7 @@
 use Rattle.std.specs.Prelude.{◌≡◌, ℕ, List, Option, None, Some, length}
 use Rattle.cnf_base.specs.Formula.{Formula}
 use Rattle.host_io.specs.Files.{Files}
-use Rattle.schedule_plan.specs.Order.{natural}
+use Rattle.cnf_base.specs.Order.{natural}
 use Rattle.schedule_plan.specs.OrderText.{order_text, order as given_order}
 use Rattle.schedule_plan.specs.ScheduleText.{schedule, plan as given_plan}
 use Rattle.schedule_plan.specs.Plan.{conjoin}

@@ -13,7 +13,7 @@ use Rattle.lrat_checker.specs.TextVerdict.{text_verdict, verdict_so_far, Answers
 use Rattle.lrat_checker.specs.declared.verdict.Verdict.{Verdict}
 use Rattle.lrat_checker.specs.declared.verdict.CheckError.{CheckError}
 use Rattle.lrat_checker.specs.declared.verdict.CheckError.TheVariants.{ReadFault as CheckReadFault}
-use Rattle.schedule_plan.specs.Order.{natural as natural_order, IsOrder}
+use Rattle.cnf_base.specs.Order.{natural as natural_order, IsOrder}
 use Rattle.schedule_plan.specs.OrderText.{overlong as unread_order, order_text, order_so_far}
 use Rattle.schedule_plan.specs.OrderReader.{Answers as OrderAnswers}
 use Rattle.schedule_plan.specs.ScheduleText.{overlong as unread_schedule, schedule, schedule_so_far}

@@ -2,7 +2,7 @@
 ghost use Rattle.std.specs.Prelude.{◌≡◌, ◌≢◌, None, length, IfErr, IfOk};
 ghost use Rattle.host_io.specs.declared.role.Role.TheVariants.{Order as OrderRole};
 ghost use Rattle.host_io.specs.Files.{Kept};
-ghost use Rattle.schedule_plan.specs.Order.{natural};
+ghost use Rattle.cnf_base.specs.Order.{natural};
 ghost use Rattle.schedule_plan.specs.declared.order_error.OrderError.TheVariants.{OutOfMemory};
 ghost use Rattle.command_line.specs.Reading.{text_of};
 ghost use Rattle.solver_cli.specs.Phases.{HasOrder, ReadsOrder, TakesOrder};

@@ -1,12 +1,12 @@
 -- The assignment that is recovered from the last term's node, and from those of the trail.
 use Rattle.std.proofs.Common.{◌≡◌, ◌<◌, ℕ, Bool, true, false, not, List, [], ◌∷◌, refl, sym, ap, ◌∙◌}
-use Rattle.cnf_base.specs.Truth.{AreClausesOf, Assignment, assignment_of}
+use Rattle.cnf_base.specs.Truth.{AreClausesOf, Assignment, assignment_of, with_value}
 use Rattle.cnf_base.specs.Formula.{Formula}
 use Rattle.node_table.specs.declared.node.Node.{Node}
 use Rattle.node_table.specs.Diagram.{Graph, levels}
 use Rattle.node_table.specs.Value.{by_level, value_of}
 use Rattle.schedule_plan.specs.declared.plan.Move.{Move}
-use Rattle.schedule_plan.specs.Plan.{IsAdmissible, Term, term_holds, with_value}
+use Rattle.schedule_plan.specs.Plan.{IsAdmissible, Term, term_holds}
 use Rattle.clause_terms.specs.Recovery.{IsRecoveredFrom, set_node_back, set_nodes_back}
 use Rattle.term_runner.specs.Held.{AreKept, IsKept}
 use Rattle.term_runner.specs.Recovered.{IsRecovered, set_all_back, set_back, stack_holds}

@@ -21,7 +21,7 @@ use Rattle.node_table.specs.Tied.{IsTied, AreRetired}
 use Rattle.node_table.specs.Table.{TableState, live_nodes}
 use Rattle.node_table.specs.Progress.{Continues, BreaksOff, Leaves, error_of, number_limit}
 use Rattle.node_table.specs.Laws.{Canonical}
-use Rattle.schedule_plan.specs.Order.{IsOrder}
+use Rattle.cnf_base.specs.Order.{IsOrder}
 use Rattle.schedule_plan.specs.declared.plan.Move.{Move}
 use Rattle.schedule_plan.specs.declared.limits.Limits.{Limits}
 use Rattle.term_runner.specs.Clauses.{is_tautology, has_empty_clause}

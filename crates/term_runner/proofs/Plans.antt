@@ -4,11 +4,11 @@ use Rattle.std.specs.Prelude.{if◌then◌else◌, slice_index_or, nat_lt, nat_l
 use Rattle.std.specs.List.{list_any, list_all}
 use Rattle.std.specs.Option.{option_and_then}
 use Rattle.std.proofs.lemmas.Bool.{or_parts, or_cases, or_left, or_right, or_from, and_parts, and_from, cases_eq, not-true}
-use Rattle.cnf_base.specs.Truth.{Assignment, AreClausesOf, Satisfies, clause_holds, is_literal_of, literal_holds}
+use Rattle.cnf_base.specs.Truth.{Assignment, AreClausesOf, Satisfies, clause_holds, is_literal_of, literal_holds, with_value}
 use Rattle.cnf_base.specs.Formula.{Formula}
 use Rattle.schedule_plan.specs.declared.plan.Move.{Move}
 use Rattle.schedule_plan.specs.declared.plan.Move.TheVariants.{Push, And, Exists}
-use Rattle.schedule_plan.specs.Plan.{Term, input, both, some_value, Stage, IsAdmissible, after_move, after_moves, after_push, after_and, after_exists, clause_has, clause_of_number, holds_later, is_pushed, no_stage, term_has, term_holds, with_value}
+use Rattle.schedule_plan.specs.Plan.{Term, input, both, some_value, Stage, IsAdmissible, after_move, after_moves, after_push, after_and, after_exists, clause_has, clause_of_number, holds_later, is_pushed, no_stage, term_has, term_holds}
 use Rattle.term_runner.specs.Recovered.{set_all_back, set_back, stack_holds}
 
 -- Truth depends on the variables that are held, and on no other.

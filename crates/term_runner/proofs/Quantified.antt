@@ -2,7 +2,7 @@
 use Rattle.std.proofs.Common.{◌≡◌, ◌≢◌, ℕ, ◌<◌, Bool, true, false, ◌||◌, [], ◌∷◌, refl, sym, ap, ◌∙◌, inl, inr, eq-eqb, ne_eqb}
 use Rattle.std.specs.Prelude.{◌==◌, if◌then◌else◌}
 use Rattle.std.proofs.lemmas.Bool.{cases_eq}
-use Rattle.cnf_base.specs.Truth.{Assignment}
+use Rattle.cnf_base.specs.Truth.{Assignment, with_value}
 use Rattle.cnf_base.specs.Formula.{Formula}
 use Rattle.lrat_rules.specs.State.{Live}
 use Rattle.node_table.specs.declared.node.Node.{Node}
@@ -15,7 +15,7 @@ use Rattle.node_table.specs.Value.{Levels, by_level, value_of}
 use Rattle.operations.specs.Results.{Quantified, with_level}
 use Rattle.quantify.specs.Quantification.{quantification_of}
 use Rattle.clause_terms.specs.Term.{by_variable}
-use Rattle.schedule_plan.specs.Plan.{Term, some_value, term_holds, with_value}
+use Rattle.schedule_plan.specs.Plan.{Term, some_value, term_holds}
 use Rattle.term_runner.specs.declared.held.Held.{Held}
 use Rattle.term_runner.specs.Held.{IsHeld}
 use Rattle.term_runner.specs.Needs.{term_function}

@@ -5,7 +5,7 @@ use Rattle.std.specs.Prelude.{if◌then◌else◌}
 use Rattle.std.proofs.lemmas.Bool.{and_from, and_parts, cases_eq}
 use Rattle.std.proofs.lemmas.List.{reverse-append}
 use Rattle.std.proofs.lemmas.List.Elements.{Contains-append_left, Contains-append_right}
-use Rattle.cnf_base.specs.Truth.{AreClausesOf, Assignment}
+use Rattle.cnf_base.specs.Truth.{AreClausesOf, Assignment, with_value}
 use Rattle.cnf_base.specs.Formula.{Formula}
 use Rattle.node_table.specs.declared.node.Node.{Node}
 use Rattle.node_table.specs.declared.node.Node.TheVariants.{True}
@@ -15,7 +15,7 @@ use Rattle.node_table.specs.Value.{Levels, by_level, value_of}
 use Rattle.clause_terms.specs.Recovery.{IsLeast, IsRecoveredFrom, set_nodes_back}
 use Rattle.schedule_plan.specs.declared.plan.Move.{Move}
 use Rattle.schedule_plan.specs.declared.plan.Move.TheVariants.{Push, And, Exists}
-use Rattle.schedule_plan.specs.Plan.{IsAdmissible, Stage, Term, after_and, after_move, after_moves, no_stage, term_holds, with_value}
+use Rattle.schedule_plan.specs.Plan.{IsAdmissible, Stage, Term, after_and, after_move, after_moves, no_stage, term_holds}
 use Rattle.term_runner.specs.Held.{AreKept, IsKept}
 use Rattle.term_runner.specs.Recovered.{IsRecovered, stack_holds}
 use Rattle.term_runner.proofs.Least.{recovered}

@@ -2,10 +2,10 @@
 -- compared in the order and false before true; and then values for the quantified variables, from the last one back.
 -- (Bryant, Heule: Generating Extended Resolution Proofs with a BDD-Based SAT Solver, 2021, section 5.)
 use Rattle.std.specs.Prelude.{◌≡◌, ◌<◌, ℕ, Bool, true, false, not, ◌&&◌, List, [], ◌∷◌, length, Some, slice_index_or}
-use Rattle.cnf_base.specs.Truth.{Assignment, Satisfies, assignment_of}
+use Rattle.cnf_base.specs.Truth.{Assignment, Satisfies, assignment_of, with_value}
 use Rattle.cnf_base.specs.Formula.{Formula}
 use Rattle.schedule_plan.specs.declared.plan.Move.{Move}
-use Rattle.schedule_plan.specs.Plan.{Term, Stage, term_holds, with_value, after_moves, no_stage}
+use Rattle.schedule_plan.specs.Plan.{Term, Stage, term_holds, after_moves, no_stage}
 
 -- It makes the function true. Each other one that does has true where it has, at the first place where they differ.
 pub record IsLeastIn (order : List ℕ) (holds : Assignment → Bool) (a : Assignment) : Type 0 where

@@ -6,7 +6,7 @@ use Rattle.std.specs.List.{filter, flat_map}
 use Rattle.std.proofs.lemmas.Bool.{cases_lt, cases_eq}
 use Rattle.std.proofs.lemmas.List.{map-append, append-nil}
 use Rattle.std.proofs.lemmas.Grind.{flat_map-append}
-use Rattle.schedule_plan.specs.Order.{natural}
+use Rattle.cnf_base.specs.Order.{natural}
 use Rattle.workload.specs.declared.square.Domino.{Domino}
 use Rattle.workload.specs.Board.{square, stays, front_of_row, row_squares, dominoes_at, dominoes}
 use Rattle.workload.specs.Schedule.{squares_before}

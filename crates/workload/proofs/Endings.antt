@@ -5,7 +5,7 @@ use Rattle.std.specs.List.{filter, flat_map}
 use Rattle.std.proofs.lemmas.Bool.{and_from, cases_lt, cases_eq}
 use Rattle.std.proofs.lemmas.List.{map-append, append-nil, length-map}
 use Rattle.std.proofs.lemmas.Grind.{flat_map-append}
-use Rattle.schedule_plan.specs.Order.{natural}
+use Rattle.cnf_base.specs.Order.{natural}
 use Rattle.workload.specs.declared.square.Domino.{Domino}
 use Rattle.workload.specs.declared.square.Domino.TheVariants.{Across, Down}
 use Rattle.workload.specs.Board.{square, stays, is_domino, dominoes_of, number}

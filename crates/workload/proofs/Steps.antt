@@ -4,7 +4,7 @@ use Rattle.std.specs.Prelude.{map, cond, replicate}
 use Rattle.std.specs.List.{filter, flat_map}
 use Rattle.std.proofs.lemmas.List.{append-nil, map-append}
 use Rattle.std.proofs.lemmas.Grind.{flat_map-append}
-use Rattle.schedule_plan.specs.Order.{natural}
+use Rattle.cnf_base.specs.Order.{natural}
 use Rattle.schedule_plan.specs.declared.plan.Move.TheVariants.{And, Exists}
 use Rattle.workload.specs.Schedule.{following, Conjoin, conjoining, quantifying, moves_of}
 use Rattle.std.proofs.lemmas.Bool.{le-leb}

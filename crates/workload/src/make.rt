@@ -1,6 +1,6 @@
 // The board: its formula, its column order and its column schedule.
 ghost use Rattle.std.specs.Prelude.{◌≡◌, ◌≤◌, length, IfOk};
-ghost use Rattle.schedule_plan.specs.Order.{IsOrder};
+ghost use Rattle.cnf_base.specs.Order.{IsOrder};
 ghost use Rattle.schedule_plan.specs.Plan.{IsAdmissible};
 ghost use Rattle.workload.specs.Board.{board_formula, column_order};
 ghost use Rattle.workload.specs.Schedule.{board_moves};

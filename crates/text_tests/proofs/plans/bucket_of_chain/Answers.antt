@@ -1,5 +1,5 @@
 use Rattle.std.proofs.Common.{◌≡◌, ℕ, zero, suc, List, [], ◌∷◌, length, refl, ap, ◌∙◌, arith, length-append}
-use Rattle.schedule_plan.specs.Order.{natural}
+use Rattle.cnf_base.specs.Order.{natural}
 use Rattle.text_tests.proofs.plans.bucket_of_chain.Goals as goal
 
 length_natural : (n : ℕ) → length (natural n) ≡ n

@@ -2,7 +2,7 @@ use Rattle.std.proofs.Common.{ℕ, ◌-◌, ◌++◌, List, ap, sym, ◌∙◌, 
 use Rattle.std.specs.Prelude.{map}
 use Rattle.std.specs.List.{flat_map}
 use Rattle.std.proofs.lemmas.List.{map-append}
-use Rattle.schedule_plan.specs.Order.{natural}
+use Rattle.cnf_base.specs.Order.{natural}
 use Rattle.workload.specs.Board.{number, column_dominoes}
 use Rattle.workload.proofs.Steps.{flat_next}
 use Rattle.workload.proofs.columns.column_order.Goals as goal

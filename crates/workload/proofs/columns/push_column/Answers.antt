@@ -2,7 +2,7 @@ use Rattle.std.proofs.Common.{◌≡◌, ℕ, ◌+◌, ◌-◌, ◌∷◌, [], �
 use Rattle.std.specs.Prelude.{map}
 use Rattle.std.specs.List.{filter, flat_map}
 use Rattle.std.proofs.lemmas.List.{map-append}
-use Rattle.schedule_plan.specs.Order.{natural}
+use Rattle.cnf_base.specs.Order.{natural}
 use Rattle.workload.specs.declared.square.Square.{Square}
 use Rattle.workload.specs.declared.square.Domino.TheVariants.{Across, Down}
 use Rattle.workload.specs.Board.{square, stays, is_domino, number, dominoes_of, down_first}

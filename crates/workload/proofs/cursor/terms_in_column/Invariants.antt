@@ -1,7 +1,7 @@
 use Rattle.std.proofs.Common.{◌≡◌, ◌+◌, ◌-◌, ◌*◌, ◌≤◌, length}
 use Rattle.std.specs.Prelude.{map, nat_le, if◌then◌else◌}
 use Rattle.std.specs.List.{filter, flat_map}
-use Rattle.schedule_plan.specs.Order.{natural}
+use Rattle.cnf_base.specs.Order.{natural}
 use Rattle.workload.specs.Board.{square, stays}
 use Rattle.workload.specs.Schedule.{clause_numbers}
 use Rattle.workload.proofs.cursor.terms_in_column.Given as goal

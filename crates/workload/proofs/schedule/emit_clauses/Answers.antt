@@ -2,7 +2,7 @@ use Rattle.std.proofs.Common.{◌≡◌, ℕ, ◌+◌, ◌-◌, ◌*◌, ◌≤�
 use Rattle.std.specs.Prelude.{map}
 use Rattle.std.specs.List.{filter, flat_map}
 use Rattle.std.proofs.lemmas.Grind.{flat_map-append}
-use Rattle.schedule_plan.specs.Order.{natural}
+use Rattle.cnf_base.specs.Order.{natural}
 use Rattle.workload.specs.declared.square.Square.{Square}
 use Rattle.workload.specs.Board.{square, stays}
 use Rattle.workload.specs.Schedule.{following, column_clauses, clause_numbers}

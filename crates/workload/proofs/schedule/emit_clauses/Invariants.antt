@@ -1,7 +1,7 @@
 use Rattle.std.proofs.Common.{◌≡◌, ◌-◌, Ok}
 use Rattle.std.specs.Prelude.{map}
 use Rattle.std.specs.List.{filter, flat_map}
-use Rattle.schedule_plan.specs.Order.{natural}
+use Rattle.cnf_base.specs.Order.{natural}
 use Rattle.workload.specs.Board.{square, stays}
 use Rattle.workload.specs.Schedule.{clause_numbers}
 use Rattle.workload.specs.Cursor.{StandsWithin}

@@ -1,7 +1,7 @@
 use Rattle.std.proofs.Common.{◌≡◌, ℕ, ◌+◌, ◌-◌, ◌∷◌, ◌++◌, List, ap, sym, ◌∙◌, append_assoc, refl, arith}
 use Rattle.std.specs.List.{flat_map}
 use Rattle.std.proofs.lemmas.Grind.{flat_map-append}
-use Rattle.schedule_plan.specs.Order.{natural}
+use Rattle.cnf_base.specs.Order.{natural}
 use Rattle.workload.specs.Schedule.{Command, column_commands}
 use Rattle.workload.specs.Texts.{command_line, schedule_text}
 use Rattle.workload.proofs.Steps.{flat_next}

@@ -1,6 +1,6 @@
 use Rattle.std.proofs.Common.{◌≡◌, ◌-◌, Ok}
 use Rattle.std.specs.List.{flat_map}
-use Rattle.schedule_plan.specs.Order.{natural}
+use Rattle.cnf_base.specs.Order.{natural}
 use Rattle.workload.specs.Schedule.{column_commands}
 use Rattle.workload.specs.Cursor.{StandsAt}
 use Rattle.workload.specs.Emitted.{Emits}

@@ -1,7 +1,7 @@
 use Rattle.std.proofs.Common.{◌≡◌, ℕ, ◌+◌, ◌-◌, ◌++◌, List, ap, sym, ◌∙◌, append_assoc, refl, arith}
 use Rattle.std.specs.Prelude.{map}
 use Rattle.std.specs.List.{flat_map}
-use Rattle.schedule_plan.specs.Order.{natural}
+use Rattle.cnf_base.specs.Order.{natural}
 use Rattle.workload.specs.declared.square.Domino.{Domino}
 use Rattle.workload.specs.declared.square.Domino.TheVariants.{Across, Down}
 use Rattle.workload.specs.Board.{square}

@@ -1,5 +1,5 @@
 use Rattle.std.proofs.Common.{sym, subst}
-use Rattle.schedule_plan.specs.Order.{IsOrder}
+use Rattle.cnf_base.specs.Order.{IsOrder}
 use Rattle.schedule_plan.proofs.Naturals.{natural_is_order}
 use Rattle.schedule_plan.proofs.order.Order.natural.Goals as goal
 

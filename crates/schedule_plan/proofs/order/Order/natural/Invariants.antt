@@ -1,5 +1,5 @@
 use Rattle.std.proofs.Common.{◌≡◌}
-use Rattle.schedule_plan.specs.Order.{natural}
+use Rattle.cnf_base.specs.Order.{natural}
 use Rattle.schedule_plan.proofs.order.Order.natural.Given as goal
 
 abbrev pub invariant-loop-i : goal.invariant-loop-i
