@@ -3,7 +3,7 @@ use Rattle.std.proofs.Common.{◌≡◌, ℕ, ◌+◌, ◌<◌, ◌≤◌, ◌�
 use Rattle.std.specs.Prelude.{decimal, codes}
 use Rattle.std.proofs.lemmas.List.{drop_all}
 use Rattle.answer_text.specs.Model.{literal, max_width, words_from, has_room, separator, width_behind, wrapped}
-use Rattle.answer_text.specs.Status.{unknown_line, not_verified_line}
+use Rattle.answer_text.specs.Status.{unknown_line, not_verified_line, board_line, last_line}
 
 -- whether the line has room
 room : (width : ℕ) (word : List ℕ) → width + 1 + length word ≤ max_width → has_room width word ≡ true
@@ -43,3 +43,14 @@ limit_lines limit n = simp append_assoc
 pub refused_lines : (line : ℕ) (name : List ℕ) → codes "c line " ++ decimal line ++ codes " " ++ name ++ codes "\n" ++ not_verified_line
     ≡ codes "c line " ++ (decimal line ++ (codes " " ++ (name ++ codes "\ns NOT VERIFIED\n")))
 refused_lines line name = simp append_assoc
+
+-- the words of a board's line, each with its number
+abbrev pub count : List ℕ → ℕ → List ℕ
+count words n = words ++ decimal n
+
+pub board_parts : (size variables clauses : ℕ) → board_line size variables clauses
+    ≡ count (codes "c board ") size ++ (count (codes " variables ") variables ++ (count (codes " clauses ") clauses ++ codes "\n"))
+board_parts size variables clauses = simp append_assoc
+
+pub last_parts : (id : ℕ) → last_line id ≡ count (codes "c last identifier ") id ++ codes "\n"
+last_parts id = simp append_assoc

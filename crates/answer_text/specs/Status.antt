@@ -53,3 +53,12 @@ reason_line line reason = codes "c line " ++ decimal line ++ codes " " ++ reason
 -- not verified, since this line was refused
 abbrev pub refused_text : ℕ → Reason → List ℕ
 refused_text line reason = reason_line line reason ++ not_verified_line
+
+-- the board that a workload decides: how many squares a side, variables and clauses
+abbrev pub board_line : ℕ → ℕ → ℕ → List ℕ
+board_line size variables clauses =
+    codes "c board " ++ decimal size ++ codes " variables " ++ decimal variables ++ codes " clauses " ++ decimal clauses ++ codes "\n"
+
+-- the greatest identifier of its proof
+abbrev pub last_line : ℕ → List ℕ
+last_line id = codes "c last identifier " ++ decimal id ++ codes "\n"

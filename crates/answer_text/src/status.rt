@@ -1,7 +1,7 @@
 // The lines of an outcome.
 ghost use Rattle.std.specs.Prelude.{◌≡◌, ◌++◌, decimal, codes};
 ghost use Rattle.host_io.specs.Channel.{WritesAll};
-ghost use Rattle.answer_text.specs.Status.{unsat_line, verified_line, sat_text, node_limit_text, id_limit_text, refused_text, reason_name};
+ghost use Rattle.answer_text.specs.Status.{unsat_line, verified_line, sat_text, node_limit_text, id_limit_text, refused_text, reason_name, board_line, last_line};
 
 use crate::model::write_model;
 use host_io::{Failed, Sink, write_all};
@@ -59,6 +59,40 @@ pub fn write_refused<S: Sink>(sink: &mut S, line: u64, reason: Reason) -> Result
     write_all(sink, b" ")?;
     write_all(sink, reason_name(reason))?;
     write_all(sink, b"\ns NOT VERIFIED\n")
+}
+
+/// Writes how large the board of a workload is: squares a side, variables and clauses.
+pub fn write_board<S: Sink>(
+    sink: &mut S,
+    size: u32,
+    variables: u32,
+    clauses: usize,
+) -> Result<(), Failed>
+    ensures writes { WritesAll S.tells (S.channel sink.old) (S.channel sink.new) (board_line size variables clauses) result }
+    ensures beside { S.beside sink.new ≡ S.beside sink.old }
+{
+    write_count(sink, b"c board ", size as u64)?;
+    write_count(sink, b" variables ", variables as u64)?;
+    write_count(sink, b" clauses ", clauses as u64)?;
+    write_all(sink, b"\n")
+}
+
+/// Writes the greatest identifier of a proof.
+pub fn write_last_identifier<S: Sink>(sink: &mut S, id: u64) -> Result<(), Failed>
+    ensures writes { WritesAll S.tells (S.channel sink.old) (S.channel sink.new) (last_line id) result }
+    ensures beside { S.beside sink.new ≡ S.beside sink.old }
+{
+    write_count(sink, b"c last identifier ", id)?;
+    write_all(sink, b"\n")
+}
+
+// Writes words and a number behind them.
+fn write_count<S: Sink>(sink: &mut S, words: &[u8], n: u64) -> Result<(), Failed>
+    ensures writes { WritesAll S.tells (S.channel sink.old) (S.channel sink.new) (words.now ++ decimal n) result }
+    ensures beside { S.beside sink.new ≡ S.beside sink.old }
+{
+    write_all(sink, words)?;
+    write_all(sink, Buffer::new().format(n).as_bytes())
 }
 
 fn reason_name(reason: Reason) -> &'static [u8]

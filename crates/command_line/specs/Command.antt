@@ -1,6 +1,6 @@
 -- The meaning of the program's words, its own name first: what the parser of command lines makes of them (`fault_of`,
 -- `subcommand_of`: the kinds of its refusal, and the values that it reads), and then this program's own tests.
-use Rattle.std.specs.Prelude.{ℕ, Bool, true, false, not, List, [], ◌∷◌, Option, None, Some, option_map, codes, length, map, nat_le, if◌then◌else◌, ◌&&◌, ◌≡◌, ◌⊎◌}
+use Rattle.std.specs.Prelude.{ℕ, Bool, true, false, not, List, [], ◌∷◌, Option, None, Some, option_map, codes, length, map, nat_le, if◌then◌else◌, ◌&&◌, ◌≡◌, ◌⊎◌, ◌≤◌}
 use Rattle.std.specs.List.{list_any}
 use Rattle.std.specs.Option.{option_and_then}
 use Rattle.std.specs.Str.{bytes_eq}
@@ -9,6 +9,7 @@ use Rattle.clap.specs.declared.error.ErrorKind.{ErrorKind}
 use Rattle.clap.specs.declared.error.ErrorKind.TheVariants as kind
 use Rattle.cnf_base.specs.Number.{numeral_value}
 use Rattle.schedule_plan.specs.declared.limits.Limits.{Limits}
+use Rattle.command_line.specs.declared.part.Part.{Part}
 use Rattle.command_line.specs.declared.plan.PlanName.{PlanName}
 use Rattle.command_line.specs.declared.plan.PlanName.TheVariants.{Bucket, Conjoin}
 use Rattle.command_line.specs.Parser.{the_app}
@@ -32,14 +33,40 @@ pub record ToCheck : Type 0 where
   pub file : Text
   pub proof : Text
 
+-- to decide the board of so many squares a side by its column order and schedule, within limits, and to write the proof to a file
+pub record ToBench : Type 0 where
+  pub size : ℕ
+  pub proof : Text
+  pub limits : Limits
+
+-- to write one text of the board of so many squares a side to a file
+pub record ToMake : Type 0 where
+  pub size : ℕ
+  pub part : Part
+  pub file : Text
+
 pub data Command : Type 0 where
   Solve : ToSolve → Command
   Check : ToCheck → Command
+  Bench : ToBench → Command
+  Make : ToMake → Command
 
--- the formula's file
-abbrev pub formula_file : Command → Text
-formula_file (Solve task) = task.file
-formula_file (Check task) = task.file
+-- the formula's file, where one is named
+abbrev pub formula_file : Command → Option Text
+formula_file (Solve task) = Some task.file
+formula_file (Check task) = Some task.file
+formula_file (Bench task) = None
+formula_file (Make task) = None
+
+-- the sizes of boards
+abbrev pub IsSize : ℕ → Type 0
+IsSize size = (2 ≤ size) × (size ≤ 100)
+
+abbrev pub size_of : Command → Option ℕ
+size_of (Solve task) = None
+size_of (Check task) = None
+size_of (Bench task) = Some task.size
+size_of (Make task) = Some task.size
 
 -- the limits where the words give none
 abbrev pub default_limits : Limits
@@ -49,6 +76,8 @@ default_limits = record { cache = 1000000; max_nodes = 10000000; max_ids = 10000
 abbrev pub limits_of : Command → Limits
 limits_of (Solve task) = task.limits
 limits_of (Check task) = default_limits
+limits_of (Bench task) = task.limits
+limits_of (Make task) = default_limits
 
 -- the plan where the words name none
 abbrev pub default_plan : PlanName

@@ -9,7 +9,7 @@ use Rattle.command_line.specs.declared.words.Asked.{Asked}
 use Rattle.command_line.specs.declared.words.Asked.TheVariants as asked
 use Rattle.command_line.specs.declared.words.Refusal.{Refusal}
 use Rattle.command_line.specs.declared.words.Refusal.TheVariants as refusal
-use Rattle.command_line.specs.Command.{Command, Solve, Check, Planned, ByName, ByFile, AsksHelp, Misuse, MayMean, refusal_means}
+use Rattle.command_line.specs.Command.{Command, Solve, Check, Bench, Make, Planned, ByName, ByFile, AsksHelp, Misuse, MayMean, refusal_means}
 
 -- the text behind a reference that may be there
 abbrev pub text_of : Option (Bor (List ℕ)) → Option (List ℕ)
@@ -24,6 +24,8 @@ planned_of (source.Schedule file) = ByFile file.now
 abbrev pub command_of : Asked → Command
 command_of (asked.Solve task) =
     Solve (record { file = task.files.formula.now; proof = task.files.proof.now; order = text_of task.order; plan = planned_of task.plan; limits = task.limits })
+command_of (asked.Bench task) = Bench (record { size = task.size; proof = task.proof.now; limits = task.limits })
+command_of (asked.Make task) = Make (record { size = task.size; part = task.part; file = task.file.now })
 command_of (asked.Check files) = Check (record { file = files.formula.now; proof = files.proof.now })
 
 -- What a refusal of the parser is, by its kind. Memory may run out in the parser, or where the text of help is made.

@@ -2,12 +2,14 @@
 //! defines it over the functions of the parser `clap`. The words are not tied to any file or run; the layer above acts on them.
 #![tactic(auto)]
 
-mod limits;
+mod board;
 mod names;
-mod parser;
+mod part;
 mod plan;
 mod words;
 
+pub use board::{BenchTask, MakeTask};
 pub use names::FileNames;
+pub use part::Part;
 pub use plan::{PlanName, PlanSource};
 pub use words::{Asked, Refusal, SolveTask, gather, read_words};

@@ -2,68 +2,103 @@
 use Rattle.std.proofs.Common.{◌≡◌, ℕ, false, List, [], refl, sym, ap, ◌∙◌, subst, Some, Err, IsTrue, inl, inr}
 use Rattle.std.specs.Prelude.{Result, ◌⊎◌}
 use Rattle.cnf_base.specs.Formula.{Formula}
-use Rattle.host_io.specs.declared.role.Role.TheVariants.{ProofOut}
+use Rattle.host_io.specs.declared.role.Role.TheVariants.{ProofOut, Made, Out}
 use Rattle.schedule_plan.specs.declared.limits.Limits.{Limits}
 use Rattle.schedule_plan.specs.declared.plan.Move.{Move}
 use Rattle.term_runner.specs.declared.outcome.Outcome.{Outcome}
 use Rattle.term_runner.specs.declared.outcome.Outcome.TheVariants as outcome
+use Rattle.term_runner.specs.declared.outcome.Run.{Run as Ending}
 use Rattle.term_runner.specs.declared.error.RunError.{RunError}
 use Rattle.term_runner.specs.declared.error.RunError.TheVariants.{WriteFault as Torn}
 use Rattle.term_runner.specs.Proofs.{IsProof, IsProofSoFar}
-use Rattle.command_line.specs.Command.{ToSolve, Solve, command, limits_asked}
+use Rattle.command_line.specs.Command.{Command, ToSolve, ToBench, Solve, Bench, command, limits_asked, limits_of}
 use Rattle.solver_cli.specs.declared.status.Status.{Status}
-use Rattle.solver_cli.specs.declared.status.Status.TheVariants.{Help, ReadFault, WriteFault, OutOfMemory}
-use Rattle.solver_cli.specs.Answer.{status_of}
+use Rattle.solver_cli.specs.declared.status.Status.TheVariants.{Done, Help, ReadFault, WriteFault, OutOfMemory}
+use Rattle.solver_cli.specs.Answer.{AreGiven, AreOfBoard, shape_asked, status_of}
 use Rattle.solver_cli.specs.ErrorText.{is_answer}
 use Rattle.solver_cli.specs.ExitCode.{status_of_run}
 use Rattle.solver_cli.specs.Phases.{WritesProof}
-use Rattle.solver_cli.specs.Stages.{streams_of, Prepared, Uncreated, Undecided}
-use Rattle.solver_cli.specs.Headline.{Run, written_in, limits_given, OutputFailed, IsUnharmed, AsksFor, IsComplete, RefusalsAreDue, ProofStands}
-use Rattle.solver_cli.proofs.Facts.{whole_of, no_answer, write_ends, not_unasked, only_misuse, only_help, two_commands}
+use Rattle.solver_cli.specs.Stages.{Job, streams_of, Prepared, Uncreated, Undecided, bench_job, solve_job}
+use Rattle.solver_cli.specs.Headline.{Run, written_in, limits_given, decides, OutputFailed, IsUnharmed, GivesDecision, AsksBy, AsksFor, IsComplete, RefusalsAreDue, ProofStands}
+use Rattle.solver_cli.proofs.Facts.{whole_of, no_answer, write_ends, not_unasked, only_misuse, only_help, decided_apart}
 use Rattle.solver_cli.proofs.Reading.{rose_since}
 use Rattle.solver_cli.proofs.CallsFor.{no_call}
-use Rattle.solver_cli.proofs.Promised.{Core, due, quiet_output, no_proof, no_verdict, same_written}
+use Rattle.solver_cli.proofs.Promised.{Core, due, quiet_output, no_proof, no_text, no_verdict, same_written}
 use Rattle.solver_cli.proofs.Untaken.{took, ordered, planned}
 
--- the words and the texts give what the run is prepared by
-abbrev pub asks_for : (run : Run) (task : ToSolve) {problem : Formula} {order : List ℕ} {moves : List Move} → command run.words ≡ Some (Solve task)
-    → Prepared run.tells (streams_of run.before) (streams_of run.after) run.files task problem order moves → IsTrue run.tells → AsksFor run problem
-asks_for run task {problem = problem} {order = order} {moves = moves} gives prepared t = record {
-  task = task;
-  asks = took run (Solve task) problem gives prepared.takes t;
-  order = order;
-  moves = moves;
-  scheduled = record { ordered = ordered problem task.order prepared.orders t; planned = planned task.plan prepared.plans t };
+-- What a run decides: by which command, what is given, and what is done with it.
+pub record Posed (run : Run) (problem : Formula) (order : List ℕ) (moves : List Move) (job : Job) : Type 0 where
+  pub asked : Command
+  pub gives : command run.words ≡ Some asked
+  pub decides : IsTrue (decides asked)
+  pub given : IsTrue run.tells → AreGiven run.files asked problem order moves
+  pub limits : job.limits ≡ limits_of asked
+  pub shape : job.shape ≡ shape_asked (Some asked) problem
+  pub made : run.after Made ≡ run.before Made
+
+pub asks_by : (run : Run) {problem : Formula} {order : List ℕ} {moves : List Move} {job : Job} → Posed run problem order moves job → IsTrue run.tells → AsksBy run problem order moves
+asks_by run posed t = record { asked = posed.asked; command = posed.gives; given = posed.given t }
+
+pub asks_for : (run : Run) {problem : Formula} {order : List ℕ} {moves : List Move} {job : Job} → Posed run problem order moves job → IsTrue run.tells → AsksFor run problem
+asks_for run {order = order} {moves = moves} posed t = record { order = order; moves = moves; by = asks_by run posed t }
+
+pub decision : (run : Run) {problem : Formula} {order : List ℕ} {moves : List Move} {job : Job} → Posed run problem order moves job → GivesDecision run
+decision run posed = (posed.asked, posed.gives, posed.decides)
+
+pub same_limits : (run : Run) {problem : Formula} {order : List ℕ} {moves : List Move} {job : Job} → Posed run problem order moves job → job.limits ≡ limits_given run
+same_limits run posed = posed.limits ∙ sym (ap limits_asked posed.gives)
+
+-- `solve` is prepared, and `bench` has its board
+pub posed_by_files : (run : Run) (task : ToSolve) {problem : Formula} {order : List ℕ} {moves : List Move} → command run.words ≡ Some (Solve task)
+    → Prepared run.tells (streams_of run.before) (streams_of run.after) run.files task problem order moves → Posed run problem order moves (solve_job task)
+posed_by_files run task {problem = problem} gives prepared = record {
+  asked = Solve task;
+  gives = gives;
+  decides = refl;
+  given = λ t. record {
+    read = (took run (Solve task) task.file problem gives refl prepared.takes t).read;
+    ordered = ordered problem task.order prepared.orders t;
+    planned = planned task.plan prepared.plans t;
+  };
+  limits = refl;
+  shape = refl;
+  made = prepared.made;
 }
 
+pub posed_by_board : (run : Run) (task : ToBench) {problem : Formula} {order : List ℕ} {moves : List Move} → command run.words ≡ Some (Bench task)
+    → AreOfBoard task.size problem order moves → run.after Made ≡ run.before Made → Posed run problem order moves (bench_job task problem)
+posed_by_board run task gives board made = record { asked = Bench task; gives = gives; decides = refl; given = λ t. board; limits = refl; shape = refl; made = made }
+
 -- a formula that was to be decided by what is asked for: no refusal is called for, and no verdict
-pub solve_complete : (run : Run) (task : ToSolve) (problem : Formula) → command run.words ≡ Some (Solve task) → (IsTrue run.tells → AsksFor run problem)
+pub solve_complete : (run : Run) {problem : Formula} {order : List ℕ} {moves : List Move} {job : Job} → Posed run problem order moves job
     → (IsUnharmed run → IsTrue (is_answer run.status) ⊎ (run.status ≡ OutOfMemory)) → IsComplete run
-solve_complete run task problem gives given answers = record {
-  misused = λ only. absurd (only_misuse run.words gives only);
-  helped = λ only _. absurd (only_help run.words gives only);
-  unasked = λ none _. absurd (not_unasked gives none);
+solve_complete run {problem = problem} posed answers = record {
+  misused = λ only. absurd (only_misuse run.words posed.gives only);
+  helped = λ only _. absurd (only_help run.words posed.gives only);
+  unasked = λ none _. absurd (not_unasked posed.gives none);
   answers = λ other asks t unharmed. answers unharmed;
-  judges = λ other bytes judged has. absurd (two_commands gives has.asked.asks.command);
-  refuses = λ status calls t unfailed. absurd (no_call run problem (given t) status calls);
+  judges = λ other bytes judged has. absurd (decided_apart posed.gives posed.decides has.asked.asks.command refl);
+  makes = λ given. absurd (decided_apart posed.gives posed.decides given.1 refl);
+  refuses = λ status calls t unfailed. absurd (no_call run problem (asks_for run posed t) status calls);
 }
 
 -- statuses that no accepted text leads to
 pub record Accepts (status : Status) : Type 0 where
   pub help : status ≡ Help → ⊥
   pub read : status ≡ ReadFault → ⊥
+  pub done : status ≡ Done → ⊥
 
 pub accepts_write : (status : Status) → status ≡ WriteFault → Accepts status
-accepts_write status is = record { help = λ e. cc; read = λ e. cc }
+accepts_write status is = record { help = λ e. cc; read = λ e. cc; done = λ e. cc }
 
 pub accepts_memory : (status : Status) → status ≡ OutOfMemory → Accepts status
-accepts_memory status is = record { help = λ e. cc; read = λ e. cc }
+accepts_memory status is = record { help = λ e. cc; read = λ e. cc; done = λ e. cc }
 
 pub accepts_answer : (status : Status) (found : Outcome) → status ≡ status_of found → Accepts status
-accepts_answer status (outcome.Sat values) is = record { help = λ e. cc; read = λ e. cc }
-accepts_answer status outcome.Unsat is = record { help = λ e. cc; read = λ e. cc }
-accepts_answer status outcome.NodeLimit is = record { help = λ e. cc; read = λ e. cc }
-accepts_answer status outcome.IdLimit is = record { help = λ e. cc; read = λ e. cc }
+accepts_answer status (outcome.Sat values) is = record { help = λ e. cc; read = λ e. cc; done = λ e. cc }
+accepts_answer status outcome.Unsat is = record { help = λ e. cc; read = λ e. cc; done = λ e. cc }
+accepts_answer status outcome.NodeLimit is = record { help = λ e. cc; read = λ e. cc; done = λ e. cc }
+accepts_answer status outcome.IdLimit is = record { help = λ e. cc; read = λ e. cc; done = λ e. cc }
 
 -- no refusal is due of an answer
 pub answer_due : (run : Run) (found : Outcome) → run.status ≡ status_of found → RefusalsAreDue run
@@ -73,28 +108,30 @@ answer_due run outcome.NodeLimit ends = due run ends tt
 answer_due run outcome.IdLimit ends = due run ends tt
 
 -- the proof's file was not created
-pub uncreated : (run : Run) (task : ToSolve) → command run.words ≡ Some (Solve task) → Uncreated run.tells (streams_of run.before) (streams_of run.after) run.files task run.status → Core run
-uncreated run task asked u =
+pub uncreated : (run : Run) {problem : Formula} {order : List ℕ} {moves : List Move} {job : Job} → Posed run problem order moves job
+    → Uncreated (run.before ProofOut) (run.after ProofOut) (run.before Out) (run.after Out) job run.status → Core run
+uncreated run {problem = problem} posed u =
     let unanswered : is_answer run.status ≡ false = ap is_answer u.ends in
     let failed : OutputFailed run = (ProofOut, inl tt, u.opens.faults.cause u.failed) in
-    let given : IsTrue run.tells → AsksFor run u.problem = asks_for run task asked u.prepared in
     let accepts : Accepts run.status = accepts_write run.status u.ends in
     record {
       unsatisfiable = λ e. absurd (no_answer unanswered refl e);
       satisfiable = λ e. absurd (no_answer unanswered refl e);
       undecided = λ why e. absurd (no_answer unanswered refl e);
       verdict = no_verdict run unanswered;
+      made = λ e. absurd (accepts.done e);
+      made_file = no_text run posed.made;
       refusals = due run u.ends tt;
       faults = λ quiet. record {
         read = λ e. absurd (accepts.read e);
         undecided = λ e. absurd (accepts.read e);
         quiet = quiet;
         write = λ e. failed;
-        accepted = λ e. inr ((Solve task, asked), λ t. inl (u.problem, given t));
+        accepted = λ e. inr ((posed.asked, posed.gives), λ t. inl (problem, asks_for run posed t));
       };
-      output = quiet_output run unanswered accepts.help (same_written u.out);
+      output = quiet_output run unanswered accepts.help (same_written u.same);
       proof = no_proof run (whole_of (run.before ProofOut) (run.after ProofOut) u.opens.was_idle.written ∙ u.opens.idle.written);
-      complete = solve_complete run task u.problem asked given (λ unharmed. absurd (unharmed.1 failed));
+      complete = solve_complete run posed (λ unharmed. absurd (unharmed.1 failed));
     }
 
 -- the proof so far, told of the bytes that the run wrote
@@ -105,31 +142,26 @@ pub proof_whole : (run : Run) (problem : Formula) → (run.before ProofOut).writ
 proof_whole run problem idle p = subst (λ (bytes : List ℕ). IsProof problem (limits_given run) bytes) (sym (whole_of (run.before ProofOut) (run.after ProofOut) idle)) p
 
 -- the formula was not decided
-pub undecided : (run : Run) (task : ToSolve) → command run.words ≡ Some (Solve task) → Undecided run.tells (streams_of run.before) (streams_of run.after) run.files task run.status → Core run
-undecided run task asked u = both (write_ends run.status u.error u.ends) where
-  given : IsTrue run.tells → AsksFor run u.problem
-  given = asks_for run task asked u.prepared
+pub undecided : (run : Run) {problem : Formula} {order : List ℕ} {moves : List Move} {job : Job} → Posed run problem order moves job
+    → Undecided run.tells (run.before ProofOut) (run.after ProofOut) (run.before Out) (run.after Out) problem order moves job run.status → Core run
+undecided run {problem = problem} {order = order} {moves = moves} posed u = both (write_ends run.status u.error u.ends) where
+  writes : WritesProof run.tells u.created (run.after ProofOut) problem order moves (limits_given run) (Err u.error)
+  writes = subst (λ (l : Limits). WritesProof run.tells u.created (run.after ProofOut) problem order moves l (Err u.error)) (same_limits run posed) u.writes
 
-  same_limits : task.limits ≡ limits_given run
-  same_limits = sym (ap limits_asked asked)
-
-  writes : WritesProof run.tells u.created (run.after ProofOut) u.problem u.order u.moves (limits_given run) (Err u.error)
-  writes = subst (λ (l : Limits). WritesProof run.tells u.created (run.after ProofOut) u.problem u.order u.moves l (Err u.error)) same_limits u.writes
-
-  failed : ◌≡◌ {A = Result Outcome RunError} (Err u.error) (Err Torn) → OutputFailed run
+  failed : ◌≡◌ {A = Result Ending RunError} (Err u.error) (Err Torn) → OutputFailed run
   failed e = (ProofOut, inl tt, rose_since u.opens.faults.no_less (u.writes.fault e))
 
-  torn : ◌≡◌ {A = Result Outcome RunError} (Err u.error) (Err Torn) → run.status ≡ WriteFault
+  torn : ◌≡◌ {A = Result Ending RunError} (Err u.error) (Err Torn) → run.status ≡ WriteFault
   torn e = u.ends ∙ ends_torn u.error e where
-    ends_torn : (error : RunError) → ◌≡◌ {A = Result Outcome RunError} (Err error) (Err Torn) → status_of_run error ≡ WriteFault
+    ends_torn : (error : RunError) → ◌≡◌ {A = Result Ending RunError} (Err error) (Err Torn) → status_of_run error ≡ WriteFault
     ends_torn error e = ap status_of_run (inner error e) where
-      inner : (error : RunError) → ◌≡◌ {A = Result Outcome RunError} (Err error) (Err Torn) → error ≡ Torn
+      inner : (error : RunError) → ◌≡◌ {A = Result Ending RunError} (Err error) (Err Torn) → error ≡ Torn
       inner error e = cc
 
   stands : ProofStands run
   stands = record {
-    so_far = λ t. inr (u.problem, given t, proof_so_far run u.problem u.opens.was_idle.written (writes.so_far t));
-    whole = λ unfaulted t. inr (u.problem, given t, proof_whole run u.problem u.opens.was_idle.written (writes.whole (λ e. unfaulted (torn e)) t));
+    so_far = λ t. inr (problem, asks_for run posed t, proof_so_far run problem u.opens.was_idle.written (writes.so_far t));
+    whole = λ unfaulted t. inr (problem, asks_for run posed t, proof_whole run problem u.opens.was_idle.written (writes.whole (λ e. unfaulted (torn e)) t));
   }
 
   core : is_answer run.status ≡ false → Accepts run.status → RefusalsAreDue run → (run.status ≡ WriteFault → OutputFailed run) → (IsUnharmed run → run.status ≡ OutOfMemory) → Core run
@@ -138,16 +170,24 @@ undecided run task asked u = both (write_ends run.status u.error u.ends) where
     satisfiable = λ e. absurd (no_answer unanswered refl e);
     undecided = λ why e. absurd (no_answer unanswered refl e);
     verdict = no_verdict run unanswered;
+    made = λ e. absurd (accepts.done e);
+    made_file = no_text run posed.made;
     refusals = is_due;
-    faults = λ quiet. record { read = λ e. absurd (accepts.read e); undecided = λ e. absurd (accepts.read e); quiet = quiet; write = fault; accepted = λ e. inr ((Solve task, asked), λ t. inl (u.problem, given t)) };
-    output = quiet_output run unanswered accepts.help (same_written u.out);
+    faults = λ quiet. record {
+      read = λ e. absurd (accepts.read e);
+      undecided = λ e. absurd (accepts.read e);
+      quiet = quiet;
+      write = fault;
+      accepted = λ e. inr ((posed.asked, posed.gives), λ t. inl (problem, asks_for run posed t));
+    };
+    output = quiet_output run unanswered accepts.help (same_written u.same);
     proof = stands;
-    complete = solve_complete run task u.problem asked given (λ unharmed. inr (memory unharmed));
+    complete = solve_complete run posed (λ unharmed. inr (memory unharmed));
   }
 
   apart : {status : Status} → status ≡ OutOfMemory → status ≡ WriteFault → ⊥
   apart d e = cc
 
-  both : ((run.status ≡ WriteFault) × ◌≡◌ {A = Result Outcome RunError} (Err u.error) (Err Torn)) ⊎ (run.status ≡ OutOfMemory) → Core run
+  both : ((run.status ≡ WriteFault) × ◌≡◌ {A = Result Ending RunError} (Err u.error) (Err Torn)) ⊎ (run.status ≡ OutOfMemory) → Core run
   both (inl fault) = core (ap is_answer fault.0) (accepts_write run.status fault.0) (due run fault.0 tt) (λ _. failed fault.1) (λ unharmed. absurd (unharmed.1 (failed fault.1)))
   both (inr memory) = core (ap is_answer memory) (accepts_memory run.status memory) (due run memory tt) (λ e. absurd (apart memory e)) (λ unharmed. memory)

@@ -11,11 +11,11 @@ use Rattle.cnf_base.specs.Order.{natural}
 use Rattle.schedule_plan.specs.OrderText.{OrderText, order as given_order, refusal as order_refusal, overlong as overlong_order, order_text}
 use Rattle.schedule_plan.specs.ScheduleText.{ScheduleText, plan as given_plan, refusal as schedule_refusal, overlong as overlong_schedule, schedule}
 use Rattle.schedule_plan.specs.declared.plan.Move.{Move}
-use Rattle.command_line.specs.Command.{Command, ToSolve, ToCheck, Solve, Check, Planned, ByName, ByFile, formula_file, command}
+use Rattle.command_line.specs.Command.{Command, ToSolve, ToCheck, Solve, Check, Bench, Make, Planned, ByName, ByFile, formula_file, command}
 use Rattle.solver_cli.specs.declared.status.Status.{Status}
-use Rattle.solver_cli.specs.declared.status.Status.TheVariants.{Sat, Unsat, Unknown, Verified, NotVerified, Help, Usage, CnfRefused, OrderRefused, PlanRefused, TooLong, ReadFault, WriteFault, OutOfMemory}
-use Rattle.solver_cli.specs.Answer.{IsRead, IsOrdered, IsPlanned}
-use Rattle.solver_cli.specs.Headline.{Run, GivesCommand, Asks, AsksFor, AsksByOrder, AsksBySchedule, AsksToJudge, HasVerdict, CallsFor}
+use Rattle.solver_cli.specs.declared.status.Status.TheVariants.{Sat, Unsat, Unknown, Verified, NotVerified, Done, Help, Usage, CnfRefused, OrderRefused, PlanRefused, TooLong, ReadFault, WriteFault, OutOfMemory}
+use Rattle.solver_cli.specs.Answer.{AreGiven, IsRead, IsOrdered, IsPlanned}
+use Rattle.solver_cli.specs.Headline.{Run, GivesCommand, GivesMake, Asks, AsksFor, AsksByOrder, AsksBySchedule, AsksToJudge, HasVerdict, CallsFor}
 use Rattle.solver_cli.proofs.Facts.{one_text}
 
 -- The refusals, text by text: what a text is refused by, and what comes next where it is accepted.
@@ -44,6 +44,11 @@ abbrev pub in_file : Option (List ℕ) → (List ℕ → Option Status) → Opti
 in_file None says = None
 in_file (Some bytes) says = says bytes
 
+-- what stands in the file of a name, where one is given
+abbrev pub text_named : Run → Option (List ℕ) → Option (List ℕ)
+text_named run None = None
+text_named run (Some file) = run.files file
+
 abbrev pub after_order : Run → Planned → Formula → Option Status
 after_order run (ByName name) problem = None
 after_order run (ByFile file) problem = in_file (run.files file) (λ bytes. by_schedule (schedule problem bytes))
@@ -54,11 +59,13 @@ with_order run (Some file) problem next = in_file (run.files file) (λ bytes. by
 
 abbrev pub after_formula : Run → Command → Formula → Option Status
 after_formula run (Solve task) problem = with_order run task.order problem (λ order. after_order run task.plan problem)
+after_formula run (Bench task) problem = None
+after_formula run (Make task) problem = None
 after_formula run (Check task) problem = in_file (run.files task.proof) (λ bytes. by_proof (text_verdict problem.clauses bytes))
 
 abbrev pub by_words : Run → Option Command → Option Status
 by_words run None = None
-by_words run (Some asked) = in_file (run.files (formula_file asked)) (λ bytes. by_formula (cnf bytes) (after_formula run asked))
+by_words run (Some asked) = in_file (text_named run (formula_file asked)) (λ bytes. by_formula (cnf bytes) (after_formula run asked))
 
 abbrev pub refusal_due : Run → Option Status
 refusal_due run = by_words run (command run.words)
@@ -69,10 +76,13 @@ reads files {whole = whole} says read = ap (λ (bytes : Option (List ℕ)). in_f
 
 -- the words name one formula's file, and it has one text
 pub same_text : (run : Run) {asked other : Command} {text said : CnfText} → Asks run asked text → Asks run other said → text ≡ said
-same_text run here there = sym here.read.says ∙ ap cnf (one_text run.files here.command there.command here.read.stands there.read.stands) ∙ there.read.says
+same_text run here there = sym here.read.says ∙ ap cnf (one_text run.files here.command there.command here.named there.named here.read.stands there.read.stands) ∙ there.read.says
 
 asks : (run : Run) (asked : Command) (text : CnfText) → Asks run asked text → refusal_due run ≡ by_formula text (after_formula run asked)
-asks run asked text a = ap (by_words run) a.command ∙ reads run.files (λ t. by_formula t (after_formula run asked)) a.read
+asks run asked text a =
+    ap (by_words run) a.command
+    ∙ ap (λ (file : Option (List ℕ)). in_file (text_named run file) (λ bytes. by_formula (cnf bytes) (after_formula run asked))) a.named
+    ∙ reads run.files (λ t. by_formula t (after_formula run asked)) a.read
 
 ordered : (run : Run) (file : Option (List ℕ)) (problem : Formula) (order : List ℕ) (next : Option Status) → IsOrdered run.files file problem order → with_order run file problem (λ order. next) ≡ next
 ordered run None problem order next is = refl
@@ -103,6 +113,7 @@ called run Unsat is = absurd is
 called run (Unknown why) is = absurd is
 called run Verified is = absurd is
 called run (NotVerified line reason) is = absurd is
+called run Done is = absurd is
 called run Help is = absurd is
 called run Usage is = absurd is
 called run (CnfRefused kind line) is = asks run is.0 (refusal kind line) is.1
@@ -138,10 +149,19 @@ planned run (ByName name) problem order moves is = refl
 planned run (ByFile file) problem order moves is = reads run.files by_schedule is
 
 pub no_call : (run : Run) (problem : Formula) → AsksFor run problem → (status : Status) → CallsFor run status → ⊥
-no_call run problem a status is = some_none (called run status is) (
-    asks run (Solve a.task) (formula problem) a.asks
-    ∙ ordered run a.task.order problem a.order (after_order run a.task.plan problem) a.scheduled.ordered
-    ∙ planned run a.task.plan problem a.order a.moves a.scheduled.planned)
+no_call run problem a status is = some_none (called run status is) (due a.by.asked a.by.command a.by.given) where
+  due : (asked : Command) → command run.words ≡ Some asked → AreGiven run.files asked problem a.order a.moves → refusal_due run ≡ None
+  due (Solve task) gives given =
+      asks run (Solve task) (formula problem) (record { command = gives; file = task.file; named = refl; read = given.read })
+      ∙ ordered run task.order problem a.order (after_order run task.plan problem) given.ordered
+      ∙ planned run task.plan problem a.order a.moves given.planned
+  due (Check task) gives given = absurd given
+  due (Bench task) gives given = ap (by_words run) gives
+  due (Make task) gives given = absurd given
+
+-- or where a text is made
+pub no_call_made : (run : Run) → GivesMake run → (status : Status) → CallsFor run status → ⊥
+no_call_made run given status is = some_none (called run status is) (ap (by_words run) given.1)
 
 -- or where the proof has a verdict
 pub no_call_judged : (run : Run) (problem : Formula) (bytes : List ℕ) (judged : Verdict) → HasVerdict run problem bytes judged → (status : Status) → CallsFor run status → ⊥
@@ -154,6 +174,7 @@ calls_give run Unsat is = absurd is
 calls_give run (Unknown why) is = absurd is
 calls_give run Verified is = absurd is
 calls_give run (NotVerified line reason) is = absurd is
+calls_give run Done is = absurd is
 calls_give run Help is = absurd is
 calls_give run Usage is = absurd is
 calls_give run (CnfRefused kind line) is = (is.0, is.1.command)

@@ -1,49 +1,54 @@
--- From the end of a run of the plan to the outcome and the proof.
-use Rattle.std.proofs.Common.{◌≡◌, ℕ, zero, suc, Bool, List, [], ◌∷◌, length, length-append, refl, arith, Ok, Err}
+-- From the end of a run of the plan to the proof that was written.
+use Rattle.std.proofs.Common.{◌≡◌, ℕ, ℤ, zero, suc, Bool, List, [], ◌∷◌, length, length-append, refl, sym, ap, ◌∙◌, arith, Ok, Err}
 use Rattle.std.specs.Prelude.{Result}
 use Rattle.cnf_base.specs.Formula.{Formula}
 use Rattle.host_io.specs.Channel.{Channel}
+use Rattle.lrat_rules.specs.State.{State}
+use Rattle.lrat_rules.specs.Run.{Spells}
+use Rattle.lrat_rules.specs.Derivation.{IsWritten}
 use Rattle.cnf_base.specs.Order.{natural}
 use Rattle.schedule_plan.specs.declared.plan.Move.{Move}
 use Rattle.schedule_plan.specs.declared.limits.Limits.{Limits}
 use Rattle.term_runner.specs.declared.error.RunError.{RunError}
-use Rattle.term_runner.specs.declared.outcome.Outcome.{Outcome}
 use Rattle.term_runner.specs.declared.outcome.Run.{Run}
 use Rattle.term_runner.specs.Ends.{Ends}
+use Rattle.term_runner.specs.Proofs.{LeadsTo}
+use Rattle.solver_cli.specs.Answer.{greatest_in, last_identifier}
 use Rattle.solver_cli.specs.Phases.{WritesProof}
 
 pub length_natural : (n : ℕ) → length (natural n) ≡ n
 length_natural zero = refl
 length_natural (suc n) = omega (arith, length-append (natural n) (suc n ∷ []), length_natural n)
 
-pub decided : {tells : Bool} {old new : Channel} {problem : Formula} {order : List ℕ} {moves : List Move} {limits : Limits} (run : Run)
-    → Ends tells old new problem order moves limits (Ok run) → WritesProof tells old new problem order moves limits (Ok run.outcome)
-decided run ends = record {
+-- the last identifier is that of the bytes
+last_of : {formula : Formula} {limits : Limits} {bytes : List ℕ} {last : ℕ}
+    → ((clauses : List (List ℤ)) (bytes : List ℕ) (state : State) → IsWritten clauses bytes state → Spells clauses bytes state)
+    → LeadsTo formula limits bytes last → last ≡ last_identifier formula.clauses bytes
+last_of {formula = formula} {bytes = bytes} spells leads =
+    sym (ap greatest_in (spells formula.clauses bytes leads.proof.state leads.proof.written).reached ∙ leads.top)
+
+pub written : {tells : Bool} {old new : Channel} {problem : Formula} {order : List ℕ} {moves : List Move} {limits : Limits}
+    → ((clauses : List (List ℤ)) (bytes : List ℕ) (state : State) → IsWritten clauses bytes state → Spells clauses bytes state)
+    → (result : Result Run RunError) → Ends tells old new problem order moves limits result → WritesProof tells old new problem order moves limits result
+written spells (Ok run) ends = record {
   says = ends.says;
   shows = ends.shows;
-  whole = λ _. ends.whole (λ e. cc);
+  last = λ t. last_of spells (ends.last t);
+  whole = ends.whole;
   so_far = ends.so_far;
-  flushed = λ _. ends.flushed refl;
-  fault = λ e. cc;
-  unfailed = λ _. ends.unfailed (λ e. cc);
+  flushed = ends.flushed;
+  fault = ends.fault;
+  unfailed = ends.unfailed;
   only = record { name = ends.name; faults = ends.faults };
 }
-
-pub undecided : {tells : Bool} {old new : Channel} {problem : Formula} {order : List ℕ} {moves : List Move} {limits : Limits} {error : RunError} (answer : Result Outcome RunError)
-    → Ends tells old new problem order moves limits (Err error) → answer ≡ Err error → WritesProof tells old new problem order moves limits answer
-undecided (Ok found) ends is = cc
-undecided {error = error} (Err other) ends is = record {
+written spells (Err error) ends = record {
   says = tt;
   shows = λ t. tt;
-  whole = λ no. ends.whole (λ e. no (same_fault e));
+  last = λ t. tt;
+  whole = ends.whole;
   so_far = ends.so_far;
-  flushed = λ ok. cc;
-  fault = λ e. ends.fault (other_fault e);
-  unfailed = λ no. ends.unfailed (λ e. no (same_fault e));
+  flushed = ends.flushed;
+  fault = ends.fault;
+  unfailed = ends.unfailed;
   only = record { name = ends.name; faults = ends.faults };
-} where
-  same_fault : {fault : RunError} → ◌≡◌ {A = Result Run RunError} (Err error) (Err fault) → ◌≡◌ {A = Result Outcome RunError} (Err other) (Err fault)
-  same_fault e = cc
-
-  other_fault : {fault : RunError} → ◌≡◌ {A = Result Outcome RunError} (Err other) (Err fault) → ◌≡◌ {A = Result Run RunError} (Err error) (Err fault)
-  other_fault e = cc
+}

@@ -1,18 +1,19 @@
 -- What the stages of a run say of its streams, for the promises.
-use Rattle.std.proofs.Common.{◌≡◌, ℕ, true, false, List, [], ◌∷◌, ◌++◌, length, append-nil, refl, sym, ap, ◌∙◌, Some, None, Err, inl, inr, true≢false, subst, Ok, IfOk}
+use Rattle.std.proofs.Common.{◌≡◌, ℕ, IsTrue, true, false, List, [], ◌∷◌, ◌++◌, length, append-nil, refl, sym, ap, ◌∙◌, Some, None, Err, inl, inr, true≢false, subst, Ok, IfOk}
 use Rattle.std.specs.Prelude.{Option, Result, drop, ◌⊎◌}
 use Rattle.std.proofs.Math.Seq.{drop-append_seam}
 use Rattle.cnf_base.specs.Formula.{Formula}
 use Rattle.host_io.specs.Channel.{Channel}
-use Rattle.term_runner.specs.declared.outcome.Outcome.{Outcome}
+use Rattle.term_runner.specs.declared.outcome.Run.{Run as Ending}
 use Rattle.term_runner.specs.declared.error.RunError.{RunError}
 use Rattle.term_runner.specs.declared.error.RunError.TheVariants as run_error
 use Rattle.dimacs_reader.specs.Cnf.{CnfText, formula}
 use Rattle.solver_cli.specs.declared.status.Status.{Status}
 use Rattle.solver_cli.specs.declared.status.Status.TheVariants.{WriteFault, OutOfMemory}
 use Rattle.solver_cli.specs.ErrorText.{is_answer}
-use Rattle.command_line.specs.Command.{Command, ToSolve, ToCheck, Solve, Check, formula_file, Meaning, Asks, AsksHelp, Misuse, IsOneOf, MayMean, CanOnlyMean, meanings, only_command, command}
+use Rattle.command_line.specs.Command.{Command, ToSolve, ToCheck, ToMake, Solve, Check, Make, formula_file, Meaning, Asks, AsksHelp, Misuse, IsOneOf, MayMean, CanOnlyMean, meanings, only_command, command}
 use Rattle.solver_cli.specs.ExitCode.{status_of_run}
+use Rattle.solver_cli.specs.Headline.{decides}
 
 -- what was written behind what stood there
 pub behind : (old new : Channel) (part : List ℕ) → new.written ≡ old.written ++ part → drop (length old.written) new.written ≡ part
@@ -34,7 +35,7 @@ no_answer unanswered answers same = true≢false (sym answers ∙ ap is_answer (
 
 -- how deciding a formula and writing its proof ends a run
 pub write_ends : (status : Status) (error : RunError) → status ≡ status_of_run error
-    → ((status ≡ WriteFault) × ◌≡◌ {A = Result Outcome RunError} (Err error) (Err run_error.WriteFault)) ⊎ (status ≡ OutOfMemory)
+    → ((status ≡ WriteFault) × ◌≡◌ {A = Result Ending RunError} (Err error) (Err run_error.WriteFault)) ⊎ (status ≡ OutOfMemory)
 write_ends status run_error.WriteFault is = inl (is, refl)
 write_ends status run_error.OutOfMemory is = inr is
 
@@ -42,11 +43,15 @@ write_ends status run_error.OutOfMemory is = inr is
 same_some : {a b : List ℕ} → ◌≡◌ {A = Option (List ℕ)} (Some a) (Some b) → a ≡ b
 same_some e = cc
 
-pub one_text : (files : List ℕ → Option (List ℕ)) {words : Option Command} {asked other : Command} {bytes text : List ℕ}
-    → words ≡ Some asked → words ≡ Some other → files (formula_file asked) ≡ Some bytes → files (formula_file other) ≡ Some text → bytes ≡ text
-one_text files here there stands stands_there = same_some (sym stands ∙ ap (λ (c : Command). files (formula_file c)) (same_command _ _ (sym here ∙ there)) ∙ stands_there) where
-  same_command : (a b : Command) → ◌≡◌ {A = Option Command} (Some a) (Some b) → a ≡ b
-  same_command a b e = cc
+pub same_command : {words : Option Command} {asked other : Command} → words ≡ Some asked → words ≡ Some other → asked ≡ other
+same_command here there = inner (sym here ∙ there) where
+  inner : {a b : Command} → ◌≡◌ {A = Option Command} (Some a) (Some b) → a ≡ b
+  inner e = cc
+
+pub one_text : (files : List ℕ → Option (List ℕ)) {words : Option Command} {asked other : Command} {file name bytes text : List ℕ}
+    → words ≡ Some asked → words ≡ Some other → formula_file asked ≡ Some file → formula_file other ≡ Some name → files file ≡ Some bytes → files name ≡ Some text → bytes ≡ text
+one_text files here there named named_there stands stands_there =
+    same_some (sym stands ∙ ap files (same_some (sym named ∙ ap formula_file (same_command here there) ∙ named_there)) ∙ stands_there)
 
 pub one_proof : (files : List ℕ → Option (List ℕ)) {words : Option Command} {task other : ToCheck} {bytes text : List ℕ}
     → words ≡ Some (Check task) → words ≡ Some (Check other) → files task.proof ≡ Some bytes → files other.proof ≡ Some text → bytes ≡ text
@@ -57,6 +62,15 @@ one_proof files here there stands stands_there = same_some (sym stands ∙ ap (�
 pub two_commands : {words : Option Command} {task : ToSolve} {other : ToCheck} → words ≡ Some (Solve task) → words ≡ Some (Check other) → ⊥
 two_commands {task = task} {other = other} here there = apart (sym here ∙ there) where
   apart : ◌≡◌ {A = Option Command} (Some (Solve task)) (Some (Check other)) → ⊥
+  apart e = cc
+
+-- a command that decides a formula, and one that doesn't
+pub decided_apart : {words : Option Command} {asked other : Command} → words ≡ Some asked → IsTrue (decides asked) → words ≡ Some other → decides other ≡ false → ⊥
+decided_apart here is there no = true≢false (sym is ∙ ap decides (same_command here there) ∙ no)
+
+pub checks_apart : {words : Option Command} {task : ToCheck} {other : ToMake} → words ≡ Some (Check task) → words ≡ Some (Make other) → ⊥
+checks_apart {task = task} {other = other} here there = apart (sym here ∙ there) where
+  apart : ◌≡◌ {A = Option Command} (Some (Check task)) (Some (Make other)) → ⊥
   apart e = cc
 
 -- words that give a command are not words that give none

@@ -4,7 +4,7 @@ use Rattle.std.specs.Prelude.{Result, ⊤, ◌⊎◌, ◌≢◌}
 use Rattle.host_io.specs.declared.role.Role.TheVariants.{ProofOut, Out}
 use Rattle.host_io.specs.declared.source.Failed.{Failed}
 use Rattle.solver_cli.specs.declared.status.Status.{Status}
-use Rattle.solver_cli.specs.declared.status.Status.TheVariants.{Help, ReadFault, WriteFault, OutOfMemory}
+use Rattle.solver_cli.specs.declared.status.Status.TheVariants.{Done, Help, ReadFault, WriteFault, OutOfMemory}
 use Rattle.command_line.specs.Command.{AsksHelp, Misuse}
 use Rattle.solver_cli.specs.ErrorText.{is_answer}
 use Rattle.solver_cli.specs.Phases.{PutsText}
@@ -12,18 +12,19 @@ use Rattle.solver_cli.specs.Stages.{streams_of, Helped, status_of_help}
 use Rattle.solver_cli.specs.Headline.{Run, written_in, HasFault, RefusalsAreDue, IsHelp}
 use Rattle.solver_cli.proofs.Facts.{behind, grown_by, no_answer, no_help}
 use Rattle.solver_cli.proofs.CallsFor.{calls_give}
-use Rattle.solver_cli.proofs.Promised.{Core, due, no_proof, no_verdict, none_written}
+use Rattle.solver_cli.proofs.Promised.{Core, due, no_proof, no_text, no_verdict, none_written}
 
 -- statuses that showing help ends with: help itself, or a failed write
 record Shown (status : Status) : Type 0 where
   pub unanswered : is_answer status ≡ false
+  pub done : status ≡ Done → ⊥
   pub read : status ≡ ReadFault → ⊥
 
 shown_help : (status : Status) → status ≡ Help → Shown status
-shown_help status is = record { unanswered = ap is_answer is; read = λ e. cc }
+shown_help status is = record { unanswered = ap is_answer is; done = λ e. cc; read = λ e. cc }
 
 shown_fault : (status : Status) → status ≡ WriteFault → Shown status
-shown_fault status is = record { unanswered = ap is_answer is; read = λ e. cc }
+shown_fault status is = record { unanswered = ap is_answer is; done = λ e. cc; read = λ e. cc }
 
 pub helped : (run : Run) → Helped run.tells run.words (streams_of run.before) (streams_of run.after) run.status → Core run
 helped run h = go h.shows.printed h.shows.puts h.shows.ends where
@@ -52,6 +53,8 @@ helped run h = go h.shows.printed h.shows.puts h.shows.ends where
     satisfiable = λ e. absurd (no_answer shown.unanswered refl e);
     undecided = λ why e. absurd (no_answer shown.unanswered refl e);
     verdict = no_verdict run shown.unanswered;
+    made = λ e. absurd (shown.done e);
+    made_file = no_text run h.made;
     refusals = is_due;
     faults = λ quiet. record { read = λ e. absurd (shown.read e); undecided = λ e. absurd (shown.read e); quiet = quiet; write = λ e. (Out, inr refl, rose e); accepted = λ e. inl h.due };
     output = record {
@@ -67,8 +70,9 @@ helped run h = go h.shows.printed h.shows.puts h.shows.ends where
       misused = λ only. absurd (no_wish (only AsksHelp h.due));
       helped = λ only faultless. complete faultless;
       unasked = λ _ faultless. inr (complete faultless);
-      answers = λ problem asked. absurd (no_help run.words asked.asks.command h.due);
+      answers = λ problem asked. absurd (no_help run.words asked.by.command h.due);
       judges = λ problem bytes judged has. absurd (no_help run.words has.asked.asks.command h.due);
+      makes = λ given. absurd (no_help run.words given.1 h.due);
       refuses = λ status calls. absurd (no_help run.words (calls_give run status calls).1 h.due);
     };
   }

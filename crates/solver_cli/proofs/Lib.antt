@@ -2,6 +2,7 @@ pub mod Reading
 pub mod Judging
 pub mod Staged
 pub mod StagedCheck
+pub mod Answering
 pub mod Complaints
 pub mod Facts
 pub mod CallsFor
@@ -10,8 +11,10 @@ pub mod Helped
 pub mod Untaken
 pub mod Accepted
 pub mod Printed
+pub mod Deciding
 pub mod Unjudged
 pub mod Verdicts
+pub mod Boards
 pub mod Served
 pub mod Named
 pub mod Told

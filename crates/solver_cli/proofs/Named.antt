@@ -1,36 +1,42 @@
 -- The names of a run's roles, its files and its standard error.
 use Rattle.std.proofs.Common.{◌≡◌, ℕ, false, List, ◌++◌, refl, sym, ap, ◌∙◌, Some, None, Ok, Err, IsTrue, inl, inr, true≢false}
-use Rattle.std.specs.Prelude.{Result, ⊤, ◌⊎◌, ◌≢◌, IsFalse}
+use Rattle.std.specs.Prelude.{Result, ⊤, ◌⊎◌, ◌≢◌}
 use Rattle.host_io.specs.Channel.{Channel}
-use Rattle.host_io.specs.Files.{FilesBut, same_role}
 use Rattle.host_io.specs.declared.role.Role.{Role}
 use Rattle.host_io.specs.declared.role.Role.TheVariants.{Cnf, Order, Schedule, ProofIn, ProofOut, Made, Out, Err as ErrRole}
 use Rattle.host_io.specs.declared.source.Failed.{Failed}
 use Rattle.cnf_base.specs.Formula.{Formula}
-use Rattle.command_line.specs.Command.{Command, ToSolve, ToCheck, Solve, Check, formula_file, command}
+use Rattle.command_line.specs.Command.{Command, ToSolve, ToCheck, ToBench, ToMake, Solve, Check, Bench, Make, formula_file, command}
 use Rattle.term_runner.specs.declared.outcome.Outcome.{Outcome}
 use Rattle.term_runner.specs.declared.outcome.Outcome.TheVariants as outcome
+use Rattle.term_runner.specs.declared.outcome.Run.{Run as Ending}
 use Rattle.term_runner.specs.declared.error.RunError.{RunError}
 use Rattle.term_runner.specs.declared.error.RunError.TheVariants as run_error
 use Rattle.solver_cli.specs.declared.status.Status.{Status}
+use Rattle.solver_cli.specs.declared.status.Status.TheVariants.{Done, WriteFault}
+use Rattle.solver_cli.specs.Answer.{status_of}
 use Rattle.solver_cli.specs.ExitCode.{status_of_run}
 use Rattle.schedule_plan.specs.declared.plan.Move.{Move}
 use Rattle.schedule_plan.specs.declared.order_error.OrderError.{OrderError}
 use Rattle.schedule_plan.specs.declared.schedule.error.PlanError.{PlanError}
 use Rattle.solver_cli.specs.Phases.{HasOrder, HasPlan, Complains}
-use Rattle.solver_cli.specs.Stages.{Streams, streams_of, Prepared, Came, CameToCheck, Stages, status_after}
-use Rattle.solver_cli.specs.Headline.{Run, GivesSolve, AsksFor, ErrorStands, NamesAreGiven, name_given, ends_before_proof}
+use Rattle.solver_cli.specs.Stages.{Streams, FilesBeside, Helped, Job, NoneRead, Untaken, streams_of, Came, CameToAnswer, CameToBench, CameToCheck, CameToMake, Stages, status_after, status_of_written}
+use Rattle.solver_cli.specs.Headline.{Run, GivesDecision, AsksFor, ErrorStands, NamesAreGiven, name_given, ends_before_proof}
 use Rattle.solver_cli.proofs.Facts.{behind, grown_by}
 use Rattle.solver_cli.proofs.Served.{order_name, plan_name}
-use Rattle.solver_cli.proofs.Accepted.{asks_for}
+use Rattle.solver_cli.proofs.Accepted.{Posed, asks_for, decision, posed_by_board, posed_by_files}
 
 -- a role has no name, or the one that the words give it
 abbrev pub IsNamed : Run → Role → Type 0
 IsNamed run role = ((run.after role).name ≡ None) ⊎ ((asked : Command) × (command run.words ≡ Some asked) × ((run.after role).name ≡ name_given role asked))
 
--- the proof has a name only where the words give `solve` and the formula was accepted
+-- the proof has a name only where the words give a command that decides a formula and this was accepted
 abbrev pub IsAccepted : Run → Type 0
-IsAccepted run = (run.after ProofOut).name ≢ None → GivesSolve run × (IsTrue run.tells → (problem : Formula) × AsksFor run problem)
+IsAccepted run = (run.after ProofOut).name ≢ None → GivesDecision run × (IsTrue run.tells → (problem : Formula) × AsksFor run problem)
+
+-- the made file has a name only where the text was written, or a call failed
+abbrev pub IsFinished : Run → Type 0
+IsFinished run = (run.after Made).name ≢ None → (run.status ≡ Done) ⊎ (run.status ≡ WriteFault)
 
 pub record StreamNames (run : Run) : Type 0 where
   pub cnf : IsNamed run Cnf
@@ -38,31 +44,40 @@ pub record StreamNames (run : Run) : Type 0 where
   pub schedule : IsNamed run Schedule
   pub judged : IsNamed run ProofIn
   pub proof : IsNamed run ProofOut
+  pub made : IsNamed run Made
   pub out : IsNamed run Out
   pub read_first : IsTrue (ends_before_proof run.status) → (run.after ProofOut).name ≡ None
   pub accepted : IsAccepted run
+  pub finished : IsFinished run
 
 name_of : {old new : Channel} → new ≡ old → old.name ≡ None → new.name ≡ None
 name_of same none = ap (λ (c : Channel). c.name) same ∙ none
 
-given : (run : Run) (asked : Command) → command run.words ≡ Some asked → ((run.after Cnf).name ≡ Some (formula_file asked)) ⊎ ((run.after Cnf).name ≡ None) → IsNamed run Cnf
-given run asked gives (inl some) = inr (asked, gives, some)
-given run asked gives (inr none) = inl none
+given : (run : Run) (asked : Command) (file : List ℕ) → command run.words ≡ Some asked → formula_file asked ≡ Some file → ((run.after Cnf).name ≡ Some file) ⊎ ((run.after Cnf).name ≡ None) → IsNamed run Cnf
+given run asked file gives named (inl some) = inr (asked, gives, some ∙ sym named)
+given run asked file gives named (inr none) = inl none
 
 given_judged : (run : Run) (task : ToCheck) → command run.words ≡ Some (Check task) → ((run.after ProofIn).name ≡ Some task.proof) ⊎ ((run.after ProofIn).name ≡ None) → IsNamed run ProofIn
 given_judged run task asked (inl some) = inr (Check task, asked, some)
 given_judged run task asked (inr none) = inl none
 
-given_proof : (run : Run) (task : ToSolve) → command run.words ≡ Some (Solve task) → ((run.after ProofOut).name ≡ Some task.proof) ⊎ ((run.after ProofOut).name ≡ None) → IsNamed run ProofOut
-given_proof run task asked (inl some) = inr (Solve task, asked, some)
-given_proof run task asked (inr none) = inl none
+given_proof : (run : Run) (asked : Command) (file : List ℕ) → command run.words ≡ Some asked → name_given ProofOut asked ≡ Some file → ((run.after ProofOut).name ≡ Some file) ⊎ ((run.after ProofOut).name ≡ None) → IsNamed run ProofOut
+given_proof run asked file gives named (inl some) = inr (asked, gives, some ∙ sym named)
+given_proof run asked file gives named (inr none) = inl none
 
 unnamed_proof : (run : Run) → (run.after ProofOut).name ≡ None → IsAccepted run
 unnamed_proof run none named = absurd (named none)
 
-accepted_for : (run : Run) (task : ToSolve) {problem : Formula} {order : List ℕ} {moves : List Move} → command run.words ≡ Some (Solve task)
-    → Prepared run.tells (streams_of run.before) (streams_of run.after) run.files task problem order moves → IsAccepted run
-accepted_for run task {problem = problem} asked prepared named = ((task, asked), λ t. (problem, asks_for run task asked prepared t))
+unnamed_made : (run : Run) → (run.after Made).name ≡ None → IsFinished run
+unnamed_made run none named = absurd (named none)
+
+-- the made file was left alone
+record IsUnmade (run : Run) : Type 0 where
+  pub named : IsNamed run Made
+  pub finished : IsFinished run
+
+left_made : (run : Run) → run.after Made ≡ run.before Made → (run.before Made).name ≡ None → IsUnmade run
+left_made run same none = let now = name_of same none in record { named = inl now; finished = unnamed_made run now }
 
 -- the order's file, and the schedule's
 given_order : (run : Run) (task : ToSolve) → command run.words ≡ Some (Solve task) → (run.before Order).name ≡ None → {result : Result (List ℕ) OrderError} {vars : ℕ}
@@ -82,141 +97,241 @@ given_schedule run task asked unnamed has = elim (plan_name task.plan has) [
 later : (status : Status) → ends_before_proof status ≡ false → {A : Type 0} → IsTrue (ends_before_proof status) → A
 later status after before = absurd (true≢false (sym before ∙ after))
 
-answer_later : (found : Outcome) (printed : Result ⊤ Failed) → ends_before_proof (status_after found printed) ≡ false
-answer_later (outcome.Sat values) (Ok x) = refl
-answer_later outcome.Unsat (Ok x) = refl
-answer_later outcome.NodeLimit (Ok x) = refl
-answer_later outcome.IdLimit (Ok x) = refl
-answer_later found (Err e) = refl
+found_later : (found : Outcome) → ends_before_proof (status_of found) ≡ false
+found_later (outcome.Sat values) = refl
+found_later outcome.Unsat = refl
+found_later outcome.NodeLimit = refl
+found_later outcome.IdLimit = refl
+
+answer_later : (ending : Ending) (printed : Result ⊤ Failed) → ends_before_proof (status_after ending printed) ≡ false
+answer_later ending (Ok x) = found_later ending.outcome
+answer_later ending (Err e) = refl
 
 run_later : (error : RunError) → ends_before_proof (status_of_run error) ≡ false
 run_later run_error.OutOfMemory = refl
 run_later run_error.WriteFault = refl
 
+-- the names of the two streams that an answer is written to
+record AnswerNames (run : Run) : Type 0 where
+  pub proof : IsNamed run ProofOut
+  pub out : IsNamed run Out
+  pub read_first : IsTrue (ends_before_proof run.status) → (run.after ProofOut).name ≡ None
+
+answer_names : (run : Run) {problem : Formula} {order : List ℕ} {moves : List Move} {job : Job} (asked : Command) → command run.words ≡ Some asked → name_given ProofOut asked ≡ Some job.proof → (run.before Out).name ≡ None
+    → CameToAnswer run.tells (run.before ProofOut) (run.after ProofOut) (run.before Out) (run.after Out) problem order moves job run.status → AnswerNames run
+answer_names run {job = job} asked gives named unnamed (inl u) = record {
+  proof = given_proof run asked job.proof gives named (u.opens.failed u.failed);
+  out = inl (name_of u.same unnamed);
+  read_first = later run.status (ap ends_before_proof u.ends);
+}
+answer_names run {job = job} asked gives named unnamed (inr (inl u)) = record {
+  proof = given_proof run asked job.proof gives named (inl (u.writes.only.name ∙ u.opens.named u.done));
+  out = inl (name_of u.same unnamed);
+  read_first = later run.status (ap ends_before_proof u.ends ∙ run_later u.error);
+}
+answer_names run {job = job} asked gives named unnamed (inr (inr a)) = record {
+  proof = given_proof run asked job.proof gives named (inl (a.writes.only.name ∙ a.opens.named a.done));
+  out = inl (a.puts.only.name ∙ unnamed);
+  read_first = later run.status (ap ends_before_proof a.ends ∙ answer_later a.ending a.printed);
+}
+
+accepted_for : (run : Run) {problem : Formula} {order : List ℕ} {moves : List Move} {job : Job} → Posed run problem order moves job → IsAccepted run
+accepted_for run {problem = problem} posed named = (decision run posed, λ t. (problem, asks_for run posed t))
+
+-- nothing was created, and nothing printed
+record NoneCreated (run : Run) : Type 0 where
+  pub proof : run.after ProofOut ≡ run.before ProofOut
+  pub made : run.after Made ≡ run.before Made
+  pub out : run.after Out ≡ run.before Out
+
+-- the names of the files that are read
+record InputNames (run : Run) : Type 0 where
+  pub cnf : IsNamed run Cnf
+  pub order : IsNamed run Order
+  pub schedule : IsNamed run Schedule
+  pub judged : IsNamed run ProofIn
+
+quiet_names : (run : Run) → ((role : Role) → (run.before role).name ≡ None) → NoneCreated run → InputNames run → StreamNames run
+quiet_names run unnamed none inputs =
+    let unmade = left_made run none.made (unnamed Made) in
+    let proof = name_of none.proof (unnamed ProofOut) in
+    record {
+      cnf = inputs.cnf;
+      order = inputs.order;
+      schedule = inputs.schedule;
+      judged = inputs.judged;
+      proof = inl proof;
+      made = unmade.named;
+      out = inl (name_of none.out (unnamed Out));
+      read_first = λ _. proof;
+      accepted = unnamed_proof run proof;
+      finished = unmade.finished;
+    }
+
+-- no file is read
+unread_names : (run : Run) → ((role : Role) → (run.before role).name ≡ None) → NoneRead (streams_of run.before) (streams_of run.after) → InputNames run
+unread_names run unnamed none = record {
+  cnf = inl (name_of none.cnf (unnamed Cnf));
+  order = inl (name_of none.order (unnamed Order));
+  schedule = inl (name_of none.schedule (unnamed Schedule));
+  judged = inl (name_of none.judged (unnamed ProofIn));
+}
+
+answered_names : (run : Run) {problem : Formula} {order : List ℕ} {moves : List Move} {job : Job} → ((role : Role) → (run.before role).name ≡ None) → (posed : Posed run problem order moves job)
+    → name_given ProofOut posed.asked ≡ Some job.proof → InputNames run
+    → CameToAnswer run.tells (run.before ProofOut) (run.after ProofOut) (run.before Out) (run.after Out) problem order moves job run.status → StreamNames run
+answered_names run unnamed posed named inputs came =
+    let unmade = left_made run posed.made (unnamed Made) in
+    let names = answer_names run posed.asked posed.gives named (unnamed Out) came in
+    record {
+      cnf = inputs.cnf;
+      order = inputs.order;
+      schedule = inputs.schedule;
+      judged = inputs.judged;
+      proof = names.proof;
+      made = unmade.named;
+      out = names.out;
+      read_first = names.read_first;
+      accepted = accepted_for run posed;
+      finished = unmade.finished;
+    }
+
+same_names : (run : Run) → ((role : Role) → (run.before role).name ≡ None) → streams_of run.after ≡ streams_of run.before → StreamNames run
+same_names run unnamed same = quiet_names run unnamed
+    (record { proof = ap (λ (s : Streams). s.proof) same; made = ap (λ (s : Streams). s.made) same; out = ap (λ (s : Streams). s.out) same })
+    (unread_names run unnamed (record {
+      cnf = ap (λ (s : Streams). s.cnf) same;
+      order = ap (λ (s : Streams). s.order) same;
+      schedule = ap (λ (s : Streams). s.schedule) same;
+      judged = ap (λ (s : Streams). s.judged) same;
+    }))
+
+helped_names : (run : Run) → ((role : Role) → (run.before role).name ≡ None) → Helped run.tells run.words (streams_of run.before) (streams_of run.after) run.status → StreamNames run
+helped_names run unnamed h =
+    let unmade = left_made run h.made (unnamed Made) in
+    let inputs = unread_names run unnamed (record { cnf = h.cnf; order = h.order; schedule = h.schedule; judged = h.judged }) in
+    record {
+      cnf = inputs.cnf;
+      order = inputs.order;
+      schedule = inputs.schedule;
+      judged = inputs.judged;
+      proof = inl (name_of h.proof (unnamed ProofOut));
+      made = unmade.named;
+      out = inl (h.shows.puts.only.name ∙ unnamed Out);
+      read_first = λ _. name_of h.proof (unnamed ProofOut);
+      accepted = unnamed_proof run (name_of h.proof (unnamed ProofOut));
+      finished = unmade.finished;
+    }
+
+untaken_names : (run : Run) (asked : Command) (file : List ℕ) → ((role : Role) → (run.before role).name ≡ None) → command run.words ≡ Some asked → formula_file asked ≡ Some file
+    → Untaken run.tells (streams_of run.before) (streams_of run.after) run.files file run.status → StreamNames run
+untaken_names run asked file unnamed gives named u = quiet_names run unnamed (record { proof = u.proof; made = u.made; out = u.out }) (record {
+  cnf = given run asked file gives named u.takes.name;
+  order = inl (name_of u.order (unnamed Order));
+  schedule = inl (name_of u.schedule (unnamed Schedule));
+  judged = inl (name_of u.judged (unnamed ProofIn));
+})
+
+solve_names : (run : Run) (task : ToSolve) → ((role : Role) → (run.before role).name ≡ None) → command run.words ≡ Some (Solve task) → Came run.tells (streams_of run.before) (streams_of run.after) run.files task run.status → StreamNames run
+solve_names run task unnamed asked (inl u) = untaken_names run (Solve task) task.file unnamed asked refl u
+solve_names run task unnamed asked (inr (inl u)) = quiet_names run unnamed (record { proof = u.proof; made = u.made; out = u.out }) (record {
+  cnf = given run (Solve task) task.file asked refl u.takes.name;
+  order = given_order run task asked (unnamed Order) u.orders;
+  schedule = inl (name_of u.schedule (unnamed Schedule));
+  judged = inl (name_of u.judged (unnamed ProofIn));
+})
+solve_names run task unnamed asked (inr (inr (inl u))) = quiet_names run unnamed (record { proof = u.proof; made = u.made; out = u.out }) (record {
+  cnf = given run (Solve task) task.file asked refl u.takes.name;
+  order = given_order run task asked (unnamed Order) u.orders;
+  schedule = given_schedule run task asked (unnamed Schedule) u.plans;
+  judged = inl (name_of u.judged (unnamed ProofIn));
+})
+solve_names run task unnamed asked (inr (inr (inr s))) = answered_names run unnamed (posed_by_files run task asked s.prepared) refl
+    (record {
+      cnf = given run (Solve task) task.file asked refl s.prepared.takes.name;
+      order = given_order run task asked (unnamed Order) s.prepared.orders;
+      schedule = given_schedule run task asked (unnamed Schedule) s.prepared.plans;
+      judged = inl (name_of s.prepared.judged (unnamed ProofIn));
+    })
+    s.came
+
+check_names : (run : Run) (task : ToCheck) → ((role : Role) → (run.before role).name ≡ None) → command run.words ≡ Some (Check task)
+    → CameToCheck run.tells (streams_of run.before) (streams_of run.after) run.files task.file task.proof run.status → StreamNames run
+check_names run task unnamed asked (inl u) = untaken_names run (Check task) task.file unnamed asked refl u
+check_names run task unnamed asked (inr (inl u)) = quiet_names run unnamed (record { proof = u.proof; made = u.made; out = u.out }) (record {
+  cnf = given run (Check task) task.file asked refl u.takes.name;
+  order = inl (name_of u.order (unnamed Order));
+  schedule = inl (name_of u.schedule (unnamed Schedule));
+  judged = given_judged run task asked u.judges.name;
+})
+check_names run task unnamed asked (inr (inr j)) =
+    let unmade = left_made run j.made (unnamed Made) in
+    record {
+      cnf = given run (Check task) task.file asked refl j.takes.name;
+      order = inl (name_of j.order (unnamed Order));
+      schedule = inl (name_of j.schedule (unnamed Schedule));
+      judged = given_judged run task asked j.judges.name;
+      proof = inl (name_of j.proof (unnamed ProofOut));
+      made = unmade.named;
+      out = inl (j.puts.only.name ∙ unnamed Out);
+      read_first = λ _. name_of j.proof (unnamed ProofOut);
+      accepted = unnamed_proof run (name_of j.proof (unnamed ProofOut));
+      finished = unmade.finished;
+    }
+
+bench_names : (run : Run) (task : ToBench) → ((role : Role) → (run.before role).name ≡ None) → command run.words ≡ Some (Bench task)
+    → CameToBench run.tells (streams_of run.before) (streams_of run.after) task run.status → StreamNames run
+bench_names run task unnamed asked (inl u) = same_names run unnamed u.same
+bench_names run task unnamed asked (inr b) = answered_names run unnamed (posed_by_board run task asked b.board b.made) refl (unread_names run unnamed b.none_read) b.came
+
+-- the text's file has the name that the words give it
+given_made : (run : Run) (task : ToMake) → command run.words ≡ Some (Make task) → ((run.after Made).name ≡ Some task.file) ⊎ ((run.after Made).name ≡ None) → IsNamed run Made
+given_made run task asked (inl some) = inr (Make task, asked, some)
+given_made run task asked (inr none) = inl none
+
+made_names : (run : Run) → ((role : Role) → (run.before role).name ≡ None) → NoneRead (streams_of run.before) (streams_of run.after) → run.after ProofOut ≡ run.before ProofOut → run.after Out ≡ run.before Out
+    → IsNamed run Made → (run.status ≡ Done) ⊎ (run.status ≡ WriteFault) → StreamNames run
+made_names run unnamed none proof out named ends =
+    let inputs = unread_names run unnamed none in
+    record {
+      cnf = inputs.cnf;
+      order = inputs.order;
+      schedule = inputs.schedule;
+      judged = inputs.judged;
+      proof = inl (name_of proof (unnamed ProofOut));
+      made = named;
+      out = inl (name_of out (unnamed Out));
+      read_first = λ _. name_of proof (unnamed ProofOut);
+      accepted = unnamed_proof run (name_of proof (unnamed ProofOut));
+      finished = λ _. ends;
+    }
+
+written_ends : {status : Status} (written : Result ⊤ Failed) → status ≡ status_of_written written → (status ≡ Done) ⊎ (status ≡ WriteFault)
+written_ends (Ok x) ends = inl ends
+written_ends (Err e) ends = inr ends
+
+make_names : (run : Run) (task : ToMake) → ((role : Role) → (run.before role).name ≡ None) → command run.words ≡ Some (Make task)
+    → CameToMake run.tells (streams_of run.before) (streams_of run.after) task run.status → StreamNames run
+make_names run task unnamed asked (inl u) = same_names run unnamed u.same
+make_names run task unnamed asked (inr (inl u)) = made_names run unnamed u.none_read u.proof u.out (given_made run task asked (u.opens.failed u.failed)) (inr u.ends)
+make_names run task unnamed asked (inr (inr w)) = made_names run unnamed w.none_read w.proof w.out (given_made run task asked (inl (w.puts.only.name ∙ w.opens.named w.done))) (written_ends w.written w.ends)
+
 pub stream_names : (run : Run) → ((role : Role) → (run.before role).name ≡ None) → Stages run.tells run.words (streams_of run.before) (streams_of run.after) run.files run.status → StreamNames run
-stream_names run unnamed (inl m) = record {
-  cnf = inl (name_of (ap (λ (s : Streams). s.cnf) m.same) (unnamed Cnf));
-  order = inl (name_of (ap (λ (s : Streams). s.order) m.same) (unnamed Order));
-  schedule = inl (name_of (ap (λ (s : Streams). s.schedule) m.same) (unnamed Schedule));
-  judged = inl (name_of (ap (λ (s : Streams). s.judged) m.same) (unnamed ProofIn));
-  proof = inl (name_of (ap (λ (s : Streams). s.proof) m.same) (unnamed ProofOut));
-  out = inl (name_of (ap (λ (s : Streams). s.out) m.same) (unnamed Out));
-  read_first = λ _. name_of (ap (λ (s : Streams). s.proof) m.same) (unnamed ProofOut);
-  accepted = unnamed_proof run (name_of (ap (λ (s : Streams). s.proof) m.same) (unnamed ProofOut));
-}
-stream_names run unnamed (inr (inl h)) = record {
-  cnf = inl (name_of h.cnf (unnamed Cnf));
-  order = inl (name_of h.order (unnamed Order));
-  schedule = inl (name_of h.schedule (unnamed Schedule));
-  judged = inl (name_of h.judged (unnamed ProofIn));
-  proof = inl (name_of h.proof (unnamed ProofOut));
-  out = inl (h.shows.puts.only.name ∙ unnamed Out);
-  read_first = λ _. name_of h.proof (unnamed ProofOut);
-  accepted = unnamed_proof run (name_of h.proof (unnamed ProofOut));
-}
-stream_names run unnamed (inr (inr (inl t))) = came t.came where
-  came : Came run.tells (streams_of run.before) (streams_of run.after) run.files t.task run.status → StreamNames run
-  came (inl u) = record {
-    cnf = given run (Solve t.task) t.asked u.takes.name;
-    order = inl (name_of u.order (unnamed Order));
-    schedule = inl (name_of u.schedule (unnamed Schedule));
-    judged = inl (name_of u.judged (unnamed ProofIn));
-    proof = inl (name_of u.proof (unnamed ProofOut));
-    out = inl (name_of u.out (unnamed Out));
-    read_first = λ _. name_of u.proof (unnamed ProofOut);
-    accepted = unnamed_proof run (name_of u.proof (unnamed ProofOut));
-  }
-  came (inr (inl u)) = record {
-    cnf = given run (Solve t.task) t.asked u.takes.name;
-    order = given_order run t.task t.asked (unnamed Order) u.orders;
-    schedule = inl (name_of u.schedule (unnamed Schedule));
-    judged = inl (name_of u.judged (unnamed ProofIn));
-    proof = inl (name_of u.proof (unnamed ProofOut));
-    out = inl (name_of u.out (unnamed Out));
-    read_first = λ _. name_of u.proof (unnamed ProofOut);
-    accepted = unnamed_proof run (name_of u.proof (unnamed ProofOut));
-  }
-  came (inr (inr (inl u))) = record {
-    cnf = given run (Solve t.task) t.asked u.takes.name;
-    order = given_order run t.task t.asked (unnamed Order) u.orders;
-    schedule = given_schedule run t.task t.asked (unnamed Schedule) u.plans;
-    judged = inl (name_of u.judged (unnamed ProofIn));
-    proof = inl (name_of u.proof (unnamed ProofOut));
-    out = inl (name_of u.out (unnamed Out));
-    read_first = λ _. name_of u.proof (unnamed ProofOut);
-    accepted = unnamed_proof run (name_of u.proof (unnamed ProofOut));
-  }
-  came (inr (inr (inr (inl u)))) = record {
-    cnf = given run (Solve t.task) t.asked u.prepared.takes.name;
-    order = given_order run t.task t.asked (unnamed Order) u.prepared.orders;
-    schedule = given_schedule run t.task t.asked (unnamed Schedule) u.prepared.plans;
-    judged = inl (name_of u.prepared.judged (unnamed ProofIn));
-    proof = given_proof run t.task t.asked (u.opens.failed u.failed);
-    out = inl (name_of u.out (unnamed Out));
-    read_first = later run.status (ap ends_before_proof u.ends);
-    accepted = accepted_for run t.task t.asked u.prepared;
-  }
-  came (inr (inr (inr (inr (inl u))))) = record {
-    cnf = given run (Solve t.task) t.asked u.prepared.takes.name;
-    order = given_order run t.task t.asked (unnamed Order) u.prepared.orders;
-    schedule = given_schedule run t.task t.asked (unnamed Schedule) u.prepared.plans;
-    judged = inl (name_of u.prepared.judged (unnamed ProofIn));
-    proof = given_proof run t.task t.asked (inl (u.writes.only.name ∙ u.opens.named u.done));
-    out = inl (name_of u.out (unnamed Out));
-    read_first = later run.status (ap ends_before_proof u.ends ∙ run_later u.error);
-    accepted = accepted_for run t.task t.asked u.prepared;
-  }
-  came (inr (inr (inr (inr (inr a))))) = record {
-    cnf = given run (Solve t.task) t.asked a.prepared.takes.name;
-    order = given_order run t.task t.asked (unnamed Order) a.prepared.orders;
-    schedule = given_schedule run t.task t.asked (unnamed Schedule) a.prepared.plans;
-    judged = inl (name_of a.prepared.judged (unnamed ProofIn));
-    proof = given_proof run t.task t.asked (inl (a.writes.only.name ∙ a.opens.named a.done));
-    out = inl (a.puts.only.name ∙ unnamed Out);
-    read_first = later run.status (ap ends_before_proof a.ends ∙ answer_later a.outcome a.printed);
-    accepted = accepted_for run t.task t.asked a.prepared;
-  }
-stream_names run unnamed (inr (inr (inr c))) = came c.came where
-  came : CameToCheck run.tells (streams_of run.before) (streams_of run.after) run.files c.task.file c.task.proof run.status → StreamNames run
-  came (inl u) = record {
-    cnf = given run (Check c.task) c.asked u.takes.name;
-    order = inl (name_of u.order (unnamed Order));
-    schedule = inl (name_of u.schedule (unnamed Schedule));
-    judged = inl (name_of u.judged (unnamed ProofIn));
-    proof = inl (name_of u.proof (unnamed ProofOut));
-    out = inl (name_of u.out (unnamed Out));
-    read_first = λ _. name_of u.proof (unnamed ProofOut);
-    accepted = unnamed_proof run (name_of u.proof (unnamed ProofOut));
-  }
-  came (inr (inl u)) = record {
-    cnf = given run (Check c.task) c.asked u.takes.name;
-    order = inl (name_of u.order (unnamed Order));
-    schedule = inl (name_of u.schedule (unnamed Schedule));
-    judged = given_judged run c.task c.asked u.judges.name;
-    proof = inl (name_of u.proof (unnamed ProofOut));
-    out = inl (name_of u.out (unnamed Out));
-    read_first = λ _. name_of u.proof (unnamed ProofOut);
-    accepted = unnamed_proof run (name_of u.proof (unnamed ProofOut));
-  }
-  came (inr (inr j)) = record {
-    cnf = given run (Check c.task) c.asked j.takes.name;
-    order = inl (name_of j.order (unnamed Order));
-    schedule = inl (name_of j.schedule (unnamed Schedule));
-    judged = given_judged run c.task c.asked j.judges.name;
-    proof = inl (name_of j.proof (unnamed ProofOut));
-    out = inl (j.puts.only.name ∙ unnamed Out);
-    read_first = λ _. name_of j.proof (unnamed ProofOut);
-    accepted = unnamed_proof run (name_of j.proof (unnamed ProofOut));
-  }
+stream_names run unnamed (inl m) = same_names run unnamed m.same
+stream_names run unnamed (inr (inl h)) = helped_names run unnamed h
+stream_names run unnamed (inr (inr (inl t))) = solve_names run t.task unnamed t.asked t.came
+stream_names run unnamed (inr (inr (inr (inl c)))) = check_names run c.task unnamed c.asked c.came
+stream_names run unnamed (inr (inr (inr (inr (inl b))))) = bench_names run b.task unnamed b.asked b.came
+stream_names run unnamed (inr (inr (inr (inr (inr m))))) = make_names run m.task unnamed m.asked m.came
 
 -- the names of all roles
-pub names : (run : Run) → StreamNames run → ((role : Role) → IsFalse (same_role role Cnf) → IsFalse (same_role role Order) → IsFalse (same_role role Schedule) → IsFalse (same_role role ProofIn) → IsFalse (same_role role ProofOut) → IsFalse (same_role role Out) → (run.after role).name ≡ None)
-    → FilesBut (run.after ProofOut).name run.files run.files_after → NamesAreGiven run
-names run streams others files = record {
+pub names : (run : Run) → StreamNames run → (run.after ErrRole).name ≡ None → FilesBeside (run.after ProofOut).name (run.after Made).name run.files run.files_after → NamesAreGiven run
+names run streams error files = record {
   names = each;
   files = files;
   read_first = streams.read_first;
   accepted = streams.accepted;
+  made = streams.finished;
 } where
   each : (role : Role) → IsNamed run role
   each Cnf = streams.cnf
@@ -224,9 +339,9 @@ names run streams others files = record {
   each Schedule = streams.schedule
   each ProofIn = streams.judged
   each ProofOut = streams.proof
-  each Made = inl (others Made refl refl refl refl refl refl)
+  each Made = streams.made
   each Out = streams.out
-  each ErrRole = inl (others ErrRole refl refl refl refl refl refl)
+  each ErrRole = inl error
 
 pub error_stands : (run : Run) → Complains run.tells (run.before ErrRole) (run.after ErrRole) run.status → ErrorStands run
 error_stands run complains = record {

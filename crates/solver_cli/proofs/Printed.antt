@@ -1,29 +1,32 @@
 -- What is promised of a run that decided its formula.
 use Rattle.std.proofs.Common.{◌≡◌, ℕ, Bool, true, false, List, [], ◌++◌, append-nil, refl, sym, ap, ◌∙◌, subst, Some, Ok, Err, IsTrue, inl, inr, true≢false}
-use Rattle.std.specs.Prelude.{Result, ⊤}
+use Rattle.std.specs.Prelude.{Option, Result, ⊤}
+use Rattle.cnf_base.specs.Formula.{Formula}
 use Rattle.host_io.specs.declared.role.Role.TheVariants.{ProofOut, Out}
 use Rattle.host_io.specs.declared.source.Failed.{Failed}
 use Rattle.lrat_rules.specs.declared.outcome.Reason.{Reason}
 use Rattle.schedule_plan.specs.declared.limits.Limits.{Limits}
+use Rattle.schedule_plan.specs.declared.plan.Move.{Move}
 use Rattle.term_runner.specs.declared.outcome.Outcome.{Outcome}
 use Rattle.term_runner.specs.declared.outcome.Outcome.TheVariants as outcome
+use Rattle.term_runner.specs.declared.outcome.Run.{Run as Ending}
 use Rattle.term_runner.specs.declared.error.RunError.{RunError}
 use Rattle.term_runner.specs.declared.error.RunError.TheVariants.{WriteFault as Torn}
 use Rattle.term_runner.specs.Proofs.{Refutation, IsProof}
 use Rattle.term_runner.specs.Ends.{Says, Shows}
 use Rattle.term_runner.specs.Recovered.{IsRecovered}
-use Rattle.command_line.specs.Command.{ToSolve, Solve, command, limits_asked}
+use Rattle.command_line.specs.Command.{Command}
 use Rattle.solver_cli.specs.declared.status.Status.TheVariants.{Sat, Unsat, Unknown, Verified, NotVerified, WriteFault}
 use Rattle.solver_cli.specs.declared.status.Why.{Why}
 use Rattle.solver_cli.specs.declared.status.Why.TheVariants.{NodeLimit, IdLimit}
-use Rattle.solver_cli.specs.Answer.{outcome_at, outcome_text, status_of}
+use Rattle.solver_cli.specs.Answer.{ending_text, last_identifier, outcome_at, shape_asked, status_of, with_last}
 use Rattle.solver_cli.specs.ErrorText.{is_answer}
 use Rattle.solver_cli.specs.Phases.{PutsText, WritesProof}
-use Rattle.solver_cli.specs.Stages.{streams_of, Answered, status_after}
-use Rattle.solver_cli.specs.Headline.{Run, written_in, limits_given, OutputFailed, AsksFor, AnswerTo, IsRefuted, IsSatisfied, IsUndecided, IsTrueAnswer, ProofStands}
+use Rattle.solver_cli.specs.Stages.{Job, Answered, status_after}
+use Rattle.solver_cli.specs.Headline.{Run, written_in, limits_given, text_for, OutputFailed, AsksFor, AnswerTo, IsRefuted, IsSatisfied, IsUndecided, IsTrueAnswer, ProofStands}
 use Rattle.solver_cli.proofs.Facts.{behind, grown_by, whole_of, no_answer}
-use Rattle.solver_cli.proofs.Promised.{Core, due, no_verdict}
-use Rattle.solver_cli.proofs.Accepted.{asks_for, solve_complete, answer_due, Accepts, accepts_write, accepts_answer, proof_whole}
+use Rattle.solver_cli.proofs.Promised.{Core, due, no_text, no_verdict}
+use Rattle.solver_cli.proofs.Accepted.{Posed, asks_by, asks_for, decision, same_limits, solve_complete, answer_due, Accepts, accepts_write, accepts_answer, proof_whole}
 
 is_unsat : (found : Outcome) → status_of found ≡ Unsat → found ≡ outcome.Unsat
 is_unsat (outcome.Sat values) e = cc
@@ -63,49 +66,55 @@ no_write outcome.Unsat e = cc
 no_write outcome.NodeLimit e = cc
 no_write outcome.IdLimit e = cc
 
-pub answered : (run : Run) (task : ToSolve) → command run.words ≡ Some (Solve task) → Answered run.tells (streams_of run.before) (streams_of run.after) run.files task run.status → Core run
-answered run task asked a = go a.printed puts_given a.ends where
+pub answered : (run : Run) {problem : Formula} {order : List ℕ} {moves : List Move} {job : Job} → Posed run problem order moves job
+    → Answered run.tells (run.before ProofOut) (run.after ProofOut) (run.before Out) (run.after Out) problem order moves job run.status → Core run
+answered run {problem = problem} {order = order} {moves = moves} {job = job} posed a = go a.printed a.puts a.ends where
+  found : Outcome
+  found = a.ending.outcome
+
   text : List ℕ
-  text = outcome_text (limits_given run) a.outcome
+  text = ending_text job.shape job.limits a.ending
 
-  given : IsTrue run.tells → AsksFor run a.problem
-  given = asks_for run task asked a.prepared
+  given : IsTrue run.tells → AsksFor run problem
+  given = asks_for run posed
 
-  same_limits : task.limits ≡ limits_given run
-  same_limits = sym (ap limits_asked asked)
-
-  writes : WritesProof run.tells a.created (run.after ProofOut) a.problem a.order a.moves (limits_given run) (Ok a.outcome)
-  writes = subst (λ (l : Limits). WritesProof run.tells a.created (run.after ProofOut) a.problem a.order a.moves l (Ok a.outcome)) same_limits a.writes
-
-  puts_given : PutsText run.tells (run.before Out) (run.after Out) text a.printed
-  puts_given = subst (λ (l : Limits). PutsText run.tells (run.before Out) (run.after Out) (outcome_text l a.outcome) a.printed) same_limits a.puts
+  writes : WritesProof run.tells a.created (run.after ProofOut) problem order moves (limits_given run) (Ok a.ending)
+  writes = subst (λ (l : Limits). WritesProof run.tells a.created (run.after ProofOut) problem order moves l (Ok a.ending)) (same_limits run posed) a.writes
 
   same_bytes : written_in run ProofOut ≡ (run.after ProofOut).written
   same_bytes = whole_of (run.before ProofOut) (run.after ProofOut) a.opens.was_idle.written
 
-  shows : IsTrue run.tells → Shows a.problem (limits_given run) (written_in run ProofOut) a.outcome
-  shows t = subst (λ (bytes : List ℕ). Shows a.problem (limits_given run) bytes a.outcome) (sym same_bytes) (writes.shows t)
+  -- the text is the one for the formula and the proof's bytes
+  same_ending : IsTrue run.tells → a.ending ≡ with_last problem.clauses (written_in run ProofOut) found
+  same_ending t =
+      ap (λ (last : ℕ). record { outcome = found; last_id = last }) (writes.last t ∙ ap (last_identifier problem.clauses) (sym same_bytes))
+
+  same_text : IsTrue run.tells → text ≡ text_for run problem found
+  same_text t = λ i. ending_text ((posed.shape ∙ sym (ap (λ (c : Option Command). shape_asked c problem) posed.gives)) i) (same_limits run posed i) (same_ending t i)
+
+  shows : IsTrue run.tells → Shows problem (limits_given run) (written_in run ProofOut) found
+  shows t = subst (λ (bytes : List ℕ). Shows problem (limits_given run) bytes found) (sym same_bytes) (writes.shows t)
 
   -- the same of an outcome that is known by its name
-  says_as : (found : Outcome) → a.outcome ≡ found → Says a.problem a.order a.moves (limits_given run) found
-  says_as found is = subst (λ (x : Outcome). Says a.problem a.order a.moves (limits_given run) x) is writes.says
+  says_as : (other : Outcome) → found ≡ other → Says problem order moves (limits_given run) other
+  says_as other is = subst (λ (x : Outcome). Says problem order moves (limits_given run) x) is writes.says
 
-  shows_as : (found : Outcome) → a.outcome ≡ found → IsTrue run.tells → Shows a.problem (limits_given run) (written_in run ProofOut) found
-  shows_as found is t = subst (λ (x : Outcome). Shows a.problem (limits_given run) (written_in run ProofOut) x) is (shows t)
+  shows_as : (other : Outcome) → found ≡ other → IsTrue run.tells → Shows problem (limits_given run) (written_in run ProofOut) other
+  shows_as other is t = subst (λ (x : Outcome). Shows problem (limits_given run) (written_in run ProofOut) x) is (shows t)
 
-  ok_err : (found : Outcome) (error : RunError) → ◌≡◌ {A = Result Outcome RunError} (Ok found) (Err error) → ⊥
-  ok_err found error e = cc
+  ok_err : (ending : Ending) (error : RunError) → ◌≡◌ {A = Result Ending RunError} (Ok ending) (Err error) → ⊥
+  ok_err ending error e = cc
 
-  whole : IsTrue run.tells → IsProof a.problem (limits_given run) (written_in run ProofOut)
-  whole t = proof_whole run a.problem a.opens.was_idle.written (writes.whole (λ e. ok_err a.outcome Torn e) t)
+  whole : IsTrue run.tells → IsProof problem (limits_given run) (written_in run ProofOut)
+  whole t = proof_whole run problem a.opens.was_idle.written (writes.whole (λ e. ok_err a.ending Torn e) t)
 
   stands : ProofStands run
   stands = record {
-    so_far = λ t. inr (a.problem, given t, inl (whole t));
-    whole = λ unfaulted t. inr (a.problem, given t, whole t);
+    so_far = λ t. inr (problem, given t, inl (whole t));
+    whole = λ unfaulted t. inr (problem, given t, whole t);
   }
 
-  true_answer : IsTrue run.tells → (rest : List ℕ) → text ≡ written_in run Out ++ rest → IsTrueAnswer run (AnswerTo a.problem a.outcome)
+  true_answer : IsTrue run.tells → (rest : List ℕ) → text_for run problem found ≡ written_in run Out ++ rest → IsTrueAnswer run (AnswerTo problem found)
   true_answer t rest front = record {
     found = record {
       asked = given t;
@@ -120,74 +129,79 @@ answered run task asked a = go a.printed puts_given a.ends where
   grows : (printed : Result ⊤ Failed) → PutsText run.tells (run.before Out) (run.after Out) text printed → IsTrue run.tells → (run.after Out).written ≡ (run.before Out).written ++ written_in run Out
   grows printed puts t = let front = puts.front t in grown_by (run.before Out) (run.after Out) front.0 front.2
 
-  fronts : (printed : Result ⊤ Failed) → PutsText run.tells (run.before Out) (run.after Out) text printed → IsTrue run.tells → IsTrueAnswer run (AnswerTo a.problem a.outcome)
-  fronts printed puts t = let front = puts.front t in true_answer t front.1 (front.3 ∙ ap (λ (l : List ℕ). l ++ front.1) (sym (behind (run.before Out) (run.after Out) front.0 front.2)))
+  fronts : (printed : Result ⊤ Failed) → PutsText run.tells (run.before Out) (run.after Out) text printed → IsTrue run.tells → IsTrueAnswer run (AnswerTo problem found)
+  fronts printed puts t = let front = puts.front t in true_answer t front.1 (sym (same_text t) ∙ front.3 ∙ ap (λ (l : List ℕ). l ++ front.1) (sym (behind (run.before Out) (run.after Out) front.0 front.2)))
 
-  refuted : (IsTrue run.tells → written_in run Out ≡ text) → a.outcome ≡ outcome.Unsat → IsRefuted run
+  printed_as : (IsTrue run.tells → written_in run Out ≡ text) → (other : Outcome) → found ≡ other → IsTrue run.tells → written_in run Out ≡ text_for run problem other
+  printed_as all other is t = all t ∙ same_text t ∙ ap (text_for run problem) is
+
+  refuted : (IsTrue run.tells → written_in run Out ≡ text) → found ≡ outcome.Unsat → IsRefuted run
   refuted all is = record {
-    given = (task, asked);
-    problem = a.problem;
+    given = decision run posed;
+    problem = problem;
     unsatisfiable = says_as outcome.Unsat is;
-    shown = λ t. let shown : Refutation a.problem.clauses (written_in run ProofOut) = shows_as outcome.Unsat is t in
-        record { asked = given t; refuted = shown.refutes; at_once = shown.at_once; printed = all t ∙ ap (outcome_text (limits_given run)) is };
+    shown = λ t. let shown : Refutation problem.clauses (written_in run ProofOut) = shows_as outcome.Unsat is t in
+        record { asked = given t; refuted = shown.refutes; at_once = shown.at_once; printed = printed_as all outcome.Unsat is t };
   }
 
-  satisfied : (IsTrue run.tells → written_in run Out ≡ text) → (values : List Bool) → a.outcome ≡ outcome.Sat values → IsSatisfied run
+  satisfied : (IsTrue run.tells → written_in run Out ≡ text) → (values : List Bool) → found ≡ outcome.Sat values → IsSatisfied run
   satisfied all values is =
-      let found : IsRecovered a.problem a.order a.moves values = says_as (outcome.Sat values) is in
+      let recovered : IsRecovered problem order moves values = says_as (outcome.Sat values) is in
       record {
-        given = (task, asked);
-        problem = a.problem;
-        order = a.order;
-        moves = a.moves;
+        given = decision run posed;
+        problem = problem;
+        order = order;
+        moves = moves;
         values = values;
-        one_each = found.one_each;
-        satisfied = found.satisfied;
-        recovered = found;
-        shown = λ t. record { asked = given t; by_order = refl; by_plan = refl; printed = all t ∙ ap (outcome_text (limits_given run)) is };
+        one_each = recovered.one_each;
+        satisfied = recovered.satisfied;
+        recovered = recovered;
+        shown = λ t. record { asked = asks_by run posed t; printed = printed_as all (outcome.Sat values) is t };
       }
 
-  undecided : (IsTrue run.tells → written_in run Out ≡ text) → (why : Why) → a.outcome ≡ outcome_at why → IsUndecided run why
+  undecided : (IsTrue run.tells → written_in run Out ≡ text) → (why : Why) → found ≡ outcome_at why → IsUndecided run why
   undecided all why is = record {
-    given = (task, asked);
-    problem = a.problem;
-    order = a.order;
-    moves = a.moves;
+    given = decision run posed;
+    problem = problem;
+    order = order;
+    moves = moves;
     needs = says_as (outcome_at why) is;
-    shown = λ t. record { asked = given t; by_order = refl; by_plan = refl; reached = shows_as (outcome_at why) is t; printed = all t ∙ ap (outcome_text (limits_given run)) is };
+    shown = λ t. record { asked = asks_by run posed t; reached = shows_as (outcome_at why) is t; printed = printed_as all (outcome_at why) is t };
   }
 
-  fine : (x : ⊤) → PutsText run.tells (run.before Out) (run.after Out) text (Ok x) → run.status ≡ status_of a.outcome → Core run
+  fine : (x : ⊤) → PutsText run.tells (run.before Out) (run.after Out) text (Ok x) → run.status ≡ status_of found → Core run
   fine x puts ends =
-      let accepts : Accepts run.status = accepts_answer run.status a.outcome ends in
-      let yes_answer : is_answer run.status ≡ true = ap is_answer ends ∙ answers a.outcome in
+      let accepts : Accepts run.status = accepts_answer run.status found ends in
+      let yes_answer : is_answer run.status ≡ true = ap is_answer ends ∙ answers found in
       let all : IsTrue run.tells → written_in run Out ≡ text = λ t. behind (run.before Out) (run.after Out) text (puts.done t refl) in
       record {
-        unsatisfiable = λ e. refuted all (is_unsat a.outcome (sym ends ∙ e));
-        satisfiable = λ e. let sat = is_sat a.outcome (sym ends ∙ e) in satisfied all sat.0 sat.1;
-        undecided = λ why e. undecided all why (is_unknown a.outcome why (sym ends ∙ e));
+        unsatisfiable = λ e. refuted all (is_unsat found (sym ends ∙ e));
+        satisfiable = λ e. let sat = is_sat found (sym ends ∙ e) in satisfied all sat.0 sat.1;
+        undecided = λ why e. undecided all why (is_unknown found why (sym ends ∙ e));
         verdict = record {
-          verified = λ e. absurd ((no_verdict_of a.outcome).0 (sym ends ∙ e));
-          not_verified = λ line reason e. absurd ((no_verdict_of a.outcome).1 line reason (sym ends ∙ e));
+          verified = λ e. absurd ((no_verdict_of found).0 (sym ends ∙ e));
+          not_verified = λ line reason e. absurd ((no_verdict_of found).1 line reason (sym ends ∙ e));
         };
-        refusals = answer_due run a.outcome ends;
+        made = λ e. absurd (accepts.done e);
+        made_file = no_text run posed.made;
+        refusals = answer_due run found ends;
         faults = λ quiet. record {
           read = λ e. absurd (accepts.read e);
           undecided = λ e. absurd (accepts.read e);
           quiet = quiet;
-          write = λ e. absurd (no_write a.outcome (sym ends ∙ e));
-          accepted = λ e. absurd (no_write a.outcome (sym ends ∙ e));
+          write = λ e. absurd (no_write found (sym ends ∙ e));
+          accepted = λ e. absurd (no_write found (sym ends ∙ e));
         };
         output = record {
           grows = grows (Ok x) puts;
-          front = λ t. inr (inl (AnswerTo a.problem a.outcome, fronts (Ok x) puts t));
-          answered = λ _ t. (AnswerTo a.problem a.outcome, true_answer t [] (sym (all t) ∙ sym (append-nil (written_in run Out))), ends, refl);
+          front = λ t. inr (inl (AnswerTo problem found, fronts (Ok x) puts t));
+          answered = λ _ t. (AnswerTo problem found, true_answer t [] (sym (same_text t) ∙ sym (all t) ∙ sym (append-nil (written_in run Out))), ends, refl);
           helped = λ e. absurd (accepts.help e);
           flushed = λ _ t. puts.flushed t refl;
           silent = λ unanswered. absurd (true≢false (sym yes_answer ∙ unanswered));
         };
         proof = stands;
-        complete = solve_complete run task a.problem asked given (λ unharmed. inl yes_answer);
+        complete = solve_complete run posed (λ unharmed. inl yes_answer);
       }
 
   failed : (e : Failed) → PutsText run.tells (run.before Out) (run.after Out) text (Err e) → run.status ≡ WriteFault → Core run
@@ -200,26 +214,28 @@ answered run task asked a = go a.printed puts_given a.ends where
         satisfiable = λ d. absurd (no_answer unanswered refl d);
         undecided = λ why d. absurd (no_answer unanswered refl d);
         verdict = no_verdict run unanswered;
+        made = λ d. absurd (accepts.done d);
+        made_file = no_text run posed.made;
         refusals = due run ends tt;
         faults = λ quiet. record {
           read = λ d. absurd (accepts.read d);
           undecided = λ d. absurd (accepts.read d);
           quiet = quiet;
           write = λ d. failure;
-          accepted = λ d. inr ((Solve task, asked), λ t. inl (a.problem, given t));
+          accepted = λ d. inr ((posed.asked, posed.gives), λ t. inl (problem, given t));
         };
         output = record {
           grows = grows (Err e) puts;
-          front = λ t. inr (inl (AnswerTo a.problem a.outcome, fronts (Err e) puts t));
+          front = λ t. inr (inl (AnswerTo problem found, fronts (Err e) puts t));
           answered = λ yes_answer. absurd (true≢false (sym yes_answer ∙ unanswered));
           helped = λ d. absurd (accepts.help d);
           flushed = λ either. elim either [ inl yes_answer ↦ absurd (true≢false (sym yes_answer ∙ unanswered)) | inr d ↦ absurd (accepts.help d) ];
           silent = λ _ _ unfaulted. absurd (unfaulted ends);
         };
         proof = stands;
-        complete = solve_complete run task a.problem asked given (λ unharmed. absurd (unharmed.1 failure));
+        complete = solve_complete run posed (λ unharmed. absurd (unharmed.1 failure));
       }
 
-  go : (printed : Result ⊤ Failed) → PutsText run.tells (run.before Out) (run.after Out) text printed → run.status ≡ status_after a.outcome printed → Core run
+  go : (printed : Result ⊤ Failed) → PutsText run.tells (run.before Out) (run.after Out) text printed → run.status ≡ status_after a.ending printed → Core run
   go (Ok x) puts ends = fine x puts ends
   go (Err e) puts ends = failed e puts ends

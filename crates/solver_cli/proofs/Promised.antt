@@ -6,11 +6,11 @@ use Rattle.host_io.specs.declared.role.Role.{Role}
 use Rattle.host_io.specs.declared.role.Role.TheVariants.{Cnf, Order, Schedule, ProofIn, ProofOut, Made, Out, Err as ErrRole}
 use Rattle.text_scan.specs.Decides.{gained, gained-none}
 use Rattle.solver_cli.specs.declared.status.Status.{Status}
-use Rattle.solver_cli.specs.declared.status.Status.TheVariants.{Sat, Unsat, Unknown, Verified, NotVerified, Help, Usage, CnfRefused, OrderRefused, PlanRefused, TooLong, ReadFault, WriteFault, OutOfMemory}
+use Rattle.solver_cli.specs.declared.status.Status.TheVariants.{Sat, Unsat, Unknown, Verified, NotVerified, Done, Help, Usage, CnfRefused, OrderRefused, PlanRefused, TooLong, ReadFault, WriteFault, OutOfMemory}
 use Rattle.command_line.specs.Command.{Command, AsksHelp, Misuse, command}
 use Rattle.solver_cli.specs.ErrorText.{is_answer}
 use Rattle.solver_cli.specs.Stages.{Streams, streams_of, Misused}
-use Rattle.solver_cli.specs.Headline.{Run, written_in, taken_in, InputFailed, UnsatisfiableIsProved, SatisfiableIsTrue, LimitsAreReached, VerdictIsTrue, IsDue, RefusalsAreDue, IsStillOpen, FaultsAreCounted, OutputStands, ProofStands, CallsFor, IsComplete}
+use Rattle.solver_cli.specs.Headline.{Run, written_in, taken_in, InputFailed, UnsatisfiableIsProved, SatisfiableIsTrue, LimitsAreReached, VerdictIsTrue, TextIsMade, MadeStands, GivesMake, IsDue, RefusalsAreDue, IsStillOpen, FaultsAreCounted, OutputStands, ProofStands, CallsFor, IsComplete}
 use Rattle.solver_cli.proofs.Facts.{behind, grown_by, nothing_more, no_answer, not_unasked, no_misuse, only_misuse, only_help}
 use Rattle.solver_cli.proofs.CallsFor.{one_call, no_call, no_call_judged, calls_give}
 
@@ -24,6 +24,8 @@ pub record Core (run : Run) : Type 0 where
   pub satisfiable : SatisfiableIsTrue run
   pub undecided : LimitsAreReached run
   pub verdict : VerdictIsTrue run
+  pub made : TextIsMade run
+  pub made_file : MadeStands run
   pub refusals : RefusalsAreDue run
   pub faults : QuietAtFaults run → FaultsAreCounted run
   pub output : OutputStands run
@@ -64,18 +66,23 @@ same_written same = ap (λ (c : Channel). c.written) same
 pub none_written : (run : Run) (role : Role) → run.after role ≡ run.before role → written_in run role ≡ []
 none_written run role same = behind (run.before role) (run.after role) [] (nothing_more (run.before role) (run.after role) (same_written same))
 
+-- no text was made
+pub no_text : (run : Run) → run.after Made ≡ run.before Made → MadeStands run
+no_text run same = λ t. inl (none_written run Made same)
+
 -- statuses of a run that did nothing for its words
 record Undone (status : Status) : Type 0 where
   pub unanswered : is_answer status ≡ false
+  pub done : status ≡ Done → ⊥
   pub help : status ≡ Help → ⊥
   pub read : status ≡ ReadFault → ⊥
   pub write : status ≡ WriteFault → ⊥
 
 undone_usage : (status : Status) → status ≡ Usage → Undone status
-undone_usage status is = record { unanswered = ap is_answer is; help = λ e. cc; read = λ e. cc; write = λ e. cc }
+undone_usage status is = record { unanswered = ap is_answer is; done = λ e. cc; help = λ e. cc; read = λ e. cc; write = λ e. cc }
 
 undone_memory : (status : Status) → status ≡ OutOfMemory → Undone status
-undone_memory status is = record { unanswered = ap is_answer is; help = λ e. cc; read = λ e. cc; write = λ e. cc }
+undone_memory status is = record { unanswered = ap is_answer is; done = λ e. cc; help = λ e. cc; read = λ e. cc; write = λ e. cc }
 
 -- the words may be faulty, or memory ran out
 pub misused : (run : Run) → Misused run.words (streams_of run.before) (streams_of run.after) run.status → Core run
@@ -86,6 +93,8 @@ misused run m =
       satisfiable = λ e. absurd (no_answer undone.unanswered refl e);
       undecided = λ why e. absurd (no_answer undone.unanswered refl e);
       verdict = no_verdict run undone.unanswered;
+      made = λ e. absurd (undone.done e);
+      made_file = no_text run (ap (λ (s : Streams). s.made) m.same);
       refusals = elim m.ends [ inl faulty ↦ due run faulty.0 faulty.1 | inr memory ↦ due run memory tt ];
       faults = λ quiet. record { read = λ e. absurd (undone.read e); undecided = λ e. absurd (undone.read e); quiet = quiet; write = λ e. absurd (undone.write e); accepted = λ e. absurd (undone.write e) };
       output = quiet_output run undone.unanswered undone.help (same_written (out_of m.same));
@@ -94,8 +103,9 @@ misused run m =
         misused = λ only. elim m.ends [ inl faulty ↦ inl faulty.0 | inr memory ↦ inr memory ];
         helped = λ only _. elim m.ends [ inl faulty ↦ absurd (no_wish (only Misuse faulty.1)) | inr memory ↦ inr memory ];
         unasked = λ _ _. elim m.ends [ inl faulty ↦ inl faulty.0 | inr memory ↦ inr (inr memory) ];
-        answers = λ problem asked t unharmed. elim m.ends [ inl faulty ↦ absurd (no_misuse run.words asked.asks.command faulty.1) | inr memory ↦ inr memory ];
+        answers = λ problem asked t unharmed. elim m.ends [ inl faulty ↦ absurd (no_misuse run.words asked.by.command faulty.1) | inr memory ↦ inr memory ];
         judges = λ problem bytes judged has t unharmed. elim m.ends [ inl faulty ↦ absurd (no_misuse run.words has.asked.asks.command faulty.1) | inr memory ↦ inr memory ];
+        makes = λ given unharmed. elim m.ends [ inl faulty ↦ absurd (no_misuse run.words given.1 faulty.1) | inr memory ↦ inr memory ];
         refuses = λ status calls t unfailed. elim m.ends [ inl faulty ↦ absurd (no_misuse run.words (calls_give run status calls).1 faulty.1) | inr memory ↦ inr memory ];
       };
     } where
@@ -110,6 +120,7 @@ stops Unsat = false
 stops (Unknown why) = false
 stops Verified = false
 stops (NotVerified line reason) = false
+stops Done = false
 stops Help = false
 stops Usage = false
 stops (CnfRefused kind line) = true
@@ -123,6 +134,7 @@ stops OutOfMemory = true
 -- its status is no other
 pub record Stops (status : Status) : Type 0 where
   pub unanswered : is_answer status ≡ false
+  pub done : status ≡ Done → ⊥
   pub help : status ≡ Help → ⊥
   pub write : status ≡ WriteFault → ⊥
 
@@ -132,15 +144,16 @@ by_stop Unsat is = cc
 by_stop (Unknown why) is = cc
 by_stop Verified is = cc
 by_stop (NotVerified line reason) is = cc
+by_stop Done is = cc
 by_stop Help is = cc
 by_stop Usage is = cc
-by_stop (CnfRefused kind line) is = record { unanswered = refl; help = λ e. cc; write = λ e. cc }
-by_stop (OrderRefused kind line) is = record { unanswered = refl; help = λ e. cc; write = λ e. cc }
-by_stop (PlanRefused kind line) is = record { unanswered = refl; help = λ e. cc; write = λ e. cc }
-by_stop (TooLong role) is = record { unanswered = refl; help = λ e. cc; write = λ e. cc }
-by_stop ReadFault is = record { unanswered = refl; help = λ e. cc; write = λ e. cc }
+by_stop (CnfRefused kind line) is = record { unanswered = refl; done = λ e. cc; help = λ e. cc; write = λ e. cc }
+by_stop (OrderRefused kind line) is = record { unanswered = refl; done = λ e. cc; help = λ e. cc; write = λ e. cc }
+by_stop (PlanRefused kind line) is = record { unanswered = refl; done = λ e. cc; help = λ e. cc; write = λ e. cc }
+by_stop (TooLong role) is = record { unanswered = refl; done = λ e. cc; help = λ e. cc; write = λ e. cc }
+by_stop ReadFault is = record { unanswered = refl; done = λ e. cc; help = λ e. cc; write = λ e. cc }
 by_stop WriteFault is = cc
-by_stop OutOfMemory is = record { unanswered = refl; help = λ e. cc; write = λ e. cc }
+by_stop OutOfMemory is = record { unanswered = refl; done = λ e. cc; help = λ e. cc; write = λ e. cc }
 
 -- a refusal that is due is called for, where the host tells its bytes
 calls_due : (run : Run) (status : Status) → stops status ≡ true → IsDue run status → IsTrue run.tells → (status ≡ ReadFault) ⊎ ((status ≡ OutOfMemory) ⊎ CallsFor run status)
@@ -149,6 +162,7 @@ calls_due run Unsat is d t = cc
 calls_due run (Unknown why) is d t = cc
 calls_due run Verified is d t = cc
 calls_due run (NotVerified line reason) is d t = cc
+calls_due run Done is d t = cc
 calls_due run Help is d t = cc
 calls_due run Usage is d t = cc
 calls_due run (CnfRefused kind line) is d t = let by = d.1 t in inr (inr (by.asked, by.asks))
@@ -166,13 +180,14 @@ calls_due run ReadFault is d t = inl refl
 calls_due run WriteFault is d t = cc
 calls_due run OutOfMemory is d t = inr (inl refl)
 
-stopped_complete : (run : Run) (asked : Command) → command run.words ≡ Some asked → stops run.status ≡ true → IsDue run run.status → (run.status ≡ ReadFault → InputFailed run) → IsComplete run
-stopped_complete run asked gives halts is failed = record {
+stopped_complete : (run : Run) (asked : Command) → command run.words ≡ Some asked → (GivesMake run → run.status ≡ OutOfMemory) → stops run.status ≡ true → IsDue run run.status → (run.status ≡ ReadFault → InputFailed run) → IsComplete run
+stopped_complete run asked gives makes halts is failed = record {
   misused = λ only. absurd (only_misuse run.words gives only);
   helped = λ only _. absurd (only_help run.words gives only);
   unasked = λ none _. absurd (not_unasked gives none);
   answers = λ problem asks t unharmed. inr (memory t unharmed.0 (no_call run problem asks run.status));
   judges = λ problem bytes judged has t unharmed. inr (memory t unharmed.0 (no_call_judged run problem bytes judged has run.status));
+  makes = λ given unharmed. inr (makes given);
   refuses = λ status calls t unfailed. elim (calls_due run run.status halts is t) [
     | inl fault ↦ absurd (unfailed (failed fault))
     | inr more ↦ elim more [ inl wanted ↦ inr wanted | inr called ↦ inl (one_call run run.status status called calls) ]
@@ -184,33 +199,46 @@ stopped_complete run asked gives halts is failed = record {
     | inr more ↦ elim more [ inl wanted ↦ wanted | inr called ↦ absurd (uncalled called) ]
   ]
 
-pub stopped : (run : Run) (asked : Command) → command run.words ≡ Some asked → run.after ProofOut ≡ run.before ProofOut → run.after Out ≡ run.before Out
+-- nothing was written, and a text is made only where memory ran out
+pub record LeftAlone (run : Run) (status : Status) : Type 0 where
+  pub proof : run.after ProofOut ≡ run.before ProofOut
+  pub made : run.after Made ≡ run.before Made
+  pub out : run.after Out ≡ run.before Out
+  pub makes : GivesMake run → status ≡ OutOfMemory
+
+stopped : (run : Run) (asked : Command) → command run.words ≡ Some asked → LeftAlone run run.status
     → stops run.status ≡ true → IsDue run run.status → (run.status ≡ ReadFault → InputFailed run × (IsTrue run.tells → IsStillOpen run)) → Core run
-stopped run asked gives proof out halts is fault =
+stopped run asked gives alone halts is fault =
     let ends : Stops run.status = by_stop run.status halts in
     record {
       unsatisfiable = λ e. absurd (no_answer ends.unanswered refl e);
       satisfiable = λ e. absurd (no_answer ends.unanswered refl e);
       undecided = λ why e. absurd (no_answer ends.unanswered refl e);
       verdict = no_verdict run ends.unanswered;
+      made = λ e. absurd (ends.done e);
+      made_file = no_text run alone.made;
       refusals = is;
       faults = λ quiet. record { read = λ e. ((asked, gives), (fault e).0); undecided = λ e t. (fault e).1 t; quiet = quiet; write = λ e. absurd (ends.write e); accepted = λ e. absurd (ends.write e) };
-      output = quiet_output run ends.unanswered ends.help (same_written out);
-      proof = no_proof run (none_written run ProofOut proof);
-      complete = stopped_complete run asked gives halts is (λ e. (fault e).0);
+      output = quiet_output run ends.unanswered ends.help (same_written alone.out);
+      proof = no_proof run (none_written run ProofOut alone.proof);
+      complete = stopped_complete run asked gives alone.makes halts is (λ e. (fault e).0);
     }
 
--- the same by the status itself: a refusal that is due, want of memory, or a read fault
-pub refused : (run : Run) (asked : Command) {status : Status} → command run.words ≡ Some asked → run.after ProofOut ≡ run.before ProofOut → run.after Out ≡ run.before Out
+-- the same of another status that is this one
+alone_at : (run : Run) {status : Status} → run.status ≡ status → LeftAlone run status → LeftAlone run run.status
+alone_at run ends alone = subst (λ (s : Status). LeftAlone run s) (sym ends) alone
+
+-- by the status itself: a refusal that is due, want of memory, or a read fault
+pub refused : (run : Run) (asked : Command) {status : Status} → command run.words ≡ Some asked → LeftAlone run status
     → run.status ≡ status → stops status ≡ true → (status ≡ ReadFault → ⊥) → IsDue run status → Core run
-refused run asked gives proof out ends halts no_fault is = stopped run asked gives proof out (ap stops ends ∙ halts) (due run ends is) (λ e. absurd (no_fault (sym ends ∙ e)))
+refused run asked gives alone ends halts no_fault is = stopped run asked gives (alone_at run ends alone) (ap stops ends ∙ halts) (due run ends is) (λ e. absurd (no_fault (sym ends ∙ e)))
 
-pub short : (run : Run) (asked : Command) → command run.words ≡ Some asked → run.after ProofOut ≡ run.before ProofOut → run.after Out ≡ run.before Out → run.status ≡ OutOfMemory → Core run
-short run asked gives proof out ends = refused run asked gives proof out ends refl (λ e. cc) tt
+pub short : (run : Run) (asked : Command) → command run.words ≡ Some asked → LeftAlone run OutOfMemory → run.status ≡ OutOfMemory → Core run
+short run asked gives alone ends = refused run asked gives alone ends refl (λ e. cc) tt
 
-pub unread : (run : Run) (asked : Command) → command run.words ≡ Some asked → run.after ProofOut ≡ run.before ProofOut → run.after Out ≡ run.before Out
+pub unread : (run : Run) (asked : Command) → command run.words ≡ Some asked → LeftAlone run ReadFault
     → run.status ≡ ReadFault → InputFailed run → (IsTrue run.tells → IsStillOpen run) → Core run
-unread run asked gives proof out ends failed is_open = stopped run asked gives proof out (ap stops ends) (due run ends tt) (λ _. (failed, is_open))
+unread run asked gives alone ends failed is_open = stopped run asked gives (alone_at run ends alone) (ap stops ends) (due run ends tt) (λ _. (failed, is_open))
 
 -- none was taken of a file that was left alone
 pub untouched : (run : Run) (role : Role) → run.after role ≡ run.before role → taken_in run role ≡ []

@@ -9,11 +9,12 @@ use Rattle.lrat_rules.specs.Run.{verdict}
 use Rattle.lrat_rules.specs.declared.outcome.Reason.{Reason}
 use Rattle.lrat_checker.specs.TextVerdict.{max_bytes, text_verdict}
 use Rattle.solver_cli.specs.declared.status.Status.{Status}
-use Rattle.solver_cli.specs.declared.status.Status.TheVariants.{Sat, Unsat, Unknown, Verified, NotVerified, Help, Usage, CnfRefused, OrderRefused, PlanRefused, TooLong, ReadFault, WriteFault, OutOfMemory}
-use Rattle.command_line.specs.Command.{Command, Check, formula_file}
-use Rattle.solver_cli.specs.Headline.{Run, written_in, GivesSolve, Asks, AsksToJudge, IsDue, IsShownRefuted, IsRefuted, Promises}
+use Rattle.solver_cli.specs.declared.status.Status.TheVariants.{Sat, Unsat, Unknown, Verified, NotVerified, Done, Help, Usage, CnfRefused, OrderRefused, PlanRefused, TooLong, ReadFault, WriteFault, OutOfMemory}
+use Rattle.command_line.specs.Command.{Command, Check}
+use Rattle.solver_cli.specs.Answer.{AreGiven, AreOfFiles}
+use Rattle.solver_cli.specs.Headline.{Run, written_in, GivesDecision, GivesSolve, Asks, AsksToJudge, IsDue, IsShownRefuted, IsRefuted, Promises}
 use Rattle.solver_cli.specs.SolveThenCheck.{ChecksSolved, MayEnd}
-use Rattle.solver_cli.proofs.Facts.{one_text, one_proof, two_commands, no_misuse, no_help, same_formula}
+use Rattle.solver_cli.proofs.Facts.{one_text, one_proof, same_command, two_commands, decided_apart, checks_apart, no_misuse, no_help, same_formula}
 use Rattle.solver_cli.proofs.CallsFor.{same_text}
 use Rattle.solver_cli.proofs.Unjudged.{one_verdict}
 
@@ -32,18 +33,21 @@ ends long_text solved run first second asks = by run.status refl where
   problem : Formula
   problem = refuted.problem
 
-  same_command : (a b : Command) → ◌≡◌ {A = Option Command} (Some a) (Some b) → a ≡ b
-  same_command a b e = cc
+  -- the first run decided the formula of its named file
+  of_files : AreOfFiles solved.files asks.solve problem shown.asked.order shown.asked.moves
+  of_files = subst (λ (c : Command). AreGiven solved.files c problem shown.asked.order shown.asked.moves) (same_command shown.asked.by.command asks.solve_asked) shown.asked.by.given
 
   to_judge : AsksToJudge run problem bytes
   to_judge = record {
     task = asks.task;
     asks = record {
       command = asks.check_asked;
+      file = asks.task.file;
+      named = refl;
       read = record {
-        bytes = shown.asked.asks.read.bytes;
-        stands = asks.same_formula ∙ ap (λ (c : Command). solved.files (formula_file c)) (same_command _ _ (sym asks.solve_asked ∙ shown.asked.asks.command)) ∙ shown.asked.asks.read.stands;
-        says = shown.asked.asks.read.says;
+        bytes = of_files.read.bytes;
+        stands = asks.same_formula ∙ of_files.read.stands;
+        says = of_files.read.says;
       };
     };
     stands = asks.same_proof;
@@ -52,9 +56,12 @@ ends long_text solved run first second asks = by run.status refl where
   unsolved : GivesSolve run → ⊥
   unsolved given = two_commands given.1 asks.check_asked
 
+  undecided : GivesDecision run → ⊥
+  undecided given = decided_apart given.1 given.2 asks.check_asked refl
+
   same_verdict : {other : Formula} {text : List ℕ} → AsksToJudge run other text → verdict other.clauses text ≡ verdict problem.clauses bytes
   same_verdict there = ap₂ (λ (p : Formula) (b : List ℕ). verdict p.clauses b)
-      (same_formula there.asks.read.says (ap cnf (one_text run.files there.asks.command to_judge.asks.command there.asks.read.stands to_judge.asks.read.stands) ∙ to_judge.asks.read.says))
+      (same_formula there.asks.read.says (ap cnf (one_text run.files there.asks.command to_judge.asks.command there.asks.named to_judge.asks.named there.asks.read.stands to_judge.asks.read.stands) ∙ to_judge.asks.read.says))
       (one_proof run.files there.asks.command to_judge.asks.command there.stands to_judge.stands)
 
   none_some : {line : ℕ} {reason : Reason} {given : Option (ℕ × Reason)} → given ≡ None → given ≡ Some (line, reason) → ⊥
@@ -75,12 +82,13 @@ ends long_text solved run first second asks = by run.status refl where
     apart e = cc
 
   by : (status : Status) → run.status ≡ status → MayEnd run bytes status
-  by Sat e = unsolved (second.satisfiable e).given
-  by Unsat e = unsolved (second.unsatisfiable e).given
-  by (Unknown why) e = unsolved (second.undecided why e).given
+  by Sat e = undecided (second.satisfiable e).given
+  by Unsat e = undecided (second.unsatisfiable e).given
+  by (Unknown why) e = undecided (second.undecided why e).given
   by Verified e = tt
   by (NotVerified line reason) e = let refused = (second.verdict.not_verified line reason e).1 asks.checked_tells in
       none_some shown.refuted.verified (sym (same_verdict refused.has.asked) ∙ refused.refused)
+  by Done e = checks_apart asks.check_asked (second.made e).1.given
   by Help e = no_help run.words asks.check_asked (due e)
   by Usage e = no_misuse run.words asks.check_asked (due e)
   by (CnfRefused kind line) e = let refused = (due e).1 asks.checked_tells in accepted kind line refused.asks

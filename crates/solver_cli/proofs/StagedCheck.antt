@@ -3,7 +3,7 @@ use Rattle.std.proofs.Common.{◌≡◌, ℕ, Bool, List, ℤ, refl, sym, ◌∙
 use Rattle.std.specs.Prelude.{Result, ⊤, Option}
 use Rattle.cnf_base.specs.Formula.{Formula}
 use Rattle.host_io.specs.declared.role.Role.{Role}
-use Rattle.host_io.specs.declared.role.Role.TheVariants.{Cnf, Order, Schedule, ProofIn, ProofOut, Out}
+use Rattle.host_io.specs.declared.role.Role.TheVariants.{Cnf, Order, Schedule, ProofIn, ProofOut, Made, Out}
 use Rattle.host_io.specs.declared.source.Failed.{Failed}
 use Rattle.host_io.specs.Channel.{Channel}
 use Rattle.host_io.specs.Files.{Files, FilesBut, Others}
@@ -53,6 +53,7 @@ unjudged {problem = problem} {error = error} old taken new before files takes be
       error = error;
       judges = judged_from (beside_taken ProofIn refl) refl (judged_in files before same judges);
       proof = beside_new ProofOut refl ∙ beside_taken ProofOut refl;
+      made = beside_new Made refl ∙ beside_taken Made refl;
       out = beside_new Out refl ∙ beside_taken Out refl;
       ends = ends;
     }))
@@ -71,6 +72,7 @@ judged {problem = problem} {verdict = verdict} {printed = printed} old taken che
       verdict = verdict;
       judges = judged_from (beside_taken ProofIn refl) (beside_new ProofIn refl) (judged_in files before same judges);
       proof = beside_new ProofOut refl ∙ beside_checked ProofOut refl ∙ beside_taken ProofOut refl;
+      made = beside_new Made refl ∙ beside_checked Made refl ∙ beside_taken Made refl;
       printed = printed;
       puts = printed_from (beside_checked Out refl ∙ beside_taken Out refl) puts;
       ends = ends;

@@ -9,14 +9,14 @@ use Rattle.host_io.specs.declared.role.Role.TheVariants.{Cnf, Order, Schedule, P
 use Rattle.lrat_checker.specs.declared.verdict.Verdict.{Verdict}
 use Rattle.cnf_base.specs.Formula.{Formula}
 use Rattle.schedule_plan.specs.declared.plan.Move.{Move}
-use Rattle.term_runner.specs.declared.outcome.Outcome.{Outcome}
+use Rattle.term_runner.specs.declared.outcome.Run.{Run as Ending}
 use Rattle.term_runner.specs.declared.error.RunError.{RunError}
 use Rattle.term_runner.specs.declared.error.RunError.TheVariants as run_error
-use Rattle.command_line.specs.Command.{ToSolve}
+use Rattle.command_line.specs.Command.{ToSolve, ToBench, ToMake}
 use Rattle.solver_cli.specs.declared.status.Status.{Status}
 use Rattle.solver_cli.specs.declared.status.Status.TheVariants.{Usage, ReadFault, WriteFault, OutOfMemory}
 use Rattle.solver_cli.specs.ExitCode.{status_of_error, status_of_order, status_of_plan, status_of_run, status_of_check}
-use Rattle.solver_cli.specs.Stages.{Streams, streams_of, Misused, Helped, Untaken, Unordered, Unplanned, Prepared, Uncreated, Undecided, Answered, Unjudged, Judged, Came, CameToCheck, Stages, status_of_help, status_after, status_of_printed}
+use Rattle.solver_cli.specs.Stages.{Streams, streams_of, Misused, Helped, Untaken, Unordered, Unplanned, NoneRead, Job, Solved, Benched, Unjudged, Judged, Came, CameToAnswer, CameToBench, CameToCheck, CameToMake, Stages, status_of_help, status_after, status_of_printed, status_of_written}
 use Rattle.solver_cli.specs.Headline.{Run, FailuresAreTold, written_in}
 use Rattle.solver_cli.proofs.Facts.{behind, nothing_more}
 use Rattle.solver_cli.proofs.Reading.{ok_err, same_error}
@@ -32,6 +32,7 @@ pub record IsQuiet (old new : Streams) : Type 0 where
   pub schedule : new.schedule.written ≡ old.schedule.written
   pub judged : new.judged.written ≡ old.judged.written
   pub proof : new.proof.written ≡ old.proof.written
+  pub made : new.made.written ≡ old.made.written
   pub out : new.out.written ≡ old.out.written
 
 -- the counts of these streams and their bytes, by how the run ended
@@ -42,6 +43,7 @@ pub record Told (old new : Streams) (status : Status) : Type 0 where
   pub schedule : status ≢ ReadFault → new.schedule.faults ≡ old.schedule.faults
   pub judged : status ≢ ReadFault → new.judged.faults ≡ old.judged.faults
   pub proof : status ≢ WriteFault → new.proof.faults ≡ old.proof.faults
+  pub made : status ≢ WriteFault → new.made.faults ≡ old.made.faults
   pub out : status ≢ WriteFault → new.out.faults ≡ old.out.faults
 
 faults_of : {old new : Channel} → new ≡ old → new.faults ≡ old.faults
@@ -58,9 +60,9 @@ run_read : {status : Status} (error : RunError) → status ≡ status_of_run err
 run_read run_error.OutOfMemory ends e = cc
 run_read run_error.WriteFault ends e = cc
 
-answer_read : {status : Status} (found : Outcome) (printed : Result ⊤ Failed) → status ≡ status_after found printed → status ≡ ReadFault → ⊥
-answer_read {status = status} found (Ok x) ends e = (accepts_answer status found ends).read e
-answer_read found (Err f) ends e = cc
+answer_read : {status : Status} (ending : Ending) (printed : Result ⊤ Failed) → status ≡ status_after ending printed → status ≡ ReadFault → ⊥
+answer_read {status = status} ending (Ok x) ends e = (accepts_answer status ending.outcome ends).read e
+answer_read ending (Err f) ends e = cc
 
 verdict_read : {status : Status} (verdict : Verdict) (printed : Result ⊤ Failed) → status ≡ status_of_printed verdict printed → status ≡ ReadFault → ⊥
 verdict_read {status = status} verdict (Ok x) ends e = (accepts_verdict status verdict ends).read e
@@ -81,23 +83,25 @@ help_ok : (printed : Result ⊤ Failed) → status_of_help printed ≢ WriteFaul
 help_ok (Ok x) differs = refl
 help_ok (Err e) differs = absurd (differs refl)
 
-answer_ok : (found : Outcome) (printed : Result ⊤ Failed) → status_after found printed ≢ WriteFault → IsOk printed
-answer_ok found (Ok x) differs = refl
-answer_ok found (Err e) differs = absurd (differs refl)
+answer_ok : (ending : Ending) (printed : Result ⊤ Failed) → status_after ending printed ≢ WriteFault → IsOk printed
+answer_ok ending (Ok x) differs = refl
+answer_ok ending (Err e) differs = absurd (differs refl)
 
 verdict_ok : (verdict : Verdict) (printed : Result ⊤ Failed) → status_of_printed verdict printed ≢ WriteFault → IsOk printed
 verdict_ok verdict (Ok x) differs = refl
 verdict_ok verdict (Err e) differs = absurd (differs refl)
 
-misused : {words : List (List ℕ)} {old new : Streams} {status : Status} → Misused words old new status → Told old new status
-misused m = record {
-  quiet = λ e. absurd (misused_read m e);
-  cnf = λ _. ap (λ (s : Streams). s.cnf.faults) m.same;
-  order = λ _. ap (λ (s : Streams). s.order.faults) m.same;
-  schedule = λ _. ap (λ (s : Streams). s.schedule.faults) m.same;
-  judged = λ _. ap (λ (s : Streams). s.judged.faults) m.same;
-  proof = λ _. ap (λ (s : Streams). s.proof.faults) m.same;
-  out = λ _. ap (λ (s : Streams). s.out.faults) m.same;
+-- nothing was done at all
+idle : {old new : Streams} {status : Status} → (status ≡ ReadFault → ⊥) → new ≡ old → Told old new status
+idle unread same = record {
+  quiet = λ e. absurd (unread e);
+  cnf = λ _. ap (λ (s : Streams). s.cnf.faults) same;
+  order = λ _. ap (λ (s : Streams). s.order.faults) same;
+  schedule = λ _. ap (λ (s : Streams). s.schedule.faults) same;
+  judged = λ _. ap (λ (s : Streams). s.judged.faults) same;
+  proof = λ _. ap (λ (s : Streams). s.proof.faults) same;
+  made = λ _. ap (λ (s : Streams). s.made.faults) same;
+  out = λ _. ap (λ (s : Streams). s.out.faults) same;
 }
 
 helped : {tells : Bool} {words : List (List ℕ)} {old new : Streams} {status : Status} → Helped tells words old new status → Told old new status
@@ -108,17 +112,19 @@ helped h = record {
   schedule = λ _. faults_of h.schedule;
   judged = λ _. faults_of h.judged;
   proof = λ _. faults_of h.proof;
+  made = λ _. faults_of h.made;
   out = λ differs. h.shows.puts.unfailed (help_ok h.shows.printed (λ e. differs (h.shows.ends ∙ e)));
 }
 
 untaken : {tells : Bool} {old new : Streams} {files : Files} {file : List ℕ} {status : Status} → Untaken tells old new files file status → Told old new status
 untaken u = record {
-  quiet = λ _. record { cnf = u.takes.written; order = written_of u.order; schedule = written_of u.schedule; judged = written_of u.judged; proof = written_of u.proof; out = written_of u.out };
+  quiet = λ _. record { cnf = u.takes.written; order = written_of u.order; schedule = written_of u.schedule; judged = written_of u.judged; proof = written_of u.proof; made = written_of u.made; out = written_of u.out };
   cnf = λ differs. u.takes.unfailed (λ e. differs (u.ends ∙ ap status_of_error (same_error e)));
   order = λ _. faults_of u.order;
   schedule = λ _. faults_of u.schedule;
   judged = λ _. faults_of u.judged;
   proof = λ _. faults_of u.proof;
+  made = λ _. faults_of u.made;
   out = λ _. faults_of u.out;
 }
 
@@ -126,12 +132,13 @@ unordered : {tells : Bool} {old new : Streams} {files : Files} {task : ToSolve} 
 unordered {task = task} u =
     let served = order_served task.order u.orders in
     record {
-      quiet = λ _. record { cnf = u.takes.written; order = served.written; schedule = written_of u.schedule; judged = written_of u.judged; proof = written_of u.proof; out = written_of u.out };
+      quiet = λ _. record { cnf = u.takes.written; order = served.written; schedule = written_of u.schedule; judged = written_of u.judged; proof = written_of u.proof; made = written_of u.made; out = written_of u.out };
       cnf = λ _. u.takes.unfailed (λ e. ok_err e);
       order = λ differs. served.unfailed (λ e. differs (u.ends ∙ ap status_of_order (same_error e)));
       schedule = λ _. faults_of u.schedule;
       judged = λ _. faults_of u.judged;
       proof = λ _. faults_of u.proof;
+  made = λ _. faults_of u.made;
       out = λ _. faults_of u.out;
     }
 
@@ -140,47 +147,96 @@ unplanned {task = task} u =
     let orders = order_served task.order u.orders in
     let plans = plan_served task.plan u.plans in
     record {
-      quiet = λ _. record { cnf = u.takes.written; order = orders.written; schedule = plans.written; judged = written_of u.judged; proof = written_of u.proof; out = written_of u.out };
+      quiet = λ _. record { cnf = u.takes.written; order = orders.written; schedule = plans.written; judged = written_of u.judged; proof = written_of u.proof; made = written_of u.made; out = written_of u.out };
       cnf = λ _. u.takes.unfailed (λ e. ok_err e);
       order = λ _. orders.unfailed (λ e. ok_err e);
       schedule = λ differs. plans.unfailed (λ e. differs (u.ends ∙ ap status_of_plan (same_error e)));
       judged = λ _. faults_of u.judged;
       proof = λ _. faults_of u.proof;
+  made = λ _. faults_of u.made;
       out = λ _. faults_of u.out;
     }
 
--- what was had before the proof's file failed no call
-prepared : {tells : Bool} {old new : Streams} {files : Files} {task : ToSolve} {problem : Formula} {order : List ℕ} {moves : List Move} {status : Status} → Prepared tells old new files task problem order moves
-    → (status ≡ ReadFault → ⊥) → (status ≢ WriteFault → new.proof.faults ≡ old.proof.faults) → (status ≢ WriteFault → new.out.faults ≡ old.out.faults) → Told old new status
-prepared {task = task} p unread proof out = record {
-  quiet = λ e. absurd (unread e);
-  cnf = λ _. p.takes.unfailed (λ e. ok_err e);
-  order = λ _. (order_served task.order p.orders).unfailed (λ e. ok_err e);
-  schedule = λ _. (plan_served task.plan p.plans).unfailed (λ e. ok_err e);
-  judged = λ _. faults_of p.judged;
-  proof = proof;
-  out = out;
+-- the calls of the two streams that an answer is written to
+record AnswerTold (old new old_out out : Channel) (status : Status) : Type 0 where
+  pub unread : status ≡ ReadFault → ⊥
+  pub proof : status ≢ WriteFault → new.faults ≡ old.faults
+  pub out : status ≢ WriteFault → out.faults ≡ old_out.faults
+
+answer_told : {tells : Bool} {old new old_out out : Channel} {problem : Formula} {order : List ℕ} {moves : List Move} {job : Job} {status : Status}
+    → CameToAnswer tells old new old_out out problem order moves job status → AnswerTold old new old_out out status
+answer_told (inl u) = record { unread = no_writing u.ends; proof = λ differs. absurd (differs u.ends); out = λ _. faults_of u.same }
+answer_told (inr (inl u)) = record {
+  unread = run_read u.error u.ends;
+  proof = λ differs. u.writes.unfailed (λ e. differs (u.ends ∙ ap status_of_run (same_error e))) ∙ u.opens.faults.unfailed u.done;
+  out = λ _. faults_of u.same;
+}
+answer_told (inr (inr a)) = record {
+  unread = answer_read a.ending a.printed a.ends;
+  proof = λ _. a.writes.unfailed (λ e. ok_err e) ∙ a.opens.faults.unfailed a.done;
+  out = λ differs. a.puts.unfailed (answer_ok a.ending a.printed (λ e. differs (a.ends ∙ e)));
 }
 
-uncreated : {tells : Bool} {old new : Streams} {files : Files} {task : ToSolve} {status : Status} → Uncreated tells old new files task status → Told old new status
-uncreated u = prepared u.prepared (no_writing u.ends) (λ differs. absurd (differs u.ends)) (λ _. faults_of u.out)
+-- what was had before the proof's file failed no call
+solved : {tells : Bool} {old new : Streams} {files : Files} {task : ToSolve} {status : Status} → Solved tells old new files task status → Told old new status
+solved {task = task} s =
+    let p = s.prepared in
+    let answer = answer_told s.came in
+    record {
+      quiet = λ e. absurd (answer.unread e);
+      cnf = λ _. p.takes.unfailed (λ e. ok_err e);
+      order = λ _. (order_served task.order p.orders).unfailed (λ e. ok_err e);
+      schedule = λ _. (plan_served task.plan p.plans).unfailed (λ e. ok_err e);
+      judged = λ _. faults_of p.judged;
+      proof = answer.proof;
+      made = λ _. faults_of p.made;
+      out = answer.out;
+    }
 
-undecided : {tells : Bool} {old new : Streams} {files : Files} {task : ToSolve} {status : Status} → Undecided tells old new files task status → Told old new status
-undecided u = prepared u.prepared (run_read u.error u.ends) (λ differs. u.writes.unfailed (λ e. differs (u.ends ∙ ap status_of_run (same_error e))) ∙ u.opens.faults.unfailed u.done)
-    (λ _. faults_of u.out)
+benched : {tells : Bool} {old new : Streams} {task : ToBench} {status : Status} → Benched tells old new task status → Told old new status
+benched b =
+    let answer = answer_told b.came in
+    record {
+      quiet = λ e. absurd (answer.unread e);
+      cnf = λ _. faults_of b.none_read.cnf;
+      order = λ _. faults_of b.none_read.order;
+      schedule = λ _. faults_of b.none_read.schedule;
+      judged = λ _. faults_of b.none_read.judged;
+      proof = answer.proof;
+      made = λ _. faults_of b.made;
+      out = answer.out;
+    }
 
-answered : {tells : Bool} {old new : Streams} {files : Files} {task : ToSolve} {status : Status} → Answered tells old new files task status → Told old new status
-answered a = prepared a.prepared (answer_read a.outcome a.printed a.ends) (λ _. a.writes.unfailed (λ e. ok_err e) ∙ a.opens.faults.unfailed a.done)
-    (λ differs. a.puts.unfailed (answer_ok a.outcome a.printed (λ e. differs (a.ends ∙ e))))
+-- only the text's file was called
+only_made : {old new : Streams} {status : Status} → (status ≡ ReadFault → ⊥) → NoneRead old new → new.proof ≡ old.proof → new.out ≡ old.out → (status ≢ WriteFault → new.made.faults ≡ old.made.faults) → Told old new status
+only_made unread none proof out made = record {
+  quiet = λ e. absurd (unread e);
+  cnf = λ _. faults_of none.cnf;
+  order = λ _. faults_of none.order;
+  schedule = λ _. faults_of none.schedule;
+  judged = λ _. faults_of none.judged;
+  proof = λ _. faults_of proof;
+  made = made;
+  out = λ _. faults_of out;
+}
+
+written_read : {status : Status} (written : Result ⊤ Failed) → status ≡ status_of_written written → status ≡ ReadFault → ⊥
+written_read (Ok x) ends e = cc
+written_read (Err f) ends e = cc
+
+written_ok : (written : Result ⊤ Failed) → status_of_written written ≢ WriteFault → IsOk written
+written_ok (Ok x) differs = refl
+written_ok (Err e) differs = absurd (differs refl)
 
 unjudged : {tells : Bool} {old new : Streams} {files : Files} {file proof : List ℕ} {status : Status} → Unjudged tells old new files file proof status → Told old new status
 unjudged u = record {
-  quiet = λ _. record { cnf = u.takes.written; order = written_of u.order; schedule = written_of u.schedule; judged = u.judges.written; proof = written_of u.proof; out = written_of u.out };
+  quiet = λ _. record { cnf = u.takes.written; order = written_of u.order; schedule = written_of u.schedule; judged = u.judges.written; proof = written_of u.proof; made = written_of u.made; out = written_of u.out };
   cnf = λ _. u.takes.unfailed (λ e. ok_err e);
   order = λ _. faults_of u.order;
   schedule = λ _. faults_of u.schedule;
   judged = λ differs. u.judges.unfailed (λ e. differs (u.ends ∙ ap status_of_check (same_error e)));
   proof = λ _. faults_of u.proof;
+  made = λ _. faults_of u.made;
   out = λ _. faults_of u.out;
 }
 
@@ -192,6 +248,7 @@ judged j = record {
   schedule = λ _. faults_of j.schedule;
   judged = λ _. j.judges.unfailed (λ e. cc);
   proof = λ _. faults_of j.proof;
+  made = λ _. faults_of j.made;
   out = λ differs. j.puts.unfailed (verdict_ok j.verdict j.printed (λ e. differs (j.ends ∙ e)));
 }
 
@@ -199,23 +256,32 @@ came : {tells : Bool} {old new : Streams} {files : Files} {task : ToSolve} {stat
 came (inl u) = untaken u
 came (inr (inl u)) = unordered u
 came (inr (inr (inl u))) = unplanned u
-came (inr (inr (inr (inl u)))) = uncreated u
-came (inr (inr (inr (inr (inl u))))) = undecided u
-came (inr (inr (inr (inr (inr a))))) = answered a
+came (inr (inr (inr s))) = solved s
 
 came_to_check : {tells : Bool} {old new : Streams} {files : Files} {file proof : List ℕ} {status : Status} → CameToCheck tells old new files file proof status → Told old new status
 came_to_check (inl u) = untaken u
 came_to_check (inr (inl u)) = unjudged u
 came_to_check (inr (inr j)) = judged j
 
+came_to_bench : {tells : Bool} {old new : Streams} {task : ToBench} {status : Status} → CameToBench tells old new task status → Told old new status
+came_to_bench (inl u) = idle (no_memory u.ends) u.same
+came_to_bench (inr b) = benched b
+
+came_to_make : {tells : Bool} {old new : Streams} {task : ToMake} {status : Status} → CameToMake tells old new task status → Told old new status
+came_to_make (inl u) = idle (no_memory u.ends) u.same
+came_to_make (inr (inl u)) = only_made (no_writing u.ends) u.none_read u.proof u.out (λ differs. absurd (differs u.ends))
+came_to_make (inr (inr w)) = only_made (written_read w.written w.ends) w.none_read w.proof w.out (λ differs. w.puts.unfailed (written_ok w.written (λ e. differs (w.ends ∙ e))) ∙ w.opens.faults.unfailed w.done)
+
 pub told : {tells : Bool} {words : List (List ℕ)} {old new : Streams} {files : Files} {status : Status} → Stages tells words old new files status → Told old new status
-told (inl m) = misused m
+told (inl m) = idle (misused_read m) m.same
 told (inr (inl h)) = helped h
 told (inr (inr (inl t))) = came t.came
-told (inr (inr (inr c))) = came_to_check c.came
+told (inr (inr (inr (inl c)))) = came_to_check c.came
+told (inr (inr (inr (inr (inl b))))) = came_to_bench b.came
+told (inr (inr (inr (inr (inr m))))) = came_to_make m.came
 
-pub failures : (run : Run) → Told (streams_of run.before) (streams_of run.after) run.status → run.after Made ≡ run.before Made → FailuresAreTold run
-failures run counts made = record { read = read; write = write } where
+pub failures : (run : Run) → Told (streams_of run.before) (streams_of run.after) run.status → FailuresAreTold run
+failures run counts = record { read = read; write = write } where
   read : run.status ≢ ReadFault → (role : Role) → IsInput role → (run.after role).faults ≡ (run.before role).faults
   read differs Cnf is = counts.cnf differs
   read differs Order is = counts.order differs
@@ -236,13 +302,13 @@ failures run counts made = record { read = read; write = write } where
   write differs ProofIn (inl is) = absurd is
   write differs ProofIn (inr is) = cc
   write differs ProofOut is = counts.proof differs
-  write differs Made is = faults_of made
+  write differs Made is = counts.made differs
   write differs Out is = counts.out differs
   write differs ErrRole (inl is) = absurd is
   write differs ErrRole (inr is) = cc
 
-pub quiet : (run : Run) → Told (streams_of run.before) (streams_of run.after) run.status → run.after Made ≡ run.before Made → QuietAtFaults run
-quiet run counts made fault t = each where
+pub quiet : (run : Run) → Told (streams_of run.before) (streams_of run.after) run.status → QuietAtFaults run
+quiet run counts fault t = each where
   none : (role : Role) → (run.after role).written ≡ (run.before role).written → written_in run role ≡ []
   none role same = behind (run.before role) (run.after role) [] (nothing_more (run.before role) (run.after role) same)
 
@@ -252,6 +318,6 @@ quiet run counts made fault t = each where
   each Schedule other = none Schedule (counts.quiet fault).schedule
   each ProofIn other = none ProofIn (counts.quiet fault).judged
   each ProofOut other = none ProofOut (counts.quiet fault).proof
-  each Made other = none Made (written_of made)
+  each Made other = none Made (counts.quiet fault).made
   each Out other = none Out (counts.quiet fault).out
   each ErrRole other = absurd (other refl)

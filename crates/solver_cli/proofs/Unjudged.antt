@@ -14,15 +14,16 @@ use Rattle.lrat_checker.specs.declared.verdict.Verdict.TheVariants as judgement
 use Rattle.lrat_checker.specs.declared.verdict.CheckError.{CheckError}
 use Rattle.lrat_checker.specs.declared.verdict.CheckError.TheVariants as error
 use Rattle.solver_cli.specs.declared.status.Status.{Status}
-use Rattle.solver_cli.specs.declared.status.Status.TheVariants.{OutOfMemory}
+use Rattle.solver_cli.specs.declared.status.Status.TheVariants.{TooLong, ReadFault, OutOfMemory}
 use Rattle.command_line.specs.Command.{ToCheck, Check, command}
 use Rattle.solver_cli.specs.ExitCode.{status_of_check}
 use Rattle.solver_cli.specs.Verdict.{status_of_verdict}
 use Rattle.solver_cli.specs.Phases.{JudgesText, JudgesProof}
 use Rattle.solver_cli.specs.Stages.{streams_of, Unjudged}
 use Rattle.solver_cli.specs.Headline.{Run, taken_in, IsUnharmed, Asks, AsksToJudge, HasVerdict, IsLongProof, IsOpenProof, CallsFor, IsComplete}
-use Rattle.solver_cli.proofs.Facts.{one_text, one_proof, not_unasked, two_commands, only_misuse, only_help, same_formula}
-use Rattle.solver_cli.proofs.Promised.{Core, refused, short, unread}
+use Rattle.solver_cli.proofs.Facts.{one_text, one_proof, not_unasked, checks_apart, decided_apart, only_misuse, only_help, same_formula}
+use Rattle.solver_cli.proofs.Promised.{Core, LeftAlone, refused, short, unread}
+use Rattle.solver_cli.proofs.Deciding.{deciding}
 use Rattle.solver_cli.proofs.Untaken.{took}
 
 -- that bytes which refute a formula leave it no satisfying assignment
@@ -41,7 +42,7 @@ pub record Laws : Type 0 where
 pub one_verdict : (run : Run) {problem other : Formula} {bytes text : List ℕ} → AsksToJudge run problem bytes → AsksToJudge run other text
     → text_verdict problem.clauses bytes ≡ text_verdict other.clauses text
 one_verdict run here there = ap₂ (λ (p : Formula) (b : List ℕ). text_verdict p.clauses b)
-    (same_formula here.asks.read.says (ap cnf (one_text run.files here.asks.command there.asks.command here.asks.read.stands there.asks.read.stands) ∙ there.asks.read.says))
+    (same_formula here.asks.read.says (ap cnf (one_text run.files here.asks.command there.asks.command here.asks.named there.asks.named here.asks.read.stands there.asks.read.stands) ∙ there.asks.read.says))
     (one_proof run.files here.asks.command there.asks.command here.stands there.stands)
 
 pub one_some : {text : Option Verdict} (here there : Verdict) → text ≡ Some here → text ≡ Some there → here ≡ there
@@ -58,8 +59,9 @@ check_complete run task gives uncalled judges = record {
   misused = λ only. absurd (only_misuse run.words gives only);
   helped = λ only _. absurd (only_help run.words gives only);
   unasked = λ none _. absurd (not_unasked gives none);
-  answers = λ other asks. absurd (two_commands asks.asks.command gives);
+  answers = λ other asks. let given = deciding run other asks in absurd (decided_apart given.1 given.2 gives refl);
   judges = judges;
+  makes = λ given. absurd (checks_apart gives given.1);
   refuses = λ status calls t unfailed. absurd (uncalled t status calls);
 }
 
@@ -67,16 +69,19 @@ check_complete run task gives uncalled judges = record {
 pub unjudged : Laws → (run : Run) (task : ToCheck) → command run.words ≡ Some (Check task) → Unjudged run.tells (streams_of run.before) (streams_of run.after) run.files task.file task.proof run.status → Core run
 unjudged laws run task asked u = go u.error u.judges u.ends where
   read : IsTrue run.tells → Asks run (Check task) (formula u.problem)
-  read = took run (Check task) u.problem asked u.takes
+  read = took run (Check task) task.file u.problem asked refl u.takes
+
+  alone : (status : Status) → LeftAlone run status
+  alone status = record { proof = u.proof; made = u.made; out = u.out; makes = λ make. absurd (checks_apart asked make.1) }
 
   to_judge : {result : Result Verdict CheckError} → IsTrue run.tells → (text : JudgesText run.files task.proof u.problem.clauses (taken_in run ProofIn) result) → AsksToJudge run u.problem text.bytes
   to_judge t text = record { task = task; asks = read t; stands = text.stands }
 
   go : (e : CheckError) → JudgesProof run.tells (run.before ProofIn) (run.after ProofIn) run.files task.proof u.problem.clauses (Err e) → run.status ≡ status_of_check e → Core run
-  go error.ReadFault judges ends = unread run (Check task) asked u.proof u.out ends (ProofIn, tt, judges.fault refl) (λ t. inr (inr (inr (open_proof t)))) where
+  go error.ReadFault judges ends = unread run (Check task) asked (alone ReadFault) ends (ProofIn, tt, judges.fault refl) (λ t. inr (inr (inr (open_proof t)))) where
     open_proof : IsTrue run.tells → IsOpenProof run
     open_proof t = record { task = task; problem = u.problem; asks = read t; failed = judges.fault refl; undecided = judges.undecided t refl }
-  go error.TooLong judges ends = refused run (Check task) asked u.proof u.out ends refl (λ e. cc) ((task, asked), is_long) where
+  go error.TooLong judges ends = refused run (Check task) asked (alone (TooLong ProofIn)) ends refl (λ e. cc) ((task, asked), is_long) where
     no_fault : ◌≡◌ {A = Result Verdict CheckError} (Err error.TooLong) (Err error.ReadFault) → ⊥
     no_fault e = cc
 
@@ -92,4 +97,4 @@ unjudged laws run task asked u = go u.error u.judges u.ends where
       decided = text.decided;
       long = laws.overlong u.problem.clauses (taken_in run ProofIn) text.decided;
     }
-  go error.OutOfMemory judges ends = short run (Check task) asked u.proof u.out ends
+  go error.OutOfMemory judges ends = short run (Check task) asked (alone OutOfMemory) ends

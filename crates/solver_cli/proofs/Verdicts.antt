@@ -13,7 +13,7 @@ use Rattle.lrat_checker.specs.declared.verdict.Verdict.TheVariants as judgement
 use Rattle.lrat_checker.specs.declared.verdict.CheckError.{CheckError}
 use Rattle.lrat_checker.specs.declared.verdict.CheckError.TheVariants as error
 use Rattle.solver_cli.specs.declared.status.Status.{Status}
-use Rattle.solver_cli.specs.declared.status.Status.TheVariants.{Sat, Unsat, Unknown, Verified, NotVerified, WriteFault}
+use Rattle.solver_cli.specs.declared.status.Status.TheVariants.{Sat, Unsat, Unknown, Verified, NotVerified, Done, WriteFault}
 use Rattle.solver_cli.specs.declared.status.Why.{Why}
 use Rattle.command_line.specs.Command.{ToCheck, Check, command}
 use Rattle.solver_cli.specs.ErrorText.{is_answer}
@@ -23,7 +23,7 @@ use Rattle.solver_cli.specs.Stages.{streams_of, Judged, status_of_printed}
 use Rattle.solver_cli.specs.Headline.{Run, written_in, taken_in, OutputFailed, Asks, HasVerdict, RefusalsAreDue, CallsFor, VerdictOn, IsTrueAnswer}
 use Rattle.solver_cli.proofs.Facts.{behind, grown_by, no_answer}
 use Rattle.solver_cli.proofs.CallsFor.{no_call_judged}
-use Rattle.solver_cli.proofs.Promised.{Core, due, no_proof, no_verdict, none_written}
+use Rattle.solver_cli.proofs.Promised.{Core, due, no_proof, no_text, no_verdict, none_written}
 use Rattle.solver_cli.proofs.Untaken.{took}
 use Rattle.solver_cli.proofs.Accepted.{Accepts, accepts_write}
 use Rattle.solver_cli.proofs.Unjudged.{Laws, one_verdict, one_some, check_complete}
@@ -39,17 +39,18 @@ no_write judgement.Verified e = cc
 no_write (judgement.Refused line reason) e = cc
 
 pub accepts_verdict : (status : Status) (judged : Verdict) → status ≡ status_of_verdict judged → Accepts status
-accepts_verdict status judgement.Verified is = record { help = λ e. cc; read = λ e. cc }
-accepts_verdict status (judgement.Refused line reason) is = record { help = λ e. cc; read = λ e. cc }
+accepts_verdict status judgement.Verified is = record { help = λ e. cc; read = λ e. cc; done = λ e. cc }
+accepts_verdict status (judgement.Refused line reason) is = record { help = λ e. cc; read = λ e. cc; done = λ e. cc }
 
 record Undecided (status : Status) : Type 0 where
   pub unsat : status ≡ Unsat → ⊥
+  pub done : status ≡ Done → ⊥
   pub sat : status ≡ Sat → ⊥
   pub unknown : (why : Why) → status ≡ Unknown why → ⊥
 
 undecided_by : (status : Status) (judged : Verdict) → status ≡ status_of_verdict judged → Undecided status
-undecided_by status judgement.Verified is = record { unsat = λ e. cc; sat = λ e. cc; unknown = λ why e. cc }
-undecided_by status (judgement.Refused line reason) is = record { unsat = λ e. cc; sat = λ e. cc; unknown = λ why e. cc }
+undecided_by status judgement.Verified is = record { unsat = λ e. cc; done = λ e. cc; sat = λ e. cc; unknown = λ why e. cc }
+undecided_by status (judgement.Refused line reason) is = record { unsat = λ e. cc; done = λ e. cc; sat = λ e. cc; unknown = λ why e. cc }
 
 is_verified : (judged : Verdict) → status_of_verdict judged ≡ Verified → judged ≡ judgement.Verified
 is_verified judgement.Verified e = refl
@@ -73,7 +74,7 @@ judged laws run task asked j = go j.printed j.puts j.ends where
   text = verdict_text j.verdict
 
   read : IsTrue run.tells → Asks run (Check task) (formula j.problem)
-  read = took run (Check task) j.problem asked j.takes
+  read = took run (Check task) task.file j.problem asked refl j.takes
 
   no_fault : (v : Verdict) → ◌≡◌ {A = Result Verdict CheckError} (Ok v) (Err error.ReadFault) → ⊥
   no_fault v e = cc
@@ -142,6 +143,8 @@ judged laws run task asked j = go j.printed j.puts j.ends where
                 },
           );
         };
+        made = λ e. absurd (undecided.done e);
+        made_file = no_text run j.made;
         refusals = verdict_due run j.verdict ends;
         faults = λ quiet. record {
           read = λ e. absurd (accepts.read e);
@@ -173,13 +176,15 @@ judged laws run task asked j = go j.printed j.puts j.ends where
         satisfiable = λ d. absurd (no_answer unanswered refl d);
         undecided = λ why d. absurd (no_answer unanswered refl d);
         verdict = no_verdict run unanswered;
+        made = λ d. absurd (accepts.done d);
+        made_file = no_text run j.made;
         refusals = due run ends tt;
         faults = λ quiet. record {
           read = λ d. absurd (accepts.read d);
           undecided = λ d. absurd (accepts.read d);
           quiet = quiet;
           write = λ d. failure;
-          accepted = λ d. inr ((Check task, asked), λ t. inr (j.problem, (judged_text t).bytes, j.verdict, has t));
+          accepted = λ d. inr ((Check task, asked), λ t. inr (inl (j.problem, (judged_text t).bytes, j.verdict, has t)));
         };
         output = record {
           grows = grows (Err e) puts;

@@ -1,7 +1,11 @@
--- The answers of `solve`: how a formula is decided, when an outcome holds, and its text on standard output.
-use Rattle.std.specs.Prelude.{◌≡◌, ℕ, List, Option, None, Some, length}
+-- The answers of `solve` and `bench`: how a formula is decided, when an outcome holds, and its text on standard output.
+use Rattle.std.specs.Prelude.{◌≡◌, ◌++◌, ℕ, ℤ, List, [], Option, None, Some, length, IsTrue}
 use Rattle.cnf_base.specs.Formula.{Formula}
+use Rattle.cnf_base.specs.ProofText.{proof_lines}
 use Rattle.host_io.specs.Files.{Files}
+use Rattle.dimacs_reader.specs.Cnf.{cnf, formula}
+use Rattle.lrat_rules.specs.State.{start}
+use Rattle.lrat_rules.specs.Run.{Judged, Reached, Stopped, run as run_lines}
 use Rattle.cnf_base.specs.Order.{natural}
 use Rattle.schedule_plan.specs.OrderText.{order_text, order as given_order}
 use Rattle.schedule_plan.specs.ScheduleText.{schedule, plan as given_plan}
@@ -12,10 +16,14 @@ use Rattle.schedule_plan.specs.declared.limits.Limits.{Limits}
 use Rattle.term_runner.specs.declared.outcome.Outcome.{Outcome}
 use Rattle.term_runner.specs.declared.outcome.Outcome.TheVariants as outcome
 use Rattle.term_runner.specs.Ends.{Says, Shows}
-use Rattle.answer_text.specs.Status.{sat_text, unsat_line, node_limit_text, id_limit_text}
-use Rattle.command_line.specs.Command.{Command, ToSolve, Planned, ByName, ByFile, limits_asked}
+use Rattle.term_runner.specs.declared.outcome.Run.{Run as Ending}
+use Rattle.workload.specs.Board.{board_formula, column_order}
+use Rattle.workload.specs.Schedule.{board_moves}
+use Rattle.answer_text.specs.Status.{sat_text, unsat_line, node_limit_text, id_limit_text, board_line, last_line}
+use Rattle.command_line.specs.Command.{Command, ToSolve, ToBench, Solve, Check, Bench, Make, Planned, ByName, ByFile, limits_asked}
 use Rattle.command_line.specs.declared.plan.PlanName.{PlanName}
 use Rattle.command_line.specs.declared.plan.PlanName.TheVariants.{Bucket, Conjoin}
+use Rattle.solver_cli.specs.declared.answer.Shape.{Shape}
 use Rattle.solver_cli.specs.declared.status.Why.{Why}
 use Rattle.solver_cli.specs.declared.status.Why.TheVariants.{NodeLimit, IdLimit}
 use Rattle.solver_cli.specs.declared.status.Status.{Status}
@@ -42,10 +50,24 @@ abbrev pub IsPlanned : Files → Planned → Formula → List ℕ → List Move 
 IsPlanned files (ByName name) problem order moves = moves ≡ moves_of_plan name problem order
 IsPlanned files (ByFile file) problem order moves = IsRead files file (schedule problem) (given_plan moves)
 
--- The words and the texts give this order of the formula's variables and these moves.
-pub record IsScheduled (files : Files) (task : ToSolve) (problem : Formula) (order : List ℕ) (moves : List Move) : Type 0 where
+-- The files that are named give this formula, this order of its variables and these moves.
+pub record AreOfFiles (files : Files) (task : ToSolve) (problem : Formula) (order : List ℕ) (moves : List Move) : Type 0 where
+  pub read : IsRead files task.file cnf (formula problem)
   pub ordered : IsOrdered files task.order problem order
   pub planned : IsPlanned files task.plan problem order moves
+
+-- They are those of the board of so many squares a side: its formula, its column order and its column schedule.
+pub record AreOfBoard (size : ℕ) (problem : Formula) (order : List ℕ) (moves : List Move) : Type 0 where
+  pub formula : problem ≡ board_formula size
+  pub order : order ≡ column_order size
+  pub moves : moves ≡ board_moves size
+
+-- a command gives a formula to decide, the order of its variables and the moves
+abbrev pub AreGiven : Files → Command → Formula → List ℕ → List Move → Type 0
+AreGiven files (Solve task) problem order moves = AreOfFiles files task problem order moves
+AreGiven files (Check task) problem order moves = ⊥
+AreGiven files (Bench task) problem order moves = AreOfBoard task.size problem order moves
+AreGiven files (Make task) problem order moves = ⊥
 
 -- the outcome is true of the formula, and the proof that was written shows it
 pub record Holds (limits : Limits) (problem : Formula) (order : List ℕ) (moves : List Move) (bytes : List ℕ) (found : Outcome) : Type 0 where
@@ -59,9 +81,45 @@ outcome_text limits outcome.Unsat = unsat_line
 outcome_text limits outcome.NodeLimit = node_limit_text limits.max_nodes
 outcome_text limits outcome.IdLimit = id_limit_text limits.max_ids
 
--- what is printed for it on standard output, for what the words ask, the formula and the proof
+-- The greatest identifier of a proof over the clauses, which its bytes lead to: that of the last clause where they add none.
+abbrev pub greatest_in : Judged → ℕ
+greatest_in (Reached state) = state.top
+greatest_in (Stopped line reason) = 0
+
+abbrev pub last_identifier : List (List ℤ) → List ℕ → ℕ
+last_identifier clauses bytes = greatest_in (run_lines (start clauses) (proof_lines bytes))
+
+-- how large the board is that was decided, if it was one
+abbrev pub shape_of : ℕ → Formula → Shape
+shape_of size problem = record { size = size; vars = problem.vars; clauses = length problem.clauses }
+
+abbrev pub shape_asked : Option Command → Formula → Option Shape
+shape_asked (Some (Bench task)) problem = Some (shape_of task.size problem)
+shape_asked _ problem = None
+
+-- the lines before a board's answer: how large it is, and the last identifier of a refutation
+abbrev pub last_text : Ending → List ℕ
+last_text ending = if_refuted ending.outcome where
+  if_refuted : Outcome → List ℕ
+  if_refuted outcome.Unsat = last_line ending.last_id
+  if_refuted _ = []
+
+abbrev pub heading : Option Shape → Ending → List ℕ
+heading None ending = []
+heading (Some shape) ending = board_line shape.size shape.vars shape.clauses ++ last_text ending
+
+-- the text of an ending: the outcome's, behind the heading of a board
+abbrev pub ending_text : Option Shape → Limits → Ending → List ℕ
+ending_text shape limits ending = heading shape ending ++ outcome_text limits ending.outcome
+
+-- an outcome with the last identifier of the proof's bytes
+abbrev pub with_last : List (List ℤ) → List ℕ → Outcome → Ending
+with_last clauses bytes found = record { outcome = found; last_id = last_identifier clauses bytes }
+
+-- what is printed for it on standard output, for what the words ask, the formula and the proof's bytes
 abbrev pub answer_text : Option Command → Formula → List ℕ → Outcome → List ℕ
-answer_text asked problem bytes found = outcome_text (limits_asked asked) found
+answer_text asked problem bytes found =
+    ending_text (shape_asked asked problem) (limits_asked asked) (with_last problem.clauses bytes found)
 
 -- the status of a run that printed it
 abbrev pub status_of : Outcome → Status

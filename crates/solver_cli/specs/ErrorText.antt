@@ -9,7 +9,7 @@ use Rattle.schedule_plan.specs.declared.order_error.OrderKind.TheVariants.{BadNu
 use Rattle.schedule_plan.specs.declared.schedule.error.PlanKind.{PlanKind}
 use Rattle.schedule_plan.specs.declared.schedule.error.PlanKind.TheVariants.{Syntax, ClauseRange, ClauseTwice, StackShort, VariableRange, VariableInUse, ClauseUnused, TermsLeft}
 use Rattle.solver_cli.specs.declared.status.Status.{Status}
-use Rattle.solver_cli.specs.declared.status.Status.TheVariants.{Sat, Unsat, Unknown, Verified, NotVerified, Help, Usage, CnfRefused, OrderRefused, PlanRefused, TooLong, ReadFault, WriteFault, OutOfMemory}
+use Rattle.solver_cli.specs.declared.status.Status.TheVariants.{Sat, Unsat, Unknown, Verified, NotVerified, Done, Help, Usage, CnfRefused, OrderRefused, PlanRefused, TooLong, ReadFault, WriteFault, OutOfMemory}
 
 abbrev pub kind_name : CnfKind → List ℕ
 kind_name NoHeader = codes "NoHeader"
@@ -52,13 +52,14 @@ role_word Err = codes "err"
 abbrev pub refused_line : Role → ℕ → List ℕ → List ℕ
 refused_line role line kind = codes "error: " ++ role_word role ++ codes " line " ++ decimal line ++ codes ": " ++ kind ++ codes "\n"
 
--- the text that a status puts there: nothing for an answer and for help
+-- the text that a status puts there: nothing for an answer, for a text that was made and for help
 abbrev pub error_text : Status → List ℕ
 error_text Sat = []
 error_text Unsat = []
 error_text (Unknown why) = []
 error_text Verified = []
 error_text (NotVerified line reason) = []
+error_text Done = []
 error_text Help = []
 error_text Usage = codes "error: bad usage\n"
 error_text (CnfRefused kind line) = refused_line Cnf line (kind_name kind)
@@ -76,6 +77,7 @@ is_answer Unsat = true
 is_answer (Unknown why) = true
 is_answer Verified = true
 is_answer (NotVerified line reason) = true
+is_answer Done = false
 is_answer Help = false
 is_answer Usage = false
 is_answer (CnfRefused kind line) = false

@@ -13,7 +13,7 @@ use Rattle.schedule_plan.specs.declared.schedule.error.PlanError.TheVariants.{Re
 use Rattle.term_runner.specs.declared.error.RunError.{RunError}
 use Rattle.term_runner.specs.declared.error.RunError.TheVariants.{OutOfMemory as RunOutOfMemory, WriteFault as RunWriteFault}
 use Rattle.solver_cli.specs.declared.status.Status.{Status}
-use Rattle.solver_cli.specs.declared.status.Status.TheVariants.{Sat, Unsat, Unknown, Verified, NotVerified, Help, Usage, CnfRefused, OrderRefused, PlanRefused, TooLong, ReadFault, WriteFault, OutOfMemory}
+use Rattle.solver_cli.specs.declared.status.Status.TheVariants.{Sat, Unsat, Unknown, Verified, NotVerified, Done, Help, Usage, CnfRefused, OrderRefused, PlanRefused, TooLong, ReadFault, WriteFault, OutOfMemory}
 
 abbrev pub exit_code : Status → ℕ
 exit_code Sat = 10
@@ -21,6 +21,7 @@ exit_code Unsat = 20
 exit_code (Unknown why) = 0
 exit_code Verified = 0
 exit_code (NotVerified line reason) = 1
+exit_code Done = 0
 exit_code Help = 0
 exit_code Usage = 6
 exit_code (CnfRefused kind line) = 2

@@ -6,7 +6,7 @@ use Rattle.cnf_base.specs.Formula.{Formula}
 use Rattle.host_io.specs.declared.role.Role.{Role}
 use Rattle.host_io.specs.declared.role.Role.TheVariants.{Cnf, Order, Schedule, ProofIn, ProofOut, Made, Out, Err}
 use Rattle.host_io.specs.Channel.{Channel, Rose}
-use Rattle.host_io.specs.Files.{Files, FilesBut, IsInput, IsCreated}
+use Rattle.host_io.specs.Files.{Files, IsInput, IsCreated}
 use Rattle.dimacs_reader.specs.Cnf.{CnfText, formula, refusal, overlong, cnf, cnf_so_far}
 use Rattle.lrat_rules.specs.Run.{Refutes, verdict}
 use Rattle.lrat_rules.specs.declared.outcome.Reason.{Reason}
@@ -18,17 +18,19 @@ use Rattle.schedule_plan.specs.ScheduleText.{ScheduleText, refusal as schedule_r
 use Rattle.schedule_plan.specs.declared.plan.Move.{Move}
 use Rattle.schedule_plan.specs.declared.limits.Limits.{Limits}
 use Rattle.term_runner.specs.declared.outcome.Outcome.{Outcome}
+use Rattle.term_runner.specs.declared.outcome.Outcome.TheVariants as outcome
 use Rattle.term_runner.specs.Clauses.{has_empty_clause, one_line}
 use Rattle.term_runner.specs.Proofs.{AreUnsatisfiable, IsProof, IsProofSoFar}
 use Rattle.term_runner.specs.Ends.{Says, Shows}
 use Rattle.term_runner.specs.Recovered.{IsRecovered}
-use Rattle.answer_text.specs.Status.{sat_text, unsat_line, verified_line, refused_text}
-use Rattle.command_line.specs.Command.{Command, ToSolve, ToCheck, Solve, Check, Planned, ByName, ByFile, formula_file, AsksHelp, Misuse, MayMean, CanOnlyMean, command, limits_asked}
+use Rattle.answer_text.specs.Status.{verified_line, refused_text}
+use Rattle.command_line.specs.Command.{Command, ToSolve, ToCheck, ToMake, Solve, Check, Bench, Make, Planned, ByName, ByFile, formula_file, AsksHelp, Misuse, MayMean, CanOnlyMean, command, limits_asked}
 use Rattle.solver_cli.specs.declared.status.Why.{Why}
 use Rattle.solver_cli.specs.declared.status.Status.{Status}
-use Rattle.solver_cli.specs.declared.status.Status.TheVariants.{Sat, Unsat, Unknown, Verified, NotVerified, Help, Usage, CnfRefused, OrderRefused, PlanRefused, TooLong, ReadFault, WriteFault, OutOfMemory}
+use Rattle.solver_cli.specs.declared.status.Status.TheVariants.{Sat, Unsat, Unknown, Verified, NotVerified, Done, Help, Usage, CnfRefused, OrderRefused, PlanRefused, TooLong, ReadFault, WriteFault, OutOfMemory}
 use Rattle.solver_cli.specs.ErrorText.{error_text, is_answer}
-use Rattle.solver_cli.specs.Answer.{IsRead, IsOrdered, IsScheduled, Holds, answer_text, outcome_at, outcome_text, status_of}
+use Rattle.solver_cli.specs.Answer.{AreGiven, IsRead, IsOrdered, Holds, answer_text, outcome_at, status_of}
+use Rattle.solver_cli.specs.MadeText.{made_text}
 use Rattle.solver_cli.specs.Verdict.{verdict_text, status_of_verdict}
 
 -- One run of the program: whether the host tells its bytes, the words, the roles and the files before, the roles
@@ -68,7 +70,7 @@ OutputFailed run = (role : Role) × (IsCreated role ⊎ (role ≡ Out)) × HasFa
 abbrev pub IsUnharmed : Run → Type 0
 IsUnharmed run = (InputFailed run → ⊥) × (OutputFailed run → ⊥)
 
--- the words give a command; they give `solve`; they give `check`
+-- the words give a command; they give `solve`; they give `check`; they give `make`
 abbrev pub GivesCommand : Run → Type 0
 GivesCommand run = (asked : Command) × (command run.words ≡ Some asked)
 
@@ -78,10 +80,25 @@ GivesSolve run = (task : ToSolve) × (command run.words ≡ Some (Solve task))
 abbrev pub GivesCheck : Run → Type 0
 GivesCheck run = (task : ToCheck) × (command run.words ≡ Some (Check task))
 
+abbrev pub GivesMake : Run → Type 0
+GivesMake run = (task : ToMake) × (command run.words ≡ Some (Make task))
+
+-- they give `solve` or `bench`, which decide a formula
+abbrev pub decides : Command → Bool
+decides (Solve task) = true
+decides (Check task) = false
+decides (Bench task) = true
+decides (Make task) = false
+
+abbrev pub GivesDecision : Run → Type 0
+GivesDecision run = (asked : Command) × (command run.words ≡ Some asked) × IsTrue (decides asked)
+
 -- the words ask for this command, and the text of its formula's file says this
 pub record Asks (run : Run) (asked : Command) (text : CnfText) : Type 0 where
   pub command : command run.words ≡ Some asked
-  pub read : IsRead run.files (formula_file asked) cnf text
+  pub file : List ℕ
+  pub named : formula_file asked ≡ Some file
+  pub read : IsRead run.files file cnf text
 
 -- They ask to decide this formula by an order that stands in a file, whose text says this.
 pub record AsksByOrder (run : Run) (problem : Formula) (text : OrderText) : Type 0 where
@@ -101,13 +118,18 @@ pub record AsksBySchedule (run : Run) (problem : Formula) (text : ScheduleText) 
   pub named : task.plan ≡ ByFile file
   pub read : IsRead run.files file (schedule problem) text
 
--- they ask to decide this formula; the words and the texts give the order of its variables, and the moves
+-- They ask to decide this formula by this order of its variables and these moves: those of the files that are named, or
+-- those of a board.
+pub record AsksBy (run : Run) (problem : Formula) (order : List ℕ) (moves : List Move) : Type 0 where
+  pub asked : Command
+  pub command : command run.words ≡ Some asked
+  pub given : AreGiven run.files asked problem order moves
+
+-- they ask to decide this formula
 pub record AsksFor (run : Run) (problem : Formula) : Type 0 where
-  pub task : ToSolve
-  pub asks : Asks run (Solve task) (formula problem)
   pub order : List ℕ
   pub moves : List Move
-  pub scheduled : IsScheduled run.files task problem order moves
+  pub by : AsksBy run problem order moves
 
 -- they ask to judge this proof over this formula
 pub record AsksToJudge (run : Run) (problem : Formula) (bytes : List ℕ) : Type 0 where
@@ -120,16 +142,20 @@ pub record HasVerdict (run : Run) (problem : Formula) (bytes : List ℕ) (verdic
   pub asked : AsksToJudge run problem bytes
   pub judged : text_verdict problem.clauses bytes ≡ Some verdict
 
--- Unsatisfiable: the words give `solve`, and no assignment satisfies the formula's clauses. It is the formula that is
--- asked for, and the very bytes of the proof refute its clauses, by one line where one of them is empty.
+-- what is printed for an outcome of the formula that is asked for, by the proof's bytes
+abbrev pub text_for : Run → Formula → Outcome → List ℕ
+text_for run problem found = answer_text (command run.words) problem (written_in run ProofOut) found
+
+-- Unsatisfiable: the words give `solve` or `bench`, and no assignment satisfies the formula's clauses. It is the formula
+-- that is asked for, and the very bytes of the proof refute its clauses, by one line where one of them is empty.
 pub record IsShownRefuted (run : Run) (problem : Formula) : Type 0 where
   pub asked : AsksFor run problem
   pub refuted : Refutes problem.clauses (written_in run ProofOut)
   pub at_once : IsTrue (has_empty_clause problem.clauses) → written_in run ProofOut ≡ one_line problem.clauses
-  pub printed : written_in run Out ≡ unsat_line
+  pub printed : written_in run Out ≡ text_for run problem outcome.Unsat
 
 pub record IsRefuted (run : Run) : Type 0 where
-  pub given : GivesSolve run
+  pub given : GivesDecision run
   pub problem : Formula
   pub unsatisfiable : AreUnsatisfiable problem.clauses
   pub shown : IsTrue run.tells → IsShownRefuted run problem
@@ -137,17 +163,15 @@ pub record IsRefuted (run : Run) : Type 0 where
 abbrev pub UnsatisfiableIsProved : Run → Type 0
 UnsatisfiableIsProved run = run.status ≡ Unsat → IsRefuted run
 
--- Satisfiable: the words give `solve`, and these values, one for each variable, satisfy the formula's clauses. They are
--- recovered: the least that make the plan's last term true, the variables compared in their order, with the quantified
--- ones set back. It is the formula that is asked for, by its order and plan, and the values were printed.
+-- Satisfiable: the words give `solve` or `bench`, and these values, one for each variable, satisfy the formula's clauses.
+-- They are recovered: the least that make the plan's last term true, the variables compared in their order, with the
+-- quantified ones set back. It is the formula that is asked for, by its order and plan, and the values were printed.
 pub record IsShownSatisfied (run : Run) (problem : Formula) (order : List ℕ) (moves : List Move) (values : List Bool) : Type 0 where
-  pub asked : AsksFor run problem
-  pub by_order : asked.order ≡ order
-  pub by_plan : asked.moves ≡ moves
-  pub printed : written_in run Out ≡ sat_text values
+  pub asked : AsksBy run problem order moves
+  pub printed : written_in run Out ≡ text_for run problem (outcome.Sat values)
 
 pub record IsSatisfied (run : Run) : Type 0 where
-  pub given : GivesSolve run
+  pub given : GivesDecision run
   pub problem : Formula
   pub order : List ℕ
   pub moves : List Move
@@ -160,17 +184,16 @@ pub record IsSatisfied (run : Run) : Type 0 where
 abbrev pub SatisfiableIsTrue : Run → Type 0
 SatisfiableIsTrue run = run.status ≡ Sat → IsSatisfied run
 
--- Undecided: the words give `solve`, and the plan needs more nodes than are allowed, where that is the limit. It is the
--- formula that is asked for, by its order and plan; the proof's bytes show that the limit is reached, and it was printed.
+-- Undecided: the words give `solve` or `bench`, and the plan needs more nodes than are allowed, where that is the limit. It
+-- is the formula that is asked for, by its order and plan; the proof's bytes show that the limit is reached, and it was
+-- printed.
 pub record IsShownUndecided (run : Run) (why : Why) (problem : Formula) (order : List ℕ) (moves : List Move) : Type 0 where
-  pub asked : AsksFor run problem
-  pub by_order : asked.order ≡ order
-  pub by_plan : asked.moves ≡ moves
+  pub asked : AsksBy run problem order moves
   pub reached : Shows problem (limits_given run) (written_in run ProofOut) (outcome_at why)
-  pub printed : written_in run Out ≡ outcome_text (limits_given run) (outcome_at why)
+  pub printed : written_in run Out ≡ text_for run problem (outcome_at why)
 
 pub record IsUndecided (run : Run) (why : Why) : Type 0 where
-  pub given : GivesSolve run
+  pub given : GivesDecision run
   pub problem : Formula
   pub order : List ℕ
   pub moves : List Move
@@ -200,6 +223,25 @@ pub record IsNotVerified (run : Run) (line : ℕ) (reason : Reason) : Type 0 whe
 pub record VerdictIsTrue (run : Run) : Type 0 where
   pub verified : run.status ≡ Verified → GivesCheck run × (IsTrue run.tells → IsVerified run)
   pub not_verified : (line : ℕ) (reason : Reason) → run.status ≡ NotVerified line reason → GivesCheck run × (IsTrue run.tells → IsNotVerified run line reason)
+
+-- Done: the words give `make`, and the text of the board was written to the file that they name, and flushed.
+pub record IsMade (run : Run) (task : ToMake) : Type 0 where
+  pub given : command run.words ≡ Some (Make task)
+  pub written : IsTrue run.tells → written_in run Made ≡ made_text task.part task.size
+  pub flushed : IsTrue run.tells → (run.after Made).flushed ≡ length (run.after Made).written
+
+abbrev pub TextIsMade : Run → Type 0
+TextIsMade run = run.status ≡ Done → (task : ToMake) × IsMade run task
+
+-- whatever was written to a made file is a front of the text that is asked for
+pub record IsFrontOfMade (run : Run) : Type 0 where
+  pub task : ToMake
+  pub given : command run.words ≡ Some (Make task)
+  pub rest : List ℕ
+  pub front : made_text task.part task.size ≡ written_in run Made ++ rest
+
+abbrev pub MadeStands : Run → Type 0
+MadeStands run = IsTrue run.tells → (written_in run Made ≡ []) ⊎ IsFrontOfMade run
 
 -- a refusal of the formula is that of the named file's whole text, and already that of the bytes taken
 pub record IsRefusedBy (run : Run) (text : CnfText) : Type 0 where
@@ -235,6 +277,7 @@ IsDue run Unsat = ⊤
 IsDue run (Unknown why) = ⊤
 IsDue run Verified = ⊤
 IsDue run (NotVerified line reason) = ⊤
+IsDue run Done = ⊤
 IsDue run Help = MayMean run.words AsksHelp
 IsDue run Usage = MayMean run.words Misuse
 IsDue run (CnfRefused kind line) = GivesCommand run × (IsTrue run.tells → IsRefusedBy run (refusal kind line))
@@ -255,9 +298,11 @@ IsDue run OutOfMemory = ⊤
 abbrev pub RefusalsAreDue : Run → Type 0
 RefusalsAreDue run = IsDue run run.status
 
--- the formula that is to be decided was accepted, or the proof was judged
+-- the formula that is to be decided was accepted, or the proof was judged, or none is read
 abbrev pub TextsAreRead : Run → Type 0
-TextsAreRead run = ((problem : Formula) × AsksFor run problem) ⊎ ((problem : Formula) × (bytes : List ℕ) × (judged : Verdict) × HasVerdict run problem bytes judged)
+TextsAreRead run = ((problem : Formula) × AsksFor run problem)
+    ⊎ (((problem : Formula) × (bytes : List ℕ) × (judged : Verdict) × HasVerdict run problem bytes judged)
+    ⊎ GivesMake run)
 
 -- A call on the formula's file failed where the bytes taken of it decide nothing yet, and none of another file was taken.
 pub record IsOpenFormula (run : Run) : Type 0 where
@@ -341,7 +386,7 @@ IsFound run (AnswerTo problem outcome) = IsAnswerTo run problem outcome
 IsFound run (VerdictOn problem bytes judged) = HasVerdict run problem bytes judged
 
 abbrev pub text_found : Run → Finding → List ℕ
-text_found run (AnswerTo problem outcome) = answer_text (command run.words) problem (written_in run ProofOut) outcome
+text_found run (AnswerTo problem outcome) = text_for run problem outcome
 text_found run (VerdictOn problem bytes judged) = verdict_text judged
 
 abbrev pub status_found : Finding → Status
@@ -394,6 +439,7 @@ ends_before_proof Unsat = false
 ends_before_proof (Unknown why) = false
 ends_before_proof Verified = true
 ends_before_proof (NotVerified line reason) = true
+ends_before_proof Done = true
 ends_before_proof Help = true
 ends_before_proof Usage = true
 ends_before_proof (CnfRefused kind line) = true
@@ -411,26 +457,30 @@ schedule_file (ByFile file) = Some file
 
 -- the roles that have a name only where the words give it
 abbrev pub name_given : Role → Command → Option (List ℕ)
-name_given Cnf asked = Some (formula_file asked)
+name_given Cnf asked = formula_file asked
 name_given Order (Solve task) = task.order
-name_given Order (Check task) = None
+name_given Order _ = None
 name_given Schedule (Solve task) = schedule_file task.plan
-name_given Schedule (Check task) = None
-name_given ProofIn (Solve task) = None
+name_given Schedule _ = None
 name_given ProofIn (Check task) = Some task.proof
+name_given ProofIn _ = None
 name_given ProofOut (Solve task) = Some task.proof
-name_given ProofOut (Check task) = None
-name_given Made asked = None
+name_given ProofOut (Bench task) = Some task.proof
+name_given ProofOut _ = None
+name_given Made (Make task) = Some task.file
+name_given Made _ = None
 name_given Out asked = None
 name_given Err asked = None
 
 -- Names: a role has none, or the one that the words give it. Files: none changed but the proof's, which is created only
--- once all reading is over and all texts were accepted, however the run ends.
+-- once all reading is over and all texts were accepted, however the run ends, and the made one, which is created only
+-- where its text was written or a call of it failed.
 pub record NamesAreGiven (run : Run) : Type 0 where
   pub names : (role : Role) → ((run.after role).name ≡ None) ⊎ ((asked : Command) × (command run.words ≡ Some asked) × ((run.after role).name ≡ name_given role asked))
-  pub files : FilesBut (run.after ProofOut).name run.files run.files_after
+  pub files : (file : List ℕ) → (run.after ProofOut).name ≢ Some file → (run.after Made).name ≢ Some file → run.files_after file ≡ run.files file
   pub read_first : IsTrue (ends_before_proof run.status) → (run.after ProofOut).name ≡ None
-  pub accepted : (run.after ProofOut).name ≢ None → GivesSolve run × (IsTrue run.tells → (problem : Formula) × AsksFor run problem)
+  pub accepted : (run.after ProofOut).name ≢ None → GivesDecision run × (IsTrue run.tells → (problem : Formula) × AsksFor run problem)
+  pub made : (run.after Made).name ≢ None → (run.status ≡ Done) ⊎ (run.status ≡ WriteFault)
 
 -- The words and the texts call for this refusal: it is that of the first text in turn that isn't accepted.
 abbrev pub CallsFor : Run → Status → Type 0
@@ -439,6 +489,7 @@ CallsFor run Unsat = ⊥
 CallsFor run (Unknown why) = ⊥
 CallsFor run Verified = ⊥
 CallsFor run (NotVerified line reason) = ⊥
+CallsFor run Done = ⊥
 CallsFor run Help = ⊥
 CallsFor run Usage = ⊥
 CallsFor run (CnfRefused kind line) = (asked : Command) × Asks run asked (refusal kind line)
@@ -466,6 +517,7 @@ pub record IsComplete (run : Run) : Type 0 where
   pub answers : (problem : Formula) → AsksFor run problem → IsTrue run.tells → IsUnharmed run → IsTrue (is_answer run.status) ⊎ (run.status ≡ OutOfMemory)
   pub judges : (problem : Formula) (bytes : List ℕ) (judged : Verdict) → HasVerdict run problem bytes judged → IsTrue run.tells → IsUnharmed run
       → (run.status ≡ status_of_verdict judged) ⊎ (run.status ≡ OutOfMemory)
+  pub makes : GivesMake run → IsUnharmed run → (run.status ≡ Done) ⊎ (run.status ≡ OutOfMemory)
   pub refuses : (status : Status) → CallsFor run status → IsTrue run.tells → (InputFailed run → ⊥) → (run.status ≡ status) ⊎ (run.status ≡ OutOfMemory)
 
 -- All that the program promises of a run.
@@ -474,6 +526,8 @@ pub record Promises (run : Run) : Type 0 where
   pub satisfiable : SatisfiableIsTrue run
   pub undecided : LimitsAreReached run
   pub verdict : VerdictIsTrue run
+  pub made : TextIsMade run
+  pub made_file : MadeStands run
   pub refusals : RefusalsAreDue run
   pub faults : FaultsAreCounted run
   pub failures : FailuresAreTold run

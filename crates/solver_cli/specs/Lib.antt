@@ -1,6 +1,7 @@
 pub mod ErrorText
 pub mod ExitCode
 pub mod Answer
+pub mod MadeText
 pub mod Verdict
 pub mod Headline
 pub mod Phases

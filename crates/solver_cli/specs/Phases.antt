@@ -26,11 +26,11 @@ use Rattle.schedule_plan.specs.Plan.{IsAdmissible}
 use Rattle.schedule_plan.specs.declared.plan.Move.{Move}
 use Rattle.command_line.specs.declared.plan.PlanName.{PlanName}
 use Rattle.command_line.specs.Command.{Planned, ByName, ByFile}
-use Rattle.solver_cli.specs.Answer.{moves_of_plan}
+use Rattle.solver_cli.specs.Answer.{last_identifier, moves_of_plan}
 use Rattle.schedule_plan.specs.declared.limits.Limits.{Limits}
 use Rattle.term_runner.specs.Ends.{Says, Shows}
 use Rattle.term_runner.specs.Proofs.{IsProof, IsProofSoFar}
-use Rattle.term_runner.specs.declared.outcome.Outcome.{Outcome}
+use Rattle.term_runner.specs.declared.outcome.Run.{Run as Ending}
 use Rattle.term_runner.specs.declared.error.RunError.{RunError}
 use Rattle.term_runner.specs.declared.error.RunError.TheVariants.{WriteFault as Torn}
 use Rattle.solver_cli.specs.ErrorText.{error_text}
@@ -145,10 +145,11 @@ pub record OnlyWritten (old new : Channel) : Type 0 where
   pub faults : old.faults ≤ new.faults
 
 -- A formula was decided, and its proof written: exactly the lines of good steps, within the limits, flushed where the
--- formula was decided; a line that is cut short only after a failed write.
-pub record WritesProof (tells : Bool) (old new : Channel) (problem : Formula) (order : List ℕ) (moves : List Move) (limits : Limits) (result : Result Outcome RunError) : Type 0 where
-  pub says : IfOk result (Says problem order moves limits)
-  pub shows : IsTrue tells → IfOk result (Shows problem limits new.written)
+-- formula was decided; a line that is cut short only after a failed write. The greatest identifier is that of the bytes.
+pub record WritesProof (tells : Bool) (old new : Channel) (problem : Formula) (order : List ℕ) (moves : List Move) (limits : Limits) (result : Result Ending RunError) : Type 0 where
+  pub says : IfOk result (λ ending. Says problem order moves limits ending.outcome)
+  pub shows : IsTrue tells → IfOk result (λ ending. Shows problem limits new.written ending.outcome)
+  pub last : IsTrue tells → IfOk result (λ ending. ending.last_id ≡ last_identifier problem.clauses new.written)
   pub whole : result ≢ Err Torn → IsTrue tells → IsProof problem limits new.written
   pub so_far : IsTrue tells → IsProofSoFar problem limits new.written
   pub flushed : IsOk result → IsTrue tells → new.flushed ≡ length new.written
@@ -162,7 +163,7 @@ pub record Complains (tells : Bool) (old new : Channel) (status : Status) : Type
   pub flushed : IsTrue tells → (Rose old.faults new.faults → ⊥) → new.flushed ≡ length new.written
   pub only : OnlyWritten old new
 
--- The text was written on standard output and flushed, or a front of it where a write or the flush failed.
+-- The text was written and flushed, or a front of it where a write or the flush failed.
 pub record PutsText (tells : Bool) (old new : Channel) (text : List ℕ) (result : Result ⊤ Failed) : Type 0 where
   pub done : IsTrue tells → IsOk result → new.written ≡ old.written ++ text
   pub flushed : IsTrue tells → IsOk result → new.flushed ≡ length new.written

@@ -3,8 +3,8 @@ use Rattle.std.specs.Prelude.{◌≡◌, ◌<◌, ℕ, List, Some, length, IsTru
 use Rattle.host_io.specs.declared.role.Role.TheVariants.{ProofIn, ProofOut}
 use Rattle.lrat_checker.specs.TextVerdict.{max_bytes}
 use Rattle.solver_cli.specs.declared.status.Status.{Status}
-use Rattle.solver_cli.specs.declared.status.Status.TheVariants.{Sat, Unsat, Unknown, Verified, NotVerified, Help, Usage, CnfRefused, OrderRefused, PlanRefused, TooLong, ReadFault, WriteFault, OutOfMemory}
-use Rattle.command_line.specs.Command.{Command, ToCheck, Check, formula_file, command}
+use Rattle.solver_cli.specs.declared.status.Status.TheVariants.{Sat, Unsat, Unknown, Verified, NotVerified, Done, Help, Usage, CnfRefused, OrderRefused, PlanRefused, TooLong, ReadFault, WriteFault, OutOfMemory}
+use Rattle.command_line.specs.Command.{ToSolve, ToCheck, Solve, Check, command}
 use Rattle.solver_cli.specs.Headline.{Run, written_in, InputFailed, OutputFailed}
 
 -- One run found a formula unsatisfiable. Another judges a proof over the same text of a formula, and the proof's file
@@ -13,11 +13,11 @@ pub record ChecksSolved (solved checked : Run) : Type 0 where
   pub solved_tells : IsTrue solved.tells
   pub checked_tells : IsTrue checked.tells
   pub unsatisfiable : solved.status ≡ Unsat
-  pub solve : Command
-  pub solve_asked : command solved.words ≡ Some solve
+  pub solve : ToSolve
+  pub solve_asked : command solved.words ≡ Some (Solve solve)
   pub task : ToCheck
   pub check_asked : command checked.words ≡ Some (Check task)
-  pub same_formula : checked.files task.file ≡ solved.files (formula_file solve)
+  pub same_formula : checked.files task.file ≡ solved.files solve.file
   pub same_proof : checked.files task.proof ≡ Some (written_in solved ProofOut)
 
 -- How the run that judges these bytes may end: they are verified, unless memory ran out, they are more than are looked
@@ -28,6 +28,7 @@ MayEnd run bytes Unsat = ⊥
 MayEnd run bytes (Unknown why) = ⊥
 MayEnd run bytes Verified = ⊤
 MayEnd run bytes (NotVerified line reason) = ⊥
+MayEnd run bytes Done = ⊥
 MayEnd run bytes Help = ⊥
 MayEnd run bytes Usage = ⊥
 MayEnd run bytes (CnfRefused kind line) = ⊥

@@ -1,41 +1,49 @@
--- How far a run came, over the four streams that it serves.
-use Rattle.std.specs.Prelude.{◌≡◌, ◌⊎◌, ℕ, Bool, List, Some, Result, Ok, Err, IsOk, IsErr, ⊤}
+-- How far a run came, over the streams that it serves.
+use Rattle.std.specs.Prelude.{◌≡◌, ◌≢◌, ◌⊎◌, ℕ, Bool, List, Option, None, Some, Result, Ok, Err, IsOk, IsErr, IsTrue, ⊤}
 use Rattle.cnf_base.specs.Formula.{Formula}
 use Rattle.host_io.specs.declared.role.Role.{Role}
-use Rattle.host_io.specs.declared.role.Role.TheVariants.{Cnf, Order, Schedule, ProofIn, ProofOut, Out}
+use Rattle.host_io.specs.declared.role.Role.TheVariants.{Cnf, Order, Schedule, ProofIn, ProofOut, Made, Out, Err as ErrRole}
 use Rattle.host_io.specs.declared.source.Failed.{Failed}
 use Rattle.host_io.specs.Channel.{Channel}
 use Rattle.host_io.specs.Files.{Files, Opens}
 use Rattle.lrat_checker.specs.declared.verdict.Verdict.{Verdict}
 use Rattle.lrat_checker.specs.declared.verdict.CheckError.{CheckError}
+use Rattle.solver_cli.specs.declared.answer.Shape.{Shape}
+use Rattle.solver_cli.specs.declared.job.Job.{Job as HeldJob}
 use Rattle.solver_cli.specs.declared.status.Status.{Status}
-use Rattle.solver_cli.specs.declared.status.Status.TheVariants.{Help, Usage, WriteFault, OutOfMemory}
-use Rattle.term_runner.specs.declared.outcome.Outcome.{Outcome}
+use Rattle.solver_cli.specs.declared.status.Status.TheVariants.{Help, Usage, Done, WriteFault, OutOfMemory}
+use Rattle.term_runner.specs.declared.outcome.Run.{Run as Ending}
 use Rattle.term_runner.specs.declared.error.RunError.{RunError}
 use Rattle.dimacs_reader.specs.declared.error.CnfError.{CnfError}
+use Rattle.schedule_plan.specs.declared.limits.Limits.{Limits}
 use Rattle.schedule_plan.specs.declared.plan.Move.{Move}
 use Rattle.schedule_plan.specs.declared.order_error.OrderError.{OrderError}
 use Rattle.schedule_plan.specs.declared.schedule.error.PlanError.{PlanError}
-use Rattle.solver_cli.specs.Answer.{outcome_text, status_of}
+use Rattle.solver_cli.specs.Answer.{AreOfBoard, ending_text, shape_of, status_of}
+use Rattle.solver_cli.specs.MadeText.{made_text}
 use Rattle.solver_cli.specs.Verdict.{verdict_text, status_of_verdict}
 use Rattle.solver_cli.specs.ExitCode.{status_of_check, status_of_error, status_of_order, status_of_plan, status_of_run}
 use Rattle.command_line.specs.Reading.{text_of, planned_of}
 use Rattle.command_line.specs.declared.words.SolveTask.{SolveTask}
-use Rattle.command_line.specs.Command.{ToSolve, ToCheck, Solve, Check, AsksHelp, Misuse, MayMean, command}
+use Rattle.command_line.specs.declared.board.BenchTask.{BenchTask}
+use Rattle.command_line.specs.declared.board.MakeTask.{MakeTask}
+use Rattle.command_line.specs.Command.{ToSolve, ToCheck, ToBench, ToMake, Solve, Check, Bench, Make, AsksHelp, Misuse, MayMean, command}
 use Rattle.solver_cli.specs.Phases.{TakesFormula, HasOrder, HasPlan, JudgesProof, WritesProof, PutsText}
 
--- the files of the formula, of its order and of a schedule, the proof that is judged, the proof that is written, and
--- standard output
+-- the files of the formula, of its order and of a schedule, the proof that is judged, the proof that is written, the text
+-- that is made, and standard output
 pub record Streams : Type 0 where
   pub cnf : Channel
   pub order : Channel
   pub schedule : Channel
   pub judged : Channel
   pub proof : Channel
+  pub made : Channel
   pub out : Channel
 
 abbrev pub streams_of : (Role → Channel) → Streams
-streams_of channel = record { cnf = channel Cnf; order = channel Order; schedule = channel Schedule; judged = channel ProofIn; proof = channel ProofOut; out = channel Out }
+streams_of channel =
+    record { cnf = channel Cnf; order = channel Order; schedule = channel Schedule; judged = channel ProofIn; proof = channel ProofOut; made = channel Made; out = channel Out }
 
 -- nothing was done for the words: they may be faulty, or memory ran out
 pub record Misused (words : List (List ℕ)) (old new : Streams) (status : Status) : Type 0 where
@@ -63,6 +71,7 @@ pub record Helped (tells : Bool) (words : List (List ℕ)) (old new : Streams) (
   pub schedule : new.schedule ≡ old.schedule
   pub judged : new.judged ≡ old.judged
   pub proof : new.proof ≡ old.proof
+  pub made : new.made ≡ old.made
 
 -- the formula was not taken
 pub record Untaken (tells : Bool) (old new : Streams) (files : Files) (file : List ℕ) (status : Status) : Type 0 where
@@ -72,6 +81,7 @@ pub record Untaken (tells : Bool) (old new : Streams) (files : Files) (file : Li
   pub schedule : new.schedule ≡ old.schedule
   pub judged : new.judged ≡ old.judged
   pub proof : new.proof ≡ old.proof
+  pub made : new.made ≡ old.made
   pub out : new.out ≡ old.out
   pub ends : status ≡ status_of_error error
 
@@ -84,6 +94,7 @@ pub record Unordered (tells : Bool) (old new : Streams) (files : Files) (task : 
   pub schedule : new.schedule ≡ old.schedule
   pub judged : new.judged ≡ old.judged
   pub proof : new.proof ≡ old.proof
+  pub made : new.made ≡ old.made
   pub out : new.out ≡ old.out
   pub ends : status ≡ status_of_order error
 
@@ -97,63 +108,106 @@ pub record Unplanned (tells : Bool) (old new : Streams) (files : Files) (task : 
   pub plans : HasPlan problem order task.plan tells old.schedule new.schedule files (Err error)
   pub judged : new.judged ≡ old.judged
   pub proof : new.proof ≡ old.proof
+  pub made : new.made ≡ old.made
   pub out : new.out ≡ old.out
   pub ends : status ≡ status_of_plan error
 
--- all was had that is to be decided by; no proof is judged
+-- all was had that is to be decided by; no proof is judged, and no text made
 pub record Prepared (tells : Bool) (old new : Streams) (files : Files) (task : ToSolve) (problem : Formula) (order : List ℕ) (moves : List Move) : Type 0 where
   pub takes : TakesFormula tells old.cnf new.cnf files task.file (Ok problem)
   pub orders : HasOrder problem.vars task.order tells old.order new.order files (Ok order)
   pub plans : HasPlan problem order task.plan tells old.schedule new.schedule files (Ok moves)
   pub judged : new.judged ≡ old.judged
+  pub made : new.made ≡ old.made
+
+-- no file is read
+pub record NoneRead (old new : Streams) : Type 0 where
+  pub cnf : new.cnf ≡ old.cnf
+  pub order : new.order ≡ old.order
+  pub schedule : new.schedule ≡ old.schedule
+  pub judged : new.judged ≡ old.judged
+
+-- What is done with a formula, an order and moves: the proof's file, the limits, and the board that they are of, if any.
+pub record Job : Type 0 where
+  pub proof : List ℕ
+  pub limits : Limits
+  pub shape : Option Shape
+
+-- What comes of it is told of the proof's stream and of standard output, before and after.
 
 -- the proof's file was not created
-pub record Uncreated (tells : Bool) (old new : Streams) (files : Files) (task : ToSolve) (status : Status) : Type 0 where
-  pub problem : Formula
-  pub order : List ℕ
-  pub moves : List Move
-  pub prepared : Prepared tells old new files task problem order moves
+pub record Uncreated (old new old_out out : Channel) (job : Job) (status : Status) : Type 0 where
   pub answer : Result ⊤ Failed
   pub failed : IsErr answer
-  pub opens : Opens old.proof new.proof task.proof answer
-  pub out : new.out ≡ old.out
+  pub opens : Opens old new job.proof answer
+  pub same : out ≡ old_out
   pub ends : status ≡ WriteFault
 
 -- the formula was not decided
-pub record Undecided (tells : Bool) (old new : Streams) (files : Files) (task : ToSolve) (status : Status) : Type 0 where
-  pub problem : Formula
-  pub order : List ℕ
-  pub moves : List Move
-  pub prepared : Prepared tells old new files task problem order moves
+pub record Undecided (tells : Bool) (old new old_out out : Channel) (problem : Formula) (order : List ℕ) (moves : List Move) (job : Job) (status : Status) : Type 0 where
   pub created : Channel
   pub created_answer : Result ⊤ Failed
   pub done : IsOk created_answer
-  pub opens : Opens old.proof created task.proof created_answer
+  pub opens : Opens old created job.proof created_answer
   pub error : RunError
-  pub writes : WritesProof tells created new.proof problem order moves task.limits (Err error)
-  pub out : new.out ≡ old.out
+  pub writes : WritesProof tells created new problem order moves job.limits (Err error)
+  pub same : out ≡ old_out
   pub ends : status ≡ status_of_run error
 
 -- how printing an answer ends the run
-abbrev pub status_after : Outcome → Result ⊤ Failed → Status
-status_after outcome (Ok x) = status_of outcome
-status_after outcome (Err e) = WriteFault
+abbrev pub status_after : Ending → Result ⊤ Failed → Status
+status_after ending (Ok x) = status_of ending.outcome
+status_after ending (Err e) = WriteFault
 
 -- it was decided, and the answer was printed or not
-pub record Answered (tells : Bool) (old new : Streams) (files : Files) (task : ToSolve) (status : Status) : Type 0 where
+pub record Answered (tells : Bool) (old new old_out out : Channel) (problem : Formula) (order : List ℕ) (moves : List Move) (job : Job) (status : Status) : Type 0 where
+  pub created : Channel
+  pub created_answer : Result ⊤ Failed
+  pub done : IsOk created_answer
+  pub opens : Opens old created job.proof created_answer
+  pub ending : Ending
+  pub writes : WritesProof tells created new problem order moves job.limits (Ok ending)
+  pub printed : Result ⊤ Failed
+  pub puts : PutsText tells old_out out (ending_text job.shape job.limits ending) printed
+  pub ends : status ≡ status_after ending printed
+
+-- how far deciding and answering came
+abbrev pub CameToAnswer : Bool → Channel → Channel → Channel → Channel → Formula → List ℕ → List Move → Job → Status → Type 0
+CameToAnswer tells old new old_out out problem order moves job status = Uncreated old new old_out out job status
+    ⊎ (Undecided tells old new old_out out problem order moves job status
+    ⊎ Answered tells old new old_out out problem order moves job status)
+
+-- what `solve` and `bench` do with what they are given
+abbrev pub solve_job : ToSolve → Job
+solve_job task = record { proof = task.proof; limits = task.limits; shape = None }
+
+abbrev pub bench_job : ToBench → Formula → Job
+bench_job task problem = record { proof = task.proof; limits = task.limits; shape = Some (shape_of task.size problem) }
+
+-- `solve` had all that it decides by
+pub record Solved (tells : Bool) (old new : Streams) (files : Files) (task : ToSolve) (status : Status) : Type 0 where
   pub problem : Formula
   pub order : List ℕ
   pub moves : List Move
   pub prepared : Prepared tells old new files task problem order moves
-  pub created : Channel
-  pub created_answer : Result ⊤ Failed
-  pub done : IsOk created_answer
-  pub opens : Opens old.proof created task.proof created_answer
-  pub outcome : Outcome
-  pub writes : WritesProof tells created new.proof problem order moves task.limits (Ok outcome)
-  pub printed : Result ⊤ Failed
-  pub puts : PutsText tells old.out new.out (outcome_text task.limits outcome) printed
-  pub ends : status ≡ status_after outcome printed
+  pub came : CameToAnswer tells old.proof new.proof old.out new.out problem order moves (solve_job task) status
+
+-- the job as the program holds it
+abbrev pub job_of : HeldJob → Job
+job_of job = record { proof = job.proof.now; limits = job.limits; shape = job.shape }
+
+-- what a call left alone that answers: files that are read, the text that is made, and standard error
+pub record LeavesInputs (old new : Role → Channel) : Type 0 where
+  pub cnf : new Cnf ≡ old Cnf
+  pub order : new Order ≡ old Order
+  pub schedule : new Schedule ≡ old Schedule
+  pub judged : new ProofIn ≡ old ProofIn
+  pub made : new Made ≡ old Made
+  pub error : new ErrRole ≡ old ErrRole
+
+-- no file but those of these two names changed
+abbrev pub FilesBeside : Option (List ℕ) → Option (List ℕ) → Files → Files → Type 0
+FilesBeside one other old new = (file : List ℕ) → one ≢ Some file → other ≢ Some file → new file ≡ old file
 
 -- what `solve` is asked to do
 abbrev pub task_of : SolveTask → ToSolve
@@ -164,9 +218,7 @@ abbrev pub Came : Bool → Streams → Streams → Files → ToSolve → Status 
 Came tells old new files task status = Untaken tells old new files task.file status
     ⊎ (Unordered tells old new files task status
     ⊎ (Unplanned tells old new files task status
-    ⊎ (Uncreated tells old new files task status
-    ⊎ (Undecided tells old new files task status
-    ⊎ Answered tells old new files task status))))
+    ⊎ Solved tells old new files task status))
 
 -- the proof was not judged
 pub record Unjudged (tells : Bool) (old new : Streams) (files : Files) (file proof_file : List ℕ) (status : Status) : Type 0 where
@@ -177,6 +229,7 @@ pub record Unjudged (tells : Bool) (old new : Streams) (files : Files) (file pro
   pub error : CheckError
   pub judges : JudgesProof tells old.judged new.judged files proof_file problem.clauses (Err error)
   pub proof : new.proof ≡ old.proof
+  pub made : new.made ≡ old.made
   pub out : new.out ≡ old.out
   pub ends : status ≡ status_of_check error
 
@@ -194,6 +247,7 @@ pub record Judged (tells : Bool) (old new : Streams) (files : Files) (file proof
   pub verdict : Verdict
   pub judges : JudgesProof tells old.judged new.judged files proof_file problem.clauses (Ok verdict)
   pub proof : new.proof ≡ old.proof
+  pub made : new.made ≡ old.made
   pub printed : Result ⊤ Failed
   pub puts : PutsText tells old.out new.out (verdict_text verdict) printed
   pub ends : status ≡ status_of_printed verdict printed
@@ -202,17 +256,78 @@ pub record Judged (tells : Bool) (old new : Streams) (files : Files) (file proof
 abbrev pub CameToCheck : Bool → Streams → Streams → Files → List ℕ → List ℕ → Status → Type 0
 CameToCheck tells old new files file proof status = Untaken tells old new files file status ⊎ (Unjudged tells old new files file proof status ⊎ Judged tells old new files file proof status)
 
--- `solve` was tried
-pub record Tried (tells : Bool) (words : List (List ℕ)) (old new : Streams) (files : Files) (status : Status) : Type 0 where
-  pub task : ToSolve
-  pub asked : command words ≡ Some (Solve task)
-  pub came : Came tells old new files task status
+-- the board was not made: memory ran out
+pub record Unmade (old new : Streams) (status : Status) : Type 0 where
+  pub same : new ≡ old
+  pub ends : status ≡ OutOfMemory
 
--- `check` was tried
-pub record Checked (tells : Bool) (words : List (List ℕ)) (old new : Streams) (files : Files) (status : Status) : Type 0 where
-  pub task : ToCheck
-  pub asked : command words ≡ Some (Check task)
-  pub came : CameToCheck tells old new files task.file task.proof status
+-- what `bench` is asked to do, and what `make` is
+abbrev pub bench_of : BenchTask → ToBench
+bench_of task = record { size = task.size; proof = task.proof.now; limits = task.limits }
+
+abbrev pub make_of : MakeTask → ToMake
+make_of task = record { size = task.size; part = task.part; file = task.file.now }
+
+-- `bench` had its board
+pub record Benched (tells : Bool) (old new : Streams) (task : ToBench) (status : Status) : Type 0 where
+  pub problem : Formula
+  pub order : List ℕ
+  pub moves : List Move
+  pub board : AreOfBoard task.size problem order moves
+  pub none_read : NoneRead old new
+  pub made : new.made ≡ old.made
+  pub came : CameToAnswer tells old.proof new.proof old.out new.out problem order moves (bench_job task problem) status
+
+abbrev pub CameToBench : Bool → Streams → Streams → ToBench → Status → Type 0
+CameToBench tells old new task status = Unmade old new status ⊎ Benched tells old new task status
+
+-- how writing a text ends the run
+abbrev pub status_of_written : Result ⊤ Failed → Status
+status_of_written (Ok x) = Done
+status_of_written (Err e) = WriteFault
+
+-- the text's file was not created
+pub record FileUncreated (old new : Streams) (task : ToMake) (status : Status) : Type 0 where
+  pub none_read : NoneRead old new
+  pub proof : new.proof ≡ old.proof
+  pub out : new.out ≡ old.out
+  pub answer : Result ⊤ Failed
+  pub failed : IsErr answer
+  pub opens : Opens old.made new.made task.file answer
+  pub ends : status ≡ WriteFault
+
+-- it was created, and the text was written or not
+pub record Written (tells : Bool) (old new : Streams) (task : ToMake) (status : Status) : Type 0 where
+  pub none_read : NoneRead old new
+  pub proof : new.proof ≡ old.proof
+  pub out : new.out ≡ old.out
+  pub created : Channel
+  pub created_answer : Result ⊤ Failed
+  pub done : IsOk created_answer
+  pub opens : Opens old.made created task.file created_answer
+  pub written : Result ⊤ Failed
+  pub puts : PutsText tells created new.made (made_text task.part task.size) written
+  pub ends : status ≡ status_of_written written
+
+abbrev pub CameToMake : Bool → Streams → Streams → ToMake → Status → Type 0
+CameToMake tells old new task status = Unmade old new status ⊎ (FileUncreated old new task status ⊎ Written tells old new task status)
+
+-- `bench` was tried
+pub record Tested (tells : Bool) (words : List (List ℕ)) (old new : Streams) (status : Status) : Type 0 where
+  pub task : ToBench
+  pub asked : command words ≡ Some (Bench task)
+  pub came : CameToBench tells old new task status
+
+-- `make` was tried
+pub record Making (tells : Bool) (words : List (List ℕ)) (old new : Streams) (status : Status) : Type 0 where
+  pub task : ToMake
+  pub asked : command words ≡ Some (Make task)
+  pub came : CameToMake tells old new task status
 
 abbrev pub Stages : Bool → List (List ℕ) → Streams → Streams → Files → Status → Type 0
-Stages tells words old new files status = Misused words old new status ⊎ (Helped tells words old new status ⊎ (Tried tells words old new files status ⊎ Checked tells words old new files status))
+Stages tells words old new files status = Misused words old new status
+    ⊎ (Helped tells words old new status
+    ⊎ (Tried tells words old new files status
+    ⊎ (Checked tells words old new files status
+    ⊎ (Tested tells words old new status
+    ⊎ Making tells words old new status))))

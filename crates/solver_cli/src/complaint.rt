@@ -12,7 +12,7 @@ use host_io::{Failed, Host, HostSink, Role, Sink, beside_kept, write_all};
 use itoa::Buffer;
 use schedule_plan::{OrderKind, PlanKind};
 
-/// Writes the status's line on standard error, and nothing for an answer or for help, and flushes. That the line could not
+/// Writes the status's line on standard error, and nothing for an answer, a text that was made or help, and flushes. That the line could not
 /// be written ends no run otherwise.
 pub fn complain<H: Host>(host: &mut H, status: Status)
     ensures complains { Complains H.tells (H.channel host.old ErrRole) (H.channel host.new ErrRole) status }
@@ -34,6 +34,7 @@ fn write_status<S: Sink>(sink: &mut S, status: Status) -> Result<(), Failed>
         | Status::Unknown(_)
         | Status::Verified
         | Status::NotVerified(..)
+        | Status::Done
         | Status::Help => Ok(()),
         Status::Usage => write_all(sink, b"error: bad usage\n"),
         Status::CnfRefused(kind, line) => {

@@ -1,5 +1,5 @@
 //! The program as a library. `run` does all that it does, over any host: it reads the words, decides a formula and writes the
-//! proof, or judges a proof, and prints the answer. Its contract, `Promises` of `specs/Headline.antt`, is what the program is
+//! proof, or judges a proof, and prints the answer; or it makes a workload's texts. Its contract, `Promises` of `specs/Headline.antt`, is what the program is
 //! worth; `run_with` is that over the words as the system gives them. It stands on `command_line`, `term_runner`,
 //! `lrat_checker`, `dimacs_reader` and `answer_text`.
 #![tactic(auto)]
@@ -7,8 +7,10 @@
 mod answer;
 mod complaint;
 mod formula;
+mod job;
 mod judgement;
 mod laws;
+mod made;
 mod order;
 mod output;
 mod plan;
@@ -17,8 +19,10 @@ mod proof;
 mod status;
 mod verdict;
 
+pub use answer::Shape;
 pub use command_line::{
-    Asked, FileNames, PlanName, PlanSource, Refusal, SolveTask, gather, read_words,
+    Asked, BenchTask, FileNames, MakeTask, Part, PlanName, PlanSource, Refusal, SolveTask, gather,
+    read_words,
 };
 pub use complaint::complain;
 pub use laws::solve_then_check_law;

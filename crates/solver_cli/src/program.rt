@@ -1,47 +1,57 @@
 // One run of the program.
-ghost use Rattle.std.specs.Prelude.{◌≡◌, ◌⊎◌, ℕ, List, None, map, IfErr, IfOk, IsFalse, true};
+ghost use Rattle.std.specs.Prelude.{◌≡◌, ◌⊎◌, ℕ, List, None, length, map, IfErr, IfOk, true};
 ghost use Rattle.std.specs.String.{string_bytes};
 ghost use Rattle.std.specs.Iterator.{IsFinite};
 ghost use Rattle.std.specs.Iterator.Runs.{WholeRun};
 ghost use Rattle.host_io.specs.declared.role.Role.{Role};
-ghost use Rattle.host_io.specs.declared.role.Role.TheVariants.{Cnf as CnfRole, Order as OrderRole, Schedule as ScheduleRole, ProofIn, ProofOut, Out};
-ghost use Rattle.host_io.specs.Files.{FilesBut, Kept, same_role};
+ghost use Rattle.host_io.specs.declared.role.Role.TheVariants.{ProofOut, Made, Out, Err as ErrRole};
+ghost use Rattle.host_io.specs.Files.{FilesBut, Kept};
 ghost use Rattle.host_io.specs.Memory.{channel_of, files_of};
 ghost use Rattle.schedule_plan.specs.Limits.{AreLimits};
+ghost use Rattle.schedule_plan.specs.Plan.{IsAdmissible};
+ghost use Rattle.command_line.specs.Command.{IsSize};
 ghost use Rattle.solver_cli.specs.Headline.{Promises};
 ghost use Rattle.solver_cli.specs.ExitCode.{exit_code};
 ghost use Rattle.solver_cli.specs.Start.{OnlyTold, status_of_kind};
 ghost use Rattle.solver_cli.specs.declared.status.Status.{Status};
 ghost use Rattle.solver_cli.specs.declared.status.Status.TheVariants.{OutOfMemory};
-ghost use Rattle.solver_cli.specs.Stages.{Came, CameToCheck, ShowsHelp, Stages, streams_of, task_of};
+ghost use Rattle.solver_cli.specs.Stages.{Came, CameToAnswer, CameToBench, CameToCheck, CameToMake, FilesBeside, LeavesInputs, ShowsHelp, Stages, bench_of, job_of, make_of, streams_of, task_of};
 
-use crate::answer::status_of;
+use crate::answer::{Shape, status_of};
 use crate::complaint::complain;
 use crate::formula::take_formula;
+use crate::job::Job;
 use crate::judgement::judge;
+use crate::made::put_part;
 use crate::order::take_order;
 use crate::output::{put_answer, put_text};
 use crate::plan::take_plan;
 use crate::proof::prove;
 use crate::status::Status;
 use crate::verdict::{put_verdict, verdict_status};
-use command_line::{Asked, FileNames, Refusal, SolveTask, gather, read_words};
+use cnf_base::Cnf;
+use command_line::{
+    Asked, BenchTask, FileNames, MakeTask, Refusal, SolveTask, gather, read_words,
+};
 use host_io::{Host, MemoryHost, Role as HostRole};
 use lrat_checker::check_law;
 use lrat_rules::soundness_law;
+use schedule_plan::{Order, Plan};
 use std::alloc::Global;
 use std::io::ErrorKind;
+use workload::board;
 
 fn work<H: Host>(alloc: Global, words: &[String], host: &mut H) -> Status
     requires unnamed { (role : Role) → (H.channel host.old role).name ≡ None }
     ensures stages { Stages H.tells (map string_bytes words.now) (streams_of (H.channel host.old)) (streams_of (H.channel host.new)) (H.files host.old) result }
-    ensures others { (role : Role) → IsFalse (same_role role CnfRole) → IsFalse (same_role role OrderRole) → IsFalse (same_role role ScheduleRole)
-        → IsFalse (same_role role ProofIn) → IsFalse (same_role role ProofOut) → IsFalse (same_role role Out) → H.channel host.new role ≡ H.channel host.old role }
-    ensures files { FilesBut (H.channel host.new ProofOut).name (H.files host.old) (H.files host.new) }
+    ensures error { H.channel host.new ErrRole ≡ H.channel host.old ErrRole }
+    ensures files { FilesBeside (H.channel host.new ProofOut).name (H.channel host.new Made).name (H.files host.old) (H.files host.new) }
 {
     match read_words(alloc, words) {
         Ok(Asked::Solve(task)) => solve(alloc, &task, host),
         Ok(Asked::Check(files)) => check(alloc, &files, host),
+        Ok(Asked::Bench(task)) => bench(alloc, &task, host),
+        Ok(Asked::Make(task)) => make(alloc, &task, host),
         Err(Refusal::Help(text)) => show_help(&text, host),
         Err(Refusal::Usage) => Status::Usage,
         Err(Refusal::OutOfMemory) => Status::OutOfMemory,
@@ -59,14 +69,13 @@ fn show_help<H: Host>(text: &str, host: &mut H) -> Status
     }
 }
 
-// Reads the formula, the order and the plan, decides the formula, writes the proof and prints the answer. All reading is
-// over before the proof's file is created, so that none is where a text is refused or memory runs out by then.
+// Reads the formula, the order and the plan, and answers. All reading is over before the proof's file is created, so that
+// none is where a text is refused or memory runs out by then.
 fn solve<H: Host>(alloc: Global, asked: &SolveTask<'_>, host: &mut H) -> Status
     requires unnamed { (role : Role) → (H.channel host.old role).name ≡ None }
     requires limits { AreLimits asked.now.limits }
     ensures came { Came H.tells (streams_of (H.channel host.old)) (streams_of (H.channel host.new)) (H.files host.old) (task_of asked.now) result }
-    ensures others { (role : Role) → IsFalse (same_role role CnfRole) → IsFalse (same_role role OrderRole) → IsFalse (same_role role ScheduleRole)
-        → IsFalse (same_role role ProofOut) → IsFalse (same_role role Out) → H.channel host.new role ≡ H.channel host.old role }
+    ensures error { H.channel host.new ErrRole ≡ H.channel host.old ErrRole }
     ensures files { FilesBut (H.channel host.new ProofOut).name (H.files host.old) (H.files host.new) }
 {
     let formula = match take_formula(alloc, host, asked.files.formula) {
@@ -81,15 +90,87 @@ fn solve<H: Host>(alloc: Global, asked: &SolveTask<'_>, host: &mut H) -> Status
         Ok(plan) => plan,
         Err(error) => return Status::from(error),
     };
-    if host.create(HostRole::ProofOut, asked.files.proof).is_err() {
-        return Status::WriteFault;
-    }
-    let outcome = match prove(alloc, host, &formula, &order, &plan, asked.limits) {
-        Ok(outcome) => outcome,
+    let job = Job {
+        proof: asked.files.proof,
+        limits: asked.limits,
+        shape: None,
+    };
+    answer(alloc, host, &formula, &order, &plan, &job)
+}
+
+// Makes the board and answers.
+fn bench<H: Host>(alloc: Global, asked: &BenchTask<'_>, host: &mut H) -> Status
+    requires unnamed { (role : Role) → (H.channel host.old role).name ≡ None }
+    requires size { IsSize asked.now.size }
+    requires limits { AreLimits asked.now.limits }
+    ensures came { CameToBench H.tells (streams_of (H.channel host.old)) (streams_of (H.channel host.new)) (bench_of asked.now) result }
+    ensures error { H.channel host.new ErrRole ≡ H.channel host.old ErrRole }
+    ensures files { FilesBut (H.channel host.new ProofOut).name (H.files host.old) (H.files host.new) }
+{
+    let board = match board(alloc, asked.size) {
+        Ok(board) => board,
         Err(error) => return Status::from(error),
     };
-    match put_answer(host, &outcome, asked.limits) {
-        Ok(()) => status_of(&outcome),
+    let job = Job {
+        proof: asked.proof,
+        limits: asked.limits,
+        shape: Some(Shape {
+            size: asked.size,
+            vars: board.cnf.vars(),
+            clauses: board.cnf.len(),
+        }),
+    };
+    answer(alloc, host, &board.cnf, &board.order, &board.plan, &job)
+}
+
+// Creates the proof's file, decides the formula, writes the proof and prints the answer.
+fn answer<H: Host>(
+    alloc: Global,
+    host: &mut H,
+    formula: &Cnf,
+    order: &Order,
+    plan: &Plan,
+    job: &Job<'_>,
+) -> Status
+    requires unnamed_proof { (H.channel host.old ProofOut).name ≡ None }
+    requires unnamed_out { (H.channel host.old Out).name ≡ None }
+    requires order { length order.now ≡ formula.now.vars }
+    requires plan { IsAdmissible formula.now plan.now }
+    requires limits { AreLimits job.now.limits }
+    ensures came { CameToAnswer H.tells (H.channel host.old ProofOut) (H.channel host.new ProofOut) (H.channel host.old Out) (H.channel host.new Out) formula.now order.now plan.now (job_of job.now) result }
+    ensures inputs { LeavesInputs (H.channel host.old) (H.channel host.new) }
+    ensures files { FilesBut (H.channel host.new ProofOut).name (H.files host.old) (H.files host.new) }
+{
+    if host.create(HostRole::ProofOut, job.proof).is_err() {
+        return Status::WriteFault;
+    }
+    let ending = match prove(alloc, host, formula, order, plan, job.limits) {
+        Ok(ending) => ending,
+        Err(error) => return Status::from(error),
+    };
+    match put_answer(host, &ending, job.limits, job.shape) {
+        Ok(()) => status_of(&ending.outcome),
+        Err(_) => Status::WriteFault,
+    }
+}
+
+// Makes the board, and writes the text of it that is asked for to the file that is named.
+fn make<H: Host>(alloc: Global, asked: &MakeTask<'_>, host: &mut H) -> Status
+    requires unnamed { (role : Role) → (H.channel host.old role).name ≡ None }
+    requires size { IsSize asked.now.size }
+    ensures came { CameToMake H.tells (streams_of (H.channel host.old)) (streams_of (H.channel host.new)) (make_of asked.now) result }
+    ensures error { H.channel host.new ErrRole ≡ H.channel host.old ErrRole }
+    ensures files { FilesBut (H.channel host.new Made).name (H.files host.old) (H.files host.new) }
+{
+    let board = match board(alloc, asked.size) {
+        Ok(board) => board,
+        Err(error) => return Status::from(error),
+    };
+    if host.create(HostRole::Made, asked.file).is_err() {
+        return Status::WriteFault;
+    }
+    match put_part(host, &board, asked.size, asked.part) {
+        Ok(()) => Status::Done,
         Err(_) => Status::WriteFault,
     }
 }
@@ -98,7 +179,7 @@ fn solve<H: Host>(alloc: Global, asked: &SolveTask<'_>, host: &mut H) -> Status
 fn check<H: Host>(alloc: Global, asked: &FileNames<'_>, host: &mut H) -> Status
     requires unnamed { (role : Role) → (H.channel host.old role).name ≡ None }
     ensures came { CameToCheck H.tells (streams_of (H.channel host.old)) (streams_of (H.channel host.new)) (H.files host.old) asked.now.formula.now asked.now.proof.now result }
-    ensures others { (role : Role) → IsFalse (same_role role CnfRole) → IsFalse (same_role role ProofIn) → IsFalse (same_role role Out) → H.channel host.new role ≡ H.channel host.old role }
+    ensures error { H.channel host.new ErrRole ≡ H.channel host.old ErrRole }
     ensures files { FilesBut None (H.files host.old) (H.files host.new) }
 {
     let problem = match take_formula(alloc, host, asked.formula) {

@@ -8,9 +8,10 @@ ghost use Rattle.solver_cli.specs.Phases.{WritesProof};
 
 use cnf_base::Cnf;
 use host_io::{Host, HostSink, Role, Sink, beside_kept};
+use lrat_rules::derivation_law;
 use schedule_plan::{Order, Plan};
 use std::alloc::Global;
-use term_runner::{Limits, Outcome, RunError, run_plan_into};
+use term_runner::{Limits, Run, RunError, run_plan_into};
 
 /// Decides the formula and writes the proof of the answer in the role that was created for it.
 pub fn prove<H: Host>(
@@ -20,7 +21,7 @@ pub fn prove<H: Host>(
     order: &Order,
     plan: &Plan,
     limits: Limits,
-) -> Result<Outcome, RunError>
+) -> Result<Run, RunError>
     requires created { (H.channel host.old ProofOut).name ≢ None }
     requires fresh { (H.channel host.old ProofOut).written ≡ [] }
     requires order { length order.now ≡ formula.now.vars }
@@ -41,7 +42,7 @@ fn decide<S: Sink + Drop>(
     plan: &Plan,
     limits: Limits,
     sink: &mut S,
-) -> Result<Outcome, RunError>
+) -> Result<Run, RunError>
     requires fresh { (S.channel sink.old).written ≡ [] }
     requires order { length order.now ≡ formula.now.vars }
     requires plan { IsAdmissible formula.now plan.now }
@@ -49,6 +50,6 @@ fn decide<S: Sink + Drop>(
     ensures writes { WritesProof S.tells (S.channel sink.old) (S.channel sink.new) formula.now order.now plan.now limits result }
     ensures beside { S.beside sink.new ≡ S.beside sink.old }
 {
-    let run = run_plan_into(alloc, formula, order, plan, limits, sink)?;
-    Ok(run.outcome)
+    derivation_law();
+    run_plan_into(alloc, formula, order, plan, limits, sink)
 }

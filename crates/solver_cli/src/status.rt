@@ -32,6 +32,8 @@ pub enum Status {
     Verified,
     /// It doesn't: the line that was refused, and why.
     NotVerified(u64, Reason),
+    /// The text that was asked for was written.
+    Done,
     /// The words ask for help, which was shown.
     Help,
     /// The words ask for nothing that the program does.
@@ -52,7 +54,7 @@ pub enum Status {
 }
 
 impl Status {
-    /// The exit code: 10, 20 and 0 as at SAT competitions, 0 for a verified proof and for help too, 1 for a proof
+    /// The exit code: 10, 20 and 0 as at SAT competitions, 0 for a verified proof, a text that was made and for help too, 1 for a proof
     /// that isn't, 2 for a refused text, 3 to 6 for what went wrong.
     pub fn code(self) -> u8
         ensures { result ≡ exit_code self }
@@ -60,7 +62,7 @@ impl Status {
         match self {
             Status::Sat => 10,
             Status::Unsat => 20,
-            Status::Unknown(_) | Status::Verified | Status::Help => 0,
+            Status::Unknown(_) | Status::Verified | Status::Done | Status::Help => 0,
             Status::NotVerified(..) => 1,
             Status::CnfRefused(..)
             | Status::OrderRefused(..)

@@ -1,6 +1,7 @@
-use Rattle.std.proofs.Common.{rules, refl}
+use Rattle.std.proofs.Common.{refl, ◌∙◌}
+use Rattle.host_io.specs.declared.role.Role.TheVariants.{Err as ErrRole}
 use Rattle.solver_cli.specs.Stages.{task_of}
-use Rattle.solver_cli.proofs.Staged.{order_of, unordered, unplanned, uncreated, undecided, answered, files_left}
+use Rattle.solver_cli.proofs.Staged.{order_of, unordered, unplanned, solved, files_left}
 use Rattle.solver_cli.proofs.program.solve.Goals as goal
 
 pub returns-in-Err-take_order-clause-came : goal.returns-in-Err-take_order-clause-came
@@ -21,52 +22,9 @@ returns-in-Err-take_plan-clause-came g c =
     })
     c.in-Err-take_plan.ensures.takes c.in-Err-take_plan.ensures.kept c.from-in-Err-take_plan.ensures
 
-pub returns-then-is_err-clause-came : goal.returns-then-is_err-clause-came
-returns-then-is_err-clause-came g c =
-    uncreated (g.H.Host.channel c.create.new.self)
-    (record {
-      ordered = record {
-        took = record { takes = c.in-Ok.ensures.takes; kept = c.in-Ok.ensures.kept };
-        orders = order_of c.vars.ensures c.in-Ok-take_order.ensures.takes;
-        kept = c.in-Ok-take_order.ensures.kept;
-      };
-      plans = c.in-Ok-take_plan.ensures.takes;
-      kept = c.in-Ok-take_plan.ensures.kept;
-    })
-    c.create.ensures.opens (search rules) c.create.ensures.kept.others
-
-pub returns-in-Err-prove-clause-came : goal.returns-in-Err-prove-clause-came
-returns-in-Err-prove-clause-came g c =
-    undecided (g.H.Host.channel c.create.new.self) (g.H.Host.channel c.prove.new.host)
-    (record {
-      ordered = record {
-        took = record { takes = c.in-Ok.ensures.takes; kept = c.in-Ok.ensures.kept };
-        orders = order_of c.vars.ensures c.in-Ok-take_order.ensures.takes;
-        kept = c.in-Ok-take_order.ensures.kept;
-      };
-      plans = c.in-Ok-take_plan.ensures.takes;
-      kept = c.in-Ok-take_plan.ensures.kept;
-    })
-    c.create.ensures.opens (search rules) c.create.ensures.kept.others c.in-Err-prove.ensures.writes c.prove.ensures.kept.others c.from-in-Err-prove.ensures
-
-pub returns-in-Ok-put_answer-clause-came : goal.returns-in-Ok-put_answer-clause-came
-returns-in-Ok-put_answer-clause-came g c =
-    answered (g.H.Host.channel c.create.new.self) (g.H.Host.channel c.prove.new.host) (g.H.Host.channel c.put_answer.new.host)
-    (record {
-      ordered = record {
-        took = record { takes = c.in-Ok.ensures.takes; kept = c.in-Ok.ensures.kept };
-        orders = order_of c.vars.ensures c.in-Ok-take_order.ensures.takes;
-        kept = c.in-Ok-take_order.ensures.kept;
-      };
-      plans = c.in-Ok-take_plan.ensures.takes;
-      kept = c.in-Ok-take_plan.ensures.kept;
-    })
-    c.create.ensures.opens (search rules) c.create.ensures.kept.others c.in-Ok-prove.ensures.writes c.prove.ensures.kept.others
-    c.in-Ok-put_answer.ensures.puts c.put_answer.ensures.kept.others c.status_of.ensures
-
 pub returns-clause-came : goal.returns-clause-came
 returns-clause-came g c =
-    answered (g.H.Host.channel c.create.new.self) (g.H.Host.channel c.prove.new.host) (g.H.Host.channel c.put_answer.new.host)
+    solved (g.H.Host.channel c.answer.new.host)
     (record {
       ordered = record {
         took = record { takes = c.in-Ok.ensures.takes; kept = c.in-Ok.ensures.kept };
@@ -76,26 +34,11 @@ returns-clause-came g c =
       plans = c.in-Ok-take_plan.ensures.takes;
       kept = c.in-Ok-take_plan.ensures.kept;
     })
-    c.create.ensures.opens (search rules) c.create.ensures.kept.others c.in-Ok-prove.ensures.writes c.prove.ensures.kept.others
-    c.in-Err-put_answer.ensures.puts c.put_answer.ensures.kept.others refl
-
-pub returns-in-Ok-put_answer-clause-files : goal.returns-in-Ok-put_answer-clause-files
-returns-in-Ok-put_answer-clause-files g c =
-    files_left {task = task_of c.args.asked.now} c.requires.unnamed
-    (record {
-      ordered = record {
-        took = record { takes = c.in-Ok.ensures.takes; kept = c.in-Ok.ensures.kept };
-        orders = order_of c.vars.ensures c.in-Ok-take_order.ensures.takes;
-        kept = c.in-Ok-take_order.ensures.kept;
-      };
-      plans = c.in-Ok-take_plan.ensures.takes;
-      kept = c.in-Ok-take_plan.ensures.kept;
-    })
-    c.create.ensures.kept c.prove.ensures.kept c.in-Ok-prove.ensures.writes.only.name c.put_answer.ensures.kept
+    c.answer.ensures.inputs c.answer.ensures.came
 
 pub returns-clause-files : goal.returns-clause-files
 returns-clause-files g c =
-    files_left {task = task_of c.args.asked.now} c.requires.unnamed
+    files_left {task = task_of c.args.asked.now}
     (record {
       ordered = record {
         took = record { takes = c.in-Ok.ensures.takes; kept = c.in-Ok.ensures.kept };
@@ -105,4 +48,8 @@ returns-clause-files g c =
       plans = c.in-Ok-take_plan.ensures.takes;
       kept = c.in-Ok-take_plan.ensures.kept;
     })
-    c.create.ensures.kept c.prove.ensures.kept c.in-Ok-prove.ensures.writes.only.name c.put_answer.ensures.kept
+    c.answer.ensures.files
+
+pub returns-clause-error : goal.returns-clause-error
+returns-clause-error g c =
+    c.answer.ensures.inputs.error ∙ c.in-Ok-take_plan.ensures.kept.others ErrRole refl ∙ c.in-Ok-take_order.ensures.kept.others ErrRole refl ∙ c.in-Ok.ensures.kept.others ErrRole refl

@@ -1,0 +1,11 @@
+// What is done with a formula that is to be decided.
+use crate::answer::Shape;
+use schedule_plan::Limits;
+
+/// The name of the proof's file, how far deciding may go, and how large the board is, where the formula is one.
+#[derive(Drop)]
+pub struct Job<'a> {
+    pub proof: &'a str,
+    pub limits: Limits,
+    pub shape: Option<Shape>,
+}
