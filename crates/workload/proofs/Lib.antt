@@ -6,3 +6,6 @@ pub mod Numbers
 pub mod Clauses
 pub mod Cursors
 pub mod Endings
+pub mod Standing
+pub mod Stages
+pub mod Admissible
