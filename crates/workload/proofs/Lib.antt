@@ -8,4 +8,5 @@ pub mod Cursors
 pub mod Endings
 pub mod Standing
 pub mod Stages
+pub mod Scan
 pub mod Admissible
