@@ -109,7 +109,7 @@ own_follow n row column there =
       | false ↦ λ is. down_follows n start s (λ d. omega (arith, number_down n row column there d ∙ ap places is))
     ] refl
 
-map_flat : (f : Domino → ℕ) (g : Square → List Domino) (some : List Square) → map f (flat_map g some) ≡ flat_map (λ s. map f (g s)) some
+pub map_flat : (f : Domino → ℕ) (g : Square → List Domino) (some : List Square) → map f (flat_map g some) ≡ flat_map (λ s. map f (g s)) some
 map_flat f g [] = refl
 map_flat f g (s ∷ more) = map-append f (g s) (flat_map g more) ∙ ap (λ l. map f (g s) ++ l) (map_flat f g more)
 
