@@ -9,3 +9,4 @@ pub mod Endings
 pub mod Standing
 pub mod Rows
 pub mod Exchange
+pub mod ColumnOrder
