@@ -10,3 +10,6 @@ pub mod Standing
 pub mod Stages
 pub mod Scan
 pub mod Admissible
+pub mod Rows
+pub mod Exchange
+pub mod ColumnOrder
