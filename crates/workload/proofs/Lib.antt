@@ -6,3 +6,4 @@ pub mod Numbers
 pub mod Clauses
 pub mod Cursors
 pub mod Endings
+pub mod Standing
