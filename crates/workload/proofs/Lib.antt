@@ -7,3 +7,4 @@ pub mod Clauses
 pub mod Cursors
 pub mod Endings
 pub mod Standing
+pub mod Injective
