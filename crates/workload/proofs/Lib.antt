@@ -8,3 +8,4 @@ pub mod Cursors
 pub mod Endings
 pub mod Standing
 pub mod Injective
+pub mod Places
