@@ -9,3 +9,4 @@ pub mod Endings
 pub mod Standing
 pub mod Injective
 pub mod Places
+pub mod Ended
