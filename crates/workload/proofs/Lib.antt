@@ -13,3 +13,6 @@ pub mod Admissible
 pub mod Rows
 pub mod Exchange
 pub mod ColumnOrder
+pub mod Injective
+pub mod Places
+pub mod Ended
