@@ -16,3 +16,4 @@ pub mod ColumnOrder
 pub mod Injective
 pub mod Places
 pub mod Ended
+pub mod Fit
