@@ -9,7 +9,7 @@ use Rattle.workload.specs.declared.square.Square.{Square}
 use Rattle.workload.specs.declared.square.Domino.{Domino}
 use Rattle.workload.specs.declared.square.Domino.TheVariants.{Across, Down}
 use Rattle.workload.specs.Board.{square, stays, front_of_row, row_squares, squares, is_domino, dominoes_at, dominoes, number, square_clauses, board_clauses}
-use Rattle.workload.specs.Schedule.{squares_before, following, clause_count, clause_numbers}
+use Rattle.workload.specs.Schedule.{squares_before, following, clause_numbers}
 use Rattle.workload.proofs.Steps.{filter_append, following_next, following_split}
 use Rattle.workload.proofs.Counts.{before}
 use Rattle.workload.proofs.Numbers.{number_across, number_down}
