@@ -1,19 +1,19 @@
 -- The dominoes that end in a column.
-use Rattle.std.proofs.Common.{◌≡◌, ℕ, zero, suc, ◌+◌, ◌-◌, ◌<◌, ◌≤◌, true, false, cond, List, [], ◌∷◌, ◌++◌, length, refl, sym, ◌∙◌, ap, append_assoc, subst, arith, inl, inr, length-append}
+use Rattle.std.proofs.Common.{◌≡◌, ℕ, zero, suc, ◌+◌, ◌-◌, ◌<◌, ◌≤◌, true, List, [], ◌∷◌, ◌++◌, length, refl, sym, ◌∙◌, ap, append_assoc, arith, inl, inr, length-append}
 use Rattle.std.specs.Prelude.{map, codes}
-use Rattle.std.specs.List.{filter, flat_map}
-use Rattle.std.proofs.lemmas.Bool.{and_from, cases_lt, cases_eq}
+use Rattle.std.specs.List.{flat_map}
+use Rattle.std.proofs.lemmas.Bool.{and_from, cases_lt}
 use Rattle.std.proofs.lemmas.List.{map-append, append-nil, length-map}
 use Rattle.std.proofs.lemmas.Grind.{flat_map-append}
 use Rattle.cnf_base.specs.Order.{natural}
 use Rattle.workload.specs.declared.square.Domino.{Domino}
 use Rattle.workload.specs.declared.square.Domino.TheVariants.{Across, Down}
 use Rattle.workload.specs.Board.{square, stays, is_domino, dominoes_of, number}
-use Rattle.workload.specs.Schedule.{ending, ending_dominoes, quantifying}
+use Rattle.workload.specs.Schedule.{ending, quantifying}
 use Rattle.workload.specs.Texts.{spaced, command_line}
 use Rattle.workload.proofs.Steps.{filter_append, passing_next}
 use Rattle.workload.proofs.Squares.{is_there}
-use Rattle.workload.proofs.Numbers.{cut}
+use Rattle.workload.proofs.Numbers.{cut, cut_passing}
 
 -- the numbers of some dominoes, as they are written
 abbrev pub written : ℕ → List Domino → List ℕ
@@ -51,13 +51,9 @@ ending_written n column =
 -- from 3 rows on each column has one
 there_is : (n k : ℕ) (at : ℕ → Domino) → 1 ≤ k → k ≤ n → is_domino n (at k) ≡ true → 0 < length (dominoes_of n (map at (natural n)))
 there_is n k at a b is =
-    let piece = cut n k a b in
+    let piece = cut_passing (is_domino n) at n k a b is in
     let front : List Domino = dominoes_of n (map at (natural (k - 1))) in
-    let parts : dominoes_of n (map at (natural n)) ≡ front ++ at k ∷ dominoes_of n (map at piece.more) =
-    ap (λ l. dominoes_of n (map at l)) piece.parts ∙ ap (dominoes_of n) (map-append at (natural (k - 1)) (k ∷ piece.more))
-    ∙ filter_append (is_domino n) (map at (natural (k - 1))) (at k ∷ map at piece.more)
-    ∙ ap (λ b. front ++ cond b (at k ∷ dominoes_of n (map at piece.more)) (dominoes_of n (map at piece.more))) is in
-    omega (arith, ap length parts, length-append front (at k ∷ dominoes_of n (map at piece.more)))
+    omega (arith, ap length piece.1, length-append front (at k ∷ piece.0))
 
 some_down : (n column : ℕ) → 3 ≤ n → 1 ≤ column → column ≤ n → 0 < length (dominoes_of n (map (λ row. Down (square row column)) (natural n)))
 some_down n column a b c =

@@ -6,3 +6,14 @@ pub mod Numbers
 pub mod Clauses
 pub mod Cursors
 pub mod Endings
+pub mod Standing
+pub mod Stages
+pub mod Scan
+pub mod Admissible
+pub mod Rows
+pub mod Exchange
+pub mod ColumnOrder
+pub mod Injective
+pub mod Places
+pub mod Ended
+pub mod Fit

@@ -32,6 +32,18 @@ cut (suc n) k a b =
           record { more = rest.more ++ suc n ∷ []; parts = ap (λ l. l ++ suc n ∷ []) rest.parts ∙ append_assoc (natural (k - 1)) (k ∷ rest.more) (suc n ∷ []) }
     ]
 
+-- those that pass, cut at one of them
+pub cut_passing : {X : Type 0} (p : X → Bool) (at : ℕ → X) (n k : ℕ) → 1 ≤ k → k ≤ n → p (at k) ≡ true
+    → (more : List X) × (filter p (map at (natural n)) ≡ filter p (map at (natural (k - 1))) ++ at k ∷ more)
+cut_passing p at n k a b passes =
+    let piece = cut n k a b in
+    let more = filter p (map at piece.more) in (
+      more,
+      ap (λ l. filter p (map at l)) piece.parts ∙ ap (filter p) (map-append at (natural (k - 1)) (k ∷ piece.more))
+          ∙ filter_append p (map at (natural (k - 1))) (at k ∷ map at piece.more)
+          ∙ ap (λ b. filter p (map at (natural (k - 1))) ++ cond b (at k ∷ more) more) passes,
+    )
+
 -- the squares that stay, cut at one of them
 pub record CutSquares (n row column : ℕ) : Type 0 where
   pub more : List Square
@@ -39,14 +51,7 @@ pub record CutSquares (n row column : ℕ) : Type 0 where
 
 cut_row : (n row column : ℕ) → Stays n row column → stays n (square row column) ≡ true
     → (more : List Square) × (row_squares n row ≡ front_of_row n row (column - 1) ++ square row column ∷ more)
-cut_row n row column s there =
-    let at : ℕ → Square = λ c. square row c in
-    let piece = cut n column s.column_from s.column_to in (
-      filter (stays n) (map at piece.more),
-      ap (λ l. filter (stays n) (map at l)) piece.parts ∙ ap (filter (stays n)) (map-append at (natural (column - 1)) (column ∷ piece.more))
-          ∙ filter_append (stays n) (map at (natural (column - 1))) (square row column ∷ map at piece.more)
-          ∙ ap (λ b. front_of_row n row (column - 1) ++ cond b (square row column ∷ filter (stays n) (map at piece.more)) (filter (stays n) (map at piece.more))) there,
-    )
+cut_row n row column s there = cut_passing (stays n) (λ c. square row c) n column s.column_from s.column_to there
 
 pub cut_squares : (n row column : ℕ) → stays n (square row column) ≡ true → CutSquares n row column
 cut_squares n row column there =
