@@ -1,6 +1,6 @@
 -- The meaning of the program's words, its own name first: what the parser of command lines makes of them (`fault_of`,
 -- `subcommand_of`: the kinds of its refusal, and the values that it reads), and then this program's own tests.
-use Rattle.std.specs.Prelude.{ℕ, Bool, true, false, not, List, [], ◌∷◌, Option, None, Some, option_map, codes, length, map, nat_le, if◌then◌else◌, ◌&&◌, ◌≡◌, ◌⊎◌, ◌≤◌}
+use Rattle.std.specs.Prelude.{ℕ, Bool, true, false, not, List, [], ◌∷◌, Option, None, Some, option_map, codes, length, map, nat_le, ◌≤◌, if◌then◌else◌, ◌&&◌, ◌≡◌, ◌⊎◌}
 use Rattle.std.specs.List.{list_any}
 use Rattle.std.specs.Option.{option_and_then}
 use Rattle.std.specs.Str.{bytes_eq}
@@ -9,9 +9,10 @@ use Rattle.clap.specs.declared.error.ErrorKind.{ErrorKind}
 use Rattle.clap.specs.declared.error.ErrorKind.TheVariants as kind
 use Rattle.cnf_base.specs.Number.{numeral_value}
 use Rattle.schedule_plan.specs.declared.limits.Limits.{Limits}
-use Rattle.command_line.specs.declared.part.Part.{Part}
 use Rattle.command_line.specs.declared.plan.PlanName.{PlanName}
 use Rattle.command_line.specs.declared.plan.PlanName.TheVariants.{Bucket, Conjoin}
+use Rattle.command_line.specs.declared.part.Part.{Part}
+use Rattle.command_line.specs.declared.part.Part.TheVariants.{Cnf, Order, Schedule}
 use Rattle.command_line.specs.Parser.{the_app}
 
 -- what gives the plan of a run: its name, or a schedule's file
@@ -58,16 +59,6 @@ formula_file (Check task) = Some task.file
 formula_file (Bench task) = None
 formula_file (Make task) = None
 
--- the sizes of boards
-abbrev pub IsSize : ℕ → Type 0
-IsSize size = (2 ≤ size) × (size ≤ 100)
-
-abbrev pub size_of : Command → Option ℕ
-size_of (Solve task) = None
-size_of (Check task) = None
-size_of (Bench task) = Some task.size
-size_of (Make task) = Some task.size
-
 -- the limits where the words give none
 abbrev pub default_limits : Limits
 default_limits = record { cache = 1000000; max_nodes = 10000000; max_ids = 1000000000 }
@@ -78,6 +69,17 @@ limits_of (Solve task) = task.limits
 limits_of (Check task) = default_limits
 limits_of (Bench task) = task.limits
 limits_of (Make task) = default_limits
+
+-- the sizes of boards
+abbrev pub IsSize : ℕ → Type 0
+IsSize n = (2 ≤ n) × (n ≤ 100)
+
+-- the size of the board that a command is about, if it is about one
+abbrev pub size_of : Command → Option ℕ
+size_of (Solve task) = None
+size_of (Check task) = None
+size_of (Bench task) = Some task.size
+size_of (Make task) = Some task.size
 
 -- the plan where the words name none
 abbrev pub default_plan : PlanName
@@ -148,6 +150,16 @@ abbrev pub limits_given : Option Text → Option Text → Option Text → Option
 limits_given nodes ids entries =
     limits_with (number_given 0 default_limits.max_nodes 100000000 nodes) (number_given 0 default_limits.max_ids 1000000000 ids) (number_given 1 default_limits.cache 100000000 entries)
 
+-- the size that words give behind the word `board`
+abbrev pub size_given : Option Text → Option Text → Option ℕ
+size_given (Some kind) (Some size) = if bytes_eq kind (codes "board") then number_within 2 100 size else None
+size_given _ _ = None
+
+-- the part of this name, if it is one
+abbrev pub part_named : Text → Option Part
+part_named name =
+    if bytes_eq name (codes "cnf") then Some Cnf else if bytes_eq name (codes "order") then Some Order else if bytes_eq name (codes "schedule") then Some Schedule else None
+
 -- two files, an order, what gives the plan, and limits to solve within
 abbrev pub to_solve : Option (Text × Text) → Option Text → Option Planned → Option Limits → Meaning
 to_solve (Some names) order (Some plan) (Some limits) = Asks (Solve (record { file = names.0; proof = names.1; order = order; plan = plan; limits = limits }))
@@ -157,6 +169,16 @@ to_solve _ _ _ _ = Misuse
 abbrev pub to_check : Option (Text × Text) → Meaning
 to_check (Some names) = Asks (Check (record { file = names.0; proof = names.1 }))
 to_check None = Misuse
+
+-- a size, a proof's file, and limits to decide the board of that size within
+abbrev pub to_bench : Option ℕ → Option Text → Option Limits → Meaning
+to_bench (Some size) (Some proof) (Some limits) = Asks (Bench (record { size = size; proof = proof; limits = limits }))
+to_bench _ _ _ = Misuse
+
+-- a size, a part of that board, and a file to write it to
+abbrev pub to_make : Option ℕ → Option Part → Option Text → Meaning
+to_make (Some size) (Some part) (Some file) = Asks (Make (record { size = size; part = part; file = file }))
+to_make _ _ _ = Misuse
 
 -- the limits that the options among these values give
 abbrev pub limits_among : List Row → Option Limits
@@ -174,9 +196,24 @@ solve_means rows =
 abbrev pub check_means : List Row → Meaning
 check_means rows = to_check (two_names (first_of (codes "FILE") rows) (first_of (codes "PROOF") rows) [])
 
+-- the size of a board that is among these values
+abbrev pub size_among : List Row → Option ℕ
+size_among rows = size_given (first_of (codes "KIND") rows) (first_of (codes "SIZE") rows)
+
+abbrev pub bench_means : List Row → Meaning
+bench_means rows = to_bench (size_among rows) (first_of (codes "proof") rows) (limits_among rows)
+
+abbrev pub make_means : List Row → Meaning
+make_means rows = to_make (size_among rows) (option_and_then part_named (first_of (codes "part") rows)) (first_of (codes "out") rows)
+
+-- what the values of a command about a board mean
+abbrev pub board_means : Text → List Row → Meaning
+board_means name rows = if bytes_eq name (codes "bench") then bench_means rows else if bytes_eq name (codes "make") then make_means rows else Misuse
+
 -- what the values of a command mean
 abbrev pub command_means : Text → List Row → Meaning
-command_means name rows = if bytes_eq name (codes "solve") then solve_means rows else if bytes_eq name (codes "check") then check_means rows else Misuse
+command_means name rows =
+    if bytes_eq name (codes "solve") then solve_means rows else if bytes_eq name (codes "check") then check_means rows else board_means name rows
 
 -- what words mean that the parser takes; a command must be among them
 abbrev pub taken_means : Option (Text × List Row) → Meaning

@@ -15,13 +15,21 @@ file_rule = record (new_rule (codes "FILE")) { required = true }
 abbrev pub option_rule : Text → Rule
 option_rule name = record (new_rule name) { long = Some name; value_names = 1 }
 
+-- an option of one value that must be there
+abbrev pub needed_rule : Text → Rule
+needed_rule name = record (option_rule name) { required = true }
+
 -- `--proof P`, which must be there
 abbrev pub proof_rule : Rule
-proof_rule = record (option_rule (codes "proof")) { required = true }
+proof_rule = needed_rule (codes "proof")
 
 -- `[--max-nodes N] [--max-ids N] [--cache N]`
 abbrev pub limit_rules : List Rule
 limit_rules = option_rule (codes "max-nodes") ∷ option_rule (codes "max-ids") ∷ option_rule (codes "cache") ∷ []
+
+-- `[--order F] [--schedule F]`
+abbrev pub source_rules : List Rule
+source_rules = option_rule (codes "order") ∷ option_rule (codes "schedule") ∷ []
 
 -- `solve FILE --proof P [--order F] [--schedule F] [--plan PLAN] [--max-nodes N] [--max-ids N] [--cache N]`
 abbrev pub solve_app : App
@@ -37,6 +45,26 @@ proof_file_rule = record (new_rule (codes "PROOF")) { required = true }
 abbrev pub check_app : App
 check_app = with_rules (new_app (codes "check")) (file_rule ∷ proof_file_rule ∷ [])
 
--- the program: one of two commands after its name
+-- a word that must be there, without an option in front of it; help shows it by another name
+abbrev pub word_rule : Text → Rule
+word_rule name = record (new_rule name) { value_names = 1; required = true }
+
+-- `board N`
+abbrev pub board_rules : List Rule
+board_rules = word_rule (codes "KIND") ∷ word_rule (codes "SIZE") ∷ []
+
+-- `bench board N --proof P [--max-nodes N] [--max-ids N] [--cache N]`
+abbrev pub bench_app : App
+bench_app = with_rules (with_rules (new_app (codes "bench")) board_rules) (proof_rule ∷ limit_rules)
+
+-- `make board N --part PART --out F`
+abbrev pub make_app : App
+make_app = with_rules (with_rules (new_app (codes "make")) board_rules) (needed_rule (codes "part") ∷ needed_rule (codes "out") ∷ [])
+
+-- the commands that a formula's file is given to, and those that a board's size is given to
+abbrev pub file_apps : App
+file_apps = with_subcommand (with_subcommand (new_app (codes "bddsat")) solve_app.top) check_app.top
+
+-- the program: one of four commands after its name
 abbrev pub the_app : App
-the_app = with_subcommand (with_subcommand (new_app (codes "bddsat")) solve_app.top) check_app.top
+the_app = with_subcommand (with_subcommand file_apps bench_app.top) make_app.top

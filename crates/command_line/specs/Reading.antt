@@ -1,15 +1,16 @@
 -- What reading the words answers.
-use Rattle.std.specs.Prelude.{◌≡◌, ◌≢◌, ◌⊎◌, ℕ, List, ⊤, Option, option_map}
+use Rattle.std.specs.Prelude.{◌≡◌, ◌≢◌, ◌⊎◌, ℕ, List, ⊤, Option, option_map, IfSome}
 use Rattle.std.specs.Borrow.{Bor}
 use Rattle.clap.specs.declared.error.ErrorKind.{ErrorKind}
 use Rattle.clap.specs.declared.error.ErrorKind.TheVariants as kind
+use Rattle.schedule_plan.specs.Limits.{AreLimits}
 use Rattle.command_line.specs.declared.plan.PlanSource.{PlanSource}
 use Rattle.command_line.specs.declared.plan.PlanSource.TheVariants as source
 use Rattle.command_line.specs.declared.words.Asked.{Asked}
 use Rattle.command_line.specs.declared.words.Asked.TheVariants as asked
 use Rattle.command_line.specs.declared.words.Refusal.{Refusal}
 use Rattle.command_line.specs.declared.words.Refusal.TheVariants as refusal
-use Rattle.command_line.specs.Command.{Command, Solve, Check, Bench, Make, Planned, ByName, ByFile, AsksHelp, Misuse, MayMean, refusal_means}
+use Rattle.command_line.specs.Command.{Command, Solve, Check, Bench, Make, Planned, ByName, ByFile, AsksHelp, Misuse, MayMean, IsSize, limits_of, refusal_means, size_of}
 
 -- the text behind a reference that may be there
 abbrev pub text_of : Option (Bor (List ℕ)) → Option (List ℕ)
@@ -24,9 +25,13 @@ planned_of (source.Schedule file) = ByFile file.now
 abbrev pub command_of : Asked → Command
 command_of (asked.Solve task) =
     Solve (record { file = task.files.formula.now; proof = task.files.proof.now; order = text_of task.order; plan = planned_of task.plan; limits = task.limits })
+command_of (asked.Check files) = Check (record { file = files.formula.now; proof = files.proof.now })
 command_of (asked.Bench task) = Bench (record { size = task.size; proof = task.proof.now; limits = task.limits })
 command_of (asked.Make task) = Make (record { size = task.size; part = task.part; file = task.file.now })
-command_of (asked.Check files) = Check (record { file = files.formula.now; proof = files.proof.now })
+
+-- its limits are ones that a run may have, and the board that it is about has one of the sizes
+abbrev pub IsWithin : Command → Type 0
+IsWithin asked = AreLimits (limits_of asked) × IfSome (size_of asked) IsSize
 
 -- What a refusal of the parser is, by its kind. Memory may run out in the parser, or where the text of help is made.
 abbrev pub IsRefusalOf : ErrorKind → Refusal → Type 0

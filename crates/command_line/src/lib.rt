@@ -2,8 +2,12 @@
 //! defines it over the functions of the parser `clap`. The words are not tied to any file or run; the layer above acts on them.
 #![tactic(auto)]
 
+mod args;
 mod board;
+mod board_parser;
+mod limits;
 mod names;
+mod parser;
 mod part;
 mod plan;
 mod words;

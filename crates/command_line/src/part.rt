@@ -1,9 +1,28 @@
-// The texts of a board.
+// The texts that a board has, by their names.
+ghost use Rattle.std.specs.Prelude.{◌≡◌};
+ghost use Rattle.command_line.specs.Command.{part_named};
 
-/// Which text of a board is made.
+/// A text of a board.
 #[derive(Clone, Copy, Debug, PartialEq, Eq)]
 pub enum Part {
+    /// The formula, in DIMACS CNF.
     Cnf,
+    /// The column order of its variables.
     Order,
+    /// The column schedule.
     Schedule,
+}
+
+pub fn part_named(name: &str) -> Option<Part>
+    ensures { result ≡ part_named name.now }
+{
+    if name == "cnf" {
+        Some(Part::Cnf)
+    } else if name == "order" {
+        Some(Part::Order)
+    } else if name == "schedule" {
+        Some(Part::Schedule)
+    } else {
+        None
+    }
 }

@@ -3,13 +3,19 @@ ghost use Rattle.std.specs.Prelude.{◌≡◌, MatchOption, MatchResult, IfOk, I
 ghost use Rattle.std.specs.String.{string_bytes};
 ghost use Rattle.std.specs.Iterator.{IsFinite};
 ghost use Rattle.std.specs.Iterator.Runs.{WholeRun};
+ghost use Rattle.clap.specs.Words.{found_of, kind_of, rows_of, subcommand_rows_of};
 ghost use Rattle.schedule_plan.specs.Limits.{AreLimits};
-ghost use Rattle.command_line.specs.Command.{IsSize, command, limits_of, size_of};
-ghost use Rattle.command_line.specs.Reading.{IsRefusal, command_of};
+ghost use Rattle.command_line.specs.Command.{Asks, IsSize, Misuse, board_means, check_means, command, command_means, limits_of, size_of, solve_means, taken_means};
+ghost use Rattle.command_line.specs.declared.words.Refusal.TheVariants.{Usage};
+ghost use Rattle.command_line.specs.Reading.{IsRefusal, IsRefusalOf, IsWithin, command_of};
 
-use crate::board::{BenchTask, MakeTask};
-use crate::names::FileNames;
-use crate::plan::PlanSource;
+use crate::board::{BenchTask, MakeTask, bench_asked, make_asked};
+use crate::limits::limits_among;
+use crate::names::{FileNames, two_names};
+use crate::parser::parser;
+use crate::plan::{PlanSource, plan_given};
+use clap::ArgMatches;
+use clap::error::ErrorKind;
 use cnf_base::OutOfMemory;
 use schedule_plan::Limits;
 use std::alloc::Global;
@@ -21,7 +27,9 @@ pub enum Asked<'a> {
     Solve(SolveTask<'a>),
     /// To judge the proof over the formula.
     Check(FileNames<'a>),
+    /// To decide a board, and to write the proof.
     Bench(BenchTask<'a>),
+    /// To write a text of a board.
     Make(MakeTask<'a>),
 }
 
@@ -52,7 +60,112 @@ pub fn read_words(alloc: Global, words: &[String]) -> Result<Asked<'_>, Refusal>
     ensures limits { IfOk result (λ asked. AreLimits (limits_of (command_of asked))) }
     ensures size { IfOk result (λ asked. IfSome (size_of (command_of asked)) IsSize) }
 {
-    Err(Refusal::OutOfMemory)
+    let Ok(parser) = parser(alloc) else {
+        return Err(Refusal::OutOfMemory);
+    };
+    match parser.try_get_matches_from(words) {
+        Ok(matches) => asked_of(&matches),
+        Err(error) => Err(refusal_of(alloc, &error)),
+    }
+}
+
+// What the words that the parser took ask for; else they are faulty, whatever memory there is.
+fn asked_of<'a>(matches: &ArgMatches<'a>) -> Result<Asked<'a>, Refusal>
+    ensures meant { MatchResult result (λ asked. taken_means (subcommand_rows_of matches.now) ≡ Asks (command_of asked))
+        (λ refusal. (refusal ≡ Usage) × (taken_means (subcommand_rows_of matches.now) ≡ Misuse)) }
+    ensures within { IfOk result (λ asked. IsWithin (command_of asked)) }
+{
+    match subcommand_of(matches) {
+        Some(asked) => Ok(asked),
+        None => Err(Refusal::Usage),
+    }
+}
+
+fn subcommand_of<'a>(matches: &ArgMatches<'a>) -> Option<Asked<'a>>
+    ensures meant { MatchOption result (taken_means (subcommand_rows_of matches.now) ≡ Misuse)
+        (λ asked. taken_means (subcommand_rows_of matches.now) ≡ Asks (command_of asked)) }
+    ensures within { IfSome result (λ asked. IsWithin (command_of asked)) }
+{
+    match matches.subcommand() {
+        Some((name, values)) => command_named(name, values),
+        None => None,
+    }
+}
+
+// The command of this name, with its values.
+fn command_named<'a>(name: &str, values: &ArgMatches<'a>) -> Option<Asked<'a>>
+    ensures meant { MatchOption result (command_means name.now (rows_of (found_of values.now)) ≡ Misuse)
+        (λ asked. command_means name.now (rows_of (found_of values.now)) ≡ Asks (command_of asked)) }
+    ensures within { IfSome result (λ asked. IsWithin (command_of asked)) }
+{
+    if name == "solve" {
+        solve_asked(values)
+    } else if name == "check" {
+        check_asked(values)
+    } else {
+        board_command(name, values)
+    }
+}
+
+// The command about a board of this name, with its values.
+fn board_command<'a>(name: &str, values: &ArgMatches<'a>) -> Option<Asked<'a>>
+    ensures meant { MatchOption result (board_means name.now (rows_of (found_of values.now)) ≡ Misuse)
+        (λ asked. board_means name.now (rows_of (found_of values.now)) ≡ Asks (command_of asked)) }
+    ensures within { IfSome result (λ asked. IsWithin (command_of asked)) }
+{
+    if name == "bench" {
+        bench_asked(values)
+    } else if name == "make" {
+        make_asked(values)
+    } else {
+        None
+    }
+}
+
+fn solve_asked<'a>(values: &ArgMatches<'a>) -> Option<Asked<'a>>
+    ensures meant { MatchOption result (solve_means (rows_of (found_of values.now)) ≡ Misuse)
+        (λ asked. solve_means (rows_of (found_of values.now)) ≡ Asks (command_of asked)) }
+    ensures within { IfSome result (λ asked. IsWithin (command_of asked)) }
+{
+    let order = values.get_str("order");
+    let schedule = values.get_str("schedule");
+    let files = two_names(
+        values.get_str("FILE"),
+        values.get_str("proof"),
+        order,
+        schedule,
+    )?;
+    let plan = plan_given(values.get_str("plan"), schedule)?;
+    let limits = limits_among(values)?;
+    Some(Asked::Solve(SolveTask {
+        files,
+        order,
+        plan,
+        limits,
+    }))
+}
+
+fn check_asked<'a>(values: &ArgMatches<'a>) -> Option<Asked<'a>>
+    ensures meant { MatchOption result (check_means (rows_of (found_of values.now)) ≡ Misuse)
+        (λ asked. check_means (rows_of (found_of values.now)) ≡ Asks (command_of asked)) }
+    ensures within { IfSome result (λ asked. IsWithin (command_of asked)) }
+{
+    let files = two_names(values.get_str("FILE"), values.get_str("PROOF"), None, None)?;
+    Some(Asked::Check(files))
+}
+
+// What a refusal of the parser is; the text of help is made whole.
+fn refusal_of(alloc: Global, error: &clap::Error) -> Refusal
+    ensures { IsRefusalOf (kind_of error.now) result }
+{
+    match error.kind() {
+        ErrorKind::DisplayHelp => match error.to_string(alloc) {
+            Ok(text) => Refusal::Help(text),
+            Err(_) => Refusal::OutOfMemory,
+        },
+        ErrorKind::OutOfMemory => Refusal::OutOfMemory,
+        _ => Refusal::Usage,
+    }
 }
 
 /// The words of the command line, in a list: all that come, in turn.

@@ -23,5 +23,8 @@ pub fn board(alloc: Global, n: u32) -> Result<Board, OutOfMemory>
     ensures is_order { IfOk result (λ board. IsOrder board.order × (length board.order ≡ board.cnf.vars)) }
     ensures admissible { IfOk result (λ board. IsAdmissible board.cnf board.plan) }
 {
-    Err(OutOfMemory)
+    let cnf = formula(alloc, n)?;
+    let order = Order::of_variables(column_order(alloc, n)?);
+    let plan = Plan::of_moves(board_moves(alloc, n)?);
+    Ok(Board { cnf, order, plan })
 }
