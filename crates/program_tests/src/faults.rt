@@ -65,6 +65,25 @@ Out 7;WriteFault|c line 1 NoConflict/s NOT V|none|error: write failed/
 Out 8;WriteFault|c line 1 NoConflict/s NOT VERIFIED/|none|error: write failed/
 Out 9;NotVerified(1, NoConflict)|c line 1 NoConflict/s NOT VERIFIED/|none|";
 
+// The board without dominoes: its text is 14 bytes.
+const MAKE: &str = "\
+Made 1;WriteFault||none|error: write failed/
+Made 2;WriteFault|||error: write failed/
+Made 3;WriteFault||p cnf 0 |error: write failed/
+Made 4;WriteFault||p cnf 0 2/0/0/|error: write failed/
+Made 5;Done||p cnf 0 2/0/0/|
+ProofOut 1;Done||p cnf 0 2/0/0/|";
+
+// The same board decided: the line of the board, that of the last identifier, and the answer, in pieces, and their flush.
+const BENCH: &str = "\
+ProofOut 1;WriteFault||none|error: write failed/
+ProofOut 3;WriteFault||3 0 1 0/|error: write failed/
+Out 1;WriteFault||3 0 1 0/|error: write failed/
+Out 10;WriteFault|c board 2 variables 0 clauses 2/|3 0 1 0/|error: write failed/
+Out 15;WriteFault|c board 2 variables 0 clauses 2/c last identifier 3/|3 0 1 0/|error: write failed/
+Out 17;WriteFault|c board 2 variables 0 clauses 2/c last identifier 3/s UNSATISFIABLE/|3 0 1 0/|error: write failed/
+Out 18;Unsat|c board 2 variables 0 clauses 2/c last identifier 3/s UNSATISFIABLE/|3 0 1 0/|";
+
 // What a run of these words leaves where the call that `fail` names fails.
 fn ended(alloc: Global, line: &str, files: (&[u8], &[u8]), fail: &str) -> Result<String, Fail> {
     let (role, number) = fail.split_once(' ').ok_or("no call")?;
@@ -139,6 +158,20 @@ fn of_a_refused_proof(rt: HostRuntime) -> Result<(), Fail> {
     );
     for row in REFUSED.lines() {
         expect(&rt, rt.alloc(), "bddsat check in.cnf in.lrat", files, row)?;
+    }
+    Ok(())
+}
+
+#[test]
+fn of_a_board(rt: HostRuntime) -> Result<(), Fail> {
+    let files = (b"".as_slice(), b"".as_slice());
+    for row in MAKE.lines() {
+        let line = "bddsat make board 2 --part cnf --out out.lrat";
+        expect(&rt, rt.alloc(), line, files, row)?;
+    }
+    for row in BENCH.lines() {
+        let line = "bddsat bench board 2 --proof out.lrat";
+        expect(&rt, rt.alloc(), line, files, row)?;
     }
     Ok(())
 }

@@ -37,6 +37,7 @@ pub fn role_of(name: &str) -> Option<Role> {
         "Schedule" => Some(Role::Schedule),
         "ProofIn" => Some(Role::ProofIn),
         "ProofOut" => Some(Role::ProofOut),
+        "Made" => Some(Role::Made),
         "Out" => Some(Role::Out),
         "Err" => Some(Role::Err),
         _ => None,
