@@ -27,9 +27,9 @@ proof_rule = needed_rule (codes "proof")
 abbrev pub limit_rules : List Rule
 limit_rules = option_rule (codes "max-nodes") ∷ option_rule (codes "max-ids") ∷ option_rule (codes "cache") ∷ []
 
--- `[--order F] [--schedule F]`
+-- `[--order F] [--schedule F] [--plan PLAN]`
 abbrev pub source_rules : List Rule
-source_rules = option_rule (codes "order") ∷ option_rule (codes "schedule") ∷ []
+source_rules = option_rule (codes "order") ∷ option_rule (codes "schedule") ∷ option_rule (codes "plan") ∷ []
 
 -- `solve FILE --proof P [--order F] [--schedule F] [--plan PLAN] [--max-nodes N] [--max-ids N] [--cache N]`
 abbrev pub solve_app : App
@@ -61,10 +61,7 @@ bench_app = with_rules (with_rules (new_app (codes "bench")) board_rules) (proof
 abbrev pub make_app : App
 make_app = with_rules (with_rules (new_app (codes "make")) board_rules) (needed_rule (codes "part") ∷ needed_rule (codes "out") ∷ [])
 
--- the commands that a formula's file is given to, and those that a board's size is given to
-abbrev pub file_apps : App
-file_apps = with_subcommand (with_subcommand (new_app (codes "bddsat")) solve_app.top) check_app.top
-
 -- the program: one of four commands after its name
 abbrev pub the_app : App
-the_app = with_subcommand (with_subcommand file_apps bench_app.top) make_app.top
+the_app =
+    with_subcommand (with_subcommand (with_subcommand (with_subcommand (new_app (codes "bddsat")) solve_app.top) check_app.top) bench_app.top) make_app.top

@@ -1,6 +1,6 @@
 // The arguments that several commands have, with their texts of help.
 ghost use Rattle.std.specs.Prelude.{◌≡◌, IfOk, false};
-ghost use Rattle.clap.specs.Words.{app_of, new_app, rule_of, with_rule};
+ghost use Rattle.clap.specs.Words.{app_of, new_app, rule_of};
 ghost use Rattle.clap.specs.declared.Command.TheViews.{out-Command};
 ghost use Rattle.command_line.specs.Parser.{limit_rules, needed_rule, option_rule, proof_rule, with_rules, word_rule};
 
@@ -34,28 +34,15 @@ pub fn command<'a>(alloc: Global, name: &'a str, texts: Texts<'a>) -> Command<'a
         .after_help(texts.after)
 }
 
-/// The command with these two behind its arguments.
-pub fn with_two<'a>(
-    command: Command<'a>,
-    first: Arg<'a>,
-    second: Arg<'a>,
-) -> Result<Command<'a>, AllocError>
-    requires { (first.global ≡ false) × (second.global ≡ false) }
-    ensures app { IfOk result (λ more. app_of more ≡ with_rule (with_rule (app_of command.entry) (rule_of first.entry)) (rule_of second.entry)) }
-    ensures local { IfOk result (λ more. (out-Command more).has_globals ≡ (out-Command command.entry).has_globals) }
-{
-    command.arg(first)?.arg(second)
-}
-
 /// The command with the options of limits behind its arguments.
 pub fn with_limits<'a>(alloc: Global, command: Command<'a>) -> Result<Command<'a>, AllocError>
     ensures app { IfOk result (λ limited. app_of limited ≡ with_rules (app_of command.entry) limit_rules) }
     ensures local { IfOk result (λ limited. (out-Command limited).has_globals ≡ (out-Command command.entry).has_globals) }
 {
-    let max_nodes = option_arg(alloc, "max-nodes", "N", MAX_NODES_HELP);
-    let max_ids = option_arg(alloc, "max-ids", "N", MAX_IDS_HELP);
-    let cache = option_arg(alloc, "cache", "N", CACHE_HELP);
-    with_two(command, max_nodes, max_ids)?.arg(cache)
+    command
+        .arg(option_arg(alloc, "max-nodes", "N", MAX_NODES_HELP))?
+        .arg(option_arg(alloc, "max-ids", "N", MAX_IDS_HELP))?
+        .arg(option_arg(alloc, "cache", "N", CACHE_HELP))
 }
 
 pub fn proof_arg<'a>(alloc: Global) -> Arg<'a>

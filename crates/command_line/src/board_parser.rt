@@ -4,7 +4,7 @@ ghost use Rattle.clap.specs.Words.{app_of};
 ghost use Rattle.clap.specs.declared.Command.TheViews.{out-Command};
 ghost use Rattle.command_line.specs.Parser.{bench_app, board_rules, make_app, with_rules};
 
-use crate::args::{Texts, command, needed_arg, proof_arg, with_limits, with_two, word_arg};
+use crate::args::{Texts, command, needed_arg, proof_arg, with_limits, word_arg};
 use clap::Command;
 use std::alloc::{AllocError, Global};
 
@@ -37,8 +37,8 @@ pub fn bench_parser<'a>(alloc: Global) -> Result<Command<'a>, AllocError>
     ensures app { IfOk result (λ command. app_of command ≡ bench_app) }
     ensures local { IfOk result (λ command. (out-Command command).has_globals ≡ false) }
 {
-    let proof = proof_arg(alloc);
-    let command = with_board(alloc, command(alloc, "bench", BENCH))?.arg(proof)?;
+    let command = command(alloc, "bench", BENCH);
+    let command = with_board(alloc, command)?.arg(proof_arg(alloc))?;
     with_limits(alloc, command)
 }
 
@@ -46,10 +46,9 @@ pub fn make_parser<'a>(alloc: Global) -> Result<Command<'a>, AllocError>
     ensures app { IfOk result (λ command. app_of command ≡ make_app) }
     ensures local { IfOk result (λ command. (out-Command command).has_globals ≡ false) }
 {
-    let part = needed_arg(alloc, "part", "PART", PART_HELP);
-    let out = needed_arg(alloc, "out", "F", OUT_HELP);
-    let command = with_board(alloc, command(alloc, "make", MAKE))?;
-    with_two(command, part, out)
+    with_board(alloc, command(alloc, "make", MAKE))?
+        .arg(needed_arg(alloc, "part", "PART", PART_HELP))?
+        .arg(needed_arg(alloc, "out", "F", OUT_HELP))
 }
 
 // The command with a board's kind and size behind its arguments.
@@ -57,7 +56,7 @@ fn with_board<'a>(alloc: Global, command: Command<'a>) -> Result<Command<'a>, Al
     ensures app { IfOk result (λ more. app_of more ≡ with_rules (app_of command.entry) board_rules) }
     ensures local { IfOk result (λ more. (out-Command more).has_globals ≡ (out-Command command.entry).has_globals) }
 {
-    let kind = word_arg(alloc, "KIND", "board", KIND_HELP);
-    let size = word_arg(alloc, "SIZE", "N", SIZE_HELP);
-    with_two(command, kind, size)
+    command
+        .arg(word_arg(alloc, "KIND", "board", KIND_HELP))?
+        .arg(word_arg(alloc, "SIZE", "N", SIZE_HELP))
 }

@@ -1,10 +1,10 @@
 // The parser of the command line, with its texts of help.
-ghost use Rattle.std.specs.Prelude.{◌≡◌, IfOk, false};
-ghost use Rattle.clap.specs.Words.{app_of, rule_of};
+ghost use Rattle.std.specs.Prelude.{◌≡◌, IfOk, MatchResult, false};
+ghost use Rattle.clap.specs.Words.{app_of, rule_of, shape_of, with_subcommand};
 ghost use Rattle.clap.specs.declared.Command.TheViews.{out-Command};
-ghost use Rattle.command_line.specs.Parser.{check_app, file_apps, file_rule, proof_file_rule, solve_app, source_rules, the_app, with_rules};
+ghost use Rattle.command_line.specs.Parser.{check_app, file_rule, proof_file_rule, solve_app, source_rules, the_app, with_rules};
 
-use crate::args::{Texts, command, option_arg, proof_arg, with_limits, with_two};
+use crate::args::{Texts, command, option_arg, proof_arg, with_limits};
 use crate::board_parser::{bench_parser, make_parser};
 use clap::{Arg, Command};
 use std::alloc::{AllocError, Global};
@@ -69,51 +69,53 @@ const PLAN_HELP: &str =
 pub fn parser<'a>(alloc: Global) -> Result<Command<'a>, AllocError>
     ensures { IfOk result (λ command. app_of command ≡ the_app) }
 {
-    let bench = bench_parser(alloc)?;
-    let make = make_parser(alloc)?;
-    file_commands(alloc)?.subcommand(bench)?.subcommand(make)
+    let solve = with_command(command(alloc, "bddsat", ALL), solve_parser(alloc))?;
+    let check = with_command(solve, check_parser(alloc))?;
+    let bench = with_command(check, bench_parser(alloc))?;
+    with_command(bench, make_parser(alloc))
 }
 
-// The parser with the commands that a formula's file is given to.
-fn file_commands<'a>(alloc: Global) -> Result<Command<'a>, AllocError>
-    ensures { IfOk result (λ command. app_of command ≡ file_apps) }
+// The command with this one behind its commands, where there was memory to make it.
+fn with_command<'a>(
+    command: Command<'a>,
+    made: Result<Command<'a>, AllocError>,
+) -> Result<Command<'a>, AllocError>
+    ensures { IfOk result (λ more. MatchResult made.entry (λ sub. (out-Command sub).has_globals ≡ false
+        → app_of more ≡ with_subcommand (app_of command.entry) (shape_of sub)) (λ error. ⊥)) }
 {
-    let solve = solve_parser(alloc)?;
-    let check = check_parser(alloc)?;
-    command(alloc, "bddsat", ALL)
-        .subcommand(solve)?
-        .subcommand(check)
+    let made = made?;
+    command.subcommand(made)
 }
 
 fn solve_parser<'a>(alloc: Global) -> Result<Command<'a>, AllocError>
     ensures app { IfOk result (λ command. app_of command ≡ solve_app) }
     ensures local { IfOk result (λ command. (out-Command command).has_globals ≡ false) }
 {
-    let file = formula_arg(alloc);
-    let proof = proof_arg(alloc);
-    let plan = option_arg(alloc, "plan", "PLAN", PLAN_HELP);
-    let command = with_two(command(alloc, "solve", SOLVE), file, proof)?;
-    let command = with_sources(alloc, command)?.arg(plan)?;
+    let command = command(alloc, "solve", SOLVE)
+        .arg(formula_arg(alloc))?
+        .arg(proof_arg(alloc))?;
+    let command = with_sources(alloc, command)?;
     with_limits(alloc, command)
 }
 
-// The command with the options of an order's and a schedule's file behind its arguments.
+// The command with the options of what gives its order and plan behind its arguments.
 fn with_sources<'a>(alloc: Global, command: Command<'a>) -> Result<Command<'a>, AllocError>
     ensures app { IfOk result (λ more. app_of more ≡ with_rules (app_of command.entry) source_rules) }
     ensures local { IfOk result (λ more. (out-Command more).has_globals ≡ (out-Command command.entry).has_globals) }
 {
-    let order = option_arg(alloc, "order", "F", ORDER_HELP);
-    let schedule = option_arg(alloc, "schedule", "F", SCHEDULE_HELP);
-    with_two(command, order, schedule)
+    command
+        .arg(option_arg(alloc, "order", "F", ORDER_HELP))?
+        .arg(option_arg(alloc, "schedule", "F", SCHEDULE_HELP))?
+        .arg(option_arg(alloc, "plan", "PLAN", PLAN_HELP))
 }
 
 fn check_parser<'a>(alloc: Global) -> Result<Command<'a>, AllocError>
     ensures app { IfOk result (λ command. app_of command ≡ check_app) }
     ensures local { IfOk result (λ command. (out-Command command).has_globals ≡ false) }
 {
-    let file = formula_arg(alloc);
-    let proof = proof_file_arg(alloc);
-    with_two(command(alloc, "check", CHECK), file, proof)
+    command(alloc, "check", CHECK)
+        .arg(formula_arg(alloc))?
+        .arg(proof_file_arg(alloc))
 }
 
 fn formula_arg<'a>(alloc: Global) -> Arg<'a>

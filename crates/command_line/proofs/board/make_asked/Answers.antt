@@ -1,4 +1,4 @@
-use Rattle.std.proofs.Common.{rules, ap, ap₂, codes, None, Some, ◌≡◌, ◌∙◌, sym, refl}
+use Rattle.std.proofs.Common.{rules, ap, codes, None, Some, ◌≡◌, ◌∙◌, sym, refl}
 use Rattle.std.specs.Prelude.{Option}
 use Rattle.clap.specs.Words.{first_value, found_of, rows_of}
 use Rattle.command_line.specs.declared.part.Part.{Part}

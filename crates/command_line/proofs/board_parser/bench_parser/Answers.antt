@@ -1,21 +1,21 @@
-use Rattle.std.proofs.Common.{ap, ap₂, codes, false, ◌||◌, ◌≡◌, ◌∙◌}
+use Rattle.std.proofs.Common.{ap, ap₂, codes, ◌≡◌, ◌∙◌}
 use Rattle.std.proofs.lemmas.Result.{IfOk-weaker}
 use Rattle.std.specs.Prelude.{[], ◌∷◌}
 use Rattle.clap.specs.Words.{App, app_of, new_app, with_rule}
-use Rattle.clap.specs.declared.Command.TheViews.{out-Command}
 use Rattle.command_line.specs.Parser.{board_rules, limit_rules, proof_rule, with_rules}
+use Rattle.command_line.proofs.Arguments.{stays}
 use Rattle.command_line.proofs.board_parser.bench_parser.Goals as goal
 
 pub returns-clause-app : goal.returns-clause-app
 returns-clause-app c =
     let two_are : app_of c.in_ok-with_board.field-0 ≡ with_rules (new_app (codes "bench")) board_rules =
-    c.in_ok-with_board.ensures.app ∙ ap (λ (a : App). with_rules a board_rules) c.command.ensures.app in
+    c.in_ok-with_board.ensures.app ∙ ap (λ (a : App). with_rules a board_rules) c.command-command.ensures.app in
     let three_are : app_of c.in_ok-command.command ≡ with_rules (with_rules (new_app (codes "bench")) board_rules) (proof_rule ∷ []) =
-    c.in_ok-command.ensures.shape c.proof_arg-proof.ensures.local ∙ ap₂ with_rule two_are c.proof_arg-proof.ensures.rule in
+    c.in_ok-command.ensures.shape c.proof_arg.ensures.local ∙ ap₂ with_rule two_are c.proof_arg.ensures.rule in
     IfOk-weaker c.with_limits.result _ _ (λ r is. is ∙ ap (λ (a : App). with_rules a limit_rules) three_are) c.with_limits.ensures.app
 
 pub returns-clause-local : goal.returns-clause-local
 returns-clause-local c =
-    let three_local : (out-Command c.in_ok-command.command).has_globals ≡ false =
-    c.in_ok-command.ensures.globals ∙ ap₂ ◌||◌ (c.in_ok-with_board.ensures.local ∙ c.command.ensures.local) c.proof_arg-proof.ensures.local in
-    IfOk-weaker c.with_limits.result _ _ (λ r same. same ∙ three_local) c.with_limits.ensures.local
+    IfOk-weaker c.with_limits.result _ _
+    (λ r same. same ∙ c.in_ok-command.ensures.globals ∙ stays _ _ c.proof_arg.ensures.local ∙ c.in_ok-with_board.ensures.local ∙ c.command-command.ensures.local)
+    c.with_limits.ensures.local

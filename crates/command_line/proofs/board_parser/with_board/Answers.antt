@@ -1,9 +1,17 @@
-use Rattle.std.proofs.Common.{ap₂, ◌∙◌}
+use Rattle.std.proofs.Common.{ap, ap₂, codes, ◌≡◌, ◌∙◌}
 use Rattle.std.proofs.lemmas.Result.{IfOk-weaker}
-use Rattle.clap.specs.Words.{Rule, app_of, with_rule}
+use Rattle.clap.specs.Words.{app_of, with_rule}
+use Rattle.command_line.specs.Parser.{word_rule}
+use Rattle.command_line.proofs.Arguments.{stays}
 use Rattle.command_line.proofs.board_parser.with_board.Goals as goal
 
 pub returns-clause-app : goal.returns-clause-app
 returns-clause-app c =
-    IfOk-weaker c.with_two.result _ _
-    (λ r is. is ∙ ap₂ (λ (r s : Rule). with_rule (with_rule (app_of c.args.command) r) s) c.word_arg-kind.ensures.rule c.word_arg-size.ensures.rule) c.with_two.ensures.app
+    let one_is : app_of c.in_ok-arg.field-0 ≡ with_rule (app_of c.args.command) (word_rule (codes "KIND")) =
+    c.in_ok-arg.ensures.shape c.word_arg.ensures.local ∙ ap (with_rule (app_of c.args.command)) c.word_arg.ensures.rule in
+    IfOk-weaker c.arg-2.result _ _ (λ r adds. adds.shape c.word_arg-2.ensures.local ∙ ap₂ with_rule one_is c.word_arg-2.ensures.rule) c.arg-2.ensures
+
+pub returns-clause-local : goal.returns-clause-local
+returns-clause-local c =
+    IfOk-weaker c.arg-2.result _ _
+    (λ r adds. adds.globals ∙ stays _ _ c.word_arg-2.ensures.local ∙ c.in_ok-arg.ensures.globals ∙ stays _ _ c.word_arg.ensures.local) c.arg-2.ensures

@@ -1,9 +1,20 @@
-use Rattle.std.proofs.Common.{ap₂, ◌∙◌}
+use Rattle.std.proofs.Common.{ap, ap₂, codes, ◌≡◌, ◌∙◌}
 use Rattle.std.proofs.lemmas.Result.{IfOk-weaker}
-use Rattle.clap.specs.Words.{Rule, app_of, with_rule}
+use Rattle.clap.specs.Words.{app_of, with_rule}
+use Rattle.command_line.specs.Parser.{option_rule}
+use Rattle.command_line.proofs.Arguments.{stays}
 use Rattle.command_line.proofs.parser.with_sources.Goals as goal
 
 pub returns-clause-app : goal.returns-clause-app
 returns-clause-app c =
-    IfOk-weaker c.with_two.result _ _
-    (λ r is. is ∙ ap₂ (λ (r s : Rule). with_rule (with_rule (app_of c.args.command) r) s) c.option_arg-order.ensures.rule c.option_arg-schedule.ensures.rule) c.with_two.ensures.app
+    let one_is : app_of c.in_ok-arg.field-0 ≡ with_rule (app_of c.args.command) (option_rule (codes "order")) =
+    c.in_ok-arg.ensures.shape c.option_arg.ensures.local ∙ ap (with_rule (app_of c.args.command)) c.option_arg.ensures.rule in
+    let two_are : app_of c.in_ok-arg-2.field-0 ≡ with_rule (with_rule (app_of c.args.command) (option_rule (codes "order"))) (option_rule (codes "schedule")) =
+    c.in_ok-arg-2.ensures.shape c.option_arg-2.ensures.local ∙ ap₂ with_rule one_is c.option_arg-2.ensures.rule in
+    IfOk-weaker c.arg-3.result _ _ (λ r adds. adds.shape c.option_arg-3.ensures.local ∙ ap₂ with_rule two_are c.option_arg-3.ensures.rule) c.arg-3.ensures
+
+pub returns-clause-local : goal.returns-clause-local
+returns-clause-local c =
+    IfOk-weaker c.arg-3.result _ _
+    (λ r adds. adds.globals ∙ stays _ _ c.option_arg-3.ensures.local ∙ c.in_ok-arg-2.ensures.globals ∙ stays _ _ c.option_arg-2.ensures.local
+    ∙ c.in_ok-arg.ensures.globals ∙ stays _ _ c.option_arg.ensures.local) c.arg-3.ensures
