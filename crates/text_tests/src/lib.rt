@@ -1,10 +1,12 @@
 //! Tests of the layers of texts, what is read and what is written: `cnf_base`, `text_scan`, `dimacs_reader`, `lrat_text`,
-//! `lrat_write`, `answer_text`, `schedule_plan`. What no clause says: that calls succeed where there is memory, texts
-//! typed out, and what stands where a call of the outside fails.
+//! `lrat_write`, `answer_text`, `schedule_plan`, `workload`. What no clause says: that calls succeed where there is memory,
+//! texts typed out, and what stands where a call of the outside fails.
 #![tactic(auto)]
 
 #[cfg(test)]
 mod answers;
+#[cfg(test)]
+mod boards;
 #[cfg(test)]
 mod formulas;
 #[cfg(test)]

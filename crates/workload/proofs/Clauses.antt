@@ -1,13 +1,11 @@
 -- How many clauses a square has.
-use Rattle.std.proofs.Common.{◌≡◌, ℕ, zero, suc, ◌+◌, ◌-◌, ◌*◌, ◌/◌, ◌<◌, ◌≤◌, true, false, cond, List, [], ◌∷◌, ◌++◌, length, refl, sym, ◌∙◌, ap, arith, All, length-append}
+use Rattle.std.proofs.Common.{◌≡◌, ℕ, zero, suc, ◌+◌, ◌-◌, ◌*◌, ◌/◌, ◌<◌, ◌≤◌, true, false, cond, List, [], ◌∷◌, length, refl, sym, ◌∙◌, ap, arith, All}
 use Rattle.std.specs.Prelude.{map}
-use Rattle.std.specs.List.{filter, flat_map}
-use Rattle.std.proofs.lemmas.List.{append-nil}
 use Rattle.std.proofs.lemmas.List.Elements.{All-cons, All-nil}
 use Rattle.workload.specs.declared.square.Square.{Square}
 use Rattle.workload.specs.declared.square.Domino.{Domino}
 use Rattle.workload.specs.declared.square.Domino.TheVariants.{Across, Down}
-use Rattle.workload.specs.Board.{square, stays, is_domino, number, numbers, dominoes, dominoes_of, no_two_of, one_of, square_clauses}
+use Rattle.workload.specs.Board.{square, is_domino, number, numbers, dominoes, dominoes_of, no_two_of, one_of, square_clauses}
 use Rattle.workload.specs.Schedule.{following, squares_before, clause_numbers, clause_count}
 use Rattle.workload.proofs.Numbers.{number_within}
 

@@ -1,17 +1,16 @@
 -- How many dominoes some squares have.
-use Rattle.std.proofs.Common.{◌≡◌, ℕ, zero, suc, ◌+◌, ◌-◌, ◌*◌, ◌<◌, ◌≤◌, Bool, true, false, cond, List, [], ◌∷◌, ◌++◌, length, refl, sym, ◌∙◌, ap, arith, inl, inr, length-append}
+use Rattle.std.proofs.Common.{◌≡◌, ℕ, zero, suc, ◌+◌, ◌-◌, ◌*◌, ◌<◌, ◌≤◌, true, false, [], ◌∷◌, ◌++◌, length, refl, sym, ◌∙◌, ap, arith, inl, inr, length-append}
 use Rattle.std.specs.Prelude.{map}
 use Rattle.std.proofs.Math.Nat.{suc-mul, mul-suc, mul_comm}
 use Rattle.std.specs.List.{filter, flat_map}
-use Rattle.std.proofs.lemmas.Bool.{cases_lt, cases_eq}
+use Rattle.std.proofs.lemmas.Bool.{cases_lt}
 use Rattle.std.proofs.lemmas.List.{map-append, append-nil}
 use Rattle.std.proofs.lemmas.Grind.{flat_map-append}
 use Rattle.cnf_base.specs.Order.{natural}
-use Rattle.workload.specs.declared.square.Domino.{Domino}
 use Rattle.workload.specs.Board.{square, stays, front_of_row, row_squares, dominoes_at, dominoes}
 use Rattle.workload.specs.Schedule.{squares_before}
 use Rattle.workload.proofs.Steps.{filter_append}
-use Rattle.workload.proofs.Squares.{Stays, alone, added, length_alone, is_there, past_right, past_last, first_out, last_out}
+use Rattle.workload.proofs.Squares.{Stays, alone, length_alone, is_there, past_right, past_last, first_out, last_out}
 
 abbrev pub front : ℕ → ℕ → ℕ → ℕ
 front n row columns = length (flat_map (dominoes_at n) (front_of_row n row columns))

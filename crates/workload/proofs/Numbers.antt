@@ -1,5 +1,5 @@
 -- The number of a domino: how many come before it.
-use Rattle.std.proofs.Common.{◌≡◌, ℕ, zero, suc, ◌+◌, ◌-◌, ◌<◌, ◌≤◌, Bool, true, false, ◌&&◌, ◌||◌, cond, List, [], ◌∷◌, ◌++◌, length, refl, sym, ◌∙◌, ap, subst, append_assoc, arith, inl, inr, eq-eqb, ne_eqb, length-append}
+use Rattle.std.proofs.Common.{◌≡◌, ℕ, zero, suc, ◌+◌, ◌-◌, ◌<◌, ◌≤◌, Bool, true, false, ◌&&◌, ◌||◌, cond, List, [], ◌∷◌, ◌++◌, length, refl, sym, ◌∙◌, ap, append_assoc, arith, inl, inr, eq-eqb, ne_eqb, length-append}
 use Rattle.std.specs.Prelude.{map, ◌==◌, not}
 use Rattle.std.specs.List.{filter, flat_map, list_any, position_or_len}
 use Rattle.std.proofs.lemmas.Bool.{cases_eq, or_from, and_from, and_parts}
@@ -9,7 +9,7 @@ use Rattle.cnf_base.specs.Order.{natural}
 use Rattle.workload.specs.declared.square.Square.{Square}
 use Rattle.workload.specs.declared.square.Domino.{Domino}
 use Rattle.workload.specs.declared.square.Domino.TheVariants.{Across, Down}
-use Rattle.workload.specs.Board.{square, stays, front_of_row, row_squares, squares, first_square, is_domino, dominoes_at, dominoes, is_same_square, is_same, number}
+use Rattle.workload.specs.Board.{square, stays, front_of_row, row_squares, squares, is_domino, dominoes_at, dominoes, is_same_square, is_same, number}
 use Rattle.workload.specs.Schedule.{squares_before}
 use Rattle.workload.proofs.Steps.{filter_append}
 use Rattle.workload.proofs.Squares.{Stays, it_stays, is_there, past_right}

@@ -1,11 +1,11 @@
-use Rattle.std.proofs.Common.{◌≡◌, ℕ, ◌+◌, ◌-◌, ◌∷◌, [], ◌++◌, List, ap, sym, ◌∙◌, append_assoc, arith}
-use Rattle.std.specs.Prelude.{map, replicate, nat_le}
+use Rattle.std.proofs.Common.{◌≡◌, ℕ, ◌-◌, ◌++◌, List, ap, sym, ◌∙◌, append_assoc, arith}
+use Rattle.std.specs.Prelude.{map, replicate}
 use Rattle.std.specs.List.{flat_map}
 use Rattle.std.proofs.lemmas.Grind.{flat_map-append}
 use Rattle.cnf_base.specs.Order.{natural}
 use Rattle.schedule_plan.specs.declared.plan.Move.{Move}
 use Rattle.schedule_plan.specs.declared.plan.Move.TheVariants.{Push, And, Exists}
-use Rattle.workload.specs.Schedule.{Command, column_clauses, ending, terms_in_column, conjoining, quantifying, column_commands, moves_of}
+use Rattle.workload.specs.Schedule.{column_clauses, ending, terms_in_column, conjoining, quantifying, column_commands, moves_of}
 use Rattle.workload.proofs.Steps.{flat_next, conjoining_moves, quantifying_moves}
 use Rattle.workload.proofs.columns.board_moves.Goals as goal
 

@@ -1,4 +1,4 @@
-use Rattle.std.proofs.Common.{◌≡◌, ℕ, ◌+◌, ◌-◌, ◌*◌, ◌≤◌, ◌++◌, List, ap, sym, ◌∙◌, append_assoc, subst, refl, get_or, length, arith}
+use Rattle.std.proofs.Common.{◌≡◌, ℕ, ◌+◌, ◌-◌, ◌*◌, ◌≤◌, ◌++◌, List, ap, sym, ◌∙◌, append_assoc, subst, get_or, arith}
 use Rattle.std.specs.Prelude.{map}
 use Rattle.std.specs.List.{filter, flat_map}
 use Rattle.std.proofs.lemmas.List.{map-append}
@@ -6,11 +6,11 @@ use Rattle.cnf_base.specs.Order.{natural}
 use Rattle.schedule_plan.specs.declared.plan.Move.{Move}
 use Rattle.schedule_plan.specs.declared.plan.Move.TheVariants.{Push}
 use Rattle.workload.specs.declared.square.Square.{Square}
-use Rattle.workload.specs.Board.{square, stays, square_clauses}
-use Rattle.workload.specs.Schedule.{following, squares_before, clause_count, clause_numbers}
+use Rattle.workload.specs.Board.{square, stays}
+use Rattle.workload.specs.Schedule.{following, clause_numbers}
 use Rattle.workload.specs.Cursor.{StandsWithin}
 use Rattle.workload.proofs.Steps.{passed, skipped}
-use Rattle.workload.proofs.Cursors.{begins, ends, goes_on, stays_out}
+use Rattle.workload.proofs.Cursors.{ends, goes_on, stays_out}
 use Rattle.workload.proofs.Clauses.{is_following}
 use Rattle.workload.proofs.columns.push_clauses.Goals as goal
 use Rattle.workload.proofs.columns.push_clauses.Goals.{then-stays+in_ok-push_following, else-stays}

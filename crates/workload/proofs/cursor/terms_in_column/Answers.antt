@@ -1,9 +1,9 @@
-use Rattle.std.proofs.Common.{◌≡◌, ℕ, ◌+◌, ◌-◌, ◌++◌, List, length, ap, sym, ◌∙◌, arith, length-append}
+use Rattle.std.proofs.Common.{ℕ, ◌-◌, length, ap, sym, ◌∙◌, arith, length-append}
 use Rattle.std.specs.Prelude.{map}
 use Rattle.std.specs.List.{filter, flat_map}
 use Rattle.cnf_base.specs.Order.{natural}
 use Rattle.workload.specs.declared.square.Square.{Square}
-use Rattle.workload.specs.Board.{square, stays, square_clauses}
+use Rattle.workload.specs.Board.{square, stays}
 use Rattle.workload.specs.Schedule.{clause_numbers}
 use Rattle.workload.proofs.Steps.{passed, skipped}
 use Rattle.workload.proofs.Clauses.{length_clause_numbers}

@@ -1,4 +1,4 @@
-use Rattle.std.proofs.Common.{◌≡◌, ℕ, ℤ, ◌+◌, ◌-◌, ◌<◌, ◌≤◌, ◌∷◌, [], ◌++◌, List, length, ap, sym, ◌∙◌, append_assoc, subst, All, Ok, Err}
+use Rattle.std.proofs.Common.{◌≡◌, ℕ, ℤ, ◌-◌, ◌<◌, ◌≤◌, ◌∷◌, [], ◌++◌, List, length, ap, sym, ◌∙◌, append_assoc, subst, All, Ok, Err}
 use Rattle.std.specs.Prelude.{OnOk}
 use Rattle.workload.specs.declared.square.Square.{Square}
 use Rattle.workload.specs.declared.square.Domino.TheVariants.{Across, Down}

@@ -1,4 +1,4 @@
-use Rattle.std.proofs.Common.{subst, sym, ap, ◌≡◌, List, ℕ, length, ◌∙◌}
+use Rattle.std.proofs.Common.{subst, sym, ap, ◌≡◌, List, length, ◌∙◌}
 use Rattle.cnf_base.specs.Order.{IsOrder}
 use Rattle.cnf_base.specs.Formula.{Formula}
 use Rattle.schedule_plan.specs.declared.plan.Move.{Move}

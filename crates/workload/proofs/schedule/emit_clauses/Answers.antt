@@ -1,4 +1,4 @@
-use Rattle.std.proofs.Common.{◌≡◌, ℕ, ◌+◌, ◌-◌, ◌*◌, ◌≤◌, ◌∷◌, ◌++◌, List, ap, sym, ◌∙◌, append_assoc, subst, refl, get_or, arith}
+use Rattle.std.proofs.Common.{◌≡◌, ℕ, ◌+◌, ◌-◌, ◌∷◌, ◌++◌, List, ap, sym, ◌∙◌, append_assoc, subst, refl, get_or, arith}
 use Rattle.std.specs.Prelude.{map}
 use Rattle.std.specs.List.{filter, flat_map}
 use Rattle.std.proofs.lemmas.Grind.{flat_map-append}
@@ -10,7 +10,7 @@ use Rattle.workload.specs.Cursor.{StandsWithin}
 use Rattle.workload.specs.Texts.{spaced}
 use Rattle.workload.proofs.Steps.{passed, skipped}
 use Rattle.workload.proofs.Numbers.{cut_column}
-use Rattle.workload.proofs.Cursors.{begins, ends, goes_on, stays_out}
+use Rattle.workload.proofs.Cursors.{goes_on, stays_out}
 use Rattle.workload.proofs.Clauses.{is_following}
 use Rattle.workload.proofs.Emitting.{in_turn, fails_within, same_text}
 use Rattle.workload.proofs.schedule.emit_clauses.Goals as goal

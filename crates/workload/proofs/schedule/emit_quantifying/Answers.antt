@@ -1,4 +1,4 @@
-use Rattle.std.proofs.Common.{◌≡◌, ◌++◌, refl, sym, arith}
+use Rattle.std.proofs.Common.{◌++◌, refl, sym, arith}
 use Rattle.std.specs.Prelude.{codes}
 use Rattle.std.specs.List.{flat_map}
 use Rattle.workload.specs.Schedule.{ending, quantifying}

@@ -1,4 +1,4 @@
-use Rattle.std.proofs.Common.{◌≡◌, ℕ, ◌+◌, ◌-◌, ◌*◌, ◌/◌, ◌≤◌, length, ap, ◌∙◌, sym, subst, arith}
+use Rattle.std.proofs.Common.{◌≡◌, ℕ, ◌+◌, ◌-◌, ◌*◌, ◌/◌, ◌≤◌, length, ap, ◌∙◌, sym, subst}
 use Rattle.workload.specs.declared.square.Square.{Square}
 use Rattle.workload.specs.Board.{square}
 use Rattle.workload.proofs.Clauses.{counted, few_numbers}

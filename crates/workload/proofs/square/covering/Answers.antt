@@ -1,5 +1,5 @@
 use Rattle.std.proofs.Common.{arith}
-use Rattle.workload.proofs.Squares.{Stays, it_stays}
+use Rattle.workload.proofs.Squares.{it_stays}
 use Rattle.workload.proofs.square.covering.Goals as goal
 
 pub overflow_sub-above : goal.overflow_sub-above

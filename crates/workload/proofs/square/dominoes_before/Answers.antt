@@ -1,6 +1,5 @@
-use Rattle.std.proofs.Common.{◌≡◌, ℕ, ◌+◌, ◌-◌, ◌*◌, ◌≤◌, arith, subst, ap, sym, ◌∙◌}
+use Rattle.std.proofs.Common.{◌≡◌, ℕ, ◌+◌, ◌-◌, ◌*◌, ◌≤◌, arith, subst, sym}
 use Rattle.std.proofs.Math.Nat.{mul-le-mul}
-use Rattle.workload.specs.Board.{square}
 use Rattle.workload.proofs.Squares.{Stays, it_stays}
 use Rattle.workload.proofs.Counts.{before, before_upper, before_last}
 use Rattle.workload.proofs.square.dominoes_before.Goals as goal

@@ -1,4 +1,4 @@
-use Rattle.std.proofs.Common.{◌≡◌, ℕ, List, [], ◌∷◌, length, arith, ◌++◌, ap, sym, ◌∙◌, refl}
+use Rattle.std.proofs.Common.{◌≡◌, ℕ, List, [], ◌∷◌, length, arith, ap, sym, ◌∙◌, refl}
 use Rattle.std.specs.Prelude.{map, decimal}
 use Rattle.std.specs.List.{flat_map, join_with_byte}
 use Rattle.workload.specs.Texts.{spaced}

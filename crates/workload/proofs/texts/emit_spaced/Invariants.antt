@@ -1,4 +1,4 @@
-use Rattle.std.proofs.Common.{◌≡◌, ◌+◌, ◌-◌, take, Ok}
+use Rattle.std.proofs.Common.{◌≡◌, take, Ok}
 use Rattle.std.specs.List.{flat_map}
 use Rattle.workload.specs.Texts.{spaced}
 use Rattle.workload.specs.Emitted.{Emits}
