@@ -138,7 +138,7 @@ unordered {task = task} u =
       schedule = λ _. faults_of u.schedule;
       judged = λ _. faults_of u.judged;
       proof = λ _. faults_of u.proof;
-  made = λ _. faults_of u.made;
+      made = λ _. faults_of u.made;
       out = λ _. faults_of u.out;
     }
 
@@ -153,7 +153,7 @@ unplanned {task = task} u =
       schedule = λ differs. plans.unfailed (λ e. differs (u.ends ∙ ap status_of_plan (same_error e)));
       judged = λ _. faults_of u.judged;
       proof = λ _. faults_of u.proof;
-  made = λ _. faults_of u.made;
+      made = λ _. faults_of u.made;
       out = λ _. faults_of u.out;
     }
 

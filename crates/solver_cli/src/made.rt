@@ -12,12 +12,7 @@ use host_io::{Failed, Host, HostSink, Role, Sink, beside_kept};
 use workload::{Board, write_cnf, write_columns, write_order};
 
 /// Writes this text of the board of so many squares a side in the role that was created for it, and flushes it.
-pub fn put_part<H: Host>(
-    host: &mut H,
-    board: &Board,
-    size: u32,
-    part: Part,
-) -> Result<(), Failed>
+pub fn put_part<H: Host>(host: &mut H, board: &Board, size: u32, part: Part) -> Result<(), Failed>
     requires created { (H.channel host.old Made).name ≢ None }
     requires least { 2 ≤ size }
     requires most { size ≤ 100 }

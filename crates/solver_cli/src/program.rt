@@ -30,9 +30,7 @@ use crate::proof::prove;
 use crate::status::Status;
 use crate::verdict::{put_verdict, verdict_status};
 use cnf_base::Cnf;
-use command_line::{
-    Asked, BenchTask, FileNames, MakeTask, Refusal, SolveTask, gather, read_words,
-};
+use command_line::{Asked, BenchTask, FileNames, MakeTask, Refusal, SolveTask, gather, read_words};
 use host_io::{Host, MemoryHost, Role as HostRole};
 use lrat_checker::check_law;
 use lrat_rules::soundness_law;
