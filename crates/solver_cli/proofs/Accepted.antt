@@ -24,7 +24,7 @@ use Rattle.solver_cli.proofs.Facts.{whole_of, no_answer, write_ends, not_unasked
 use Rattle.solver_cli.proofs.Reading.{rose_since}
 use Rattle.solver_cli.proofs.CallsFor.{no_call}
 use Rattle.solver_cli.proofs.Promised.{Core, due, quiet_output, no_proof, no_text, no_verdict, same_written}
-use Rattle.solver_cli.proofs.Untaken.{took, ordered, planned}
+use Rattle.solver_cli.proofs.Untaken.{formula_read, ordered, planned}
 
 -- What a run decides: by which command, what is given, and what is done with it.
 pub record Posed (run : Run) (problem : Formula) (order : List ℕ) (moves : List Move) (job : Job) : Type 0 where
@@ -36,10 +36,10 @@ pub record Posed (run : Run) (problem : Formula) (order : List ℕ) (moves : Lis
   pub shape : job.shape ≡ shape_asked (Some asked) problem
   pub made : run.after Made ≡ run.before Made
 
-pub asks_by : (run : Run) {problem : Formula} {order : List ℕ} {moves : List Move} {job : Job} → Posed run problem order moves job → IsTrue run.tells → AsksBy run problem order moves
+abbrev pub asks_by : (run : Run) {problem : Formula} {order : List ℕ} {moves : List Move} {job : Job} → Posed run problem order moves job → IsTrue run.tells → AsksBy run problem order moves
 asks_by run posed t = record { asked = posed.asked; command = posed.gives; given = posed.given t }
 
-pub asks_for : (run : Run) {problem : Formula} {order : List ℕ} {moves : List Move} {job : Job} → Posed run problem order moves job → IsTrue run.tells → AsksFor run problem
+abbrev pub asks_for : (run : Run) {problem : Formula} {order : List ℕ} {moves : List Move} {job : Job} → Posed run problem order moves job → IsTrue run.tells → AsksFor run problem
 asks_for run {order = order} {moves = moves} posed t = record { order = order; moves = moves; by = asks_by run posed t }
 
 pub decision : (run : Run) {problem : Formula} {order : List ℕ} {moves : List Move} {job : Job} → Posed run problem order moves job → GivesDecision run
@@ -56,7 +56,7 @@ posed_by_files run task {problem = problem} gives prepared = record {
   gives = gives;
   decides = refl;
   given = λ t. record {
-    read = (took run (Solve task) task.file problem gives refl prepared.takes t).read;
+    read = formula_read prepared.takes t;
     ordered = ordered problem task.order prepared.orders t;
     planned = planned task.plan prepared.plans t;
   };

@@ -126,11 +126,11 @@ file_uncreated {answer = answer} old new opens failed beside = inr (inl (record 
   ends = refl;
 }))
 
-pub written : {tells : Bool} {task : ToMake} {answer written : Result ⊤ Failed} {status : Status} (old created new : Role → Channel)
+pub written : {tells : Bool} {task : ToMake} {answer put : Result ⊤ Failed} {status : Status} (old created new : Role → Channel)
     → Opens (old Made) (created Made) task.file answer → IsOk answer → Others Made old created
-    → PutsText tells (created Made) (new Made) (made_text task.part task.size) written → Others Made created new → status ≡ status_of_written written
+    → PutsText tells (created Made) (new Made) (made_text task.part task.size) put → Others Made created new → status ≡ status_of_written put
     → CameToMake tells (streams_of old) (streams_of new) task status
-written {answer = answer} {written = written} old created new opens done creates puts beside ends =
+written {answer = answer} {put = put} old created new opens done creates puts beside ends =
     let both = both_calls creates beside in
     inr (inr (record {
       none_read = none_read both;
@@ -140,7 +140,7 @@ written {answer = answer} {written = written} old created new opens done creates
       created_answer = answer;
       done = done;
       opens = opens;
-      written = written;
+      written = put;
       puts = puts;
       ends = ends;
     }))

@@ -66,7 +66,7 @@ two_commands {task = task} {other = other} here there = apart (sym here ∙ ther
 
 -- a command that decides a formula, and one that doesn't
 pub decided_apart : {words : Option Command} {asked other : Command} → words ≡ Some asked → IsTrue (decides asked) → words ≡ Some other → decides other ≡ false → ⊥
-decided_apart here is there no = true≢false (sym is ∙ ap decides (same_command here there) ∙ no)
+decided_apart here is there never = true≢false (sym is ∙ ap decides (same_command here there) ∙ never)
 
 pub checks_apart : {words : Option Command} {task : ToCheck} {other : ToMake} → words ≡ Some (Check task) → words ≡ Some (Make other) → ⊥
 checks_apart {task = task} {other = other} here there = apart (sym here ∙ there) where

@@ -177,12 +177,12 @@ unread_names run unnamed none = record {
   judged = inl (name_of none.judged (unnamed ProofIn));
 }
 
-answered_names : (run : Run) {problem : Formula} {order : List ℕ} {moves : List Move} {job : Job} → ((role : Role) → (run.before role).name ≡ None) → (posed : Posed run problem order moves job)
-    → name_given ProofOut posed.asked ≡ Some job.proof → InputNames run
+answered_names : (run : Run) {problem : Formula} {order : List ℕ} {moves : List Move} {job : Job} → ((role : Role) → (run.before role).name ≡ None) → Posed run problem order moves job → (asked : Command) → command run.words ≡ Some asked
+    → name_given ProofOut asked ≡ Some job.proof → InputNames run
     → CameToAnswer run.tells (run.before ProofOut) (run.after ProofOut) (run.before Out) (run.after Out) problem order moves job run.status → StreamNames run
-answered_names run unnamed posed named inputs came =
+answered_names run unnamed posed asked gives named inputs came =
     let unmade = left_made run posed.made (unnamed Made) in
-    let names = answer_names run posed.asked posed.gives named (unnamed Out) came in
+    let names = answer_names run asked gives named (unnamed Out) came in
     record {
       cnf = inputs.cnf;
       order = inputs.order;
@@ -246,7 +246,7 @@ solve_names run task unnamed asked (inr (inr (inl u))) = quiet_names run unnamed
   schedule = given_schedule run task asked (unnamed Schedule) u.plans;
   judged = inl (name_of u.judged (unnamed ProofIn));
 })
-solve_names run task unnamed asked (inr (inr (inr s))) = answered_names run unnamed (posed_by_files run task asked s.prepared) refl
+solve_names run task unnamed asked (inr (inr (inr s))) = answered_names run unnamed (posed_by_files run task asked s.prepared) (Solve task) asked refl
     (record {
       cnf = given run (Solve task) task.file asked refl s.prepared.takes.name;
       order = given_order run task asked (unnamed Order) s.prepared.orders;
@@ -282,7 +282,7 @@ check_names run task unnamed asked (inr (inr j)) =
 bench_names : (run : Run) (task : ToBench) → ((role : Role) → (run.before role).name ≡ None) → command run.words ≡ Some (Bench task)
     → CameToBench run.tells (streams_of run.before) (streams_of run.after) task run.status → StreamNames run
 bench_names run task unnamed asked (inl u) = same_names run unnamed u.same
-bench_names run task unnamed asked (inr b) = answered_names run unnamed (posed_by_board run task asked b.board b.made) refl (unread_names run unnamed b.none_read) b.came
+bench_names run task unnamed asked (inr b) = answered_names run unnamed (posed_by_board run task asked b.board b.made) (Bench task) asked refl (unread_names run unnamed b.none_read) b.came
 
 -- the text's file has the name that the words give it
 given_made : (run : Run) (task : ToMake) → command run.words ≡ Some (Make task) → ((run.after Made).name ≡ Some task.file) ⊎ ((run.after Made).name ≡ None) → IsNamed run Made

@@ -158,10 +158,10 @@ unplanned {task = task} u =
     }
 
 -- the calls of the two streams that an answer is written to
-record AnswerTold (old new old_out out : Channel) (status : Status) : Type 0 where
+record AnswerTold (old new old_out new_out : Channel) (status : Status) : Type 0 where
   pub unread : status ≡ ReadFault → ⊥
   pub proof : status ≢ WriteFault → new.faults ≡ old.faults
-  pub out : status ≢ WriteFault → out.faults ≡ old_out.faults
+  pub out : status ≢ WriteFault → new_out.faults ≡ old_out.faults
 
 answer_told : {tells : Bool} {old new old_out out : Channel} {problem : Formula} {order : List ℕ} {moves : List Move} {job : Job} {status : Status}
     → CameToAnswer tells old new old_out out problem order moves job status → AnswerTold old new old_out out status

@@ -19,7 +19,7 @@ use Rattle.schedule_plan.specs.declared.schedule.error.PlanError.TheVariants as 
 use Rattle.command_line.specs.Command.{Command, ToSolve, ToMake, Solve, Make, Planned, ByName, ByFile, formula_file, command}
 use Rattle.solver_cli.specs.declared.status.Status.{Status}
 use Rattle.solver_cli.specs.declared.status.Status.TheVariants.{CnfRefused, OrderRefused, PlanRefused, TooLong, ReadFault, OutOfMemory}
-use Rattle.solver_cli.specs.Answer.{IsOrdered, IsPlanned}
+use Rattle.solver_cli.specs.Answer.{IsRead, IsOrdered, IsPlanned}
 use Rattle.solver_cli.specs.ExitCode.{status_of_error, status_of_order, status_of_plan}
 use Rattle.solver_cli.specs.Phases.{ReadsText, TakesFormula, TakesOrder, TakesSchedule, HasOrder, HasPlan}
 use Rattle.solver_cli.specs.Stages.{streams_of, Untaken, Unordered, Unplanned}
@@ -64,11 +64,12 @@ untaken run asked file gives named u = go u.error u.takes u.ends where
   go cnf_error.OutOfMemory takes ends = short run asked gives (alone OutOfMemory) ends
 
 -- the formula that is asked for was read
+pub formula_read : {tells : Bool} {old new : Channel} {files : Files} {file : List ℕ} {problem : Formula} → TakesFormula tells old new files file (Ok problem) → IsTrue tells → IsRead files file cnf (formula problem)
+formula_read takes t = let says = text_read (λ e. ok_err e) takes t in record { bytes = says.bytes; stands = says.stands; says = says.told }
+
 pub took : (run : Run) (asked : Command) (file : List ℕ) (problem : Formula) → command run.words ≡ Some asked → formula_file asked ≡ Some file
     → TakesFormula run.tells (run.before Cnf) (run.after Cnf) run.files file (Ok problem) → IsTrue run.tells → Asks run asked (formula problem)
-took run asked file problem gives named takes t =
-    let says = text_read (λ e. ok_err e) takes t in
-    record { command = gives; file = file; named = named; read = record { bytes = says.bytes; stands = says.stands; says = says.told } }
+took run asked file problem gives named takes t = record { command = gives; file = file; named = named; read = formula_read takes t }
 
 -- a run of `solve` that nothing was written in
 solve_alone : (run : Run) (task : ToSolve) → command run.words ≡ Some (Solve task) → run.after ProofOut ≡ run.before ProofOut → run.after Made ≡ run.before Made → run.after Out ≡ run.before Out

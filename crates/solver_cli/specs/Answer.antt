@@ -3,7 +3,7 @@ use Rattle.std.specs.Prelude.{◌≡◌, ◌++◌, ℕ, ℤ, List, [], Option, N
 use Rattle.cnf_base.specs.Formula.{Formula}
 use Rattle.cnf_base.specs.ProofText.{proof_lines}
 use Rattle.host_io.specs.Files.{Files}
-use Rattle.dimacs_reader.specs.Cnf.{cnf, formula}
+use Rattle.dimacs_reader.specs.Cnf.{cnf, formula as given_formula}
 use Rattle.lrat_rules.specs.State.{start}
 use Rattle.lrat_rules.specs.Run.{Judged, Reached, Stopped, run as run_lines}
 use Rattle.cnf_base.specs.Order.{natural}
@@ -52,15 +52,15 @@ IsPlanned files (ByFile file) problem order moves = IsRead files file (schedule 
 
 -- The files that are named give this formula, this order of its variables and these moves.
 pub record AreOfFiles (files : Files) (task : ToSolve) (problem : Formula) (order : List ℕ) (moves : List Move) : Type 0 where
-  pub read : IsRead files task.file cnf (formula problem)
+  pub read : IsRead files task.file cnf (given_formula problem)
   pub ordered : IsOrdered files task.order problem order
   pub planned : IsPlanned files task.plan problem order moves
 
 -- They are those of the board of so many squares a side: its formula, its column order and its column schedule.
 pub record AreOfBoard (size : ℕ) (problem : Formula) (order : List ℕ) (moves : List Move) : Type 0 where
-  pub formula : problem ≡ board_formula size
-  pub order : order ≡ column_order size
-  pub moves : moves ≡ board_moves size
+  pub its_formula : problem ≡ board_formula size
+  pub its_order : order ≡ column_order size
+  pub its_moves : moves ≡ board_moves size
 
 -- a command gives a formula to decide, the order of its variables and the moves
 abbrev pub AreGiven : Files → Command → Formula → List ℕ → List Move → Type 0

@@ -312,6 +312,18 @@ pub record Written (tells : Bool) (old new : Streams) (task : ToMake) (status : 
 abbrev pub CameToMake : Bool → Streams → Streams → ToMake → Status → Type 0
 CameToMake tells old new task status = Unmade old new status ⊎ (FileUncreated old new task status ⊎ Written tells old new task status)
 
+-- `solve` was tried
+pub record Tried (tells : Bool) (words : List (List ℕ)) (old new : Streams) (files : Files) (status : Status) : Type 0 where
+  pub task : ToSolve
+  pub asked : command words ≡ Some (Solve task)
+  pub came : Came tells old new files task status
+
+-- `check` was tried
+pub record Checked (tells : Bool) (words : List (List ℕ)) (old new : Streams) (files : Files) (status : Status) : Type 0 where
+  pub task : ToCheck
+  pub asked : command words ≡ Some (Check task)
+  pub came : CameToCheck tells old new files task.file task.proof status
+
 -- `bench` was tried
 pub record Tested (tells : Bool) (words : List (List ℕ)) (old new : Streams) (status : Status) : Type 0 where
   pub task : ToBench

@@ -70,9 +70,22 @@ fn write_ending<S: Sink>(
     ensures writes { WritesAll S.tells (S.channel sink.old) (S.channel sink.new) (ending_text shape limits ending.now) result }
     ensures beside { S.beside sink.new ≡ S.beside sink.old }
 {
-    if let Some(shape) = shape {
-        write_heading(sink, shape, ending)?;
+    match shape {
+        Some(shape) => write_headed(sink, ending, limits, shape),
+        None => write_answer(sink, &ending.outcome, limits),
     }
+}
+
+fn write_headed<S: Sink>(
+    sink: &mut S,
+    ending: &Run,
+    limits: Limits,
+    shape: Shape,
+) -> Result<(), Failed>
+    ensures writes { WritesAll S.tells (S.channel sink.old) (S.channel sink.new) (ending_text (Some shape) limits ending.now) result }
+    ensures beside { S.beside sink.new ≡ S.beside sink.old }
+{
+    write_heading(sink, shape, ending)?;
     write_answer(sink, &ending.outcome, limits)
 }
 

@@ -6,5 +6,5 @@ returns g c = record {
   promises = promises
       (record { sound = c.soundness_law.ensures.refuted; verified = c.check_law.ensures.verified; refused = c.check_law.ensures.refused; overlong = c.check_law.ensures.overlong })
       _ (g.H.Host.channel c.work-status.new.host) (g.H.Host.files c.work-status.new.host) c.requires.unnamed
-      c.work-status.ensures.stages c.work-status.ensures.others c.work-status.ensures.files c.complain.ensures.complains c.complain.ensures.kept;
+      c.work-status.ensures.stages c.work-status.ensures.error c.work-status.ensures.files c.complain.ensures.complains c.complain.ensures.kept;
 }
