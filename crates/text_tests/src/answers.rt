@@ -3,8 +3,8 @@ ghost use Rattle.std.specs.Prelude.{◌<◌};
 
 use crate::support::{expect_text, failing_host, outcome};
 use answer_text::{
-    write_id_limit, write_model, write_node_limit, write_refused, write_sat, write_unsat,
-    write_verified,
+    write_board, write_id_limit, write_last_identifier, write_model, write_node_limit,
+    write_refused, write_sat, write_unsat, write_verified,
 };
 use host_io::{Failed, HostSink, Role, Sink};
 use lrat_rules::Reason;
@@ -32,7 +32,9 @@ const OUTCOMES: &str = "s SATISFIABLE/v 1 -2 0/\
 s UNSATISFIABLE/\
 c node limit 0 reached/s UNKNOWN/\
 c identifier limit 18446744073709551615 reached/s UNKNOWN/\
-s VERIFIED/";
+s VERIFIED/\
+c board 100 variables 4294967295 clauses 0/\
+c last identifier 18446744073709551615/";
 
 fn values(alloc: Global, text: &str) -> Result<Vec<bool>, AllocError> {
     text.bytes().map(|byte| byte == b'+').collect(alloc)
@@ -64,7 +66,9 @@ fn write_outcomes<S: Sink>(sink: &mut S) -> Result<(), Failed> {
     write_unsat(sink)?;
     write_node_limit(sink, 0)?;
     write_id_limit(sink, u64::MAX)?;
-    write_verified(sink)
+    write_verified(sink)?;
+    write_board(sink, 100, u32::MAX, 0)?;
+    write_last_identifier(sink, u64::MAX)
 }
 
 #[test]
