@@ -11,12 +11,13 @@ class Proof:
 
     def __init__(self, clauses):
         self.top, self.has_empty = len(clauses), False
-        self.live, self.holders = {}, collections.defaultdict(set)
+        self.live, self.holders, self.ever = {}, collections.defaultdict(set), []
         for number, clause in enumerate(clauses, 1):
             self.keep(number, clause)
 
     def keep(self, number, clause):
         self.live[number] = clause
+        self.ever.append(clause)
         for literal in clause:
             self.holders[literal].add(number)
 
@@ -64,9 +65,9 @@ class Proof:
             raise Bad(f"candidates {missing} have no group")
 
 
-def refutes(clauses, lines):
+def refutes(clauses, lines, proof=None):
     """Whether some line adds the empty clause. A line that isn't a good step is raised."""
-    proof = Proof(clauses)
+    proof = proof or Proof(clauses)
     for line in lines:
         words = line.split()
         try:

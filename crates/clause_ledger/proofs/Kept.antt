@@ -15,7 +15,7 @@ use Rattle.lrat_rules.specs.Addition.{holds_negated, if_live, is_candidate, faul
 use Rattle.lrat_rules.specs.Strict.{IsDefinition}
 use Rattle.lrat_rules.specs.Run.{step_fault, after_step}
 use Rattle.lrat_rules.specs.Derivation.{IsDerivation, IsCutProof, deletes_added, text_of}
-use Rattle.lrat_write.specs.Emitted.{bare_groups}
+use Rattle.lrat_write.specs.LineText.{bare_groups}
 use Rattle.clause_ledger.specs.Book.{IsProofOf, IsWritten-IsProofOf, with_next}
 
 -- live numbers are from 1 up to the greatest

@@ -7,7 +7,7 @@ use Rattle.cnf_base.specs.ProofText.{line_of_step}
 use Rattle.host_io.specs.Channel.{Channel, Rose}
 use Rattle.lrat_rules.specs.State.{State, state_code, clause_at, with_clause}
 use Rattle.lrat_rules.specs.Derivation.{IsDerivation, IsWritten, text_of}
-use Rattle.lrat_write.specs.Emitted.{bare_groups}
+use Rattle.lrat_write.specs.LineText.{bare_groups}
 
 -- its sink, its live clauses with the greatest number, the greatest number allowed, whether no write failed yet, and
 -- for how many more clauses of at most four literals it has room

@@ -7,7 +7,7 @@ ghost use Rattle.node_table.specs.declared.node.Node.TheVariants.{True};
 ghost use Rattle.node_table.specs.declared.error.TableError.TheVariants.{NodeLimit};
 ghost use Rattle.node_table.specs.Diagram.{IsBelow, branch_of, levels};
 ghost use Rattle.node_table.specs.Made.{LacksPart, MakesOnly};
-ghost use Rattle.node_table.specs.Table.{HasChildren, IsSound};
+ghost use Rattle.node_table.specs.Table.{AddsNone, HasChildren, IsSound, UnlessTorn};
 ghost use Rattle.node_table.specs.Progress.{Steps, error_of};
 ghost use Rattle.node_table.specs.Tied.{IsTied};
 ghost use Rattle.node_table.specs.Value.{Levels, value_of};
@@ -41,6 +41,7 @@ pub fn take_literal<S: Sink + Drop>(
     ensures made { MakesOnly table.old.graph table.new.graph (placed_function (drop i placed.now)) }
     ensures lacks { result ≡ Err NodeLimit → LacksPart table.new.graph (placed_function (drop i placed.now)) }
     ensures steps { Steps S.tells (S.channel table.old.book.sink) (S.channel table.new.book.sink) table.old table.new 0 (error_of result) }
+    ensures none_added { UnlessTorn result (AddsNone table.old table.new) }
     ensures retired { table.new.retired ≡ table.old.retired }
     ensures beside { S.beside table.new.book.sink ≡ S.beside table.old.book.sink }
 {
@@ -83,6 +84,7 @@ fn add_literal<S: Sink + Drop>(
     ensures lacks { (more : List PlacedValue) → ((a : Levels) → value_of table.old.graph a below ≡ list_any (placed_holds a) more)
         → result ≡ Err NodeLimit → LacksPart table.new.graph (placed_function (placed.now ∷ more)) }
     ensures steps { Steps S.tells (S.channel table.old.book.sink) (S.channel table.new.book.sink) table.old table.new 0 (error_of result) }
+    ensures none_added { UnlessTorn result (AddsNone table.old table.new) }
     ensures retired { table.new.retired ≡ table.old.retired }
     ensures beside { S.beside table.new.book.sink ≡ S.beside table.old.book.sink }
 {
@@ -110,6 +112,7 @@ fn literal_node<S: Sink + Drop>(
     ensures lacks { (more : List PlacedValue) → ((a : Levels) → value_of table.old.graph a below ≡ list_any (placed_holds a) more)
         → result ≡ Err NodeLimit → LacksPart table.new.graph (placed_function (placed.now ∷ more)) }
     ensures steps { Steps S.tells (S.channel table.old.book.sink) (S.channel table.new.book.sink) table.old table.new 0 (error_of result) }
+    ensures none_added { UnlessTorn result (AddsNone table.old table.new) }
     ensures retired { table.new.retired ≡ table.old.retired }
     ensures beside { S.beside table.new.book.sink ≡ S.beside table.old.book.sink }
 {

@@ -1,6 +1,6 @@
 // A clause of the formula as a term: its diagram from the last literal up, and the unit of the top node. (Bryant, Heule:
 // Generating Extended Resolution Proofs with a BDD-Based SAT Solver, 2021, section 5.)
-ghost use Rattle.std.specs.Prelude.{◌≡◌, ◌≢◌, ◌<◌, ◌≤◌, ◌+◌, ℕ, [], ◌∷◌, Err, IsTrue, IfOk, IfErr, Some};
+ghost use Rattle.std.specs.Prelude.{◌≡◌, ◌≢◌, ◌<◌, ◌≤◌, ◌+◌, ◌⊎◌, ℕ, [], ◌∷◌, Err, IsTrue, IfOk, IfErr, Some};
 ghost use Rattle.std.specs.List.{list_all};
 ghost use Rattle.std.specs.List.Sorted.{IsNonDecreasingBy};
 ghost use Rattle.cnf_base.specs.Truth.{clause_holds, is_literal_of};
@@ -13,7 +13,7 @@ ghost use Rattle.node_table.specs.Diagram.{levels};
 ghost use Rattle.node_table.specs.Just.{IsJustified};
 ghost use Rattle.node_table.specs.Made.{LacksPart, MakesOnly};
 ghost use Rattle.node_table.specs.Progress.{Steps, error_of};
-ghost use Rattle.node_table.specs.Table.{IsSound};
+ghost use Rattle.node_table.specs.Table.{AddsNone, IsAddedTo, IsSound, UnlessTorn};
 ghost use Rattle.clause_terms.specs.declared.placed.Placed.{Placed as PlacedValue};
 ghost use Rattle.clause_terms.specs.ClauseDiagram.{IsDiagramOf};
 ghost use Rattle.clause_terms.specs.Placed.{placed_function, are_of_levels, HasNoOpposites};
@@ -44,6 +44,10 @@ pub fn push_clause<S: Sink + Drop>(
     ensures term { IfOk result (λ found. IsTerm table.new.graph table.new.book.state.live (λ a. clause_holds a clause.now) found.0 found.1) }
     // The unit is the last clause. However the call ends, each node that was made is of a part of the clause.
     ensures last { IfOk result (λ found. (id : ℕ) → found.1 ≡ Clause id → (id ≡ table.new.book.state.top) × (table.old.book.state.top < id)) }
+    // It was added, and nothing else beside definitions.
+    ensures own { IfOk result (λ found. (id : ℕ) → found.1 ≡ Clause id → IsAddedTo table.new id) }
+    ensures alone { IfOk result (λ found. (id : ℕ) → IsAddedTo table.new id → IsAddedTo table.old id ⊎ (found.1 ≡ Clause id)) }
+    ensures none_added { result ≡ Err NodeLimit → AddsNone table.old table.new }
     ensures made { MakesOnly table.old.graph table.new.graph (clause_function table.old.graph.order clause.now) }
     ensures steps { Steps S.tells (S.channel table.old.book.sink) (S.channel table.new.book.sink) table.old table.new 1 (error_of result) }
     ensures retired { table.new.retired ≡ table.old.retired }
@@ -79,6 +83,7 @@ fn build<S: Sink + Drop>(
     ensures made { MakesOnly table.old.graph table.new.graph (placed_function placed.now) }
     ensures lacks { result ≡ Err NodeLimit → LacksPart table.new.graph (placed_function placed.now) }
     ensures steps { Steps S.tells (S.channel table.old.book.sink) (S.channel table.new.book.sink) table.old table.new 0 (error_of result) }
+    ensures none_added { UnlessTorn result (AddsNone table.old table.new) }
     ensures retired { table.new.retired ≡ table.old.retired }
     ensures beside { S.beside table.new.book.sink ≡ S.beside table.old.book.sink }
 {
@@ -107,6 +112,7 @@ fn add_unit<S: Sink + Drop>(
     requires path { HasUnitPath table.old.graph table.old.book.state.live node path.now input }
     ensures proved { IfOk result (λ id. IsJustified table.new.book.state.live (atom_of table.new.graph node ∷ []) (Clause id)) }
     ensures one { IfOk result (λ id. (id ≡ table.old.book.state.top + 1) × (id ≡ table.new.book.state.top)) }
+    ensures own { IfOk result (λ id. IsAddedTo table.new id) }
     ensures nodes { table.new.graph ≡ table.old.graph }
     ensures steps { Steps S.tells (S.channel table.old.book.sink) (S.channel table.new.book.sink) table.old table.new 1 (error_of result) }
     ensures retired { table.new.retired ≡ table.old.retired }

@@ -8,6 +8,7 @@ use Rattle.clap.specs.Words.{Row, Text, first_of, fault_of, subcommand_of}
 use Rattle.clap.specs.declared.error.ErrorKind.{ErrorKind}
 use Rattle.clap.specs.declared.error.ErrorKind.TheVariants as kind
 use Rattle.cnf_base.specs.Number.{numeral_value}
+use Rattle.schedule_plan.specs.Limits.{most_ids}
 use Rattle.schedule_plan.specs.declared.limits.Limits.{Limits}
 use Rattle.command_line.specs.declared.plan.PlanName.{PlanName}
 use Rattle.command_line.specs.declared.plan.PlanName.TheVariants.{Bucket, Conjoin}
@@ -61,7 +62,7 @@ formula_file (Make task) = None
 
 -- the limits where the words give none
 abbrev pub default_limits : Limits
-default_limits = record { cache = 1000000; max_nodes = 10000000; max_ids = 1000000000 }
+default_limits = record { cache = 1000000; max_nodes = 10000000; max_ids = most_ids }
 
 -- the limits that a command runs within
 abbrev pub limits_of : Command → Limits
@@ -148,7 +149,7 @@ limits_with _ _ _ = None
 -- the limits that `--max-nodes`, `--max-ids` and `--cache` give
 abbrev pub limits_given : Option Text → Option Text → Option Text → Option Limits
 limits_given nodes ids entries =
-    limits_with (number_given 0 default_limits.max_nodes 100000000 nodes) (number_given 0 default_limits.max_ids 1000000000 ids) (number_given 1 default_limits.cache 100000000 entries)
+    limits_with (number_given 0 default_limits.max_nodes 100000000 nodes) (number_given 0 default_limits.max_ids most_ids ids) (number_given 1 default_limits.cache 100000000 entries)
 
 -- the size that words give behind the word `board`
 abbrev pub size_given : Option Text → Option Text → Option ℕ

@@ -11,7 +11,8 @@ const PROOF_HELP: &str = "The file that the proof is written to, in LRAT";
 
 const MAX_NODES_HELP: &str = "The most nodes in use at once, 0 to 100000000 [default: 10000000]";
 
-const MAX_IDS_HELP: &str = "The greatest clause number, 0 to 1000000000 [default: 1000000000]";
+const MAX_IDS_HELP: &str =
+    "The greatest clause number, 0 to 1000000000000000 [default: 1000000000000000]";
 
 const CACHE_HELP: &str = "The most entries in each cache, 1 to 100000000 [default: 1000000]";
 

@@ -1,3 +1,4 @@
 pub mod Opening
 pub mod Orders
+pub mod Plainness
 pub mod Settling

@@ -26,4 +26,6 @@ mod script;
 #[cfg(test)]
 mod support;
 #[cfg(test)]
+mod swept;
+#[cfg(test)]
 mod terms;

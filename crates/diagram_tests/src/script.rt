@@ -7,6 +7,7 @@ ghost use Rattle.node_table.specs.Diagram.{IsOrder};
 ghost use Rattle.node_table.specs.Table.{IsSound, TableState};
 ghost use Rattle.operations.specs.Entries.{Fits};
 ghost use Rattle.apply_and.specs.Cache.{entries};
+ghost use Rattle.diagram_tests.specs.Plain.{IsPlain};
 ghost use Rattle.diagram_tests.specs.declared.support.ProofText.{ProofText as ProofTextValue};
 
 use crate::support::{ProofText, Room, is_known, make, open, order};
@@ -111,6 +112,7 @@ pub fn make_all(
 ) -> Result<(), TableError>
     requires sound { IsSound table.old }
     ensures sound { OnOk result (IsSound table.new) }
+    ensures plain { IsPlain table.old → OnOk result (IsPlain table.new) }
 {
     for word in words.split_whitespace() {
         let (level, high, low) = children(results.as_slice(), word);
@@ -274,8 +276,8 @@ fn result_of(
     }
 }
 
-// A node's name: that of a constant, or that of the first result which it is.
-fn name_of(results: &[Named], node: Node) -> char {
+/// A node's name: that of a constant, or that of the first result which it is.
+pub fn name_of(results: &[Named], node: Node) -> char {
     match node {
         Node::True => 'T',
         Node::False => 'F',

@@ -4,6 +4,7 @@ ghost use Rattle.cnf_base.specs.Truth.{AreClausesOf};
 ghost use Rattle.lrat_rules.specs.State.{start};
 ghost use Rattle.node_table.specs.Diagram.{IsBelow, IsOrder, is_node};
 ghost use Rattle.node_table.specs.Table.{IsSound};
+ghost use Rattle.diagram_tests.specs.Plain.{IsPlain};
 
 use clause_ledger::Ledger;
 use cnf_base::{Cnf, CnfBuilder, Lit};
@@ -172,6 +173,7 @@ pub fn open(
     ensures order { IfOk result (λ table. table.graph.order ≡ order.now) }
     ensures sound { IfOk result (λ table. IsSound table) }
     ensures start { IfOk result (λ table. table.book.state ≡ start formula.now.clauses) }
+    ensures plain { IfOk result (λ table. IsPlain table) }
 {
     opening_law();
     if room.nodes > 1_000 || room.ids > 100_000 {
@@ -220,6 +222,7 @@ pub fn make(
 ) -> Result<Node, TableError>
     requires sound { IsSound table.old }
     ensures sound { OnOk result (IsSound table.new) }
+    ensures plain { IsPlain table.old → OnOk result (IsPlain table.new) }
 {
     assert!(rt; (level as usize) < table.order().len());
     assert!(rt; is_below(table, level, high));

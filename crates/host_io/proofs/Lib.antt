@@ -1,4 +1,5 @@
 pub mod Added
+pub mod Emitting
 pub mod Front
 pub mod HasRead
 pub mod Kept

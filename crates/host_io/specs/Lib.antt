@@ -6,3 +6,4 @@ pub mod Failing
 pub mod Real
 pub mod Port
 pub mod Slice
+pub mod Emitted

@@ -3,12 +3,14 @@
 //! the bytes that were taken, are left, were written and are flushed, names of files, and counts of faults: a
 //! failed call raises its role's count and moves nothing, and no other call raises it. `MemoryHost` keeps its files
 //! in memory and tells all; so does `SliceSource`, a source of bytes in memory. `RealHost` meets the system, tells
-//! names and counts, and is trusted for the bytes. Stands on nothing.
+//! names and counts, and is trusted for the bytes. `emit` collects a text in a small buffer before its sink. Stands on
+//! nothing.
 #![tactic(auto)]
 
 mod client;
 mod device;
 mod failing_host;
+mod held;
 mod host;
 mod host_sink;
 mod host_source;
@@ -26,6 +28,7 @@ mod whole;
 
 pub use client::{load, put};
 pub use failing_host::FailingHost;
+pub use held::{Held, emit, emit_number};
 pub use host::Host;
 pub use host_sink::HostSink;
 pub use host_source::HostSource;

@@ -1,16 +1,23 @@
 // The computed cache: implications that were found to hold, by their operands, with the number of the clause that justifies
 // each; 0 where none is needed. (Brace, Rudell, Bryant: Efficient Implementation of a BDD Package, DAC 1990.)
-ghost use Rattle.std.specs.Prelude.{◌≡◌, ◌≤◌, ◌<◌, ℕ, [], List, None, Some, Contains, IsFalse, IfOk, IfSome, MatchOption, OnErr};
-ghost use Rattle.operations.specs.Entries.{Implication};
-ghost use Rattle.operations.specs.Pairs.{Pair, is_one};
-ghost use Rattle.imply.specs.Cache.{IsKept, IsLooked, StandInFront, entries, most_entries, with_used};
+ghost use Rattle.std.specs.Prelude.{◌≡◌, ◌≤◌, ◌<◌, ◌&&◌, ℕ, [], List, None, Some, Contains, IsFalse, IfOk, IfSome, MatchOption, OnErr};
+ghost use Rattle.node_table.specs.Marks.{is_marked};
+ghost use Rattle.node_table.specs.Progress.{Steps};
+ghost use Rattle.node_table.specs.Table.{IsSound};
+ghost use Rattle.op_cache.specs.Cache.{last_of};
+ghost use Rattle.operations.specs.Entries.{Fits, Implication};
+ghost use Rattle.operations.specs.Pairs.{Pair, is_one, same_pair};
+ghost use Rattle.operations.specs.Purged.{IsPurged, MayRetire};
+ghost use Rattle.operations.specs.Turns.{HasTurn, RetiresTurn};
+ghost use Rattle.imply.specs.Cache.{IsKept, IsLooked, StandInFront, entries, entry_of, most_entries, with_used};
 ghost use Rattle.node_table.specs.declared.node.Just.{Just as JustValue};
 ghost use Rattle.node_table.specs.declared.node.Just.TheVariants.{Clause};
 
 use cnf_base::{Id, OutOfMemory};
-use node_table::{Just, Node};
+use host_io::Sink;
+use node_table::{Just, Marks, Node, Table};
 use op_cache::Bounded;
-use operations::{cache_law, id_of, just_of, number_of};
+use operations::{cache_law, cache_turn_law, id_of, just_of, number_of, retire, table_turn_law};
 use std::alloc::Global;
 
 /// Implications by their operands, with their justifications.
@@ -70,4 +77,48 @@ impl ImplyCache {
             Some(pair) => Ok(id_of(pair.1)),
         }
     }
+
+    /// Lets entries go that name an unmarked node, and retires their clauses. What stays is in the order that it had. It
+    /// takes no memory.
+    pub fn purge<S: Sink + Drop>(&mut self, table: &mut Table<S>, marks: &Marks)
+        requires sound { IsSound table.old }
+        requires fits { Fits table.old (entries self.old) }
+        ensures purged { IsPurged table.old table.new marks.now (entries self.old) (entries self.new) }
+        ensures most { most_entries self.new ≡ most_entries self.old }
+        ensures steps { Steps S.tells (S.channel table.old.book.sink) (S.channel table.new.book.sink) table.old table.new 0 None }
+        ensures beside { S.beside table.new.book.sink ≡ S.beside table.old.book.sink }
+    {
+        cache_turn_law::<(Node, Node), u64>();
+        table_turn_law::<S, (Node, Node), u64>();
+        'turns: for _ in 0..self.results.len() {
+            self.turn(table, marks);
+        }
+    }
+
+    // The entry whose use lies the longest ago comes to the front where the nodes that it names are marked. Else it goes,
+    // and its clause is retired.
+    fn turn<S: Sink + Drop>(&mut self, table: &mut Table<S>, marks: &Marks)
+        requires sound { IsSound table.old }
+        requires may { (last : Pair × ℕ) → last_of self.old.results.entries ≡ Some last → MayRetire table.old (entry_of last) }
+        ensures cache { (last : Pair × ℕ) → last_of self.old.results.entries ≡ Some last → HasTurn entry_of marks.now same_pair self.old.results self.new.results last }
+        ensures table { (last : Pair × ℕ) → last_of self.old.results.entries ≡ Some last → RetiresTurn entry_of marks.now S.tells S.channel table.old table.new last }
+        ensures beside { S.beside table.new.book.sink ≡ S.beside table.old.book.sink }
+    {
+        let Some((pair, number)) = self.results.last() else {
+            return;
+        };
+        if are_marked(marks, pair) {
+            let _ = self.results.look(&pair);
+            return;
+        }
+        let _ = self.results.pop_last();
+        retire(table, id_of(number));
+    }
+}
+
+// Whether both operands are marked.
+fn are_marked(marks: &Marks, pair: (Node, Node)) -> bool
+    ensures { result ≡ (is_marked marks.now pair.0 && is_marked marks.now pair.1) }
+{
+    marks.is_marked(pair.0) && marks.is_marked(pair.1)
 }

@@ -3,7 +3,7 @@
 //! one write.
 #![tactic(auto)]
 
-mod held;
 mod line;
+mod numbers;
 
 pub use line::{write_add, write_define, write_delete};

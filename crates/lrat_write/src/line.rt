@@ -4,11 +4,12 @@ ghost use Rattle.std.specs.List.{list_all};
 ghost use Rattle.cnf_base.specs.declared.step.Step.TheVariants.{Add, Delete};
 ghost use Rattle.cnf_base.specs.ProofText.{line_of_step, is_id};
 ghost use Rattle.host_io.specs.Channel.{WritesAll};
-ghost use Rattle.lrat_write.specs.Emitted.{Emits, line_text, deletion_text, bare_groups};
+ghost use Rattle.host_io.specs.Emitted.{Emits};
+ghost use Rattle.lrat_write.specs.LineText.{line_text, deletion_text, bare_groups};
 
-use crate::held::{Held, emit, emit_ids, emit_literals};
+use crate::numbers::{emit_ids, emit_literals};
 use cnf_base::{Id, Lit};
-use host_io::{Failed, Sink, write_all};
+use host_io::{Failed, Held, Sink, emit, write_all};
 use itoa::Buffer;
 
 /// Writes the line of an addition with positive hints: `id lit .. 0 hint .. 0`. Where a write fails, a front of

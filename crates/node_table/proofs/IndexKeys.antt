@@ -1,5 +1,5 @@
 -- What an index finds, before and after the key of a node took a place.
-use Rattle.std.proofs.Common.{◌≡◌, ◌⊎◌, ℕ, ◌+◌, ◌^◌, ◌<◌, List, [], ◌∷◌, length, get_or, None, Some, Contains, refl, sym, subst, ap, ◌∙◌, inl, inr, arith}
+use Rattle.std.proofs.Common.{◌≡◌, ◌⊎◌, ℕ, ◌+◌, ◌^◌, ◌<◌, ◌≤◌, List, [], ◌∷◌, length, get_or, None, Some, Contains, refl, sym, subst, ap, ◌∙◌, inl, inr, arith}
 use Rattle.std.proofs.lemmas.Bool.{cases_eq, cases_lt}
 use Rattle.std.proofs.lemmas.List.{length-set}
 use Rattle.slab.specs.Slab.{Slab, get, entries, slab_len, Updates}
@@ -7,7 +7,7 @@ use Rattle.slab.proofs.SlabLemmas.{Contains-cons, Contains-cons_cases, Contains-
 use Rattle.node_table.specs.declared.stored.Child.{Child}
 use Rattle.node_table.specs.declared.stored.StoredNode.{StoredNode}
 use Rattle.node_table.specs.declared.index.Index.{Index}
-use Rattle.node_table.specs.Index.{home_of, place_at, IsTriple, IsMet, IsFound, IsCounted, IsIndexOf, Enters}
+use Rattle.node_table.specs.Index.{home_of, place_at, IsTriple, IsMet, IsFound, IsCounted, IsIndexOf, HasRoom, Enters}
 use Rattle.node_table.proofs.IndexPlaces.{still_met, newly_met, one_more_taken}
 
 -- an index of a slab's nodes is one of another slab that has the same
@@ -94,18 +94,22 @@ module _ (old new : Index) (key : ℕ) (node : StoredNode) (enters : Enters old 
         ];
       }
 
--- while stored nodes are entered: those that are left have room, and each is left or found
-pub record IsPartOf (index : Index) (nodes : Slab StoredNode) (left : List (ℕ × StoredNode)) : Type 0 where
+-- while stored nodes are entered into so many places: each is left or found, and all have room
+pub record IsPartOf (size : ℕ) (index : Index) (nodes : Slab StoredNode) (left : List (ℕ × StoredNode)) : Type 0 where
   pub counted : IsCounted index
-  pub room : index.taken + length left < length index.places.items
+  pub places : length index.places.items ≡ size
+  pub all : index.taken + length left ≡ slab_len nodes
+  pub room : slab_len nodes ≤ size
   pub stored : (key : ℕ) (node : StoredNode) → Contains left (key, node) → get nodes key ≡ Some node
   pub found : (key : ℕ) (node : StoredNode) → get nodes key ≡ Some node → Contains left (key, node) ⊎ IsFound index key node
 
-pub one_fewer_left : (old new : Index) (nodes : Slab StoredNode) (key : ℕ) (node : StoredNode) (left : List (ℕ × StoredNode)) → Enters old new key node → IsPartOf old nodes ((key, node) ∷ left) → IsPartOf new nodes left
-one_fewer_left old new nodes key node left enters part =
+pub one_fewer_left : (size : ℕ) (old new : Index) (nodes : Slab StoredNode) (key : ℕ) (node : StoredNode) (left : List (ℕ × StoredNode)) → Enters old new key node → IsPartOf size old nodes ((key, node) ∷ left) → IsPartOf size new nodes left
+one_fewer_left size old new nodes key node left enters part =
     record {
       counted = still_counted old new key node enters part.counted;
-      room = omega (arith, part.room, enters.taken, as_many old new key node enters);
+      places = as_many old new key node enters ∙ part.places;
+      all = omega (arith, part.all, enters.taken);
+      room = part.room;
       stored = λ other_key other there. part.stored other_key other (Contains-cons _ _ _ there);
       found = λ other_key other stored. elim (part.found other_key other stored) [
         | inl there ↦ elim (Contains-cons_cases _ _ _ there) [
@@ -116,20 +120,28 @@ one_fewer_left old new nodes key node left enters part =
       ];
     }
 
-pub all_left : (index : Index) (nodes : Slab StoredNode) (left : List (ℕ × StoredNode)) → left ≡ entries nodes → IsCounted index → index.taken ≡ 0 → slab_len nodes < length index.places.items → IsPartOf index nodes left
+pub all_left : (index : Index) (nodes : Slab StoredNode) (left : List (ℕ × StoredNode)) → left ≡ entries nodes → IsCounted index → index.taken ≡ 0 → slab_len nodes ≤ length index.places.items → IsPartOf (length index.places.items) index nodes left
 all_left index nodes left all counted none room =
     record {
       counted = counted;
-      room = omega (arith, none, room, ap length all, length-entries nodes);
+      places = refl;
+      all = omega (arith, none, ap length all, length-entries nodes);
+      room = room;
       stored = λ key node there. (Contains-entries nodes key node).0 (subst (λ (es : List (ℕ × StoredNode)). Contains es (key, node)) all there);
       found = λ key node stored. inl (subst (λ (es : List (ℕ × StoredNode)). Contains es (key, node)) (sym all) ((Contains-entries nodes key node).1 stored));
     }
 
-pub next_stored : (index : Index) (nodes : Slab StoredNode) (key : ℕ) (node : StoredNode) (left : List (ℕ × StoredNode)) → IsPartOf index nodes ((key, node) ∷ left) → get nodes key ≡ Some node
-next_stored index nodes key node left part = part.stored key node (0, omega arith, refl)
+pub next_stored : (size : ℕ) (index : Index) (nodes : Slab StoredNode) (key : ℕ) (node : StoredNode) (left : List (ℕ × StoredNode)) → IsPartOf size index nodes ((key, node) ∷ left) → get nodes key ≡ Some node
+next_stored size index nodes key node left part = part.stored key node (0, omega arith, refl)
 
-pub none_left : (index : Index) (nodes : Slab StoredNode) (left : List (ℕ × StoredNode)) → ((key : ℕ) (node : StoredNode) → get nodes key ≡ Some node → key + 1 < 2 ^ 32) → left ≡ [] → IsPartOf index nodes left → IsIndexOf index nodes
-none_left index nodes left keys none part =
+pub room_for_next : (size : ℕ) (index : Index) (nodes : Slab StoredNode) (key : ℕ) (node : StoredNode) (left : List (ℕ × StoredNode)) → IsPartOf size index nodes ((key, node) ∷ left) → HasRoom index
+room_for_next size index nodes key node left part = record { counted = part.counted; room = omega (arith, part.places, part.all, part.room) }
+
+pub room_at_end : (size : ℕ) (index : Index) (nodes : Slab StoredNode) (left : List (ℕ × StoredNode)) → IsPartOf size index nodes left → slab_len nodes < size → HasRoom index
+room_at_end size index nodes left part more = record { counted = part.counted; room = omega (arith, part.places, part.all, more) }
+
+pub none_left : (size : ℕ) (index : Index) (nodes : Slab StoredNode) (left : List (ℕ × StoredNode)) → ((key : ℕ) (node : StoredNode) → get nodes key ≡ Some node → key + 1 < 2 ^ 32) → left ≡ [] → IsPartOf size index nodes left → IsIndexOf index nodes
+none_left size index nodes left keys none part =
     record {
       counted = part.counted;
       keys = keys;

@@ -16,10 +16,10 @@ pub IsIndexOf-room : (index : Index) (old room : Slab StoredNode) → room ≡ r
 IsIndexOf-room index old room kept = same_nodes_indexed index old room (ap (λ (s : Slab StoredNode). s.slots) kept)
 
 -- a node of this level and these children is stored under its triple
-pub triple_from_branch : (variable : ℕ) (node : StoredNode) (branch : Branch) → branch ≡ branch_in variable node
+pub triple_from_branch : (node : StoredNode) (branch : Branch) → branch ≡ branch_in node
     → (level : ℕ) (high low : Node) (high_child low_child : Child) → high_child ≡ child_of high → low_child ≡ child_of low → branch.level ≡ level → branch.high ≡ high → branch.low ≡ low
     → IsTriple node level high_child low_child
-triple_from_branch variable node branch is level high low high_child low_child high_is low_is same_level same_high same_low = record {
+triple_from_branch node branch is level high low high_child low_child high_is low_is same_level same_high same_low = record {
   level = sym (ap (λ (b : Branch). b.level) is) ∙ same_level;
   high = child_from_node node.high high (sym (ap (λ (b : Branch). b.high) is) ∙ same_high) ∙ sym high_is;
   low = child_from_node node.low low (sym (ap (λ (b : Branch). b.low) is) ∙ same_low) ∙ sym low_is;

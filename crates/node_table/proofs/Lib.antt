@@ -5,6 +5,8 @@ pub mod Looked
 pub mod Values
 pub mod Grown
 pub mod Pushed
+pub mod Falling
+pub mod Variables
 pub mod Canonical
 pub mod Kept
 pub mod Stands
@@ -13,6 +15,7 @@ pub mod DefineClauses
 pub mod DefineHolders
 pub mod DefineGood
 pub mod DefineSteps
+pub mod DefinedOver
 pub mod Justified
 pub mod Fresh
 pub mod HasChildren
@@ -31,8 +34,17 @@ pub mod CallSteps
 pub mod Making
 pub mod Justifying
 pub mod Settling
+pub mod Deletable
+pub mod Deleting
+pub mod SweptTable
 pub mod Subfunctions
 pub mod Reached
 pub mod Missing
 pub mod IndexPlaces
 pub mod IndexKeys
+pub mod Swept
+pub mod Sweeping
+pub mod Numbered
+pub mod Marked
+pub mod Remaining
+pub mod Freed

@@ -76,20 +76,20 @@ abs-neg (pos zero) = refl
 abs-neg (pos (suc n)) = refl
 abs-neg (negsuc n) = refl
 
-over_own : (graph : Graph) (own : ℤ) → IsOwned graph (nat_abs own) → IsOverAtom graph (Of own)
+pub over_own : (graph : Graph) (own : ℤ) → IsOwned graph (nat_abs own) → IsOverAtom graph (Of own)
 over_own graph own owned literal is above = let same : own ≡ literal = (let e : Of own ≡ Of literal = is in cc) in subst (λ (n : ℤ). IsOwned graph (nat_abs n)) same owned
 
-over_input : (graph : Graph) (own : ℤ) → nat_abs own ≤ levels graph → IsOverAtom graph (Of own)
+pub over_input : (graph : Graph) (own : ℤ) → nat_abs own ≤ levels graph → IsOverAtom graph (Of own)
 over_input graph own small literal is above = let same : own ≡ literal = (let e : Of own ≡ Of literal = is in cc) in absurd (omega (arith, above, small, ap nat_abs same))
 
-over_node : (graph : Graph) (node : Node) → is_node graph node ≡ true → IsOverAtom graph (atom_of graph node)
+pub over_node : (graph : Graph) (node : Node) → is_node graph node ≡ true → IsOverAtom graph (atom_of graph node)
 over_node graph False stands literal is above = absurd (let e : Never ≡ Of literal = is in cc)
 over_node graph True stands literal is above = absurd (let e : Always ≡ Of literal = is in cc)
 over_node graph (Inner key) stands literal is above =
     let branch = branch_of_node graph key stands in
     over_own graph (pos branch.0.variable) (record { key = key.index; branch = branch.0; stands = branch.1; own = refl }) literal (sym (ap atom_in branch.1) ∙ is) above
 
-over_neg : (graph : Graph) (atom : Atom) → IsOverAtom graph atom → IsOverAtom graph (neg_atom atom)
+pub over_neg : (graph : Graph) (atom : Atom) → IsOverAtom graph atom → IsOverAtom graph (neg_atom atom)
 over_neg graph Always over literal is above = absurd (let e : Never ≡ Of literal = is in cc)
 over_neg graph Never over literal is above = absurd (let e : Always ≡ Of literal = is in cc)
 over_neg graph (Of own) over literal is above =

@@ -17,7 +17,7 @@ use Rattle.node_table.specs.Errors.{table_error}
 use Rattle.node_table.specs.Diagram.{Graph, IsBelow, IsNew, branch_at, levels}
 use Rattle.node_table.specs.Defined.{Definition, definition_count, definition_lines, definitions, with_definitions}
 use Rattle.node_table.specs.Made.{inner}
-use Rattle.node_table.specs.Tied.{IsTied, IsAdded}
+use Rattle.node_table.specs.Tied.{IsTied, IsAdded, IsOwned}
 use Rattle.node_table.specs.Table.{TableState, IsSound, IsWanted, IsFree, IsMade, HasChildren, live_nodes, new_branch, node_definitions}
 use Rattle.node_table.specs.Progress.{Steps, error_of}
 use Rattle.node_table.proofs.Added.{added_before}
@@ -68,6 +68,7 @@ told_torn (Err t) e is because = ap Some (sym (is ∙ ap table_error because))
 pub record Making {S : Type 0} (graph later : Graph) (book ready : Book S) (aside : Aside) (level : ℕ) (high low : Node) (key : NodeKey) (variable : ℕ) (u x : ℤ) (high_atom low_atom : Atom) : Type 0 where
   pub sound : IsSound (table_of aside graph book)
   pub asked : IsAsked graph book.state level high low variable
+  pub least : (other : ℕ) → levels graph < other → other < variable → IsOwned graph other
   pub joined : IsNew graph later key.index (new_branch book.state level high low variable)
   pub room : book.state.top + definition_count high low ≤ book.limit
   pub few : live_nodes graph < aside.max_nodes
@@ -137,7 +138,7 @@ module _ {S : Type 0} (tells : Bool) (channel : S → Channel) {graph later : Gr
   pub making_made : new.state ≡ with_definitions ready.state handed_over
       → (IsTrue tells → (channel new.sink).written ≡ (channel ready.sink).written ++ definition_lines ready.state handed_over)
       → IsMade old_table new_table level high low variable (Inner key) × (IsTrue tells → (channel new.sink).written ≡ (channel book.sink).written ++ definition_lines book.state asked_for)
-  making_made is lines = (record { free = free; key = key; named = refl; joined = making.joined; defined = written is }, λ told. lines told ∙ (λ i. (same_sink i).written ++ same_lines i))
+  making_made is lines = (record { free = free; least = making.least; key = key; named = refl; joined = making.joined; defined = written is }, λ told. lines told ∙ (λ i. (same_sink i).written ++ same_lines i))
 
   pub making_cut : IsTorn tells (channel ready.sink) (channel new.sink) (definition_lines ready.state handed_over)
       → IsFree graph book.state.live variable × IsTorn tells (channel book.sink) (channel new.sink) (definition_lines book.state asked_for)

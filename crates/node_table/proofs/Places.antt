@@ -1,7 +1,8 @@
--- Room on the list of retired clauses, as clauses are added and deleted.
-use Rattle.std.proofs.Common.{◌≡◌, ◌<◌, ◌≤◌, ◌+◌, ◌-◌, ◌++◌, ◌||◌, ◌∙◌, ℕ, Bool, ℤ, length, List, [], ◌∷◌, Option, None, Some, Contains, is_some, true, false, refl, sym, ap, subst, arith, inl, inr, length-append, eq-eqb}
+-- Room on the list of retired clauses, as clauses are added and deleted. The numbers of clauses of nodes, as nodes join.
+use Rattle.std.proofs.Common.{◌≡◌, ◌<◌, ◌≤◌, ◌+◌, ◌-◌, ◌++◌, ◌||◌, ◌∙◌, ℕ, Bool, ℤ, length, List, [], ◌∷◌, Option, None, Some, Contains, nat_cmp, is_some, true, false, refl, sym, ap, subst, arith, inl, inr, length-append, eq-eqb}
 use Rattle.std.specs.Prelude.{nat_eq, not}
 use Rattle.std.specs.Cmp.{nat_eq_equiv}
+use Rattle.std.specs.FinMap as map
 use Rattle.std.specs.List.{filter}
 use Rattle.std.specs.Set.{is_member}
 use Rattle.std.proofs.lemmas.Bool.{and_from, or_left, or_right}
@@ -10,9 +11,11 @@ use Rattle.std.proofs.lemmas.Map.Made.{is_member-filter, length-le_from_is_membe
 use Rattle.std.proofs.lemmas.Map.Views.{Contains-from_any, exact_unsigned_eq}
 use Rattle.lrat_rules.specs.State.{State, Live, clause_at}
 use Rattle.clause_ledger.specs.Book.{with_next}
-use Rattle.node_table.specs.Diagram.{Graph}
+use Rattle.node_table.specs.declared.node.Branch.{Branch}
+use Rattle.node_table.specs.Diagram.{Graph, IsNew, branch_at}
 use Rattle.node_table.specs.Tied.{IsAdded, AreRetired}
-use Rattle.node_table.specs.Places.{HavePlaces}
+use Rattle.node_table.specs.Places.{HavePlaces, AreNumberedAbove}
+use Rattle.node_table.proofs.Grown.{joined_cases}
 use Rattle.node_table.proofs.Retired.{AreRetired-push, not_member}
 use Rattle.node_table.proofs.Stands.{next_cases}
 
@@ -102,3 +105,16 @@ HavePlaces-settled graph old new inputs places capacity retired have are gone st
           (have.all id (record { stands = ap is_some (sym (stay id out)) ∙ own.stands; above = own.above; defines_none = own.defines_none }))
           (ap not (not_member retired id out));
     }
+
+-- without nodes
+pub AreNumberedAbove-none : (inputs : ℕ) (graph : Graph) → graph.nodes ≡ map.empty → AreNumberedAbove inputs graph
+AreNumberedAbove-none inputs graph empty key branch at =
+    absurd (let none : None ≡ Some branch = sym (ap (λ (m : map.FinMap nat_cmp Branch). map.get m key) empty ∙ map.get-empty nat_cmp key) ∙ at in cc)
+
+-- one node more
+pub AreNumberedAbove-new : (inputs : ℕ) (old new : Graph) (key : ℕ) (branch : Branch) → IsNew old new key branch → inputs < branch.first → AreNumberedAbove inputs old → AreNumberedAbove inputs new
+AreNumberedAbove-new inputs old new key branch is above each other b at =
+    elim (joined_cases old key branch other b (sym (ap (λ (graph : Graph). branch_at graph other) is.joined) ∙ at)) [
+      | inl here ↦ subst (λ (c : Branch). inputs < c.first) (sym here.1) above
+      | inr there ↦ each other b there
+    ]

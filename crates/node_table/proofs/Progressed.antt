@@ -15,10 +15,10 @@ use Rattle.node_table.specs.Progress.{Continues, BreaksOff, Leaves, Steps, numbe
 use Rattle.node_table.proofs.Grown.{KeepsNodes-none, KeepsNodes-further}
 use Rattle.node_table.proofs.Stands.{Grows-none}
 
-OnlyWrites-same : (channel : Channel) → OnlyWrites channel channel
+pub OnlyWrites-same : (channel : Channel) → OnlyWrites channel channel
 OnlyWrites-same channel = record { flushed = refl; taken = refl; left = refl; name = refl; faults = omega arith }
 
-OnlyWrites-further : (one two three : Channel) → OnlyWrites one two → OnlyWrites two three → OnlyWrites one three
+pub OnlyWrites-further : (one two three : Channel) → OnlyWrites one two → OnlyWrites two three → OnlyWrites one three
 OnlyWrites-further one two three first second = record {
   flushed = second.flushed ∙ first.flushed;
   taken = second.taken ∙ first.taken;
@@ -142,7 +142,7 @@ module _ {S : Type 0} where
           writes = OnlyWrites-further first second third before.writes after.writes;
         }
 
-    leaves_further : (first second third : Channel) (old mid new : TableState S) (error : Option TableError) → Continues tells first second old mid
+    pub leaves_further : (first second third : Channel) (old mid new : TableState S) (error : Option TableError) → Continues tells first second old mid
         → Leaves tells second third mid new error → Leaves tells first third old new error
     leaves_further first second third old mid new None before after = Continues-further first second third old mid new before after
     leaves_further first second third old mid new (Some NodeLimit) before after = (Continues-further first second third old mid new before after.0, after.1)

@@ -1,5 +1,5 @@
 -- A node more among the stored ones.
-use Rattle.std.proofs.Common.{◌≡◌, ℕ, ◌+◌, ◌<◌, ◌≤◌, true, List, length, get_or, Option, None, Some, refl, sym, ap, ◌∙◌, subst, arith, inl, inr}
+use Rattle.std.proofs.Common.{◌≡◌, ◌≢◌, ℕ, ◌+◌, ◌<◌, ◌≤◌, true, List, length, get_or, Option, None, Some, refl, sym, ap, ◌∙◌, subst, arith, inl, inr}
 use Rattle.std.specs.FinMap as map
 use Rattle.std.specs.Option.{option_map}
 use Rattle.std.proofs.lemmas.Bool.{cases_eq}
@@ -18,37 +18,35 @@ use Rattle.node_table.proofs.Grown.{IsReduced-joined}
 use Rattle.node_table.proofs.Values.{branch_of_node}
 
 -- the stored node of a node of the graph
-pub record HasStored (order : List ℕ) (slots : List (Option StoredNode)) (key : ℕ) (branch : Branch) : Type 0 where
+pub record HasStored (slots : List (Option StoredNode)) (key : ℕ) (branch : Branch) : Type 0 where
   pub node : StoredNode
   pub stands : get_or slots key None ≡ Some node
-  pub branch_is : branch ≡ branch_in (length order + 1 + key) node
+  pub branch_is : branch ≡ branch_in node
 
-has_stored : (variable : ℕ) (slot : Option StoredNode) (branch : Branch) → option_map (branch_in variable) slot ≡ Some branch → (node : StoredNode) × (slot ≡ Some node) × (branch ≡ branch_in variable node)
-has_stored variable None branch is = absurd (let none : None ≡ Some branch = is in cc)
-has_stored variable (Some node) branch is = let same : Some (branch_in variable node) ≡ Some branch = is in (node, refl, cc)
+has_stored : (slot : Option StoredNode) (branch : Branch) → option_map branch_in slot ≡ Some branch → (node : StoredNode) × (slot ≡ Some node) × (branch ≡ branch_in node)
+has_stored None branch is = absurd (let none : None ≡ Some branch = is in cc)
+has_stored (Some node) branch is = let same : Some (branch_in node) ≡ Some branch = is in (node, refl, cc)
 
-pub stored_from_branch : (order : List ℕ) (slots : List (Option StoredNode)) (key : ℕ) (branch : Branch) → branch_at (graph_of order slots) key ≡ Some branch → HasStored order slots key branch
+pub stored_from_branch : (order : List ℕ) (slots : List (Option StoredNode)) (key : ℕ) (branch : Branch) → branch_at (graph_of order slots) key ≡ Some branch → HasStored slots key branch
 stored_from_branch order slots key branch is =
-    let found = has_stored (length order + 1 + key) (get_or slots key None) branch (sym (branch_at-graph_of order slots key) ∙ is) in
+    let found = has_stored (get_or slots key None) branch (sym (branch_at-graph_of order slots key) ∙ is) in
     record { node = found.0; stands = found.1; branch_is = found.2 }
 
-pub variable_from_key : (order : List ℕ) (slots : List (Option StoredNode)) (key : ℕ) (branch : Branch) → branch_at (graph_of order slots) key ≡ Some branch → branch.variable ≡ length order + 1 + key
-variable_from_key order slots key branch is = ap (λ (b : Branch). b.variable) (stored_from_branch order slots key branch is).branch_is
+pub branch_from_stored : (order : List ℕ) (slots : List (Option StoredNode)) (key : ℕ) (node : StoredNode) → get_or slots key None ≡ Some node → branch_at (graph_of order slots) key ≡ Some (branch_in node)
+branch_from_stored order slots key node is = branch_at-graph_of order slots key ∙ ap (option_map branch_in) is
 
 pub unused_key : (order : List ℕ) (slots : List (Option StoredNode)) (key : ℕ) → get_or slots key None ≡ None → branch_at (graph_of order slots) key ≡ None
-unused_key order slots key none = branch_at-graph_of order slots key ∙ ap (option_map (branch_in (length order + 1 + key))) none
+unused_key order slots key none = branch_at-graph_of order slots key ∙ ap (option_map branch_in) none
 
--- no node has the extension variable of a key that isn't used
-pub own_variable : (order : List ℕ) (slots : List (Option StoredNode)) (key : ℕ) → get_or slots key None ≡ None
-    → (other : ℕ) (branch : Branch) → branch_at (graph_of order slots) other ≡ Some branch → branch.variable ≡ length order + 1 + key → ⊥
-own_variable order slots key none other branch is same =
-    let variable = variable_from_key order slots other branch is in
-    let here : other ≡ key = omega (arith, variable, same) in
-    let unused : branch_at (graph_of order slots) other ≡ None = ap (branch_at (graph_of order slots)) here ∙ unused_key order slots key none in
-    cc
+-- an extension variable that no stored node has is no node's
+pub own_variable : (order : List ℕ) (slots : List (Option StoredNode)) (variable : ℕ) → ((key : ℕ) (node : StoredNode) → get_or slots key None ≡ Some node → node.variable ≢ variable)
+    → (key : ℕ) (branch : Branch) → branch_at (graph_of order slots) key ≡ Some branch → branch.variable ≢ variable
+own_variable order slots variable own key branch is same =
+    let found = stored_from_branch order slots key branch is in
+    own key found.node found.stands (sym (ap (λ (b : Branch). b.variable) found.branch_is) ∙ same)
 
 -- what holds of each stored node, and of the new one, holds of each stored node after
-each_stored : (old new : Slab StoredNode) (key : ℕ) (node : StoredNode) → Updates old new key (Some node) → (P : ℕ → StoredNode → Type 0) → P key node
+pub each_stored : (old new : Slab StoredNode) (key : ℕ) (node : StoredNode) → Updates old new key (Some node) → (P : ℕ → StoredNode → Type 0) → P key node
     → ((other : ℕ) (one : StoredNode) → get old other ≡ Some one → P other one) → (other : ℕ) (one : StoredNode) → get new other ≡ Some one → P other one
 each_stored old new key node updates P here there other one is =
     elim (cases_eq other key) [
@@ -66,26 +64,28 @@ pub record Joins (order : List ℕ) (old new : Slab StoredNode) (key : ℕ) (nod
   pub small : key < 100000000
   pub vacant : get old key ≡ None
   pub updates : Updates old new key (Some node)
+  pub above : length order < node.variable
+  pub own : (other : ℕ) (one : StoredNode) → get old other ≡ Some one → one.variable ≢ node.variable
   pub first : number_of node.first ≤ max_id + 1
-  pub fits : FitsIn (graph_of order old.slots) (branch_in (length order + 1 + key) node)
+  pub fits : FitsIn (graph_of order old.slots) (branch_in node)
 
 pub joined_graph : (order : List ℕ) (old new : Slab StoredNode) (key : ℕ) (node : StoredNode) → Joins order old new key node
-    → graph_of order new.slots ≡ with_branch (graph_of order old.slots) key (branch_in (length order + 1 + key) node)
+    → graph_of order new.slots ≡ with_branch (graph_of order old.slots) key (branch_in node)
 joined_graph order old new key node joins = graph_of-joined order old.slots new.slots key node joins.updates.changed joins.updates.others
 
 pub IsStored-joined : (order places : List ℕ) (before after : Index) (old new : Slab StoredNode) (key : ℕ) (node : StoredNode) → IsStored order places before old → Joins order old new key node
     → IsIndexOf after new → IsStored order places after new
 IsStored-joined order places before after old new key node stored joins indexed =
-    let branch = branch_in (length order + 1 + key) node in
+    let branch = branch_in node in
     let unused = unused_key order old.slots key joins.vacant in
-    let own = own_variable order old.slots key joins.vacant in
+    let own = own_variable order old.slots node.variable joins.own in
     record {
       ordered = stored.ordered;
       few_levels = stored.few_levels;
       few_nodes = omega (arith, joins.few, joins.more);
       inverse = stored.inverse;
       reduced = subst IsReduced (sym (joined_graph order old new key node joins))
-          (IsReduced-joined (graph_of order old.slots) stored.reduced key branch unused joins.fits (omega arith) own);
+          (IsReduced-joined (graph_of order old.slots) stored.reduced key branch unused joins.fits joins.above own);
       small_keys = each_stored old new key node joins.updates (λ k one. k < 100000000) joins.small stored.small_keys;
       firsts = each_stored old new key node joins.updates (λ k one. number_of one.first ≤ max_id + 1) joins.first stored.firsts;
       indexed = indexed;
@@ -118,12 +118,13 @@ IsStored-room order places before after old room kept stored indexed =
 -- the node entered under the vacant key, once the slab had room
 pub Joins-entered : (order : List ℕ) (old room new : Slab StoredNode) (key : ℕ) (node : StoredNode) → room ≡ record old { capacity = room.capacity } → map.len (graph_of order old.slots).nodes < 100000000
     → key < 100000000 → get room key ≡ None → Updates room new key (Some node) → slab_len new ≡ slab_len room + 1
-    → (level : ℕ) (high low : Node) (first : ℕ) → branch_in (length order + 1 + key) node ≡ record { level = level; variable = length order + 1 + key; high = high; low = low; first = first }
+    → length order < node.variable → ((other : ℕ) (one : StoredNode) → get old other ≡ Some one → one.variable ≢ node.variable)
+    → (level variable : ℕ) (high low : Node) (first : ℕ) → branch_in node ≡ record { level = level; variable = variable; high = high; low = low; first = first }
     → level < levels (graph_of order old.slots) → IsBelow (graph_of order old.slots) level high → IsBelow (graph_of order old.slots) level low → IsWanted (graph_of order old.slots) level high low → first ≤ max_id + 1
     → Joins order old new key node
-Joins-entered order old room new key node kept few small vacant updates more level high low first node_is few_level below_high below_low wanted few_first =
+Joins-entered order old room new key node kept few small vacant updates more above own level variable high low first node_is few_level below_high below_low wanted few_first =
     let graph = graph_of order old.slots in
-    let count = len-keyed (length order) 0 old.slots in
+    let count = len-keyed 0 old.slots in
     let same : slab_len room ≡ slab_len old = ap slab_len kept in
     let number : number_of node.first ≡ first = ap (λ (b : Branch). b.first) node_is in
     record {
@@ -135,6 +136,8 @@ Joins-entered order old room new key node kept few small vacant updates more lev
         changed = updates.changed;
         others = λ other differ. updates.others other differ ∙ ap (λ s. get s other) kept;
       };
+      above = above;
+      own = own;
       first = omega (arith, number, few_first);
       fits = subst (FitsIn graph) (sym node_is) (record {
         level = few_level;

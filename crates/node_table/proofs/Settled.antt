@@ -28,7 +28,7 @@ removed_here : (live : Live) (id other : ℕ) → other ≡ id → clause_at (ma
 removed_here live id other same = removed_at live id other ∙ ap (λ b. cond b None (clause_at live other)) (eq-eqb other id same)
 
 -- what isn't among the numbers stays
-stays_without : (live : Live) (ids : List ℕ) (other : ℕ) → is_member nat_eq ids other ≡ false → clause_at (without_clauses live ids) other ≡ clause_at live other
+pub stays_without : (live : Live) (ids : List ℕ) (other : ℕ) → is_member nat_eq ids other ≡ false → clause_at (without_clauses live ids) other ≡ clause_at live other
 stays_without live [] other none = refl
 stays_without live (id ∷ ids) other none =
     elim (cases_eq other id) [
@@ -45,7 +45,7 @@ none_without live (id ∷ ids) other none =
       | inr differ ↦ removed_other live id other differ ∙ none
     ])
 
-gone_without : (live : Live) (ids : List ℕ) (other : ℕ) → is_member nat_eq ids other ≡ true → clause_at (without_clauses live ids) other ≡ None
+pub gone_without : (live : Live) (ids : List ℕ) (other : ℕ) → is_member nat_eq ids other ≡ true → clause_at (without_clauses live ids) other ≡ None
 gone_without live [] other is = absurd (let e : false ≡ true = is in cc)
 gone_without live (id ∷ ids) other is =
     elim (cases_eq other id) [
@@ -82,6 +82,28 @@ module _ (graph : Graph) (live : Live) (inputs : ℕ) (retired : List ℕ) (are 
 pub settled_gone : (live : Live) (retired : List ℕ) (id : ℕ) → Contains retired id → clause_at (without_clauses live retired) id ≡ None
 settled_gone live retired id among = gone_without live retired id (list_any-from_Contains nat_eq_equiv id retired among)
 
+-- A node whose clauses stay under their numbers is still defined.
+module _ (graph : Graph) (old new : Live) (b : Branch) (stay : (id : ℕ) → is_defined_by (defs_of b) id ≡ true → clause_at new id ≡ clause_at old id) where
+  stays_given : (given : Bool) (own : ℕ) → (is_given (given_if given own) own ≡ true → is_defined_by (defs_of b) own ≡ true) → clause_named new (given_if given own) ≡ clause_named old (given_if given own)
+  stays_given true own by = stay own (by (eq-eqb own own refl))
+  stays_given false own by = refl
+
+  pub IsDefined-stays : IsDefined old graph b → IsDefined new graph b
+  IsDefined-stays defined =
+      let one : ℕ → Bool = λ id. is_given (defs_of b).hu id in
+      let two : ℕ → Bool = λ id. is_given (defs_of b).lu id in
+      let three : ℕ → Bool = λ id. is_given (defs_of b).hd id in
+      let four : ℕ → Bool = λ id. is_given (defs_of b).ld id in
+      record {
+        hu = stays_given (not (is_false_node b.high)) b.first (λ is. or_left ((one b.first || two b.first) || three b.first) (four b.first) (or_left (one b.first || two b.first) (three b.first) (or_left (one b.first) (two b.first) is))) ∙ defined.hu;
+        lu = (let n = lu_first b.high b.first in
+            stays_given (not (is_false_node b.low)) n (λ is. or_left ((one n || two n) || three n) (four n) (or_left (one n || two n) (three n) (or_right (one n) (two n) is)))) ∙ defined.lu;
+        hd = (let n = hd_first b.high b.low b.first in
+            stays_given (not (is_true_node b.high)) n (λ is. or_left ((one n || two n) || three n) (four n) (or_right (one n || two n) (three n) is))) ∙ defined.hd;
+        ld = (let n = ld_first b.high b.low b.first in
+            stays_given (not (is_true_node b.low)) n (λ is. or_right ((one n || two n) || three n) (four n) is)) ∙ defined.ld;
+      }
+
 module _ (graph : Graph) (state : State) (inputs : ℕ) (retired : List ℕ) (tied : IsTied graph state) (are : AreRetired graph state.live inputs retired) where
   abbrev pub settled : State
   settled = record { live = without_clauses state.live retired; top = state.top }
@@ -97,28 +119,9 @@ module _ (graph : Graph) (state : State) (inputs : ℕ) (retired : List ℕ) (ti
         | false ↦ λ out. sym (stays_without state.live retired id out) ∙ is
       ] refl
 
-  -- each of a node's clauses stays under its number, if it has one
-  stays_given : (key : ℕ) (b : Branch) → branch_at graph key ≡ Some b → (given : Bool) (own : ℕ) → (is_given (given_if given own) own ≡ true → is_defined_by (defs_of b) own ≡ true)
-      → clause_named settled.live (given_if given own) ≡ clause_named state.live (given_if given own)
-  stays_given key b at true own by = settled_stays own (λ among. (let e : false ≡ true = sym ((are.each own among).defines_none key b at) ∙ by (eq-eqb own own refl) in cc))
-  stays_given key b at false own by = refl
-
   settled_defined : (key : ℕ) (b : Branch) → branch_at graph key ≡ Some b → IsDefined settled.live graph b
-  settled_defined key b at =
-      let defined = tied.defined key b at in
-      let one : ℕ → Bool = λ id. is_given (defs_of b).hu id in
-      let two : ℕ → Bool = λ id. is_given (defs_of b).lu id in
-      let three : ℕ → Bool = λ id. is_given (defs_of b).hd id in
-      let four : ℕ → Bool = λ id. is_given (defs_of b).ld id in
-      record {
-        hu = stays_given key b at (not (is_false_node b.high)) b.first (λ is. or_left ((one b.first || two b.first) || three b.first) (four b.first) (or_left (one b.first || two b.first) (three b.first) (or_left (one b.first) (two b.first) is))) ∙ defined.hu;
-        lu = (let n = lu_first b.high b.first in
-            stays_given key b at (not (is_false_node b.low)) n (λ is. or_left ((one n || two n) || three n) (four n) (or_left (one n || two n) (three n) (or_right (one n) (two n) is)))) ∙ defined.lu;
-        hd = (let n = hd_first b.high b.low b.first in
-            stays_given key b at (not (is_true_node b.high)) n (λ is. or_left ((one n || two n) || three n) (four n) (or_right (one n || two n) (three n) is))) ∙ defined.hd;
-        ld = (let n = ld_first b.high b.low b.first in
-            stays_given key b at (not (is_true_node b.low)) n (λ is. or_right ((one n || two n) || three n) (four n) is)) ∙ defined.ld;
-      }
+  settled_defined key b at = IsDefined-stays graph state.live settled.live b
+      (λ id own. settled_stays id (λ among. (let e : false ≡ true = sym ((are.each id among).defines_none key b at) ∙ own in cc))) (tied.defined key b at)
 
   pub settled_tied : IsTied graph settled
   settled_tied = record {

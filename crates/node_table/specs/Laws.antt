@@ -13,7 +13,7 @@ use Rattle.node_table.specs.Defined.{atom_of}
 use Rattle.node_table.specs.Tied.{KeepsClauses}
 use Rattle.node_table.specs.Just.{IsJustified}
 use Rattle.node_table.specs.Table.{TableState, IsSound, IsAddedTo, Extends, IsWanted}
-use Rattle.node_table.specs.Progress.{Continues, Steps}
+use Rattle.node_table.specs.Progress.{Continues, Leaves, Steps}
 use Rattle.node_table.specs.Made.{KeepsFrom, MakesOnly, Reaches, ReachesNew}
 
 -- two nodes of equal value under every assignment are the same node (Bryant 1986, theorem 1)
@@ -96,6 +96,8 @@ pub record StepByStep {S : Type 0} (tells : Bool) (channel : S → Channel) : Ty
       → Steps tells before after old new few error → Steps tells before after old new more error
   pub go_on : (first second third : Channel) (old mid new : TableState S) → Continues tells first second old mid → Continues tells second third mid new
       → Continues tells first third old new
+  pub leave : (first second third : Channel) (old mid new : TableState S) (error : Option TableError) → Continues tells first second old mid
+      → Leaves tells second third mid new error → Leaves tells first third old new error
   pub extend : (old mid new : TableState S) → Extends old mid → Extends mid new → Extends old new
   pub added : (old new : TableState S) → IsSound old → IsSound new → Extends old new → (id : ℕ) → IsAddedTo old id → IsAddedTo new id
   pub was_added : (old new : TableState S) → Extends old new → (id : ℕ) → id ≤ old.book.state.top → IsAddedTo new id → IsAddedTo old id

@@ -10,6 +10,10 @@ pub mod Places
 pub mod Just
 pub mod Progress
 pub mod Made
+pub mod Marks
+pub mod Swept
+pub mod Deleted
 pub mod Laws
 pub mod HandedOn
 pub mod Refused
+pub mod Marking

@@ -1,6 +1,6 @@
--- How the nodes of a table are stored: in five words each, under their keys in a slab, beside an index of their levels and
--- children.
-use Rattle.std.specs.Prelude.{◌≡◌, ◌<◌, ◌≤◌, ◌+◌, ◌-◌, ◌*◌, ◌^◌, ℕ, zero, suc, List, [], ◌∷◌, length, slice_index_or, Option, None, Some}
+-- How the nodes of a table are stored: in six words each, under their keys in a slab, beside an index of their levels and
+-- children. Extension variables that were given and are no node's are free, and the least free one is given next.
+use Rattle.std.specs.Prelude.{◌≡◌, ◌<◌, ◌≤◌, ◌+◌, ◌-◌, ◌*◌, ◌^◌, ◌⊎◌, ℕ, zero, suc, List, [], ◌∷◌, ◌++◌, Contains, length, slice_index_or, Option, None, Some}
 use Rattle.std.specs.FinMap as map
 use Rattle.slab.specs.Slab.{Slab, get, slab_len}
 use Rattle.cnf_base.specs.ProofText.{max_id}
@@ -38,25 +38,24 @@ HasSmallKey (Inner key) = key.index < 100000000
 abbrev pub number_of : Halves → ℕ
 number_of halves = halves.high * 2 ^ 32 + halves.low
 
--- the node under this extension variable
-abbrev pub branch_in : ℕ → StoredNode → Branch
-branch_in variable node = record {
+-- the node of the words
+abbrev pub branch_in : StoredNode → Branch
+branch_in node = record {
   level = node.level;
-  variable = variable;
+  variable = node.variable;
   high = node_of_word node.high.word;
   low = node_of_word node.low.word;
   first = number_of node.first;
 }
 
--- Each stored node under its key, the first of which is this one. Extension variables stand above the formula's, in the
--- order of the keys.
-abbrev pub keyed_from : ℕ → ℕ → List (Option StoredNode) → List (ℕ × Branch)
-keyed_from levels key [] = []
-keyed_from levels key (None ∷ slots) = keyed_from levels (key + 1) slots
-keyed_from levels key (Some node ∷ slots) = (key, branch_in (levels + 1 + key) node) ∷ keyed_from levels (key + 1) slots
+-- Each stored node under its key, the first of which is this one.
+abbrev pub keyed_from : ℕ → List (Option StoredNode) → List (ℕ × Branch)
+keyed_from key [] = []
+keyed_from key (None ∷ slots) = keyed_from (key + 1) slots
+keyed_from key (Some node ∷ slots) = (key, branch_in node) ∷ keyed_from (key + 1) slots
 
 abbrev pub graph_of : List ℕ → List (Option StoredNode) → Graph
-graph_of order slots = record { order = order; nodes = map.from_entries (keyed_from (length order) 0 slots) }
+graph_of order slots = record { order = order; nodes = map.from_entries (keyed_from 0 slots) }
 
 -- the place of each variable in the order
 pub record ArePlaces (order places : List ℕ) : Type 0 where
@@ -74,3 +73,30 @@ pub record IsStored (order places : List ℕ) (index : Index) (nodes : Slab Stor
   pub small_keys : (key : ℕ) (node : StoredNode) → get nodes key ≡ Some node → key < 100000000
   pub firsts : (key : ℕ) (node : StoredNode) → get nodes key ≡ Some node → number_of node.first ≤ max_id + 1
   pub indexed : IsIndexOf index nodes
+
+-- each number is greater than the next one
+abbrev pub IsFalling : List ℕ → Type 0
+IsFalling numbers = (k : ℕ) → k + 1 < length numbers → slice_index_or numbers (k + 1) 0 < slice_index_or numbers k 0
+
+-- an extension variable is that of a stored node
+pub record IsStoredAs (nodes : Slab StoredNode) (variable : ℕ) : Type 0 where
+  pub key : ℕ
+  pub node : StoredNode
+  pub stands : get nodes key ≡ Some node
+  pub own : node.variable ≡ variable
+
+-- The numbers above the formula's variables and below the next one are the extension variables that were given: those of
+-- stored nodes, and the free ones, the least of which is the last. There is room for all of them to be free.
+pub record HasVariables (levels next : ℕ) (free : List ℕ) (capacity : ℕ) (nodes : Slab StoredNode) : Type 0 where
+  pub stored : (key : ℕ) (node : StoredNode) → get nodes key ≡ Some node → (levels < node.variable) × (node.variable < next)
+  pub falling : IsFalling free
+  pub within : (variable : ℕ) → Contains free variable → (levels < variable) × (variable < next)
+  pub unowned : (key : ℕ) (node : StoredNode) → get nodes key ≡ Some node → Contains free node.variable → ⊥
+  pub covered : (variable : ℕ) → levels < variable → variable < next → Contains free variable ⊎ IsStoredAs nodes variable
+  pub counted : next ≡ levels + 1 + slab_len nodes + length free
+  pub few : next ≤ levels + 100000001
+  pub room : next ≤ levels + 1 + capacity
+
+-- The last free variable was taken, or where none is free the next one, the one after which comes next then.
+abbrev pub Takes : List ℕ → ℕ → List ℕ → ℕ → ℕ → Type 0
+Takes free next left after variable = ((free ≡ left ++ variable ∷ []) × (after ≡ next)) ⊎ ((free ≡ []) × (left ≡ []) × (variable ≡ next) × (after ≡ next + 1))

@@ -13,7 +13,7 @@ use Rattle.node_table.specs.declared.error.TableError.TheVariants.{WriteFault}
 pub use Rattle.node_table.specs.Diagram.{IsMissing, IsWanted}
 use Rattle.node_table.specs.Diagram.{Graph, graph_code, IsNew, KeepsNodes, is_node, levels, level_of, high_at, low_at, variable_at}
 use Rattle.node_table.specs.Defined.{Definition, IsUnused, atom_of, definitions, with_definitions}
-use Rattle.node_table.specs.Tied.{IsTied, IsAdded, AreRetired, GivesNumbers, KeepsClauses}
+use Rattle.node_table.specs.Tied.{IsTied, IsAdded, IsOwned, AreRetired, GivesNumbers, KeepsClauses}
 
 -- how many inner nodes are live
 abbrev pub live_nodes : Graph → ℕ
@@ -81,9 +81,10 @@ abbrev pub node_definitions : Graph → State → ℕ → Node → Node → ℕ 
 node_definitions graph state level high low variable =
     definitions (pos variable) (pos (variable_at graph level)) (atom_of graph high) (atom_of graph low) (state.top + 1)
 
--- The node was made with this free variable, under a new key, and its definitions stand under the next numbers.
+-- The node was made with the least free variable, under a new key, and its definitions stand under the next numbers.
 pub record IsMade {S : Type 0} (old new : TableState S) (level : ℕ) (high low : Node) (variable : ℕ) (node : Node) : Type 0 where
   pub free : IsFree old.graph old.book.state.live variable
+  pub least : (other : ℕ) → levels old.graph < other → other < variable → IsOwned old.graph other
   pub key : NodeKey
   pub named : node ≡ Inner key
   pub joined : IsNew old.graph new.graph key.index (new_branch old.book.state level high low variable)

@@ -1,25 +1,29 @@
-// The nodes of a table, each under a key of its own in a slab; an index finds a node by its level and children. A key
-// also gives its node's extension variable.
-ghost use Rattle.std.specs.Prelude.{◌≡◌, ◌≢◌, ◌↔◌, ◌+◌, ◌<◌, ◌≤◌, ℕ, pos, None, Some, IfOk, IfSome, OnErr, MatchOption, length, IsTrue};
+// The nodes of a table, each under a key of its own in a slab; an index finds a node by its level and children. A new
+// node's extension variable is the least that no node has: those of nodes that went are kept, the greatest first.
+ghost use Rattle.std.specs.Prelude.{◌≡◌, ◌≢◌, ◌↔◌, ◌+◌, ◌<◌, ◌≤◌, ◌^◌, ℕ, pos, [], None, Some, IfOk, IfSome, OnErr, MatchOption, length, vec_capacity, IsTrue};
 ghost use Rattle.std.specs.FinMap as map;
 ghost use Rattle.cnf_base.specs.Truth.{assignment_of};
 ghost use Rattle.cnf_base.specs.ProofText.{max_id};
 ghost use Rattle.node_table.specs.Diagram.{Graph, IsOrder, IsReduced, IsBelow, IsNew, IsWanted, branch_at, branch_of, is_node, levels, variable_at};
 ghost use Rattle.node_table.specs.Value.{value_of, by_level, IsChosen};
-ghost use Rattle.node_table.specs.Stored.{ArePlaces};
+ghost use Rattle.node_table.specs.Stored.{ArePlaces, Takes};
+ghost use Rattle.node_table.specs.Marks.{AreMarks};
+ghost use Rattle.node_table.specs.Swept.{IsSwept};
 ghost use Rattle.node_table.specs.Defined.{atom_of, atom_in};
 ghost use Rattle.node_table.specs.declared.node.Branch.{Branch as BranchValue};
 
 use crate::index::Index;
+use crate::marks::Marks;
 use crate::node::{Branch, Node, NodeKey};
 use crate::stored::{Child, StoredNode};
+use crate::sweep::{remove_unmarked, sort_falling};
 use cnf_base::{Lit, OutOfMemory};
 use hint_chain::Atom;
 use slab::Slab;
 use std::alloc::Global;
 use std::marker::Model;
 
-// Keys are below this, so that a child is one word and each node has an extension variable.
+// Keys are below this, so that a child is one word.
 const MAX_NODES: usize = 100_000_000;
 
 /// The nodes over an order of the variables.
@@ -29,11 +33,16 @@ pub struct Diagram {
     places: Vec<u32>,
     nodes: Slab<StoredNode>,
     index: Index,
+    // The extension variables that were given and are no node's, the greatest first. There is room for all that were given.
+    free: Vec<u32>,
+    // The least that was never given.
+    next: u32,
 }
 
 impl Model for Diagram {
     ghost use Rattle.node_table.specs.Diagram.{Graph, graph_code};
-    ghost use Rattle.node_table.specs.Stored.{graph_of, IsStored};
+    ghost use Rattle.std.specs.Prelude.{length, vec_capacity};
+    ghost use Rattle.node_table.specs.Stored.{graph_of, IsStored, HasVariables};
 
     ghost Value = { Graph };
 
@@ -41,7 +50,8 @@ impl Model for Diagram {
 
     ghost view = { λ d. graph_of d.order.items d.nodes.slots };
 
-    ghost invariant = { λ d. IsStored d.order.items d.places.items d.index d.nodes };
+    ghost invariant = { λ d. IsStored d.order.items d.places.items d.index d.nodes
+        × HasVariables (length d.order.items) d.next d.free.items (vec_capacity d.free) d.nodes };
 }
 
 impl Diagram {
@@ -59,6 +69,8 @@ impl Diagram {
             places,
             nodes: Slab::new(alloc),
             index: Index::new(alloc),
+            free: Vec::new(alloc),
+            next: order.len() as u32 + 1,
         })
     }
 
@@ -136,6 +148,13 @@ impl Diagram {
         self.nodes.len() as u32
     }
 
+    /// The keys of inner nodes are below this.
+    pub fn key_end(&self) -> u32
+        ensures { (key : ℕ) (branch : BranchValue) → branch_at self.now key ≡ Some branch → key < result }
+    {
+        self.nodes.capacity().min(MAX_NODES) as u32
+    }
+
     /// The inner node of this name; None for a constant.
     pub fn branch(&self, node: Node) -> Option<Branch>
         ensures branch { result ≡ branch_of self.now node }
@@ -154,10 +173,7 @@ impl Diagram {
     {
         match self.nodes.get(key as usize) {
             None => None,
-            Some(node) => {
-                let variable = self.order.as_slice().len() as u32 + 1 + key;
-                Some(node.branch(variable))
-            }
+            Some(node) => Some(node.branch()),
         }
     }
 
@@ -178,7 +194,8 @@ impl Diagram {
         }
     }
 
-    /// One node more, which no other is alike, with an extension variable of its own. A refusal changes nothing.
+    /// One node more, which no other is alike, under the least extension variable that no node has. A refusal changes
+    /// nothing.
     pub fn push(
         &mut self,
         level: u32,
@@ -193,21 +210,38 @@ impl Diagram {
         requires few { map.len self.old.nodes < 100000000 }
         requires first { first ≤ max_id + 1 }
         ensures ok { IfOk result (λ made. IsNew self.old self.new made.0.index (record { level = level; variable = made.1; high = high; low = low; first = first })) }
-        ensures range { IfOk result (λ made. (levels self.old < made.1) × (made.1 ≤ 101000000)) }
+        ensures range { IfOk result (λ made. (levels self.old < made.1) × (made.1 ≤ levels self.old + map.len self.old.nodes + 1)) }
         ensures own { IfOk result (λ made. (key : ℕ) (branch : BranchValue) → branch_at self.old key ≡ Some branch → branch.variable ≢ made.1) }
+        ensures least { IfOk result (λ made. (variable : ℕ) → levels self.old < variable → variable < made.1
+            → (key : ℕ) × (branch : BranchValue) × (branch_at self.old key ≡ Some branch) × (branch.variable ≡ variable)) }
         ensures err { OnErr result (self.new ≡ self.old) }
     {
         // No key is left below the limit.
         if self.nodes.vacant_key() >= MAX_NODES {
             return Err(OutOfMemory);
         }
-        let node = StoredNode::of(level, high, low, first);
+        // Room for all variables to be free, for the node and for its key: what follows takes no memory.
+        self.free.reserve(self.nodes.len() + 1)?;
         self.nodes.reserve(1)?;
         self.index.reserve(&self.nodes)?;
+        let variable = take_variable(&mut self.free, &mut self.next);
+        let node = StoredNode::of(level, variable, high, low, first);
         let index = self.nodes.insert_reserved(node) as u32;
         self.index.insert(index, &node);
-        let variable = self.order.as_slice().len() as u32 + 1 + index;
         Ok((NodeKey { index }, variable))
+    }
+
+    /// Gives back the nodes that aren't marked; their extension variables are free again. Returns how many there were. It
+    /// takes no memory.
+    pub fn sweep(&mut self, marks: &Marks) -> u32
+        requires marks { AreMarks self.old marks.now }
+        ensures swept { IsSwept self.old self.new marks.now }
+        ensures count { map.len self.new.nodes + result ≡ map.len self.old.nodes }
+    {
+        let count = remove_unmarked(&mut self.nodes, marks.by_key(), &mut self.free);
+        sort_falling(self.free.as_mut_slice());
+        self.index.rebuild(&self.nodes);
+        count as u32
     }
 
     /// The function of a node under an assignment of all variables.
@@ -251,6 +285,20 @@ pub fn same_node(one: Node, other: Node) -> bool
     ensures { IsTrue result ↔ (one ≡ other) }
 {
     one == other
+}
+
+// The last free variable, or the next one where none is free.
+fn take_variable(free: &mut Vec<u32>, next: &mut u32) -> u32
+    requires { next.old + 1 < 2 ^ 32 }
+    ensures capacity { vec_capacity free.new ≡ vec_capacity free.old }
+    ensures taken { Takes free.old.items next.old free.new.items next.new result }
+{
+    if let Some(variable) = free.pop() {
+        return variable;
+    }
+    let variable = *next;
+    *next += 1;
+    variable
 }
 
 // The value of a variable, false where there is none.

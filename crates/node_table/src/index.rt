@@ -92,6 +92,18 @@ impl Index {
         self.enter(key, node);
     }
 
+    /// The keys of these nodes alone, in the same places. It takes no memory.
+    pub fn rebuild(&mut self, nodes: &Slab<StoredNode>)
+        requires counted { IsCounted self.old }
+        requires room { slab_len nodes.now ≤ length self.old.places.items }
+        requires keys { (key : ℕ) (node : Stored) → get nodes.now key ≡ Some node → key + 1 < 2 ^ 32 }
+        ensures { IsIndexOf self.new nodes.now }
+    {
+        self.places.fill(0);
+        self.taken = 0;
+        self.enter_all(nodes);
+    }
+
     // Takes the first free place from the node's home on.
     fn enter(&mut self, key: u32, node: &StoredNode)
         requires room { HasRoom self.old }
@@ -109,10 +121,10 @@ impl Index {
     fn enter_all(&mut self, nodes: &Slab<StoredNode>)
         requires counted { IsCounted self.old }
         requires free { self.old.taken ≡ 0 }
-        requires room { slab_len nodes.now < length self.old.places.items }
+        requires room { slab_len nodes.now ≤ length self.old.places.items }
         requires keys { (key : ℕ) (node : Stored) → get nodes.now key ≡ Some node → key + 1 < 2 ^ 32 }
         ensures index { IsIndexOf self.new nodes.now }
-        ensures room { HasRoom self.new }
+        ensures room { slab_len nodes.now < length self.old.places.items → HasRoom self.new }
     {
         'entries: for (key, node) in nodes.iter() {
             self.enter(key as u32, node);

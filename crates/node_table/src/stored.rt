@@ -1,6 +1,5 @@
-// A node as the table stores it: five words, so that with the slab's own mark a node takes 24 bytes. Its extension
-// variable isn't stored: it is a function of its key.
-ghost use Rattle.std.specs.Prelude.{◌≡◌, ℕ};
+// A node as the table stores it: six words, so that with the slab's own mark a node takes 32 bytes.
+ghost use Rattle.std.specs.Prelude.{◌≡◌};
 ghost use Rattle.node_table.specs.Stored.{HasSmallKey, branch_in, child_of, node_of_word, number_of};
 
 use crate::node::{Branch, Node, NodeKey};
@@ -13,24 +12,25 @@ pub struct Child {
     pub(crate) word: u32,
 }
 
-/// A clause number in two words: one of 64 bits would widen each stored node to 32 bytes.
+/// A clause number in two words.
 #[derive(Clone, Copy, Debug)]
 pub struct Halves {
     pub(crate) high: u32,
     pub(crate) low: u32,
 }
 
-/// The level, the children where the level's variable is true and where it is false, and the number of the first defining
-/// clause.
+/// The level, the extension variable, the children where the level's variable is true and where it is false, and the number
+/// of the first defining clause.
 #[derive(Clone, Copy, Debug)]
 pub struct StoredNode {
     pub(crate) level: u32,
+    pub(crate) variable: u32,
     pub(crate) high: Child,
     pub(crate) low: Child,
     pub(crate) first: Halves,
 }
 
-const _: () = prove!(size_of::<StoredNode>() == 20);
+const _: () = prove!(size_of::<StoredNode>() == 24);
 
 impl Child {
     /// The word of a node whose key is small enough.
@@ -78,27 +78,28 @@ impl Halves {
 }
 
 impl StoredNode {
-    /// The node of these children, without its extension variable.
-    pub fn of(level: u32, high: Node, low: Node, first: u64) -> StoredNode
+    /// The node of this extension variable and these children.
+    pub fn of(level: u32, variable: u32, high: Node, low: Node, first: u64) -> StoredNode
         requires high { HasSmallKey high }
         requires low { HasSmallKey low }
-        ensures { (variable : ℕ) → branch_in variable result ≡ record { level = level; variable = variable; high = high; low = low; first = first } }
+        ensures { branch_in result ≡ record { level = level; variable = variable; high = high; low = low; first = first } }
     {
         StoredNode {
             level,
+            variable,
             high: Child::of(high),
             low: Child::of(low),
             first: Halves::of(first),
         }
     }
 
-    /// The node under its extension variable.
-    pub fn branch(&self, variable: u32) -> Branch
-        ensures { result ≡ branch_in variable self.now }
+    /// The node of the words.
+    pub fn branch(&self) -> Branch
+        ensures { result ≡ branch_in self.now }
     {
         Branch {
             level: self.level,
-            variable,
+            variable: self.variable,
             high: self.high.node(),
             low: self.low.node(),
             first: self.first.number(),

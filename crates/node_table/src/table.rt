@@ -11,17 +11,23 @@ ghost use Rattle.node_table.specs.declared.node.Branch.{Branch as BranchValue};
 ghost use Rattle.node_table.specs.declared.error.TableError.TheVariants.{NodeLimit, IdLimit, WriteFault};
 ghost use Rattle.node_table.specs.Diagram.{Graph, IsOrder, IsReduced, IsBelow, branch_at, branch_of, is_node, levels, level_of, high_at, low_at, variable_at};
 ghost use Rattle.node_table.specs.Value.{value_of, by_level};
-ghost use Rattle.node_table.specs.Defined.{IsDefined, atom_of, defs_of, definition_count, definition_lines, is_false_node, is_true_node, literal_of_branch};
-ghost use Rattle.cnf_base.specs.ProofText.{given_if, max_id};
+ghost use Rattle.node_table.specs.Defined.{IsDefined, atom_of, defs_of, definition_count, definition_lines, literal_of_branch};
 ghost use Rattle.node_table.specs.Tied.{IsOverNodes};
 ghost use Rattle.node_table.specs.Table.{TableState, IsSound, IsAddedTo, AddsNone, HasChildren, IsMissing, IsWanted, IsFree, IsMade, IsSame, UnlessTorn, live_nodes, node_definitions, without_retired};
 ghost use Rattle.node_table.specs.Progress.{Leaves, Steps, error_of};
 ghost use Rattle.node_table.specs.Made.{inner};
+ghost use Rattle.node_table.specs.declared.node.Node.{Node as NodeValue};
+ghost use Rattle.node_table.specs.Marks.{AreMarks, AreReached};
+ghost use Rattle.node_table.specs.Swept.{IsSwept};
+ghost use Rattle.node_table.specs.Deleted.{DefinesUnmarked, AreClear};
 
 use crate::define::write_definitions;
+use crate::deletion::delete_definitions;
 use crate::diagram::{Diagram, positive, same_node};
 use crate::error::TableError;
-use crate::node::{Branch, Defs, Node, NodeKey};
+use crate::marks::Marks;
+use crate::node::{Defs, Node, NodeKey};
+use crate::numbers::defs_of;
 use clause_ledger::Ledger;
 use cnf_base::{Id, Lit, OutOfMemory};
 use hint_chain::Atom;
@@ -46,7 +52,7 @@ pub struct Table<S: Sink + Drop> {
 impl<S: Sink + Drop> Model for Table<S> {
     ghost use Rattle.std.specs.Prelude.{◌≤◌, IsTrue, vec_capacity};
     ghost use Rattle.node_table.specs.Table.{TableState, table_code, live_nodes};
-    ghost use Rattle.node_table.specs.Places.{HavePlaces};
+    ghost use Rattle.node_table.specs.Places.{HavePlaces, AreNumberedAbove};
 
     ghost Value = { TableState S };
 
@@ -55,7 +61,8 @@ impl<S: Sink + Drop> Model for Table<S> {
     ghost view = { λ t. record { graph = t.diagram; book = t.ledger; max_nodes = t.max_nodes; inputs = t.inputs; retired = t.retired.items } };
 
     ghost invariant = { λ t. (t.max_nodes ≤ 100000000) × (live_nodes t.diagram ≤ t.max_nodes)
-        × (IsTrue t.ledger.in_step → HavePlaces t.diagram t.ledger.state.live t.inputs t.places (vec_capacity t.retired)) };
+        × (IsTrue t.ledger.in_step → HavePlaces t.diagram t.ledger.state.live t.inputs t.places (vec_capacity t.retired))
+        × AreNumberedAbove t.inputs t.diagram };
 }
 
 impl<S: Sink + Drop> Table<S> {
@@ -229,6 +236,33 @@ impl<S: Sink + Drop> Table<S> {
         }
     }
 
+    /// Gives back the nodes that aren't marked, with the clauses that define them; their extension variables may be used
+    /// again. Returns how many there were. Only `WriteFault` may come, and leaves the nodes as they were.
+    pub fn sweep(&mut self, marks: &Marks) -> Result<u32, TableError>
+        requires sound { IsSound self.old }
+        requires marks { AreMarks self.old.graph marks.now }
+        // No clause beside the definitions of nodes holds their extension variables.
+        requires clear { AreClear self.old.graph marks.now self.old.book.state.live }
+        ensures swept { OnOk result (IsSwept self.old.graph self.new.graph marks.now) }
+        ensures gone { OnOk result ((id : ℕ) → DefinesUnmarked self.old.graph marks.now id → clause_at self.new.book.state.live id ≡ None) }
+        ensures stay { (id : ℕ) → (DefinesUnmarked self.old.graph marks.now id → ⊥) → clause_at self.new.book.state.live id ≡ clause_at self.old.book.state.live id }
+        ensures formula { (id : ℕ) → id ≤ self.old.inputs → clause_at self.new.book.state.live id ≡ clause_at self.old.book.state.live id }
+        ensures none_added { OnOk result (AddsNone self.old self.new) }
+        ensures top { self.new.book.state.top ≡ self.old.book.state.top }
+        ensures retired { self.new.retired ≡ self.old.retired }
+        ensures leaves { Leaves S.tells (S.channel self.old.book.sink) (S.channel self.new.book.sink) self.old self.new (error_of result) }
+        ensures count { IfOk result (λ count. live_nodes self.new.graph + count ≡ live_nodes self.old.graph) }
+        ensures error { IfErr result (λ e. e ≡ WriteFault) }
+        ensures torn { OnErr result (self.new.graph ≡ self.old.graph) }
+        ensures beside { S.beside self.new.book.sink ≡ S.beside self.old.book.sink }
+    {
+        marks_law();
+        match delete_definitions(&mut self.ledger, &self.diagram, marks) {
+            Ok(()) => Ok(self.diagram.sweep(marks)),
+            Err(e) => Err(TableError::from(e)),
+        }
+    }
+
     /// The level of an inner node and its children; None for a constant.
     pub fn parts(&self, node: Node) -> Option<(u32, Node, Node)>
         ensures { MatchOption result (branch_of self.now.graph node ≡ None)
@@ -321,6 +355,15 @@ impl<S: Sink + Drop> Table<S> {
         self.diagram.order()
     }
 
+    /// Marks the nodes that the roots reach. Only `OutOfMemory` may come.
+    pub fn mark(&self, roots: &[Node]) -> Result<Marks, OutOfMemory>
+        requires roots { (root : NodeValue) → Contains roots.now root → IsTrue (is_node self.now.graph root) }
+        ensures reached { IfOk result (AreReached self.now.graph roots.now) }
+        ensures marks { IfOk result (AreMarks self.now.graph) }
+    {
+        Marks::of(*self.retired.allocator(), &self.diagram, roots)
+    }
+
     pub fn ledger(&self) -> &Ledger<S>
         ensures { result.now ≡ self.now.book }
     {
@@ -406,42 +449,4 @@ fn definition_count(high: Node, low: Node) -> u64
         (Node::Inner(_), _) | (_, Node::Inner(_)) => 3,
         _ => 2,
     }
-}
-
-// The numbers of a node's clauses, which are consecutive.
-fn defs_of(branch: &Branch) -> Defs
-    requires { branch.now.first ≤ max_id + 1 }
-    ensures { result ≡ defs_of branch.now }
-{
-    let up_high = !is_false(branch.high);
-    let up_low = !is_false(branch.low);
-    let down_high = !is_true(branch.high);
-    let down_low = !is_true(branch.low);
-    let lu = branch.first + u64::from(up_high);
-    let hd = lu + u64::from(up_low);
-    let ld = hd + u64::from(down_high);
-    Defs {
-        hu: id_if(up_high, branch.first),
-        lu: id_if(up_low, lu),
-        hd: id_if(down_high, hd),
-        ld: id_if(down_low, ld),
-    }
-}
-
-fn id_if(given: bool, number: u64) -> Option<Id>
-    ensures { result ≡ given_if given number }
-{
-    if given { Some(Id(number)) } else { None }
-}
-
-fn is_false(node: Node) -> bool
-    ensures { result ≡ is_false_node node }
-{
-    matches!(node, Node::False)
-}
-
-fn is_true(node: Node) -> bool
-    ensures { result ≡ is_true_node node }
-{
-    matches!(node, Node::True)
 }

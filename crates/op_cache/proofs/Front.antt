@@ -29,7 +29,7 @@ all_at P (y ∷ xs) (suc i) x h is = all_at P xs i x h.1 is
 
 module _ {K : Type 0} (eq : K → K → Bool) (laws : IsEquivalence eq) where
   -- a place behind the first ones has another key
-  apart_from_first : (n i : ℕ) (keys : List K) (key : K) → IsDistinct eq keys → slice_get keys i ≡ Some key → n ≤ i
+  pub apart_from_first : (n i : ℕ) (keys : List K) (key : K) → IsDistinct eq keys → slice_get keys i ≡ Some key → n ≤ i
       → list_any (eq key) (take n keys) ≡ false
   unfolding IsDistinct
   apart_from_first zero i keys key d is h = refl

@@ -3,3 +3,4 @@ pub mod Bounds
 pub mod Front
 pub mod Contained
 pub mod Values
+pub mod Turns

@@ -1,7 +1,7 @@
--- The laws of entries: those that were used last stand in front and are not pushed out, which entries there are, and what
--- `keep` hands back.
-use Rattle.std.specs.Prelude.{◌≡◌, ◌+◌, ◌<◌, ◌≤◌, ◌⊎◌, ◌↔◌, ℕ, Bool, List, [], ◌∷◌, Some, None, IsSome, IfSome, IsTrue, IsFalse, Contains, length, take}
-use Rattle.std.specs.List.{IsDistinct, list_any}
+-- The laws of entries: those that were used last stand in front and are not pushed out, which entries there are, what `keep`
+-- hands back, and what a full turn of them leaves.
+use Rattle.std.specs.Prelude.{◌≡◌, ◌+◌, ◌-◌, ◌<◌, ◌≤◌, ◌⊎◌, ◌↔◌, ℕ, Bool, true, false, List, [], ◌∷◌, ◌++◌, Some, None, IsSome, IfSome, IsTrue, IsFalse, Contains, length, take, drop}
+use Rattle.std.specs.List.{IsDistinct, filter, list_any, slice_get}
 use Rattle.std.specs.Map.{keys_of, lookup}
 use Rattle.op_cache.specs.Cache.{IsBounded, cache_of, looked, kept, without_last, last_of}
 
@@ -93,3 +93,26 @@ pub record HandsBack (K V : Type 0) (eq : K → K → Bool) : Type 0 where
   pub pushed_out : (entries : List (K × V)) (capacity : ℕ) (key : K) (value : V) → lookup (eq key) entries ≡ None
       → capacity ≤ length entries
       → kept eq capacity entries key value ≡ ((key, value) ∷ without_last entries, last_of entries)
+
+-- After so many turns, in each of which the last entry comes to the front where it stays, and is taken out where it doesn't.
+abbrev pub turned : {K V : Type 0} → (K × V → Bool) → ℕ → List (K × V) → List (K × V)
+turned stays turns entries = filter stays (drop (length entries - turns) entries) ++ take (length entries - turns) entries
+
+-- What the turns show and make. After as many as there are entries, those that stay are there, in the order that they had.
+pub record TakesTurns (K V : Type 0) (eq : K → K → Bool) : Type 0 where
+  -- before the first turn
+  pub begins : (stays : K × V → Bool) (entries : List (K × V)) → turned stays 0 entries ≡ entries
+  -- after the last one
+  pub ends : (stays : K × V → Bool) (entries : List (K × V)) → turned stays (length entries) entries ≡ filter stays entries
+  -- the entry whose turn it is
+  pub shows : (stays : K × V → Bool) (entries : List (K × V)) (turns : ℕ) → turns < length entries
+      → last_of (turned stays turns entries) ≡ slice_get entries (length entries - turns - 1)
+  -- one that stays is looked up
+  pub kept : (stays : K × V → Bool) (entries : List (K × V)) (turns : ℕ) (entry : K × V) → IsDistinct eq (keys_of entries)
+      → turns < length entries
+      → slice_get entries (length entries - turns - 1) ≡ Some entry → stays entry ≡ true
+      → looked eq (turned stays turns entries) entry.0 ≡ turned stays (turns + 1) entries
+  -- one that doesn't stay is taken out
+  pub gone : (stays : K × V → Bool) (entries : List (K × V)) (turns : ℕ) (entry : K × V) → turns < length entries
+      → slice_get entries (length entries - turns - 1) ≡ Some entry → stays entry ≡ false
+      → without_last (turned stays turns entries) ≡ turned stays (turns + 1) entries

@@ -6,4 +6,4 @@ mod bounded;
 mod laws;
 
 pub use bounded::Bounded;
-pub use laws::{entries_law, front_law, keep_law};
+pub use laws::{entries_law, front_law, keep_law, turn_law};

@@ -24,11 +24,11 @@ same_clause : (id other : ℕ) → Clause id ≡ Clause other → id ≡ other
 same_clause id other is = cc
 
 -- the clause that a justification names
-just_given : (just : Just) (given : Option ℕ) → IsClauseOf just given → (id : ℕ) → given ≡ Some id → just ≡ Clause id
+pub just_given : (just : Just) (given : Option ℕ) → IsClauseOf just given → (id : ℕ) → given ≡ Some id → just ≡ Clause id
 just_given just None names id is = cc
 just_given just (Some own) names id is = names ∙ ap Clause (same_some own id is)
 
-given_of : (just : Just) (given : Option ℕ) → IsClauseOf just given → (id : ℕ) → just ≡ Clause id → given ≡ Some id
+pub given_of : (just : Just) (given : Option ℕ) → IsClauseOf just given → (id : ℕ) → just ≡ Clause id → given ≡ Some id
 given_of just None names id is = absurd (no_clause id (sym names ∙ is))
 given_of just (Some own) names id is = ap Some (same_clause own id (sym names ∙ is))
 

@@ -5,7 +5,7 @@ use Rattle.std.specs.Cmp.{IsEquivalence}
 use Rattle.std.specs.List.{IsDistinct}
 use Rattle.std.specs.Map.{keys_of, lookup}
 use Rattle.std.proofs.lemmas.List.{length-map, get_or-map}
-use Rattle.std.proofs.lemmas.List.Elements.{All-contains, All-from_recursion, Contains-append_cases, Contains-append_right, Contains-push_cases}
+use Rattle.std.proofs.lemmas.List.Elements.{All-contains, All-from_recursion}
 use Rattle.std.proofs.lemmas.Map.Views.{Contains-from_lookup}
 use Rattle.std.proofs.lemmas.Option.{slice_get_within, get_or_from_slice_get}
 use Rattle.node_table.specs.declared.node.Just.TheVariants.{Trivial, Clause}
@@ -13,31 +13,12 @@ use Rattle.op_cache.specs.Cache.{Cache, IsBounded, looked, kept, without_last, l
 use Rattle.op_cache.specs.Laws.{AreInFront, HandsBack, OnlyKept, UsedInFront, is_among}
 use Rattle.operations.specs.Entries.{Entry, IsNamed, Names, just_of}
 use Rattle.operations.specs.Caches.{AreNamedOnce, IsGiven, IsOfKey, KeepsEntry, Keeping, LeavesEntries, MakesRoom, Remembers, TellsKeys, with_key}
+use Rattle.operations.proofs.Elements.{there_none, there_first, there_more, first_or_more}
 use borrow.Author.Tests.{ltb-true, ltb-false}
 
--- elements of a list that begins with x
-module _ {X : Type 0} where
-  there_none : (y : X) → Contains [] y → ⊥
-  there_none y there = let within = there.1 in absurd (omega (arith, within))
-
-  there_first : (x : X) (xs : List X) → Contains (x ∷ xs) x
-  there_first x xs = (0, omega arith, refl)
-
-  there_more : (x : X) (xs : List X) (y : X) → Contains xs y → Contains (x ∷ xs) y
-  there_more x xs y there = Contains-append_right (x ∷ []) xs y there
-
-  first_or_more : (x : X) (xs : List X) (y : X) → Contains (x ∷ xs) y → (x ≡ y) ⊎ Contains xs y
-  first_or_more x xs y there = elim (Contains-append_cases (x ∷ []) xs y there) [
-    | inl first ↦ elim (Contains-push_cases [] x y first) [
-      | inl none ↦ absurd (there_none y none)
-      | inr same ↦ inl same
-    ]
-    | inr more ↦ inr more
-  ]
-
-  -- the element at a place
-  at_place : (xs : List X) (n : ℕ) (x : X) → slice_get xs n ≡ Some x → Contains xs x
-  at_place xs n x is = (n, slice_get_within xs n x is, get_or_from_slice_get xs n x x is)
+-- the element at a place
+at_place : {X : Type 0} (xs : List X) (n : ℕ) (x : X) → slice_get xs n ≡ Some x → Contains xs x
+at_place xs n x is = (n, slice_get_within xs n x is, get_or_from_slice_get xs n x x is)
 
 module _ {K V : Type 0} (entry_of : K × V → Entry) where
   -- what is listed of an entry
@@ -45,7 +26,7 @@ module _ {K V : Type 0} (entry_of : K × V → Entry) where
   from_map es e there =
       (there.0, omega (arith, length-map es entry_of, there.1), get_or-map entry_of es there.0 e (entry_of e) there.1 ∙ ap entry_of there.2)
 
-  to_map : (es : List (K × V)) (entry : Entry) → Contains (map entry_of es) entry
+  pub to_map : (es : List (K × V)) (entry : Entry) → Contains (map entry_of es) entry
       → (e : K × V) × Contains es e × (entry_of e ≡ entry)
   to_map [] entry there = absurd (there_none entry there)
   to_map (e ∷ es) entry there = elim (first_or_more (entry_of e) (map entry_of es) entry there) [
@@ -74,7 +55,7 @@ module _ {K V : Type 0} (entry_of : K × V → Entry) where
       let here : just_of (entry_of pair) ≡ Clause other = subst (λ (p : K × V). just_of (entry_of p) ≡ Clause other) same is in
       let alike : other ≡ id = cc in ap Some alike
 
-equal_keys : {K : Type 0} (eq : K → K → Bool) → IsEquivalence eq → (one other : K) → one ≡ other → eq one other ≡ true
+pub equal_keys : {K : Type 0} (eq : K → K → Bool) → IsEquivalence eq → (one other : K) → one ≡ other → eq one other ≡ true
 equal_keys {K} eq equal one other is = subst (λ (key : K). eq one key ≡ true) is (equal.refl one)
 
 module _ {K V : Type 0} (eq : K → K → Bool) (equal : IsEquivalence eq) where

@@ -1,81 +1,41 @@
 -- What operations found stays right as nodes and clauses are added, and so do the entries of their caches.
-use Rattle.std.proofs.Common.{◌≡◌, ◌<◌, ◌++◌, ◌&&◌, ◌||◌, ◌⊎◌, ℕ, Bool, true, false, List, [], Option, Some, Contains, None, ℤ, is_some, sym, ap, ◌∙◌, subst, arith, inl, inr, refl}
+use Rattle.std.proofs.Common.{◌≡◌, ◌<◌, ◌++◌, ◌⊎◌, ℕ, Bool, true, List, [], Option, Some, Contains, None, ℤ, is_some, sym, ap, ◌∙◌, subst, arith, inl, inr, refl}
 use Rattle.std.specs.Prelude.{IsTrue, IsFalse}
 use Rattle.std.proofs.lemmas.List.Elements.{Contains-append_right, Contains-append_cases}
 use Rattle.host_io.specs.Channel.{Channel}
 use Rattle.lrat_rules.specs.State.{Live, clause_at}
 use Rattle.hint_chain.specs.declared.atom.Atom.{Atom}
 use Rattle.hint_chain.specs.Atoms.{clause_of, is_trivial}
-use Rattle.hint_chain.specs.Additions.{conjunction, implication}
 use Rattle.node_table.specs.declared.node.Node.{Node}
 use Rattle.node_table.specs.declared.node.Just.{Just}
 use Rattle.node_table.specs.declared.node.Just.TheVariants.{Trivial, Clause}
-use Rattle.node_table.specs.Diagram.{Graph, IsReduced, KeepsNodes, branch_at, is_node, level_of}
+use Rattle.node_table.specs.Diagram.{Graph, IsReduced, KeepsNodes, branch_at, is_node}
 use Rattle.node_table.specs.Tied.{KeepsClauses}
 use Rattle.node_table.specs.Just.{IsJustified}
 use Rattle.node_table.specs.Table.{TableState, IsSound, Extends}
 use Rattle.node_table.specs.Laws.{Growth, StepByStep}
-use Rattle.operations.specs.Results.{Conjoined, Implied, Disjoined, Quantified, conjunction_atoms, implication_atoms, with_level}
-use Rattle.operations.specs.Entries.{Entry, Conjunction, Implication, Disjunction, Quantification, AreNodes, FitsEntry, Fits, Fitting, AreApart, IsOneMore, IsNamed, Names, NamesOnly, RetiresOwn}
+use Rattle.operations.specs.Results.{conjunction_atoms, implication_atoms}
+use Rattle.operations.specs.Entries.{Entry, Conjunction, Implication, Disjunction, Quantification, FitsEntry, Fits, Fitting, AreApart, IsOneMore, IsNamed, Names, NamesOnly, RetiresOwn, just_of}
+use Rattle.operations.proofs.SameNodes.{IsSameNode, AreSameNodes, entry_same, entry_justified, entry_settled}
 
-module _ (laws : Growth) (old new : Graph) (keeps : KeepsNodes old new) (reduced : IsReduced old) (before after : Live) (keeps_clauses : KeepsClauses before after) where
-  nodes_kept : (u v : Node) → AreNodes old u v → AreNodes new u v
-  nodes_kept u v nodes = record { first = laws.stands old new keeps u nodes.first; second = laws.stands old new keeps v nodes.second }
-
-  conjoined_kept : (u v w : Node) (just : Just) → AreNodes old u v → Conjoined old before u v w just → Conjoined new after u v w just
-  conjoined_kept u v w just nodes found =
-      let u_level : level_of new u ≡ level_of old u = laws.level old new keeps u nodes.first in
-      let v_level : level_of new v ≡ level_of old v = laws.level old new keeps v nodes.second in
-      let w_level : level_of new w ≡ level_of old w = laws.level old new keeps w found.stands in
-      record {
-        stands = laws.stands old new keeps w found.stands;
-        not_above = λ level below_u below_v. omega (arith, w_level, found.not_above level (omega (arith, u_level, below_u)) (omega (arith, v_level, below_v)));
-        value = λ a.
-            laws.value old new reduced keeps a w found.stands ∙ found.value a
-            ∙ (λ i. sym (laws.value old new reduced keeps a u nodes.first) i && sym (laws.value old new reduced keeps a v nodes.second) i);
-        justified = subst (λ (atoms : List Atom). IsJustified after atoms just)
-            (λ i. conjunction (sym (laws.atom old new keeps u nodes.first) i) (sym (laws.atom old new keeps v nodes.second) i) (sym (laws.atom old new keeps w found.stands) i))
-            (laws.justified before after keeps_clauses (conjunction_atoms old u v w) just found.justified);
-      }
-
-  implied_kept : (u v : Node) (just : Just) → AreNodes old u v → Implied old before u v just → Implied new after u v just
-  implied_kept u v just nodes found = record {
-    value = λ a holds. laws.value old new reduced keeps a v nodes.second ∙ found.value a (sym (laws.value old new reduced keeps a u nodes.first) ∙ holds);
-    justified = subst (λ (atoms : List Atom). IsJustified after atoms just)
-        (λ i. implication (sym (laws.atom old new keeps u nodes.first) i) (sym (laws.atom old new keeps v nodes.second) i))
-        (laws.justified before after keeps_clauses (implication_atoms old u v) just found.justified);
+module _ (laws : Growth) (old new : Graph) (keeps : KeepsNodes old new) (reduced : IsReduced old) where
+  node_kept : (node : Node) → IsTrue (is_node old node) → IsSameNode old new node
+  node_kept node stands = record {
+    stands = laws.stands old new keeps node stands;
+    level = laws.level old new keeps node stands;
+    value = λ a. laws.value old new reduced keeps a node stands;
+    atom = laws.atom old new keeps node stands;
   }
 
-  disjoined_kept : (u v w : Node) → AreNodes old u v → Disjoined old u v w → Disjoined new u v w
-  disjoined_kept u v w nodes found = record {
-    stands = laws.stands old new keeps w found.stands;
-    not_above = λ level below_u below_v.
-        let u_level : level_of new u ≡ level_of old u = laws.level old new keeps u nodes.first in
-        let v_level : level_of new v ≡ level_of old v = laws.level old new keeps v nodes.second in
-        let w_level : level_of new w ≡ level_of old w = laws.level old new keeps w found.stands in
-        omega (arith, w_level, found.not_above level (omega (arith, u_level, below_u)) (omega (arith, v_level, below_v)));
-    value = λ a.
-        laws.value old new reduced keeps a w found.stands ∙ found.value a
-        ∙ (λ i. sym (laws.value old new reduced keeps a u nodes.first) i || sym (laws.value old new reduced keeps a v nodes.second) i);
-  }
+  nodes_kept : (live : Live) (entry : Entry) → FitsEntry old live entry → AreSameNodes old new entry
+  nodes_kept live (Conjunction u v w just) fits = (node_kept u fits.0.first, node_kept v fits.0.second, node_kept w fits.1.stands)
+  nodes_kept live (Implication u v just) fits = (node_kept u fits.0.first, node_kept v fits.0.second)
+  nodes_kept live (Disjunction u v w) fits = (node_kept u fits.0.first, node_kept v fits.0.second, node_kept w fits.1.stands)
+  nodes_kept live (Quantification u level w) fits = (node_kept u fits.0, node_kept w fits.1.stands)
 
-  quantified_kept : (u : Node) (level : ℕ) (w : Node) → IsTrue (is_node old u) → Quantified old u level w → Quantified new u level w
-  quantified_kept u level w stands found = record {
-    stands = laws.stands old new keeps w found.stands;
-    not_above =
-        let u_level : level_of new u ≡ level_of old u = laws.level old new keeps u stands in
-        let w_level : level_of new w ≡ level_of old w = laws.level old new keeps w found.stands in
-        omega (arith, u_level, w_level, found.not_above);
-    value = λ a.
-        laws.value old new reduced keeps a w found.stands ∙ found.value a
-        ∙ (λ i. sym (laws.value old new reduced keeps (with_level a level true) u stands) i || sym (laws.value old new reduced keeps (with_level a level false) u stands) i);
-  }
-
-  entry_kept : (entry : Entry) → FitsEntry old before entry → FitsEntry new after entry
-  entry_kept (Conjunction u v w just) fits = (nodes_kept u v fits.0, conjoined_kept u v w just fits.0 fits.1)
-  entry_kept (Implication u v just) fits = (nodes_kept u v fits.0, implied_kept u v just fits.0 fits.1)
-  entry_kept (Disjunction u v w) fits = (nodes_kept u v fits.0, disjoined_kept u v w fits.0 fits.1)
-  entry_kept (Quantification u level w) fits = (laws.stands old new keeps u fits.0, quantified_kept u level w fits.0 fits.1)
+  entry_kept : (before after : Live) → KeepsClauses before after → (entry : Entry) → FitsEntry old before entry → FitsEntry new after entry
+  entry_kept before after keeps_clauses entry fits =
+      entry_same old new after entry (nodes_kept before entry fits) (entry_justified old before after entry (λ atoms. laws.justified before after keeps_clauses atoms (just_of entry)) fits)
 
 -- a clause that is named is live
 some_along : {X : Type 0} (one other : Option X) → one ≡ other → is_some other ≡ true → is_some one ≡ true
@@ -224,18 +184,6 @@ module _ (given : (atoms : List Atom) → IsFalse (is_trivial atoms) → IsTrue 
   }
 
 -- Clauses were deleted, but for those that entries name.
-module _ (graph : Graph) (before after : Live) where
-  justified_settled : (atoms : List Atom) (just : Just) → ((id : ℕ) → just ≡ Clause id → clause_at after id ≡ clause_at before id) → IsJustified before atoms just → IsJustified after atoms just
-  justified_settled atoms Trivial same holds = holds
-  justified_settled atoms (Clause id) same holds = (holds.0, same id refl ∙ holds.1)
-
-  entry_settled : (entry : Entry) → ((id : ℕ) → Names entry id → clause_at after id ≡ clause_at before id) → FitsEntry graph before entry → FitsEntry graph after entry
-  entry_settled (Conjunction u v w just) same fits =
-      (fits.0, record { stands = fits.1.stands; not_above = fits.1.not_above; value = fits.1.value; justified = justified_settled (conjunction_atoms graph u v w) just same fits.1.justified })
-  entry_settled (Implication u v just) same fits = (fits.0, record { value = fits.1.value; justified = justified_settled (implication_atoms graph u v) just same fits.1.justified })
-  entry_settled (Disjunction u v w) same fits = fits
-  entry_settled (Quantification u level w) same fits = fits
-
 fits_settled : {S : Type 0} (old new : TableState S) (entries : List Entry) → new.graph ≡ old.graph → new.inputs ≡ old.inputs → new.retired ≡ []
     → ((id : ℕ) → (Contains old.retired id → ⊥) → clause_at new.book.state.live id ≡ clause_at old.book.state.live id) → Fits old entries → Fits new entries
 fits_settled old new entries nodes inputs none stay fits = record {

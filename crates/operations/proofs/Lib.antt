@@ -1,11 +1,17 @@
 pub mod NodeParts
 pub mod Splits
+pub mod Elements
+pub mod SameNodes
 pub mod Kept
+pub mod Purged
 pub mod OpenCalls
 pub mod Cached
 pub mod Accounts
+pub mod PurgedTurns
+pub mod CacheTurns
 pub mod Pairs
 pub mod Price
 pub mod Budget
 pub mod HighClauses
 pub mod Literals
+pub mod Cleared

@@ -20,11 +20,11 @@ use Rattle.operations.specs.Operands.{IsInner}
 use Rattle.operations.specs.Additions.{AreLiterals, Literals}
 
 -- whole numbers and their signs
-abs_neg : (n : ℕ) → nat_abs (neg_ℤ (pos n)) ≡ n
+pub abs_neg : (n : ℕ) → nat_abs (neg_ℤ (pos n)) ≡ n
 abs_neg zero = refl
 abs_neg (suc n) = refl
 
-same_int : (x y : ℤ) → int_eq x y ≡ true → x ≡ y
+pub same_int : (x y : ℤ) → int_eq x y ≡ true → x ≡ y
 same_int x y is = (Decides-int_eq x y).0 is
 
 -- a list of literals that are of different variables
@@ -53,11 +53,11 @@ none_alike n (x ∷ xs) h =
     int_itself x = (Decides-int_eq x x).1 refl
 
 -- an inner node of the graph, by its key
-record IsAt (graph : Graph) (node : Node) : Type 0 where
-  key : NodeKey
-  branch : Branch
-  named : node ≡ Inner key
-  at : branch_at graph key.index ≡ Some branch
+pub record IsAt (graph : Graph) (node : Node) : Type 0 where
+  pub key : NodeKey
+  pub branch : Branch
+  pub named : node ≡ Inner key
+  pub at : branch_at graph key.index ≡ Some branch
 
 IsAt-from : (graph : Graph) (node : Node) (branch : Branch) → branch_of graph node ≡ Some branch → IsAt graph node
 IsAt-from graph False branch is = cc
@@ -65,7 +65,7 @@ IsAt-from graph True branch is = cc
 IsAt-from graph (Inner key) branch is = record { key = key; branch = branch; named = refl; at = is }
 
 -- a node that is literal l is an inner one of that variable
-literal_at : (graph : Graph) (node : Node) (l : ℤ) → atom_of graph node ≡ Of l → (at : IsAt graph node) × (l ≡ pos at.branch.variable)
+pub literal_at : (graph : Graph) (node : Node) (l : ℤ) → atom_of graph node ≡ Of l → (at : IsAt graph node) × (l ≡ pos at.branch.variable)
 literal_at graph False l is = cc
 literal_at graph True l is = cc
 literal_at graph (Inner key) l is = literal_in graph key l (branch_at graph key.index) refl is

@@ -2,9 +2,11 @@ pub mod Operands
 pub mod Sides
 pub mod Results
 pub mod Entries
+pub mod Purged
 pub mod Machine
 pub mod Caches
 pub mod Accounts
+pub mod Turns
 pub mod Ended
 pub mod Pairs
 pub mod Price

@@ -7,11 +7,13 @@ ghost use Rattle.operations.specs.Caches.{Keeping};
 ghost use Rattle.operations.specs.Entries.{Fitting};
 ghost use Rattle.operations.specs.Operands.{Splitting};
 ghost use Rattle.operations.specs.Price.{Pricing};
+ghost use Rattle.operations.specs.Purged.{Purging, PurgingTurns};
+ghost use Rattle.operations.specs.Turns.{CacheTurns, TableTurns};
 
 use hint_chain::clause_law;
 use host_io::Sink;
-use node_table::{Node, cofactor_law, growth_law, reach_law, steps_law};
-use op_cache::{entries_law, front_law, keep_law};
+use node_table::{Node, cofactor_law, growth_law, kept_law, reach_law, steps_law};
+use op_cache::{entries_law, front_law, keep_law, turn_law};
 use std::hash::Hash;
 
 /// What a split says of its operands and their cofactors.
@@ -29,6 +31,38 @@ pub fn entry_law<S: Sink + Drop>()
     clause_law();
     growth_law();
     steps_law::<S>();
+}
+
+/// What purging caches, and sweeping nodes behind it, leaves of entries.
+pub fn purge_law<S: Sink + Drop>()
+    ensures { Purging S }
+{
+    entry_law::<S>();
+    kept_law();
+    clause_law();
+}
+
+/// Purging entry by entry, the last one first.
+pub fn purge_turn_law<S: Sink + Drop>()
+    ensures { PurgingTurns S.tells S.channel }
+{}
+
+/// A bounded cache that is purged by turns of its last entry,
+pub fn cache_turn_law<K: Eq + Hash + Copy, V: Copy>()
+    ensures { CacheTurns K V K.eq }
+{
+    turn_law::<K, V>();
+}
+
+/// and the table, where the clauses of the entries that go are retired.
+pub fn table_turn_law<S: Sink + Drop, K: Eq + Hash + Copy, V: Copy>()
+    ensures { TableTurns K V K.eq S.tells S.channel }
+{
+    entry_law::<S>();
+    purge_law::<S>();
+    purge_turn_law::<S>();
+    steps_law::<S>();
+    turn_law::<K, V>();
 }
 
 /// What the calls of a bounded cache make of its entries.

@@ -16,8 +16,8 @@ mod retired;
 pub use clauses::{behind, id_of, just_of, number_of};
 pub use frames::Reply;
 pub use laws::{
-    accounts_law, budget_law, cache_law, entry_law, high_clause_law, literal_law, operand_law,
-    price_law,
+    accounts_law, budget_law, cache_law, cache_turn_law, entry_law, high_clause_law, literal_law,
+    operand_law, price_law, purge_law, purge_turn_law, table_turn_law,
 };
 pub use machine::{Operation, work_off};
 pub use operands::{Operands, split};

@@ -8,19 +8,19 @@ use std::test::Fail;
 
 // Options of `solve`; the entries of a cache, the nodes and the clause numbers that they allow.
 const LIMITS: &str = "\
-;1000000 10000000 1000000000
---max-nodes 5;1000000 5 1000000000
---max-nodes=5;1000000 5 1000000000
+;1000000 10000000 1000000000000000
+--max-nodes 5;1000000 5 1000000000000000
+--max-nodes=5;1000000 5 1000000000000000
 --max-ids 7;1000000 10000000 7
 --max-nodes 5 --max-ids 7;1000000 5 7
 --max-ids=7 --max-nodes=5;1000000 5 7
 --max-nodes=0 --max-ids=0;1000000 0 0
---max-nodes=100000000 --max-ids=1000000000;1000000 100000000 1000000000
+--max-nodes=100000000 --max-ids=1000000000000000;1000000 100000000 1000000000000000
 --max-nodes=007 --max-ids=000000000000000009;1000000 7 9
---cache 1;1 10000000 1000000000
---cache=100000000 --max-nodes 5;100000000 5 1000000000
+--cache 1;1 10000000 1000000000000000
+--cache=100000000 --max-nodes 5;100000000 5 1000000000000000
 --max-ids 7 --cache=007;7 10000000 7
---cache 000000000000000009;9 10000000 1000000000";
+--cache 000000000000000009;9 10000000 1000000000000000";
 
 // The limits that the words of this line give.
 fn limits_of(alloc: Global, line: &str) -> Result<String, Fail> {
@@ -85,12 +85,12 @@ fn plans(rt: HostRuntime) -> Result<(), Fail> {
 }
 
 // The call on standard output that fails, of those that move 16 bytes each: how the run ends, how many bytes of the help are
-// shown, and the first of them. The text has 993 bytes.
+// shown, and the first of them. The text has 1,005 bytes.
 const HELP: &str = "\
 1;WriteFault 0 ''
 3;WriteFault 32 'Decides FILE, and writes the pro'
-64;WriteFault 993 'Decides FILE, and writes the pro'
-65;Help 993 'Decides FILE, and writes the pro'";
+64;WriteFault 1005 'Decides FILE, and writes the pro'
+65;Help 1005 'Decides FILE, and writes the pro'";
 
 fn helped(alloc: Global, number: u64) -> Result<String, Fail> {
     let words = words_of(alloc, "bddsat solve --help")?;

@@ -1,14 +1,18 @@
 // The computed cache of quantifications that were found before, by the node and the level. Where it is full, the entry whose
 // use lies the longest ago makes room. (Brace, Rudell, Bryant: Efficient Implementation of a BDD Package, DAC 1990.)
 ghost use Rattle.std.specs.Prelude.{◌≡◌, ◌≤◌, [], None, Some, Contains, IfOk, IfSome, OnErr, OnOk};
+ghost use Rattle.std.specs.List.{filter};
 ghost use Rattle.node_table.specs.declared.node.Node.{Node as NodeValue};
+ghost use Rattle.op_cache.specs.Cache.{last_of};
 ghost use Rattle.operations.specs.Entries.{Quantification};
-ghost use Rattle.quantify.specs.ExistsCache.{IsKept, IsLooked, quantifications, most_quantifications};
+ghost use Rattle.operations.specs.Purged.{are_marked};
+ghost use Rattle.operations.specs.Turns.{HasTurn};
+ghost use Rattle.quantify.specs.ExistsCache.{IsKept, IsLooked, Question, most_quantifications, quantification, quantifications, same_question};
 
 use cnf_base::OutOfMemory;
-use node_table::Node;
+use node_table::{Marks, Node};
 use op_cache::Bounded;
-use operations::cache_law;
+use operations::{cache_law, cache_turn_law};
 use std::alloc::Global;
 
 /// Quantifications by their operand and the level that is quantified.
@@ -58,4 +62,36 @@ impl ExistsCache {
         let _ = self.results.len();
         Ok(())
     }
+
+    /// Lets entries go that name an unmarked node. What stays is in the order that it had. It takes no memory.
+    pub fn purge(&mut self, marks: &Marks)
+        ensures entries { quantifications self.new ≡ filter (are_marked marks.now) (quantifications self.old) }
+        ensures most { most_quantifications self.new ≡ most_quantifications self.old }
+    {
+        cache_turn_law::<(Node, u32), Node>();
+        'turns: for _ in 0..self.results.len() {
+            self.turn(marks);
+        }
+    }
+
+    // The entry whose use lies the longest ago comes to the front where the nodes that it names are marked. Else it goes.
+    fn turn(&mut self, marks: &Marks)
+        ensures { (last : Question × NodeValue) → last_of self.old.results.entries ≡ Some last → HasTurn quantification marks.now same_question self.old.results self.new.results last }
+    {
+        let Some((question, w)) = self.results.last() else {
+            return;
+        };
+        if are_marked(marks, question, w) {
+            let _ = self.results.look(&question);
+            return;
+        }
+        let _ = self.results.pop_last();
+    }
+}
+
+// Whether the nodes of an entry are marked: the operand and its quantification.
+fn are_marked(marks: &Marks, question: (Node, u32), w: Node) -> bool
+    ensures { result ≡ are_marked marks.now (quantification (question, w)) }
+{
+    marks.is_marked(question.0) && marks.is_marked(w)
 }

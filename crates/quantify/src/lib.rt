@@ -1,6 +1,6 @@
 //! The disjunction of two nodes of a table, and the existential quantification of a node by one variable. Neither adds a
-//! clause: what they find are nodes with these functions. Results are kept in caches, which name no clause either. It stands
-//! on `operations` and the nodes of `node_table`.
+//! clause: what they find are nodes with these functions. Results are kept in caches, which name no clause either, and are
+//! purged of entries over nodes that aren't marked. It stands on `operations` and the nodes of `node_table`.
 #![tactic(auto)]
 
 mod disjoin;

@@ -1,10 +1,14 @@
 -- How much a run of a plan may use.
-use Rattle.std.specs.Prelude.{◌≤◌}
+use Rattle.std.specs.Prelude.{ℕ, ◌≤◌}
 use Rattle.schedule_plan.specs.declared.limits.Limits.{Limits}
+
+-- the greatest clause number that a run may be allowed, 10^15
+abbrev pub most_ids : ℕ
+most_ids = 1000000000000000
 
 -- the limits that a run may be given
 pub record AreLimits (limits : Limits) : Type 0 where
   pub cache : 1 ≤ limits.cache
   pub most_cache : limits.cache ≤ 100000000
   pub max_nodes : limits.max_nodes ≤ 100000000
-  pub max_ids : limits.max_ids ≤ 1000000000
+  pub max_ids : limits.max_ids ≤ most_ids

@@ -7,6 +7,6 @@ pub struct Limits {
     pub cache: u32,
     /// Inner nodes live at once, at most 100,000,000.
     pub max_nodes: u32,
-    /// The greatest clause number, at most 1,000,000,000.
+    /// The greatest clause number, at most 1,000,000,000,000,000.
     pub max_ids: u64,
 }

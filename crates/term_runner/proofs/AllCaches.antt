@@ -4,10 +4,10 @@ use Rattle.std.specs.Prelude.{IsErrAnd}
 use Rattle.std.proofs.lemmas.List.Elements.{Contains-append_left, Contains-append_right, Contains-append_cases}
 use Rattle.lrat_rules.specs.State.{State}
 use Rattle.node_table.specs.declared.error.TableError.{TableError}
-use Rattle.node_table.specs.Table.{TableState, Extends, IsSound, UnlessTorn}
+use Rattle.node_table.specs.Table.{TableState, AddsNone, Extends, IsSound, UnlessTorn}
 use Rattle.node_table.specs.Progress.{error_of}
 use Rattle.operations.specs.Accounts.{IsWhole, none_whole, whole_error}
-use Rattle.operations.specs.Entries.{Entry, Conjunction, Implication, Disjunction, Quantification, AreApart, Fits, Fitting, IsNamed, Names, NamesOnly, RetiresOwn}
+use Rattle.operations.specs.Entries.{Entry, Conjunction, Implication, Disjunction, Quantification, Accounts, AreApart, Fits, Fitting, IsAccounted, IsNamed, Names, NamesOnly, RetiresOwn}
 use Rattle.apply_and.specs.Cache.{entries as conjunctions, entry_of as conjunction_entry}
 use Rattle.imply.specs.Cache.{entries as implications, entry_of as implication_entry}
 use Rattle.quantify.specs.declared.exists_cache.ExistsCache.{ExistsCache}
@@ -17,6 +17,7 @@ use Rattle.quantify.specs.OrCache.{disjunction, disjunctions}
 use Rattle.term_runner.specs.declared.caches.Caches.{Caches}
 use Rattle.term_runner.specs.Caches.{KeepsEntries}
 use Rattle.term_runner.proofs.Leaving.{error_handed}
+use Rattle.term_runner.proofs.OwnUnits.{within_top}
 
 -- of which operation an entry is
 pub data Kind : Type 0 where
@@ -249,4 +250,51 @@ module _ {S T : Type 0} (fitting : Fitting S) (old new : TableState S) (ands one
         names_in (rest ++ (ands ++ one)) (ands ++ (one ++ rest)) (after ++ (ands ++ one)) (ands ++ (one ++ after)) old.book.state new.book.state (first_last ands one rest) (last_first ands one after)
         (names_beside rest after (ands ++ one) old.book.state new.book.state (names_unnamed rest after old.book.state new.book.state none));
     retires = record { each = λ id gone. inl (subst (λ (ids : List ℕ). Contains ids id) same gone) };
+  }
+
+-- No clause is lost beside other entries, and in another order.
+module _ {S : Type 0} (old new : TableState S) where
+  accounted_in : (table : TableState S) (few more : List Entry) → AreIn few more → (id : ℕ) → IsAccounted table few id → IsAccounted table more id
+  accounted_in table few more within id accounted = elim accounted [ inl gone ↦ inl gone | inr named ↦ inr (named_in few more within id named) ]
+
+  pub accounts_in : (before more after less : List Entry) → AreIn more before → AreIn after less → Accounts old new before after → Accounts old new more less
+  accounts_in before more after less within also accounts = record {
+    still = λ id accounted. accounted_in new after less also id (accounts.still id (accounted_in old more before within id accounted));
+    added = λ id above own. accounted_in new after less also id (accounts.added id above own);
+  }
+
+  pub accounts_beside : (before after others : List Entry) → Accounts old new before after → Accounts old new (before ++ others) (after ++ others)
+  accounts_beside before after others accounts = record {
+    still = λ id accounted. elim accounted [
+      | inl gone ↦ widen id (accounts.still id (inl gone))
+      | inr named ↦ elim (Contains-append_cases before others named.0 named.1) [
+        | inl own ↦ widen id (accounts.still id (inr (named.0, own, named.2)))
+        | inr other ↦ inr (named.0, Contains-append_right after others named.0 other, named.2)
+      ]
+    ];
+    added = λ id above own. widen id (accounts.added id above own);
+  }
+    where
+      widen : (id : ℕ) → IsAccounted new after id → IsAccounted new (after ++ others) id
+      widen id accounted = accounted_in new after (after ++ others) (λ entry there. Contains-append_left after others entry there) id accounted
+
+  pub implication_accounts : (ands one rest after : List Entry) → Accounts old new one after → Accounts old new (ands ++ (one ++ rest)) (ands ++ (after ++ rest))
+  implication_accounts ands one rest after accounts =
+      accounts_in (one ++ (ands ++ rest)) (ands ++ (one ++ rest)) (after ++ (ands ++ rest)) (ands ++ (after ++ rest)) (exchanged ands one rest) (exchanged after ands rest)
+      (accounts_beside one after (ands ++ rest) accounts)
+
+  pub quantification_accounts : (ands one rest after : List Entry) → AreUnnamed rest → IsSound old → new.retired ≡ old.retired → AddsNone old new
+      → Accounts old new (ands ++ (one ++ rest)) (ands ++ (one ++ after))
+  quantification_accounts ands one rest after unnamed sound same none = record {
+    still = λ id accounted. elim accounted [
+      | inl gone ↦ inl (subst (λ (ids : List ℕ). Contains ids id) (sym same) gone)
+      | inr named ↦ elim (Contains-append_cases ands (one ++ rest) named.0 named.1) [
+        | inl first ↦ inr (named.0, Contains-append_left ands (one ++ after) named.0 first, named.2)
+        | inr other ↦ elim (Contains-append_cases one rest named.0 other) [
+          | inl second ↦ inr (named.0, Contains-append_right ands (one ++ after) named.0 (Contains-append_left one after named.0 second), named.2)
+          | inr last ↦ absurd (names_none named.0 id (unnamed named.0 last) named.2)
+        ]
+      ]
+    ];
+    added = λ id above own. absurd (let within = within_top old sound id (none id own).stands in omega (arith, within, above));
   }

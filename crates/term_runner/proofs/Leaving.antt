@@ -1,15 +1,11 @@
 -- What calls leave that may end with an error, one after another.
-use Rattle.std.proofs.Common.{◌≡◌, ◌≢◌, ℕ, zero, suc, ◌-◌, ◌≤◌, Bool, length, Option, None, Some, Result, Ok, Err, refl, sym, ap, ◌∙◌, subst, arith}
+use Rattle.std.proofs.Common.{◌≡◌, ◌≢◌, ℕ, zero, suc, ◌-◌, ◌≤◌, Bool, Option, None, Some, Result, Ok, Err, refl, sym, ap, ◌∙◌, subst, arith}
 use Rattle.std.specs.Prelude.{IfErr, IsErrAnd}
-use Rattle.host_io.specs.Channel.{Channel, Rose}
-use Rattle.lrat_rules.specs.State.{State}
-use Rattle.lrat_rules.specs.Marks.{IsWithin, in_use}
+use Rattle.host_io.specs.Channel.{Channel}
 use Rattle.node_table.specs.declared.error.TableError.{TableError}
 use Rattle.node_table.specs.declared.error.TableError.TheVariants.{NodeLimit, IdLimit, OutOfMemory, WriteFault}
-use Rattle.node_table.specs.Diagram.{levels}
 use Rattle.node_table.specs.Table.{TableState}
-use Rattle.node_table.specs.Progress.{Continues, BreaksOff, Leaves, Steps, error_of, number_limit}
-use Rattle.node_table.specs.Laws.{StepByStep}
+use Rattle.node_table.specs.Progress.{Continues, Leaves, Steps, error_of}
 use Rattle.operations.specs.Budget.{most_additions}
 
 -- an error that is handed on is the one that came
@@ -59,37 +55,12 @@ no_less_at (suc few) (suc more) small = let rest = no_less_at few more (omega (a
 pub within_most : (levels above : ℕ) → most_additions (levels - above) ≤ most_additions levels
 within_most levels above = no_less_at (levels - above) levels (omega arith)
 
-module _ {S : Type 0} (tells : Bool) (channel : S → Channel) (laws : StepByStep tells channel) (first second third : Channel) (old mid new : TableState S) (before : Continues tells first second old mid) where
-  within_before : (state : State) → IsWithin (levels mid.graph) (number_limit mid) mid.max_nodes state → IsWithin (levels old.graph) (number_limit old) old.max_nodes state
-  within_before state is = record {
-    numbers = omega (arith, is.numbers, before.numbers, before.limit);
-    nodes = subst (λ (vars : ℕ). in_use vars state ≤ old.max_nodes) (ap length before.order) (subst (λ (n : ℕ). in_use (levels mid.graph) state ≤ n) before.max_nodes is.nodes);
-  }
+-- the limit of nodes is no failed write, and leaves all in step
+no_fault : ◌≡◌ {A = TableError} NodeLimit WriteFault → ⊥
+no_fault is = cc
 
-  breaks_after : BreaksOff tells second third mid new → BreaksOff tells first third old new
-  breaks_after broken = record {
-    rose = subst (λ (n : ℕ). Rose n third.faults) before.unfailed broken.rose;
-    cut = λ clauses few proof t.
-        let is = broken.cut clauses (omega (arith, few, before.inputs)) (before.kept clauses few proof) t in
-        record { before = is.before; cut = is.cut; within_before = within_before is.before is.within_before; within_after = within_before new.book.state is.within_after };
-    out_of_step = broken.out_of_step;
-    order = broken.order ∙ before.order;
-    max_nodes = broken.max_nodes ∙ before.max_nodes;
-    limit = broken.limit ∙ before.limit;
-    no_less = omega (arith, before.no_less, broken.no_less);
-    numbers = omega (arith, broken.numbers, before.numbers, before.limit);
-    writes = record {
-      flushed = broken.writes.flushed ∙ before.writes.flushed;
-      taken = broken.writes.taken ∙ before.writes.taken;
-      left = broken.writes.left ∙ before.writes.left;
-      name = broken.writes.name ∙ before.writes.name;
-      faults = omega (arith, before.writes.faults, broken.writes.faults);
-    };
-  }
+same_cause : (one other : TableError) → ◌≡◌ {A = Option TableError} (Some one) (Some other) → one ≡ other
+same_cause one other is = cc
 
-  pub leaves_after : (error : Option TableError) → Leaves tells second third mid new error → Leaves tells first third old new error
-  leaves_after None more = laws.go_on first second third old mid new before more
-  leaves_after (Some NodeLimit) more = (laws.go_on first second third old mid new before more.0, more.1)
-  leaves_after (Some IdLimit) more = (laws.go_on first second third old mid new before more.0, more.1)
-  leaves_after (Some OutOfMemory) more = laws.go_on first second third old mid new before more
-  leaves_after (Some WriteFault) more = breaks_after more
+pub limit_whole : (came : TableError) → came ≡ NodeLimit → Some came ≢ Some WriteFault
+limit_whole came limit is = no_fault (sym limit ∙ same_cause came WriteFault is)

@@ -13,7 +13,14 @@ pub mod Opening
 pub mod Planned
 pub mod Parts
 pub mod Leaving
+pub mod Tidied
 pub mod OwnUnits
 pub mod AllCaches
+pub mod Purged
 pub mod Quantified
 pub mod Trails
+pub mod Replaced
+pub mod Giving
+pub mod Retired
+pub mod Again
+pub mod Reclaimed

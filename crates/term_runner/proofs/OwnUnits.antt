@@ -1,8 +1,7 @@
 -- The units of stacked terms are neither retired nor named by an entry, from call to call, so that they stay where the
 -- retired clauses are deleted.
-use Rattle.std.proofs.Common.{◌≡◌, ◌∙◌, ◌⊎◌, ◌≤◌, ◌<◌, ◌+◌, ◌++◌, ℕ, zero, suc, ℤ, true, false, List, [], ◌∷◌, reverse, Option, None, Some, Contains, Result, Ok, Err, is_some, refl, sym, ap, subst, arith, inl, inr}
+use Rattle.std.proofs.Common.{◌≡◌, ◌∙◌, ◌⊎◌, ◌≤◌, ◌<◌, ◌+◌, ℕ, zero, suc, ℤ, true, false, List, [], ◌∷◌, Option, None, Some, Contains, Result, Ok, Err, is_some, refl, sym, ap, subst, arith, inl, inr}
 use Rattle.std.specs.Prelude.{IfOk, IsFalse}
-use Rattle.std.proofs.lemmas.List.{reverse-append}
 use Rattle.cnf_base.specs.Formula.{Formula}
 use Rattle.lrat_rules.specs.State.{Live, clause_at}
 use Rattle.hint_chain.specs.declared.atom.Atom.{Atom}
@@ -20,7 +19,7 @@ use Rattle.schedule_plan.specs.Plan.{Term}
 use Rattle.term_runner.specs.declared.held.Held.{Held}
 use Rattle.term_runner.specs.Held.{AreHeld, IsHeld, IsReady, OwnUnits}
 
-later : {X : Type 0} (first : X) (list : List X) (x : X) → Contains list x → Contains (first ∷ list) x
+pub later : {X : Type 0} (first : X) (list : List X) (x : X) → Contains list x → Contains (first ∷ list) x
 later first list x there = (suc there.0, omega (arith, there.1), there.2)
 
 -- a justified unit's clause is live
@@ -33,14 +32,6 @@ unit_live : (live : Live) (atom : Atom) (unit : Just) (id : ℕ) → IsJustified
 unit_live live atom unit id proved is =
     let own : IsJustified live (atom ∷ []) (Clause id) = subst (λ (j : Just). IsJustified live (atom ∷ []) j) is proved in
     ap is_some own.1 ∙ one_some atom own.0
-
-pub held_live : (formula : Formula) (graph : Graph) (live : Live) (stack : List Held) (terms : List Term) → AreHeld formula graph live stack terms → (held : Held) → Contains stack held → (id : ℕ) → held.unit ≡ Clause id
-    → is_some (clause_at live id) ≡ true
-held_live formula graph live [] terms are held there id is = absurd (omega (arith, there.1))
-held_live formula graph live (first ∷ stack) [] are held there id is = absurd are
-held_live formula graph live (first ∷ stack) (term ∷ terms) are held (zero, small, at) id is =
-    unit_live live (atom_of graph first.node) first.unit id are.0.is.proved (ap (λ (h : Held). h.unit) at ∙ is)
-held_live formula graph live (first ∷ stack) (term ∷ terms) are held (suc k, small, at) id is = held_live formula graph live stack terms are.1 held (k, omega (arith, small), at) id is
 
 some_clause : (o : Option (List ℤ)) → is_some o ≡ true → (clause : List ℤ) × (o ≡ Some clause)
 some_clause None is = absurd (let e : false ≡ true = is in cc)
@@ -86,48 +77,6 @@ module _ {S : Type 0} where
       | inr came ↦ let above = (came id by.2).0 in omega (arith, within, above)
     ]
   ]
-
-  -- after an operation
-  pub own_after : (old mid : TableState S) (before after : List Entry) (stack : List Held) → IsSound old → OwnUnits old before stack
-      → ((held : Held) → Contains stack held → (id : ℕ) → held.unit ≡ Clause id → is_some (clause_at old.book.state.live id) ≡ true)
-      → RetiresOwn old mid before → NamesOnly before after old.book.state mid.book.state → OwnUnits mid after stack
-  own_after old mid before after stack sound own live retires names held there id is accounted =
-      unaccounted_after old mid before after id (within_top old sound id (live held there id is)) (own held there id is) retires names accounted
-
-  pub own_behind : (old mid : TableState S) (before after : List Entry) (stack : List Held) (formula : Formula) (terms : List Term) → IsSound old
-      → AreHeld formula old.graph old.book.state.live (reverse stack) terms → OwnUnits old before (reverse stack) → RetiresOwn old mid before → NamesOnly before after old.book.state mid.book.state
-      → OwnUnits mid after (reverse stack)
-  own_behind old mid before after stack formula terms sound are own retires names =
-      own_after old mid before after (reverse stack) sound own (held_live formula old.graph old.book.state.live (reverse stack) terms are) retires names
-
-  -- where as many are retired
-  pub own_same : (old new : TableState S) (kept : List Entry) (stack : List Held) → new.retired ≡ old.retired → OwnUnits old kept stack → OwnUnits new kept stack
-  own_same old new kept stack same own held there id is accounted = elim accounted [
-    | inl gone ↦ own held there id is (inl (subst (λ (list : List ℕ). Contains list id) same gone))
-    | inr named ↦ own held there id is (inr named)
-  ]
-
-  -- no term is stacked
-  pub own_none : (table : TableState S) (kept : List Entry) (stack : List Held) → stack ≡ [] → OwnUnits table kept (reverse stack)
-  own_none table kept stack empty = subst (λ (list : List Held). OwnUnits table kept (reverse list)) (sym empty) (λ held there id is accounted. omega (arith, there.1))
-
-  -- one term less, and one more
-  pub own_popped : (table : TableState S) (kept : List Entry) (old new : List Held) (top : Held) → old ≡ new ++ top ∷ [] → OwnUnits table kept (reverse old)
-      → ((id : ℕ) → top.unit ≡ Clause id → IsAccounted table kept id → ⊥) × OwnUnits table kept (reverse new)
-  own_popped table kept old new top is own =
-      let listed : reverse old ≡ top ∷ reverse new = ap reverse is ∙ reverse-append new (top ∷ []) in
-      let all : OwnUnits table kept (top ∷ reverse new) = subst (λ (list : List Held). OwnUnits table kept list) listed own in
-      (λ id names accounted. all top (zero, omega arith, refl) id names accounted, λ held there id names accounted. all held (later top (reverse new) held there) id names accounted)
-
-  pub own_pushed : (table : TableState S) (kept : List Entry) (old new : List Held) (top : Held) → new ≡ old ++ top ∷ [] → OwnUnits table kept (reverse old)
-      → ((id : ℕ) → top.unit ≡ Clause id → IsAccounted table kept id → ⊥) → OwnUnits table kept (reverse new)
-  own_pushed table kept old new top is own mine =
-      let listed : reverse new ≡ top ∷ reverse old = ap reverse is ∙ reverse-append old (top ∷ []) in
-      subst (λ (list : List Held). OwnUnits table kept list) (sym listed) all
-    where
-      all : OwnUnits table kept (top ∷ reverse old)
-      all held (zero, small, at) id names accounted = mine id (ap (λ (h : Held). h.unit) at ∙ names) accounted
-      all held (suc k, small, at) id names accounted = own held (k, omega (arith, small), at) id names accounted
 
   -- a unit of the next number
   pub given_next : (old new : TableState S) (u v : Just) (result : Result Just TableError) → IfOk result (λ unit. (unit ≡ Clause (old.book.state.top + 1)) × (new.book.state.top ≡ old.book.state.top + 1))
@@ -179,15 +128,6 @@ module _ {S : Type 0} (formula : Formula) (old new : TableState S) (kept : List 
   pub held_settled : (stack : List Held) (terms : List Term) → OwnUnits old kept stack → AreHeld formula old.graph old.book.state.live stack terms → AreHeld formula new.graph new.book.state.live stack terms
   held_settled stack terms own are =
       subst (λ (graph : Graph). AreHeld formula graph new.book.state.live stack terms) (sym nodes) (all_settled stack terms are (λ held there id is gone. own held there id is (inl gone)))
-
-  in_none : (id : ℕ) → Contains new.retired id → ⊥
-  in_none id gone = let there : Contains [] id = subst (λ (list : List ℕ). Contains list id) none gone in absurd (omega (arith, there.1))
-
-  pub own_settled : (stack : List Held) → OwnUnits old kept stack → OwnUnits new kept stack
-  own_settled stack own held there id is accounted = elim accounted [
-    | inl gone ↦ in_none id gone
-    | inr named ↦ own held there id is (inr named)
-  ]
 
   pub ready_settled : Fitting S → new.inputs ≡ old.inputs → IsSound new → IsReady formula old kept → IsReady formula new kept
   ready_settled fitting inputs sound ready = record {

@@ -1,6 +1,7 @@
 -- The stacked terms, as nodes and clauses are added and moves are taken.
-use Rattle.std.proofs.Common.{◌≡◌, ◌≢◌, ℕ, suc, ◌+◌, ◌-◌, ◌≤◌, Bool, true, false, ◌&&◌, ℤ, List, [], ◌∷◌, ◌++◌, length, reverse, Some, Result, Ok, Err, refl, sym, ap, ◌∙◌, subst, arith}
-use Rattle.std.specs.Prelude.{IfOk, slice_index_or}
+use Rattle.std.proofs.Common.{◌≡◌, ◌≢◌, ℕ, suc, ◌+◌, ◌-◌, ◌<◌, ◌≤◌, Bool, true, false, ◌&&◌, ℤ, List, [], ◌∷◌, ◌++◌, length, reverse, Option, None, Some, Result, Ok, Err, refl, sym, ap, ◌∙◌, subst, arith}
+use Rattle.std.specs.Prelude.{IfOk, IsSome, MatchOption, slice_index_or}
+use Rattle.std.specs.Option.{option_to_list}
 use Rattle.std.proofs.lemmas.List.{reverse-append}
 use Rattle.cnf_base.specs.Truth.{Assignment, clause_holds}
 use Rattle.cnf_base.specs.Formula.{Formula}
@@ -51,10 +52,6 @@ module _ (formula : Formula) (graph : Graph) (live : Live) where
   pub pushed : (old new : List Held) (held : Held) → new ≡ old ++ held ∷ [] → (term : Term) (terms : List Term) → IsHeld formula graph live held term → AreHeld formula graph live (reverse old) terms
       → AreHeld formula graph live (reverse new) (term ∷ terms)
   pushed old new held is term terms one are = subst (λ (s : List Held). AreHeld formula graph live s (term ∷ terms)) (sym (ap reverse is ∙ reverse-append old (held ∷ []))) (one, are)
-
-  pub popped : (old new : List Held) (held : Held) → old ≡ new ++ held ∷ [] → (term : Term) (terms : List Term) → AreHeld formula graph live (reverse old) (term ∷ terms)
-      → IsHeld formula graph live held term × AreHeld formula graph live (reverse new) terms
-  popped old new held is term terms are = subst (λ (s : List Held). AreHeld formula graph live s (term ∷ terms)) (ap reverse is ∙ reverse-append new (held ∷ [])) are
 
   pub none_empty : (old : List Held) → old ≡ [] → (term : Term) (terms : List Term) → AreHeld formula graph live (reverse old) (term ∷ terms) → ⊥
   none_empty old is term terms are = subst (λ (s : List Held). AreHeld formula graph live s (term ∷ terms)) (ap reverse is) are
@@ -151,6 +148,28 @@ module _ (growth : Growth) (old new : Graph) (reduced : IsReduced old) (keeps : 
 pub none_left : (formula : Formula) (graph : Graph) (live : Live) (old : List Held) → length old ≡ 0 → (term : Term) (terms : List Term) → AreHeld formula graph live (reverse old) (term ∷ terms) → ⊥
 none_left formula graph live [] none term terms are = are
 none_left formula graph live (held ∷ old) none term terms are = let e : suc (length old) ≡ 0 = none in cc
+
+-- and two, though one is left at most
+pub few_left : (formula : Formula) (graph : Graph) (live : Live) (old : List Held) → length old < 2 → (one other : Term) (terms : List Term) → AreHeld formula graph live (reverse old) (other ∷ one ∷ terms) → ⊥
+few_left formula graph live [] few one other terms are = are
+few_left formula graph live (held ∷ []) few one other terms are = are.1
+few_left formula graph live (held ∷ next ∷ old) few one other terms are = absurd (omega (arith, few))
+
+-- the last term is taken away
+pub some_there : (old : List Held) (last : Held) (rest : List Held) → reverse old ≡ last ∷ rest → 0 < length old
+some_there [] last rest at = absurd (let e : ◌≡◌ {A = List Held} [] (last ∷ rest) = at in cc)
+some_there (held ∷ old) last rest at = omega arith
+
+pub one_shorter : (popped : Option Held) (few more : ℕ) → MatchOption popped ((more ≡ 0) × (few ≡ 0)) (λ _. few + 1 ≡ more) → IsSome popped → few + 1 ≡ more
+one_shorter None few more cases some = absurd (let e : false ≡ true = some in cc)
+one_shorter (Some held) few more cases some = cases
+
+pub rest_left : (old new : List Held) (popped : Option Held) → old ≡ new ++ option_to_list popped → IsSome popped → (last : Held) (rest : List Held) → reverse old ≡ last ∷ rest → reverse new ≡ rest
+rest_left old new None is some last rest at = absurd (let e : false ≡ true = some in cc)
+rest_left old new (Some held) is some last rest at = tail_same held last (reverse new) rest (sym (ap reverse is ∙ reverse-append new (held ∷ [])) ∙ at)
+  where
+    tail_same : (one other : Held) (first second : List Held) → one ∷ first ≡ other ∷ second → first ≡ second
+    tail_same one other first second same = cc
 
 -- the conjunction's unit is added after the conjunction
 pub conjunction_kept : (growth : Growth) (mid new : Graph) → IsReduced mid → KeepsNodes mid new → (live more : Live) → KeepsClauses live more → new ≡ mid → (formula : Formula) (u v : Held) (w : Node) (just unit : Just) (one other : Term)

@@ -79,7 +79,7 @@ kept_in formula graph (first ∷ nodes) (quantified ∷ trail) are variables kep
     (record { stands = are.0.stands; above = omega (arith, are.0.variable, variables.0); within = omega (arith, are.0.variable, variables.1) })
 kept_in formula graph (first ∷ nodes) (quantified ∷ trail) are variables kept (suc k, small, at) = kept_in formula graph nodes trail are.1 variables.2 kept (k, omega (arith, small), at)
 
-in_reverse : {X : Type 0} (xs : List X) (x : X) → Contains xs x → Contains (reverse xs) x
+pub in_reverse : {X : Type 0} (xs : List X) (x : X) → Contains xs x → Contains (reverse xs) x
 in_reverse {X} [] x there = absurd (omega (arith, there.1))
 in_reverse {X} (y ∷ xs) x (zero, small, at) =
     subst (λ (list : List X). Contains list x) (sym (reverse-append (y ∷ []) xs)) (Contains-append_right (reverse xs) (y ∷ []) x (zero, omega arith, at))

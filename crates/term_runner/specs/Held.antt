@@ -1,15 +1,16 @@
 -- A run between two moves: the table is ready, and its stack holds the plan's terms.
-use Rattle.std.specs.Prelude.{◌≡◌, ◌≢◌, ◌<◌, ◌≤◌, ◌+◌, ℕ, List, [], ◌∷◌, length, Some, Contains, IsTrue, IsFalse, reverse, slice_index_or}
+use Rattle.std.specs.Prelude.{◌≡◌, ◌≢◌, ◌⊎◌, ◌<◌, ◌+◌, ℕ, List, [], ◌∷◌, length, Some, Contains, IsTrue, IsFalse, reverse, slice_index_or}
 use Rattle.cnf_base.specs.Truth.{Assignment}
 use Rattle.cnf_base.specs.Formula.{Formula}
 use Rattle.lrat_rules.specs.State.{Live, clause_at}
 use Rattle.node_table.specs.declared.node.Node.{Node}
 use Rattle.node_table.specs.declared.node.Node.TheVariants.{False, True}
+use Rattle.node_table.specs.declared.node.Just.{Just}
 use Rattle.node_table.specs.declared.node.Just.TheVariants.{Clause}
 use Rattle.node_table.specs.Diagram.{Graph, is_node, levels}
 use Rattle.node_table.specs.Value.{by_level, value_of}
-use Rattle.node_table.specs.Table.{TableState, IsSound}
-use Rattle.operations.specs.Entries.{Entry, Fits, IsAccounted}
+use Rattle.node_table.specs.Table.{TableState, IsAddedTo, IsSound}
+use Rattle.operations.specs.Entries.{Entry, Fits, IsAccounted, NamesOnly, RetiresOwn}
 use Rattle.clause_terms.specs.Term.{IsTerm}
 use Rattle.schedule_plan.specs.Plan.{Stage, Term, term_holds}
 use Rattle.term_runner.specs.declared.held.Held.{Held}
@@ -54,12 +55,52 @@ top_node (held ∷ stack) = held.node
 abbrev pub OwnUnits : {S : Type 0} → TableState S → List Entry → List Held → Type 0
 OwnUnits table kept stack = (held : Held) → Contains stack held → (id : ℕ) → held.unit ≡ Clause id → IsAccounted table kept id → ⊥
 
+-- the unit of a stacked term
+pub record IsUnitOf (stack : List Held) (id : ℕ) : Type 0 where
+  pub held : Held
+  pub stacked : Contains stack held
+  pub unit : held.unit ≡ Clause id
+
+-- two places of the stack never have one unit
+abbrev pub UnitsApart : List Held → Type 0
+UnitsApart [] = Unit {0}
+UnitsApart (held ∷ stack) = ((id : ℕ) → held.unit ≡ Clause id → IsUnitOf stack id → ⊥) × UnitsApart stack
+
+-- each clause that was added beside definitions is retired, named by an entry, or a stacked term's unit
+abbrev pub AllKnown : {S : Type 0} → TableState S → List Entry → List Held → Type 0
+AllKnown table kept stack = (id : ℕ) → IsAddedTo table id → IsAccounted table kept id ⊎ IsUnitOf stack id
+
+-- The stacked units were added beside definitions, each is that of one place and of nothing else, and no other such clause
+-- is lost.
+pub record HasUnits {S : Type 0} (table : TableState S) (kept : List Entry) (stack : List Held) : Type 0 where
+  pub own : OwnUnits table kept stack
+  pub apart : UnitsApart stack
+  pub added : (id : ℕ) → IsUnitOf stack id → IsAddedTo table id
+  pub known : AllKnown table kept stack
+
+-- What a move leaves of the units, and the one that it gives: that of an operand, or a clause that it added. No clause is
+-- lost: each that was retired or named is so still, and so is each that was added since, but for the one given.
+pub record GivesUnit {S : Type 0} (old new : TableState S) (before after : List Entry) (operands : List Held) (unit : Just) : Type 0 where
+  pub retires : RetiresOwn old new before
+  pub named : NamesOnly before after old.book.state new.book.state
+  pub still : (id : ℕ) → IsAccounted old before id → IsAccounted new after id
+  pub added : (id : ℕ) → old.book.state.top < id → IsAddedTo new id → IsAccounted new after id ⊎ (unit ≡ Clause id)
+  pub given : (id : ℕ) → unit ≡ Clause id → IsUnitOf operands id ⊎ ((old.book.state.top < id) × IsAddedTo new id)
+  pub own : (id : ℕ) → unit ≡ Clause id → IsAccounted new after id → ⊥
+
+-- A unit is retired, unless it is the one that is kept, and nothing else.
+pub record RetiresBut {S : Type 0} (old new : TableState S) (unit kept : Just) : Type 0 where
+  pub same : new ≡ record old { retired = new.retired }
+  pub still : (id : ℕ) → Contains old.retired id → Contains new.retired id
+  pub only : (id : ℕ) → Contains new.retired id → Contains old.retired id ⊎ ((unit ≡ Clause id) × (kept ≡ Clause id → ⊥))
+  pub gone : (id : ℕ) → unit ≡ Clause id → Contains new.retired id ⊎ (kept ≡ Clause id)
+
 -- The table is sound, the entries of the caches fit it, and the clauses of the formula, none of them empty, are live under
 -- 1, 2, ..
 pub record IsReady {S : Type 0} (formula : Formula) (table : TableState S) (kept : List Entry) : Type 0 where
   pub sound : IsSound table
   pub fits : Fits table kept
   pub inputs : (i : ℕ) → i < length formula.clauses → clause_at table.book.state.live (i + 1) ≡ Some (slice_index_or formula.clauses i [])
-  pub counted : length formula.clauses ≤ table.inputs
+  pub counted : table.inputs ≡ length formula.clauses
   pub vars : levels table.graph ≡ formula.vars
   pub none_empty : IsFalse (has_empty_clause formula.clauses)

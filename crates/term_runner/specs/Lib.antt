@@ -6,3 +6,4 @@ pub mod Needs
 pub mod Ends
 pub mod Opened
 pub mod Held
+pub mod Tidy

@@ -4,9 +4,9 @@ ghost use Rattle.node_table.specs.declared.error.TableError.TheVariants.{NodeLim
 ghost use Rattle.node_table.specs.Diagram.{is_node, levels};
 ghost use Rattle.node_table.specs.Made.{LacksPart, MakesOnly};
 ghost use Rattle.node_table.specs.Progress.{Steps, error_of};
-ghost use Rattle.node_table.specs.Table.{IsSound};
+ghost use Rattle.node_table.specs.Table.{IsSound, UnlessTorn};
 ghost use Rattle.operations.specs.Budget.{most_additions};
-ghost use Rattle.operations.specs.Entries.{Fits};
+ghost use Rattle.operations.specs.Entries.{Accounts, Fits};
 ghost use Rattle.operations.specs.Results.{Conjoined, Quantified};
 ghost use Rattle.apply_and.specs.Conjunction.{conjunction_of};
 ghost use Rattle.imply.specs.Implication.{IsDecided};
@@ -17,9 +17,10 @@ use apply_and::{AndCache, and};
 use cnf_base::OutOfMemory;
 use host_io::Sink;
 use imply::{ImplyCache, implies};
-use node_table::{Just, Node, Table, TableError, steps_law};
-use operations::entry_law;
+use node_table::{Just, Marks, Node, Table, TableError, steps_law};
+use operations::{entry_law, purge_law};
 use quantify::{ExistsCache, OrCache, exists};
+use reclaim::Purge;
 use std::alloc::Global;
 
 /// The caches of conjunctions, implications, quantifications and disjunctions.
@@ -63,6 +64,7 @@ impl Caches {
         ensures conjoined { IfOk result (λ found. Conjoined table.new.graph table.new.book.state.live u v found.0 found.1) }
         ensures steps { Steps S.tells (S.channel table.old.book.sink) (S.channel table.new.book.sink) table.old table.new (most_additions (levels table.old.graph)) (error_of result) }
         ensures keeps { KeepsEntries table.old table.new (all_entries self.old) (all_entries self.new) (error_of result) }
+        ensures accounts { UnlessTorn result (Accounts table.old table.new (all_entries self.old) (all_entries self.new)) }
         ensures made { MakesOnly table.old.graph table.new.graph (conjunction_of table.old.graph u v) }
         ensures lacks { result ≡ Err NodeLimit → LacksPart table.new.graph (conjunction_of table.old.graph u v) }
         ensures beside { S.beside table.new.book.sink ≡ S.beside table.old.book.sink }
@@ -86,6 +88,7 @@ impl Caches {
         ensures decided { IfOk result (λ answer. IsDecided table.new.graph table.new.book.state.live u v answer) }
         ensures steps { Steps S.tells (S.channel table.old.book.sink) (S.channel table.new.book.sink) table.old table.new (most_additions (levels table.old.graph)) (error_of result) }
         ensures keeps { KeepsEntries table.old table.new (all_entries self.old) (all_entries self.new) (error_of result) }
+        ensures accounts { UnlessTorn result (Accounts table.old table.new (all_entries self.old) (all_entries self.new)) }
         ensures nodes { table.new.graph ≡ table.old.graph }
         ensures no_node_limit { result ≢ Err NodeLimit }
         ensures beside { S.beside table.new.book.sink ≡ S.beside table.old.book.sink }
@@ -110,11 +113,26 @@ impl Caches {
         ensures quantified { IfOk result (λ w. Quantified table.new.graph u level w) }
         ensures steps { Steps S.tells (S.channel table.old.book.sink) (S.channel table.new.book.sink) table.old table.new 0 (error_of result) }
         ensures keeps { KeepsEntries table.old table.new (all_entries self.old) (all_entries self.new) (error_of result) }
+        ensures accounts { UnlessTorn result (Accounts table.old table.new (all_entries self.old) (all_entries self.new)) }
         ensures made { MakesOnly table.old.graph table.new.graph (quantification_of table.old.graph u level) }
         ensures lacks { result ≡ Err NodeLimit → LacksPart table.new.graph (quantification_of table.old.graph u level) }
         ensures beside { S.beside table.new.book.sink ≡ S.beside table.old.book.sink }
     {
         entry_law::<S>();
         exists(table, &mut self.quantifications, &mut self.ors, u, level)
+    }
+}
+
+impl Purge for Caches {
+    ghost entries = { all_entries };
+
+    fn purge<S: Sink + Drop>(&mut self, table: &mut Table<S>, marks: &Marks) {
+        entry_law::<S>();
+        purge_law::<S>();
+        steps_law::<S>();
+        self.ands.purge(table, marks);
+        self.implications.purge(table, marks);
+        self.quantifications.purge(marks);
+        self.ors.purge(marks);
     }
 }

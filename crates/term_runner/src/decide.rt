@@ -13,8 +13,8 @@ ghost use Rattle.term_runner.specs.Held.{IsReady, top_node};
 
 use crate::caches::Caches;
 use crate::held::Held;
-use crate::moves::take_move;
 use crate::open::are_tautologies;
+use crate::reclamation::take_move;
 use clause_terms::{Model, Trail, recover};
 use cnf_base::Cnf;
 use host_io::Sink;
@@ -36,6 +36,7 @@ pub fn decide<S: Sink + Drop>(
     requires ready { IsReady formula.now table.old [] }
     requires empty { table.old.graph.nodes ≡ map.empty }
     requires settled { table.old.retired ≡ [] }
+    requires fresh { table.old.inputs ≡ table.old.book.state.top }
     ensures found { IfOk result (λ found. MatchOption found ((id : ℕ) × (clause_at table.new.book.state.live id ≡ Some []))
         (λ model. IsRecovered formula.now table.old.graph.order plan.now model)) }
     ensures leaves { Leaves S.tells (S.channel table.old.book.sink) (S.channel table.new.book.sink) table.old table.new (error_of result) }
@@ -68,6 +69,7 @@ fn run_moves<S: Sink + Drop>(
     requires ready { IsReady formula.now table.old [] }
     requires empty { table.old.graph.nodes ≡ map.empty }
     requires settled { table.old.retired ≡ [] }
+    requires fresh { table.old.inputs ≡ table.old.book.state.top }
     ensures found { IfOk result (λ found. MatchOption found ((id : ℕ) × (clause_at table.new.book.state.live id ≡ Some []))
         (λ model. IsRecovered formula.now table.old.graph.order plan.now model)) }
     ensures leaves { Leaves S.tells (S.channel table.old.book.sink) (S.channel table.new.book.sink) table.old table.new (error_of result) }
@@ -79,6 +81,8 @@ fn run_moves<S: Sink + Drop>(
     let mut caches = Caches::new(alloc, capacity)?;
     let mut stack: Vec<Held> = Vec::new(alloc);
     let mut trail = Trail::new(alloc);
+    // How many nodes the last reclamation left.
+    let mut left = 0;
     'moves: for i in 0..plan.len() {
         let Some(step) = plan.get(i) else {
             unreachable!();
@@ -89,6 +93,7 @@ fn run_moves<S: Sink + Drop>(
             &mut caches,
             &mut stack,
             &mut trail,
+            &mut left,
             formula,
             step,
         )? {

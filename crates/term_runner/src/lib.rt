@@ -1,6 +1,7 @@
 //! Runs a plan over a formula: pushes its clauses as terms, conjoins them, quantifies variables from them, and ends with a
 //! refutation on the proof, with an assignment that satisfies the formula, or at a limit. It stands on `clause_terms` for the
-//! clauses' terms and for the assignment, and on `apply_and`, `quantify` and `imply` for the operations.
+//! clauses' terms and for the assignment, on `apply_and`, `quantify` and `imply`
+//! for the operations, and on `reclaim`.
 #![tactic(auto)]
 
 mod caches;
@@ -12,6 +13,7 @@ mod moves;
 mod open;
 mod outcome;
 mod quantification;
+mod reclamation;
 mod run;
 mod unit;
 

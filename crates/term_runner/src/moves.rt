@@ -1,6 +1,6 @@
 // One move of a plan. (Bryant, Heule: Generating Extended Resolution Proofs with a BDD-Based SAT Solver, 2021,
 // section 5.)
-ghost use Rattle.std.specs.Prelude.{◌≡◌, ◌↔◌, ◌≤◌, ◌⊎◌, ◌+◌, ℕ, List, [], ◌∷◌, Ok, Err, Some, IsTrue, IfOk, false, length, reverse};
+ghost use Rattle.std.specs.Prelude.{◌≡◌, ◌↔◌, ◌≤◌, ◌⊎◌, ◌+◌, ℕ, List, [], ◌∷◌, Ok, Err, Some, IsTrue, IsErr, IfOk, false, length, reverse};
 ghost use Rattle.lrat_rules.specs.State.{clause_at};
 ghost use Rattle.node_table.specs.declared.error.TableError.TheVariants.{NodeLimit};
 ghost use Rattle.node_table.specs.Diagram.{levels};
@@ -13,23 +13,23 @@ ghost use Rattle.operations.specs.Entries.{Entry, Fits};
 ghost use Rattle.schedule_plan.specs.Plan.{Stage, Term as TermValue, after_move, both, input};
 ghost use Rattle.term_runner.specs.Caches.{all_entries};
 ghost use Rattle.term_runner.specs.Needs.{KeepsOrMakes, term_function, top_function};
-ghost use Rattle.term_runner.specs.Held.{AreHeld, IsAt, IsReady, OwnUnits};
+ghost use Rattle.term_runner.specs.Held.{AreHeld, IsAt, IsReady, HasUnits};
 
 use crate::caches::Caches;
-use crate::held::{Held, put};
+use crate::held::{Held, last_two, put, replace_two};
 use crate::quantification::quantify_out;
-use crate::unit::unit_of;
+use crate::unit::{is_same, retire_unit, unit_of};
 use clause_terms::{Trail, push_clause};
 use cnf_base::{Cnf, Id};
 use host_io::Sink;
-use node_table::{Table, TableError, growth_law, steps_law};
+use node_table::{Node, Table, TableError, growth_law, steps_law};
 use operations::entry_law;
 use schedule_plan::Move;
 use std::alloc::Global;
 
-/// Takes a move, and says whether the empty clause was added: then all is done. Else, and where no more nodes are allowed,
+/// Tries a move, and says whether the empty clause was added: then all is done. Else, and where no more nodes are allowed,
 /// the clauses that were retired are deleted.
-pub fn take_move<S: Sink + Drop>(
+pub fn try_move<S: Sink + Drop>(
     alloc: Global,
     table: &mut Table<S>,
     caches: &mut Caches,
@@ -41,13 +41,18 @@ pub fn take_move<S: Sink + Drop>(
     requires ready { IsReady formula.now table.old (all_entries caches.old) }
     requires possible { (stage next : Stage) × IsAt formula.now table.old.graph table.old.book.state.live stack.old.items trail.old stage × (after_move formula.now stage step ≡ Some next) }
     requires settled { table.old.retired ≡ [] }
-    requires own { OwnUnits table.old (all_entries caches.old) (reverse stack.old.items) }
+    requires own { HasUnits table.old (all_entries caches.old) (reverse stack.old.items) }
     ensures held { (stage next : Stage) → IsAt formula.now table.old.graph table.old.book.state.live stack.old.items trail.old stage → after_move formula.now stage step ≡ Some next
         → IfOk result (λ refuted. refuted ≡ false → IsAt formula.now table.new.graph table.new.book.state.live stack.new.items trail.new next) }
     ensures refuted { IfOk result (λ refuted. IsTrue refuted → (id : ℕ) × (clause_at table.new.book.state.live id ≡ Some [])) }
     ensures ready { UnlessTorn result (IsReady formula.now table.new (all_entries caches.new)) }
     ensures settled { (result ≡ Ok false) ⊎ (result ≡ Err NodeLimit) → table.new.retired ≡ [] }
-    ensures own { IfOk result (λ refuted. refuted ≡ false → OwnUnits table.new (all_entries caches.new) (reverse stack.new.items)) }
+    ensures own { IfOk result (λ refuted. refuted ≡ false → HasUnits table.new (all_entries caches.new) (reverse stack.new.items)) }
+    // A move that didn't succeed leaves its operands, unless a write failed. At the limit of nodes it may be tried again.
+    ensures unchanged { UnlessTorn result (IsErr result → (stack.new.items ≡ stack.old.items) × (trail.new ≡ trail.old)) }
+    ensures again { result ≡ Err NodeLimit → HasUnits table.new (all_entries caches.new) (reverse stack.new.items) }
+    ensures at_again { (stage : Stage) → IsAt formula.now table.old.graph table.old.book.state.live stack.old.items trail.old stage
+        → result ≡ Err NodeLimit → IsAt formula.now table.new.graph table.new.book.state.live stack.new.items trail.new stage }
     ensures leaves { Leaves S.tells (S.channel table.old.book.sink) (S.channel table.new.book.sink) table.old table.new (error_of result) }
     ensures made { (stage next : Stage) → IsAt formula.now table.old.graph table.old.book.state.live stack.old.items trail.old stage → after_move formula.now stage step ≡ Some next
         → KeepsOrMakes table.old.graph table.new.graph (top_function formula.now table.old.graph.order next.stack) }
@@ -71,7 +76,8 @@ pub fn take_move<S: Sink + Drop>(
     }
 }
 
-fn is_node_limit(error: &TableError) -> bool
+/// Whether no more nodes are allowed.
+pub(crate) fn is_node_limit(error: &TableError) -> bool
     ensures { IsTrue result ↔ (error.now ≡ NodeLimit) }
 {
     *error == TableError::NodeLimit
@@ -90,12 +96,16 @@ fn carry_out<S: Sink + Drop>(
     requires ready { IsReady formula.now table.old (all_entries caches.old) }
     requires possible { (stage next : Stage) × IsAt formula.now table.old.graph table.old.book.state.live stack.old.items trail.old stage × (after_move formula.now stage step ≡ Some next) }
     requires settled { table.old.retired ≡ [] }
-    requires own { OwnUnits table.old (all_entries caches.old) (reverse stack.old.items) }
+    requires own { HasUnits table.old (all_entries caches.old) (reverse stack.old.items) }
     ensures held { (stage next : Stage) → IsAt formula.now table.old.graph table.old.book.state.live stack.old.items trail.old stage → after_move formula.now stage step ≡ Some next
         → IfOk result (λ refuted. refuted ≡ false → IsAt formula.now table.new.graph table.new.book.state.live stack.new.items trail.new next) }
     ensures refuted { IfOk result (λ refuted. IsTrue refuted → (id : ℕ) × (clause_at table.new.book.state.live id ≡ Some [])) }
-    ensures own { IfOk result (λ refuted. refuted ≡ false → OwnUnits table.new (all_entries caches.new) (reverse stack.new.items)) }
+    ensures own { IfOk result (λ refuted. refuted ≡ false → HasUnits table.new (all_entries caches.new) (reverse stack.new.items)) }
     ensures ready { UnlessTorn result (IsReady formula.now table.new (all_entries caches.new)) }
+    ensures unchanged { IsErr result → (stack.new.items ≡ stack.old.items) × (trail.new ≡ trail.old) }
+    ensures again { result ≡ Err NodeLimit → HasUnits table.new (all_entries caches.new) (reverse stack.new.items) }
+    ensures at_again { (stage : Stage) → IsAt formula.now table.old.graph table.old.book.state.live stack.old.items trail.old stage
+        → result ≡ Err NodeLimit → IsAt formula.now table.new.graph table.new.book.state.live stack.new.items trail.new stage }
     ensures leaves { Leaves S.tells (S.channel table.old.book.sink) (S.channel table.new.book.sink) table.old table.new (error_of result) }
     ensures made { (stage next : Stage) → IsAt formula.now table.old.graph table.old.book.state.live stack.old.items trail.old stage → after_move formula.now stage step ≡ Some next
         → KeepsOrMakes table.old.graph table.new.graph (top_function formula.now table.old.graph.order next.stack) }
@@ -126,8 +136,10 @@ fn push<S: Sink + Drop>(
     ensures held { (terms : List TermValue) → AreHeld formula.now table.old.graph table.old.book.state.live (reverse stack.old.items) terms
         → IfOk result (λ refuted. refuted ≡ false → AreHeld formula.now table.new.graph table.new.book.state.live (reverse stack.new.items) (input number ∷ terms)) }
     ensures refuted { IfOk result (λ refuted. IsTrue refuted → (id : ℕ) × (clause_at table.new.book.state.live id ≡ Some [])) }
-    ensures own { (kept : List Entry) → Fits table.old kept → OwnUnits table.old kept (reverse stack.old.items)
-        → IfOk result (λ refuted. refuted ≡ false → OwnUnits table.new kept (reverse stack.new.items)) }
+    ensures unchanged { IsErr result → stack.new.items ≡ stack.old.items }
+    ensures again { (kept : List Entry) → Fits table.old kept → HasUnits table.old kept (reverse stack.old.items) → result ≡ Err NodeLimit → HasUnits table.new kept (reverse stack.new.items) }
+    ensures own { (kept : List Entry) → Fits table.old kept → HasUnits table.old kept (reverse stack.old.items)
+        → IfOk result (λ refuted. refuted ≡ false → HasUnits table.new kept (reverse stack.new.items)) }
     ensures steps { Steps S.tells (S.channel table.old.book.sink) (S.channel table.new.book.sink) table.old table.new 1 (error_of result) }
     ensures retired { table.new.retired ≡ table.old.retired }
     ensures made { MakesOnly table.old.graph table.new.graph (term_function formula.now table.old.graph.order (input number)) }
@@ -135,13 +147,14 @@ fn push<S: Sink + Drop>(
     ensures beside { S.beside table.new.book.sink ≡ S.beside table.old.book.sink }
 {
     growth_law();
+    steps_law::<S>();
     formula.formula_law();
     let clause = formula.clause(number as usize);
     let found = push_clause(alloc, table, clause, Id(number as u64))?;
     put(stack, found.0, found.1)
 }
 
-// Conjoins the two top terms.
+// Conjoins the two top terms. Their units are retired once that has succeeded, but for one that is the conjunction's.
 fn conjoin<S: Sink + Drop>(
     table: &mut Table<S>,
     caches: &mut Caches,
@@ -149,12 +162,14 @@ fn conjoin<S: Sink + Drop>(
 ) -> Result<bool, TableError>
     requires sound { IsSound table.old }
     requires fits { Fits table.old (all_entries caches.old) }
-    requires own { OwnUnits table.old (all_entries caches.old) (reverse stack.old.items) }
+    requires own { HasUnits table.old (all_entries caches.old) (reverse stack.old.items) }
     requires two { (formula : Formula) × (one other : TermValue) × (terms : List TermValue) × AreHeld formula table.old.graph table.old.book.state.live (reverse stack.old.items) (other ∷ one ∷ terms) }
     ensures held { (formula : Formula) (one other : TermValue) (terms : List TermValue) → AreHeld formula table.old.graph table.old.book.state.live (reverse stack.old.items) (other ∷ one ∷ terms)
         → IfOk result (λ refuted. refuted ≡ false → AreHeld formula table.new.graph table.new.book.state.live (reverse stack.new.items) (both one other ∷ terms)) }
     ensures refuted { IfOk result (λ refuted. IsTrue refuted → (id : ℕ) × (clause_at table.new.book.state.live id ≡ Some [])) }
-    ensures own { IfOk result (λ refuted. refuted ≡ false → OwnUnits table.new (all_entries caches.new) (reverse stack.new.items)) }
+    ensures unchanged { IsErr result → stack.new.items ≡ stack.old.items }
+    ensures again { result ≡ Err NodeLimit → HasUnits table.new (all_entries caches.new) (reverse stack.new.items) }
+    ensures own { IfOk result (λ refuted. refuted ≡ false → HasUnits table.new (all_entries caches.new) (reverse stack.new.items)) }
     ensures steps { Steps S.tells (S.channel table.old.book.sink) (S.channel table.new.book.sink) table.old table.new (most_additions (levels table.old.graph) + 1) (error_of result) }
     ensures fits { UnlessTorn result (Fits table.new (all_entries caches.new)) }
     ensures made { (formula : Formula) (one other : TermValue) (terms : List TermValue) → AreHeld formula table.old.graph table.old.book.state.live (reverse stack.old.items) (other ∷ one ∷ terms)
@@ -166,13 +181,16 @@ fn conjoin<S: Sink + Drop>(
     growth_law();
     steps_law::<S>();
     entry_law::<S>();
-    let Some(v) = stack.pop() else {
+    let Some((u, v)) = last_two(stack.as_slice()) else {
         unreachable!();
     };
-    let Some(u) = stack.pop() else {
-        unreachable!();
-    };
-    let found = caches.and(table, u.node, v.node)?;
-    let unit = unit_of(table, &u, &v, found.0, &found.1)?;
-    put(stack, found.0, unit)
+    let (node, just) = caches.and(table, u.node, v.node)?;
+    let unit = unit_of(table, &u, &v, node, &just)?;
+    if is_same(node, Node::False) {
+        return Ok(true);
+    }
+    retire_unit(table, &u.unit, &unit);
+    retire_unit(table, &v.unit, &unit);
+    replace_two(stack, node, unit);
+    Ok(false)
 }

@@ -1,6 +1,6 @@
 // A variable is quantified from the top term. The term implies what comes of it, and so the new unit follows from the old
-// one. (Bryant, Heule: Generating Extended Resolution Proofs with a BDD-Based SAT Solver, 2021, section 5.)
-ghost use Rattle.std.specs.Prelude.{◌≡◌, ◌≢◌, ◌≤◌, ◌<◌, ◌+◌, ℕ, List, [], ◌∷◌, Err, Some, IsTrue, IfOk, false, reverse, true};
+// one, which is retired then. (Bryant, Heule: Generating Extended Resolution Proofs with a BDD-Based SAT Solver, 2021, section 5.)
+ghost use Rattle.std.specs.Prelude.{◌≡◌, ◌≢◌, ◌≤◌, ◌<◌, ◌+◌, ℕ, List, [], ◌∷◌, Err, Some, IsTrue, IsErr, IfOk, false, reverse, true};
 ghost use Rattle.lrat_rules.specs.State.{clause_at};
 ghost use Rattle.cnf_base.specs.Formula.{Formula};
 ghost use Rattle.node_table.specs.declared.error.TableError.TheVariants.{NodeLimit};
@@ -14,17 +14,17 @@ ghost use Rattle.node_table.specs.Progress.{Steps, error_of};
 ghost use Rattle.node_table.specs.Table.{IsSound, UnlessTorn};
 ghost use Rattle.node_table.specs.Value.{Levels, value_of};
 ghost use Rattle.operations.specs.Budget.{most_additions};
-ghost use Rattle.operations.specs.Entries.{Fits, IsAccounted};
+ghost use Rattle.operations.specs.Entries.{Accounts, Fits, IsAccounted};
 ghost use Rattle.operations.specs.Results.{Quantified};
 ghost use Rattle.quantify.specs.Quantification.{quantification_of};
 ghost use Rattle.schedule_plan.specs.Plan.{Term as TermValue, some_value};
 ghost use Rattle.term_runner.specs.Caches.{KeepsEntries, all_entries};
-ghost use Rattle.term_runner.specs.Held.{AreHeld, AreKept, OwnUnits};
+ghost use Rattle.term_runner.specs.Held.{AreHeld, AreKept, GivesUnit, HasUnits};
 ghost use Rattle.term_runner.specs.Needs.{term_function};
 
 use crate::caches::Caches;
-use crate::held::{Held, put};
-use crate::unit::unit_of_implied;
+use crate::held::{Held, last_term, replace_last};
+use crate::unit::{is_same, retire_unit, unit_of_implied};
 use clause_terms::Trail;
 use host_io::Sink;
 use node_table::{Just, Node, Table, TableError, growth_law, steps_law};
@@ -40,7 +40,7 @@ pub fn quantify_out<S: Sink + Drop>(
 ) -> Result<bool, TableError>
     requires sound { IsSound table.old }
     requires fits { Fits table.old (all_entries caches.old) }
-    requires own { OwnUnits table.old (all_entries caches.old) (reverse stack.old.items) }
+    requires own { HasUnits table.old (all_entries caches.old) (reverse stack.old.items) }
     requires from_one { 1 ≤ variable }
     requires to_levels { variable ≤ levels table.old.graph }
     requires one { (formula : Formula) × (term : TermValue) × (terms : List TermValue) × AreHeld formula table.old.graph table.old.book.state.live (reverse stack.old.items) (term ∷ terms) }
@@ -48,8 +48,10 @@ pub fn quantify_out<S: Sink + Drop>(
         → IfOk result (λ refuted. refuted ≡ false → AreHeld formula table.new.graph table.new.book.state.live (reverse stack.new.items) (some_value variable term ∷ terms)) }
     ensures kept { (formula : Formula) (term : TermValue) (terms : List TermValue) (quantified : List (ℕ × TermValue)) → AreHeld formula table.old.graph table.old.book.state.live (reverse stack.old.items) (term ∷ terms)
         → AreKept formula table.old.graph (reverse trail.old) quantified → IfOk result (λ refuted. AreKept formula table.new.graph (reverse trail.new) ((variable, term) ∷ quantified)) }
+    ensures unchanged { IsErr result → (stack.new.items ≡ stack.old.items) × (trail.new ≡ trail.old) }
+    ensures again { result ≡ Err NodeLimit → HasUnits table.new (all_entries caches.new) (reverse stack.new.items) }
     ensures refuted { IfOk result (λ refuted. IsTrue refuted → (id : ℕ) × (clause_at table.new.book.state.live id ≡ Some [])) }
-    ensures own { IfOk result (λ refuted. refuted ≡ false → OwnUnits table.new (all_entries caches.new) (reverse stack.new.items)) }
+    ensures own { IfOk result (λ refuted. refuted ≡ false → HasUnits table.new (all_entries caches.new) (reverse stack.new.items)) }
     ensures steps { Steps S.tells (S.channel table.old.book.sink) (S.channel table.new.book.sink) table.old table.new (most_additions (levels table.old.graph) + 1) (error_of result) }
     ensures fits { UnlessTorn result (Fits table.new (all_entries caches.new)) }
     ensures made { (formula : Formula) (term : TermValue) (terms : List TermValue) → AreHeld formula table.old.graph table.old.book.state.live (reverse stack.old.items) (term ∷ terms)
@@ -59,7 +61,9 @@ pub fn quantify_out<S: Sink + Drop>(
     ensures beside { S.beside table.new.book.sink ≡ S.beside table.old.book.sink }
 {
     growth_law();
-    let Some(u) = stack.pop() else {
+    steps_law::<S>();
+    entry_law::<S>();
+    let Some(u) = last_term(stack.as_slice()) else {
         unreachable!();
     };
     let Some(level) = table.level(variable) else {
@@ -67,7 +71,12 @@ pub fn quantify_out<S: Sink + Drop>(
     };
     let held = weaken(table, caches, &u, level)?;
     trail.push(variable, u.node)?;
-    put(stack, held.node, held.unit)
+    if is_same(held.node, Node::False) {
+        return Ok(true);
+    }
+    retire_unit(table, &u.unit, &held.unit);
+    replace_last(stack, held.node, held.unit);
+    Ok(false)
 }
 
 // The term without the variable of this level, with its unit.
@@ -87,8 +96,10 @@ fn weaken<S: Sink + Drop>(
     ensures quantified { IfOk result (λ held. Quantified table.new.graph u.now.node level held.node) }
     ensures unit { IfOk result (λ held. IsJustified table.new.book.state.live (atom_of table.new.graph held.node ∷ []) held.unit) }
     ensures own { IfOk result (λ held. (id : ℕ) → held.unit ≡ Clause id → IsAccounted table.new (all_entries caches.new) id → ⊥) }
+    ensures gives { IfOk result (λ held. GivesUnit table.old table.new (all_entries caches.old) (all_entries caches.new) (u.now ∷ []) held.unit) }
     ensures steps { Steps S.tells (S.channel table.old.book.sink) (S.channel table.new.book.sink) table.old table.new (most_additions (levels table.old.graph) + 1) (error_of result) }
     ensures keeps { KeepsEntries table.old table.new (all_entries caches.old) (all_entries caches.new) (error_of result) }
+    ensures accounts { result ≡ Err NodeLimit → Accounts table.old table.new (all_entries caches.old) (all_entries caches.new) }
     ensures made { MakesOnly table.old.graph table.new.graph (quantification_of table.old.graph u.now.node level) }
     ensures lacks { result ≡ Err NodeLimit → LacksPart table.new.graph (quantification_of table.old.graph u.now.node level) }
     ensures beside { S.beside table.new.book.sink ≡ S.beside table.old.book.sink }
@@ -117,6 +128,7 @@ fn implied_unit<S: Sink + Drop>(
     requires own { (id : ℕ) → u.now.unit ≡ Clause id → IsAccounted table.old (all_entries caches.old) id → ⊥ }
     ensures unit { IfOk result (λ unit. IsJustified table.new.book.state.live (atom_of table.old.graph w ∷ []) unit) }
     ensures own { IfOk result (λ unit. (id : ℕ) → unit ≡ Clause id → IsAccounted table.new (all_entries caches.new) id → ⊥) }
+    ensures gives { IfOk result (λ unit. GivesUnit table.old table.new (all_entries caches.old) (all_entries caches.new) (u.now ∷ []) unit) }
     ensures nodes { table.new.graph ≡ table.old.graph }
     ensures steps { Steps S.tells (S.channel table.old.book.sink) (S.channel table.new.book.sink) table.old table.new (most_additions (levels table.old.graph) + 1) (error_of result) }
     ensures keeps { KeepsEntries table.old table.new (all_entries caches.old) (all_entries caches.new) (error_of result) }

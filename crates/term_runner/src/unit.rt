@@ -1,6 +1,7 @@
 // The unit of a conjunction of two terms, and that of a node that a term implies: an operand's own where it is that
-// operand, else a clause that follows from the operands' units and the clause of the conjunction or the implication.
-ghost use Rattle.std.specs.Prelude.{◌≡◌, ◌≢◌, ◌<◌, ◌+◌, ◌⊎◌, ◌↔◌, ℤ, List, [], ◌∷◌, Err, Some, IsTrue, IfOk, MatchOption};
+// operand, else a clause that follows from the operands' units and the clause of the conjunction or the implication. Then
+// the operands' units are needed no more.
+ghost use Rattle.std.specs.Prelude.{◌≡◌, ◌≢◌, ◌<◌, ◌+◌, ◌⊎◌, ◌↔◌, ℕ, ℤ, List, [], ◌∷◌, Err, None, Some, Contains, IsTrue, IfOk, MatchOption};
 ghost use Rattle.node_table.specs.declared.node.Node.TheVariants.{False, True};
 ghost use Rattle.node_table.specs.declared.node.Just.TheVariants.{Trivial, Clause};
 ghost use Rattle.lrat_rules.specs.Strict.{RefutesStrictly};
@@ -9,10 +10,11 @@ ghost use Rattle.node_table.specs.declared.error.TableError.TheVariants.{NodeLim
 ghost use Rattle.node_table.specs.Defined.{atom_of};
 ghost use Rattle.node_table.specs.Diagram.{is_node};
 ghost use Rattle.node_table.specs.Just.{IsJustified};
-ghost use Rattle.node_table.specs.Table.{IsSound};
+ghost use Rattle.node_table.specs.Table.{IsAddedTo, IsSound};
 ghost use Rattle.node_table.specs.Progress.{Steps, error_of};
 ghost use Rattle.operations.specs.Results.{Conjoined, Implied};
 ghost use Rattle.operations.specs.Entries.{IsNewJust};
+ghost use Rattle.term_runner.specs.Held.{RetiresBut};
 
 use crate::held::Held;
 use cnf_base::Id;
@@ -20,6 +22,7 @@ use hint_chain::{clause_law, following_unit_law};
 use host_io::Sink;
 use lrat_rules::live_law;
 use node_table::{Just, Node, Table, TableError, canonical_law, steps_law};
+use operations::retire;
 
 /// The unit of the node w, which is the conjunction of both terms' nodes.
 pub fn unit_of<S: Sink + Drop>(
@@ -39,6 +42,8 @@ pub fn unit_of<S: Sink + Drop>(
     requires conjoined { Conjoined table.old.graph table.old.book.state.live u.now.node v.now.node w just.now }
     ensures unit { IfOk result (λ unit. IsJustified table.new.book.state.live (atom_of table.old.graph w ∷ []) unit) }
     ensures given { IfOk result (λ unit. (unit ≡ u.now.unit) ⊎ ((unit ≡ v.now.unit) ⊎ IsNewJust table.old.book.state table.new.book.state unit)) }
+    ensures added { IfOk result (λ unit. (unit ≡ u.now.unit) ⊎ ((unit ≡ v.now.unit) ⊎ ((id : ℕ) → unit ≡ Clause id → IsAddedTo table.new id))) }
+    ensures alone { IfOk result (λ unit. (id : ℕ) → IsAddedTo table.new id → IsAddedTo table.old id ⊎ (unit ≡ Clause id)) }
     // An operand's own unit without a clause more, or one clause.
     ensures own { (w ≡ u.now.node) ⊎ (w ≡ v.now.node) → table.new ≡ table.old }
     ensures number { w ≢ u.now.node → w ≢ v.now.node → IfOk result (λ unit. (unit ≡ Clause (table.old.book.state.top + 1)) × (table.new.book.state.top ≡ table.old.book.state.top + 1)) }
@@ -85,6 +90,8 @@ pub fn unit_of_implied<S: Sink + Drop>(
     requires implied { Implied table.old.graph table.old.book.state.live u.now.node w just.now }
     ensures unit { IfOk result (λ unit. IsJustified table.new.book.state.live (atom_of table.old.graph w ∷ []) unit) }
     ensures given { IfOk result (λ unit. (unit ≡ u.now.unit) ⊎ IsNewJust table.old.book.state table.new.book.state unit) }
+    ensures added { IfOk result (λ unit. (unit ≡ u.now.unit) ⊎ ((id : ℕ) → unit ≡ Clause id → IsAddedTo table.new id)) }
+    ensures alone { IfOk result (λ unit. (id : ℕ) → IsAddedTo table.new id → IsAddedTo table.old id ⊎ (unit ≡ Clause id)) }
     // Its own unit, or none where w is True, without a clause more; or one clause.
     ensures own { (w ≡ u.now.node) ⊎ (w ≡ True) → table.new ≡ table.old }
     ensures number { w ≢ u.now.node → w ≢ True → IfOk result (λ unit. (unit ≡ Clause (table.old.book.state.top + 1)) × (table.new.book.state.top ≡ table.old.book.state.top + 1)) }
@@ -113,7 +120,43 @@ pub fn unit_of_implied<S: Sink + Drop>(
     add_unit(table, w, &[first, implication])
 }
 
-fn is_same(one: Node, other: Node) -> bool
+/// Retires a term's unit, unless it is the one that is kept.
+pub fn retire_unit<S: Sink + Drop>(table: &mut Table<S>, unit: &Just, kept: &Just)
+    requires sound { IsSound table.old }
+    requires added { (id : ℕ) → unit.now ≡ Clause id → IsAddedTo table.old id }
+    requires unretired { (id : ℕ) → unit.now ≡ Clause id → Contains table.old.retired id → ⊥ }
+    ensures retired { RetiresBut table.old table.new unit.now kept.now }
+    ensures steps { Steps S.tells (S.channel table.old.book.sink) (S.channel table.new.book.sink) table.old table.new 0 None }
+    ensures beside { S.beside table.new.book.sink ≡ S.beside table.old.book.sink }
+{
+    retire(table, given_up(unit, kept));
+}
+
+// The clause of a unit, unless it is that of the one that is kept.
+fn given_up(unit: &Just, kept: &Just) -> Option<Id>
+    ensures { MatchOption result ((id : ℕ) → unit.now ≡ Clause id → kept.now ≡ Clause id) (λ id. (unit.now ≡ Clause id) × (kept.now ≡ Clause id → ⊥)) }
+{
+    let Some(id) = clause_id(unit) else {
+        return None;
+    };
+    if is_clause(kept, id) {
+        return None;
+    }
+    Some(id)
+}
+
+// Whether a justification names this clause.
+fn is_clause(just: &Just, id: Id) -> bool
+    ensures { IsTrue result ↔ (just.now ≡ Clause id) }
+{
+    match just {
+        Just::Trivial => false,
+        Just::Clause(other) => *other == id,
+    }
+}
+
+/// Whether two nodes are one.
+pub(crate) fn is_same(one: Node, other: Node) -> bool
     ensures { IsTrue result ↔ (one ≡ other) }
 {
     one == other
@@ -137,6 +180,8 @@ fn add_unit<S: Sink + Drop>(table: &mut Table<S>, w: Node, hints: &[Id]) -> Resu
     requires strict { (clause : List ℤ) → clause_of (atom_of table.old.graph w ∷ []) ≡ Some clause → RefutesStrictly table.old.book.state.live clause hints.now }
     ensures unit { IfOk result (λ unit. IsJustified table.new.book.state.live (atom_of table.old.graph w ∷ []) unit) }
     ensures number { IfOk result (λ unit. (unit ≡ Clause (table.old.book.state.top + 1)) × (table.new.book.state.top ≡ table.old.book.state.top + 1)) }
+    ensures added { IfOk result (λ unit. (id : ℕ) → unit ≡ Clause id → IsAddedTo table.new id) }
+    ensures alone { IfOk result (λ unit. (id : ℕ) → IsAddedTo table.new id → IsAddedTo table.old id ⊎ (unit ≡ Clause id)) }
     ensures nodes { table.new.graph ≡ table.old.graph }
     ensures steps { Steps S.tells (S.channel table.old.book.sink) (S.channel table.new.book.sink) table.old table.new 1 (error_of result) }
     ensures retired { table.new.retired ≡ table.old.retired }
@@ -144,6 +189,7 @@ fn add_unit<S: Sink + Drop>(table: &mut Table<S>, w: Node, hints: &[Id]) -> Resu
     ensures beside { S.beside table.new.book.sink ≡ S.beside table.old.book.sink }
 {
     live_law();
+    steps_law::<S>();
     match table.literal(w) {
         None => {
             let id = table.justify(&[], hints)?;

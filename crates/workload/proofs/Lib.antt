@@ -1,4 +1,3 @@
-pub mod Emitting
 pub mod Steps
 pub mod Squares
 pub mod Counts

@@ -2,4 +2,3 @@ pub mod Board
 pub mod Schedule
 pub mod Cursor
 pub mod Texts
-pub mod Emitted

@@ -1,8 +1,8 @@
 -- The column schedule of the board: column by column the clauses of its squares are conjoined with what came before, and
 -- then each domino is quantified that no later square has. (Bryant, Heule: Generating Extended Resolution Proofs with a
 -- BDD-Based SAT Solver, 2021, section 7: column scanning.)
-use Rattle.std.specs.Prelude.{ℕ, zero, suc, ◌+◌, ◌-◌, Bool, nat_le, List, [], ◌∷◌, ◌++◌, length, map, replicate, if◌then◌else◌}
-use Rattle.std.specs.List.{filter, flat_map}
+use Rattle.std.specs.Prelude.{ℕ, zero, suc, ◌+◌, ◌-◌, nat_le, List, [], ◌∷◌, ◌++◌, length, map, replicate, if◌then◌else◌}
+use Rattle.std.specs.List.{flat_map}
 use Rattle.cnf_base.specs.Order.{natural}
 use Rattle.schedule_plan.specs.declared.plan.Move.{Move}
 use Rattle.schedule_plan.specs.declared.plan.Move.TheVariants.{Push, And, Exists}

@@ -5,7 +5,6 @@
 mod columns;
 mod cursor;
 mod formula;
-mod held;
 mod make;
 mod parts;
 mod schedule;

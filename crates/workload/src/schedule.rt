@@ -2,7 +2,7 @@
 ghost use Rattle.std.specs.Prelude.{◌≡◌, ◌+◌, ◌≤◌, ◌<◌, [], ◌∷◌, ◌++◌, map, codes, OnOk, IsTrue};
 ghost use Rattle.std.specs.List.{flat_map};
 ghost use Rattle.host_io.specs.Channel.{WritesAll};
-ghost use Rattle.workload.specs.Emitted.{Emits};
+ghost use Rattle.host_io.specs.Emitted.{Emits};
 ghost use Rattle.workload.specs.Board.{number, first_square, dominoes_of};
 ghost use Rattle.workload.specs.Schedule.{following, column_clauses, ending, column_commands, conjoining, quantifying, terms_in_column};
 ghost use Rattle.workload.specs.Schedule.{Clauses};
@@ -10,9 +10,8 @@ ghost use Rattle.workload.specs.Cursor.{StandsAt};
 ghost use Rattle.workload.specs.Texts.{schedule_text, command_line, spaced};
 
 use crate::cursor::{Cursor, first_cursor, terms_in_column};
-use crate::held::{Held, emit, emit_number};
 use crate::square::{Domino, Square, clause_count, is_domino, number, stays};
-use host_io::{Failed, Sink, write_all};
+use host_io::{Failed, Held, Sink, emit, emit_number, write_all};
 
 /// Writes the column schedule of the board of n by n squares, n from 2 to 100. Where a write fails, a front of the text
 /// was written. Takes no memory.

@@ -2,12 +2,11 @@
 ghost use Rattle.std.specs.Prelude.{◌≡◌, decimal, map};
 ghost use Rattle.std.specs.List.{flat_map, join_with_byte};
 ghost use Rattle.host_io.specs.Channel.{WritesAll};
-ghost use Rattle.workload.specs.Emitted.{Emits};
+ghost use Rattle.host_io.specs.Emitted.{Emits};
 ghost use Rattle.workload.specs.Texts.{cnf_text, clause_line, literal_text, order_text, spaced};
 
-use crate::held::{Held, emit, emit_number};
 use cnf_base::{Cnf, Lit};
-use host_io::{Failed, Sink, write_all};
+use host_io::{Failed, Held, Sink, emit, emit_number, write_all};
 use schedule_plan::Order;
 
 /// Writes a formula in the DIMACS format. Where a write fails, a front of the text was written. Takes no memory.

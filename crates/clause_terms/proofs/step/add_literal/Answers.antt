@@ -1,12 +1,12 @@
 use Rattle.std.proofs.Common.{◌≡◌, Err, List, ◌∷◌, reverse, sym, ap, subst}
 use Rattle.hint_chain.specs.declared.unit.UnitPart.{UnitPart}
-use Rattle.node_table.specs.declared.error.TableError.TheVariants.{NodeLimit, OutOfMemory}
+use Rattle.node_table.specs.declared.error.TableError.TheVariants.{NodeLimit, OutOfMemory, WriteFault}
 use Rattle.node_table.specs.Diagram.{branch_of}
 use Rattle.node_table.specs.Tied.{IsTied}
 use Rattle.clause_terms.specs.ClauseDiagram.{IsDiagramOf, part_of}
 use Rattle.clause_terms.proofs.AddedLiteral.{added, reverse_more}
 use Rattle.clause_terms.proofs.Handed.{steps_handed_on, steps_kept}
-use Rattle.node_table.specs.HandedOn.{no_error, came_from, no_answer}
+use Rattle.node_table.specs.HandedOn.{no_error, came_from, no_answer, other_cause}
 use Rattle.node_table.specs.Refused.{memory_not_nodes}
 use Rattle.clause_terms.proofs.step.add_literal.Goals as goal
 
@@ -52,3 +52,12 @@ returns-in_err-node-clause-diagram g c more before diagram = no_answer _ c.in_er
 
 pub returns-in_err-push_part-clause-diagram : goal.returns-in_err-push_part-clause-diagram
 returns-in_err-push_part-clause-diagram g c more before diagram = no_answer _ OutOfMemory _ c.from_residual-in_err-push_part.ensures.1
+
+pub returns-clause-none_added : goal.returns-clause-none_added
+returns-clause-none_added g c whole = c.in_ok-node.ensures.none_added no_error
+
+pub returns-in_err-node-clause-none_added : goal.returns-in_err-node-clause-none_added
+returns-in_err-node-clause-none_added g c whole = c.in_err-node.ensures.none_added (other_cause _ c.in_err-node.field-0.0 WriteFault c.from_residual.ensures.1 whole)
+
+pub returns-in_err-push_part-clause-none_added : goal.returns-in_err-push_part-clause-none_added
+returns-in_err-push_part-clause-none_added g c whole = c.in_ok-node.ensures.none_added no_error

@@ -44,3 +44,6 @@ returns-clause-retired g c = c.node-node.ensures.retired
 
 pub returns-clause-beside : goal.returns-clause-beside
 returns-clause-beside g c = c.node-node.ensures.beside
+
+pub returns-clause-none_added : goal.returns-clause-none_added
+returns-clause-none_added g c = c.node-node.ensures.none_added

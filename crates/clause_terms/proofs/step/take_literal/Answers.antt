@@ -67,3 +67,9 @@ returns-clause-steps g c = c.add_literal.ensures.steps
 
 pub returns-clause-beside : goal.returns-clause-beside
 returns-clause-beside g c = c.add_literal.ensures.beside
+
+pub returns-then-is_repeated-clause-none_added : goal.returns-then-is_repeated-clause-none_added
+returns-then-is_repeated-clause-none_added g c whole id own = own
+
+pub returns-clause-none_added : goal.returns-clause-none_added
+returns-clause-none_added g c = c.add_literal.ensures.none_added

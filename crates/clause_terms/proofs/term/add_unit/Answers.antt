@@ -20,3 +20,6 @@ returns-clause-steps g c = c.justify.ensures.steps
 
 pub returns-clause-beside : goal.returns-clause-beside
 returns-clause-beside g c = c.justify.ensures.beside
+
+pub returns-clause-own : goal.returns-clause-own
+returns-clause-own g c = c.justify.ensures.own

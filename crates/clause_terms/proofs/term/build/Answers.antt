@@ -1,8 +1,8 @@
 use Rattle.std.proofs.Common.{◌∙◌, None, Err, ap, ◌-◌, drop, arith}
 use Rattle.node_table.specs.Value.{IsSubfunction}
-use Rattle.node_table.specs.declared.error.TableError.TheVariants.{NodeLimit}
+use Rattle.node_table.specs.declared.error.TableError.TheVariants.{NodeLimit, WriteFault}
 use Rattle.clause_terms.specs.Placed.{placed_function}
-use Rattle.node_table.specs.HandedOn.{no_error, came_from, no_answer}
+use Rattle.node_table.specs.HandedOn.{no_error, came_from, no_answer, other_cause}
 use Rattle.clause_terms.proofs.ClauseParts.{later_part}
 use Rattle.clause_terms.proofs.Handed.{steps_handed_on}
 use Rattle.clause_terms.proofs.LackedPart.{lacked_whole}
@@ -44,6 +44,7 @@ literals-preserved g c =
           (placed_function placed) c.literals.invariant.made
           (c.subfunction_law.ensures.made_for_part mid.graph new.graph (placed_function placed) (placed_function (drop (c.literals.i - 1) placed)) part c.in_ok-node.ensures.made);
       steps = c.steps_law.ensures.further (channel old.book.sink) (channel mid.book.sink) (channel new.book.sink) old mid new 0 0 None c.literals.invariant.steps c.in_ok-node.ensures.steps;
+      none_added = λ id own. c.literals.invariant.none_added id (c.in_ok-node.ensures.none_added no_error id own);
       retired = c.in_ok-node.ensures.retired ∙ c.literals.invariant.retired;
       beside = c.in_ok-node.ensures.beside ∙ c.literals.invariant.beside;
     }
@@ -70,3 +71,10 @@ returns-clause-steps g c = c.literals.invariant.steps
 
 pub returns-clause-lacks : goal.returns-clause-lacks
 returns-clause-lacks g c is = absurd (no_error is)
+
+pub returns-clause-none_added : goal.returns-clause-none_added
+returns-clause-none_added g c whole = c.literals.invariant.none_added
+
+pub returns-in_err-node-clause-none_added : goal.returns-in_err-node-clause-none_added
+returns-in_err-node-clause-none_added g c whole id own =
+    c.literals.invariant.none_added id (c.in_err-node.ensures.none_added (other_cause _ c.in_err-node.field-0.0 WriteFault c.from_residual.ensures.1 whole) id own)

@@ -1,6 +1,7 @@
 use Rattle.std.proofs.Common.{◌≡◌, ◌≤◌, None, drop, length, reverse}
 use Rattle.node_table.specs.Made.{MakesOnly}
 use Rattle.node_table.specs.Progress.{Steps}
+use Rattle.node_table.specs.Table.{AddsNone}
 use Rattle.clause_terms.specs.Placed.{placed_function}
 use Rattle.clause_terms.specs.ClauseDiagram.{IsDiagramOf}
 use Rattle.clause_terms.proofs.term.build.Given as goal
@@ -11,6 +12,7 @@ invariant-literals g l = record {
   diagram : IsDiagramOf l.table.graph l.table.book.state.live (drop l.i l.placed) l.node (reverse l.path.items);
   made : MakesOnly l.fn.table.graph l.table.graph (placed_function l.placed);
   steps : Steps g.S.Sink.tells (g.S.Sink.channel l.fn.table.book.sink) (g.S.Sink.channel l.table.book.sink) l.fn.table l.table 0 None;
+  none_added : AddsNone l.fn.table l.table;
   retired : l.table.retired ≡ l.fn.table.retired;
   beside : g.S.Sink.beside l.table.book.sink ≡ g.S.Sink.beside l.fn.table.book.sink;
 }

@@ -1,18 +1,22 @@
-use Rattle.std.proofs.Common.{◌≡◌, ◌∙◌, ℕ, Err, ap, List, [], ◌∷◌, sym, subst, arith}
+use Rattle.std.proofs.Common.{◌≡◌, ◌∙◌, ℕ, ℤ, true, false, Option, None, Some, Err, is_some, refl, ap, List, [], ◌∷◌, inl, inr, sym, subst, arith}
+use Rattle.std.proofs.lemmas.Bool.{cases_lt}
+use Rattle.lrat_rules.specs.State.{clause_at}
 use Rattle.hint_chain.specs.declared.unit.UnitPart.{UnitPart}
-use Rattle.node_table.specs.declared.error.TableError.TheVariants.{NodeLimit, OutOfMemory}
-use Rattle.node_table.specs.declared.node.Just.TheVariants.{Clause}
+use Rattle.node_table.specs.declared.error.TableError.{TableError}
+use Rattle.node_table.specs.declared.error.TableError.TheVariants.{NodeLimit, OutOfMemory, WriteFault}
+use Rattle.node_table.specs.declared.node.Just.TheVariants.{Trivial, Clause}
 use Rattle.node_table.specs.Defined.{atom_of}
 use Rattle.node_table.specs.Diagram.{Graph}
 use Rattle.node_table.specs.Just.{IsJustified}
 use Rattle.node_table.specs.Made.{MakesOnly}
+use Rattle.node_table.specs.Table.{IsAddedTo}
 use Rattle.cnf_base.specs.Truth.{clause_holds}
 use Rattle.clause_terms.specs.Placed.{placed_function, AreInOrder}
 use Rattle.clause_terms.specs.Term.{clause_function, IsTerm, HasUnitPath}
 use Rattle.clause_terms.proofs.Ordered.{no_tautology, same_function}
 use Rattle.clause_terms.proofs.MadeNodes.{by_values}
 use Rattle.clause_terms.proofs.ClauseTerm.{still_in_order, unit_path, clause_term, true_term}
-use Rattle.node_table.specs.HandedOn.{no_error, came_from, no_answer}
+use Rattle.node_table.specs.HandedOn.{no_error, came_from, no_answer, same_error}
 use Rattle.clause_terms.proofs.Handed.{steps_handed_on}
 use Rattle.clause_terms.proofs.LackedPart.{lacked_by_values}
 use Rattle.node_table.specs.Refused.{memory_not_nodes}
@@ -20,6 +24,17 @@ use Rattle.clause_terms.proofs.term.push_clause.Goals as goal
 
 same_clause : (id other : ℕ) → Clause id ≡ Clause other → id ≡ other
 same_clause id other is = cc
+
+some_clause : (o : Option (List ℤ)) → is_some o ≡ true → (clause : List ℤ) × (o ≡ Some clause)
+some_clause None is = absurd (let e : false ≡ true = is in cc)
+some_clause (Some clause) is = (clause, refl)
+
+no_clause : (id : ℕ) → Trivial ≡ Clause id → ⊥
+no_clause id is = cc
+
+-- the limit of nodes is no failed write
+no_fault : ◌≡◌ {A = TableError} NodeLimit WriteFault → ⊥
+no_fault is = cc
 
 pub returns-then-has_opposites-clause-term : goal.returns-then-has_opposites-clause-term
 returns-then-has_opposites-clause-term g c =
@@ -194,3 +209,60 @@ returns-in_err-id-clause-retired g c = c.in_err-id.ensures.retired ∙ c.in_ok-n
 
 pub returns-clause-retired : goal.returns-clause-retired
 returns-clause-retired g c = c.in_ok-id.ensures.retired ∙ c.in_ok-node.ensures.retired
+
+pub returns-clause-own : goal.returns-clause-own
+returns-clause-own g c id is = subst (IsAddedTo c.add_unit.new.table) (same_clause c.in_ok-id.id id is) c.in_ok-id.ensures.own
+
+pub returns-clause-alone : goal.returns-clause-alone
+returns-clause-alone g c id added =
+    let mid = c.build.new.table in
+    let new = c.add_unit.new.table in
+    let one = c.in_ok-id.ensures.one in
+    elim (cases_lt mid.book.state.top id) [
+      | inl above ↦
+          let clause = some_clause (clause_at new.book.state.live id) added.stands in
+          let within = (c.in_ok-id.ensures.steps.leaves.sound.tied.numbers id clause.0 clause.1).1 in
+          let is : c.in_ok-id.id ≡ id = omega (arith, above, within, one.0, one.1) in
+          inr (ap Clause is)
+      | inr within ↦ inl (c.in_ok-node.ensures.none_added no_error id (c.steps_law.ensures.was_added mid new c.in_ok-id.ensures.steps.extends id within added))
+    ]
+
+pub returns-clause-none_added : goal.returns-clause-none_added
+returns-clause-none_added g c is = absurd (no_error is)
+
+pub returns-then-has_opposites-clause-own : goal.returns-then-has_opposites-clause-own
+returns-then-has_opposites-clause-own g c id is = absurd (no_clause id is)
+
+pub returns-then-has_opposites-clause-alone : goal.returns-then-has_opposites-clause-alone
+returns-then-has_opposites-clause-alone g c id added = inl added
+
+pub returns-then-has_opposites-clause-none_added : goal.returns-then-has_opposites-clause-none_added
+returns-then-has_opposites-clause-none_added g c is = absurd (no_error is)
+
+pub returns-in_err-placed-clause-own : goal.returns-in_err-placed-clause-own
+returns-in_err-placed-clause-own g c = no_answer _ OutOfMemory _ c.from_residual.ensures.1
+
+pub returns-in_err-placed-clause-alone : goal.returns-in_err-placed-clause-alone
+returns-in_err-placed-clause-alone g c = no_answer _ OutOfMemory _ c.from_residual.ensures.1
+
+pub returns-in_err-placed-clause-none_added : goal.returns-in_err-placed-clause-none_added
+returns-in_err-placed-clause-none_added g c is id own = own
+
+pub returns-in_err-node-clause-own : goal.returns-in_err-node-clause-own
+returns-in_err-node-clause-own g c = no_answer _ c.in_err-node.field-0.0 _ c.from_residual-in_err-node.ensures.1
+
+pub returns-in_err-node-clause-alone : goal.returns-in_err-node-clause-alone
+returns-in_err-node-clause-alone g c = no_answer _ c.in_err-node.field-0.0 _ c.from_residual-in_err-node.ensures.1
+
+pub returns-in_err-node-clause-none_added : goal.returns-in_err-node-clause-none_added
+returns-in_err-node-clause-none_added g c is =
+    c.in_err-node.ensures.none_added (λ torn. no_fault (sym (came_from _ c.in_err-node.field-0.0 NodeLimit c.from_residual-in_err-node.ensures.1 is) ∙ same_error torn))
+
+pub returns-in_err-id-clause-own : goal.returns-in_err-id-clause-own
+returns-in_err-id-clause-own g c = no_answer _ c.in_err-id.field-0.0 _ c.from_residual-in_err-id.ensures.1
+
+pub returns-in_err-id-clause-alone : goal.returns-in_err-id-clause-alone
+returns-in_err-id-clause-alone g c = no_answer _ c.in_err-id.field-0.0 _ c.from_residual-in_err-id.ensures.1
+
+pub returns-in_err-id-clause-none_added : goal.returns-in_err-id-clause-none_added
+returns-in_err-id-clause-none_added g c is = absurd (c.in_err-id.ensures.no_node_limit (ap Err (came_from _ c.in_err-id.field-0.0 NodeLimit c.from_residual-in_err-id.ensures.1 is)))

@@ -1,7 +1,7 @@
 use Rattle.std.proofs.Common.{◌≡◌, [], ◌∷◌, ◌++◌, ◌∙◌, ap, refl, append_assoc}
 use Rattle.std.specs.Prelude.{decimal}
-use Rattle.lrat_write.specs.Emitted.{ids_text, deletion_text}
-use Rattle.lrat_write.proofs.Emitting.{in_turn, fails_within, same_text, from_second-4}
+use Rattle.lrat_write.specs.LineText.{ids_text, deletion_text}
+use Rattle.host_io.proofs.Emitting.{in_turn, fails_within, same_text, from_second-4}
 use Rattle.lrat_write.proofs.line.emit_deletion.Goals as goal
 
 pub returns-in_err-emit-clause-emits : goal.returns-in_err-emit-clause-emits

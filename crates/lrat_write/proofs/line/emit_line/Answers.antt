@@ -1,7 +1,7 @@
 use Rattle.std.proofs.Common.{◌≡◌, [], ◌∷◌, ◌++◌, ◌∙◌, ap, refl}
 use Rattle.std.specs.Prelude.{decimal}
-use Rattle.lrat_write.specs.Emitted.{literals_text, ids_text, line_text}
-use Rattle.lrat_write.proofs.Emitting.{in_turn, fails_within, same_text, from_second, from_third, from_fourth}
+use Rattle.lrat_write.specs.LineText.{literals_text, ids_text, line_text}
+use Rattle.host_io.proofs.Emitting.{in_turn, fails_within, same_text, from_second, from_third, from_fourth}
 use Rattle.lrat_write.proofs.line.emit_line.Goals as goal
 
 pub returns-in_err-emit-clause-emits : goal.returns-in_err-emit-clause-emits

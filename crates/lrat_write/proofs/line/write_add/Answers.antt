@@ -1,6 +1,6 @@
 use Rattle.std.proofs.Common.{List, ℕ, subst}
 use Rattle.host_io.specs.Channel.{WritesAll}
-use Rattle.lrat_write.proofs.Emitting.{line_text-add}
+use Rattle.lrat_write.proofs.Lines.{line_text-add}
 use Rattle.lrat_write.proofs.line.write_add.Goals as goal
 
 pub returns-clause-writes : goal.returns-clause-writes

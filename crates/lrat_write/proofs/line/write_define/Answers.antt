@@ -1,6 +1,6 @@
 use Rattle.std.proofs.Common.{List, ℕ, subst}
 use Rattle.host_io.specs.Channel.{WritesAll}
-use Rattle.lrat_write.proofs.Emitting.{line_text-define}
+use Rattle.lrat_write.proofs.Lines.{line_text-define}
 use Rattle.lrat_write.proofs.line.write_define.Goals as goal
 
 pub returns-clause-writes : goal.returns-clause-writes

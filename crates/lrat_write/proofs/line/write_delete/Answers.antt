@@ -1,7 +1,9 @@
 use Rattle.std.proofs.Common.{List, ℕ, Ok, Err, refl, subst}
 use Rattle.host_io.specs.Channel.{WritesAll}
-use Rattle.lrat_write.specs.Emitted.{Emits, deletion_text}
-use Rattle.lrat_write.proofs.Emitting.{written_out, cut_before, deletion_text-line}
+use Rattle.host_io.specs.Emitted.{Emits}
+use Rattle.lrat_write.specs.LineText.{deletion_text}
+use Rattle.host_io.proofs.Emitting.{written_out, cut_before}
+use Rattle.lrat_write.proofs.Lines.{deletion_text-line}
 use Rattle.lrat_write.proofs.line.write_delete.Goals as goal
 
 pub returns-in_err-emit_deletion-clause-writes : goal.returns-in_err-emit_deletion-clause-writes

@@ -1,6 +1,7 @@
 use Rattle.std.proofs.Common.{List, ℕ, Ok, Err, refl, subst}
-use Rattle.lrat_write.specs.Emitted.{Emits, line_text}
-use Rattle.lrat_write.proofs.Emitting.{written_out, cut_before}
+use Rattle.host_io.specs.Emitted.{Emits}
+use Rattle.lrat_write.specs.LineText.{line_text}
+use Rattle.host_io.proofs.Emitting.{written_out, cut_before}
 use Rattle.lrat_write.proofs.line.write_line.Goals as goal
 
 pub returns-in_err-emit_line-clause-writes : goal.returns-in_err-emit_line-clause-writes

@@ -1,4 +1,4 @@
-use Rattle.node_table.proofs.Progressed.{Steps-none, Steps-no_memory, Steps-further, Steps-at_most, Continues-further, Extends-further}
+use Rattle.node_table.proofs.Progressed.{Steps-none, Steps-no_memory, Steps-further, Steps-at_most, Continues-further, Extends-further, leaves_further}
 use Rattle.node_table.proofs.CallSteps.{IsAddedTo-kept, IsAddedTo-before}
 use Rattle.node_table.proofs.laws.steps_law.Goals as goal
 
@@ -9,6 +9,7 @@ returns g c = record {
   further = Steps-further g.S.Sink.tells;
   at_most = Steps-at_most g.S.Sink.tells;
   go_on = Continues-further g.S.Sink.tells;
+  leave = leaves_further g.S.Sink.tells;
   extend = Extends-further;
   added = IsAddedTo-kept;
   was_added = IsAddedTo-before;

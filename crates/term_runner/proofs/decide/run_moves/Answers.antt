@@ -16,10 +16,10 @@ use Rattle.node_table.specs.HandedOn.{no_error, came_from, no_answer}
 use Rattle.term_runner.proofs.Stacks.{top_stands, top_value}
 use Rattle.term_runner.proofs.Between.{at_first, at_last, next_at, some_at}
 use Rattle.term_runner.specs.Caches.{all_entries}
-use Rattle.term_runner.proofs.OwnUnits.{own_none}
+use Rattle.term_runner.proofs.Giving.{units_none}
 use Rattle.term_runner.proofs.Least.{recovered}
 use Rattle.term_runner.proofs.Trails.{are_variables, kept_there}
-use Rattle.term_runner.proofs.Leaving.{error_handed, leaves_after, memory_left}
+use Rattle.term_runner.proofs.Leaving.{error_handed, memory_left}
 use Rattle.term_runner.proofs.Planned.{moved_on, more_made, none_made, runs_short}
 use Rattle.term_runner.proofs.decide.run_moves.Goals as goal
 
@@ -34,7 +34,7 @@ moves-init g c =
       between = at_first formula c.args.plan.now table.graph table.book.state.live c.new-stack.result.items c.new-trail.result (search rules) (search rules);
       ready = subst (λ (kept : List Entry). IsReady formula table kept) (sym c.in_ok-caches.ensures) c.requires.ready;
       settled = c.requires.settled;
-      own = own_none table (all_entries c.in_ok-caches.caches) c.new-stack.result.items (search rules);
+      own = units_none table (all_entries c.in_ok-caches.caches) c.new-stack.result.items c.requires.ready.sound c.requires.fresh (search rules);
       continues = (c.steps_law.ensures.none table c.requires.ready.sound).leaves;
       made = none_made formula table.graph.order c.args.plan.now table.graph c.requires.empty;
       beside = refl;
@@ -71,8 +71,8 @@ moves-preserved g c =
         rest = next.rest ∙ sym c.requires.plan.possible;
         at = c.in_ok-take_move.ensures.held between.stage next.next between.at next.is c.if-branch.false;
       };
-      ready = c.in_ok-take_move.ensures.ready no_error;
-      settled = c.in_ok-take_move.ensures.settled (inl (ap Ok c.if-branch.false));
+      ready = c.in_ok-take_move.ensures.ready;
+      settled = c.in_ok-take_move.ensures.settled (ap Ok c.if-branch.false);
       own = c.in_ok-take_move.ensures.own c.if-branch.false;
       continues = c.steps_law.ensures.go_on _ _ _ c.args.table.now c.moves.table c.take_move.new.table c.moves.invariant.continues c.in_ok-take_move.ensures.leaves;
       made = more_made c.args.formula.now c.args.table.now.graph.order c.args.plan.now c.moves.table.graph c.take_move.new.table.graph c.moves.invariant.made (suc c.moves.i) next.next moved
@@ -141,7 +141,7 @@ returns-in_err-take_move-clause-leaves g c =
     let channel = g.S.Sink.channel in
     subst (λ (error : Option TableError). Leaves g.S.Sink.tells (channel old.book.sink) (channel new.book.sink) old new error)
     (sym (error_handed _ c.in_err-take_move.field-0.0 c.from_residual-in_err-take_move.ensures.1))
-    (leaves_after g.S.Sink.tells channel c.steps_law.ensures (channel old.book.sink) (channel mid.book.sink) (channel new.book.sink) old mid new c.moves.invariant.continues (Some c.in_err-take_move.field-0.0) c.in_err-take_move.ensures.leaves)
+    (c.steps_law.ensures.leave (channel old.book.sink) (channel mid.book.sink) (channel new.book.sink) old mid new (Some c.in_err-take_move.field-0.0) c.moves.invariant.continues c.in_err-take_move.ensures.leaves)
 
 pub returns-in_err-take_move-clause-short : goal.returns-in_err-take_move-clause-short
 returns-in_err-take_move-clause-short g c is =

@@ -1,7 +1,7 @@
 use Rattle.std.proofs.Common.{◌≡◌, [], reverse}
 use Rattle.node_table.specs.Progress.{Continues}
 use Rattle.term_runner.specs.Caches.{all_entries}
-use Rattle.term_runner.specs.Held.{IsReady, OwnUnits}
+use Rattle.term_runner.specs.Held.{IsReady, HasUnits}
 use Rattle.term_runner.proofs.Between.{IsBetween}
 use Rattle.term_runner.proofs.Planned.{AreMade}
 use Rattle.term_runner.proofs.decide.run_moves.Given as goal
@@ -11,7 +11,7 @@ invariant-moves g l = record {
   between : IsBetween l.formula l.plan l.i l.table.graph l.table.book.state.live l.stack.items l.trail;
   ready : IsReady l.formula l.table (all_entries l.caches);
   settled : l.table.retired ≡ [];
-  own : OwnUnits l.table (all_entries l.caches) (reverse l.stack.items);
+  own : HasUnits l.table (all_entries l.caches) (reverse l.stack.items);
   continues : Continues g.S.Sink.tells (g.S.Sink.channel l.fn.table.book.sink) (g.S.Sink.channel l.table.book.sink) l.fn.table l.table;
   made : AreMade l.formula l.fn.table.graph.order l.plan l.table.graph;
   beside : g.S.Sink.beside l.table.book.sink ≡ g.S.Sink.beside l.fn.table.book.sink;

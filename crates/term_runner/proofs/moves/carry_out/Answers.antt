@@ -1,4 +1,4 @@
-use Rattle.std.proofs.Common.{◌≡◌, ℕ, false, List, ◌∷◌, Contains, reverse, sym, subst, arith}
+use Rattle.std.proofs.Common.{◌≡◌, ℕ, false, List, ◌∷◌, Contains, reverse, refl, sym, subst, arith}
 use Rattle.node_table.specs.Made.{LacksPart}
 use Rattle.schedule_plan.specs.Plan.{Stage, Term, input, both, some_value}
 use Rattle.term_runner.specs.Needs.{KeepsOrMakes, term_function, top_function}
@@ -8,6 +8,7 @@ use Rattle.term_runner.proofs.Leaving.{went_on}
 use Rattle.term_runner.proofs.Planned.{keeps_or_makes}
 use Rattle.term_runner.proofs.Stacks.{both_ok, if_ok, ready_after}
 use Rattle.term_runner.proofs.Taking.{push_of, and_of, exists_of}
+use Rattle.term_runner.proofs.Again.{at_still, failed_limit}
 use Rattle.term_runner.proofs.Trails.{kept_grown}
 use Rattle.term_runner.proofs.moves.carry_out.Goals as goal
 
@@ -209,3 +210,46 @@ returns-in-Exists-clause-beside g c = c.quantify_out.ensures.beside
 
 pub returns-in-Exists-clause-own : goal.returns-in-Exists-clause-own
 returns-in-Exists-clause-own g c = c.quantify_out.ensures.own
+
+pub returns-in-Push-clause-unchanged : goal.returns-in-Push-clause-unchanged
+returns-in-Push-clause-unchanged g c failed = (c.push.ensures.unchanged failed, refl)
+
+pub returns-in-And-clause-unchanged : goal.returns-in-And-clause-unchanged
+returns-in-And-clause-unchanged g c failed = (c.conjoin.ensures.unchanged failed, refl)
+
+pub returns-in-Exists-clause-unchanged : goal.returns-in-Exists-clause-unchanged
+returns-in-Exists-clause-unchanged g c = c.quantify_out.ensures.unchanged
+
+pub returns-in-Push-clause-again : goal.returns-in-Push-clause-again
+returns-in-Push-clause-again g c = c.push.ensures.again (all_entries c.args.caches.now) c.requires.ready.fits c.requires.own
+
+pub returns-in-And-clause-again : goal.returns-in-And-clause-again
+returns-in-And-clause-again g c = c.conjoin.ensures.again
+
+pub returns-in-Exists-clause-again : goal.returns-in-Exists-clause-again
+returns-in-Exists-clause-again g c = c.quantify_out.ensures.again
+
+pub returns-in-Push-clause-at_again : goal.returns-in-Push-clause-at_again
+returns-in-Push-clause-at_again g c stage at is =
+    let old = c.args.table.now in
+    let new = c.push.new.table in
+    let extends = c.push.ensures.steps.extends in
+    at_still c.growth_law.ensures c.args.formula.now old.graph new.graph c.requires.ready.sound.tied.reduced extends.nodes old.book.state.live new.book.state.live extends.clauses stage
+    c.args.stack.now.items c.push.new.stack.items c.args.trail.now c.args.trail.now (c.push.ensures.unchanged (failed_limit c.push.result is)) refl at
+
+pub returns-in-And-clause-at_again : goal.returns-in-And-clause-at_again
+returns-in-And-clause-at_again g c stage at is =
+    let old = c.args.table.now in
+    let new = c.conjoin.new.table in
+    let extends = c.conjoin.ensures.steps.extends in
+    at_still c.growth_law.ensures c.args.formula.now old.graph new.graph c.requires.ready.sound.tied.reduced extends.nodes old.book.state.live new.book.state.live extends.clauses stage
+    c.args.stack.now.items c.conjoin.new.stack.items c.args.trail.now c.args.trail.now (c.conjoin.ensures.unchanged (failed_limit c.conjoin.result is)) refl at
+
+pub returns-in-Exists-clause-at_again : goal.returns-in-Exists-clause-at_again
+returns-in-Exists-clause-at_again g c stage at is =
+    let old = c.args.table.now in
+    let new = c.quantify_out.new.table in
+    let extends = c.quantify_out.ensures.steps.extends in
+    let unchanged = c.quantify_out.ensures.unchanged (failed_limit c.quantify_out.result is) in
+    at_still c.growth_law.ensures c.args.formula.now old.graph new.graph c.requires.ready.sound.tied.reduced extends.nodes old.book.state.live new.book.state.live extends.clauses stage
+    c.args.stack.now.items c.quantify_out.new.stack.items c.args.trail.now c.quantify_out.new.trail unchanged.0 unchanged.1 at

@@ -1,7 +1,4 @@
-use Rattle.std.proofs.Common.{◌≡◌, ◌≢◌, ◌∙◌, ◌+◌, ◌++◌, ℕ, Bool, false, List, [], ◌∷◌, Contains, reverse, None, Some, Result, Err, ap, sym, subst, arith}
-use Rattle.std.specs.Prelude.{IsTrue}
-use Rattle.lrat_rules.specs.State.{clause_at}
-use Rattle.node_table.specs.declared.node.Node.TheVariants.{False}
+use Rattle.std.proofs.Common.{◌≡◌, ◌∙◌, ◌+◌, ◌<◌, ℕ, Bool, List, [], ◌∷◌, Contains, length, reverse, None, Some, Result, Err, ap, sym, subst, arith, inl, inr}
 use Rattle.operations.specs.Accounts.{none_whole, whole_result}
 use Rattle.term_runner.specs.Caches.{all_entries}
 use Rattle.operations.specs.Budget.{most_additions}
@@ -9,195 +6,357 @@ use Rattle.node_table.specs.Diagram.{Graph, levels}
 use Rattle.node_table.specs.Made.{LacksPart, MakesOnly}
 use Rattle.schedule_plan.specs.Plan.{both}
 use Rattle.term_runner.specs.Needs.{term_function}
-use Rattle.term_runner.specs.Held.{AreHeld, OwnUnits}
+use Rattle.node_table.specs.Table.{TableState, IsAddedTo}
+use Rattle.term_runner.specs.declared.held.Held.{Held}
+use Rattle.term_runner.specs.Held.{AreHeld, HasUnits}
 use Rattle.node_table.specs.declared.error.TableError.TheVariants.{NodeLimit, WriteFault}
 use Rattle.node_table.specs.declared.error.TableError.{TableError}
 use Rattle.node_table.specs.declared.node.Just.{Just}
-use Rattle.node_table.specs.HandedOn.{came_from, other_cause, no_answer}
-use Rattle.term_runner.proofs.Planned.{both_function, no_limit}
-use Rattle.term_runner.proofs.Leaving.{after_all, steps_handed, went_on}
-use Rattle.term_runner.proofs.Stacks.{held_kept, held_one_kept, pushed, popped, none_left, false_refutes, if_ok, conjunction_kept}
-use Rattle.term_runner.proofs.OwnUnits.{own_behind, own_popped, own_pushed, own_same, unit_own}
+use Rattle.node_table.specs.HandedOn.{came_from, no_answer, no_error, other_cause, same_error}
+use Rattle.term_runner.proofs.Planned.{both_function}
+use Rattle.term_runner.proofs.Leaving.{limit_left, limit_whole, steps_handed, went_on}
+use Rattle.term_runner.proofs.Stacks.{held_kept, held_one_kept, few_left, false_refutes, conjunction_kept}
+use Rattle.term_runner.proofs.Giving.{two_give, units_behind}
+use Rattle.term_runner.proofs.Replaced.{first_unit, free_after, later_unit, none_retired, one_more_retired, unit_left, units_replaced, RetiresUnits}
+use Rattle.term_runner.proofs.Units.{not_both}
 use Rattle.term_runner.proofs.moves.conjoin.Goals as goal
 
 pub unreachable-requires : goal.unreachable-requires
-unreachable-requires g c = let two = c.requires.two in
-    none_left two.0 c.args.table.now.graph c.args.table.now.book.state.live c.args.stack.now.items (omega (arith, c.args.stack.now.ok, c.in_default.ensures.cases.0)) two.2 (two.1 ∷ two.3) two.4
-
-pub unreachable-requires-in_default-pop : goal.unreachable-requires-in_default-pop
-unreachable-requires-in_default-pop g c = let two = c.requires.two in
-    let graph = c.args.table.now.graph in
-    let live = c.args.table.now.book.state.live in
-    let top = popped two.0 graph live c.args.stack.now.items c.pop.new.self.items c.in-Some.v c.in-Some.ensures.items two.2 (two.1 ∷ two.3) two.4 in
-    none_left two.0 graph live c.pop.new.self.items (omega (arith, c.pop.new.self.ok, c.in_default-pop.ensures.cases.0)) two.1 two.3 top.1
+unreachable-requires g c =
+    let two = c.requires.two in
+    few_left two.0 c.args.table.now.graph c.args.table.now.book.state.live c.args.stack.now.items
+    (subst (λ (s : List Held). length s < 2) c.as_slice.ensures.value c.in_default.ensures) two.1 two.2 two.3 two.4
 
 pub and-requires-clause-first : goal.and-requires-clause-first
-and-requires-clause-first g c = let two = c.requires.two in
-    let graph = c.args.table.now.graph in
-    let live = c.args.table.now.book.state.live in
-    let top = popped two.0 graph live c.args.stack.now.items c.pop.new.self.items c.in-Some.v c.in-Some.ensures.items two.2 (two.1 ∷ two.3) two.4 in
-    let next = popped two.0 graph live c.pop.new.self.items c.pop-2.new.self.items c.in-Some-pop.u c.in-Some-pop.ensures.items two.1 two.3 top.1 in
-    next.0.is.stands
+and-requires-clause-first g c =
+    let old = c.args.table.now in
+    let rest = c.in-Some.ensures.0 in
+    let items : reverse c.args.stack.now.items ≡ c.in-Some.v ∷ c.in-Some.u ∷ rest = ap reverse (sym c.as_slice.ensures.value) ∙ c.in-Some.ensures.1 in
+    let two = c.requires.two in
+    let held = subst (λ (s : List Held). AreHeld two.0 old.graph old.book.state.live s (two.2 ∷ two.1 ∷ two.3)) items two.4 in
+    held.1.0.is.stands
 
 pub and-requires-clause-second : goal.and-requires-clause-second
-and-requires-clause-second g c = let two = c.requires.two in
-    let top = popped two.0 c.args.table.now.graph c.args.table.now.book.state.live c.args.stack.now.items c.pop.new.self.items c.in-Some.v c.in-Some.ensures.items two.2 (two.1 ∷ two.3) two.4 in
-    top.0.is.stands
+and-requires-clause-second g c =
+    let old = c.args.table.now in
+    let rest = c.in-Some.ensures.0 in
+    let items : reverse c.args.stack.now.items ≡ c.in-Some.v ∷ c.in-Some.u ∷ rest = ap reverse (sym c.as_slice.ensures.value) ∙ c.in-Some.ensures.1 in
+    let two = c.requires.two in
+    let held = subst (λ (s : List Held). AreHeld two.0 old.graph old.book.state.live s (two.2 ∷ two.1 ∷ two.3)) items two.4 in
+    held.0.is.stands
 
 pub unit_of-requires : goal.unit_of-requires
-unit_of-requires g c = let two = c.requires.two in
+unit_of-requires g c =
     let old = c.args.table.now in
+    let rest = c.in-Some.ensures.0 in
+    let items : reverse c.args.stack.now.items ≡ c.in-Some.v ∷ c.in-Some.u ∷ rest = ap reverse (sym c.as_slice.ensures.value) ∙ c.in-Some.ensures.1 in
+    let two = c.requires.two in
+    let held = subst (λ (s : List Held). AreHeld two.0 old.graph old.book.state.live s (two.2 ∷ two.1 ∷ two.3)) items two.4 in
     let mid = c.and.new.table in
-    let extends = c.in_ok-found.ensures.steps.extends in
+    let extends = c.in_ok-node.ensures.steps.extends in
     let reduced = c.requires.sound.tied.reduced in
-    let top = popped two.0 old.graph old.book.state.live c.args.stack.now.items c.pop.new.self.items c.in-Some.v c.in-Some.ensures.items two.2 (two.1 ∷ two.3) two.4 in
-    let next = popped two.0 old.graph old.book.state.live c.pop.new.self.items c.pop-2.new.self.items c.in-Some-pop.u c.in-Some-pop.ensures.items two.1 two.3 top.1 in
-    let first = held_one_kept c.growth_law.ensures old.graph mid.graph reduced extends.nodes old.book.state.live mid.book.state.live extends.clauses two.0 c.in-Some-pop.u two.1 next.0 in
-    let second = held_one_kept c.growth_law.ensures old.graph mid.graph reduced extends.nodes old.book.state.live mid.book.state.live extends.clauses two.0 c.in-Some.v two.2 top.0 in
+    let first = held_one_kept c.growth_law.ensures old.graph mid.graph reduced extends.nodes old.book.state.live mid.book.state.live extends.clauses two.0 c.in-Some.u two.1 held.1.0 in
+    let second = held_one_kept c.growth_law.ensures old.graph mid.graph reduced extends.nodes old.book.state.live mid.book.state.live extends.clauses two.0 c.in-Some.v two.2 held.0 in
     record {
-      sound = c.in_ok-found.ensures.steps.leaves.sound;
+      sound = c.in_ok-node.ensures.steps.leaves.sound;
       first = first.is.stands;
       second = second.is.stands;
       first_open = first.not_false;
       second_open = second.not_false;
       first_unit = first.is.proved;
       second_unit = second.is.proved;
-      conjoined = c.in_ok-found.ensures.conjoined;
+      conjoined = c.in_ok-node.ensures.conjoined;
     }
 
+pub retire_unit-requires : goal.retire_unit-requires
+retire_unit-requires g c =
+    let old = c.args.table.now in
+    let rest = c.in-Some.ensures.0 in
+    let items : reverse c.args.stack.now.items ≡ c.in-Some.v ∷ c.in-Some.u ∷ rest = ap reverse (sym c.as_slice.ensures.value) ∙ c.in-Some.ensures.1 in
+    let mid = c.and.new.table in
+    let new = c.unit_of.new.table in
+    let before = all_entries c.args.caches.now in
+    let after = all_entries c.and.new.self in
+    let found = c.in_ok-node.ensures in
+    let unit = c.in_ok-unit.ensures in
+    let has = subst (λ (s : List Held). HasUnits old before s) items c.requires.own in
+    let gives = two_give old mid new before after c.in-Some.u c.in-Some.v rest c.in_ok-unit.unit c.requires.sound found.steps.leaves.sound has found.keeps (found.accounts no_error)
+    found.steps.leaves.no_less unit.steps.leaves.no_less unit.retired unit.alone unit.given unit.added in
+    let all = c.steps_law.ensures.extend old mid new found.steps.extends unit.steps.extends in
+    record {
+      sound = unit.steps.leaves.sound;
+      added = λ id is.
+          c.steps_law.ensures.added old new c.requires.sound unit.steps.leaves.sound all id (has.added id (later_unit c.in-Some.v (c.in-Some.u ∷ rest) id (first_unit c.in-Some.u rest id is)));
+      unretired = λ id is gone.
+          free_after old new before after (c.in-Some.v ∷ c.in-Some.u ∷ rest) c.requires.sound has gives.retires gives.named id
+          (later_unit c.in-Some.v (c.in-Some.u ∷ rest) id (first_unit c.in-Some.u rest id is)) (inl gone);
+    }
+
+pub retire_unit-requires-2 : goal.retire_unit-requires-2
+retire_unit-requires-2 g c =
+    let old = c.args.table.now in
+    let rest = c.in-Some.ensures.0 in
+    let items : reverse c.args.stack.now.items ≡ c.in-Some.v ∷ c.in-Some.u ∷ rest = ap reverse (sym c.as_slice.ensures.value) ∙ c.in-Some.ensures.1 in
+    let mid = c.and.new.table in
+    let new = c.unit_of.new.table in
+    let before = all_entries c.args.caches.now in
+    let after = all_entries c.and.new.self in
+    let found = c.in_ok-node.ensures in
+    let unit = c.in_ok-unit.ensures in
+    let has = subst (λ (s : List Held). HasUnits old before s) items c.requires.own in
+    let gives = two_give old mid new before after c.in-Some.u c.in-Some.v rest c.in_ok-unit.unit c.requires.sound found.steps.leaves.sound has found.keeps (found.accounts no_error)
+    found.steps.leaves.no_less unit.steps.leaves.no_less unit.retired unit.alone unit.given unit.added in
+    let third = c.retire_unit.new.table in
+    let all = c.steps_law.ensures.extend old mid new found.steps.extends unit.steps.extends in
+    let once = c.retire_unit.ensures.retired in
+    record {
+      sound = c.retire_unit.ensures.steps.leaves.sound;
+      added = λ id is.
+          subst (λ (table : TableState g.row.S.Denot). IsAddedTo table id) (sym once.same)
+          (c.steps_law.ensures.added old new c.requires.sound unit.steps.leaves.sound all id (has.added id (first_unit c.in-Some.v (c.in-Some.u ∷ rest) id is)));
+      unretired = λ id is gone. elim (once.only id gone) [
+        | inl was ↦
+            free_after old new before after (c.in-Some.v ∷ c.in-Some.u ∷ rest) c.requires.sound has gives.retires gives.named id (first_unit c.in-Some.v (c.in-Some.u ∷ rest) id is) (inl was)
+        | inr this ↦ has.apart.0 id is (first_unit c.in-Some.u rest id this.0)
+      ];
+    }
+
+pub replace_two-requires : goal.replace_two-requires
+replace_two-requires g c =
+    let old = c.args.table.now in
+    let rest = c.in-Some.ensures.0 in
+    let items : reverse c.args.stack.now.items ≡ c.in-Some.v ∷ c.in-Some.u ∷ rest = ap reverse (sym c.as_slice.ensures.value) ∙ c.in-Some.ensures.1 in
+    (c.in-Some.v, c.in-Some.u, rest, items)
+
 pub returns-clause-held : goal.returns-clause-held
-returns-clause-held g c formula one other terms are =
+returns-clause-held g c formula one other terms are no_end =
+    let old = c.args.table.now in
+    let rest = c.in-Some.ensures.0 in
+    let items : reverse c.args.stack.now.items ≡ c.in-Some.v ∷ c.in-Some.u ∷ rest = ap reverse (sym c.as_slice.ensures.value) ∙ c.in-Some.ensures.1 in
+    let mid = c.and.new.table in
+    let new = c.unit_of.new.table in
+    let before = all_entries c.args.caches.now in
+    let after = all_entries c.and.new.self in
+    let found = c.in_ok-node.ensures in
+    let unit = c.in_ok-unit.ensures in
+    let has = subst (λ (s : List Held). HasUnits old before s) items c.requires.own in
+    let gives = two_give old mid new before after c.in-Some.u c.in-Some.v rest c.in_ok-unit.unit c.requires.sound found.steps.leaves.sound has found.keeps (found.accounts no_error)
+    found.steps.leaves.no_less unit.steps.leaves.no_less unit.retired unit.alone unit.given unit.added in
+    let third = c.retire_unit.new.table in
+    let last = c.retire_unit-2.new.table in
+    let retires : RetiresUnits new last (c.in-Some.v ∷ c.in-Some.u ∷ []) c.in_ok-unit.unit =
+    one_more_retired new third last (c.in-Some.u ∷ []) c.in-Some.v c.in_ok-unit.unit
+    (one_more_retired new new third [] c.in-Some.u c.in_ok-unit.unit (none_retired new c.in_ok-unit.unit) c.retire_unit.ensures.retired) c.retire_unit-2.ensures.retired in
+    let extends = found.steps.extends in
+    let more = unit.steps.extends in
+    let all = c.steps_law.ensures.extend old mid new extends more in
+    let reduced = c.requires.sound.tied.reduced in
+    let w = c.in_ok-node.node in
+    let result : Held = record { node = w; unit = c.in_ok-unit.unit } in
+    let held = subst (λ (s : List Held). AreHeld formula old.graph old.book.state.live s (other ∷ one ∷ terms)) items are in
+    let first = held_one_kept c.growth_law.ensures old.graph mid.graph reduced extends.nodes old.book.state.live mid.book.state.live extends.clauses formula c.in-Some.u one held.1.0 in
+    let second = held_one_kept c.growth_law.ensures old.graph mid.graph reduced extends.nodes old.book.state.live mid.book.state.live extends.clauses formula c.in-Some.v other held.0 in
+    let at_new : AreHeld formula new.graph new.book.state.live (result ∷ rest) (both one other ∷ terms) = (
+      conjunction_kept c.growth_law.ensures mid.graph new.graph found.steps.leaves.sound.tied.reduced more.nodes mid.book.state.live new.book.state.live more.clauses unit.nodes formula c.in-Some.u c.in-Some.v w
+          c.in_ok-node.just c.in_ok-unit.unit one other first second found.conjoined unit.unit (λ is. not_both c.is_same.result (c.is_same.ensures.1 is) c.if-is_same.false),
+      held_kept c.growth_law.ensures old.graph new.graph reduced all.nodes old.book.state.live new.book.state.live all.clauses formula rest terms held.1.1,
+    ) in
+    subst (λ (s : List Held). AreHeld formula last.graph last.book.state.live s (both one other ∷ terms)) (sym (c.replace_two.ensures c.in-Some.v c.in-Some.u rest items))
+    (subst (λ (t : TableState g.row.S.Denot). AreHeld formula t.graph t.book.state.live (result ∷ rest) (both one other ∷ terms)) (sym retires.same) at_new)
+
+pub returns-clause-own : goal.returns-clause-own
+returns-clause-own g c no_end =
+    let old = c.args.table.now in
+    let rest = c.in-Some.ensures.0 in
+    let items : reverse c.args.stack.now.items ≡ c.in-Some.v ∷ c.in-Some.u ∷ rest = ap reverse (sym c.as_slice.ensures.value) ∙ c.in-Some.ensures.1 in
+    let mid = c.and.new.table in
+    let new = c.unit_of.new.table in
+    let before = all_entries c.args.caches.now in
+    let after = all_entries c.and.new.self in
+    let found = c.in_ok-node.ensures in
+    let unit = c.in_ok-unit.ensures in
+    let has = subst (λ (s : List Held). HasUnits old before s) items c.requires.own in
+    let gives = two_give old mid new before after c.in-Some.u c.in-Some.v rest c.in_ok-unit.unit c.requires.sound found.steps.leaves.sound has found.keeps (found.accounts no_error)
+    found.steps.leaves.no_less unit.steps.leaves.no_less unit.retired unit.alone unit.given unit.added in
+    let third = c.retire_unit.new.table in
+    let last = c.retire_unit-2.new.table in
+    let retires : RetiresUnits new last (c.in-Some.v ∷ c.in-Some.u ∷ []) c.in_ok-unit.unit =
+    one_more_retired new third last (c.in-Some.u ∷ []) c.in-Some.v c.in_ok-unit.unit
+    (one_more_retired new new third [] c.in-Some.u c.in_ok-unit.unit (none_retired new c.in_ok-unit.unit) c.retire_unit.ensures.retired) c.retire_unit-2.ensures.retired in
+    let all = c.steps_law.ensures.extend old mid new found.steps.extends unit.steps.extends in
+    subst (λ (s : List Held). HasUnits last after s) (sym (c.replace_two.ensures c.in-Some.v c.in-Some.u rest items))
+    (units_replaced g.S.Sink.tells g.S.Sink.channel c.steps_law.ensures old new last before after (c.in-Some.v ∷ c.in-Some.u ∷ []) rest (record { node = c.in_ok-node.node; unit = c.in_ok-unit.unit })
+    c.requires.sound unit.steps.leaves.sound all has gives retires)
+
+pub returns-then-is_same-clause-refuted : goal.returns-then-is_same-clause-refuted
+returns-then-is_same-clause-refuted g c is =
+    false_refutes c.and.new.table.graph c.unit_of.new.table.book.state.live c.in_ok-node.node c.in_ok-unit.unit (c.is_same.ensures.0 c.if-is_same.true) c.in_ok-unit.ensures.unit
+
+pub returns-then-is_same-clause-steps : goal.returns-then-is_same-clause-steps
+returns-then-is_same-clause-steps g c =
     let old = c.args.table.now in
     let mid = c.and.new.table in
     let new = c.unit_of.new.table in
-    let extends = c.in_ok-found.ensures.steps.extends in
-    let more = c.in_ok-unit.ensures.steps.extends in
-    let all = c.steps_law.ensures.extend old mid new extends more in
-    let reduced = c.requires.sound.tied.reduced in
-    let w = c.in_ok-found.found.0 in
-    let top = popped formula old.graph old.book.state.live c.args.stack.now.items c.pop.new.self.items c.in-Some.v c.in-Some.ensures.items other (one ∷ terms) are in
-    let next = popped formula old.graph old.book.state.live c.pop.new.self.items c.pop-2.new.self.items c.in-Some-pop.u c.in-Some-pop.ensures.items one terms top.1 in
-    let first = held_one_kept c.growth_law.ensures old.graph mid.graph reduced extends.nodes old.book.state.live mid.book.state.live extends.clauses formula c.in-Some-pop.u one next.0 in
-    let second = held_one_kept c.growth_law.ensures old.graph mid.graph reduced extends.nodes old.book.state.live mid.book.state.live extends.clauses formula c.in-Some.v other top.0 in
-    if_ok c.put.result (λ refuted. refuted ≡ false → (w ≢ False) × (c.put.new.stack.items ≡ c.pop-2.new.self.items ++ record { node = w; unit = c.in_ok-unit.unit } ∷ []))
-    (λ refuted. refuted ≡ false → AreHeld formula new.graph new.book.state.live (reverse c.put.new.stack.items) (both one other ∷ terms))
-    (λ refuted stacked is. let s = stacked is in
-    pushed formula new.graph new.book.state.live c.pop-2.new.self.items c.put.new.stack.items (record { node = w; unit = c.in_ok-unit.unit }) s.1 (both one other) terms
-    (conjunction_kept c.growth_law.ensures mid.graph new.graph c.in_ok-found.ensures.steps.leaves.sound.tied.reduced more.nodes mid.book.state.live new.book.state.live more.clauses c.in_ok-unit.ensures.nodes formula c.in-Some-pop.u c.in-Some.v w c.in_ok-found.found.1
-    c.in_ok-unit.unit one other first second c.in_ok-found.ensures.conjoined c.in_ok-unit.ensures.unit s.0)
-    (held_kept c.growth_law.ensures old.graph new.graph reduced all.nodes old.book.state.live new.book.state.live all.clauses formula (reverse c.pop-2.new.self.items) terms next.1))
-    c.put.ensures.stacked
-
-pub returns-clause-refuted : goal.returns-clause-refuted
-returns-clause-refuted g c =
-    let mid = c.and.new.table in
-    let new = c.unit_of.new.table in
-    let w = c.in_ok-found.found.0 in
-    if_ok c.put.result (λ refuted. IsTrue refuted → w ≡ False) (λ refuted. IsTrue refuted → (id : ℕ) × (clause_at new.book.state.live id ≡ Some []))
-    (λ refuted named is. false_refutes mid.graph new.book.state.live w c.in_ok-unit.unit (named is) c.in_ok-unit.ensures.unit)
-    c.put.ensures.refuted
-
-pub returns-clause-own : goal.returns-clause-own
-returns-clause-own g c =
-    let mid = c.and.new.table in
-    let new = c.unit_of.new.table in
-    let kept = all_entries c.and.new.self in
-    let w = c.in_ok-found.found.0 in
-    let done = c.in_ok-found.ensures in
-    let own = own_behind c.args.table.now mid (all_entries c.args.caches.now) kept c.args.stack.now.items c.requires.two.0 (c.requires.two.2 ∷ c.requires.two.1 ∷ c.requires.two.3) c.requires.sound c.requires.two.4 c.requires.own done.keeps.retires (done.keeps.named none_whole) in
-    let first = own_popped mid kept c.args.stack.now.items c.pop.new.self.items c.in-Some.v c.in-Some.ensures.items own in
-    let second = own_popped mid kept c.pop.new.self.items c.pop-2.new.self.items c.in-Some-pop.u c.in-Some-pop.ensures.items first.1 in
-    if_ok c.put.result (λ refuted. refuted ≡ false → (w ≢ False) × (c.put.new.stack.items ≡ c.pop-2.new.self.items ++ record { node = w; unit = c.in_ok-unit.unit } ∷ []))
-    (λ refuted. refuted ≡ false → OwnUnits new kept (reverse c.put.new.stack.items))
-    (λ refuted stacked is. own_pushed new kept c.pop-2.new.self.items c.put.new.stack.items (record { node = w; unit = c.in_ok-unit.unit }) (stacked is).1
-    (own_same mid new kept (reverse c.pop-2.new.self.items) c.in_ok-unit.ensures.retired second.1)
-    (unit_own mid new kept c.in-Some-pop.u.unit c.in-Some.v.unit c.in_ok-unit.unit done.steps.leaves.sound (done.keeps.fits none_whole) c.in_ok-unit.ensures.retired second.0 first.0 c.in_ok-unit.ensures.given))
-    c.put.ensures.stacked
-
-pub returns-in_err-found-clause-own : goal.returns-in_err-found-clause-own
-returns-in_err-found-clause-own g c = no_answer _ c.in_err-found.field-0.0 _ c.from_residual.ensures.1
-
-pub returns-in_err-unit-clause-own : goal.returns-in_err-unit-clause-own
-returns-in_err-unit-clause-own g c = no_answer _ c.in_err-unit.field-0.0 _ c.from_residual-in_err-unit.ensures.1
+    let channel = g.S.Sink.channel in
+    let most = most_additions (levels old.graph) in
+    let two = c.steps_law.ensures.further (channel old.book.sink) (channel mid.book.sink) (channel new.book.sink) old mid new most 1 None c.in_ok-node.ensures.steps c.in_ok-unit.ensures.steps in
+    two
 
 pub returns-clause-steps : goal.returns-clause-steps
 returns-clause-steps g c =
     let old = c.args.table.now in
     let mid = c.and.new.table in
     let new = c.unit_of.new.table in
-    let first = g.S.Sink.channel old.book.sink in
-    let second = g.S.Sink.channel mid.book.sink in
-    let third = g.S.Sink.channel new.book.sink in
-    after_all g.S.Sink.tells first third old new (most_additions (levels old.graph) + 1) c.put.result c.put.ensures.failed
-    (c.steps_law.ensures.further first second third old mid new (most_additions (levels old.graph)) 1 None c.in_ok-found.ensures.steps c.in_ok-unit.ensures.steps)
+    let channel = g.S.Sink.channel in
+    let most = most_additions (levels old.graph) in
+    let two = c.steps_law.ensures.further (channel old.book.sink) (channel mid.book.sink) (channel new.book.sink) old mid new most 1 None c.in_ok-node.ensures.steps c.in_ok-unit.ensures.steps in
+    let third = c.retire_unit.new.table in
+    let last = c.retire_unit-2.new.table in
+    let three = c.steps_law.ensures.further (channel old.book.sink) (channel new.book.sink) (channel third.book.sink) old new third (most + 1) 0 None two c.retire_unit.ensures.steps in
+    let four = c.steps_law.ensures.further (channel old.book.sink) (channel third.book.sink) (channel last.book.sink) old third last (most + 1 + 0) 0 None three c.retire_unit-2.ensures.steps in
+    c.steps_law.ensures.at_most (channel old.book.sink) (channel last.book.sink) old last (most + 1 + 0 + 0) (most + 1) None (omega arith) four
+
+pub returns-then-is_same-clause-fits : goal.returns-then-is_same-clause-fits
+returns-then-is_same-clause-fits g c whole =
+    let old = c.args.table.now in
+    let rest = c.in-Some.ensures.0 in
+    let items : reverse c.args.stack.now.items ≡ c.in-Some.v ∷ c.in-Some.u ∷ rest = ap reverse (sym c.as_slice.ensures.value) ∙ c.in-Some.ensures.1 in
+    let mid = c.and.new.table in
+    let new = c.unit_of.new.table in
+    let before = all_entries c.args.caches.now in
+    let after = all_entries c.and.new.self in
+    let found = c.in_ok-node.ensures in
+    let unit = c.in_ok-unit.ensures in
+    let has = subst (λ (s : List Held). HasUnits old before s) items c.requires.own in
+    let gives = two_give old mid new before after c.in-Some.u c.in-Some.v rest c.in_ok-unit.unit c.requires.sound found.steps.leaves.sound has found.keeps (found.accounts no_error)
+    found.steps.leaves.no_less unit.steps.leaves.no_less unit.retired unit.alone unit.given unit.added in
+    let kept = found.keeps.fits none_whole in
+    let fits = c.entry_law.ensures.kept mid new after found.steps.leaves.sound unit.steps.leaves.sound unit.steps.extends kept
+    (λ id named gone. kept.unretired id named (subst (λ (list : List ℕ). Contains list id) unit.retired gone)) in
+    fits
 
 pub returns-clause-fits : goal.returns-clause-fits
 returns-clause-fits g c whole =
+    let old = c.args.table.now in
+    let rest = c.in-Some.ensures.0 in
+    let items : reverse c.args.stack.now.items ≡ c.in-Some.v ∷ c.in-Some.u ∷ rest = ap reverse (sym c.as_slice.ensures.value) ∙ c.in-Some.ensures.1 in
     let mid = c.and.new.table in
     let new = c.unit_of.new.table in
-    let kept = c.in_ok-found.ensures.keeps.fits none_whole in
-    c.entry_law.ensures.kept mid new (all_entries c.and.new.self) c.in_ok-found.ensures.steps.leaves.sound c.in_ok-unit.ensures.steps.leaves.sound c.in_ok-unit.ensures.steps.extends kept
-    (λ id named gone. kept.unretired id named (subst (λ (list : List ℕ). Contains list id) c.in_ok-unit.ensures.retired gone))
+    let before = all_entries c.args.caches.now in
+    let after = all_entries c.and.new.self in
+    let found = c.in_ok-node.ensures in
+    let unit = c.in_ok-unit.ensures in
+    let has = subst (λ (s : List Held). HasUnits old before s) items c.requires.own in
+    let gives = two_give old mid new before after c.in-Some.u c.in-Some.v rest c.in_ok-unit.unit c.requires.sound found.steps.leaves.sound has found.keeps (found.accounts no_error)
+    found.steps.leaves.no_less unit.steps.leaves.no_less unit.retired unit.alone unit.given unit.added in
+    let third = c.retire_unit.new.table in
+    let last = c.retire_unit-2.new.table in
+    let retires : RetiresUnits new last (c.in-Some.v ∷ c.in-Some.u ∷ []) c.in_ok-unit.unit =
+    one_more_retired new third last (c.in-Some.u ∷ []) c.in-Some.v c.in_ok-unit.unit
+    (one_more_retired new new third [] c.in-Some.u c.in_ok-unit.unit (none_retired new c.in_ok-unit.unit) c.retire_unit.ensures.retired) c.retire_unit-2.ensures.retired in
+    let kept = found.keeps.fits none_whole in
+    let fits = c.entry_law.ensures.kept mid new after found.steps.leaves.sound unit.steps.leaves.sound unit.steps.extends kept
+    (λ id named gone. kept.unretired id named (subst (λ (list : List ℕ). Contains list id) unit.retired gone)) in
+    let extends = c.steps_law.ensures.extend new third last c.retire_unit.ensures.steps.extends c.retire_unit-2.ensures.steps.extends in
+    c.entry_law.ensures.kept new last after unit.steps.leaves.sound c.retire_unit-2.ensures.steps.leaves.sound extends fits
+    (λ id named gone. elim (retires.only id gone) [
+      | inl was ↦ fits.unretired id named was
+      | inr operand ↦ free_after old new before after (c.in-Some.v ∷ c.in-Some.u ∷ rest) c.requires.sound has gives.retires gives.named id
+          (unit_left (c.in-Some.v ∷ c.in-Some.u ∷ []) rest id operand.0) (inr named)
+    ])
+
+pub returns-then-is_same-clause-made : goal.returns-then-is_same-clause-made
+returns-then-is_same-clause-made g c formula one other terms are =
+    let old = c.args.table.now in
+    let rest = c.in-Some.ensures.0 in
+    let items : reverse c.args.stack.now.items ≡ c.in-Some.v ∷ c.in-Some.u ∷ rest = ap reverse (sym c.as_slice.ensures.value) ∙ c.in-Some.ensures.1 in
+    let held = subst (λ (s : List Held). AreHeld formula old.graph old.book.state.live s (other ∷ one ∷ terms)) items are in
+    let tied = c.requires.sound.tied in
+    let function = both_function old.graph tied.reduced tied.ordered formula old.book.state.live c.in-Some.u.node c.in-Some.v.node c.in-Some.u.unit c.in-Some.v.unit one other held.1.0.is held.0.is in
+    subst (λ (graph : Graph). MakesOnly old.graph graph (term_function formula old.graph.order (both one other))) (sym c.in_ok-unit.ensures.nodes)
+    (subst (MakesOnly old.graph c.and.new.table.graph) function c.in_ok-node.ensures.made)
 
 pub returns-clause-made : goal.returns-clause-made
 returns-clause-made g c formula one other terms are =
     let old = c.args.table.now in
+    let rest = c.in-Some.ensures.0 in
+    let items : reverse c.args.stack.now.items ≡ c.in-Some.v ∷ c.in-Some.u ∷ rest = ap reverse (sym c.as_slice.ensures.value) ∙ c.in-Some.ensures.1 in
+    let held = subst (λ (s : List Held). AreHeld formula old.graph old.book.state.live s (other ∷ one ∷ terms)) items are in
     let tied = c.requires.sound.tied in
-    let top = popped formula old.graph old.book.state.live c.args.stack.now.items c.pop.new.self.items c.in-Some.v c.in-Some.ensures.items other (one ∷ terms) are in
-    let next = popped formula old.graph old.book.state.live c.pop.new.self.items c.pop-2.new.self.items c.in-Some-pop.u c.in-Some-pop.ensures.items one terms top.1 in
-    let function = both_function old.graph tied.reduced tied.ordered formula old.book.state.live c.in-Some-pop.u.node c.in-Some.v.node c.in-Some-pop.u.unit c.in-Some.v.unit one other next.0.is top.0.is in
-    subst (λ (graph : Graph). MakesOnly old.graph graph (term_function formula old.graph.order (both one other))) (sym c.in_ok-unit.ensures.nodes)
-    (subst (MakesOnly old.graph c.and.new.table.graph) function c.in_ok-found.ensures.made)
+    let function = both_function old.graph tied.reduced tied.ordered formula old.book.state.live c.in-Some.u.node c.in-Some.v.node c.in-Some.u.unit c.in-Some.v.unit one other held.1.0.is held.0.is in
+    let at_new = subst (λ (graph : Graph). MakesOnly old.graph graph (term_function formula old.graph.order (both one other))) (sym c.in_ok-unit.ensures.nodes)
+    (subst (MakesOnly old.graph c.and.new.table.graph) function c.in_ok-node.ensures.made) in
+    let at_third = subst (λ (t : TableState g.row.S.Denot). MakesOnly old.graph t.graph (term_function formula old.graph.order (both one other))) (sym c.retire_unit.ensures.retired.same) at_new in
+    subst (λ (t : TableState g.row.S.Denot). MakesOnly old.graph t.graph (term_function formula old.graph.order (both one other))) (sym c.retire_unit-2.ensures.retired.same) at_third
+
+pub returns-then-is_same-clause-lacks : goal.returns-then-is_same-clause-lacks
+returns-then-is_same-clause-lacks g c formula one other terms are is =
+    absurd (no_error is)
 
 pub returns-clause-lacks : goal.returns-clause-lacks
-returns-clause-lacks g c formula one other terms are is = absurd (no_limit c.put.result c.put.ensures.failed is)
+returns-clause-lacks g c formula one other terms are is =
+    absurd (no_error is)
+
+pub returns-then-is_same-clause-beside : goal.returns-then-is_same-clause-beside
+returns-then-is_same-clause-beside g c =
+    c.in_ok-unit.ensures.beside ∙ c.in_ok-node.ensures.beside
 
 pub returns-clause-beside : goal.returns-clause-beside
-returns-clause-beside g c = c.in_ok-unit.ensures.beside ∙ c.in_ok-found.ensures.beside
+returns-clause-beside g c =
+    c.retire_unit-2.ensures.beside ∙ c.retire_unit.ensures.beside ∙ c.in_ok-unit.ensures.beside ∙ c.in_ok-node.ensures.beside
 
-pub returns-in_err-found-clause-held : goal.returns-in_err-found-clause-held
-returns-in_err-found-clause-held g c formula one other terms are = no_answer _ c.in_err-found.field-0.0 _ c.from_residual.ensures.1
+pub returns-in_err-node-clause-held : goal.returns-in_err-node-clause-held
+returns-in_err-node-clause-held g c formula one other terms are = no_answer _ c.in_err-node.field-0.0 _ c.from_residual.ensures.1
 
-pub returns-in_err-found-clause-refuted : goal.returns-in_err-found-clause-refuted
-returns-in_err-found-clause-refuted g c = no_answer _ c.in_err-found.field-0.0 _ c.from_residual.ensures.1
+pub returns-in_err-node-clause-refuted : goal.returns-in_err-node-clause-refuted
+returns-in_err-node-clause-refuted g c = no_answer _ c.in_err-node.field-0.0 _ c.from_residual.ensures.1
 
-pub returns-in_err-found-clause-steps : goal.returns-in_err-found-clause-steps
-returns-in_err-found-clause-steps g c =
-    let old = c.args.table.now in
-    let mid = c.and.new.table in
-    steps_handed _ _ _ old mid _ _ c.in_err-found.field-0.0 c.from_residual.ensures.1
-    (c.steps_law.ensures.at_most _ _ old mid (most_additions (levels old.graph)) (most_additions (levels old.graph) + 1) _ (omega arith) c.in_err-found.ensures.steps)
-
-pub returns-in_err-found-clause-fits : goal.returns-in_err-found-clause-fits
-returns-in_err-found-clause-fits g c whole = c.in_err-found.ensures.keeps.fits (whole_result {T = Bool} (Err c.in_err-found.field-0.0) (other_cause _ c.in_err-found.field-0.0 WriteFault c.from_residual.ensures.1 whole))
-
-pub returns-in_err-found-clause-made : goal.returns-in_err-found-clause-made
-returns-in_err-found-clause-made g c formula one other terms are =
-    let old = c.args.table.now in
-    let tied = c.requires.sound.tied in
-    let top = popped formula old.graph old.book.state.live c.args.stack.now.items c.pop.new.self.items c.in-Some.v c.in-Some.ensures.items other (one ∷ terms) are in
-    let next = popped formula old.graph old.book.state.live c.pop.new.self.items c.pop-2.new.self.items c.in-Some-pop.u c.in-Some-pop.ensures.items one terms top.1 in
-    let function = both_function old.graph tied.reduced tied.ordered formula old.book.state.live c.in-Some-pop.u.node c.in-Some.v.node c.in-Some-pop.u.unit c.in-Some.v.unit one other next.0.is top.0.is in
-    subst (MakesOnly old.graph c.and.new.table.graph) function c.in_err-found.ensures.made
-
-pub returns-in_err-found-clause-lacks : goal.returns-in_err-found-clause-lacks
-returns-in_err-found-clause-lacks g c formula one other terms are is =
-    let old = c.args.table.now in
-    let tied = c.requires.sound.tied in
-    let top = popped formula old.graph old.book.state.live c.args.stack.now.items c.pop.new.self.items c.in-Some.v c.in-Some.ensures.items other (one ∷ terms) are in
-    let next = popped formula old.graph old.book.state.live c.pop.new.self.items c.pop-2.new.self.items c.in-Some-pop.u c.in-Some-pop.ensures.items one terms top.1 in
-    let function = both_function old.graph tied.reduced tied.ordered formula old.book.state.live c.in-Some-pop.u.node c.in-Some.v.node c.in-Some-pop.u.unit c.in-Some.v.unit one other next.0.is top.0.is in
-    subst (LacksPart c.and.new.table.graph) function
-    (c.in_err-found.ensures.lacks (ap Err (came_from _ c.in_err-found.field-0.0 NodeLimit c.from_residual.ensures.1 is)))
-
-pub returns-in_err-found-clause-beside : goal.returns-in_err-found-clause-beside
-returns-in_err-found-clause-beside g c = c.in_err-found.ensures.beside
+pub returns-in_err-node-clause-own : goal.returns-in_err-node-clause-own
+returns-in_err-node-clause-own g c = no_answer _ c.in_err-node.field-0.0 _ c.from_residual.ensures.1
 
 pub returns-in_err-unit-clause-held : goal.returns-in_err-unit-clause-held
 returns-in_err-unit-clause-held g c formula one other terms are = no_answer _ c.in_err-unit.field-0.0 _ c.from_residual-in_err-unit.ensures.1
 
 pub returns-in_err-unit-clause-refuted : goal.returns-in_err-unit-clause-refuted
 returns-in_err-unit-clause-refuted g c = no_answer _ c.in_err-unit.field-0.0 _ c.from_residual-in_err-unit.ensures.1
+
+pub returns-in_err-unit-clause-own : goal.returns-in_err-unit-clause-own
+returns-in_err-unit-clause-own g c = no_answer _ c.in_err-unit.field-0.0 _ c.from_residual-in_err-unit.ensures.1
+
+pub returns-in_err-node-clause-steps : goal.returns-in_err-node-clause-steps
+returns-in_err-node-clause-steps g c =
+    let old = c.args.table.now in
+    let mid = c.and.new.table in
+    steps_handed _ _ _ old mid _ _ c.in_err-node.field-0.0 c.from_residual.ensures.1
+    (c.steps_law.ensures.at_most _ _ old mid (most_additions (levels old.graph)) (most_additions (levels old.graph) + 1) _ (omega arith) c.in_err-node.ensures.steps)
+
+pub returns-in_err-node-clause-fits : goal.returns-in_err-node-clause-fits
+returns-in_err-node-clause-fits g c whole =
+    c.in_err-node.ensures.keeps.fits (whole_result {T = Bool} (Err c.in_err-node.field-0.0) (other_cause _ c.in_err-node.field-0.0 WriteFault c.from_residual.ensures.1 whole))
+
+pub returns-in_err-node-clause-made : goal.returns-in_err-node-clause-made
+returns-in_err-node-clause-made g c formula one other terms are =
+    let old = c.args.table.now in
+    let rest = c.in-Some.ensures.0 in
+    let items : reverse c.args.stack.now.items ≡ c.in-Some.v ∷ c.in-Some.u ∷ rest = ap reverse (sym c.as_slice.ensures.value) ∙ c.in-Some.ensures.1 in
+    let held = subst (λ (s : List Held). AreHeld formula old.graph old.book.state.live s (other ∷ one ∷ terms)) items are in
+    let tied = c.requires.sound.tied in
+    let function = both_function old.graph tied.reduced tied.ordered formula old.book.state.live c.in-Some.u.node c.in-Some.v.node c.in-Some.u.unit c.in-Some.v.unit one other held.1.0.is held.0.is in
+    subst (MakesOnly old.graph c.and.new.table.graph) function c.in_err-node.ensures.made
+
+pub returns-in_err-node-clause-lacks : goal.returns-in_err-node-clause-lacks
+returns-in_err-node-clause-lacks g c formula one other terms are is =
+    let old = c.args.table.now in
+    let rest = c.in-Some.ensures.0 in
+    let items : reverse c.args.stack.now.items ≡ c.in-Some.v ∷ c.in-Some.u ∷ rest = ap reverse (sym c.as_slice.ensures.value) ∙ c.in-Some.ensures.1 in
+    let held = subst (λ (s : List Held). AreHeld formula old.graph old.book.state.live s (other ∷ one ∷ terms)) items are in
+    let tied = c.requires.sound.tied in
+    let function = both_function old.graph tied.reduced tied.ordered formula old.book.state.live c.in-Some.u.node c.in-Some.v.node c.in-Some.u.unit c.in-Some.v.unit one other held.1.0.is held.0.is in
+    subst (LacksPart c.and.new.table.graph) function (c.in_err-node.ensures.lacks (ap Err (came_from _ c.in_err-node.field-0.0 NodeLimit c.from_residual.ensures.1 is)))
+
+pub returns-in_err-node-clause-beside : goal.returns-in_err-node-clause-beside
+returns-in_err-node-clause-beside g c =
+    c.in_err-node.ensures.beside
 
 pub returns-in_err-unit-clause-steps : goal.returns-in_err-unit-clause-steps
 returns-in_err-unit-clause-steps g c =
@@ -208,32 +367,56 @@ returns-in_err-unit-clause-steps g c =
     let second = g.S.Sink.channel mid.book.sink in
     let third = g.S.Sink.channel new.book.sink in
     steps_handed g.S.Sink.tells first third old new (most_additions (levels old.graph) + 1) _ c.in_err-unit.field-0.0 c.from_residual-in_err-unit.ensures.1
-    (c.steps_law.ensures.further first second third old mid new (most_additions (levels old.graph)) 1 (Some c.in_err-unit.field-0.0) c.in_ok-found.ensures.steps c.in_err-unit.ensures.steps)
+    (c.steps_law.ensures.further first second third old mid new (most_additions (levels old.graph)) 1 (Some c.in_err-unit.field-0.0) c.in_ok-node.ensures.steps c.in_err-unit.ensures.steps)
 
 pub returns-in_err-unit-clause-fits : goal.returns-in_err-unit-clause-fits
 returns-in_err-unit-clause-fits g c whole =
     let mid = c.and.new.table in
     let new = c.unit_of.new.table in
-    let kept = c.in_ok-found.ensures.keeps.fits none_whole in
+    let kept = c.in_ok-node.ensures.keeps.fits none_whole in
     let came = c.in_err-unit.field-0.0 in
     let torn : ◌≡◌ {A = Result Just TableError} (Err came) (Err WriteFault) → ⊥ = other_cause _ came WriteFault c.from_residual-in_err-unit.ensures.1 whole in
     let sound = (went_on _ _ _ mid new (Err came) c.in_err-unit.ensures.steps.leaves torn).sound in
-    c.entry_law.ensures.kept mid new (all_entries c.and.new.self) c.in_ok-found.ensures.steps.leaves.sound sound c.in_err-unit.ensures.steps.extends kept
+    c.entry_law.ensures.kept mid new (all_entries c.and.new.self) c.in_ok-node.ensures.steps.leaves.sound sound c.in_err-unit.ensures.steps.extends kept
     (λ id named gone. kept.unretired id named (subst (λ (list : List ℕ). Contains list id) c.in_err-unit.ensures.retired gone))
 
 pub returns-in_err-unit-clause-made : goal.returns-in_err-unit-clause-made
 returns-in_err-unit-clause-made g c formula one other terms are =
     let old = c.args.table.now in
+    let rest = c.in-Some.ensures.0 in
+    let items : reverse c.args.stack.now.items ≡ c.in-Some.v ∷ c.in-Some.u ∷ rest = ap reverse (sym c.as_slice.ensures.value) ∙ c.in-Some.ensures.1 in
+    let held = subst (λ (s : List Held). AreHeld formula old.graph old.book.state.live s (other ∷ one ∷ terms)) items are in
     let tied = c.requires.sound.tied in
-    let top = popped formula old.graph old.book.state.live c.args.stack.now.items c.pop.new.self.items c.in-Some.v c.in-Some.ensures.items other (one ∷ terms) are in
-    let next = popped formula old.graph old.book.state.live c.pop.new.self.items c.pop-2.new.self.items c.in-Some-pop.u c.in-Some-pop.ensures.items one terms top.1 in
-    let function = both_function old.graph tied.reduced tied.ordered formula old.book.state.live c.in-Some-pop.u.node c.in-Some.v.node c.in-Some-pop.u.unit c.in-Some.v.unit one other next.0.is top.0.is in
+    let function = both_function old.graph tied.reduced tied.ordered formula old.book.state.live c.in-Some.u.node c.in-Some.v.node c.in-Some.u.unit c.in-Some.v.unit one other held.1.0.is held.0.is in
     subst (λ (graph : Graph). MakesOnly old.graph graph (term_function formula old.graph.order (both one other))) (sym c.in_err-unit.ensures.nodes)
-    (subst (MakesOnly old.graph c.and.new.table.graph) function c.in_ok-found.ensures.made)
+    (subst (MakesOnly old.graph c.and.new.table.graph) function c.in_ok-node.ensures.made)
 
 pub returns-in_err-unit-clause-lacks : goal.returns-in_err-unit-clause-lacks
 returns-in_err-unit-clause-lacks g c formula one other terms are is =
     absurd (c.in_err-unit.ensures.no_node_limit (ap Err (came_from _ c.in_err-unit.field-0.0 NodeLimit c.from_residual-in_err-unit.ensures.1 is)))
 
 pub returns-in_err-unit-clause-beside : goal.returns-in_err-unit-clause-beside
-returns-in_err-unit-clause-beside g c = c.in_err-unit.ensures.beside ∙ c.in_ok-found.ensures.beside
+returns-in_err-unit-clause-beside g c =
+    c.in_err-unit.ensures.beside ∙ c.in_ok-node.ensures.beside
+
+pub returns-in_err-node-clause-again : goal.returns-in_err-node-clause-again
+returns-in_err-node-clause-again g c is =
+    let old = c.args.table.now in
+    let mid = c.and.new.table in
+    let came = c.in_err-node.field-0.0 in
+    let limit = came_from _ came NodeLimit c.from_residual.ensures.1 is in
+    let whole = limit_whole came limit in
+    let found = c.in_err-node.ensures in
+    let sound = (limit_left g.S.Sink.tells g.S.Sink.channel old mid came limit found.steps.leaves).0.sound in
+    units_behind g.S.Sink.tells g.S.Sink.channel c.steps_law.ensures old mid (all_entries c.args.caches.now) (all_entries c.and.new.self) (reverse c.args.stack.now.items) c.requires.sound sound
+    found.steps.extends c.requires.own found.keeps.retires (found.keeps.named whole) (found.accounts (λ torn. whole (ap Some (same_error torn))))
+
+pub returns-in_err-unit-clause-again : goal.returns-in_err-unit-clause-again
+returns-in_err-unit-clause-again g c is =
+    absurd (c.in_err-unit.ensures.no_node_limit (ap Err (came_from _ c.in_err-unit.field-0.0 NodeLimit c.from_residual-in_err-unit.ensures.1 is)))
+
+pub returns-then-is_same-clause-again : goal.returns-then-is_same-clause-again
+returns-then-is_same-clause-again g c is = absurd (no_error is)
+
+pub returns-clause-again : goal.returns-clause-again
+returns-clause-again g c is = absurd (no_error is)

@@ -1,19 +1,21 @@
-use Rattle.std.proofs.Common.{◌≡◌, ◌≢◌, ◌++◌, ℕ, false, [], ◌∷◌, reverse, ℤ, List, Some, Err, ap, inr, subst}
+use Rattle.std.proofs.Common.{◌≡◌, ◌≢◌, ◌++◌, ℕ, false, [], ◌∷◌, reverse, ℤ, List, Contains, Some, Err, ap, inl, sym, ◌∙◌, subst}
+use Rattle.std.proofs.lemmas.List.{reverse-append}
 use Rattle.std.specs.Prelude.{IsTrue}
 use Rattle.lrat_rules.specs.State.{clause_at}
 use Rattle.node_table.specs.declared.node.Node.TheVariants.{False}
 use Rattle.node_table.specs.Made.{LacksPart, MakesOnly}
 use Rattle.schedule_plan.specs.Plan.{input}
 use Rattle.clause_terms.specs.Term.{clause_function}
-use Rattle.term_runner.specs.Held.{AreHeld, OwnUnits}
+use Rattle.term_runner.specs.declared.held.Held.{Held}
+use Rattle.term_runner.specs.Held.{AreHeld, HasUnits}
 use Rattle.node_table.specs.declared.error.TableError.TheVariants.{NodeLimit}
 use Rattle.node_table.specs.HandedOn.{came_from, no_answer}
 use Rattle.term_runner.proofs.Planned.{no_limit}
 use Rattle.term_runner.proofs.Inputs.{input_live, input_literals, input_some}
-use Rattle.term_runner.proofs.Leaving.{after_all, steps_handed}
+use Rattle.term_runner.proofs.Leaving.{after_all, limit_left, steps_handed}
 use Rattle.term_runner.proofs.Stacks.{held_kept, pushed, clause_held, false_refutes, if_ok}
-use Rattle.term_runner.proofs.OwnUnits.{new_unit, no_clause, own_pushed, own_same, unit_own}
-use Rattle.node_table.specs.declared.node.Just.TheVariants.{Trivial}
+use Rattle.term_runner.proofs.Giving.{new_gives, none_added, units_behind}
+use Rattle.term_runner.proofs.Replaced.{none_retired, units_replaced}
 use Rattle.term_runner.proofs.moves.push.Goals as goal
 
 pub push_clause-requires-clause-sound : goal.push_clause-requires-clause-sound
@@ -57,11 +59,17 @@ returns-clause-own g c kept fits own =
     let old = c.args.table.now in
     let new = c.push_clause.new.table in
     if_ok c.put.result (λ refuted. refuted ≡ false → (c.in_ok-found.found.0 ≢ False) × (c.put.new.stack.items ≡ c.args.stack.now.items ++ record { node = c.in_ok-found.found.0; unit = c.in_ok-found.found.1 } ∷ []))
-    (λ refuted. refuted ≡ false → OwnUnits new kept (reverse c.put.new.stack.items))
-    (λ refuted stacked is. own_pushed new kept c.args.stack.now.items c.put.new.stack.items (record { node = c.in_ok-found.found.0; unit = c.in_ok-found.found.1 }) (stacked is).1
-    (own_same old new kept (reverse c.args.stack.now.items) c.in_ok-found.ensures.retired own)
-    (unit_own old new kept Trivial Trivial c.in_ok-found.found.1 c.requires.ready.1.sound fits c.in_ok-found.ensures.retired (λ id none. absurd (no_clause id none)) (λ id none. absurd (no_clause id none))
-    (inr (inr (λ id given. new_unit old new id (c.in_ok-found.ensures.last id given))))))
+    (λ refuted. refuted ≡ false → HasUnits new kept (reverse c.put.new.stack.items))
+    (λ refuted stacked is.
+    let held : Held = record { node = c.in_ok-found.found.0; unit = c.in_ok-found.found.1 } in
+    let stack = c.args.stack.now.items in
+    let listed : reverse c.put.new.stack.items ≡ held ∷ reverse stack = ap reverse (stacked is).1 ∙ reverse-append stack (held ∷ []) in
+    let steps = c.in_ok-found.ensures.steps in
+    let gives = new_gives old new kept c.in_ok-found.found.1 c.requires.ready.1.sound fits steps.leaves.no_less c.in_ok-found.ensures.retired c.in_ok-found.ensures.alone c.in_ok-found.ensures.last
+    c.in_ok-found.ensures.own in
+    subst (λ (list : List Held). HasUnits new kept list) (sym listed)
+    (units_replaced g.S.Sink.tells g.S.Sink.channel c.steps_law.ensures old new new kept kept [] (reverse stack) held c.requires.ready.1.sound steps.leaves.sound steps.extends own gives
+    (none_retired new c.in_ok-found.found.1)))
     c.put.ensures.stacked
 
 pub returns-in_err-found-clause-own : goal.returns-in_err-found-clause-own
@@ -109,3 +117,21 @@ returns-in_err-found-clause-lacks g c is =
 
 pub returns-in_err-found-clause-beside : goal.returns-in_err-found-clause-beside
 returns-in_err-found-clause-beside g c = c.in_err-found.ensures.beside
+
+pub returns-clause-unchanged : goal.returns-clause-unchanged
+returns-clause-unchanged g c = c.put.ensures.unchanged
+
+pub returns-clause-again : goal.returns-clause-again
+returns-clause-again g c kept fits has is = absurd (no_limit c.put.result c.put.ensures.failed is)
+
+pub returns-in_err-found-clause-again : goal.returns-in_err-found-clause-again
+returns-in_err-found-clause-again g c kept fits has is =
+    let old = c.args.table.now in
+    let new = c.push_clause.new.table in
+    let came = c.in_err-found.field-0.0 in
+    let limit = came_from _ came NodeLimit c.from_residual.ensures.1 is in
+    let found = c.in_err-found.ensures in
+    let sound = (limit_left g.S.Sink.tells g.S.Sink.channel old new came limit found.steps.leaves).0.sound in
+    units_behind g.S.Sink.tells g.S.Sink.channel c.steps_law.ensures old new kept kept (reverse c.args.stack.now.items) c.requires.ready.1.sound sound found.steps.extends has
+    (record { each = λ id gone. inl (subst (λ (ids : List ℕ). Contains ids id) found.retired gone) }) (record { each = λ entry there. inl there })
+    (none_added old new kept c.requires.ready.1.sound found.retired (found.none_added (ap Err limit)))

@@ -5,13 +5,17 @@ use Rattle.node_table.specs.Defined.{atom_of}
 use Rattle.node_table.specs.Just.{IsJustified}
 use Rattle.operations.specs.Accounts.{none_whole, whole_error}
 use Rattle.operations.specs.Budget.{most_additions}
+use Rattle.node_table.specs.Table.{IsAddedTo}
+use Rattle.node_table.specs.HandedOn.{no_error}
 use Rattle.operations.specs.Entries.{IsAccounted, IsNewJust}
+use Rattle.term_runner.specs.Held.{GivesUnit}
 use Rattle.imply.specs.Implication.{IsDecided, IsRefuted}
 use Rattle.term_runner.specs.Caches.{all_entries}
 use Rattle.term_runner.proofs.AllCaches.{keeps_all, keeps_further}
 use Rattle.term_runner.proofs.Leaving.{went_on}
 use Rattle.term_runner.proofs.OwnUnits.{unaccounted_after, unit_own, unit_within}
-use Rattle.term_runner.proofs.Stacks.{if_ok, justified_kept}
+use Rattle.term_runner.proofs.Giving.{one_give}
+use Rattle.term_runner.proofs.Stacks.{both_ok, if_ok, justified_kept}
 use Rattle.term_runner.proofs.Units.{not_both}
 use Rattle.term_runner.proofs.quantification.implied_unit.Goals as goal
 
@@ -84,3 +88,27 @@ returns-clause-no_node_limit g c = c.unit_of_implied.ensures.no_node_limit
 
 pub returns-clause-beside : goal.returns-clause-beside
 returns-clause-beside g c = c.unit_of_implied.ensures.beside ∙ c.implies.ensures.beside
+
+pub returns-clause-gives : goal.returns-clause-gives
+returns-clause-gives g c =
+    let old = c.args.table.now in
+    let mid = c.implies.new.table in
+    let new = c.unit_of_implied.new.table in
+    let done = c.in_ok-just.ensures in
+    let before = all_entries c.args.caches.now in
+    let after = all_entries c.implies.new.self in
+    let u = c.args.u.now in
+    let given = c.unit_of_implied.ensures in
+    let free : (id : ℕ) → u.unit ≡ Clause id → IsAccounted mid after id → ⊥ = λ id is.
+    unaccounted_after old mid before after id (unit_within old c.requires.sound (atom_of old.graph u.node) u.unit id c.requires.unit is) (c.requires.own id is)
+    done.keeps.retires (done.keeps.named none_whole) in
+    both_ok c.unit_of_implied.result
+    (λ unit. (unit ≡ u.unit) ⊎ IsNewJust mid.book.state new.book.state unit)
+    (λ unit. ((unit ≡ u.unit) ⊎ ((id : ℕ) → unit ≡ Clause id → IsAddedTo new id)) × ((id : ℕ) → IsAddedTo new id → IsAddedTo mid id ⊎ (unit ≡ Clause id)))
+    (λ unit. GivesUnit old new before after (u ∷ []) unit)
+    (λ unit one two. one_give old mid new before after u unit done.steps.leaves.sound free done.keeps (done.accounts no_error) done.steps.leaves.no_less given.steps.extends.numbers.no_less given.retired two.1 one two.0)
+    given.given
+    (both_ok c.unit_of_implied.result
+    (λ unit. (unit ≡ u.unit) ⊎ ((id : ℕ) → unit ≡ Clause id → IsAddedTo new id)) (λ unit. (id : ℕ) → IsAddedTo new id → IsAddedTo mid id ⊎ (unit ≡ Clause id))
+    (λ unit. ((unit ≡ u.unit) ⊎ ((id : ℕ) → unit ≡ Clause id → IsAddedTo new id)) × ((id : ℕ) → IsAddedTo new id → IsAddedTo mid id ⊎ (unit ≡ Clause id)))
+    (λ unit one two. (one, two)) given.added given.alone)

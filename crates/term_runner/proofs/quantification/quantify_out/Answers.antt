@@ -1,27 +1,31 @@
-use Rattle.std.proofs.Common.{◌≡◌, ◌≢◌, ◌∙◌, ◌++◌, ◌<◌, ℕ, Bool, false, List, [], ◌∷◌, length, reverse, Some, Err, refl, ap, sym, subst, arith}
-use Rattle.std.specs.Prelude.{IsTrue, slice_index_or}
-use Rattle.lrat_rules.specs.State.{clause_at}
-use Rattle.node_table.specs.declared.node.Node.TheVariants.{False}
+use Rattle.std.proofs.Common.{◌≡◌, ◌∙◌, ◌+◌, ◌<◌, ℕ, zero, Bool, List, [], ◌∷◌, length, reverse, None, Err, refl, ap, sym, subst, arith, inl, inr}
+use Rattle.std.specs.Prelude.{slice_index_or}
 use Rattle.node_table.specs.declared.error.TableError.TheVariants.{NodeLimit, WriteFault}
 use Rattle.node_table.specs.Diagram.{levels, variable_at}
-use Rattle.node_table.specs.HandedOn.{came_from, no_answer, other_cause}
+use Rattle.node_table.specs.HandedOn.{came_from, no_answer, no_error, other_cause}
 use Rattle.node_table.specs.Made.{LacksPart, MakesOnly}
 use Rattle.operations.specs.Accounts.{none_whole, whole_result}
+use Rattle.operations.specs.Budget.{most_additions}
+use Rattle.term_runner.specs.Needs.{term_function}
 use Rattle.schedule_plan.specs.Plan.{some_value}
 use Rattle.term_runner.specs.Caches.{all_entries}
-use Rattle.term_runner.specs.Held.{AreHeld, AreKept, OwnUnits}
-use Rattle.term_runner.proofs.Leaving.{after_all, steps_handed}
-use Rattle.term_runner.proofs.OwnUnits.{own_behind, own_popped, own_pushed}
-use Rattle.term_runner.proofs.Planned.{no_limit}
+use Rattle.node_table.specs.Table.{TableState}
+use Rattle.term_runner.specs.declared.held.Held.{Held}
+use Rattle.term_runner.specs.Held.{AreHeld, AreKept, HasUnits}
+use Rattle.term_runner.proofs.Leaving.{limit_left, limit_whole, steps_handed}
+use Rattle.term_runner.proofs.Giving.{units_behind}
+use Rattle.term_runner.proofs.Replaced.{first_unit, free_after, none_retired, one_more_retired, units_replaced, RetiresUnits}
 use Rattle.term_runner.proofs.Quantified.{quantified_function, quantified_held}
-use Rattle.term_runner.proofs.Stacks.{false_refutes, held_kept, held_one_kept, if_ok, none_left, popped, pushed}
+use Rattle.term_runner.proofs.Stacks.{false_refutes, held_kept, held_one_kept, none_left}
+use Rattle.term_runner.proofs.Units.{not_both}
 use Rattle.term_runner.proofs.Trails.{kept_grown, kept_pushed}
 use Rattle.term_runner.proofs.quantification.quantify_out.Goals as goal
 
 pub unreachable-requires : goal.unreachable-requires
 unreachable-requires g c =
     let one = c.requires.one in
-    none_left one.0 c.args.table.now.graph c.args.table.now.book.state.live c.args.stack.now.items (omega (arith, c.args.stack.now.ok, c.in_default.ensures.cases.0)) one.1 one.2 one.3
+    let few = subst (λ (s : List Held). length s < 1) c.as_slice.ensures.value c.in_default.ensures in
+    none_left one.0 c.args.table.now.graph c.args.table.now.book.state.live c.args.stack.now.items (omega (arith, few)) one.1 one.2 one.3
 
 pub unreachable-requires-in_default-level : goal.unreachable-requires-in_default-level
 unreachable-requires-in_default-level g c =
@@ -30,9 +34,12 @@ unreachable-requires-in_default-level g c =
 
 pub weaken-requires : goal.weaken-requires
 weaken-requires g c =
-    let one = c.requires.one in
     let old = c.args.table.now in
-    let top = popped one.0 old.graph old.book.state.live c.args.stack.now.items c.pop.new.self.items c.in-Some.u c.in-Some.ensures.items one.1 one.2 one.3 in
+    let rest = c.in-Some.ensures.0 in
+    let items : reverse c.args.stack.now.items ≡ c.in-Some.u ∷ rest = ap reverse (sym c.as_slice.ensures.value) ∙ c.in-Some.ensures.1 in
+    let one = c.requires.one in
+    let top = subst (λ (s : List Held). AreHeld one.0 old.graph old.book.state.live s (one.1 ∷ one.2)) items one.3 in
+    let has = subst (λ (s : List Held). HasUnits old (all_entries c.args.caches.now) s) items c.requires.own in
     record {
       sound = c.requires.sound;
       stands = top.0.is.stands;
@@ -40,86 +47,183 @@ weaken-requires g c =
       unit = top.0.is.proved;
       level = c.in-Some-level.ensures.0;
       fits = c.requires.fits;
-      own = (own_popped old (all_entries c.args.caches.now) c.args.stack.now.items c.pop.new.self.items c.in-Some.u c.in-Some.ensures.items c.requires.own).0;
+      own = λ id is. has.own c.in-Some.u (zero, omega arith, refl) id is;
     }
 
-pub returns-clause-held : goal.returns-clause-held
-returns-clause-held g c formula term terms are =
+pub retire_unit-requires : goal.retire_unit-requires
+retire_unit-requires g c =
     let old = c.args.table.now in
+    let rest = c.in-Some.ensures.0 in
+    let items : reverse c.args.stack.now.items ≡ c.in-Some.u ∷ rest = ap reverse (sym c.as_slice.ensures.value) ∙ c.in-Some.ensures.1 in
     let new = c.weaken.new.table in
+    let before = all_entries c.args.caches.now in
+    let after = all_entries c.weaken.new.caches in
     let done = c.in_ok-held.ensures in
+    let has = subst (λ (s : List Held). HasUnits old before s) items c.requires.own in
+    record {
+      sound = done.steps.leaves.sound;
+      added = λ id is. c.steps_law.ensures.added old new c.requires.sound done.steps.leaves.sound done.steps.extends id (has.added id (first_unit c.in-Some.u rest id is));
+      unretired = λ id is gone. free_after old new before after (c.in-Some.u ∷ rest) c.requires.sound has done.gives.retires done.gives.named id (first_unit c.in-Some.u rest id is) (inl gone);
+    }
+
+pub replace_last-requires : goal.replace_last-requires
+replace_last-requires g c =
+    let old = c.args.table.now in
+    let rest = c.in-Some.ensures.0 in
+    let items : reverse c.args.stack.now.items ≡ c.in-Some.u ∷ rest = ap reverse (sym c.as_slice.ensures.value) ∙ c.in-Some.ensures.1 in
+    (c.in-Some.u, rest, items)
+
+pub returns-clause-held : goal.returns-clause-held
+returns-clause-held g c formula term terms are no_end =
+    let old = c.args.table.now in
+    let rest = c.in-Some.ensures.0 in
+    let items : reverse c.args.stack.now.items ≡ c.in-Some.u ∷ rest = ap reverse (sym c.as_slice.ensures.value) ∙ c.in-Some.ensures.1 in
+    let new = c.weaken.new.table in
+    let before = all_entries c.args.caches.now in
+    let after = all_entries c.weaken.new.caches in
+    let done = c.in_ok-held.ensures in
+    let has = subst (λ (s : List Held). HasUnits old before s) items c.requires.own in
+    let last = c.retire_unit.new.table in
+    let retires : RetiresUnits new last (c.in-Some.u ∷ []) c.in_ok-held.held.unit =
+    one_more_retired new new last [] c.in-Some.u c.in_ok-held.held.unit (none_retired new c.in_ok-held.held.unit) c.retire_unit.ensures.retired in
+    let top = subst (λ (s : List Held). AreHeld formula old.graph old.book.state.live s (term ∷ terms)) items are in
     let extends = done.steps.extends in
     let reduced = c.requires.sound.tied.reduced in
-    let u = c.in-Some.u in
-    let w = c.in_ok-held.held.node in
-    let unit = c.in_ok-held.held.unit in
-    let top = popped formula old.graph old.book.state.live c.args.stack.now.items c.pop.new.self.items u c.in-Some.ensures.items term terms are in
-    let up = held_one_kept c.growth_law.ensures old.graph new.graph reduced extends.nodes old.book.state.live new.book.state.live extends.clauses formula u term top.0 in
+    let result = c.in_ok-held.held in
+    let up = held_one_kept c.growth_law.ensures old.graph new.graph reduced extends.nodes old.book.state.live new.book.state.live extends.clauses formula c.in-Some.u term top.0 in
     let within : c.in-Some-level.level < levels new.graph = subst (λ (order : List ℕ). c.in-Some-level.level < length order) (sym extends.nodes.order) c.in-Some-level.ensures.0 in
     let at : variable_at new.graph c.in-Some-level.level ≡ c.args.variable = ap (λ (order : List ℕ). slice_index_or order c.in-Some-level.level 0) extends.nodes.order ∙ c.in-Some-level.ensures.1 in
-    if_ok c.put.result (λ refuted. refuted ≡ false → (w ≢ False) × (c.put.new.stack.items ≡ c.pop.new.self.items ++ record { node = w; unit = unit } ∷ []))
-    (λ refuted. refuted ≡ false → AreHeld formula new.graph new.book.state.live (reverse c.put.new.stack.items) (some_value c.args.variable term ∷ terms))
-    (λ refuted stacked is. let s = stacked is in
-    pushed formula new.graph new.book.state.live c.pop.new.self.items c.put.new.stack.items (record { node = w; unit = unit }) s.1 (some_value c.args.variable term) terms
-    (quantified_held new.graph done.steps.leaves.sound.tied.reduced done.steps.leaves.sound.tied.ordered c.in-Some-level.level c.args.variable within at formula new.book.state.live u term w unit up done.quantified done.unit s.0)
-    (held_kept c.growth_law.ensures old.graph new.graph reduced extends.nodes old.book.state.live new.book.state.live extends.clauses formula (reverse c.pop.new.self.items) terms top.1))
-    c.put.ensures.stacked
+    let at_new : AreHeld formula new.graph new.book.state.live (result ∷ rest) (some_value c.args.variable term ∷ terms) = (
+      quantified_held new.graph done.steps.leaves.sound.tied.reduced done.steps.leaves.sound.tied.ordered c.in-Some-level.level c.args.variable within at formula new.book.state.live c.in-Some.u term
+          result.node result.unit up done.quantified done.unit (λ is. not_both c.is_same.result (c.is_same.ensures.1 is) c.if-is_same.false),
+      held_kept c.growth_law.ensures old.graph new.graph reduced extends.nodes old.book.state.live new.book.state.live extends.clauses formula rest terms top.1,
+    ) in
+    subst (λ (s : List Held). AreHeld formula last.graph last.book.state.live s (some_value c.args.variable term ∷ terms)) (sym (c.replace_last.ensures c.in-Some.u rest items))
+    (subst (λ (t : TableState g.row.S.Denot). AreHeld formula t.graph t.book.state.live (result ∷ rest) (some_value c.args.variable term ∷ terms)) (sym retires.same) at_new)
+
+pub returns-then-is_same-clause-kept : goal.returns-then-is_same-clause-kept
+returns-then-is_same-clause-kept g c formula term terms quantified are kept =
+    let old = c.args.table.now in
+    let rest = c.in-Some.ensures.0 in
+    let items : reverse c.args.stack.now.items ≡ c.in-Some.u ∷ rest = ap reverse (sym c.as_slice.ensures.value) ∙ c.in-Some.ensures.1 in
+    let new = c.weaken.new.table in
+    let extends = c.in_ok-held.ensures.steps.extends in
+    let reduced = c.requires.sound.tied.reduced in
+    let x = c.args.variable in
+    let top = subst (λ (s : List Held). AreHeld formula old.graph old.book.state.live s (term ∷ terms)) items are in
+    let up = held_one_kept c.growth_law.ensures old.graph new.graph reduced extends.nodes old.book.state.live new.book.state.live extends.clauses formula c.in-Some.u term top.0 in
+    kept_pushed formula new.graph c.args.trail.now c.push.new.self (x, c.in-Some.u.node) (x, term) quantified c.in_ok-push.ensures.ok
+    (record { variable = refl; stands = up.is.stands; value = up.is.value })
+    (kept_grown c.growth_law.ensures formula old.graph new.graph reduced extends.nodes (reverse c.args.trail.now) quantified kept)
 
 pub returns-clause-kept : goal.returns-clause-kept
 returns-clause-kept g c formula term terms quantified are kept =
     let old = c.args.table.now in
+    let rest = c.in-Some.ensures.0 in
+    let items : reverse c.args.stack.now.items ≡ c.in-Some.u ∷ rest = ap reverse (sym c.as_slice.ensures.value) ∙ c.in-Some.ensures.1 in
     let new = c.weaken.new.table in
     let extends = c.in_ok-held.ensures.steps.extends in
     let reduced = c.requires.sound.tied.reduced in
-    let u = c.in-Some.u in
     let x = c.args.variable in
-    let top = popped formula old.graph old.book.state.live c.args.stack.now.items c.pop.new.self.items u c.in-Some.ensures.items term terms are in
-    let up = held_one_kept c.growth_law.ensures old.graph new.graph reduced extends.nodes old.book.state.live new.book.state.live extends.clauses formula u term top.0 in
-    if_ok c.put.result (λ refuted. IsTrue refuted → c.in_ok-held.held.node ≡ False) (λ refuted. AreKept formula new.graph (reverse c.push.new.self) ((x, term) ∷ quantified))
-    (λ refuted named. kept_pushed formula new.graph c.args.trail.now c.push.new.self (x, u.node) (x, term) quantified c.in_ok-push.ensures.ok
+    let top = subst (λ (s : List Held). AreHeld formula old.graph old.book.state.live s (term ∷ terms)) items are in
+    let up = held_one_kept c.growth_law.ensures old.graph new.graph reduced extends.nodes old.book.state.live new.book.state.live extends.clauses formula c.in-Some.u term top.0 in
+    subst (λ (t : TableState g.row.S.Denot). AreKept formula t.graph (reverse c.push.new.self) ((x, term) ∷ quantified)) (sym c.retire_unit.ensures.retired.same)
+    (kept_pushed formula new.graph c.args.trail.now c.push.new.self (x, c.in-Some.u.node) (x, term) quantified c.in_ok-push.ensures.ok
     (record { variable = refl; stands = up.is.stands; value = up.is.value })
     (kept_grown c.growth_law.ensures formula old.graph new.graph reduced extends.nodes (reverse c.args.trail.now) quantified kept))
-    c.put.ensures.refuted
 
-pub returns-clause-refuted : goal.returns-clause-refuted
-returns-clause-refuted g c =
+pub returns-then-is_same-clause-refuted : goal.returns-then-is_same-clause-refuted
+returns-then-is_same-clause-refuted g c is =
     let new = c.weaken.new.table in
     let held = c.in_ok-held.held in
-    if_ok c.put.result (λ refuted. IsTrue refuted → held.node ≡ False) (λ refuted. IsTrue refuted → (id : ℕ) × (clause_at new.book.state.live id ≡ Some []))
-    (λ refuted named is. false_refutes new.graph new.book.state.live held.node held.unit (named is) c.in_ok-held.ensures.unit)
-    c.put.ensures.refuted
+    false_refutes new.graph new.book.state.live held.node held.unit (c.is_same.ensures.0 c.if-is_same.true) c.in_ok-held.ensures.unit
 
 pub returns-clause-own : goal.returns-clause-own
-returns-clause-own g c =
-    let one = c.requires.one in
+returns-clause-own g c no_end =
+    let old = c.args.table.now in
+    let rest = c.in-Some.ensures.0 in
+    let items : reverse c.args.stack.now.items ≡ c.in-Some.u ∷ rest = ap reverse (sym c.as_slice.ensures.value) ∙ c.in-Some.ensures.1 in
     let new = c.weaken.new.table in
-    let kept = all_entries c.weaken.new.caches in
-    let held = c.in_ok-held.held in
+    let before = all_entries c.args.caches.now in
+    let after = all_entries c.weaken.new.caches in
     let done = c.in_ok-held.ensures in
-    let own = own_behind c.args.table.now new (all_entries c.args.caches.now) kept c.args.stack.now.items one.0 (one.1 ∷ one.2) c.requires.sound one.3 c.requires.own done.keeps.retires (done.keeps.named none_whole) in
-    let rest = own_popped new kept c.args.stack.now.items c.pop.new.self.items c.in-Some.u c.in-Some.ensures.items own in
-    if_ok c.put.result (λ refuted. refuted ≡ false → (held.node ≢ False) × (c.put.new.stack.items ≡ c.pop.new.self.items ++ record { node = held.node; unit = held.unit } ∷ []))
-    (λ refuted. refuted ≡ false → OwnUnits new kept (reverse c.put.new.stack.items))
-    (λ refuted stacked is. own_pushed new kept c.pop.new.self.items c.put.new.stack.items (record { node = held.node; unit = held.unit }) (stacked is).1 rest.1 done.own)
-    c.put.ensures.stacked
+    let has = subst (λ (s : List Held). HasUnits old before s) items c.requires.own in
+    let last = c.retire_unit.new.table in
+    let retires : RetiresUnits new last (c.in-Some.u ∷ []) c.in_ok-held.held.unit =
+    one_more_retired new new last [] c.in-Some.u c.in_ok-held.held.unit (none_retired new c.in_ok-held.held.unit) c.retire_unit.ensures.retired in
+    subst (λ (s : List Held). HasUnits last after s) (sym (c.replace_last.ensures c.in-Some.u rest items))
+    (units_replaced g.S.Sink.tells g.S.Sink.channel c.steps_law.ensures old new last before after (c.in-Some.u ∷ []) rest c.in_ok-held.held
+    c.requires.sound done.steps.leaves.sound done.steps.extends has done.gives retires)
 
 pub returns-clause-steps : goal.returns-clause-steps
-returns-clause-steps g c = after_all _ _ _ c.args.table.now c.weaken.new.table _ c.put.result c.put.ensures.failed c.in_ok-held.ensures.steps
+returns-clause-steps g c =
+    let old = c.args.table.now in
+    let new = c.weaken.new.table in
+    let last = c.retire_unit.new.table in
+    c.steps_law.ensures.at_most _ _ old last (most_additions (levels old.graph) + 1 + 0) (most_additions (levels old.graph) + 1) None (omega arith)
+    (c.steps_law.ensures.further _ _ _ old new last (most_additions (levels old.graph) + 1) 0 None c.in_ok-held.ensures.steps c.retire_unit.ensures.steps)
+
+pub returns-then-is_same-clause-steps : goal.returns-then-is_same-clause-steps
+returns-then-is_same-clause-steps g c =
+    c.in_ok-held.ensures.steps
+
+pub returns-then-is_same-clause-fits : goal.returns-then-is_same-clause-fits
+returns-then-is_same-clause-fits g c whole =
+    c.in_ok-held.ensures.keeps.fits none_whole
 
 pub returns-clause-fits : goal.returns-clause-fits
-returns-clause-fits g c whole = c.in_ok-held.ensures.keeps.fits none_whole
+returns-clause-fits g c whole =
+    let old = c.args.table.now in
+    let rest = c.in-Some.ensures.0 in
+    let items : reverse c.args.stack.now.items ≡ c.in-Some.u ∷ rest = ap reverse (sym c.as_slice.ensures.value) ∙ c.in-Some.ensures.1 in
+    let new = c.weaken.new.table in
+    let before = all_entries c.args.caches.now in
+    let after = all_entries c.weaken.new.caches in
+    let done = c.in_ok-held.ensures in
+    let has = subst (λ (s : List Held). HasUnits old before s) items c.requires.own in
+    let last = c.retire_unit.new.table in
+    let once = c.retire_unit.ensures in
+    let fits = done.keeps.fits none_whole in
+    c.entry_law.ensures.kept new last after done.steps.leaves.sound once.steps.leaves.sound once.steps.extends fits
+    (λ id named gone. elim (once.retired.only id gone) [
+      | inl was ↦ fits.unretired id named was
+      | inr this ↦ free_after old new before after (c.in-Some.u ∷ rest) c.requires.sound has done.gives.retires done.gives.named id (first_unit c.in-Some.u rest id this.0) (inr named)
+    ])
+
+pub returns-then-is_same-clause-made : goal.returns-then-is_same-clause-made
+returns-then-is_same-clause-made g c formula term terms are =
+    let old = c.args.table.now in
+    let rest = c.in-Some.ensures.0 in
+    let items : reverse c.args.stack.now.items ≡ c.in-Some.u ∷ rest = ap reverse (sym c.as_slice.ensures.value) ∙ c.in-Some.ensures.1 in
+    let top = subst (λ (s : List Held). AreHeld formula old.graph old.book.state.live s (term ∷ terms)) items are in
+    let tied = c.requires.sound.tied in
+    let level = c.in-Some-level in
+    let function = quantified_function old.graph tied.reduced tied.ordered level.level c.args.variable level.ensures.0 level.ensures.1 formula term c.in-Some.u.node top.0.is.stands top.0.is.value in
+    subst (MakesOnly old.graph c.weaken.new.table.graph) function c.in_ok-held.ensures.made
 
 pub returns-clause-made : goal.returns-clause-made
 returns-clause-made g c formula term terms are =
     let old = c.args.table.now in
+    let rest = c.in-Some.ensures.0 in
+    let items : reverse c.args.stack.now.items ≡ c.in-Some.u ∷ rest = ap reverse (sym c.as_slice.ensures.value) ∙ c.in-Some.ensures.1 in
+    let top = subst (λ (s : List Held). AreHeld formula old.graph old.book.state.live s (term ∷ terms)) items are in
     let tied = c.requires.sound.tied in
     let level = c.in-Some-level in
-    let top = popped formula old.graph old.book.state.live c.args.stack.now.items c.pop.new.self.items c.in-Some.u c.in-Some.ensures.items term terms are in
-    subst (MakesOnly old.graph c.weaken.new.table.graph)
-    (quantified_function old.graph tied.reduced tied.ordered level.level c.args.variable level.ensures.0 level.ensures.1 formula term c.in-Some.u.node top.0.is.stands top.0.is.value) c.in_ok-held.ensures.made
+    let function = quantified_function old.graph tied.reduced tied.ordered level.level c.args.variable level.ensures.0 level.ensures.1 formula term c.in-Some.u.node top.0.is.stands top.0.is.value in
+    subst (λ (t : TableState g.row.S.Denot). MakesOnly old.graph t.graph (term_function formula old.graph.order (some_value c.args.variable term))) (sym c.retire_unit.ensures.retired.same)
+    (subst (MakesOnly old.graph c.weaken.new.table.graph) function c.in_ok-held.ensures.made)
+
+pub returns-then-is_same-clause-lacks : goal.returns-then-is_same-clause-lacks
+returns-then-is_same-clause-lacks g c formula term terms are is =
+    absurd (no_error is)
 
 pub returns-clause-lacks : goal.returns-clause-lacks
-returns-clause-lacks g c formula term terms are is = absurd (no_limit c.put.result c.put.ensures.failed is)
+returns-clause-lacks g c formula term terms are is =
+    absurd (no_error is)
+
+pub returns-clause-beside : goal.returns-clause-beside
+returns-clause-beside g c =
+    c.retire_unit.ensures.beside ∙ c.in_ok-held.ensures.beside
 
 pub returns-in_err-held-clause-held : goal.returns-in_err-held-clause-held
 returns-in_err-held-clause-held g c formula term terms are = no_answer _ c.in_err-held.field-0.0 _ c.from_residual.ensures.1
@@ -143,27 +247,49 @@ returns-in_err-held-clause-fits g c whole =
 pub returns-in_err-held-clause-made : goal.returns-in_err-held-clause-made
 returns-in_err-held-clause-made g c formula term terms are =
     let old = c.args.table.now in
+    let rest = c.in-Some.ensures.0 in
+    let items : reverse c.args.stack.now.items ≡ c.in-Some.u ∷ rest = ap reverse (sym c.as_slice.ensures.value) ∙ c.in-Some.ensures.1 in
+    let top = subst (λ (s : List Held). AreHeld formula old.graph old.book.state.live s (term ∷ terms)) items are in
     let tied = c.requires.sound.tied in
     let level = c.in-Some-level in
-    let top = popped formula old.graph old.book.state.live c.args.stack.now.items c.pop.new.self.items c.in-Some.u c.in-Some.ensures.items term terms are in
-    subst (MakesOnly old.graph c.weaken.new.table.graph)
-    (quantified_function old.graph tied.reduced tied.ordered level.level c.args.variable level.ensures.0 level.ensures.1 formula term c.in-Some.u.node top.0.is.stands top.0.is.value) c.in_err-held.ensures.made
+    let function = quantified_function old.graph tied.reduced tied.ordered level.level c.args.variable level.ensures.0 level.ensures.1 formula term c.in-Some.u.node top.0.is.stands top.0.is.value in
+    subst (MakesOnly old.graph c.weaken.new.table.graph) function c.in_err-held.ensures.made
 
 pub returns-in_err-held-clause-lacks : goal.returns-in_err-held-clause-lacks
 returns-in_err-held-clause-lacks g c formula term terms are is =
     let old = c.args.table.now in
+    let rest = c.in-Some.ensures.0 in
+    let items : reverse c.args.stack.now.items ≡ c.in-Some.u ∷ rest = ap reverse (sym c.as_slice.ensures.value) ∙ c.in-Some.ensures.1 in
+    let top = subst (λ (s : List Held). AreHeld formula old.graph old.book.state.live s (term ∷ terms)) items are in
     let tied = c.requires.sound.tied in
     let level = c.in-Some-level in
-    let top = popped formula old.graph old.book.state.live c.args.stack.now.items c.pop.new.self.items c.in-Some.u c.in-Some.ensures.items term terms are in
-    subst (LacksPart c.weaken.new.table.graph)
-    (quantified_function old.graph tied.reduced tied.ordered level.level c.args.variable level.ensures.0 level.ensures.1 formula term c.in-Some.u.node top.0.is.stands top.0.is.value)
-    (c.in_err-held.ensures.lacks (ap Err (came_from _ c.in_err-held.field-0.0 NodeLimit c.from_residual.ensures.1 is)))
+    let function = quantified_function old.graph tied.reduced tied.ordered level.level c.args.variable level.ensures.0 level.ensures.1 formula term c.in-Some.u.node top.0.is.stands top.0.is.value in
+    subst (LacksPart c.weaken.new.table.graph) function (c.in_err-held.ensures.lacks (ap Err (came_from _ c.in_err-held.field-0.0 NodeLimit c.from_residual.ensures.1 is)))
 
 pub returns-in_err-push-clause-made : goal.returns-in_err-push-clause-made
 returns-in_err-push-clause-made g c formula term terms are =
     let old = c.args.table.now in
+    let rest = c.in-Some.ensures.0 in
+    let items : reverse c.args.stack.now.items ≡ c.in-Some.u ∷ rest = ap reverse (sym c.as_slice.ensures.value) ∙ c.in-Some.ensures.1 in
+    let top = subst (λ (s : List Held). AreHeld formula old.graph old.book.state.live s (term ∷ terms)) items are in
     let tied = c.requires.sound.tied in
     let level = c.in-Some-level in
-    let top = popped formula old.graph old.book.state.live c.args.stack.now.items c.pop.new.self.items c.in-Some.u c.in-Some.ensures.items term terms are in
-    subst (MakesOnly old.graph c.weaken.new.table.graph)
-    (quantified_function old.graph tied.reduced tied.ordered level.level c.args.variable level.ensures.0 level.ensures.1 formula term c.in-Some.u.node top.0.is.stands top.0.is.value) c.in_ok-held.ensures.made
+    let function = quantified_function old.graph tied.reduced tied.ordered level.level c.args.variable level.ensures.0 level.ensures.1 formula term c.in-Some.u.node top.0.is.stands top.0.is.value in
+    subst (MakesOnly old.graph c.weaken.new.table.graph) function c.in_ok-held.ensures.made
+
+pub returns-in_err-held-clause-again : goal.returns-in_err-held-clause-again
+returns-in_err-held-clause-again g c is =
+    let old = c.args.table.now in
+    let new = c.weaken.new.table in
+    let came = c.in_err-held.field-0.0 in
+    let limit = came_from _ came NodeLimit c.from_residual.ensures.1 is in
+    let found = c.in_err-held.ensures in
+    let sound = (limit_left g.S.Sink.tells g.S.Sink.channel old new came limit found.steps.leaves).0.sound in
+    units_behind g.S.Sink.tells g.S.Sink.channel c.steps_law.ensures old new (all_entries c.args.caches.now) (all_entries c.weaken.new.caches) (reverse c.args.stack.now.items) c.requires.sound sound
+    found.steps.extends c.requires.own found.keeps.retires (found.keeps.named (limit_whole came limit)) (found.accounts (ap Err limit))
+
+pub returns-then-is_same-clause-again : goal.returns-then-is_same-clause-again
+returns-then-is_same-clause-again g c is = absurd (no_error is)
+
+pub returns-clause-again : goal.returns-clause-again
+returns-clause-again g c is = absurd (no_error is)

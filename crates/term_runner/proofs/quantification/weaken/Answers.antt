@@ -3,7 +3,7 @@ use Rattle.node_table.specs.declared.error.TableError.TheVariants.{NodeLimit}
 use Rattle.node_table.specs.Diagram.{Graph, levels}
 use Rattle.node_table.specs.Defined.{atom_of}
 use Rattle.node_table.specs.Just.{IsJustified}
-use Rattle.node_table.specs.HandedOn.{came_from, no_answer}
+use Rattle.node_table.specs.HandedOn.{came_from, no_answer, no_error, same_error}
 use Rattle.node_table.specs.Made.{MakesOnly}
 use Rattle.operations.specs.Accounts.{none_whole}
 use Rattle.operations.specs.Budget.{most_additions}
@@ -11,7 +11,8 @@ use Rattle.operations.specs.Results.{Quantified}
 use Rattle.quantify.specs.Quantification.{quantification_of}
 use Rattle.term_runner.specs.Caches.{all_entries}
 use Rattle.term_runner.proofs.AllCaches.{keeps_further, keeps_handed}
-use Rattle.term_runner.proofs.Leaving.{steps_handed}
+use Rattle.term_runner.proofs.Giving.{given_further}
+use Rattle.term_runner.proofs.Leaving.{limit_whole, steps_handed}
 use Rattle.term_runner.proofs.OwnUnits.{unaccounted_after, unit_within}
 use Rattle.term_runner.proofs.Quantified.{implies_some}
 use Rattle.term_runner.proofs.Stacks.{justified_kept}
@@ -139,3 +140,36 @@ returns-in_err-unit-clause-lacks g c is = absurd (c.in_err-unit.ensures.no_node_
 
 pub returns-in_err-unit-clause-beside : goal.returns-in_err-unit-clause-beside
 returns-in_err-unit-clause-beside g c = c.in_err-unit.ensures.beside ∙ c.in_ok-node.ensures.beside
+
+pub returns-clause-gives : goal.returns-clause-gives
+returns-clause-gives g c =
+    let old = c.args.table.now in
+    let mid = c.exists.new.table in
+    let new = c.implied_unit.new.table in
+    let first = all_entries c.args.caches.now in
+    let second = all_entries c.exists.new.self in
+    let third = all_entries c.implied_unit.new.caches in
+    let one = c.in_ok-node.ensures in
+    let two = c.in_ok-unit.ensures in
+    let keeps = keeps_further old mid new first second third None one.steps.extends two.steps.extends one.keeps two.keeps in
+    given_further old mid new first second third (c.args.u.now ∷ []) c.in_ok-unit.unit (one.accounts no_error) keeps.retires (keeps.named none_whole) one.steps.leaves.no_less
+    (c.steps_law.ensures.was_added mid new two.steps.extends) two.gives
+
+pub returns-in_err-node-clause-gives : goal.returns-in_err-node-clause-gives
+returns-in_err-node-clause-gives g c = no_answer _ c.in_err-node.field-0.0 _ c.from_residual.ensures.1
+
+pub returns-in_err-unit-clause-gives : goal.returns-in_err-unit-clause-gives
+returns-in_err-unit-clause-gives g c = no_answer _ c.in_err-unit.field-0.0 _ c.from_residual-in_err-unit.ensures.1
+
+pub returns-clause-accounts : goal.returns-clause-accounts
+returns-clause-accounts g c is = absurd (no_error is)
+
+pub returns-in_err-node-clause-accounts : goal.returns-in_err-node-clause-accounts
+returns-in_err-node-clause-accounts g c is =
+    let came = c.in_err-node.field-0.0 in
+    let whole = limit_whole came (came_from _ came NodeLimit c.from_residual.ensures.1 is) in
+    c.in_err-node.ensures.accounts (λ torn. whole (ap Some (same_error torn)))
+
+pub returns-in_err-unit-clause-accounts : goal.returns-in_err-unit-clause-accounts
+returns-in_err-unit-clause-accounts g c is =
+    absurd (c.in_err-unit.ensures.no_node_limit (ap Err (came_from _ c.in_err-unit.field-0.0 NodeLimit c.from_residual-in_err-unit.ensures.1 is)))

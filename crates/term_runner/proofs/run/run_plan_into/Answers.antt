@@ -104,3 +104,9 @@ returns-clause-ends g c =
 
 pub decide-found-requires-clause-settled : goal.decide-found-requires-clause-settled
 decide-found-requires-clause-settled g c = ap (λ (t : TableState (MutBor g.row.S.Denot)). t.retired) c.new-table.ensures
+
+pub decide-found-requires-clause-fresh : goal.decide-found-requires-clause-fresh
+decide-found-requires-clause-fresh g c =
+    let table = c.new-table.result in
+    let made : table.book ≡ c.new-ledger.result = ap (λ (t : TableState (MutBor g.row.S.Denot)). t.book) c.new-table.ensures in
+    ap (λ (t : TableState (MutBor g.row.S.Denot)). t.inputs) c.new-table.ensures ∙ sym (ap (λ (b : Book (MutBor g.row.S.Denot)). b.state.top) made)

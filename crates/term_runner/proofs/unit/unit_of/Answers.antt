@@ -1,10 +1,13 @@
-use Rattle.std.proofs.Common.{◌≢◌, [], ◌∷◌, subst, inl, inr}
+use Rattle.std.proofs.Common.{◌≡◌, ◌≢◌, ◌⊎◌, ℕ, [], ◌∷◌, subst, inl, inr}
 use Rattle.node_table.specs.declared.node.Just.{Just}
 use Rattle.node_table.specs.Defined.{atom_of}
 use Rattle.node_table.specs.Just.{IsJustified}
 use Rattle.operations.specs.Results.{conjunction_atoms}
 use Rattle.term_runner.proofs.Units.{not_both, first_named, second_named, just_named, unit_refuted, not_true}
+use Rattle.node_table.specs.declared.node.Just.TheVariants.{Clause}
+use Rattle.node_table.specs.Table.{IsAddedTo}
 use Rattle.term_runner.proofs.OwnUnits.{given_next}
+use Rattle.term_runner.proofs.Stacks.{if_ok}
 use Rattle.term_runner.proofs.unit.unit_of.Goals as goal
 
 pub unreachable-requires : goal.unreachable-requires
@@ -61,3 +64,20 @@ returns-clause-own g c is = elim is [
 pub returns-clause-given : goal.returns-clause-given
 returns-clause-given g c =
     given_next c.args.table.now c.add_unit.new.table c.args.u.now.unit c.args.v.now.unit c.add_unit.result c.add_unit.ensures.number
+
+pub returns-clause-added : goal.returns-clause-added
+returns-clause-added g c =
+    let new = c.add_unit.new.table in
+    let u = c.args.u.now.unit in
+    let v = c.args.v.now.unit in
+    if_ok c.add_unit.result (λ unit. (id : ℕ) → unit ≡ Clause id → IsAddedTo new id) (λ unit. (unit ≡ u) ⊎ ((unit ≡ v) ⊎ ((id : ℕ) → unit ≡ Clause id → IsAddedTo new id)))
+    (λ unit stands. inr (inr stands)) c.add_unit.ensures.added
+
+pub returns-clause-alone : goal.returns-clause-alone
+returns-clause-alone g c = c.add_unit.ensures.alone
+
+pub returns-then-is_same-clause-alone : goal.returns-then-is_same-clause-alone
+returns-then-is_same-clause-alone g c id added = inl added
+
+pub returns-then-is_same-2-clause-alone : goal.returns-then-is_same-2-clause-alone
+returns-then-is_same-2-clause-alone g c id added = inl added

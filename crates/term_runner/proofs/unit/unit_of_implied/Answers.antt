@@ -1,13 +1,15 @@
-use Rattle.std.proofs.Common.{◌≢◌, [], ◌∷◌, refl, sym, subst, inl, inr}
+use Rattle.std.proofs.Common.{◌≡◌, ◌≢◌, ◌⊎◌, ℕ, [], ◌∷◌, refl, sym, subst, inl, inr}
 use Rattle.node_table.specs.declared.node.Node.{Node}
 use Rattle.node_table.specs.declared.node.Node.TheVariants.{True}
 use Rattle.node_table.specs.declared.node.Just.{Just}
-use Rattle.node_table.specs.declared.node.Just.TheVariants.{Trivial}
+use Rattle.node_table.specs.declared.node.Just.TheVariants.{Clause, Trivial}
 use Rattle.node_table.specs.Defined.{atom_of}
 use Rattle.node_table.specs.Just.{IsJustified}
 use Rattle.operations.specs.Results.{implication_atoms}
 use Rattle.term_runner.proofs.Units.{not_both, implying_named, implication_named, implied_refuted}
+use Rattle.node_table.specs.Table.{IsAddedTo}
 use Rattle.term_runner.proofs.OwnUnits.{no_clause, given_one}
+use Rattle.term_runner.proofs.Stacks.{if_ok}
 use Rattle.term_runner.proofs.unit.unit_of_implied.Goals as goal
 
 pub unreachable-requires : goal.unreachable-requires
@@ -60,3 +62,22 @@ returns-clause-own g c is = elim is [
 
 pub returns-clause-given : goal.returns-clause-given
 returns-clause-given g c = given_one c.args.table.now c.add_unit.new.table c.args.u.now.unit c.add_unit.result c.add_unit.ensures.number
+
+pub returns-clause-added : goal.returns-clause-added
+returns-clause-added g c =
+    let new = c.add_unit.new.table in
+    let u = c.args.u.now.unit in
+    if_ok c.add_unit.result (λ unit. (id : ℕ) → unit ≡ Clause id → IsAddedTo new id) (λ unit. (unit ≡ u) ⊎ ((id : ℕ) → unit ≡ Clause id → IsAddedTo new id))
+    (λ unit stands. inr stands) c.add_unit.ensures.added
+
+pub returns-clause-alone : goal.returns-clause-alone
+returns-clause-alone g c = c.add_unit.ensures.alone
+
+pub returns-then-is_same-clause-alone : goal.returns-then-is_same-clause-alone
+returns-then-is_same-clause-alone g c id added = inl added
+
+pub returns-then-is_same-2-clause-added : goal.returns-then-is_same-2-clause-added
+returns-then-is_same-2-clause-added g c = inr (λ id is. absurd (no_clause id is))
+
+pub returns-then-is_same-2-clause-alone : goal.returns-then-is_same-2-clause-alone
+returns-then-is_same-2-clause-alone g c id added = inl added

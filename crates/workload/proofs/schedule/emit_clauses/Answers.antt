@@ -12,7 +12,7 @@ use Rattle.workload.proofs.Steps.{passed, skipped}
 use Rattle.workload.proofs.Numbers.{cut_column}
 use Rattle.workload.proofs.Cursors.{goes_on, stays_out}
 use Rattle.workload.proofs.Clauses.{is_following}
-use Rattle.workload.proofs.Emitting.{in_turn, fails_within, same_text}
+use Rattle.host_io.proofs.Emitting.{in_turn, fails_within, same_text}
 use Rattle.workload.proofs.schedule.emit_clauses.Goals as goal
 use Rattle.workload.proofs.schedule.emit_clauses.Goals.{then-stays+in_ok-emit_following, else-stays}
 

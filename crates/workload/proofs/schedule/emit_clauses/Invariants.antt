@@ -5,7 +5,7 @@ use Rattle.cnf_base.specs.Order.{natural}
 use Rattle.workload.specs.Board.{square, stays}
 use Rattle.workload.specs.Schedule.{clause_numbers}
 use Rattle.workload.specs.Cursor.{StandsWithin}
-use Rattle.workload.specs.Emitted.{Emits}
+use Rattle.host_io.specs.Emitted.{Emits}
 use Rattle.workload.specs.Texts.{spaced}
 use Rattle.workload.proofs.schedule.emit_clauses.Given as goal
 

@@ -4,7 +4,7 @@ use Rattle.std.specs.List.{flat_map}
 use Rattle.std.proofs.lemmas.Grind.{flat_map-append}
 use Rattle.workload.specs.Schedule.{column_clauses, ending, column_commands, conjoining, quantifying, terms_in_column}
 use Rattle.workload.specs.Texts.{spaced, command_line}
-use Rattle.workload.proofs.Emitting.{in_turn, fails_within, same_text}
+use Rattle.host_io.proofs.Emitting.{in_turn, fails_within, same_text, from_second, from_third, from_fourth}
 use Rattle.workload.proofs.schedule.emit_column.Goals as goal
 
 abbrev numbers : ℕ → ℕ → List ℕ
@@ -21,21 +21,12 @@ whole n column =
     ap (λ (l : List ℕ). ((codes "c" ++ numbers n column) ++ codes "\n") ++ l) (flat_map-append command_line (conjoining (terms_in_column n column)) (quantifying (ending n column)))
     ∙ sym (append_assoc ((codes "c" ++ numbers n column) ++ codes "\n") (joins n column) (lasts n column))
 
-first : (a b c d e : List ℕ) → (((a ++ b) ++ c) ++ d) ++ e ≡ a ++ (b ++ (c ++ (d ++ e)))
-first a b c d e = simp append_assoc
-
-second : (a b c d e : List ℕ) → (((a ++ b) ++ c) ++ d) ++ e ≡ (a ++ b) ++ (c ++ (d ++ e))
-second a b c d e = append_assoc ((a ++ b) ++ c) d e ∙ append_assoc (a ++ b) c (d ++ e)
-
-third : (a b c d e : List ℕ) → (((a ++ b) ++ c) ++ d) ++ e ≡ ((a ++ b) ++ c) ++ (d ++ e)
-third a b c d e = append_assoc ((a ++ b) ++ c) d e
-
 pub returns-in_err-emit-clause-emits : goal.returns-in_err-emit-clause-emits
 returns-in_err-emit-clause-emits g c =
     let n : ℕ = c.args.n in
     let k : ℕ = c.args.column in
     fails_within c.in_err-emit.ensures.emits refl c.from_residual.ensures.0 (flat_map command_line (column_commands n k)) (numbers n k ++ (codes "\n" ++ (joins n k ++ lasts n k))) c.emit.new.held.items
-    (whole n k ∙ first (codes "c") (numbers n k) (codes "\n") (joins n k) (lasts n k))
+    (whole n k ∙ from_second (codes "c") (numbers n k) (codes "\n") (joins n k) (lasts n k))
 
 pub returns-in_err-emit_clauses-clause-emits : goal.returns-in_err-emit_clauses-clause-emits
 returns-in_err-emit_clauses-clause-emits g c =
@@ -43,7 +34,7 @@ returns-in_err-emit_clauses-clause-emits g c =
     let k : ℕ = c.args.column in
     fails_within (in_turn c.in_ok-emit.ensures.emits refl c.in_err-emit_clauses.ensures.emits) refl c.from_residual-in_err-emit_clauses.ensures.0
     (flat_map command_line (column_commands n k)) (codes "\n" ++ (joins n k ++ lasts n k)) c.emit_clauses.new.held.items
-    (whole n k ∙ second (codes "c") (numbers n k) (codes "\n") (joins n k) (lasts n k))
+    (whole n k ∙ from_third (codes "c") (numbers n k) (codes "\n") (joins n k) (lasts n k))
 
 pub returns-in_err-emit-2-clause-emits : goal.returns-in_err-emit-2-clause-emits
 returns-in_err-emit-2-clause-emits g c =
@@ -51,7 +42,7 @@ returns-in_err-emit-2-clause-emits g c =
     let k : ℕ = c.args.column in
     fails_within (in_turn (in_turn c.in_ok-emit.ensures.emits refl c.in_ok-emit_clauses.ensures.emits) refl c.in_err-emit-2.ensures.emits) refl c.from_residual-in_err-emit-2.ensures.0
     (flat_map command_line (column_commands n k)) (joins n k ++ lasts n k) c.emit-2.new.held.items
-    (whole n k ∙ third (codes "c") (numbers n k) (codes "\n") (joins n k) (lasts n k))
+    (whole n k ∙ from_fourth (codes "c") (numbers n k) (codes "\n") (joins n k) (lasts n k))
 
 pub returns-in_err-emit_conjoining-clause-emits : goal.returns-in_err-emit_conjoining-clause-emits
 returns-in_err-emit_conjoining-clause-emits g c =

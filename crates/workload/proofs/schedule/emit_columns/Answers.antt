@@ -6,7 +6,7 @@ use Rattle.workload.specs.Schedule.{Command, column_commands}
 use Rattle.workload.specs.Texts.{command_line, schedule_text}
 use Rattle.workload.proofs.Steps.{flat_next}
 use Rattle.workload.proofs.Numbers.{cut}
-use Rattle.workload.proofs.Emitting.{in_turn, fails_within, same_text}
+use Rattle.host_io.proofs.Emitting.{in_turn, fails_within, same_text}
 use Rattle.workload.proofs.schedule.emit_columns.Goals as goal
 
 pub returns-in_err-emit_column-clause-emits : goal.returns-in_err-emit_column-clause-emits

@@ -3,7 +3,7 @@ use Rattle.std.specs.List.{flat_map}
 use Rattle.cnf_base.specs.Order.{natural}
 use Rattle.workload.specs.Schedule.{column_commands}
 use Rattle.workload.specs.Cursor.{StandsAt}
-use Rattle.workload.specs.Emitted.{Emits}
+use Rattle.host_io.specs.Emitted.{Emits}
 use Rattle.workload.specs.Texts.{command_line}
 use Rattle.workload.proofs.schedule.emit_columns.Given as goal
 

@@ -5,7 +5,7 @@ use Rattle.std.proofs.lemmas.Bool.{le-leb}
 use Rattle.std.proofs.lemmas.List.{append-nil}
 use Rattle.workload.specs.Schedule.{Conjoin, conjoining}
 use Rattle.workload.specs.Texts.{command_line}
-use Rattle.workload.proofs.Emitting.{in_turn, fails_within, same_text}
+use Rattle.host_io.proofs.Emitting.{in_turn, fails_within, same_text}
 use Rattle.workload.proofs.schedule.emit_conjoining.Goals as goal
 
 line : (terms : ℕ) → 2 ≤ terms → flat_map command_line (conjoining terms) ≡ (codes "a " ++ decimal terms) ++ codes "\n"

@@ -8,7 +8,7 @@ use Rattle.workload.specs.Board.{square}
 use Rattle.workload.specs.Schedule.{ending}
 use Rattle.workload.specs.Texts.{spaced}
 use Rattle.workload.proofs.Endings.{written, written_next, written_cut, ending_written}
-use Rattle.workload.proofs.Emitting.{in_turn, fails_within, same_text}
+use Rattle.host_io.proofs.Emitting.{in_turn, fails_within, same_text}
 use Rattle.workload.proofs.schedule.emit_ending.Goals as goal
 
 abbrev left_of : ℕ → ℕ → Domino

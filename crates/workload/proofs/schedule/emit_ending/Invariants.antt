@@ -3,7 +3,7 @@ use Rattle.std.specs.Prelude.{map}
 use Rattle.cnf_base.specs.Order.{natural}
 use Rattle.workload.specs.declared.square.Domino.TheVariants.{Across, Down}
 use Rattle.workload.specs.Board.{square}
-use Rattle.workload.specs.Emitted.{Emits}
+use Rattle.host_io.specs.Emitted.{Emits}
 use Rattle.workload.proofs.Endings.{written}
 use Rattle.workload.proofs.schedule.emit_ending.Given as goal
 

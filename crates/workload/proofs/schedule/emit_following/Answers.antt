@@ -5,7 +5,7 @@ use Rattle.std.proofs.lemmas.Grind.{flat_map-append}
 use Rattle.workload.specs.Schedule.{following}
 use Rattle.workload.specs.Texts.{spaced}
 use Rattle.workload.proofs.Steps.{following_next, following_split}
-use Rattle.workload.proofs.Emitting.{in_turn, fails_within, same_text}
+use Rattle.host_io.proofs.Emitting.{in_turn, fails_within, same_text}
 use Rattle.workload.proofs.schedule.emit_following.Goals as goal
 
 one_more : (start clause : ℕ) → start ≤ clause → flat_map spaced (following start (clause + 1 - start)) ≡ flat_map spaced (following start (clause - start)) ++ spaced (clause + 1)

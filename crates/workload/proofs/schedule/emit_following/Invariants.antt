@@ -2,7 +2,7 @@ use Rattle.std.proofs.Common.{◌≡◌, ◌-◌, Ok}
 use Rattle.std.specs.List.{flat_map}
 use Rattle.workload.specs.Schedule.{following}
 use Rattle.workload.specs.Texts.{spaced}
-use Rattle.workload.specs.Emitted.{Emits}
+use Rattle.host_io.specs.Emitted.{Emits}
 use Rattle.workload.proofs.schedule.emit_following.Given as goal
 
 abbrev pub invariant-loop-clause : goal.invariant-loop-clause

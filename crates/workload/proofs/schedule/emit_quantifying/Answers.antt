@@ -4,7 +4,7 @@ use Rattle.std.specs.List.{flat_map}
 use Rattle.workload.specs.Schedule.{ending, quantifying}
 use Rattle.workload.specs.Texts.{spaced, command_line}
 use Rattle.workload.proofs.Endings.{some_end, quantify_line, no_end}
-use Rattle.workload.proofs.Emitting.{in_turn, fails_within, same_text, nothing}
+use Rattle.host_io.proofs.Emitting.{in_turn, fails_within, same_text, nothing}
 use Rattle.workload.proofs.schedule.emit_quantifying.Goals as goal
 
 pub returns-then-n-lt3-clause-emits : goal.returns-then-n-lt3-clause-emits

@@ -1,7 +1,7 @@
 use Rattle.std.proofs.Common.{refl}
 use Rattle.std.specs.Prelude.{codes}
 use Rattle.workload.specs.Texts.{clause_line}
-use Rattle.workload.proofs.Emitting.{in_turn, fails_within}
+use Rattle.host_io.proofs.Emitting.{in_turn, fails_within}
 use Rattle.workload.proofs.texts.emit_clause.Goals as goal
 
 pub returns-in_err-emit_literals-clause-emits : goal.returns-in_err-emit_literals-clause-emits

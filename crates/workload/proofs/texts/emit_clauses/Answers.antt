@@ -2,7 +2,7 @@ use Rattle.std.proofs.Common.{◌≡◌, ◌+◌, ◌-◌, ℕ, ℤ, List, [], g
 use Rattle.std.specs.List.{flat_map}
 use Rattle.std.proofs.lemmas.List.{take_all}
 use Rattle.workload.specs.Texts.{clause_line}
-use Rattle.workload.proofs.Emitting.{one_more, fails_at, same_text}
+use Rattle.host_io.proofs.Emitting.{one_more, fails_at, same_text}
 use Rattle.workload.proofs.texts.emit_clauses.Goals as goal
 
 same : (clauses : List (List ℤ)) (place : ℕ) → get_or clauses (place + 1 - 1) [] ≡ get_or clauses place []

@@ -1,7 +1,7 @@
 use Rattle.std.proofs.Common.{◌≡◌, take, Ok}
 use Rattle.std.specs.List.{flat_map}
 use Rattle.workload.specs.Texts.{clause_line}
-use Rattle.workload.specs.Emitted.{Emits}
+use Rattle.host_io.specs.Emitted.{Emits}
 use Rattle.workload.proofs.texts.emit_clauses.Given as goal
 
 abbrev pub invariant-loop-place : goal.invariant-loop-place

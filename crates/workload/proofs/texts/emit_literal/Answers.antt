@@ -3,7 +3,7 @@ use Rattle.std.specs.Prelude.{codes}
 use Rattle.std.specs.Fmt.{signed_decimal}
 use Rattle.std.proofs.lemmas.Int.{to_z-of_z}
 use Rattle.workload.specs.Texts.{literal_text}
-use Rattle.workload.proofs.Emitting.{in_turn, fails_within, same_text}
+use Rattle.host_io.proofs.Emitting.{in_turn, fails_within, same_text}
 use Rattle.workload.proofs.texts.emit_literal.Goals as goal
 
 pub returns-in_err-emit_number-clause-emits : goal.returns-in_err-emit_number-clause-emits

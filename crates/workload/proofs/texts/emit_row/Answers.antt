@@ -1,9 +1,15 @@
-use Rattle.std.proofs.Common.{◌≡◌, ℕ, List, [], ◌∷◌, length, arith, ap, sym, ◌∙◌, refl}
+use Rattle.std.proofs.Common.{◌≡◌, ℕ, List, [], ◌∷◌, ◌++◌, length, arith, ap, sym, ◌∙◌, refl}
 use Rattle.std.specs.Prelude.{map, decimal}
 use Rattle.std.specs.List.{flat_map, join_with_byte}
+use Rattle.std.proofs.lemmas.List.{append-nil}
 use Rattle.workload.specs.Texts.{spaced}
-use Rattle.workload.proofs.Emitting.{in_turn, fails_within, same_text, nothing, spaced_row}
+use Rattle.host_io.proofs.Emitting.{in_turn, fails_within, same_text, nothing}
 use Rattle.workload.proofs.texts.emit_row.Goals as goal
+
+-- numbers in a row with a space between two are the first, and each further one behind a space
+spaced_row : (number : ℕ) (numbers : List ℕ) → join_with_byte 32 (map decimal (number ∷ numbers)) ≡ decimal number ++ flat_map spaced numbers
+spaced_row number [] = sym (append-nil (decimal number))
+spaced_row number (next ∷ numbers) = ap (λ (l : List ℕ). decimal number ++ (32 ∷ l)) (spaced_row next numbers)
 
 none : (order : List ℕ) → length order ≡ 0 → order ≡ []
 none [] is = refl

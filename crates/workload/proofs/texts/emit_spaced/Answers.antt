@@ -2,7 +2,7 @@ use Rattle.std.proofs.Common.{◌∙◌, ap, refl}
 use Rattle.std.specs.List.{flat_map}
 use Rattle.std.proofs.lemmas.List.{take_all}
 use Rattle.workload.specs.Texts.{spaced}
-use Rattle.workload.proofs.Emitting.{one_more, fails_at, same_text}
+use Rattle.host_io.proofs.Emitting.{one_more, fails_at, same_text}
 use Rattle.workload.proofs.texts.emit_spaced.Goals as goal
 
 pub returns-in_err-emit_number-clause-emits : goal.returns-in_err-emit_number-clause-emits

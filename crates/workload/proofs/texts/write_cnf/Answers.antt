@@ -1,7 +1,7 @@
 use Rattle.std.proofs.Common.{List, ℕ, Ok, Err, refl, subst}
-use Rattle.workload.specs.Emitted.{Emits}
+use Rattle.host_io.specs.Emitted.{Emits}
 use Rattle.workload.specs.Texts.{cnf_text}
-use Rattle.workload.proofs.Emitting.{written_out, cut_before}
+use Rattle.host_io.proofs.Emitting.{written_out, cut_before}
 use Rattle.workload.proofs.texts.write_cnf.Goals as goal
 
 pub returns-in_err-emit_cnf-clause-writes : goal.returns-in_err-emit_cnf-clause-writes

@@ -4,7 +4,7 @@ use Rattle.cnf_base.specs.ProofText.{is_printable, line_of_step}
 use Rattle.lrat_rules.specs.State.{State}
 use Rattle.lrat_rules.specs.Addition.{fault}
 use Rattle.lrat_rules.specs.Derivation.{IsCutProof}
-use Rattle.lrat_write.specs.Emitted.{bare_groups}
+use Rattle.lrat_write.specs.LineText.{bare_groups}
 use Rattle.clause_ledger.specs.Book.{Book, IsProofOf}
 use Rattle.clause_ledger.proofs.Kept.{addition_kept, addition_cut, candidates_in_range, candidates_printable}
 use Rattle.clause_ledger.proofs.ledger.Ledger.define.Goals as goal

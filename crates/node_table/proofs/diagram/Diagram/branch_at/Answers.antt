@@ -1,4 +1,4 @@
-use Rattle.std.proofs.Common.{ℕ, ◌+◌, length, Option, Some, sym, ◌∙◌, ap}
+use Rattle.std.proofs.Common.{Option, Some, sym, ◌∙◌, ap}
 use Rattle.std.specs.Option.{option_map}
 use Rattle.node_table.specs.declared.stored.StoredNode.{StoredNode}
 use Rattle.node_table.specs.Diagram.{Graph, branch_at}
@@ -14,8 +14,7 @@ returns-in-None-clause-branch c =
 
 pub returns-in-Some-clause-branch : goal.returns-in-Some-clause-branch
 returns-in-Some-clause-branch c =
-    let variable = length c.self.inside.order.items + 1 + c.args.key in
-    ap Some c.branch-node.ensures ∙ ap (λ (n : ℕ). Some (branch_in (n + 1 + c.args.key) c.in-Some.node.now)) (ap length c.as_slice.ensures.value)
-    ∙ ap (λ (slot : Option StoredNode). option_map (branch_in variable) slot) c.in-Some.ensures
+    ap Some c.branch-node.ensures
+    ∙ ap (λ (slot : Option StoredNode). option_map branch_in slot) c.in-Some.ensures
     ∙ sym (branch_at-graph_of c.self.inside.order.items c.self.inside.nodes.slots c.args.key)
     ∙ ap (λ (g : Graph). branch_at g c.args.key) c.self.view_is

@@ -8,7 +8,7 @@ use Rattle.node_table.proofs.diagram.Diagram.chosen.Goals as goal
 
 pub returns-then-is_true : goal.returns-then-is_true
 returns-then-is_true c =
-    let reduced : IsReduced c.args.self.now = subst IsReduced c.self.view_is c.self.invariant.reduced in
+    let reduced : IsReduced c.args.self.now = subst IsReduced c.self.view_is c.self.invariant.0.reduced in
     let order : c.as_slice.result.now ≡ c.args.self.now.order = c.as_slice.ensures.value ∙ ap (λ (g : Graph). g.order) c.self.view_is in
     let chosen : by_level c.args.self.now.order (assignment_of c.args.values.now) c.in_ok-branch.branch.level ≡ true =
     ap (λ (o : List ℕ). assignment_of c.args.values.now (slice_index_or o c.in_ok-branch.branch.level 0)) (sym order) ∙ sym c.is_true.ensures ∙ c.if-is_true.true in
@@ -16,7 +16,7 @@ returns-then-is_true c =
 
 pub returns-else-is_true : goal.returns-else-is_true
 returns-else-is_true c =
-    let reduced : IsReduced c.args.self.now = subst IsReduced c.self.view_is c.self.invariant.reduced in
+    let reduced : IsReduced c.args.self.now = subst IsReduced c.self.view_is c.self.invariant.0.reduced in
     let order : c.as_slice.result.now ≡ c.args.self.now.order = c.as_slice.ensures.value ∙ ap (λ (g : Graph). g.order) c.self.view_is in
     let chosen : by_level c.args.self.now.order (assignment_of c.args.values.now) c.in_ok-branch.branch.level ≡ false =
     ap (λ (o : List ℕ). assignment_of c.args.values.now (slice_index_or o c.in_ok-branch.branch.level 0)) (sym order) ∙ sym c.is_true.ensures ∙ c.if-is_true.false in

@@ -1,8 +1,8 @@
-use Rattle.std.proofs.Common.{length, sym, ◌∙◌, ap}
+use Rattle.std.proofs.Common.{sym, ◌∙◌, ap}
 use Rattle.std.specs.FinMap as map
 use Rattle.node_table.specs.Diagram.{Graph}
 use Rattle.node_table.proofs.Keyed.{len-keyed}
 use Rattle.node_table.proofs.diagram.Diagram.len.Goals as goal
 
 pub returns : goal.returns
-returns c = c.len.ensures ∙ sym (len-keyed (length c.self.inside.order.items) 0 c.self.inside.nodes.slots) ∙ ap (λ (g : Graph). map.len g.nodes) c.self.view_is
+returns c = c.len.ensures ∙ sym (len-keyed 0 c.self.inside.nodes.slots) ∙ ap (λ (g : Graph). map.len g.nodes) c.self.view_is

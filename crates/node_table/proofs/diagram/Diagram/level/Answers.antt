@@ -10,7 +10,7 @@ use Rattle.node_table.proofs.diagram.Diagram.level.Goals as goal
 pub returns-then-variable-eq0 : goal.returns-then-variable-eq0
 returns-then-variable-eq0 c level small is =
     let within : level < length c.self.inside.order.items → (0 < slice_index_or c.self.inside.order.items level 0) × (slice_index_or c.self.inside.order.items level 0 ≤ length c.self.inside.order.items) =
-    c.self.invariant.ordered.within level in
+    c.self.invariant.0.ordered.within level in
     let levels_are : levels (graph_of c.self.inside.order.items c.self.inside.nodes.slots) ≡ levels c.args.self.now = ap levels c.self.view_is in
     let at : variable_at (graph_of c.self.inside.order.items c.self.inside.nodes.slots) level ≡ variable_at c.args.self.now level = ap (λ (g : Graph). variable_at g level) c.self.view_is in
     omega (arith, (within (omega (arith, small, levels_are))).0, at, is, c.if-variable-eq0.true)
@@ -36,7 +36,7 @@ returns c =
     let is : c.copied.result ≡ slice_get c.self.inside.places.items (c.args.variable - 1) =
     c.copied.ensures ∙ looked_up c.as_slice-places.result.now (c.args.variable - 1) c.get.result c.get.ensures.lookup.0 c.get.ensures.lookup.1
     ∙ ap (λ (xs : List ℕ). slice_get xs (c.args.variable - 1)) c.as_slice-places.ensures.value in
-    let stored = c.self.invariant in
+    let stored = c.self.invariant.0 in
     subst (λ (g : Graph). MatchOption c.copied.result ((level : ℕ) → level < levels g → variable_at g level ≢ c.args.variable) (λ level. (level < levels g) × (variable_at g level ≡ c.args.variable)))
     c.self.view_is
     (found c.self.inside.order.items c.self.inside.places.items stored.ordered stored.inverse.one_each stored.inverse.placed c.args.variable (omega (arith, c.if-variable-eq0.false)) c.copied.result is)

@@ -32,6 +32,7 @@ invariant_of-self-in-Ok g c =
           subst (λ (s : State). HavePlaces inside.diagram s.live inside.inputs (inside.places + 1) (vec_capacity c.reserve_place.new.retired)) (sym c.in-Ok.ensures.added.1)
           (HavePlaces-next inside.diagram inside.ledger.state c.args.clause.now inside.inputs inside.places (vec_capacity inside.retired) (vec_capacity c.reserve_place.new.retired)
           c.reserve_place.ensures.no_less c.in_ok-reserve_place.ensures.room (c.self.invariant.2 is.in_step)),
+      c.self.invariant.3,
     )
 
 pub returns-in-Ok-clause-own : goal.returns-in-Ok-clause-own

@@ -13,10 +13,11 @@ use Rattle.node_table.specs.Table.{TableState, IsSound, AddsNone, HasChildren, I
 use Rattle.node_table.specs.Errors.{table_error}
 use Rattle.node_table.specs.HandedOn.{handed_on}
 use Rattle.node_table.specs.Tied.{IsTied}
+use Rattle.node_table.specs.Places.{AreNumberedAbove}
 use Rattle.node_table.specs.Progress.{Steps}
 use Rattle.node_table.proofs.CallSteps.{Aside, Wrote, Tore, table_of}
 use Rattle.node_table.proofs.Making.{Making, asked_at, joined_as, enough, told_torn, making_on, making_torn, making_only, making_made, making_cut, making_before}
-use Rattle.node_table.proofs.Places.{HavePlaces-same}
+use Rattle.node_table.proofs.Places.{HavePlaces-same, AreNumberedAbove-new}
 use Rattle.node_table.proofs.Fresh.{new_variable, live_more}
 use Rattle.node_table.proofs.table.Table.make.Given.{Over}
 use Rattle.node_table.proofs.table.Table.make.Goals as goal
@@ -54,6 +55,9 @@ making g c =
       sound = subst {A = TableState g.row.S.Denot} (λ t. IsSound t) (sym c.self.view_is) c.requires.sound;
       asked = asked_at c.in_ok-key.variable c.self.view_is c.requires.sound.tied c.requires.level c.requires.high c.requires.low c.requires.wanted
           c.in_ok-key.ensures.range.0 c.in_ok-key.ensures.own;
+      least = λ other above less.
+          let is = c.in_ok-key.ensures.least other above less in
+          record { key = is.0; branch = is.1; stands = is.2; own = is.3 };
       joined = joined_as state first c.in_ok-key.ensures.ok;
       room = enough c.args.high c.args.low state.top c.self.inside.ledger.limit (omega (arith, c.if-ids_left-definition_count.false, c.definition_count.ensures, c.ids_left.ensures));
       few = omega (arith, c.if-len-self.false, c.len.ensures);
@@ -67,11 +71,21 @@ making g c =
       };
     }
 
+-- the new node's clauses come under the next numbers
+numbered : (g : Over) (c : After-write_definitions g) → AreNumberedAbove c.self.inside.inputs c.push.new.self
+numbered g c =
+    let inside = c.self.inside in
+    let live : c.reserve.new.self.state ≡ inside.ledger.state = ap (λ (b : Book g.row.S.Denot). b.state) c.reserve.ensures.unchanged in
+    let few = (making g c).sound.inputs in
+    AreNumberedAbove-new inside.inputs inside.diagram c.push.new.self c.in_ok-key.key.index _ c.in_ok-key.ensures.ok
+    (omega (arith, few, c.last_id-first.ensures.value, ap (λ (s : State). s.top) live)) c.self.invariant.3
+
 pub invariant_of-self-in_err-write_definitions : goal.invariant_of-self-in_err-write_definitions
 invariant_of-self-in_err-write_definitions g c = (
   c.self.invariant.0,
   omega (arith, live_more c.self.inside.diagram c.push.new.self c.in_ok-key.key.index c.in_ok-key.ensures.ok, c.if-len-self.false, c.len.ensures),
   λ in_step. absurd (let out : c.write_definitions.new.ledger.in_step ≡ false = c.in_err-write_definitions.ensures.out_of_step refl in cc),
+  numbered g (goal.at.invariant_of-self-in_err-write_definitions g c).After-write_definitions,
 )
 
 pub invariant_of-self-2 : goal.invariant_of-self-2
@@ -85,6 +99,7 @@ invariant_of-self-2 g c =
           HavePlaces-same inside.diagram c.push.new.self inside.ledger.state.live c.write_definitions.new.ledger.state.live inside.inputs inside.places (vec_capacity inside.retired)
           (making_before g.S.Sink.tells g.S.Sink.channel made c.write_definitions.new.ledger c.in_ok-write_definitions.ensures.written inside.inputs)
           (c.self.invariant.2 made.sound.in_step),
+      numbered g after,
     )
 
 pub returns-clause-steps : goal.returns-clause-steps

@@ -3,7 +3,7 @@ use Rattle.std.specs.Prelude.{vec_capacity}
 use Rattle.std.specs.FinMap as map
 use Rattle.lrat_rules.specs.State.{clause_at}
 use Rattle.node_table.specs.declared.node.Branch.{Branch}
-use Rattle.node_table.proofs.Places.{HavePlaces-none}
+use Rattle.node_table.proofs.Places.{HavePlaces-none, AreNumberedAbove-none}
 use Rattle.node_table.proofs.table.Table.new.Goals as goal
 
 some_clause : (o : Option (List ℤ)) → is_some o ≡ true → (clause : List ℤ) × (o ≡ Some clause)
@@ -19,4 +19,5 @@ invariant_of-result g c = (
       let clause = some_clause (clause_at c.args.ledger.state.live id) own.stands in
       let range = c.last_id-inputs.ensures.numbers id clause.0 clause.1 in
       omega (arith, range.1, own.above, c.last_id-inputs.ensures.value)),
+  AreNumberedAbove-none c.last_id-inputs.result c.args.diagram c.requires.empty,
 )

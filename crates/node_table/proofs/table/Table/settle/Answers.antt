@@ -70,6 +70,7 @@ invariant_of-self g c =
           ∙ sym (ap (λ (t : TableState g.row.S.Denot). clause_at t.book.state.live id) c.self.view_is)) in
           subst (λ (n : ℕ). HavePlaces inside.diagram c.delete.new.self.state.live inside.inputs n (vec_capacity c.clear.new.self)) (ap (λ (n : ℕ). inside.places - n) (sym (c.len.ensures ∙ inside.retired.ok.0)))
           (subst (λ (n : ℕ). HavePlaces inside.diagram c.delete.new.self.state.live inside.inputs (inside.places - length inside.retired.items) n) (sym c.clear.ensures.capacity) settled),
+      c.self.invariant.3,
     )
 
 pub returns-in-Ok-clause-gone : goal.returns-in-Ok-clause-gone

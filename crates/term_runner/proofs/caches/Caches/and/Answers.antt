@@ -1,11 +1,11 @@
-use Rattle.std.specs.Prelude.{min}
+use Rattle.std.specs.Prelude.{◌++◌, min}
 use Rattle.node_table.specs.Diagram.{levels, level_of}
 use Rattle.operations.specs.Budget.{most_additions}
 use Rattle.operations.specs.Operands.{levels_from}
 use Rattle.apply_and.specs.Cache.{entries as conjunctions}
 use Rattle.imply.specs.Cache.{entries as implications}
 use Rattle.quantify.specs.ExistsCache.{both_caches}
-use Rattle.term_runner.proofs.AllCaches.{and_keeps, caches_parts, conjunctions_fit}
+use Rattle.term_runner.proofs.AllCaches.{accounts_beside, and_keeps, caches_parts, conjunctions_fit}
 use Rattle.term_runner.proofs.Leaving.{within_most}
 use Rattle.term_runner.proofs.caches.Caches.and.Goals as goal
 
@@ -25,3 +25,8 @@ pub and-requires-clause-fits : goal.and-requires-clause-fits
 and-requires-clause-fits g c =
     let caches = c.args.self.now in
     conjunctions_fit c.entry_law.ensures c.args.table.now (conjunctions caches.ands) (implications caches.implications) (both_caches caches.quantifications caches.ors) c.requires.fits
+
+pub returns-clause-accounts : goal.returns-clause-accounts
+returns-clause-accounts g c whole =
+    let caches = c.args.self.now in
+    accounts_beside c.args.table.now c.and.new.table (conjunctions caches.ands) (conjunctions c.and.new.cache) (implications caches.implications ++ both_caches caches.quantifications caches.ors) (c.and.ensures.accounts whole)

@@ -5,7 +5,7 @@ use Rattle.operations.specs.Operands.{levels_from}
 use Rattle.apply_and.specs.Cache.{entries as conjunctions}
 use Rattle.imply.specs.Cache.{entries as implications}
 use Rattle.quantify.specs.ExistsCache.{both_caches}
-use Rattle.term_runner.proofs.AllCaches.{caches_parts, implication_keeps, implications_fit}
+use Rattle.term_runner.proofs.AllCaches.{caches_parts, implication_accounts, implication_keeps, implications_fit}
 use Rattle.term_runner.proofs.Leaving.{within_most}
 use Rattle.term_runner.proofs.caches.Caches.implies.Goals as goal
 
@@ -25,3 +25,9 @@ pub implies-requires-clause-fits : goal.implies-requires-clause-fits
 implies-requires-clause-fits g c =
     let caches = c.args.self.now in
     implications_fit c.entry_law.ensures c.args.table.now (conjunctions caches.ands) (implications caches.implications) (both_caches caches.quantifications caches.ors) c.requires.fits
+
+pub returns-clause-accounts : goal.returns-clause-accounts
+returns-clause-accounts g c whole =
+    let caches = c.args.self.now in
+    implication_accounts c.args.table.now c.implies.new.table (conjunctions caches.ands) (implications caches.implications) (both_caches caches.quantifications caches.ors) (implications c.implies.new.cache)
+    (c.implies.ensures.accounts whole)

@@ -1,0 +1,80 @@
+"""Random formulas, and terms over a few variables as sets of assignments: what the scripts beside it compare answers with.
+
+A term is the set of the assignments that make it true, a number whose bit a stands for assignment a, where the first variable is the
+highest bit of a. So the lowest bit is the least assignment, the variables in their order and false before true.
+"""
+import functools
+import operator
+
+FIXED = [
+    (3, [[1, -2], [2, -3], [3]]),
+    (6, [[1, -2], [2, -3], [3, -4], [4, -5], [5, -6], [6]]),
+    (6, [[-1, 2], [-2, 3], [-3, 4], [-4, 5], [-5, 6], [1]]),
+    (5, [[1, 2, 3, 4, 5], [1, 2, 3, 4, -5]]),
+    (4, [[1, 2], [-1, -2], [2, 3], [-2, -3], [3, 4], [-3, -4]]),
+    (4, [[-1, -2, 3], [1, 2, 3], [1, -2, -3], [-1, 2, -3], [4, 1], [-4, 3], [4]]),
+    (3, [[1, -1], [2, 2, -3], [3, 3]]),
+    (3, [[3, -3], [2, -2, 1]]),
+    (2, [[1], [-1]]),
+    (2, [[1, 2], [], []]),
+    (10, [[10, -9], [9], [5, 5]]),
+    (10, []),
+    (0, [[]]),
+]
+
+
+def formula(draw):
+    variables = draw.randint(0, 10)
+    used = draw.sample(range(1, variables + 1), draw.choice([variables, variables, draw.randint(0, variables)]))
+    clauses = []
+    for _ in range(draw.randint(0, draw.choice([2, 4]) * variables + 2)):
+        length = draw.choice([0, 1, 2, 3, 3, 3, 4, 5]) if draw.random() < 0.03 else draw.choice([1, 2, 2, 3, 3, 3, 4])
+        clauses.append([draw.choice([-1, 1]) * draw.choice(used) for _ in range(length)] if used else [])
+    return variables, clauses if used else clauses[: draw.randint(0, 1)]
+
+
+class Tables:
+    """Terms over so many variables as sets of assignments."""
+
+    def __init__(self, variables):
+        self.variables, self.all = variables, (1 << (1 << variables)) - 1
+        self.true = [sum(1 << a for a in range(1 << variables) if a >> self.bit(x) & 1) for x in range(1, variables + 1)]
+
+    def bit(self, variable):
+        return self.variables - variable
+
+    def clause(self, literals):
+        return functools.reduce(operator.or_, (self.true[abs(x) - 1] ^ (0 if x > 0 else self.all) for x in literals), 0)
+
+    def exists(self, variable, term):
+        high, step = self.true[variable - 1], 1 << self.bit(variable)
+        return term | (term & high) >> step | (term & ~high) << step
+
+    def conjoin(self, clauses):
+        """The last term of the plan, None where there is none, and the trail."""
+        return functools.reduce(operator.and_, map(self.clause, clauses)) if clauses else None, []
+
+    def bucket(self, clauses):
+        buckets, trail = [[] for _ in range(self.variables + 2)], []
+        rest = self.variables + 1
+        for clause in clauses:
+            held = {abs(x) for x in clause}
+            buckets[min(held, default=rest)].append((self.clause(clause), held))
+        for variable in range(1, rest):
+            if buckets[variable]:
+                terms, holds = zip(*buckets[variable])
+                term, held = functools.reduce(operator.and_, terms), set().union(*holds) - {variable}
+                trail.append((variable, term))
+                buckets[min(held, default=rest)].append((self.exists(variable, term), held))
+        return functools.reduce(operator.and_, (term for term, _ in buckets[rest])) if buckets[rest] else None, trail
+
+    def recovered(self, last, trail):
+        """The least assignment of the last term, then the values along the trail as it is given."""
+        found = (last & -last).bit_length() - 1 if last else 0
+        for variable, term in trail:
+            value = 1 << self.bit(variable)
+            found = found & ~value if term >> (found & ~value) & 1 else found | value
+        return found
+
+    def values(self, assignment):
+        return [x if assignment >> self.bit(x) & 1 else -x for x in range(1, self.variables + 1)]

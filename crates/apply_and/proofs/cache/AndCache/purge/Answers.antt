@@ -1,0 +1,31 @@
+-- Turn by turn, by the laws of a bounded cache that is purged.
+use Rattle.std.proofs.Common.{◌<◌, ◌∙◌, length, arith}
+use Rattle.apply_and.specs.Cache.{entry_of}
+use Rattle.apply_and.proofs.Cached.{tells_pairs}
+use Rattle.apply_and.proofs.cache.AndCache.purge.Goals as goal
+
+pub turns-init : goal.turns-init
+turns-init g c = record {
+  few = omega arith;
+  cache = c.cache_turn_law.ensures.begins entry_of c.args.marks.now c.args.self.now.results;
+  table = c.table_turn_law.ensures.begins entry_of c.args.marks.now c.args.table.now c.args.self.now.results c.requires.sound;
+  beside = λ i. g.S.Sink.beside c.args.table.now.book.sink;
+}
+
+pub turn-requires-clause-may : goal.turn-requires-clause-may
+turn-requires-clause-may g c last is =
+    let within : c.turns.counter < length c.args.self.now.results.entries = omega (arith, c.turns-test.true, c.len-end.ensures.number) in
+    c.table_turn_law.ensures.may entry_of c.args.marks.now c.args.table.now c.turns.table c.args.self.now.results c.turns.self.results c.turns.counter last
+    tells_pairs c.len-end.ensures.bounded within c.requires.fits c.turns.invariant.cache c.turns.invariant.table is
+
+pub turns-preserved : goal.turns-preserved
+turns-preserved g c =
+    let within : c.turns.counter < length c.args.self.now.results.entries = omega (arith, c.turns-test.true, c.len-end.ensures.number) in
+    record {
+      few = omega (arith, within);
+      cache = c.cache_turn_law.ensures.turn entry_of c.args.marks.now c.args.self.now.results c.turns.self.results c.turn.new.self.results c.turns.counter
+          c.len-end.ensures.bounded within c.turns.invariant.cache c.turn.ensures.cache;
+      table = c.table_turn_law.ensures.turn entry_of c.args.marks.now c.args.table.now c.turns.table c.turn.new.table c.args.self.now.results c.turns.self.results c.turns.counter
+          tells_pairs c.len-end.ensures.bounded within c.requires.fits c.turns.invariant.cache c.turns.invariant.table c.turn.ensures.table;
+      beside = c.turn.ensures.beside ∙ c.turns.invariant.beside;
+    }

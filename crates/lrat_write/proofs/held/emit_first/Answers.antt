@@ -1,5 +1,0 @@
-use Rattle.lrat_write.proofs.Emitting.{alone}
-use Rattle.lrat_write.proofs.held.emit_first.Goals as goal
-
-pub returns-in-Err-clause-emits : goal.returns-in-Err-clause-emits
-returns-in-Err-clause-emits g c = rw (c.in-Err.ensures.err, c.requires) (alone c.write_all.ensures.writes)

@@ -1,9 +1,0 @@
-use Rattle.std.proofs.Common.{◌≡◌, take, Ok}
-use Rattle.std.specs.List.{flat_map}
-use Rattle.lrat_write.specs.Emitted.{Emits, led_id}
-use Rattle.lrat_write.proofs.held.emit_ids.Given as goal
-
-abbrev pub invariant-loop-id : goal.invariant-loop-id
-invariant-loop-id g l =
-    Emits g.S.Sink.tells (g.S.Sink.channel l.fn.sink) (g.S.Sink.channel l.sink) l.fn.held.items l.held.items (flat_map (led_id l.lead) (take l.id-index l.ids)) (Ok tt)
-    × (g.S.Sink.beside l.sink ≡ g.S.Sink.beside l.fn.sink)

@@ -1,9 +1,0 @@
-use Rattle.std.proofs.Common.{◌≡◌, take, Ok}
-use Rattle.std.specs.List.{flat_map}
-use Rattle.lrat_write.specs.Emitted.{Emits, spaced_literal}
-use Rattle.lrat_write.proofs.held.emit_literals.Given as goal
-
-abbrev pub invariant-loop-literal : goal.invariant-loop-literal
-invariant-loop-literal g l =
-    Emits g.S.Sink.tells (g.S.Sink.channel l.fn.sink) (g.S.Sink.channel l.sink) l.fn.held.items l.held.items (flat_map spaced_literal (take l.literal-index l.literals)) (Ok tt)
-    × (g.S.Sink.beside l.sink ≡ g.S.Sink.beside l.fn.sink)

@@ -1,0 +1,31 @@
+-- The text of a line by its parts.
+use Rattle.std.specs.Prelude.{ℕ, ℤ, List, [], ◌∷◌, ◌++◌, map, decimal}
+use Rattle.std.specs.Fmt.{signed_decimal}
+use Rattle.std.specs.List.{flat_map}
+use Rattle.cnf_base.specs.declared.list.Group.{Group}
+
+-- literals, each behind a space
+abbrev pub spaced_literal : ℤ → List ℕ
+spaced_literal literal = 32 ∷ signed_decimal literal
+
+abbrev pub literals_text : List ℤ → List ℕ
+literals_text literals = flat_map spaced_literal literals
+
+-- clause numbers, each behind the same lead
+abbrev pub led_id : List ℕ → ℕ → List ℕ
+led_id lead id = lead ++ decimal id
+
+abbrev pub ids_text : List ℕ → List ℕ → List ℕ
+ids_text lead ids = flat_map (led_id lead) ids
+
+-- the parts of a line: its number, its clause, a zero, its hints or candidates, a zero and the line end
+abbrev pub line_text : ℕ → List ℤ → List ℕ → List ℕ → List ℕ
+line_text id clause lead ids = decimal id ++ literals_text clause ++ 32 ∷ 48 ∷ [] ++ ids_text lead ids ++ 32 ∷ 48 ∷ 10 ∷ []
+
+-- the parts of the line of a deletion: its number, the word `d`, the numbers, a zero and the line end
+abbrev pub deletion_text : ℕ → List ℕ → List ℕ
+deletion_text id ids = decimal id ++ 32 ∷ 100 ∷ [] ++ ids_text (32 ∷ []) ids ++ 32 ∷ 48 ∷ 10 ∷ []
+
+-- the groups of candidates that want no hints
+abbrev pub bare_groups : List ℕ → List Group
+bare_groups candidates = map (λ candidate. record { id = candidate; hints = [] }) candidates

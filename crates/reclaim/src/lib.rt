@@ -1,0 +1,9 @@
+//! Reclamation: nodes that no root reaches are given back with their clauses, and the caches forget what named them. It
+//! stands on `node_table` for marks and sweeping, and on `operations` for the entries of caches.
+#![tactic(auto)]
+
+mod purge;
+mod reclamation;
+
+pub use purge::Purge;
+pub use reclamation::reclaim;

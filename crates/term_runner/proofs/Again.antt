@@ -1,0 +1,31 @@
+-- A move that ended at the limit of nodes may be tried again: its stack and trail are those of the same stage.
+use Rattle.std.proofs.Common.{◌≡◌, ℕ, List, reverse, Result, Ok, Err, refl, sym, subst}
+use Rattle.std.specs.Prelude.{IsErr}
+use Rattle.cnf_base.specs.Formula.{Formula}
+use Rattle.lrat_rules.specs.State.{Live}
+use Rattle.node_table.specs.declared.error.TableError.{TableError}
+use Rattle.node_table.specs.declared.error.TableError.TheVariants.{NodeLimit}
+use Rattle.node_table.specs.declared.node.Node.{Node}
+use Rattle.node_table.specs.Diagram.{Graph, IsReduced, KeepsNodes}
+use Rattle.node_table.specs.HandedOn.{no_error}
+use Rattle.node_table.specs.Laws.{Growth}
+use Rattle.node_table.specs.Tied.{KeepsClauses}
+use Rattle.schedule_plan.specs.Plan.{Stage}
+use Rattle.term_runner.specs.declared.held.Held.{Held}
+use Rattle.term_runner.specs.Held.{AreHeld, AreKept, IsAt}
+use Rattle.term_runner.proofs.Stacks.{held_kept}
+use Rattle.term_runner.proofs.Trails.{kept_grown}
+
+pub failed_limit : {T : Type 0} (result : Result T TableError) → result ≡ Err NodeLimit → IsErr result
+failed_limit (Ok x) is = absurd (no_error is)
+failed_limit {T} (Err e) is = failed
+  where
+    failed : IsErr {T = T} (Err e)
+    failed = refl
+
+pub at_still : Growth → (formula : Formula) (old new : Graph) → IsReduced old → KeepsNodes old new → (live more : Live) → KeepsClauses live more → (stage : Stage) (before after : List Held)
+    (trail kept : List (ℕ × Node)) → after ≡ before → kept ≡ trail → IsAt formula old live before trail stage → IsAt formula new more after kept stage
+at_still growth formula old new reduced keeps live more clauses stage before after trail kept same same_trail at = record {
+  held = subst (λ (stack : List Held). AreHeld formula new more (reverse stack) stage.stack) (sym same) (held_kept growth old new reduced keeps live more clauses formula (reverse before) stage.stack at.held);
+  kept = subst (λ (nodes : List (ℕ × Node)). AreKept formula new (reverse nodes) stage.trail) (sym same_trail) (kept_grown growth formula old new reduced keeps (reverse trail) stage.trail at.kept);
+}

@@ -1,0 +1,262 @@
+-- A reclamation between moves: the nodes of the stacked terms and of the trail, which are its roots, stay with their
+-- functions, and so do the terms' units.
+use Rattle.std.proofs.Common.{◌≡◌, ◌∙◌, ◌≤◌, ◌-◌, ◌||◌, ℕ, zero, suc, ℤ, pos, nat_abs, Bool, true, false, List, [], ◌∷◌, map, reverse, length, Option, None, Some, Contains, is_some, int_eq, refl, sym, ap, subst, arith, inl, inr, leb-true}
+use Rattle.std.specs.Prelude.{nat_lt, nat_le, slice_index_or}
+use Rattle.std.specs.List.{list_all, list_any}
+use Rattle.std.proofs.lemmas.Bool.{and_parts, cases_lt, false_from_ne_true, or_cases}
+use Rattle.std.proofs.lemmas.Bool.Decides.{Decides-int_eq}
+use Rattle.std.proofs.lemmas.List.{reverse-reverse}
+use Rattle.std.proofs.lemmas.List.Elements.{Contains-append_cases, Contains-append_left, Contains-append_right}
+use Rattle.cnf_base.specs.Truth.{AreClausesOf, Assignment, is_literal_of}
+use Rattle.cnf_base.specs.Formula.{Formula}
+use Rattle.lrat_rules.specs.State.{Live, clause_at}
+use Rattle.hint_chain.specs.declared.atom.Atom.{Atom}
+use Rattle.hint_chain.specs.Atoms.{clause_of}
+use Rattle.node_table.specs.declared.node.Node.{Node}
+use Rattle.node_table.specs.declared.node.Node.TheVariants.{False, True, Inner}
+use Rattle.node_table.specs.declared.node.Branch.{Branch}
+use Rattle.node_table.specs.declared.node.Just.{Just}
+use Rattle.node_table.specs.declared.node.Just.TheVariants.{Trivial, Clause}
+use Rattle.node_table.specs.Defined.{atom_in, atom_of, defs_of, is_defined_by}
+use Rattle.node_table.specs.Diagram.{Graph, KeepsNodes, branch_at, is_node, levels}
+use Rattle.node_table.specs.Just.{IsJustified}
+use Rattle.node_table.specs.Laws.{Growth, Reachability}
+use Rattle.node_table.specs.Made.{inner}
+use Rattle.node_table.specs.Table.{TableState, IsAddedTo, IsSound}
+use Rattle.node_table.specs.Value.{by_level, value_of}
+use Rattle.operations.specs.Entries.{Entry}
+use Rattle.reclaim.specs.Reclaimed.{IsOverReached, MayReclaim, Reclaims}
+use Rattle.schedule_plan.specs.Plan.{Stage, Term}
+use Rattle.term_runner.specs.declared.held.Held.{Held}
+use Rattle.term_runner.specs.Held.{AreHeld, AreKept, HasUnits, IsAt, IsHeld, IsReady, IsUnitOf}
+use Rattle.term_runner.specs.Tidy.{LeavesReached, held_nodes}
+use Rattle.term_runner.proofs.Inputs.{input_literals, input_live}
+use Rattle.term_runner.proofs.OwnUnits.{later}
+use Rattle.term_runner.proofs.Trails.{in_reverse}
+
+-- what is in a list that is mapped, and in one that is reversed
+module _ {A B : Type 0} (f : A → B) where
+  in_map : (xs : List A) (x : A) → Contains xs x → Contains (map f xs) (f x)
+  in_map [] x there = absurd (omega (arith, there.1))
+  in_map (y ∷ xs) x (zero, small, at) = (zero, omega arith, ap f at)
+  in_map (y ∷ xs) x (suc k, small, at) = later (f y) (map f xs) (f x) (in_map xs x (k, omega (arith, small), at))
+
+  of_map : (xs : List A) (y : B) → Contains (map f xs) y → (x : A) × Contains xs x × (f x ≡ y)
+  of_map [] y there = absurd (omega (arith, there.1))
+  of_map (x ∷ xs) y (zero, small, at) = (x, (zero, omega arith, refl), at)
+  of_map (x ∷ xs) y (suc k, small, at) = let was = of_map xs y (k, omega (arith, small), at) in (was.0, later x xs was.0 was.1, was.2)
+
+from_reverse : {X : Type 0} (xs : List X) (x : X) → Contains (reverse xs) x → Contains xs x
+from_reverse {X} xs x there = subst (λ (list : List X). Contains list x) (reverse-reverse xs) (in_reverse (reverse xs) x there)
+
+-- the roots are the nodes of the stacked terms and of the trail
+module _ (stack : List Held) (trail : List (ℕ × Node)) where
+  held_root : (held : Held) → Contains (reverse stack) held → Contains (held_nodes stack trail) held.node
+  held_root held there =
+      Contains-append_left (map (λ (h : Held). h.node) stack) (map (λ (k : ℕ × Node). k.1) trail) held.node (in_map (λ (h : Held). h.node) stack held (from_reverse stack held there))
+
+  kept_root : (kept : ℕ × Node) → Contains (reverse trail) kept → Contains (held_nodes stack trail) kept.1
+  kept_root kept there =
+      Contains-append_right (map (λ (h : Held). h.node) stack) (map (λ (k : ℕ × Node). k.1) trail) kept.1 (in_map (λ (k : ℕ × Node). k.1) trail kept (from_reverse trail kept there))
+
+module _ (formula : Formula) (graph : Graph) (live : Live) where
+  held_term : (stack : List Held) (terms : List Term) → AreHeld formula graph live stack terms → (held : Held) → Contains stack held → (term : Term) × IsHeld formula graph live held term
+  held_term [] terms are held there = absurd (omega (arith, there.1))
+  held_term (first ∷ stack) [] are held there = absurd are
+  held_term (first ∷ stack) (term ∷ terms) are held (zero, small, at) = (term, subst (λ (h : Held). IsHeld formula graph live h term) at are.0)
+  held_term (first ∷ stack) (term ∷ terms) are held (suc k, small, at) = held_term stack terms are.1 held (k, omega (arith, small), at)
+
+  kept_stands : (nodes : List (ℕ × Node)) (trail : List (ℕ × Term)) → AreKept formula graph nodes trail → (kept : ℕ × Node) → Contains nodes kept → is_node graph kept.1 ≡ true
+  kept_stands [] trail are kept there = absurd (omega (arith, there.1))
+  kept_stands (first ∷ nodes) [] are kept there = absurd are
+  kept_stands (first ∷ nodes) (quantified ∷ trail) are kept (zero, small, at) = subst (λ (k : ℕ × Node). is_node graph k.1 ≡ true) at are.0.stands
+  kept_stands (first ∷ nodes) (quantified ∷ trail) are kept (suc k, small, at) = kept_stands nodes trail are.1 kept (k, omega (arith, small), at)
+
+  pub roots_stand : (stack : List Held) (trail : List (ℕ × Node)) (stage : Stage) → IsAt formula graph live stack trail stage → (root : Node) → Contains (held_nodes stack trail) root → is_node graph root ≡ true
+  roots_stand stack trail stage at root there = elim (Contains-append_cases (map (λ (h : Held). h.node) stack) (map (λ (k : ℕ × Node). k.1) trail) root there) [
+    | inl of_stack ↦
+        let was = of_map (λ (h : Held). h.node) stack root of_stack in
+        subst (λ (node : Node). is_node graph node ≡ true) was.2 (held_term (reverse stack) stage.stack at.held was.0 (in_reverse stack was.0 was.1)).1.is.stands
+    | inr of_trail ↦
+        let was = of_map (λ (k : ℕ × Node). k.1) trail root of_trail in
+        subst (λ (node : Node). is_node graph node ≡ true) was.2 (kept_stands (reverse trail) stage.trail at.kept was.0 (in_reverse trail was.0 was.1))
+  ]
+
+-- The nodes were given back.
+module _ {S : Type 0} (old new : TableState S) (roots : List Node) (before after : List Entry) (reclaims : Reclaims old new roots before after) where
+  pub units_reclaimed : (units : List Held) → HasUnits old before units → HasUnits new after units
+  units_reclaimed units has = record {
+    own = λ held there id is accounted. elim accounted [
+      | inl gone ↦ let in_none : Contains [] id = subst (λ (ids : List ℕ). Contains ids id) reclaims.retired gone in omega (arith, in_none.1)
+      | inr by ↦ has.own held there id is (inr (by.0, reclaims.fewer by.0 by.1, by.2))
+    ];
+    apart = has.apart;
+    added = λ id is.
+        let own = has.added id is in
+        record {
+          stands = ap is_some (reclaims.kept id own (has.own is.held is.stacked id is.unit)) ∙ own.stands;
+          above = omega (arith, own.above, reclaims.inputs);
+          defines_none = λ key branch at. own.defines_none key branch (reclaims.only key branch at).0;
+        };
+    known = λ id added.
+        let was = reclaims.added id added in
+        elim (has.known id was.0) [ inl accounted ↦ inl (inr (was.1 accounted)) | inr is ↦ inr is ];
+  }
+
+module _ {S : Type 0} (growth : Growth) (formula : Formula) (old new : TableState S) (stack : List Held) (trail : List (ℕ × Node)) (before after : List Entry) (sound : IsSound new)
+    (reclaims : Reclaims old new (held_nodes stack trail) before after) where
+  -- what is left was there
+  were : KeepsNodes new.graph old.graph
+  were = record { order = sym reclaims.order; nodes = λ key branch at. (reclaims.only key branch at).0 }
+
+  root_stands : (node : Node) → Contains (held_nodes stack trail) node → is_node old.graph node ≡ true → is_node new.graph node ≡ true
+  root_stands False root is = refl
+  root_stands True root is = refl
+  root_stands (Inner key) root is = there (branch_at old.graph key.index) refl is
+    where
+      there : (o : Option Branch) → branch_at old.graph key.index ≡ o → is_some o ≡ true → is_some (branch_at new.graph key.index) ≡ true
+      there None at some = absurd (let e : false ≡ true = some in cc)
+      there (Some branch) at some = ap is_some (reclaims.nodes key.index branch (record { root = Inner key; is_root = root; reaches = record { path = []; ends = refl } }) at)
+
+  node_value : (node : Node) → is_node new.graph node ≡ true → (a : Assignment) → value_of new.graph (by_level new.graph.order a) node ≡ value_of old.graph (by_level old.graph.order a) node
+  node_value node is a = (λ k. value_of new.graph (by_level (reclaims.order k) a) node) ∙ sym (growth.value new.graph old.graph sound.tied.reduced were (by_level old.graph.order a) node is)
+
+  unit_stays : (node : Node) → is_node new.graph node ≡ true → (unit : Just) → ((id : ℕ) → unit ≡ Clause id → clause_at new.book.state.live id ≡ clause_at old.book.state.live id)
+      → IsJustified old.book.state.live (atom_of old.graph node ∷ []) unit → IsJustified new.book.state.live (atom_of new.graph node ∷ []) unit
+  unit_stays node is unit stay proved =
+      subst (λ (atom : Atom). IsJustified new.book.state.live (atom ∷ []) unit) (growth.atom new.graph old.graph were node is) (go unit stay proved)
+    where
+      go : (just : Just) → ((id : ℕ) → just ≡ Clause id → clause_at new.book.state.live id ≡ clause_at old.book.state.live id) → IsJustified old.book.state.live (atom_of old.graph node ∷ []) just
+          → IsJustified new.book.state.live (atom_of old.graph node ∷ []) just
+      go Trivial same own = own
+      go (Clause id) same own = (own.0, same id refl ∙ own.1)
+
+  all_stay : (held : List Held) (terms : List Term) → ((one : Held) → Contains held one → Contains (held_nodes stack trail) one.node)
+      → ((one : Held) → Contains held one → (id : ℕ) → one.unit ≡ Clause id → clause_at new.book.state.live id ≡ clause_at old.book.state.live id)
+      → AreHeld formula old.graph old.book.state.live held terms → AreHeld formula new.graph new.book.state.live held terms
+  all_stay [] [] roots stay are = tt
+  all_stay [] (term ∷ terms) roots stay are = absurd are
+  all_stay (one ∷ held) [] roots stay are = absurd are
+  all_stay (one ∷ held) (term ∷ terms) roots stay are =
+      let first : Contains (one ∷ held) one = (zero, omega arith, refl) in
+      let stands = root_stands one.node (roots one first) are.0.is.stands in (
+        record {
+          is = record {
+            stands = stands;
+            value = λ a. node_value one.node stands a ∙ are.0.is.value a;
+            proved = unit_stays one.node stands one.unit (stay one first) are.0.is.proved;
+          };
+          not_false = are.0.not_false;
+        },
+        all_stay held terms (λ other there. roots other (later one held other there)) (λ other there. stay other (later one held other there)) are.1,
+      )
+
+  trail_stays : (nodes : List (ℕ × Node)) (quantified : List (ℕ × Term)) → ((kept : ℕ × Node) → Contains nodes kept → Contains (held_nodes stack trail) kept.1)
+      → AreKept formula old.graph nodes quantified → AreKept formula new.graph nodes quantified
+  trail_stays [] [] roots are = tt
+  trail_stays [] (variable ∷ quantified) roots are = absurd are
+  trail_stays (kept ∷ nodes) [] roots are = absurd are
+  trail_stays (kept ∷ nodes) (variable ∷ quantified) roots are =
+      let stands = root_stands kept.1 (roots kept (zero, omega arith, refl)) are.0.stands in (
+        record { variable = are.0.variable; stands = stands; value = λ a. node_value kept.1 stands a ∙ are.0.value a },
+        trail_stays nodes quantified (λ other there. roots other (later kept nodes other there)) are.1,
+      )
+
+  pub at_reclaimed : HasUnits old before (reverse stack) → (stage : Stage) → IsAt formula old.graph old.book.state.live stack trail stage → IsAt formula new.graph new.book.state.live stack trail stage
+  at_reclaimed has stage at = record {
+    held = all_stay (reverse stack) stage.stack (held_root stack trail)
+        (λ held there id is. reclaims.kept id (has.added id (record { held = held; stacked = there; unit = is })) (has.own held there id is)) at.held;
+    kept = trail_stays (reverse trail) stage.trail (kept_root stack trail) at.kept;
+  }
+
+  pub leaves_reached : Reachability → (stage : Stage) → IsAt formula old.graph old.book.state.live stack trail stage → LeavesReached old.graph new.graph (held_nodes stack trail)
+  leaves_reached reach stage at = record {
+    order = reclaims.order;
+    reduced = sound.tied.reduced;
+    nodes = λ key branch there. (reclaims.only key branch there).0;
+    reached = λ key branch there.
+        let by = (reclaims.only key branch there).1 in
+        record { root = by.root; is_root = by.is_root; reaches = reach.kept_back new.graph old.graph sound.tied.reduced were by.root (inner key) (stand by.root by.is_root) by.reaches };
+    stand = stand;
+    value = λ a node is. sym (growth.value new.graph old.graph sound.tied.reduced were a node is);
+  }
+    where
+      stand : (root : Node) → Contains (held_nodes stack trail) root → is_node new.graph root ≡ true
+      stand root there = root_stands root there (roots_stand formula old.graph old.book.state.live stack trail stage at root there)
+
+-- what all literals of a clause pass, one of them does
+passed_by : (test : ℤ → Bool) (y : ℤ) (clause : List ℤ) → list_all test clause ≡ true → list_any (int_eq y) clause ≡ true → test y ≡ true
+passed_by test y [] all any = absurd (let e : false ≡ true = any in cc)
+passed_by test y (x ∷ xs) all any =
+    let parts = and_parts (test x) (list_all test xs) all in
+    elim (or_cases (int_eq y x) (list_any (int_eq y) xs) any) [
+      | inl here ↦ ap test ((Decides-int_eq y x).0 here) ∙ parts.0
+      | inr there ↦ passed_by test y xs parts.1 there
+    ]
+
+no_literal : (clause : List ℤ) → Some [] ≡ Some clause → (literal : ℤ) → list_any (int_eq literal) clause ≡ true → ⊥
+no_literal clause is literal any =
+    let none : clause ≡ [] = cc in
+    let e : false ≡ true = ap (list_any (int_eq literal)) (sym none) ∙ any in
+    cc
+
+-- the one literal of a node's unit is that of its extension variable
+unit_variable : (graph : Graph) (node : Node) (clause : List ℤ) → clause_of (atom_of graph node ∷ []) ≡ Some clause → (literal : ℤ) → list_any (int_eq literal) clause ≡ true
+    → (key : ℕ) × (branch : Branch) × (node ≡ inner key) × (branch_at graph key ≡ Some branch) × (nat_abs literal ≡ branch.variable)
+unit_variable graph False clause is literal any = absurd (no_literal clause is literal any)
+unit_variable graph True clause is literal any = absurd (let e : None ≡ Some clause = is in cc)
+unit_variable graph (Inner key) clause is literal any = of_branch (branch_at graph key.index) refl is
+  where
+    of_branch : (o : Option Branch) → branch_at graph key.index ≡ o → clause_of (atom_in o ∷ []) ≡ Some clause
+        → (own : ℕ) × (branch : Branch) × (Inner key ≡ inner own) × (branch_at graph own ≡ Some branch) × (nat_abs literal ≡ branch.variable)
+    of_branch None at one = absurd (no_literal clause one literal any)
+    of_branch (Some branch) at one =
+        let e : Some (pos branch.variable ∷ []) ≡ Some clause = one in
+        let alone : clause ≡ pos branch.variable ∷ [] = cc in
+        let found : (int_eq literal (pos branch.variable) || false) ≡ true = ap (list_any (int_eq literal)) (sym alone) ∙ any in
+        elim (or_cases (int_eq literal (pos branch.variable)) false found) [
+          | inl same ↦ (key.index, branch, refl, at, ap nat_abs ((Decides-int_eq literal (pos branch.variable)).0 same))
+          | inr none ↦ absurd (let f : false ≡ true = none in cc)
+        ]
+
+-- No clause stands in the way.
+module _ {S : Type 0} (formula : Formula) (table : TableState S) (kept : List Entry) (stack : List Held) (trail : List (ℕ × Node)) (stage : Stage) (ready : IsReady formula table kept)
+    (literals : AreClausesOf formula.vars formula.clauses) (has : HasUnits table kept (reverse stack)) (at : IsAt formula table.graph table.book.state.live stack trail stage) where
+  -- the formula's clauses are over its variables
+  over_formula : (id : ℕ) (clause : List ℤ) → clause_at table.book.state.live id ≡ Some clause → id ≤ table.inputs → IsOverReached table.graph (held_nodes stack trail) clause
+  over_formula id clause is low literal any key branch stands same =
+      let above = (ready.sound.tied.numbers id clause is).0 in
+      let own = slice_index_or formula.clauses (id - 1) [] in
+      let from_one : 1 ≤ id = above in
+      let to_len : id ≤ length formula.clauses = omega (arith, low, ready.counted) in
+      let e : Some clause ≡ Some own = sym is ∙ input_live formula table kept ready id from_one to_len own refl in
+      let same_clause : own ≡ clause = cc in
+      let all : list_all (is_literal_of (levels table.graph)) clause ≡ true =
+      ap (list_all (is_literal_of (levels table.graph))) (sym same_clause) ∙ input_literals formula table kept ready id from_one to_len own refl literals in
+      let good : is_literal_of (levels table.graph) literal ≡ true = passed_by (is_literal_of (levels table.graph)) literal clause all any in
+      let small = leb-true (nat_abs literal) (levels table.graph) (and_parts (nat_lt 0 (nat_abs literal)) (nat_le (nat_abs literal) (levels table.graph)) good).1 in
+      let extension = ready.sound.tied.reduced.above key branch stands in
+      absurd (omega (arith, small, extension, same))
+
+  -- the unit of a stacked term is over its node
+  over_unit : (id : ℕ) (clause : List ℤ) → clause_at table.book.state.live id ≡ Some clause → IsUnitOf (reverse stack) id → IsOverReached table.graph (held_nodes stack trail) clause
+  over_unit id clause is by literal any key branch stands same =
+      let held = by.held in
+      let term = held_term formula table.graph table.book.state.live (reverse stack) stage.stack at.held held by.stacked in
+      let proved : IsJustified table.book.state.live (atom_of table.graph held.node ∷ []) (Clause id) =
+      subst (λ (unit : Just). IsJustified table.book.state.live (atom_of table.graph held.node ∷ []) unit) by.unit term.1.is.proved in
+      let own = unit_variable table.graph held.node clause (sym proved.1 ∙ is) literal any in
+      let one : own.0 ≡ key = ready.sound.tied.reduced.apart own.0 key own.1 branch own.3 stands (sym own.4 ∙ same) in
+      record { root = held.node; is_root = held_root stack trail held by.stacked; reaches = record { path = []; ends = own.2 ∙ ap inner one } }
+
+  pub may_reclaim : MayReclaim table kept (held_nodes stack trail)
+  may_reclaim id clause is defines_none = elim (cases_lt table.inputs id) [
+    | inr low ↦ inr (over_formula id clause is low)
+    | inl above ↦
+        let added : IsAddedTo table id = record {
+          stands = ap is_some is;
+          above = above;
+          defines_none = λ key branch stands. false_from_ne_true (is_defined_by (defs_of branch) id) (λ defines. defines_none (record { key = key; branch = branch; stands = stands; defines = defines }));
+        } in
+        elim (has.known id added) [ inl accounted ↦ inl accounted | inr by ↦ inr (over_unit id clause is by) ]
+  ]

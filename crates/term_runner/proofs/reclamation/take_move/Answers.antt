@@ -1,0 +1,47 @@
+-- Behind a move that succeeded the nodes are few, or those that its terms reach.
+use Rattle.std.proofs.Common.{◌≡◌, ℕ, List, Err, ap, sym, subst, inr}
+use Rattle.node_table.specs.declared.error.TableError.TheVariants.{NodeLimit}
+use Rattle.node_table.specs.Diagram.{Graph}
+use Rattle.node_table.specs.HandedOn.{came_from}
+use Rattle.schedule_plan.specs.Plan.{Stage}
+use Rattle.term_runner.specs.declared.held.Held.{Held}
+use Rattle.term_runner.specs.Held.{IsAt}
+use Rattle.term_runner.specs.Needs.{KeepsOrMakes, top_function}
+use Rattle.term_runner.specs.Tidy.{LeavesReached, held_nodes}
+use Rattle.term_runner.proofs.Tidied.{made_behind, none_made, were_left}
+use Rattle.term_runner.proofs.reclamation.take_move.Goals as goal
+
+pub returns-in_err-refuted-clause-full : goal.returns-in_err-refuted-clause-full
+returns-in_err-refuted-clause-full g c stage next at is limit =
+    c.in_err-refuted.ensures.full stage next at is (ap Err (came_from _ c.in_err-refuted.field-0.0 NodeLimit c.from_residual.ensures.1 limit))
+
+pub give_back-requires-clause-possible : goal.give_back-requires-clause-possible
+give_back-requires-clause-possible g c =
+    let table = c.try_twice.new.table in
+    let possible = c.requires.possible in (
+      possible.1,
+      subst (λ (stack : List Held). IsAt c.args.formula.now table.graph table.book.state.live stack c.try_twice.new.trail possible.1) (sym c.as_slice.ensures.value)
+          (c.in_ok-refuted.ensures.held possible.0 possible.1 possible.2 possible.3 c.if-refuted.false),
+    )
+
+pub returns-in_err-left-clause-made : goal.returns-in_err-left-clause-made
+returns-in_err-left-clause-made g c stage next at is =
+    subst (λ (graph : Graph). KeepsOrMakes c.args.table.now.graph graph (top_function c.args.formula.now c.args.table.now.graph.order next.stack)) (sym c.in_err-left.ensures.kept) (c.try_twice.ensures.made stage next at is)
+
+pub returns-clause-made : goal.returns-clause-made
+returns-clause-made g c stage next at is =
+    let function = top_function c.args.formula.now c.args.table.now.graph.order next.stack in
+    let mid = c.try_twice.new.table.graph in
+    let new = c.give_back.new.table.graph in
+    made_behind c.args.table.now.graph mid new new (held_nodes c.as_slice.result.now c.try_twice.new.trail) function (c.try_twice.ensures.made stage next at is) c.in_ok-left.ensures.reached (none_made new function)
+
+pub returns-clause-left : goal.returns-clause-left
+returns-clause-left g c stage next at is ok =
+    let formula = c.args.formula.now in
+    let mid = c.try_twice.new.table in
+    let new = c.give_back.new.table in
+    let stack = c.as_slice.result.now in
+    let trail = c.try_twice.new.trail in
+    let moved = subst (λ (s : List Held). IsAt formula mid.graph mid.book.state.live s trail next) (sym c.as_slice.ensures.value) (c.in_ok-refuted.ensures.held stage next at is c.if-refuted.false) in
+    let so_far = c.steps_law.ensures.go_on _ _ _ c.args.table.now mid new c.in_ok-refuted.ensures.leaves c.in_ok-left.ensures.leaves in
+    inr (inr (were_left formula mid.graph new.graph new.book.state.live stack trail next c.args.table.now.graph.order _ (c.in_ok-left.ensures.at next moved) c.in_ok-left.ensures.reached so_far.order c.in_ok-left.ensures.count))

@@ -1,0 +1,92 @@
+-- A move that was refused is tried once more over the nodes that its terms reach.
+use Rattle.std.proofs.Common.{◌≡◌, ℕ, List, Err, Some, ap, sym, subst, inr}
+use Rattle.node_table.specs.declared.error.TableError.TheVariants.{NodeLimit}
+use Rattle.node_table.specs.Diagram.{Graph}
+use Rattle.node_table.specs.Made.{LacksPart}
+use Rattle.node_table.specs.Progress.{Continues, error_of}
+use Rattle.schedule_plan.specs.Plan.{Stage, after_move}
+use Rattle.term_runner.specs.declared.held.Held.{Held}
+use Rattle.term_runner.specs.Held.{IsAt}
+use Rattle.term_runner.specs.Needs.{KeepsOrMakes, top_function}
+use Rattle.term_runner.specs.Tidy.{LeavesReached, WereLeft, held_nodes}
+use Rattle.term_runner.proofs.Leaving.{limit_left}
+use Rattle.term_runner.proofs.Tidied.{made_behind, were_left}
+use Rattle.term_runner.proofs.reclamation.try_twice.Given.{Over}
+use Rattle.term_runner.proofs.reclamation.try_twice.Goals as goal
+use Rattle.term_runner.proofs.reclamation.try_twice.Goals.{After-try_move-in-Err}
+
+module _ (g : Over) (c : After-try_move-in-Err g) where
+  at_limit : c.in-Err.e ≡ NodeLimit
+  at_limit = c.is_node_limit.ensures.0 c.if-is_node_limit.true
+
+  -- what the reclamation left of the run
+  at_mid : (stage : Stage) → IsAt c.args.formula.now c.args.table.now.graph c.args.table.now.book.state.live c.args.stack.now.items c.args.trail.now stage
+      → IsAt c.args.formula.now c.give_back.new.table.graph c.give_back.new.table.book.state.live c.try_move.new.stack.items c.try_move.new.trail stage
+  at_mid stage at =
+      let one = c.try_move.new.table in
+      let mid = c.give_back.new.table in
+      subst (λ (stack : List Held). IsAt c.args.formula.now mid.graph mid.book.state.live stack c.try_move.new.trail stage) c.as_slice.ensures.value
+      (c.in_ok-left-in-Err.ensures.at stage
+      (subst (λ (stack : List Held). IsAt c.args.formula.now one.graph one.book.state.live stack c.try_move.new.trail stage) (sym c.as_slice.ensures.value) (c.in-Err.ensures.at_again stage at (ap Err at_limit))))
+
+  reached_mid : LeavesReached c.try_move.new.table.graph c.give_back.new.table.graph (held_nodes c.try_move.new.stack.items c.try_move.new.trail)
+  reached_mid =
+      subst (λ (stack : List Held). LeavesReached c.try_move.new.table.graph c.give_back.new.table.graph (held_nodes stack c.try_move.new.trail)) c.as_slice.ensures.value c.in_ok-left-in-Err.ensures.reached
+
+  continues_mid : Continues g.S.Sink.tells (g.S.Sink.channel c.args.table.now.book.sink) (g.S.Sink.channel c.give_back.new.table.book.sink) c.args.table.now c.give_back.new.table
+  continues_mid =
+      let channel = g.S.Sink.channel in
+      let old = c.args.table.now in
+      let one = c.try_move.new.table in
+      let mid = c.give_back.new.table in
+      c.steps_law.ensures.go_on (channel old.book.sink) (channel one.book.sink) (channel mid.book.sink) old one mid
+      (limit_left g.S.Sink.tells channel old one c.in-Err.e at_limit c.in-Err.ensures.leaves).0 c.in_ok-left-in-Err.ensures.leaves
+
+  -- the second try's nodes, over the order at the start
+  made_last : (stage next : Stage) (at : IsAt c.args.formula.now c.args.table.now.graph c.args.table.now.book.state.live c.args.stack.now.items c.args.trail.now stage)
+      → after_move c.args.formula.now stage c.args.step ≡ Some next
+      → KeepsOrMakes c.give_back.new.table.graph c.try_move-in-Err.new.table.graph (top_function c.args.formula.now c.args.table.now.graph.order next.stack)
+  made_last stage next at is =
+      subst (λ (order : List ℕ). KeepsOrMakes c.give_back.new.table.graph c.try_move-in-Err.new.table.graph (top_function c.args.formula.now order next.stack)) continues_mid.order
+      (c.try_move-in-Err.ensures.made stage next (at_mid stage at) is)
+
+  abbrev left_mid : (stage : Stage) → IsAt c.args.formula.now c.args.table.now.graph c.args.table.now.book.state.live c.args.stack.now.items c.args.trail.now stage
+      → WereLeft c.args.formula.now c.args.table.now.graph.order stage c.in_ok-left-in-Err.field-0
+  left_mid stage at =
+      let mid = c.give_back.new.table in
+      were_left c.args.formula.now c.try_move.new.table.graph mid.graph mid.book.state.live c.try_move.new.stack.items c.try_move.new.trail stage c.args.table.now.graph.order _
+      (at_mid stage at) reached_mid continues_mid.order c.in_ok-left-in-Err.ensures.count
+
+pub returns-in-Ok-clause-held : goal.returns-in-Ok-clause-held
+returns-in-Ok-clause-held g c = c.in-Ok.ensures.held
+
+pub returns-in_err-left-in-Err-clause-made : goal.returns-in_err-left-in-Err-clause-made
+returns-in_err-left-in-Err-clause-made g c stage next at is =
+    subst (λ (graph : Graph). KeepsOrMakes c.args.table.now.graph graph (top_function c.args.formula.now c.args.table.now.graph.order next.stack)) (sym c.in_err-left-in-Err.ensures.kept) (c.try_move.ensures.made stage next at is)
+
+pub returns-in_ok-left-in-Err-clause-held : goal.returns-in_ok-left-in-Err-clause-held
+returns-in_ok-left-in-Err-clause-held g c stage next at is = c.try_move-in-Err.ensures.held stage next (at_mid g c stage at) is
+
+pub returns-in_ok-left-in-Err-clause-leaves : goal.returns-in_ok-left-in-Err-clause-leaves
+returns-in_ok-left-in-Err-clause-leaves g c =
+    let channel = g.S.Sink.channel in
+    let old = c.args.table.now in
+    let mid = c.give_back.new.table in
+    let new = c.try_move-in-Err.new.table in
+    c.steps_law.ensures.leave (channel old.book.sink) (channel mid.book.sink) (channel new.book.sink) old mid new (error_of c.try_move-in-Err.result) (continues_mid g c) c.try_move-in-Err.ensures.leaves
+
+pub returns-in_ok-left-in-Err-clause-made : goal.returns-in_ok-left-in-Err-clause-made
+returns-in_ok-left-in-Err-clause-made g c stage next at is =
+    made_behind c.args.table.now.graph c.try_move.new.table.graph c.give_back.new.table.graph c.try_move-in-Err.new.table.graph (held_nodes c.try_move.new.stack.items c.try_move.new.trail)
+    (top_function c.args.formula.now c.args.table.now.graph.order next.stack) (c.try_move.ensures.made stage next at is) (reached_mid g c) (made_last g c stage next at is)
+
+pub returns-in_ok-left-in-Err-clause-lacks : goal.returns-in_ok-left-in-Err-clause-lacks
+returns-in_ok-left-in-Err-clause-lacks g c stage next at is limit =
+    subst (λ (order : List ℕ). LacksPart c.try_move-in-Err.new.table.graph (top_function c.args.formula.now order next.stack)) (continues_mid g c).order
+    (c.try_move-in-Err.ensures.lacks stage next (at_mid g c stage at) is limit)
+
+pub returns-in_ok-left-in-Err-clause-full : goal.returns-in_ok-left-in-Err-clause-full
+returns-in_ok-left-in-Err-clause-full g c stage next at is limit = (left_mid g c stage at, made_last g c stage next at is)
+
+pub returns-in_ok-left-in-Err-clause-left : goal.returns-in_ok-left-in-Err-clause-left
+returns-in_ok-left-in-Err-clause-left g c stage at = inr (left_mid g c stage at)

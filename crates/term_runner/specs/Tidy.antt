@@ -1,0 +1,44 @@
+-- How many nodes a run keeps: between two moves fewer than a thousand, or fewer than twice those that the last reclamation
+-- left, which its terms reached.
+use Rattle.std.specs.Prelude.{◌≡◌, ◌⊎◌, ◌<◌, ◌++◌, ◌*◌, ℕ, List, Contains, Some, IsTrue, map}
+use Rattle.cnf_base.specs.Formula.{Formula}
+use Rattle.lrat_rules.specs.State.{Live}
+use Rattle.node_table.specs.declared.node.Node.{Node}
+use Rattle.node_table.specs.declared.node.Branch.{Branch}
+use Rattle.node_table.specs.Diagram.{Graph, IsReduced, branch_at, is_node}
+use Rattle.node_table.specs.Made.{inner}
+use Rattle.node_table.specs.Marks.{IsReached}
+use Rattle.node_table.specs.Table.{live_nodes}
+use Rattle.node_table.specs.Value.{Levels, value_of}
+use Rattle.schedule_plan.specs.Plan.{Stage}
+use Rattle.term_runner.specs.declared.held.Held.{Held}
+use Rattle.term_runner.specs.Held.{IsAt}
+
+-- so few nodes that none are given back
+abbrev pub IsTidy : ℕ → ℕ → Type 0
+IsTidy live left = (live < 1000) ⊎ (live < 2 * left)
+
+-- the nodes of the stacked terms, and those on the trail
+abbrev pub held_nodes : List Held → List (ℕ × Node) → List Node
+held_nodes stack trail = map (λ held. held.node) stack ++ map (λ kept. kept.1) trail
+
+-- Only nodes are left that the roots reach, as they were, with their functions.
+pub record LeavesReached (old new : Graph) (roots : List Node) : Type 0 where
+  pub order : new.order ≡ old.order
+  pub reduced : IsReduced new
+  pub nodes : (key : ℕ) (branch : Branch) → branch_at new key ≡ Some branch → branch_at old key ≡ Some branch
+  pub reached : (key : ℕ) (branch : Branch) → branch_at new key ≡ Some branch → IsReached new roots (inner key)
+  pub stand : (root : Node) → Contains roots root → IsTrue (is_node new root)
+  pub value : (a : Levels) (node : Node) → IsTrue (is_node new node) → value_of new a node ≡ value_of old a node
+
+-- So many nodes were left by a reclamation where the run was at this stage: those that its terms reach.
+pub record WereLeft (formula : Formula) (order : List ℕ) (stage : Stage) (left : ℕ) : Type 0 where
+  pub graph : Graph
+  pub live : Live
+  pub stack : List Held
+  pub trail : List (ℕ × Node)
+  pub at : IsAt formula graph live stack trail stage
+  pub order_is : graph.order ≡ order
+  pub reduced : IsReduced graph
+  pub count : live_nodes graph ≡ left
+  pub reached : (key : ℕ) (branch : Branch) → branch_at graph key ≡ Some branch → IsReached graph (held_nodes stack trail) (inner key)
