@@ -1,10 +1,12 @@
-"""Random formulas, and terms over a few variables as sets of assignments: what the scripts beside it compare answers with.
+"""Random formulas, plans, and terms over a few variables as sets of assignments: what the scripts beside it compare answers with.
 
 A term is the set of the assignments that make it true, a number whose bit a stands for assignment a, where the first variable is the
 highest bit of a. So the lowest bit is the least assignment, the variables in their order and false before true.
 """
 import functools
 import operator
+
+PUSH, AND, EXISTS = range(3)
 
 FIXED = [
     (3, [[1, -2], [2, -3], [3]]),
@@ -31,6 +33,28 @@ def formula(draw):
         length = draw.choice([0, 1, 2, 3, 3, 3, 4, 5]) if draw.random() < 0.03 else draw.choice([1, 2, 2, 3, 3, 3, 4])
         clauses.append([draw.choice([-1, 1]) * draw.choice(used) for _ in range(length)] if used else [])
     return variables, clauses if used else clauses[: draw.randint(0, 1)]
+
+
+def conjoin(clauses):
+    return [move for i in range(len(clauses)) for move in ([(PUSH, i)] if i == 0 else [(PUSH, i), (AND, None)])]
+
+
+def bucket(variables, clauses):
+    """The bucket plan: in each bucket the clauses come first, then the results of earlier ones; the rest is conjoined at the end."""
+    rest = variables + 1
+    buckets = [[] for _ in range(rest + 1)]
+    for i, clause in enumerate(clauses):
+        held = {abs(x) for x in clause}
+        buckets[min(held, default=rest)].append(([(PUSH, i)], held))
+
+    def joined(items):
+        return [move for at, (moves, _) in enumerate(items) for move in (moves if at == 0 else [*moves, (AND, None)])]
+
+    for x in range(1, rest):
+        if buckets[x]:
+            held = set().union(*(held for _, held in buckets[x])) - {x}
+            buckets[min(held, default=rest)].append(([*joined(buckets[x]), (EXISTS, x)], held))
+    return joined(buckets[rest])
 
 
 class Tables:

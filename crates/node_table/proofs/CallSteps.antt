@@ -8,7 +8,7 @@ use Rattle.clause_ledger.specs.Book.{Book, IsProofOf, OnlyWrites, with_next}
 use Rattle.node_table.specs.declared.node.Node.{Node}
 use Rattle.node_table.specs.declared.error.TableError.{TableError}
 use Rattle.node_table.specs.declared.error.TableError.TheVariants.{IdLimit, OutOfMemory, WriteFault}
-use Rattle.node_table.specs.Diagram.{Graph, IsBelow, IsNew, KeepsNodes, levels}
+use Rattle.node_table.specs.Diagram.{Graph, IsBelow, IsNew, IsReduced, KeepsNodes, levels}
 use Rattle.node_table.specs.Defined.{definition_count, with_definitions}
 use Rattle.node_table.specs.Tied.{IsTied, IsAdded, IsOverNodes}
 use Rattle.node_table.specs.Table.{TableState, IsSound, IsAddedTo, IsSame, IsWanted, Extends, live_nodes, new_branch, node_definitions}
@@ -142,9 +142,9 @@ module _ {S : Type 0} (tells : Bool) (aside : Aside) (before after : Channel) (g
     adds = grew.adds;
   }
 
-  pub broke_off : Tore tells before after old new → FewerInUse → in_use (levels graph) new.state ≤ aside.max_nodes
+  pub broke_off : IsReduced later → Tore tells before after old new → FewerInUse → in_use (levels graph) new.state ≤ live_nodes later → live_nodes later ≤ aside.max_nodes
       → Steps tells before after (table_of aside graph old) (table_of aside later new) justified (Some WriteFault)
-  broke_off tore fewer few = record {
+  broke_off reduced tore fewer used few = record {
     leaves = record {
       rose = tore.rose;
       cut = λ clauses few_clauses proof told.
@@ -152,13 +152,16 @@ module _ {S : Type 0} (tells : Bool) (aside : Aside) (before after : Channel) (g
           record {
             before = cut.0;
             cut = cut.1;
+            no_less = cut.3;
             within_before = record {
               numbers = ≤-then cut.0.top new.state.top (max old.state.top old.limit) cut.3 grew.within;
-              nodes = ≤-then (in_use (levels graph) cut.0) (in_use (levels graph) new.state) aside.max_nodes (fewer (levels graph) cut.0 new.state cut.2) few;
+              nodes = ≤-then (in_use (levels graph) cut.0) (in_use (levels graph) new.state) (live_nodes later) (fewer (levels graph) cut.0 new.state cut.2) used;
             };
-            within_after = record { numbers = grew.within; nodes = few };
+            within_after = record { numbers = grew.within; nodes = used };
           };
+      few = few;
       out_of_step = tore.out_of_step;
+      reduced = reduced;
       order = grew.nodes.order;
       max_nodes = refl;
       limit = tore.limit;
@@ -192,8 +195,8 @@ module _ {S : Type 0} (tells : Bool) (aside : Aside) (before after : Channel) (g
   pub justified_torn : Tore tells before after old new → FewerInUse → live_nodes graph ≤ aside.max_nodes
       → Steps tells before after (table_of aside graph old) (table_of aside graph new) 1 (Some WriteFault)
   justified_torn tore fewer few =
-      broke_off tells aside before after graph graph old new 1 one_more tore fewer
-      (let same = in_use_nodes graph new.state tied_still in omega (arith, same, few))
+      broke_off tells aside before after graph graph old new 1 one_more sound.tied.reduced tore fewer
+      (let same = in_use_nodes graph new.state tied_still in omega (arith, same)) few
 
 -- a node that may be made with this variable
 pub record IsAsked (graph : Graph) (state : State) (level : ℕ) (high low : Node) (variable : ℕ) : Type 0 where
@@ -249,4 +252,4 @@ module _ {S : Type 0} (tells : Bool) (aside : Aside) (before after : Channel) (g
       let used : in_use (levels graph) whole ≡ live_nodes later = subst (λ (vars : ℕ). in_use vars whole ≡ live_nodes later) same (in_use_nodes later whole tied_whole) in
       let less = fewer (levels graph) new.state whole rest.clauses in
       let nodes = live_more graph later key joined in
-      broke_off tells aside before after graph later old new 0 (made_more grows rest.gives.no_less) tore fewer (omega (arith, less, used, nodes, few))
+      broke_off tells aside before after graph later old new 0 (made_more grows rest.gives.no_less) tied_whole.reduced tore fewer (omega (arith, less, used)) (omega (arith, nodes, few))

@@ -1,6 +1,6 @@
 -- The clauses that define a node hold its extension variable, a variable of the formula, and those of its children alone.
 use Rattle.std.proofs.Common.{◌≡◌, ◌||◌, ◌∙◌, ℕ, Bool, true, false, ℤ, pos, List, Option, Some, refl, sym, ap, inl, inr}
-use Rattle.std.specs.Prelude.{neg_ℤ, not}
+use Rattle.std.specs.Prelude.{neg_ℤ}
 use Rattle.std.proofs.lemmas.Bool.{eqb-true, or_cases}
 use Rattle.cnf_base.specs.ProofText.{given_if}
 use Rattle.lrat_rules.specs.State.{Live, clause_at}

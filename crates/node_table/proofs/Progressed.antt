@@ -10,7 +10,7 @@ use Rattle.node_table.specs.declared.error.TableError.{TableError}
 use Rattle.node_table.specs.declared.error.TableError.TheVariants.{NodeLimit, IdLimit, OutOfMemory, WriteFault}
 use Rattle.node_table.specs.Diagram.{levels}
 use Rattle.node_table.specs.Tied.{KeepsClauses, GivesNumbers}
-use Rattle.node_table.specs.Table.{TableState, IsSound, Extends}
+use Rattle.node_table.specs.Table.{TableState, IsSound, Extends, live_nodes}
 use Rattle.node_table.specs.Progress.{Continues, BreaksOff, Leaves, Steps, number_limit}
 use Rattle.node_table.proofs.Grown.{KeepsNodes-none, KeepsNodes-further}
 use Rattle.node_table.proofs.Stands.{Grows-none}
@@ -73,11 +73,11 @@ module _ {S : Type 0} where
         retired = sym (append-nil table.retired);
       }
 
-  IsWithin-further : (old mid : TableState S) → mid.graph.order ≡ old.graph.order → mid.max_nodes ≡ old.max_nodes → number_limit mid ≤ number_limit old → (state : State)
-      → IsWithin (levels mid.graph) (number_limit mid) mid.max_nodes state → IsWithin (levels old.graph) (number_limit old) old.max_nodes state
+  IsWithin-further : (old mid : TableState S) → mid.graph.order ≡ old.graph.order → (nodes : ℕ) → number_limit mid ≤ number_limit old → (state : State)
+      → IsWithin (levels mid.graph) (number_limit mid) nodes state → IsWithin (levels old.graph) (number_limit old) nodes state
   IsWithin-further old mid order nodes less state within = record {
     numbers = ≤-further state.top (number_limit mid) (number_limit old) within.numbers less;
-    nodes = subst (λ (o : List ℕ). in_use (length o) state ≤ old.max_nodes) order (subst (λ (n : ℕ). in_use (levels mid.graph) state ≤ n) nodes within.nodes);
+    nodes = subst (λ (o : List ℕ). in_use (length o) state ≤ nodes) order within.nodes;
   }
 
   -- so far within the limit: the limit is as far as before
@@ -130,10 +130,13 @@ module _ {S : Type 0} where
               record {
                 before = cut.before;
                 cut = cut.cut;
-                within_before = IsWithin-further old mid before.order before.max_nodes within cut.before cut.within_before;
-                within_after = IsWithin-further old mid before.order before.max_nodes within new.book.state cut.within_after;
+                no_less = cut.no_less;
+                within_before = IsWithin-further old mid before.order (live_nodes new.graph) within cut.before cut.within_before;
+                within_after = IsWithin-further old mid before.order (live_nodes new.graph) within new.book.state cut.within_after;
               };
+          few = subst (λ (n : ℕ). live_nodes new.graph ≤ n) before.max_nodes after.few;
           out_of_step = after.out_of_step;
+          reduced = after.reduced;
           order = after.order ∙ before.order;
           max_nodes = after.max_nodes ∙ before.max_nodes;
           limit = after.limit ∙ before.limit;

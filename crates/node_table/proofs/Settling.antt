@@ -58,10 +58,13 @@ module _ {S : Type 0} (tells : Bool) (channel : S → Channel) (aside : Aside) (
         cut = λ clauses few_clauses proof told. record {
           before = old.state;
           cut = cut clauses proof (retired_added graph old.state.live aside.inputs aside.retired sound.retired (length clauses) few_clauses) told;
-          within_before = record { numbers = omega arith; nodes = omega (arith, used, few) };
-          within_after = record { numbers = omega (arith, top); nodes = omega (arith, less, used, few) };
+          no_less = omega (arith, top);
+          within_before = record { numbers = omega arith; nodes = omega (arith, used) };
+          within_after = record { numbers = omega (arith, top); nodes = omega (arith, less, used) };
         };
+        few = few;
         out_of_step = out_of_step;
+        reduced = sound.tied.reduced;
         order = refl;
         max_nodes = refl;
         limit = limit;

@@ -180,10 +180,13 @@ module _ {S : Type 0} (tells : Bool) (channel : S → Channel) (aside : Aside) (
             record {
               before = c.before;
               cut = c.cut;
-              within_before = record { numbers = omega (arith, c.top); nodes = omega (arith, less_before, used, few) };
-              within_after = record { numbers = omega (arith, top); nodes = omega (arith, less, used, few) };
+              no_less = omega (arith, c.top, top);
+              within_before = record { numbers = omega (arith, c.top); nodes = omega (arith, less_before, used) };
+              within_after = record { numbers = omega (arith, top); nodes = omega (arith, less, used) };
             };
+        few = few;
         out_of_step = out_of_step;
+        reduced = sound.tied.reduced;
         order = refl;
         max_nodes = refl;
         limit = limit;

@@ -7,7 +7,7 @@ use Rattle.lrat_rules.specs.Marks.{IsWithin}
 use Rattle.clause_ledger.specs.Book.{IsProofOf, OnlyWrites}
 use Rattle.node_table.specs.declared.error.TableError.{TableError}
 use Rattle.node_table.specs.declared.error.TableError.TheVariants.{NodeLimit, IdLimit, OutOfMemory, WriteFault}
-use Rattle.node_table.specs.Diagram.{levels}
+use Rattle.node_table.specs.Diagram.{IsReduced, levels}
 use Rattle.node_table.specs.Table.{TableState, IsSound, Extends, AddsAtMost, live_nodes}
 
 -- the greatest number that a table may come to: the one allowed, or where it is already
@@ -32,16 +32,20 @@ pub record Continues {S : Type 0} (tells : Bool) (before after : Channel) (old n
 pub record IsCutWithin (clauses : List (List ℤ)) (bytes : List ℕ) (vars max_ids max_nodes : ℕ) (after : State) : Type 0 where
   pub before : State
   pub cut : IsCutProof clauses bytes before after
+  pub no_less : before.top ≤ after.top
   pub within_before : IsWithin vars max_ids max_nodes before
   pub within_after : IsWithin vars max_ids max_nodes after
 
--- A write failed: its count rose, and the bytes are a proof and a front of one more line, within the limits. The table
--- is out of step, over the same variables and within the same limits.
+-- A write failed: its count rose, and the bytes are a proof and a front of one more line, within the limits, with no more
+-- extension variables in use than there are nodes. The table is out of step, its nodes still reduced, over the same
+-- variables and within the same limits.
 pub record BreaksOff {S : Type 0} (tells : Bool) (before after : Channel) (old new : TableState S) : Type 0 where
   pub rose : Rose before.faults after.faults
   pub cut : (clauses : List (List ℤ)) → length clauses ≤ old.inputs → IsProofOf clauses tells before old.book.state → IsTrue tells
-      → IsCutWithin clauses after.written (levels old.graph) (number_limit old) old.max_nodes new.book.state
+      → IsCutWithin clauses after.written (levels old.graph) (number_limit old) (live_nodes new.graph) new.book.state
+  pub few : live_nodes new.graph ≤ old.max_nodes
   pub out_of_step : new.book.in_step ≡ false
+  pub reduced : IsReduced new.graph
   pub order : new.graph.order ≡ old.graph.order
   pub max_nodes : new.max_nodes ≡ old.max_nodes
   pub limit : new.book.limit ≡ old.book.limit

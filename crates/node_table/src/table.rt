@@ -219,6 +219,7 @@ impl<S: Sink + Drop> Table<S> {
         ensures gone { (id : ℕ) → Contains self.old.retired id → clause_at self.new.book.state.live id ≡ None }
         ensures stay { (id : ℕ) → (Contains self.old.retired id → ⊥) → clause_at self.new.book.state.live id ≡ clause_at self.old.book.state.live id }
         ensures nodes { self.new.graph ≡ self.old.graph }
+        ensures top { self.new.book.state.top ≡ self.old.book.state.top }
         ensures leaves { Leaves S.tells (S.channel self.old.book.sink) (S.channel self.new.book.sink) self.old self.new (error_of result) }
         ensures line { IsTrue S.tells → OnOk result ((S.channel self.new.book.sink).written ≡ (S.channel self.old.book.sink).written ++ deletion_line self.old.book.state self.old.retired) }
         ensures torn { IsErr result → IsTorn S.tells (S.channel self.old.book.sink) (S.channel self.new.book.sink) (deletion_line self.old.book.state self.old.retired) }

@@ -10,6 +10,7 @@ use Rattle.term_runner.specs.declared.outcome.Outcome.TheVariants as outcome
 use Rattle.term_runner.specs.declared.outcome.Run.{Run as Ending}
 use Rattle.term_runner.specs.declared.error.RunError.{RunError}
 use Rattle.term_runner.specs.declared.error.RunError.TheVariants.{WriteFault as Torn}
+use Rattle.term_runner.specs.Price.{priced}
 use Rattle.term_runner.specs.Proofs.{IsProof, IsProofSoFar}
 use Rattle.command_line.specs.Command.{Command, ToSolve, ToBench, Solve, Bench, command, limits_asked, limits_of}
 use Rattle.solver_cli.specs.declared.status.Status.{Status}
@@ -135,8 +136,8 @@ uncreated run {problem = problem} posed u =
     }
 
 -- the proof so far, told of the bytes that the run wrote
-pub proof_so_far : (run : Run) (problem : Formula) → (run.before ProofOut).written ≡ [] → IsProofSoFar problem (limits_given run) (run.after ProofOut).written → IsProofSoFar problem (limits_given run) (written_in run ProofOut)
-proof_so_far run problem idle p = subst (λ (bytes : List ℕ). IsProofSoFar problem (limits_given run) bytes) (sym (whole_of (run.before ProofOut) (run.after ProofOut) idle)) p
+pub proof_so_far : (run : Run) (problem : Formula) (limits : Limits) → (run.before ProofOut).written ≡ [] → IsProofSoFar problem limits (run.after ProofOut).written → IsProofSoFar problem limits (written_in run ProofOut)
+proof_so_far run problem limits idle p = subst (λ (bytes : List ℕ). IsProofSoFar problem limits bytes) (sym (whole_of (run.before ProofOut) (run.after ProofOut) idle)) p
 
 pub proof_whole : (run : Run) (problem : Formula) → (run.before ProofOut).written ≡ [] → IsProof problem (limits_given run) (run.after ProofOut).written → IsProof problem (limits_given run) (written_in run ProofOut)
 proof_whole run problem idle p = subst (λ (bytes : List ℕ). IsProof problem (limits_given run) bytes) (sym (whole_of (run.before ProofOut) (run.after ProofOut) idle)) p
@@ -160,8 +161,9 @@ undecided run {problem = problem} {order = order} {moves = moves} posed u = both
 
   stands : ProofStands run
   stands = record {
-    so_far = λ t. inr (problem, asks_for run posed t, proof_so_far run problem u.opens.was_idle.written (writes.so_far t));
+    so_far = λ t. inr (problem, asks_for run posed t, proof_so_far run problem (limits_given run) u.opens.was_idle.written (writes.so_far t));
     whole = λ unfaulted t. inr (problem, asks_for run posed t, proof_whole run problem u.opens.was_idle.written (writes.whole (λ e. unfaulted (torn e)) t));
+    price = λ t. inr (problem, asks_for run posed t, λ width has. proof_so_far run problem (priced (limits_given run) problem moves width) u.opens.was_idle.written (writes.price width has t));
   }
 
   core : is_answer run.status ≡ false → Accepts run.status → RefusalsAreDue run → (run.status ≡ WriteFault → OutputFailed run) → (IsUnharmed run → run.status ≡ OutOfMemory) → Core run

@@ -1,5 +1,5 @@
 -- How the calls that answer, and those that make a text, make their stages.
-use Rattle.std.proofs.Common.{◌≡◌, ℕ, Bool, List, refl, sym, ap, ◌∙◌, subst, Some, None, Ok, Err, IsOk, inl, inr}
+use Rattle.std.proofs.Common.{◌≡◌, ℕ, Bool, List, refl, sym, ap, ◌∙◌, Some, None, Ok, Err, IsOk, inl, inr}
 use Rattle.std.specs.Prelude.{Result, Option, ⊤, IsErr}
 use Rattle.cnf_base.specs.Formula.{Formula}
 use Rattle.host_io.specs.declared.role.Role.{Role}
@@ -18,7 +18,7 @@ use Rattle.solver_cli.specs.ExitCode.{status_of_run}
 use Rattle.solver_cli.specs.MadeText.{made_text}
 use Rattle.solver_cli.specs.Phases.{WritesProof, PutsText}
 use Rattle.solver_cli.specs.Stages.{Job, LeavesInputs, NoneRead, streams_of, bench_job, CameToAnswer, CameToBench, CameToMake, status_after, status_of_written}
-use Rattle.solver_cli.proofs.Staged.{opened_from, still_written, printed_from}
+use Rattle.solver_cli.proofs.Staged.{still_written, printed_from}
 
 by_proof : {old new : Role → Channel} → Others ProofOut old new → LeavesInputs old new
 by_proof beside = record { cnf = beside Cnf refl; order = beside Order refl; schedule = beside Schedule refl; judged = beside ProofIn refl; made = beside Made refl; error = beside ErrRole refl }

@@ -1,5 +1,5 @@
 -- What is promised of a run that makes a board: memory for it ran out, or a text of it is written.
-use Rattle.std.proofs.Common.{◌≡◌, ℕ, false, List, [], ◌++◌, append-nil, refl, sym, ap, ◌∙◌, Some, Ok, Err, IsTrue, inl, inr}
+use Rattle.std.proofs.Common.{◌≡◌, ℕ, false, List, ◌++◌, refl, sym, ap, ◌∙◌, Some, Ok, Err, inl, inr}
 use Rattle.std.specs.Prelude.{Result, ⊤, ◌⊎◌}
 use Rattle.host_io.specs.declared.role.Role.TheVariants.{ProofOut, Made, Out}
 use Rattle.host_io.specs.declared.source.Failed.{Failed}
@@ -10,8 +10,8 @@ use Rattle.solver_cli.specs.ErrorText.{is_answer}
 use Rattle.solver_cli.specs.MadeText.{made_text}
 use Rattle.solver_cli.specs.Phases.{PutsText}
 use Rattle.solver_cli.specs.Stages.{Streams, streams_of, Unmade, FileUncreated, Written, status_of_written}
-use Rattle.solver_cli.specs.Headline.{Run, written_in, OutputFailed, IsUnharmed, IsMade, TextIsMade, MadeStands, RefusalsAreDue, IsComplete}
-use Rattle.solver_cli.proofs.Facts.{behind, whole_of, no_answer, not_unasked, only_misuse, only_help, decided_apart, checks_apart}
+use Rattle.solver_cli.specs.Headline.{Run, written_in, OutputFailed, IsUnharmed, TextIsMade, MadeStands, RefusalsAreDue, IsComplete}
+use Rattle.solver_cli.proofs.Facts.{whole_of, no_answer, not_unasked, only_misuse, only_help, decided_apart, checks_apart}
 use Rattle.solver_cli.proofs.Reading.{rose_since}
 use Rattle.solver_cli.proofs.CallsFor.{no_call_made}
 use Rattle.solver_cli.proofs.Deciding.{deciding}

@@ -32,10 +32,12 @@ pub written : {tells : Bool} {old new : Channel} {problem : Formula} {order : Li
     → (result : Result Run RunError) → Ends tells old new problem order moves limits result → WritesProof tells old new problem order moves limits result
 written spells (Ok run) ends = record {
   says = ends.says;
+  certain = ends.certain;
   shows = ends.shows;
   last = λ t. last_of spells (ends.last t);
   whole = ends.whole;
   so_far = ends.so_far;
+  price = ends.price;
   flushed = ends.flushed;
   fault = ends.fault;
   unfailed = ends.unfailed;
@@ -43,10 +45,12 @@ written spells (Ok run) ends = record {
 }
 written spells (Err error) ends = record {
   says = tt;
+  certain = ends.certain;
   shows = λ t. tt;
   last = λ t. tt;
   whole = ends.whole;
   so_far = ends.so_far;
+  price = ends.price;
   flushed = ends.flushed;
   fault = ends.fault;
   unfailed = ends.unfailed;

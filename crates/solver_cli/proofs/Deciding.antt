@@ -1,5 +1,5 @@
 -- What the words give where they ask to decide a formula.
-use Rattle.std.proofs.Common.{◌≡◌, ℕ, List, refl, Some, IsTrue}
+use Rattle.std.proofs.Common.{ℕ, List, refl, IsTrue}
 use Rattle.cnf_base.specs.Formula.{Formula}
 use Rattle.host_io.specs.Files.{Files}
 use Rattle.schedule_plan.specs.declared.plan.Move.{Move}

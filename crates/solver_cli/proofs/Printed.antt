@@ -1,5 +1,5 @@
 -- What is promised of a run that decided its formula.
-use Rattle.std.proofs.Common.{◌≡◌, ℕ, Bool, true, false, List, [], ◌++◌, append-nil, refl, sym, ap, ◌∙◌, subst, Some, Ok, Err, IsTrue, inl, inr, true≢false}
+use Rattle.std.proofs.Common.{◌≡◌, ℕ, Bool, true, false, List, [], ◌++◌, append-nil, refl, sym, ap, ◌∙◌, subst, Ok, Err, IsTrue, inl, inr, true≢false}
 use Rattle.std.specs.Prelude.{Option, Result, ⊤}
 use Rattle.cnf_base.specs.Formula.{Formula}
 use Rattle.host_io.specs.declared.role.Role.TheVariants.{ProofOut, Out}
@@ -12,6 +12,7 @@ use Rattle.term_runner.specs.declared.outcome.Outcome.TheVariants as outcome
 use Rattle.term_runner.specs.declared.outcome.Run.{Run as Ending}
 use Rattle.term_runner.specs.declared.error.RunError.{RunError}
 use Rattle.term_runner.specs.declared.error.RunError.TheVariants.{WriteFault as Torn}
+use Rattle.term_runner.specs.Price.{IsDecision, priced}
 use Rattle.term_runner.specs.Proofs.{Refutation, IsProof}
 use Rattle.term_runner.specs.Ends.{Says, Shows}
 use Rattle.term_runner.specs.Recovered.{IsRecovered}
@@ -26,7 +27,7 @@ use Rattle.solver_cli.specs.Stages.{Job, Answered, status_after}
 use Rattle.solver_cli.specs.Headline.{Run, written_in, limits_given, text_for, OutputFailed, AsksFor, AnswerTo, IsRefuted, IsSatisfied, IsUndecided, IsTrueAnswer, ProofStands}
 use Rattle.solver_cli.proofs.Facts.{behind, grown_by, whole_of, no_answer}
 use Rattle.solver_cli.proofs.Promised.{Core, due, no_text, no_verdict}
-use Rattle.solver_cli.proofs.Accepted.{Posed, asks_by, asks_for, decision, same_limits, solve_complete, answer_due, Accepts, accepts_write, accepts_answer, proof_whole}
+use Rattle.solver_cli.proofs.Accepted.{Posed, asks_by, asks_for, decision, same_limits, solve_complete, answer_due, Accepts, accepts_write, accepts_answer, proof_so_far, proof_whole}
 
 is_unsat : (found : Outcome) → status_of found ≡ Unsat → found ≡ outcome.Unsat
 is_unsat (outcome.Sat values) e = cc
@@ -59,6 +60,10 @@ no_verdict_of (outcome.Sat values) = ((λ e. cc), λ line reason e. cc)
 no_verdict_of outcome.Unsat = ((λ e. cc), λ line reason e. cc)
 no_verdict_of outcome.NodeLimit = ((λ e. cc), λ line reason e. cc)
 no_verdict_of outcome.IdLimit = ((λ e. cc), λ line reason e. cc)
+
+none_decided : (why : Why) → IsDecision (outcome_at why) → ⊥
+none_decided NodeLimit is = is
+none_decided IdLimit is = is
 
 no_write : (found : Outcome) → status_of found ≡ WriteFault → ⊥
 no_write (outcome.Sat values) e = cc
@@ -112,6 +117,7 @@ answered run {problem = problem} {order = order} {moves = moves} {job = job} pos
   stands = record {
     so_far = λ t. inr (problem, given t, inl (whole t));
     whole = λ unfaulted t. inr (problem, given t, whole t);
+    price = λ t. inr (problem, given t, λ width has. proof_so_far run problem (priced (limits_given run) problem moves width) a.opens.was_idle.written (writes.price width has t));
   }
 
   true_answer : IsTrue run.tells → (rest : List ℕ) → text_for run problem found ≡ written_in run Out ++ rest → IsTrueAnswer run (AnswerTo problem found)
@@ -166,6 +172,7 @@ answered run {problem = problem} {order = order} {moves = moves} {job = job} pos
     order = order;
     moves = moves;
     needs = says_as (outcome_at why) is;
+    short = λ width has ample. none_decided why (subst IsDecision is (writes.certain width has ample));
     shown = λ t. record { asked = asks_by run posed t; reached = shows_as (outcome_at why) is t; printed = printed_as all (outcome_at why) is t };
   }
 

@@ -1,5 +1,5 @@
 -- From how far a run came to what is promised of it.
-use Rattle.std.proofs.Common.{◌≡◌, ℕ, Bool, true, false, List, [], refl, sym, ap, ◌∙◌, subst, Some, IsTrue, inl, inr, true≢false}
+use Rattle.std.proofs.Common.{◌≡◌, Bool, true, false, [], refl, sym, ap, ◌∙◌, subst, Some, IsTrue, inl, inr, true≢false}
 use Rattle.std.specs.Prelude.{◌⊎◌, ◌≢◌}
 use Rattle.host_io.specs.Channel.{Channel}
 use Rattle.host_io.specs.declared.role.Role.{Role}
@@ -52,7 +52,7 @@ pub no_verdict : (run : Run) → is_answer run.status ≡ false → VerdictIsTru
 no_verdict run unanswered = record { verified = λ e. absurd (no_answer unanswered refl e); not_verified = λ line reason e. absurd (no_answer unanswered refl e) }
 
 pub no_proof : (run : Run) → written_in run ProofOut ≡ [] → ProofStands run
-no_proof run none = record { so_far = λ t. inl none; whole = λ _ t. inl none }
+no_proof run none = record { so_far = λ t. inl none; whole = λ _ t. inl none; price = λ t. inl none }
 
 out_of : {old new : Streams} → new ≡ old → new.out ≡ old.out
 out_of same = ap (λ (s : Streams). s.out) same

@@ -1,6 +1,6 @@
 -- What reading a text says of the run, whichever text it is.
-use Rattle.std.proofs.Common.{◌≡◌, ℕ, ◌≤◌, Bool, List, [], length, refl, sym, ap, ◌∙◌, subst, arith, Some, None, Ok, Err, IsTrue, IsOk, inl, inr}
-use Rattle.std.specs.Prelude.{◌≢◌, Result, IfOk, IsErr, Option, ⊤, drop}
+use Rattle.std.proofs.Common.{◌≡◌, ℕ, ◌≤◌, Bool, List, [], length, refl, sym, ap, ◌∙◌, subst, arith, Some, Ok, Err, IsTrue, IsOk, inl, inr}
+use Rattle.std.specs.Prelude.{◌≢◌, Result, IfOk, IsErr, ⊤, drop}
 use Rattle.host_io.specs.Channel.{Channel, Rose}
 use Rattle.host_io.specs.Files.{Files, Opens}
 use Rattle.host_io.specs.declared.source.Failed.{Failed}

@@ -1,6 +1,6 @@
 -- What having an order and having a plan leave of their streams, with a file and without one.
 use Rattle.std.proofs.Common.{◌≡◌, ℕ, Bool, List, refl, ap, subst, Some, None, inl, inr}
-use Rattle.std.specs.Prelude.{Option, Result, Ok, Err, ◌≢◌, ◌⊎◌}
+use Rattle.std.specs.Prelude.{Option, Result, Err, ◌≢◌, ◌⊎◌}
 use Rattle.cnf_base.specs.Formula.{Formula}
 use Rattle.host_io.specs.Channel.{Channel}
 use Rattle.host_io.specs.Files.{Files}

@@ -10,7 +10,7 @@ use Rattle.lrat_rules.specs.declared.outcome.Reason.{Reason}
 use Rattle.lrat_checker.specs.TextVerdict.{max_bytes, text_verdict}
 use Rattle.solver_cli.specs.declared.status.Status.{Status}
 use Rattle.solver_cli.specs.declared.status.Status.TheVariants.{Sat, Unsat, Unknown, Verified, NotVerified, Done, Help, Usage, CnfRefused, OrderRefused, PlanRefused, TooLong, ReadFault, WriteFault, OutOfMemory}
-use Rattle.command_line.specs.Command.{Command, Check}
+use Rattle.command_line.specs.Command.{Command}
 use Rattle.solver_cli.specs.Answer.{AreGiven, AreOfFiles}
 use Rattle.solver_cli.specs.Headline.{Run, written_in, GivesDecision, GivesSolve, Asks, AsksToJudge, IsDue, IsShownRefuted, IsRefuted, Promises}
 use Rattle.solver_cli.specs.SolveThenCheck.{ChecksSolved, MayEnd}

@@ -1,5 +1,5 @@
 -- How the calls of `solve` make its stages.
-use Rattle.std.proofs.Common.{◌≡◌, ℕ, Bool, List, refl, sym, ap, ◌∙◌, subst, Some, None, Ok, Err, inl, inr}
+use Rattle.std.proofs.Common.{◌≡◌, ℕ, Bool, List, refl, sym, ◌∙◌, subst, Some, None, Ok, Err, inl, inr}
 use Rattle.std.specs.Prelude.{Result, Option, ⊤, IsFalse}
 use Rattle.cnf_base.specs.Formula.{Formula}
 use Rattle.host_io.specs.declared.role.Role.{Role}

@@ -23,8 +23,8 @@ use Rattle.solver_cli.specs.Answer.{IsRead, IsOrdered, IsPlanned}
 use Rattle.solver_cli.specs.ExitCode.{status_of_error, status_of_order, status_of_plan}
 use Rattle.solver_cli.specs.Phases.{ReadsText, TakesFormula, TakesOrder, TakesSchedule, HasOrder, HasPlan}
 use Rattle.solver_cli.specs.Stages.{streams_of, Untaken, Unordered, Unplanned}
-use Rattle.solver_cli.specs.Headline.{Run, taken_in, Asks, AsksByOrder, AsksBySchedule, IsRefusedBy, OrderIsRefusedBy, ScheduleIsRefusedBy, IsOpenFormula}
-use Rattle.solver_cli.proofs.Reading.{text_read, ok_err, same_error}
+use Rattle.solver_cli.specs.Headline.{Run, taken_in, Asks, IsRefusedBy, OrderIsRefusedBy, ScheduleIsRefusedBy, IsOpenFormula}
+use Rattle.solver_cli.proofs.Reading.{text_read, ok_err}
 use Rattle.solver_cli.proofs.Facts.{same_command, decided_apart}
 use Rattle.solver_cli.proofs.Promised.{Core, LeftAlone, refused, short, unread, untouched}
 

@@ -1,5 +1,5 @@
 -- The answers of `solve` and `bench`: how a formula is decided, when an outcome holds, and its text on standard output.
-use Rattle.std.specs.Prelude.{◌≡◌, ◌++◌, ℕ, ℤ, List, [], Option, None, Some, length, IsTrue}
+use Rattle.std.specs.Prelude.{◌≡◌, ◌++◌, ℕ, ℤ, List, [], Option, None, Some, length}
 use Rattle.cnf_base.specs.Formula.{Formula}
 use Rattle.cnf_base.specs.ProofText.{proof_lines}
 use Rattle.host_io.specs.Files.{Files}
@@ -20,7 +20,7 @@ use Rattle.term_runner.specs.declared.outcome.Run.{Run as Ending}
 use Rattle.workload.specs.Board.{board_formula, column_order}
 use Rattle.workload.specs.Schedule.{board_moves}
 use Rattle.answer_text.specs.Status.{sat_text, unsat_line, node_limit_text, id_limit_text, board_line, last_line}
-use Rattle.command_line.specs.Command.{Command, ToSolve, ToBench, Solve, Check, Bench, Make, Planned, ByName, ByFile, limits_asked}
+use Rattle.command_line.specs.Command.{Command, ToSolve, Solve, Check, Bench, Make, Planned, ByName, ByFile, limits_asked}
 use Rattle.command_line.specs.declared.plan.PlanName.{PlanName}
 use Rattle.command_line.specs.declared.plan.PlanName.TheVariants.{Bucket, Conjoin}
 use Rattle.solver_cli.specs.declared.answer.Shape.{Shape}

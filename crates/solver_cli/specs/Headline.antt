@@ -20,7 +20,9 @@ use Rattle.schedule_plan.specs.declared.limits.Limits.{Limits}
 use Rattle.term_runner.specs.declared.outcome.Outcome.{Outcome}
 use Rattle.term_runner.specs.declared.outcome.Outcome.TheVariants as outcome
 use Rattle.term_runner.specs.Clauses.{has_empty_clause, one_line}
+use Rattle.term_runner.specs.Price.{AreAmple, priced}
 use Rattle.term_runner.specs.Proofs.{AreUnsatisfiable, IsProof, IsProofSoFar}
+use Rattle.term_runner.specs.Width.{HasWidth}
 use Rattle.term_runner.specs.Ends.{Says, Shows}
 use Rattle.term_runner.specs.Recovered.{IsRecovered}
 use Rattle.answer_text.specs.Status.{verified_line, refused_text}
@@ -184,9 +186,9 @@ pub record IsSatisfied (run : Run) : Type 0 where
 abbrev pub SatisfiableIsTrue : Run → Type 0
 SatisfiableIsTrue run = run.status ≡ Sat → IsSatisfied run
 
--- Undecided: the words give `solve` or `bench`, and the plan needs more nodes than are allowed, where that is the limit. It
--- is the formula that is asked for, by its order and plan; the proof's bytes show that the limit is reached, and it was
--- printed.
+-- Undecided: the words give `solve` or `bench`, and the plan is wider than the nodes that are allowed, where that is the
+-- limit; no width fits into the limits. It is the formula that is asked for, by its order and plan; the proof's bytes show
+-- that the limit is reached, and it was printed.
 pub record IsShownUndecided (run : Run) (why : Why) (problem : Formula) (order : List ℕ) (moves : List Move) : Type 0 where
   pub asked : AsksBy run problem order moves
   pub reached : Shows problem (limits_given run) (written_in run ProofOut) (outcome_at why)
@@ -198,6 +200,7 @@ pub record IsUndecided (run : Run) (why : Why) : Type 0 where
   pub order : List ℕ
   pub moves : List Move
   pub needs : Says problem order moves (limits_given run) (outcome_at why)
+  pub short : (width : ℕ) → HasWidth problem order moves width → AreAmple (limits_given run) problem moves width → ⊥
   pub shown : IsTrue run.tells → IsShownUndecided run why problem order moves
 
 abbrev pub LimitsAreReached : Run → Type 0
@@ -427,10 +430,12 @@ pub record ErrorStands (run : Run) : Type 0 where
 -- The proof: nothing, or exactly the lines of good steps from the clauses of the formula that is asked for, whose deletions
 -- name only live clauses that were added; no number in it is above the formula's and the greatest allowed, and no more
 -- extension variables are in use than nodes are allowed. A front of one more such line may stand behind them only after
--- a failed write.
+-- a failed write. However the run ends, it keeps within what the width of the plan that is asked for needs.
 pub record ProofStands (run : Run) : Type 0 where
   pub so_far : IsTrue run.tells → (written_in run ProofOut ≡ []) ⊎ ((problem : Formula) × AsksFor run problem × IsProofSoFar problem (limits_given run) (written_in run ProofOut))
   pub whole : run.status ≢ WriteFault → IsTrue run.tells → (written_in run ProofOut ≡ []) ⊎ ((problem : Formula) × AsksFor run problem × IsProof problem (limits_given run) (written_in run ProofOut))
+  pub price : IsTrue run.tells → (written_in run ProofOut ≡ []) ⊎ ((problem : Formula) × (asked : AsksFor run problem)
+      × ((width : ℕ) → HasWidth problem asked.order asked.moves width → IsProofSoFar problem (priced (limits_given run) problem asked.moves width) (written_in run ProofOut)))
 
 -- a status with which a run ends that creates no file, or before it does
 abbrev pub ends_before_proof : Status → Bool

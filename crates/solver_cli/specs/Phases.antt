@@ -1,5 +1,5 @@
 -- The parts of a run, each over the one role that it serves.
-use Rattle.std.specs.Prelude.{◌≡◌, ◌≢◌, ◌⊎◌, ◌≤◌, ◌++◌, ℕ, Bool, List, [], Option, None, Some, Result, Ok, Err, length, IsTrue, IsOk, IsErr, IfOk, IfErr, ℤ, ⊤}
+use Rattle.std.specs.Prelude.{◌≡◌, ◌≢◌, ◌⊎◌, ◌≤◌, ◌++◌, ℕ, Bool, List, [], Option, None, Some, Result, Err, length, IsTrue, IsOk, IsErr, IfOk, IfErr, ℤ, ⊤}
 use Rattle.cnf_base.specs.Formula.{Formula, IsFormula}
 use Rattle.host_io.specs.declared.source.Failed.{Failed}
 use Rattle.host_io.specs.Channel.{Channel, Rose}
@@ -29,7 +29,9 @@ use Rattle.command_line.specs.Command.{Planned, ByName, ByFile}
 use Rattle.solver_cli.specs.Answer.{last_identifier, moves_of_plan}
 use Rattle.schedule_plan.specs.declared.limits.Limits.{Limits}
 use Rattle.term_runner.specs.Ends.{Says, Shows}
+use Rattle.term_runner.specs.Price.{AreAmple, IsDecision, priced}
 use Rattle.term_runner.specs.Proofs.{IsProof, IsProofSoFar}
+use Rattle.term_runner.specs.Width.{HasWidth}
 use Rattle.term_runner.specs.declared.outcome.Run.{Run as Ending}
 use Rattle.term_runner.specs.declared.error.RunError.{RunError}
 use Rattle.term_runner.specs.declared.error.RunError.TheVariants.{WriteFault as Torn}
@@ -145,13 +147,16 @@ pub record OnlyWritten (old new : Channel) : Type 0 where
   pub faults : old.faults ≤ new.faults
 
 -- A formula was decided, and its proof written: exactly the lines of good steps, within the limits, flushed where the
--- formula was decided; a line that is cut short only after a failed write. The greatest identifier is that of the bytes.
+-- formula was decided; a line that is cut short only after a failed write. It keeps within what the plan's width needs.
+-- The greatest identifier is that of the bytes.
 pub record WritesProof (tells : Bool) (old new : Channel) (problem : Formula) (order : List ℕ) (moves : List Move) (limits : Limits) (result : Result Ending RunError) : Type 0 where
   pub says : IfOk result (λ ending. Says problem order moves limits ending.outcome)
+  pub certain : (width : ℕ) → HasWidth problem order moves width → AreAmple limits problem moves width → IfOk result (λ ending. IsDecision ending.outcome)
   pub shows : IsTrue tells → IfOk result (λ ending. Shows problem limits new.written ending.outcome)
   pub last : IsTrue tells → IfOk result (λ ending. ending.last_id ≡ last_identifier problem.clauses new.written)
   pub whole : result ≢ Err Torn → IsTrue tells → IsProof problem limits new.written
   pub so_far : IsTrue tells → IsProofSoFar problem limits new.written
+  pub price : (width : ℕ) → HasWidth problem order moves width → IsTrue tells → IsProofSoFar problem (priced limits problem moves width) new.written
   pub flushed : IsOk result → IsTrue tells → new.flushed ≡ length new.written
   pub fault : result ≡ Err Torn → Rose old.faults new.faults
   pub unfailed : result ≢ Err Torn → new.faults ≡ old.faults

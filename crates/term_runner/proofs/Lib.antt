@@ -11,7 +11,9 @@ pub mod Taking
 pub mod Between
 pub mod Opening
 pub mod Planned
+pub mod Listed
 pub mod Parts
+pub mod NewNodes
 pub mod Leaving
 pub mod Tidied
 pub mod OwnUnits
@@ -24,3 +26,8 @@ pub mod Giving
 pub mod Retired
 pub mod Again
 pub mod Reclaimed
+pub mod InHand
+pub mod FewLeft
+pub mod ReachedList
+pub mod Priced
+pub mod WidthExamples

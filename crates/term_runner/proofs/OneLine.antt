@@ -1,7 +1,8 @@
 -- The line that refutes a formula with an empty clause.
-use Rattle.std.proofs.Common.{◌≡◌, ◌≢◌, ℕ, ◌+◌, ◌<◌, ◌≤◌, ◌++◌, Bool, true, false, List, ℤ, [], ◌∷◌, length, Option, None, Some, Result, Ok, Err, refl, sym, ap, ◌∙◌, subst, arith, inl, inr}
+use Rattle.std.proofs.Common.{◌≡◌, ◌≢◌, ℕ, zero, suc, ◌+◌, ◌^◌, ◌<◌, ◌≤◌, ◌++◌, Bool, true, false, List, ℤ, [], ◌∷◌, length, Option, None, Some, Result, Ok, Err, refl, sym, ap, ◌∙◌, subst, arith, inl, inr}
 use Rattle.std.specs.Prelude.{◌↔◌, IsTrue, IsOk, IfOk, IfErr, nat_lt, nat_le, ◌&&◌}
 use Rattle.std.specs.List.{list_all}
+use Rattle.std.proofs.Math.Nat.{one-le-mul, two-pow-succ}
 use Rattle.std.proofs.lemmas.Bool.{and_from, cases_lt, lt-ltb, le-leb}
 use Rattle.std.proofs.lemmas.List.Folds.{list_all-append}
 use Rattle.cnf_base.specs.Truth.{AreClausesOf, is_literal_of}
@@ -18,8 +19,11 @@ use Rattle.node_table.specs.declared.error.TableError.{TableError}
 use Rattle.node_table.specs.declared.error.TableError.TheVariants as table
 use Rattle.schedule_plan.specs.declared.plan.Move.{Move}
 use Rattle.schedule_plan.specs.declared.limits.Limits.{Limits}
+use Rattle.schedule_plan.specs.Plan.{IsAdmissible, Stage, is_pushed, no_stage}
+use Rattle.term_runner.specs.declared.error.RunError.TheVariants.{WriteFault}
 use Rattle.term_runner.specs.Clauses.{is_tautology, has_empty_clause, first_empty}
-use Rattle.term_runner.specs.Proofs.{KeepsWithin}
+use Rattle.term_runner.specs.Price.{IsDecision, most_ids, move_price, priced}
+use Rattle.term_runner.specs.Proofs.{IsBroken, KeepsWithin}
 use Rattle.term_runner.specs.Ends.{Says, Shows, outcome_of}
 use Rattle.term_runner.specs.Opened.{IsOpened, Leads}
 use Rattle.term_runner.proofs.Ending.{by_outcome, torn_of, whole_of, written_of}
@@ -65,6 +69,31 @@ next_within unused appended formula limits literals room =
       nodes = subst (λ (s : State). in_use formula.vars s ≤ limits.max_nodes) (appended formula.clauses []) (omega (arith, none));
     }
 
+one_power : (n : ℕ) → 0 < 2 ^ n
+one_power zero = omega arith
+one_power (suc n) = omega (arith, one_power n, two-pow-succ n)
+
+-- a plan of some moves has room for a number above the formula's
+above_start : (formula : Formula) (moves : List Move) (width : ℕ) → 0 < length moves → length formula.clauses < most_ids formula moves width
+above_start formula moves width some =
+    let price : 0 < move_price formula.vars width = omega (arith, one_power formula.vars) in
+    let all = one-le-mul some price in
+    omega (arith, all)
+
+-- a plan of a formula with clauses has some moves
+pub some_moves : (formula : Formula) (moves : List Move) → IsAdmissible formula moves → has_empty_clause formula.clauses ≡ true → 0 < length moves
+some_moves formula [] plan has = absurd (none_pushed formula.clauses has plan.all_pushed)
+  where
+    none_there : plan.last.pushed ≡ []
+    none_there = let same : Some no_stage ≡ Some plan.last = plan.possible in let is : no_stage ≡ plan.last = cc in sym (ap (λ (s : Stage). s.pushed) is)
+
+    none_pushed : (clauses : List (List ℤ)) → has_empty_clause clauses ≡ true → ((i : ℕ) → 0 < i → i ≤ length clauses → is_pushed plan.last.pushed i ≡ true) → ⊥
+    none_pushed [] is all = let e : false ≡ true = is in cc
+    none_pushed (clause ∷ more) is all =
+        let e : false ≡ true = subst (λ (pushed : List ℕ). is_pushed pushed 1 ≡ true) none_there (all 1 (omega arith) (omega arith)) in
+        cc
+some_moves formula (move ∷ moves) plan has = omega arith
+
 -- what the addition of the empty clause left
 pub record Added {S : Type 0} (tells : Bool) (before after : Channel) (hint : ℕ) (old new : Book S) (result : Result (Option (List Bool)) TableError) : Type 0 where
   pub found : IfOk result (λ found. (found ≡ None) × (new.state ≡ with_next old.state []))
@@ -83,7 +112,7 @@ pub record Added {S : Type 0} (tells : Bool) (before after : Channel) (hint : �
 
 module _ {S : Type 0} (unused : Unused) (appended : Appended) (tells : Bool) (before after : Channel) (hint : ℕ) (old new : Book S) (result : Result (Option (List Bool)) TableError)
     (added : Added tells before after hint old new result) (formula : Formula) (order : List ℕ) (moves : List Move) (limits : Limits) (opened : IsOpened tells before formula limits.max_ids old)
-    (first : hint ≡ first_empty formula.clauses) (has : IsTrue (has_empty_clause formula.clauses)) where
+    (first : hint ≡ first_empty formula.clauses) (has : IsTrue (has_empty_clause formula.clauses)) (some : 0 < length moves) where
   top_at_start : old.state.top ≡ length formula.clauses
   top_at_start = ap (λ (s : State). s.top) opened.state
 
@@ -94,17 +123,21 @@ module _ {S : Type 0} (unused : Unused) (appended : Appended) (tells : Bool) (be
     | inr more ↦ absurd (given (added.id_limit.1 more))
   ]
 
-  same_within : new.state ≡ old.state → KeepsWithin formula limits new.state
-  same_within same = subst (λ (s : State). KeepsWithin formula limits s) (sym (same ∙ opened.state)) (start_within unused formula limits opened.literals)
+  -- of a number more there is room within the price of any width
+  room_by_price : (width : ℕ) → length formula.clauses < most_ids formula moves width
+  room_by_price width = above_start formula moves width some
 
-  more_within : new.state ≡ with_next old.state [] → result ≢ Err table.IdLimit → KeepsWithin formula limits new.state
-  more_within is given =
-      subst (λ (s : State). KeepsWithin formula limits s) (sym (is ∙ (λ k. with_next (opened.state k) []))) (next_within unused appended formula limits opened.literals (room_of given))
+  same_within : (within : Limits) → new.state ≡ old.state → KeepsWithin formula within new.state
+  same_within within same = subst (λ (s : State). KeepsWithin formula within s) (sym (same ∙ opened.state)) (start_within unused formula within opened.literals)
 
-  within_of : (r : Result (Option (List Bool)) TableError) → result ≡ r → r ≢ Err table.WriteFault → IfOk r (λ found. (found ≡ None) × (new.state ≡ with_next old.state []))
-      → IfErr r (λ e. e ≢ table.WriteFault → new.state ≡ old.state) → KeepsWithin formula limits new.state
-  within_of (Ok found) is whole ok refused = more_within ok.1 (λ e. let wrong : ◌≡◌ {A = Result (Option (List Bool)) TableError} (Ok found) (Err table.IdLimit) = sym is ∙ e in cc)
-  within_of (Err e) is whole ok refused = same_within (refused (λ torn. whole (ap Err torn)))
+  more_within : (within : Limits) → length formula.clauses < within.max_ids → new.state ≡ with_next old.state [] → KeepsWithin formula within new.state
+  more_within within room is =
+      subst (λ (s : State). KeepsWithin formula within s) (sym (is ∙ (λ k. with_next (opened.state k) []))) (next_within unused appended formula within opened.literals room)
+
+  within_of : (within : Limits) (r : Result (Option (List Bool)) TableError) → (r ≢ Err table.IdLimit → length formula.clauses < within.max_ids) → r ≢ Err table.WriteFault
+      → IfOk r (λ found. (found ≡ None) × (new.state ≡ with_next old.state [])) → IfErr r (λ e. e ≢ table.WriteFault → new.state ≡ old.state) → KeepsWithin formula within new.state
+  within_of within (Ok found) room whole ok refused = more_within within (room (λ e. let wrong : ◌≡◌ {A = Result (Option (List Bool)) TableError} (Ok found) (Err table.IdLimit) = e in cc)) ok.1
+  within_of within (Err e) room whole ok refused = same_within within (refused (λ torn. whole (ap Err torn)))
 
   none_found : (values : List Bool) → result ≡ Ok (Some values) → ⊥
   none_found values is = refuted (subst (λ (r : Result (Option (List Bool)) TableError). IfOk r (λ found. (found ≡ None) × (new.state ≡ with_next old.state []))) is added.found).0
@@ -123,16 +156,16 @@ module _ {S : Type 0} (unused : Unused) (appended : Appended) (tells : Bool) (be
   added_leads = record {
     in_step = λ whole. added.in_step (whole_of result whole);
     proof = λ whole. added.kept formula.clauses opened.proof (whole_of result whole);
-    within = λ whole. within_of result refl (whole_of result whole) added.found added.refused;
-    broken = λ is t.
-        let torn = torn_of result is in
-        record {
-          before = old.state;
-          after = new.state;
-          cut = added.cut formula.clauses opened.proof t torn;
-          within_before = subst (λ (s : State). KeepsWithin formula limits s) (sym opened.state) (start_within unused formula limits opened.literals);
-          within_after = more_within (added.fault_state torn) (λ e. two_causes (sym torn ∙ e));
-        };
+    within = λ whole. within_of limits result room_of (whole_of result whole) added.found added.refused;
+    within_price = λ width has whole. within_of (priced limits formula moves width) result (λ _. room_by_price width) (whole_of result whole) added.found added.refused;
+    broken = λ is t. broken_within limits is t (room_of (λ e. two_causes (sym (torn_of result is) ∙ e)));
+    broken_price = λ width has is t. broken_within (priced limits formula moves width) is t (room_by_price width);
+    certain = λ width has_width ample.
+        by_outcome IsDecision result (λ _. tt) (λ values is. tt) (λ is. absurd (added.no_node_limit is))
+        (λ is.
+        let limit = added.id_limit.0 is in
+        let above = room_by_price width in
+        omega (arith, limit, opened.limit, top_at_start, ample.1, above));
     says = by_outcome (Says formula order moves limits) result (λ _. none_satisfies formula.clauses has) (λ values is. absurd (none_found values is)) (λ is. absurd (added.no_node_limit is)) (λ _. tt);
     shows = λ t.
         by_outcome (Shows formula limits after.written) result
@@ -161,3 +194,14 @@ module _ {S : Type 0} (unused : Unused) (appended : Appended) (tells : Bool) (be
     where
       two_causes : ◌≡◌ {A = Result (Option (List Bool)) TableError} (Err table.WriteFault) (Err table.IdLimit) → ⊥
       two_causes e = cc
+
+      broken_within : (within : Limits) → outcome_of result ≡ Err WriteFault → IsTrue tells → length formula.clauses < within.max_ids → IsBroken formula within after.written
+      broken_within within is t room =
+          let torn = torn_of result is in
+          record {
+            before = old.state;
+            after = new.state;
+            cut = added.cut formula.clauses opened.proof t torn;
+            within_before = subst (λ (s : State). KeepsWithin formula within s) (sym opened.state) (start_within unused formula within opened.literals);
+            within_after = more_within within room (added.fault_state torn);
+          }

@@ -1,5 +1,5 @@
 -- From an opened ledger to the end of the moves.
-use Rattle.std.proofs.Common.{◌≡◌, ◌≢◌, ℕ, zero, suc, ◌+◌, ◌<◌, ◌≤◌, ◌⊎◌, Bool, true, false, ℤ, List, [], length, Option, None, Some, Result, Ok, Err, refl, sym, ap, ◌∙◌, subst, arith, inl, inr}
+use Rattle.std.proofs.Common.{◌≡◌, ◌≢◌, ℕ, zero, suc, ◌+◌, ◌*◌, ◌<◌, ◌≤◌, ◌⊎◌, Bool, true, false, ℤ, List, [], length, Option, None, Some, Result, Ok, Err, refl, sym, ap, ◌∙◌, subst, arith, inl, inr}
 use Rattle.std.specs.Prelude.{IsTrue, IsFalse, IfOk, MatchOption, slice_index_or}
 use Rattle.std.specs.List.{list_all, list_any}
 use Rattle.std.specs.FinMap as map
@@ -29,9 +29,11 @@ use Rattle.term_runner.specs.Proofs.{IsProof, KeepsWithin}
 use Rattle.term_runner.specs.Recovered.{IsRecovered}
 use Rattle.term_runner.specs.Ends.{Says, Shows, outcome_of}
 use Rattle.term_runner.specs.Held.{IsReady}
-use Rattle.term_runner.specs.Needs.{RunsShort}
+use Rattle.term_runner.specs.Price.{IsDecision, most_ids, most_nodes, move_price}
+use Rattle.term_runner.specs.Width.{HasWidth}
+use Rattle.term_runner.specs.Nodes.{RunsShort}
 use Rattle.term_runner.specs.Opened.{IsOpened, Leads}
-use Rattle.term_runner.proofs.Parts.{needs_more}
+use Rattle.term_runner.proofs.Parts.{is_wider, wider_less}
 use Rattle.term_runner.proofs.Leaving.{went_on}
 use Rattle.term_runner.proofs.Ending.{by_outcome, torn_of, whole_of, written_of}
 use Rattle.term_runner.proofs.OneLine.{Unused, start_within}
@@ -121,7 +123,9 @@ pub record Decided {S : Type 0} (tells : Bool) (before after : Channel) (formula
   pub tautologies : IsTrue (list_all is_tautology formula.clauses) → after.written ≡ before.written
   pub open_clause : (result ≡ Err NodeLimit) ⊎ (result ≡ Err IdLimit) → IsFalse (list_all is_tautology formula.clauses)
   pub short : result ≡ Err NodeLimit → RunsShort formula order moves new.graph
+  pub price : (width : ℕ) → HasWidth formula order moves width → new.book.state.top ≤ old.book.state.top + length moves * move_price (levels old.graph) width
   pub few : live_nodes new.graph ≤ new.max_nodes
+  pub nodes : (width : ℕ) → HasWidth formula order moves width → live_nodes new.graph ≤ most_nodes width
 
 either : (result : Result (Option (List Bool)) TableError) (X : Type 0) → (result ≢ Err WriteFault → X) → (result ≡ Err WriteFault → X) → X
 either (Ok found) X whole torn = whole (λ e. cc)
@@ -178,11 +182,20 @@ module _ {S : Type 0} (canonical : Canonical) (unsatisfied : DerivedEmpty) (refu
     nodes = omega (arith, used whole, decided.few, (grown whole).max_nodes, few_nodes);
   }
 
-  within_limits : (state : State) → IsWithin (levels old.graph) (number_limit old) old.max_nodes state → KeepsWithin formula limits state
-  within_limits state is = record {
+  nodes_within : (most : ℕ) → live_nodes new.graph ≤ most → (state : State) → IsWithin (levels old.graph) (number_limit old) (live_nodes new.graph) state → in_use formula.vars state ≤ most
+  nodes_within most few state is = subst (λ (v : ℕ). in_use v state ≤ most) ready.vars (omega (arith, is.nodes, few))
+
+  within_limits : live_nodes new.graph ≤ old.max_nodes → (state : State) → IsWithin (levels old.graph) (number_limit old) (live_nodes new.graph) state → KeepsWithin formula limits state
+  within_limits few state is = record {
     numbers = omega (arith, is.numbers, top_at_start, opened.limit);
-    nodes = subst (λ (v : ℕ). in_use v state ≤ limits.max_nodes) ready.vars (subst (λ (n : ℕ). in_use (levels old.graph) state ≤ n) few_nodes is.nodes);
+    nodes = nodes_within limits.max_nodes (omega (arith, few, few_nodes)) state is;
   }
+
+  -- the last number, by the plan's width
+  by_price : (width : ℕ) → HasWidth formula order moves width → new.book.state.top ≤ most_ids formula moves width
+  by_price width has =
+      let own = subst (λ (vars : ℕ). new.book.state.top ≤ old.book.state.top + length moves * move_price vars width) ready.vars (decided.price width has) in
+      omega (arith, own, top_at_start)
 
   not_torn : (other : Result (Option (List Bool)) TableError) → result ≡ other → other ≢ Err WriteFault → result ≢ Err WriteFault
   not_torn other is differs e = differs (sym is ∙ e)
@@ -199,7 +212,7 @@ module _ {S : Type 0} (canonical : Canonical) (unsatisfied : DerivedEmpty) (refu
       (λ values is. found_in (Some values) is)
       (λ is.
       let more = grown (not_torn (Err NodeLimit) is (λ e. cc)) in
-      needs_more canonical formula order moves new.graph more.sound.tied.reduced (decided.short is) limits.max_nodes (omega (arith, at_node_limit is, decided.few, more.max_nodes, few_nodes)))
+      is_wider canonical formula order moves new.graph more.sound.tied.reduced (decided.short is) limits.max_nodes (omega (arith, at_node_limit is, decided.few, more.max_nodes, few_nodes)))
       (λ _. tt)
 
   shows : IsTrue tells → IfOk (outcome_of result) (Shows formula limits after.written)
@@ -237,7 +250,29 @@ module _ {S : Type 0} (canonical : Canonical) (unsatisfied : DerivedEmpty) (refu
     within = λ whole. within (whole_of result whole);
     broken = λ is t.
         let cut = (torn (torn_of result is)).cut formula.clauses all_inputs opened.proof t in
-        record { before = cut.before; after = new.book.state; cut = cut.cut; within_before = within_limits cut.before cut.within_before; within_after = within_limits new.book.state cut.within_after };
+        let few = (torn (torn_of result is)).few in
+        record { before = cut.before; after = new.book.state; cut = cut.cut; within_before = within_limits few cut.before cut.within_before; within_after = within_limits few new.book.state cut.within_after };
+    within_price = λ width has whole. record { numbers = omega (arith, by_price width has); nodes = omega (arith, used (whole_of result whole), decided.nodes width has) };
+    broken_price = λ width has is t.
+        let cut = (torn (torn_of result is)).cut formula.clauses all_inputs opened.proof t in
+        let last = by_price width has in
+        let few = decided.nodes width has in
+        record {
+          before = cut.before;
+          after = new.book.state;
+          cut = cut.cut;
+          within_before = record { numbers = omega (arith, cut.no_less, last); nodes = nodes_within (most_nodes width) few cut.before cut.within_before };
+          within_after = record { numbers = omega (arith, last); nodes = nodes_within (most_nodes width) few new.book.state cut.within_after };
+        };
+    certain = λ width has ample.
+        by_outcome IsDecision result (λ _. tt) (λ values is. tt)
+        (λ is.
+        let more = grown (not_torn (Err NodeLimit) is (λ e. cc)) in
+        let wider = is_wider canonical formula order moves new.graph more.sound.tied.reduced (decided.short is) limits.max_nodes (omega (arith, at_node_limit is, decided.few, more.max_nodes, few_nodes)) in
+        has (wider_less formula order moves width limits.max_nodes ample.0 wider))
+        (λ is.
+        let last = by_price width has in
+        omega (arith, at_id_limit is, (grown (not_torn (Err IdLimit) is (λ e. cc))).limit, opened.limit, last, ample.1));
     says = says;
     shows = shows;
     fault = λ is. (torn (torn_of result is)).rose;

@@ -1,28 +1,28 @@
 -- The nodes that a plan's moves make are of parts of its terms.
-use Rattle.std.proofs.Common.{◌≡◌, ℕ, zero, suc, ◌<◌, Bool, true, ◌&&◌, List, [], ◌∷◌, take, Option, None, Some, is_some, nat_cmp, Result, Ok, Err, refl, sym, ap, ◌∙◌, subst, arith, inl, inr, eq-eqb, ne_eqb}
+use Rattle.std.proofs.Common.{◌≡◌, ℕ, zero, suc, ◌<◌, Bool, true, ◌&&◌, List, [], ◌∷◌, take, Option, None, Some, is_some, Result, Ok, Err, refl, sym, ap, ◌∙◌, arith, inl, inr, eq-eqb, ne_eqb}
 use Rattle.std.specs.Prelude.{IfErr, ◌==◌, if◌then◌else◌}
 use Rattle.std.specs.List.{slice_get}
 use Rattle.std.specs.Option.{option_and_then}
-use Rattle.std.specs.FinMap as finmap
 use Rattle.std.proofs.lemmas.List.Sums.{position_or_len_is}
+use Rattle.cnf_base.specs.Truth.{Assignment}
 use Rattle.cnf_base.specs.Formula.{Formula}
 use Rattle.lrat_rules.specs.State.{Live}
 use Rattle.node_table.specs.declared.node.Node.{Node}
 use Rattle.node_table.specs.declared.node.Node.TheVariants.{False, True, Inner}
-use Rattle.node_table.specs.declared.node.Branch.{Branch}
 use Rattle.node_table.specs.declared.node.Just.{Just}
 use Rattle.node_table.specs.declared.error.TableError.{TableError}
 use Rattle.node_table.specs.declared.error.TableError.TheVariants.{NodeLimit, OutOfMemory}
 use Rattle.node_table.specs.Diagram.{Graph, IsOrder, IsReduced, KeepsNodes, branch_at, is_node, levels, variable_at}
 use Rattle.node_table.specs.Value.{Levels, branch_value, by_level, value_of, value_within}
-use Rattle.node_table.specs.Made.{LacksPart, MakesOnly, inner}
+use Rattle.node_table.specs.Made.{MakesOnly, inner}
 use Rattle.node_table.specs.Laws.{Growth}
 use Rattle.schedule_plan.specs.declared.plan.Move.{Move}
-use Rattle.schedule_plan.specs.Plan.{Term, both, Stage, term_holds, after_move, after_moves, no_stage}
+use Rattle.schedule_plan.specs.Plan.{Term, both, Stage, term_holds, after_move, after_moves}
 use Rattle.clause_terms.specs.Term.{IsTerm, by_variable}
 use Rattle.apply_and.specs.Conjunction.{conjunction_of}
-use Rattle.term_runner.specs.Needs.{IsPlanned, KeepsOrMakes, RunsShort, term_function, top_function}
-use Rattle.term_runner.proofs.Parts.{some_of}
+use Rattle.term_runner.specs.Width.{term_function}
+use Rattle.term_runner.specs.Nodes.{KeepsOrMakes}
+use Rattle.term_runner.proofs.Listed.{some_of}
 
 -- the nodes look at no other levels than those of the order
 module _ (graph : Graph) (reduced : IsReduced graph) (ordered : IsOrder graph.order) where
@@ -46,15 +46,17 @@ module _ (graph : Graph) (reduced : IsReduced graph) (ordered : IsOrder graph.or
       ∙ (λ i. if same_here i then same_high i else same_low i)
       ∙ sym (ap (branch_value b (value_within steps graph b)) at)
 
-  node_function : (formula : Formula) (live : Live) (node : Node) (unit : Just) (term : Term) → IsTerm graph live (λ a. term_holds formula a term) node unit → (a : Levels) → value_of graph a node ≡ term_function formula graph.order term a
-  node_function formula live node unit term is a =
-      sym (agree_within (levels graph) (by_level graph.order (by_variable graph.order a)) a node is.stands (λ level small. value_there a level small)) ∙ is.value (by_variable graph.order a)
+  -- a node's function by levels, where it is a term's by assignments
+  pub node_function : (formula : Formula) (node : Node) (term : Term) → is_node graph node ≡ true → ((a : Assignment) → value_of graph (by_level graph.order a) node ≡ term_holds formula a term)
+      → (a : Levels) → value_of graph a node ≡ term_function formula graph.order term a
+  node_function formula node term stands value a =
+      sym (agree_within (levels graph) (by_level graph.order (by_variable graph.order a)) a node stands (λ level small. value_there a level small)) ∙ value (by_variable graph.order a)
 
   -- the conjunction of two terms' nodes
   pub both_function : (formula : Formula) (live : Live) (u v : Node) (first second : Just) (one other : Term) → IsTerm graph live (λ a. term_holds formula a one) u first → IsTerm graph live (λ a. term_holds formula a other) v second
       → conjunction_of graph u v ≡ term_function formula graph.order (both one other)
   both_function formula live u v first second one other is_u is_v =
-      λ i a. node_function formula live u first one is_u a i && node_function formula live v second other is_v a i
+      λ i a. node_function formula u one is_u.stands is_u.value a i && node_function formula v other is_v.stands is_v.value a i
 
 -- a front of the moves, and one move more
 pub moved_on : (formula : Formula) (moves : List Move) (i : ℕ) (step : Move) (first stage next : Stage) → slice_get moves i ≡ Some step → after_moves formula first (take i moves) ≡ Some stage
@@ -83,37 +85,6 @@ keeps_or_makes growth old new function reduced keeps made = record {
     | inl there ↦ inl (there, λ a. growth.value old new reduced keeps a (inner key) (ap is_some there))
     | inr part ↦ inr part
   ];
-}
-
--- the nodes made so far, and those of one move more
-pub record AreMade (formula : Formula) (order : List ℕ) (moves : List Move) (graph : Graph) : Type 0 where
-  pub planned : (key : ℕ) (branch : Branch) → branch_at graph key ≡ Some branch → IsPlanned formula order moves (λ a. value_of graph a (inner key))
-
-pub none_made : (formula : Formula) (order : List ℕ) (moves : List Move) (graph : Graph) → graph.nodes ≡ finmap.empty → AreMade formula order moves graph
-none_made formula order moves graph empty = record {
-  planned = λ key branch at.
-      let e : None ≡ Some branch = sym (finmap.get-empty nat_cmp key) ∙ (λ k. finmap.get (sym empty k) key) ∙ at in absurd (absent branch e);
-}
-  where
-    absent : (branch : Branch) → None ≡ Some branch → ⊥
-    absent branch e = cc
-
-pub more_made : (formula : Formula) (order : List ℕ) (moves : List Move) (old new : Graph) → AreMade formula order moves old → (count : ℕ) (stage : Stage) → after_moves formula no_stage (take count moves) ≡ Some stage
-    → KeepsOrMakes old new (top_function formula order stage.stack) → AreMade formula order moves new
-more_made formula order moves old new before count stage reached made = record {
-  planned = λ key branch at. elim (made.each key branch at) [
-    | inl there ↦ subst (IsPlanned formula order moves) (λ k a. sym (there.1 a) k) (before.planned key branch there.0)
-    | inr part ↦ record { count = count; stage = stage; reached = reached; is_part = part }
-  ];
-}
-
-pub runs_short : (formula : Formula) (order : List ℕ) (moves : List Move) (graph : Graph) → AreMade formula order moves graph → (count : ℕ) (stage : Stage) → after_moves formula no_stage (take count moves) ≡ Some stage
-    → LacksPart graph (top_function formula order stage.stack) → RunsShort formula order moves graph
-runs_short formula order moves graph made count stage reached lacks = record {
-  planned = made.planned;
-  further = lacks.part;
-  is_planned = record { count = count; stage = stage; reached = reached; is_part = lacks.is_part };
-  nowhere = lacks.nowhere;
 }
 
 -- want of memory is no limit of nodes

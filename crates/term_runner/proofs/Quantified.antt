@@ -18,7 +18,7 @@ use Rattle.clause_terms.specs.Term.{by_variable}
 use Rattle.schedule_plan.specs.Plan.{Term, some_value, term_holds}
 use Rattle.term_runner.specs.declared.held.Held.{Held}
 use Rattle.term_runner.specs.Held.{IsHeld}
-use Rattle.term_runner.specs.Needs.{term_function}
+use Rattle.term_runner.specs.Width.{term_function}
 use Rattle.term_runner.proofs.Planned.{agree_within, value_there}
 
 -- one variable set, by its number and by its level

@@ -28,7 +28,7 @@ use Rattle.operations.specs.Entries.{Entry}
 use Rattle.reclaim.specs.Reclaimed.{IsOverReached, MayReclaim, Reclaims}
 use Rattle.schedule_plan.specs.Plan.{Stage, Term}
 use Rattle.term_runner.specs.declared.held.Held.{Held}
-use Rattle.term_runner.specs.Held.{AreHeld, AreKept, HasUnits, IsAt, IsHeld, IsReady, IsUnitOf}
+use Rattle.term_runner.specs.Held.{AreHeld, AreKept, HasUnits, IsAt, IsHeld, IsKept, IsReady, IsUnitOf}
 use Rattle.term_runner.specs.Tidy.{LeavesReached, held_nodes}
 use Rattle.term_runner.proofs.Inputs.{input_literals, input_live}
 use Rattle.term_runner.proofs.OwnUnits.{later}
@@ -36,12 +36,12 @@ use Rattle.term_runner.proofs.Trails.{in_reverse}
 
 -- what is in a list that is mapped, and in one that is reversed
 module _ {A B : Type 0} (f : A → B) where
-  in_map : (xs : List A) (x : A) → Contains xs x → Contains (map f xs) (f x)
+  pub in_map : (xs : List A) (x : A) → Contains xs x → Contains (map f xs) (f x)
   in_map [] x there = absurd (omega (arith, there.1))
   in_map (y ∷ xs) x (zero, small, at) = (zero, omega arith, ap f at)
   in_map (y ∷ xs) x (suc k, small, at) = later (f y) (map f xs) (f x) (in_map xs x (k, omega (arith, small), at))
 
-  of_map : (xs : List A) (y : B) → Contains (map f xs) y → (x : A) × Contains xs x × (f x ≡ y)
+  pub of_map : (xs : List A) (y : B) → Contains (map f xs) y → (x : A) × Contains xs x × (f x ≡ y)
   of_map [] y there = absurd (omega (arith, there.1))
   of_map (x ∷ xs) y (zero, small, at) = (x, (zero, omega arith, refl), at)
   of_map (x ∷ xs) y (suc k, small, at) = let was = of_map xs y (k, omega (arith, small), at) in (was.0, later x xs was.0 was.1, was.2)
@@ -60,26 +60,30 @@ module _ (stack : List Held) (trail : List (ℕ × Node)) where
       Contains-append_right (map (λ (h : Held). h.node) stack) (map (λ (k : ℕ × Node). k.1) trail) kept.1 (in_map (λ (k : ℕ × Node). k.1) trail kept (from_reverse trail kept there))
 
 module _ (formula : Formula) (graph : Graph) (live : Live) where
-  held_term : (stack : List Held) (terms : List Term) → AreHeld formula graph live stack terms → (held : Held) → Contains stack held → (term : Term) × IsHeld formula graph live held term
+  pub held_term : (stack : List Held) (terms : List Term) → AreHeld formula graph live stack terms → (held : Held) → Contains stack held
+      → (term : Term) × Contains terms term × IsHeld formula graph live held term
   held_term [] terms are held there = absurd (omega (arith, there.1))
   held_term (first ∷ stack) [] are held there = absurd are
-  held_term (first ∷ stack) (term ∷ terms) are held (zero, small, at) = (term, subst (λ (h : Held). IsHeld formula graph live h term) at are.0)
-  held_term (first ∷ stack) (term ∷ terms) are held (suc k, small, at) = held_term stack terms are.1 held (k, omega (arith, small), at)
+  held_term (first ∷ stack) (term ∷ terms) are held (zero, small, at) = (term, (zero, omega arith, refl), subst (λ (h : Held). IsHeld formula graph live h term) at are.0)
+  held_term (first ∷ stack) (term ∷ terms) are held (suc k, small, at) =
+      let found = held_term stack terms are.1 held (k, omega (arith, small), at) in (found.0, later term terms found.0 found.1, found.2)
 
-  kept_stands : (nodes : List (ℕ × Node)) (trail : List (ℕ × Term)) → AreKept formula graph nodes trail → (kept : ℕ × Node) → Contains nodes kept → is_node graph kept.1 ≡ true
-  kept_stands [] trail are kept there = absurd (omega (arith, there.1))
-  kept_stands (first ∷ nodes) [] are kept there = absurd are
-  kept_stands (first ∷ nodes) (quantified ∷ trail) are kept (zero, small, at) = subst (λ (k : ℕ × Node). is_node graph k.1 ≡ true) at are.0.stands
-  kept_stands (first ∷ nodes) (quantified ∷ trail) are kept (suc k, small, at) = kept_stands nodes trail are.1 kept (k, omega (arith, small), at)
+  pub kept_term : (nodes : List (ℕ × Node)) (trail : List (ℕ × Term)) → AreKept formula graph nodes trail → (kept : ℕ × Node) → Contains nodes kept
+      → (quantified : ℕ × Term) × Contains trail quantified × IsKept formula graph kept quantified
+  kept_term [] trail are kept there = absurd (omega (arith, there.1))
+  kept_term (first ∷ nodes) [] are kept there = absurd are
+  kept_term (first ∷ nodes) (quantified ∷ trail) are kept (zero, small, at) = (quantified, (zero, omega arith, refl), subst (λ (k : ℕ × Node). IsKept formula graph k quantified) at are.0)
+  kept_term (first ∷ nodes) (quantified ∷ trail) are kept (suc k, small, at) =
+      let found = kept_term nodes trail are.1 kept (k, omega (arith, small), at) in (found.0, later quantified trail found.0 found.1, found.2)
 
   pub roots_stand : (stack : List Held) (trail : List (ℕ × Node)) (stage : Stage) → IsAt formula graph live stack trail stage → (root : Node) → Contains (held_nodes stack trail) root → is_node graph root ≡ true
   roots_stand stack trail stage at root there = elim (Contains-append_cases (map (λ (h : Held). h.node) stack) (map (λ (k : ℕ × Node). k.1) trail) root there) [
     | inl of_stack ↦
         let was = of_map (λ (h : Held). h.node) stack root of_stack in
-        subst (λ (node : Node). is_node graph node ≡ true) was.2 (held_term (reverse stack) stage.stack at.held was.0 (in_reverse stack was.0 was.1)).1.is.stands
+        subst (λ (node : Node). is_node graph node ≡ true) was.2 (held_term (reverse stack) stage.stack at.held was.0 (in_reverse stack was.0 was.1)).2.is.stands
     | inr of_trail ↦
         let was = of_map (λ (k : ℕ × Node). k.1) trail root of_trail in
-        subst (λ (node : Node). is_node graph node ≡ true) was.2 (kept_stands (reverse trail) stage.trail at.kept was.0 (in_reverse trail was.0 was.1))
+        subst (λ (node : Node). is_node graph node ≡ true) was.2 (kept_term (reverse trail) stage.trail at.kept was.0 (in_reverse trail was.0 was.1)).2.stands
   ]
 
 -- The nodes were given back.
@@ -244,7 +248,7 @@ module _ {S : Type 0} (formula : Formula) (table : TableState S) (kept : List En
       let held = by.held in
       let term = held_term formula table.graph table.book.state.live (reverse stack) stage.stack at.held held by.stacked in
       let proved : IsJustified table.book.state.live (atom_of table.graph held.node ∷ []) (Clause id) =
-      subst (λ (unit : Just). IsJustified table.book.state.live (atom_of table.graph held.node ∷ []) unit) by.unit term.1.is.proved in
+      subst (λ (unit : Just). IsJustified table.book.state.live (atom_of table.graph held.node ∷ []) unit) by.unit term.2.is.proved in
       let own = unit_variable table.graph held.node clause (sym proved.1 ∙ is) literal any in
       let one : own.0 ≡ key = ready.sound.tied.reduced.apart own.0 key own.1 branch own.3 stands (sym own.4 ∙ same) in
       record { root = held.node; is_root = held_root stack trail held by.stacked; reaches = record { path = []; ends = own.2 ∙ ap inner one } }

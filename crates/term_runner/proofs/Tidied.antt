@@ -1,5 +1,5 @@
 -- Nodes that a reclamation left, and those that a move makes before it and behind it.
-use Rattle.std.proofs.Common.{◌≡◌, ◌∙◌, ℕ, Bool, List, Some, Ok, Err, Result, is_some, refl, sym, ap, inl, inr}
+use Rattle.std.proofs.Common.{◌≡◌, ◌∙◌, ℕ, Bool, List, Ok, Err, Result, is_some, refl, sym, ap, inl, inr}
 use Rattle.std.specs.Prelude.{◌≢◌, OnOk}
 use Rattle.cnf_base.specs.Formula.{Formula}
 use Rattle.lrat_rules.specs.State.{Live}
@@ -14,7 +14,7 @@ use Rattle.node_table.specs.Value.{Levels, IsSubfunction, value_of}
 use Rattle.schedule_plan.specs.Plan.{Stage}
 use Rattle.term_runner.specs.declared.held.Held.{Held}
 use Rattle.term_runner.specs.Held.{IsAt}
-use Rattle.term_runner.specs.Needs.{KeepsOrMakes}
+use Rattle.term_runner.specs.Nodes.{KeepsOrMakes}
 use Rattle.term_runner.specs.Tidy.{LeavesReached, WereLeft, held_nodes}
 
 part_same : (function part other : Levels → Bool) → ((a : Levels) → other a ≡ part a) → IsSubfunction function part → IsSubfunction function other

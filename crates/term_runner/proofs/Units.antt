@@ -24,7 +24,7 @@ use Rattle.node_table.specs.Defined.{atom_of, atom_in}
 use Rattle.node_table.specs.Just.{IsJustified}
 use Rattle.node_table.specs.Laws.{Canonical}
 use Rattle.operations.specs.Results.{Conjoined, Implied, conjunction_atoms, implication_atoms}
-use Rattle.term_runner.proofs.Parts.{some_of}
+use Rattle.term_runner.proofs.Listed.{some_of}
 
 -- an inner node, with its branch
 pub record IsInner (graph : Graph) (node : Node) : Type 0 where

@@ -15,14 +15,15 @@ use Rattle.term_runner.specs.declared.outcome.Run.{Run}
 use Rattle.term_runner.specs.Clauses.{is_tautology}
 use Rattle.term_runner.specs.Proofs.{AreUnsatisfiable, IsProof, IsProofSoFar, LeadsTo, Refutation, NodesAreUsed, NumbersAreUsed}
 use Rattle.term_runner.specs.Recovered.{IsRecovered}
-use Rattle.term_runner.specs.Needs.{NeedsMore}
+use Rattle.term_runner.specs.Price.{AreAmple, IsDecision, priced}
+use Rattle.term_runner.specs.Width.{HasWidth, IsWider}
 
 -- What an outcome says of the formula: no assignment satisfies it; these values, which are recovered, do; or the plan
--- needs more nodes than are allowed.
+-- is wider than the nodes that are allowed.
 abbrev pub Says : Formula → List ℕ → List Move → Limits → Outcome → Type 0
 Says formula order moves limits Unsat = AreUnsatisfiable formula.clauses
 Says formula order moves limits (Sat values) = IsRecovered formula order moves values
-Says formula order moves limits NodeLimit = NeedsMore formula order moves limits.max_nodes
+Says formula order moves limits NodeLimit = IsWider formula order moves limits.max_nodes
 Says formula order moves limits IdLimit = ⊤
 
 -- What the very bytes of the proof show of it: a refutation, or that the limit is reached.
@@ -41,15 +42,18 @@ outcome_of (Err table.IdLimit) = Ok IdLimit
 outcome_of (Err table.OutOfMemory) = Err OutOfMemory
 outcome_of (Err table.WriteFault) = Err WriteFault
 
--- An outcome is true of the formula, and shown by the very bytes of the proof. A write fault is answered exactly where a
--- write or the flush failed. All that was written is a proof within the limits, but for a front of one line after a
--- failed write, and flushed with an outcome. Where all clauses are tautologies nothing is written.
+-- An outcome is true of the formula, and shown by the very bytes of the proof; where the limits are above what the plan's
+-- width needs, it is a decision. A write fault is answered exactly where a write or the flush failed. All that was written
+-- is a proof within the limits, but for a front of one line after a failed write, and flushed with an outcome; it keeps
+-- within what the plan's width needs. Where all clauses are tautologies nothing is written.
 pub record Ends (tells : Bool) (before after : Channel) (formula : Formula) (order : List ℕ) (moves : List Move) (limits : Limits) (result : Result Run RunError) : Type 0 where
   pub says : IfOk result (λ run. Says formula order moves limits run.outcome)
+  pub certain : (width : ℕ) → HasWidth formula order moves width → AreAmple limits formula moves width → IfOk result (λ run. IsDecision run.outcome)
   pub shows : IsTrue tells → IfOk result (λ run. Shows formula limits after.written run.outcome)
   pub last : IsTrue tells → IfOk result (λ run. LeadsTo formula limits after.written run.last_id)
   pub whole : result ≢ Err WriteFault → IsTrue tells → IsProof formula limits after.written
   pub so_far : IsTrue tells → IsProofSoFar formula limits after.written
+  pub price : (width : ℕ) → HasWidth formula order moves width → IsTrue tells → IsProofSoFar formula (priced limits formula moves width) after.written
   pub flushed : IsOk result → IsTrue tells → after.flushed ≡ length after.written
   pub fault : result ≡ Err WriteFault → Rose before.faults after.faults
   pub unfailed : result ≢ Err WriteFault → after.faults ≡ before.faults

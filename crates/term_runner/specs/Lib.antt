@@ -2,7 +2,9 @@ pub mod Caches
 pub mod Clauses
 pub mod Proofs
 pub mod Recovered
-pub mod Needs
+pub mod Width
+pub mod Nodes
+pub mod Price
 pub mod Ends
 pub mod Opened
 pub mod Held

@@ -1,14 +1,18 @@
 // From the moves of a plan to what was found.
-ghost use Rattle.std.specs.Prelude.{◌≡◌, ◌⊎◌, ◌≤◌, ℕ, [], Ok, Err, None, Some, IsTrue, IsFalse, IfOk, MatchOption, reverse};
+ghost use Rattle.std.specs.Prelude.{◌≡◌, ◌⊎◌, ◌≤◌, ◌+◌, ◌*◌, ℕ, [], Ok, Err, None, Some, IsTrue, IsFalse, IfOk, MatchOption, length, reverse};
 ghost use Rattle.std.specs.List.{list_all};
 ghost use Rattle.std.specs.FinMap as map;
 ghost use Rattle.lrat_rules.specs.State.{clause_at};
 ghost use Rattle.node_table.specs.declared.error.TableError.TheVariants.{NodeLimit, IdLimit};
+ghost use Rattle.node_table.specs.Diagram.{levels};
 ghost use Rattle.node_table.specs.Progress.{Leaves, error_of};
+ghost use Rattle.node_table.specs.Table.{live_nodes};
 ghost use Rattle.schedule_plan.specs.Plan.{IsAdmissible};
 ghost use Rattle.term_runner.specs.Clauses.{is_tautology};
 ghost use Rattle.term_runner.specs.Recovered.{IsRecovered};
-ghost use Rattle.term_runner.specs.Needs.{RunsShort};
+ghost use Rattle.term_runner.specs.Price.{most_nodes, move_price};
+ghost use Rattle.term_runner.specs.Width.{HasWidth};
+ghost use Rattle.term_runner.specs.Nodes.{RunsShort};
 ghost use Rattle.term_runner.specs.Held.{IsReady, top_node};
 
 use crate::caches::Caches;
@@ -18,7 +22,7 @@ use crate::reclamation::take_move;
 use clause_terms::{Model, Trail, recover};
 use cnf_base::Cnf;
 use host_io::Sink;
-use node_table::{Node, Table, TableError, steps_law};
+use node_table::{Node, Table, TableError, canonical_law, steps_law, subfunction_law};
 use schedule_plan::Plan;
 use std::alloc::Global;
 
@@ -42,6 +46,10 @@ pub fn decide<S: Sink + Drop>(
     ensures leaves { Leaves S.tells (S.channel table.old.book.sink) (S.channel table.new.book.sink) table.old table.new (error_of result) }
     ensures tautologies { IsTrue (list_all is_tautology formula.now.clauses) → table.new ≡ table.old }
     ensures open_clause { (result ≡ Err NodeLimit) ⊎ (result ≡ Err IdLimit) → IsFalse (list_all is_tautology formula.now.clauses) }
+    // However it ends, it gave so many numbers at most, and has so few nodes, by the plan's width.
+    ensures price { (width : ℕ) → HasWidth formula.now table.old.graph.order plan.now width
+        → table.new.book.state.top ≤ table.old.book.state.top + length plan.now * move_price (levels table.old.graph) width }
+    ensures few { (width : ℕ) → HasWidth formula.now table.old.graph.order plan.now width → live_nodes table.new.graph ≤ most_nodes width }
     // A node that is wanted is refused for want of room.
     ensures short { result ≡ Err NodeLimit → RunsShort formula.now table.old.graph.order plan.now table.new.graph }
     ensures beside { S.beside table.new.book.sink ≡ S.beside table.old.book.sink }
@@ -73,10 +81,15 @@ fn run_moves<S: Sink + Drop>(
     ensures found { IfOk result (λ found. MatchOption found ((id : ℕ) × (clause_at table.new.book.state.live id ≡ Some []))
         (λ model. IsRecovered formula.now table.old.graph.order plan.now model)) }
     ensures leaves { Leaves S.tells (S.channel table.old.book.sink) (S.channel table.new.book.sink) table.old table.new (error_of result) }
+    ensures price { (width : ℕ) → HasWidth formula.now table.old.graph.order plan.now width
+        → table.new.book.state.top ≤ table.old.book.state.top + length plan.now * move_price (levels table.old.graph) width }
+    ensures few { (width : ℕ) → HasWidth formula.now table.old.graph.order plan.now width → live_nodes table.new.graph ≤ most_nodes width }
     ensures short { result ≡ Err NodeLimit → RunsShort formula.now table.old.graph.order plan.now table.new.graph }
     ensures beside { S.beside table.new.book.sink ≡ S.beside table.old.book.sink }
 {
     steps_law::<S>();
+    subfunction_law();
+    canonical_law();
     formula.formula_law();
     let mut caches = Caches::new(alloc, capacity)?;
     let mut stack: Vec<Held> = Vec::new(alloc);

@@ -1,5 +1,5 @@
 // The end of a run: the proof is flushed.
-ghost use Rattle.std.specs.Prelude.{◌≡◌, ◌≢◌, ◌≤◌, ◌++◌, ◌↔◌, ℕ, ℤ, List, [], ◌∷◌, Err, None, Some, IsTrue, IsOk, IfOk, IfErr};
+ghost use Rattle.std.specs.Prelude.{◌≡◌, ◌≢◌, ◌<◌, ◌≤◌, ◌++◌, ◌↔◌, ℕ, ℤ, List, [], ◌∷◌, Err, None, Some, IsTrue, IsOk, IfOk, IfErr, length};
 ghost use Rattle.cnf_base.specs.Formula.{Formula};
 ghost use Rattle.cnf_base.specs.ProofText.{max_id};
 ghost use Rattle.lrat_rules.specs.State.{clause_at};
@@ -61,7 +61,7 @@ pub fn refute<S: Sink + Drop>(ledger: &mut Ledger<S>, number: usize) -> Result<R
     requires limit { ledger.old.limit ≤ max_id }
     requires empty { clause_at ledger.old.state.live number ≡ Some [] }
     ensures ends { (formula : Formula) (order : List ℕ) (moves : List Move) (limits : Limits) → IsOpened S.tells (S.channel ledger.old.sink) formula limits.max_ids ledger.old
-        → number ≡ first_empty formula.clauses → IsTrue (has_empty_clause formula.clauses)
+        → number ≡ first_empty formula.clauses → IsTrue (has_empty_clause formula.clauses) → 0 < length moves
         → Ends S.tells (S.channel ledger.old.sink) (S.channel ledger.new.sink) formula order moves limits result }
     ensures beside { S.beside ledger.new.sink ≡ S.beside ledger.old.sink }
 {

@@ -3,8 +3,8 @@
 ghost use Rattle.std.specs.Prelude.{◌≡◌, ◌↔◌, ◌≤◌, ◌⊎◌, ◌+◌, ℕ, List, [], ◌∷◌, Ok, Err, Some, IsTrue, IsErr, IfOk, false, length, reverse};
 ghost use Rattle.lrat_rules.specs.State.{clause_at};
 ghost use Rattle.node_table.specs.declared.error.TableError.TheVariants.{NodeLimit};
-ghost use Rattle.node_table.specs.Diagram.{levels};
-ghost use Rattle.node_table.specs.Table.{IsSound, UnlessTorn};
+ghost use Rattle.node_table.specs.Diagram.{KeepsNodes, levels};
+ghost use Rattle.node_table.specs.Table.{AddsAtMost, IsSound, UnlessTorn};
 ghost use Rattle.node_table.specs.Made.{LacksPart, MakesOnly};
 ghost use Rattle.node_table.specs.Progress.{Leaves, Steps, error_of};
 ghost use Rattle.cnf_base.specs.Formula.{Formula};
@@ -12,7 +12,8 @@ ghost use Rattle.operations.specs.Budget.{most_additions};
 ghost use Rattle.operations.specs.Entries.{Entry, Fits};
 ghost use Rattle.schedule_plan.specs.Plan.{Stage, Term as TermValue, after_move, both, input};
 ghost use Rattle.term_runner.specs.Caches.{all_entries};
-ghost use Rattle.term_runner.specs.Needs.{KeepsOrMakes, term_function, top_function};
+ghost use Rattle.term_runner.specs.Width.{term_function, top_function};
+ghost use Rattle.term_runner.specs.Nodes.{KeepsOrMakes};
 ghost use Rattle.term_runner.specs.Held.{AreHeld, IsAt, IsReady, HasUnits};
 
 use crate::caches::Caches;
@@ -54,6 +55,9 @@ pub fn try_move<S: Sink + Drop>(
     ensures at_again { (stage : Stage) → IsAt formula.now table.old.graph table.old.book.state.live stack.old.items trail.old stage
         → result ≡ Err NodeLimit → IsAt formula.now table.new.graph table.new.book.state.live stack.new.items trail.new stage }
     ensures leaves { Leaves S.tells (S.channel table.old.book.sink) (S.channel table.new.book.sink) table.old table.new (error_of result) }
+    // However it ends, nodes stay, and the new clauses are those of new nodes and no more beside them than this.
+    ensures nodes { KeepsNodes table.old.graph table.new.graph }
+    ensures adds { AddsAtMost (most_additions (levels table.old.graph) + 1) table.old table.new }
     ensures made { (stage next : Stage) → IsAt formula.now table.old.graph table.old.book.state.live stack.old.items trail.old stage → after_move formula.now stage step ≡ Some next
         → KeepsOrMakes table.old.graph table.new.graph (top_function formula.now table.old.graph.order next.stack) }
     ensures lacks { (stage next : Stage) → IsAt formula.now table.old.graph table.old.book.state.live stack.old.items trail.old stage → after_move formula.now stage step ≡ Some next
@@ -107,6 +111,8 @@ fn carry_out<S: Sink + Drop>(
     ensures at_again { (stage : Stage) → IsAt formula.now table.old.graph table.old.book.state.live stack.old.items trail.old stage
         → result ≡ Err NodeLimit → IsAt formula.now table.new.graph table.new.book.state.live stack.new.items trail.new stage }
     ensures leaves { Leaves S.tells (S.channel table.old.book.sink) (S.channel table.new.book.sink) table.old table.new (error_of result) }
+    ensures nodes { KeepsNodes table.old.graph table.new.graph }
+    ensures adds { AddsAtMost (most_additions (levels table.old.graph) + 1) table.old table.new }
     ensures made { (stage next : Stage) → IsAt formula.now table.old.graph table.old.book.state.live stack.old.items trail.old stage → after_move formula.now stage step ≡ Some next
         → KeepsOrMakes table.old.graph table.new.graph (top_function formula.now table.old.graph.order next.stack) }
     ensures lacks { (stage next : Stage) → IsAt formula.now table.old.graph table.old.book.state.live stack.old.items trail.old stage → after_move formula.now stage step ≡ Some next

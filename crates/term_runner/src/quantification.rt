@@ -20,7 +20,7 @@ ghost use Rattle.quantify.specs.Quantification.{quantification_of};
 ghost use Rattle.schedule_plan.specs.Plan.{Term as TermValue, some_value};
 ghost use Rattle.term_runner.specs.Caches.{KeepsEntries, all_entries};
 ghost use Rattle.term_runner.specs.Held.{AreHeld, AreKept, GivesUnit, HasUnits};
-ghost use Rattle.term_runner.specs.Needs.{term_function};
+ghost use Rattle.term_runner.specs.Width.{term_function};
 
 use crate::caches::Caches;
 use crate::held::{Held, last_term, replace_last};

@@ -3,15 +3,18 @@
 // the nodes that it looks at, or all were reached, so that its time is a fraction of that in which they were made.
 // (McCarthy: Recursive Functions of Symbolic Expressions, 1960, section 4; Brace, Rudell, Bryant: Efficient Implementation of
 // a BDD Package, DAC 1990, section 3.4.)
-ghost use Rattle.std.specs.Prelude.{◌≡◌, ◌≢◌, ◌↔◌, ◌⊎◌, ◌≤◌, ℕ, [], Ok, Err, Some, IsTrue, OnOk, OnErr, IfOk, IfErr, false, reverse};
+ghost use Rattle.std.specs.Prelude.{◌≡◌, ◌≢◌, ◌↔◌, ◌⊎◌, ◌≤◌, ◌+◌, ℕ, [], Ok, Err, Some, IsTrue, OnOk, OnErr, IfOk, IfErr, false, reverse};
 ghost use Rattle.lrat_rules.specs.State.{clause_at};
 ghost use Rattle.node_table.specs.declared.error.TableError.TheVariants.{NodeLimit, OutOfMemory, WriteFault};
+ghost use Rattle.node_table.specs.Diagram.{levels};
 ghost use Rattle.node_table.specs.Made.{LacksPart};
 ghost use Rattle.node_table.specs.Progress.{Leaves, error_of};
 ghost use Rattle.node_table.specs.Table.{UnlessTorn, live_nodes};
 ghost use Rattle.schedule_plan.specs.Plan.{Stage, after_move};
 ghost use Rattle.term_runner.specs.Caches.{all_entries};
-ghost use Rattle.term_runner.specs.Needs.{KeepsOrMakes, top_function};
+ghost use Rattle.term_runner.specs.Price.{AddsFew, move_price};
+ghost use Rattle.term_runner.specs.Width.{HoldsAtMost, top_function};
+ghost use Rattle.term_runner.specs.Nodes.{KeepsOrMakes};
 ghost use Rattle.term_runner.specs.Held.{IsAt, IsReady, HasUnits};
 ghost use Rattle.term_runner.specs.Tidy.{IsTidy, LeavesReached, WereLeft, held_nodes};
 
@@ -21,7 +24,9 @@ use crate::moves::{is_node_limit, try_move};
 use clause_terms::Trail;
 use cnf_base::{Cnf, OutOfMemory as NoMemory};
 use host_io::Sink;
-use node_table::{Node, Table, TableError, growth_law, reach_law, steps_law};
+use node_table::{
+    Node, Table, TableError, canonical_law, growth_law, reach_law, steps_law, subfunction_law,
+};
 use reclaim::reclaim;
 use schedule_plan::Move;
 use std::alloc::Global;
@@ -62,8 +67,15 @@ pub fn take_move<S: Sink + Drop>(
     ensures tidy { result ≡ Ok false → IsTidy (live_nodes table.new.graph) left.new }
     ensures left { (stage next : Stage) → IsAt formula.now table.old.graph table.old.book.state.live stack.old.items trail.old stage → after_move formula.now stage step ≡ Some next
         → result ≡ Ok false → (left.new ≡ left.old) ⊎ (WereLeft formula.now table.old.graph.order stage left.new ⊎ WereLeft formula.now table.old.graph.order next left.new) }
+    // However it ends, it gave so many numbers at most, and made so few nodes, by the parts in hand at the move.
+    ensures price { (stage next : Stage) → IsAt formula.now table.old.graph table.old.book.state.live stack.old.items trail.old stage → after_move formula.now stage step ≡ Some next
+        → (width : ℕ) → HoldsAtMost formula.now table.old.graph.order stage next width → table.new.book.state.top ≤ table.old.book.state.top + move_price (levels table.old.graph) width }
+    ensures few { (stage next : Stage) → IsAt formula.now table.old.graph table.old.book.state.live stack.old.items trail.old stage → after_move formula.now stage step ≡ Some next
+        → (width : ℕ) → HoldsAtMost formula.now table.old.graph.order stage next width → AddsFew (live_nodes table.old.graph) (live_nodes table.new.graph) width }
     ensures beside { S.beside table.new.book.sink ≡ S.beside table.old.book.sink }
 {
+    canonical_law();
+    subfunction_law();
     growth_law();
     steps_law::<S>();
     let refuted = try_twice(alloc, table, caches, stack, trail, left, formula, step)?;
@@ -106,8 +118,14 @@ fn try_twice<S: Sink + Drop>(
     ensures full { (stage next : Stage) → IsAt formula.now table.old.graph table.old.book.state.live stack.old.items trail.old stage → after_move formula.now stage step ≡ Some next
         → result ≡ Err NodeLimit → (were : WereLeft formula.now table.old.graph.order stage left.new) × KeepsOrMakes were.graph table.new.graph (top_function formula.now table.old.graph.order next.stack) }
     ensures left { (stage : Stage) → IsAt formula.now table.old.graph table.old.book.state.live stack.old.items trail.old stage → (left.new ≡ left.old) ⊎ WereLeft formula.now table.old.graph.order stage left.new }
+    ensures price { (stage next : Stage) → IsAt formula.now table.old.graph table.old.book.state.live stack.old.items trail.old stage → after_move formula.now stage step ≡ Some next
+        → (width : ℕ) → HoldsAtMost formula.now table.old.graph.order stage next width → table.new.book.state.top ≤ table.old.book.state.top + move_price (levels table.old.graph) width }
+    ensures few { (stage next : Stage) → IsAt formula.now table.old.graph table.old.book.state.live stack.old.items trail.old stage → after_move formula.now stage step ≡ Some next
+        → (width : ℕ) → HoldsAtMost formula.now table.old.graph.order stage next width → AddsFew (live_nodes table.old.graph) (live_nodes table.new.graph) width }
     ensures beside { S.beside table.new.book.sink ≡ S.beside table.old.book.sink }
 {
+    subfunction_law();
+    canonical_law();
     growth_law();
     steps_law::<S>();
     match try_move(alloc, table, caches, stack, trail, formula, step) {
@@ -141,6 +159,7 @@ fn give_back<S: Sink + Drop>(
     ensures count { IfOk result (λ left. left ≡ live_nodes table.new.graph) }
     // A refusal leaves the nodes as they were.
     ensures kept { OnErr result (table.new.graph ≡ table.old.graph) }
+    ensures top { table.new.book.state.top ≡ table.old.book.state.top }
     ensures leaves { Leaves S.tells (S.channel table.old.book.sink) (S.channel table.new.book.sink) table.old table.new (error_of result) }
     ensures error { IfErr result (λ e. (e ≡ OutOfMemory) ⊎ (e ≡ WriteFault)) }
     ensures beside { S.beside table.new.book.sink ≡ S.beside table.old.book.sink }

@@ -1,5 +1,5 @@
 use Rattle.std.proofs.Common.{rules, refl}
-use Rattle.solver_cli.proofs.Answering.{file_uncreated, written, files_made}
+use Rattle.solver_cli.proofs.Answering.{file_uncreated, written}
 use Rattle.solver_cli.proofs.program.make.Goals as goal
 
 pub returns-then-is_err-clause-came : goal.returns-then-is_err-clause-came

@@ -1,8 +1,9 @@
-use Rattle.std.proofs.Common.{ℕ, List, reverse, sym, subst, ◌∙◌}
+use Rattle.std.proofs.Common.{ℕ, List, reverse, sym, subst, ◌∙◌, arith}
 use Rattle.node_table.specs.declared.node.Node.{Node}
 use Rattle.node_table.specs.declared.node.Node.TheVariants.{True}
 use Rattle.clause_terms.specs.Recovery.{IsRecoveredFrom}
 use Rattle.term_runner.proofs.Plans.{all_hold}
+use Rattle.term_runner.proofs.Priced.{no_nodes}
 use Rattle.term_runner.proofs.Tautologies.{tautologies_satisfied}
 use Rattle.term_runner.proofs.Trails.{tautologies_recovered}
 use Rattle.term_runner.proofs.decide.decide.Goals as goal
@@ -29,3 +30,18 @@ returns-clause-short g c = c.run_moves.ensures.short
 
 pub returns-clause-beside : goal.returns-clause-beside
 returns-clause-beside g c = c.run_moves.ensures.beside
+
+pub returns-then-are_tautologies-clause-price : goal.returns-then-are_tautologies-clause-price
+returns-then-are_tautologies-clause-price g c width has = omega arith
+
+pub returns-clause-price : goal.returns-clause-price
+returns-clause-price g c = c.run_moves.ensures.price
+
+pub returns-then-are_tautologies-clause-few : goal.returns-then-are_tautologies-clause-few
+returns-then-are_tautologies-clause-few g c width has = let none = no_nodes c.args.table.now.graph c.requires.empty in omega (arith, none)
+
+pub returns-in_err-model-clause-few : goal.returns-in_err-model-clause-few
+returns-in_err-model-clause-few g c width has = let none = no_nodes c.args.table.now.graph c.requires.empty in omega (arith, none)
+
+pub returns-clause-few : goal.returns-clause-few
+returns-clause-few g c = c.run_moves.ensures.few

@@ -1,15 +1,20 @@
-use Rattle.std.proofs.Common.{rules, ◌≡◌, ℕ, suc, ◌+◌, true, List, Option, take, reverse, Some, Ok, Err, inl, refl, ap, sym, ◌∙◌, subst, arith}
+use Rattle.std.proofs.Common.{rules, ◌≡◌, ℕ, suc, ◌+◌, ◌*◌, ◌≤◌, true, List, Option, length, take, reverse, Some, Ok, Err, refl, ap, sym, ◌∙◌, subst, arith, inl, inr}
+use Rattle.std.proofs.Math.Nat.{mul-le-mul_right}
 use Rattle.std.specs.List.{slice_get}
+use Rattle.cnf_base.specs.Formula.{Formula}
 use Rattle.node_table.specs.declared.node.Node.{Node}
-use Rattle.node_table.specs.Diagram.{is_node}
+use Rattle.node_table.specs.Diagram.{is_node, levels}
 use Rattle.node_table.specs.Value.{by_level, value_of}
 use Rattle.node_table.specs.declared.error.TableError.TheVariants.{NodeLimit}
 use Rattle.node_table.specs.declared.error.TableError.{TableError}
-use Rattle.node_table.specs.Made.{LacksPart}
 use Rattle.node_table.specs.Progress.{Leaves}
+use Rattle.node_table.specs.Table.{live_nodes}
 use Rattle.operations.specs.Entries.{Entry}
-use Rattle.schedule_plan.specs.Plan.{after_moves, no_stage}
-use Rattle.term_runner.specs.Needs.{KeepsOrMakes, top_function}
+use Rattle.schedule_plan.specs.declared.plan.Move.{Move}
+use Rattle.schedule_plan.specs.Plan.{Stage, after_move, after_moves, no_stage}
+use Rattle.term_runner.specs.Price.{most_nodes, move_price}
+use Rattle.term_runner.specs.Width.{HasWidth, HoldsAtMost}
+use Rattle.term_runner.specs.Nodes.{RunsShort}
 use Rattle.term_runner.specs.Held.{IsReady, top_node}
 use Rattle.term_runner.specs.Recovered.{IsRecovered}
 use Rattle.node_table.specs.HandedOn.{no_error, came_from, no_answer}
@@ -20,8 +25,13 @@ use Rattle.term_runner.proofs.Giving.{units_none}
 use Rattle.term_runner.proofs.Least.{recovered}
 use Rattle.term_runner.proofs.Trails.{are_variables, kept_there}
 use Rattle.term_runner.proofs.Leaving.{error_handed, memory_left}
-use Rattle.term_runner.proofs.Planned.{moved_on, more_made, none_made, runs_short}
+use Rattle.term_runner.proofs.InHand.{in_hand_before, short_at_limit}
+use Rattle.term_runner.proofs.Planned.{moved_on}
+use Rattle.term_runner.proofs.FewLeft.{few_left, in_hand_behind}
+use Rattle.term_runner.proofs.Priced.{moved_few, no_nodes, one_more, tidy_few}
+use Rattle.term_runner.proofs.decide.run_moves.Given.{Over}
 use Rattle.term_runner.proofs.decide.run_moves.Goals as goal
+use Rattle.term_runner.proofs.decide.run_moves.Goals.{After-take_move}
 
 pub unreachable-requires : goal.unreachable-requires
 unreachable-requires g c = some_at c.args.plan.now c.moves.i (omega (arith, c.moves-test.true, c.len-i-end.ensures)) (sym c.get.ensures ∙ c.in_default.is)
@@ -31,12 +41,15 @@ moves-init g c =
     let formula = c.args.formula.now in
     let table = c.args.table.now in
     record {
+      few = omega arith;
+      tidy = inl (let none = no_nodes table.graph c.requires.empty in omega (arith, none));
+      left = λ width has. omega arith;
+      price = λ width has. omega arith;
       between = at_first formula c.args.plan.now table.graph table.book.state.live c.new-stack.result.items c.new-trail.result (search rules) (search rules);
       ready = subst (λ (kept : List Entry). IsReady formula table kept) (sym c.in_ok-caches.ensures) c.requires.ready;
       settled = c.requires.settled;
       own = units_none table (all_entries c.in_ok-caches.caches) c.new-stack.result.items c.requires.ready.sound c.requires.fresh (search rules);
       continues = (c.steps_law.ensures.none table c.requires.ready.sound).leaves;
-      made = none_made formula table.graph.order c.args.plan.now table.graph c.requires.empty;
       beside = refl;
     }
 
@@ -56,6 +69,35 @@ take_move-requires-clause-possible g c =
     let next = next_at c.args.formula.now c.args.plan.now c.moves.i c.moves.table.graph c.moves.table.book.state.live c.moves.stack.items c.moves.trail c.requires.plan.last c.in-Some.step c.requires.plan.possible at between in
     (between.stage, next.next, between.at, next.is)
 
+-- at each move of the plan no more parts are in hand than its width says
+at_move : (formula : Formula) (plan : List Move) (order : List ℕ) (i : ℕ) (step : Move) (before after : Stage) → slice_get plan i ≡ Some step → after_moves formula no_stage (take i plan) ≡ Some before
+    → after_move formula before step ≡ Some after → (width : ℕ) → HasWidth formula order plan width → HoldsAtMost formula order before after width
+at_move formula plan order i step before after at reached leads width has more =
+    has (record { count = i; before = before; after = after; move = record { step = step; is = at; reached = reached; leads = leads }; more = more })
+
+-- the numbers given behind a move, however it ended
+so_far : (g : Over) (c : After-take_move g) (width : ℕ) → HasWidth c.args.formula.now c.args.table.now.graph.order c.args.plan.now width
+    → c.take_move.new.table.book.state.top ≤ c.args.table.now.book.state.top + (c.moves.i + 1) * move_price (levels c.args.table.now.graph) width
+so_far g c width has =
+    let formula = c.args.formula.now in
+    let plan = c.args.plan.now in
+    let table = c.moves.table in
+    let between = c.moves.invariant.between in
+    let order = c.moves.invariant.continues.order in
+    let at : slice_get plan c.moves.i ≡ Some c.in-Some.step = sym c.get.ensures ∙ c.in-Some.is in
+    let next = next_at formula plan c.moves.i table.graph table.book.state.live c.moves.stack.items c.moves.trail c.requires.plan.last c.in-Some.step c.requires.plan.possible at between in
+    let most : HoldsAtMost formula table.graph.order between.stage next.next width =
+    subst (λ (o : List ℕ). HoldsAtMost formula o between.stage next.next width) (sym order)
+    (at_move formula plan c.args.table.now.graph.order c.moves.i c.in-Some.step between.stage next.next at between.front next.is width has) in
+    let own = subst (λ (vars : ℕ). c.take_move.new.table.book.state.top ≤ table.book.state.top + move_price vars width) (ap length order)
+    (c.take_move.ensures.price between.stage next.next between.at next.is width most) in
+    let before = c.moves.invariant.price width has in
+    omega (arith, own, before, one_more c.moves.i (move_price (levels c.args.table.now.graph) width))
+
+-- all moves' price is no less than that of some
+within_all : (few all price first last : ℕ) → few ≤ all → last ≤ first + few * price → last ≤ first + all * price
+within_all few all price first last small own = let more : few * price ≤ all * price = mul-le-mul_right price small in omega (arith, own, more)
+
 pub moves-preserved : goal.moves-preserved
 moves-preserved g c =
     let between = c.moves.invariant.between in
@@ -65,6 +107,23 @@ moves-preserved g c =
     let shift : suc c.moves.i ≡ c.moves.i + 1 = omega arith in
     let front : after_moves c.args.formula.now no_stage (take (c.moves.i + 1) c.args.plan.now) ≡ Some next.next = subst (λ (n : ℕ). after_moves c.args.formula.now no_stage (take n c.args.plan.now) ≡ Some next.next) shift moved in
     record {
+      few = omega (arith, c.moves-test.true, c.len-i-end.ensures);
+      price = λ width has. so_far g (goal.at.moves-preserved g c).After-take_move width has;
+      tidy = c.in_ok-take_move.ensures.tidy (ap Ok c.if-branch.false);
+      left = λ width has.
+          let before = c.moves.table in
+          let most = at_move c.args.formula.now c.args.plan.now c.args.table.now.graph.order c.moves.i c.in-Some.step between.stage next.next at between.front next.is width has in
+          let most_here = subst (λ (o : List ℕ). HoldsAtMost c.args.formula.now o between.stage next.next width) (sym c.moves.invariant.continues.order) most in
+          let ordered = c.moves.invariant.ready.sound.tied.ordered in
+          elim (c.in_ok-take_move.ensures.left between.stage next.next between.at next.is (ap Ok c.if-branch.false)) [
+            | inl same ↦ subst (λ (n : ℕ). n ≤ width) (sym same) (c.moves.invariant.left width has)
+            | inr were ↦ elim were [
+              | inl here ↦ few_left c.subfunction_law.ensures c.canonical_law.ensures c.args.formula.now before.graph.order ordered between.stage next.next between.stage (in_hand_before between.stage next.next) _ here width most_here
+              | inr behind ↦
+                  few_left c.subfunction_law.ensures c.canonical_law.ensures c.args.formula.now before.graph.order ordered between.stage next.next next.next
+                  (in_hand_behind c.args.formula.now between.stage next.next c.in-Some.step next.is) _ behind width most_here
+            ]
+          ];
       between = record {
         stage = next.next;
         front = front;
@@ -75,9 +134,6 @@ moves-preserved g c =
       settled = c.in_ok-take_move.ensures.settled (ap Ok c.if-branch.false);
       own = c.in_ok-take_move.ensures.own c.if-branch.false;
       continues = c.steps_law.ensures.go_on _ _ _ c.args.table.now c.moves.table c.take_move.new.table c.moves.invariant.continues c.in_ok-take_move.ensures.leaves;
-      made = more_made c.args.formula.now c.args.table.now.graph.order c.args.plan.now c.moves.table.graph c.take_move.new.table.graph c.moves.invariant.made (suc c.moves.i) next.next moved
-          (subst (λ (order : List ℕ). KeepsOrMakes c.moves.table.graph c.take_move.new.table.graph (top_function c.args.formula.now order next.next.stack)) c.moves.invariant.continues.order
-          (c.in_ok-take_move.ensures.made between.stage next.next between.at next.is));
       beside = c.in_ok-take_move.ensures.beside ∙ c.moves.invariant.beside;
     }
 
@@ -148,18 +204,17 @@ returns-in_err-take_move-clause-short g c is =
     let formula = c.args.formula.now in
     let plan = c.args.plan.now in
     let order = c.args.table.now.graph.order in
-    let mid = c.moves.table.graph in
     let new = c.take_move.new.table.graph in
     let between = c.moves.invariant.between in
     let at : slice_get plan c.moves.i ≡ Some c.in-Some.step = sym c.get.ensures ∙ c.in-Some.is in
     let next = next_at formula plan c.moves.i c.moves.table.graph c.moves.table.book.state.live c.moves.stack.items c.moves.trail c.requires.plan.last c.in-Some.step c.requires.plan.possible at between in
-    let cause : c.in_err-take_move.field-0.0 ≡ NodeLimit = came_from _ c.in_err-take_move.field-0.0 NodeLimit c.from_residual-in_err-take_move.ensures.1 is in
-    let moved : after_moves formula no_stage (take (suc c.moves.i) plan) ≡ Some next.next = moved_on formula plan c.moves.i c.in-Some.step no_stage between.stage next.next at between.front next.is in
+    let limit = ap Err (came_from _ c.in_err-take_move.field-0.0 NodeLimit c.from_residual-in_err-take_move.ensures.1 is) in
     let same_order = c.moves.invariant.continues.order in
-    let made = more_made formula order plan mid new c.moves.invariant.made (suc c.moves.i) next.next moved
-    (subst (λ (o : List ℕ). KeepsOrMakes mid new (top_function formula o next.next.stack)) same_order (c.in_err-take_move.ensures.made between.stage next.next between.at next.is)) in
-    runs_short formula order plan new made (suc c.moves.i) next.next moved
-    (subst (λ (o : List ℕ). LacksPart new (top_function formula o next.next.stack)) same_order (c.in_err-take_move.ensures.lacks between.stage next.next between.at next.is (ap Err cause)))
+    let full = c.in_err-take_move.ensures.full between.stage next.next between.at next.is limit in
+    let lacks = c.in_err-take_move.ensures.lacks between.stage next.next between.at next.is limit in
+    subst (λ (o : List ℕ). RunsShort formula o plan new) same_order
+    (short_at_limit c.subfunction_law.ensures formula c.moves.table.graph.order c.moves.invariant.ready.sound.tied.ordered plan c.moves.i between.stage next.next
+    (record { step = c.in-Some.step; is = at; reached = between.front; leads = next.is }) c.take_move.new.left full.0 new full.1 lacks)
 
 pub returns-in_err-take_move-clause-beside : goal.returns-in_err-take_move-clause-beside
 returns-in_err-take_move-clause-beside g c = c.in_err-take_move.ensures.beside ∙ c.moves.invariant.beside
@@ -177,3 +232,56 @@ returns-in_err-model-clause-leaves g c =
     let new = c.moves.table in
     let channel = g.S.Sink.channel in
     memory_left g.S.Sink.tells (channel old.book.sink) (channel new.book.sink) old new _ (search rules) c.moves.invariant.continues
+
+pub returns-in_err-take_move-clause-price : goal.returns-in_err-take_move-clause-price
+returns-in_err-take_move-clause-price g c width has =
+    within_all (c.moves.i + 1) (length c.args.plan.now) (move_price (levels c.args.table.now.graph) width) c.args.table.now.book.state.top c.take_move.new.table.book.state.top (omega (arith, c.moves-test.true, c.len-i-end.ensures)) (so_far g (goal.at.returns-in_err-take_move-clause-price g c).After-take_move width has)
+
+pub returns-then-branch-clause-price : goal.returns-then-branch-clause-price
+returns-then-branch-clause-price g c width has =
+    within_all (c.moves.i + 1) (length c.args.plan.now) (move_price (levels c.args.table.now.graph) width) c.args.table.now.book.state.top c.take_move.new.table.book.state.top (omega (arith, c.moves-test.true, c.len-i-end.ensures)) (so_far g (goal.at.returns-then-branch-clause-price g c).After-take_move width has)
+
+pub returns-in_err-model-clause-price : goal.returns-in_err-model-clause-price
+returns-in_err-model-clause-price g c width has =
+    within_all (c.moves.i) (length c.args.plan.now) (move_price (levels c.args.table.now.graph) width) c.args.table.now.book.state.top c.moves.table.book.state.top (c.moves.invariant.few) (c.moves.invariant.price width has)
+
+pub returns-clause-price : goal.returns-clause-price
+returns-clause-price g c width has =
+    within_all (c.moves.i) (length c.args.plan.now) (move_price (levels c.args.table.now.graph) width) c.args.table.now.book.state.top c.moves.table.book.state.top (c.moves.invariant.few) (c.moves.invariant.price width has)
+
+pub returns-in_err-caches-clause-price : goal.returns-in_err-caches-clause-price
+returns-in_err-caches-clause-price g c width has = omega arith
+
+-- the nodes behind a move, however it ended
+nodes_so_far : (g : Over) (c : After-take_move g) (width : ℕ) → HasWidth c.args.formula.now c.args.table.now.graph.order c.args.plan.now width → live_nodes c.take_move.new.table.graph ≤ most_nodes width
+nodes_so_far g c width has =
+    let formula = c.args.formula.now in
+    let plan = c.args.plan.now in
+    let table = c.moves.table in
+    let between = c.moves.invariant.between in
+    let at : slice_get plan c.moves.i ≡ Some c.in-Some.step = sym c.get.ensures ∙ c.in-Some.is in
+    let next = next_at formula plan c.moves.i table.graph table.book.state.live c.moves.stack.items c.moves.trail c.requires.plan.last c.in-Some.step c.requires.plan.possible at between in
+    let most : HoldsAtMost formula table.graph.order between.stage next.next width =
+    subst (λ (o : List ℕ). HoldsAtMost formula o between.stage next.next width) (sym c.moves.invariant.continues.order)
+    (at_move formula plan c.args.table.now.graph.order c.moves.i c.in-Some.step between.stage next.next at between.front next.is width has) in
+    moved_few (live_nodes table.graph) (live_nodes c.take_move.new.table.graph) c.moves.left width c.moves.invariant.tidy (c.moves.invariant.left width has)
+    (c.take_move.ensures.few between.stage next.next between.at next.is width most)
+
+pub returns-in_err-take_move-clause-few : goal.returns-in_err-take_move-clause-few
+returns-in_err-take_move-clause-few g c = nodes_so_far g (goal.at.returns-in_err-take_move-clause-few g c).After-take_move
+
+pub returns-then-branch-clause-few : goal.returns-then-branch-clause-few
+returns-then-branch-clause-few g c = nodes_so_far g (goal.at.returns-then-branch-clause-few g c).After-take_move
+
+pub returns-in_err-model-clause-few : goal.returns-in_err-model-clause-few
+returns-in_err-model-clause-few g c width has =
+    let few = tidy_few (live_nodes c.moves.table.graph) c.moves.left width c.moves.invariant.tidy (c.moves.invariant.left width has) in
+    omega (arith, few)
+
+pub returns-clause-few : goal.returns-clause-few
+returns-clause-few g c width has =
+    let few = tidy_few (live_nodes c.moves.table.graph) c.moves.left width c.moves.invariant.tidy (c.moves.invariant.left width has) in
+    omega (arith, few)
+
+pub returns-in_err-caches-clause-few : goal.returns-in_err-caches-clause-few
+returns-in_err-caches-clause-few g c width has = let none = no_nodes c.args.table.now.graph c.requires.empty in omega (arith, none)

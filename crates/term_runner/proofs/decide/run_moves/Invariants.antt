@@ -1,18 +1,25 @@
-use Rattle.std.proofs.Common.{◌≡◌, [], reverse}
+use Rattle.std.proofs.Common.{◌≡◌, ℕ, ◌+◌, ◌*◌, ◌≤◌, [], length, reverse}
+use Rattle.node_table.specs.Diagram.{levels}
 use Rattle.node_table.specs.Progress.{Continues}
+use Rattle.node_table.specs.Table.{live_nodes}
 use Rattle.term_runner.specs.Caches.{all_entries}
 use Rattle.term_runner.specs.Held.{IsReady, HasUnits}
+use Rattle.term_runner.specs.Price.{move_price}
+use Rattle.term_runner.specs.Tidy.{IsTidy}
+use Rattle.term_runner.specs.Width.{HasWidth}
 use Rattle.term_runner.proofs.Between.{IsBetween}
-use Rattle.term_runner.proofs.Planned.{AreMade}
 use Rattle.term_runner.proofs.decide.run_moves.Given as goal
 
 abbrev pub invariant-moves : goal.invariant-moves
 invariant-moves g l = record {
+  few : l.i ≤ length l.plan;
+  tidy : IsTidy (live_nodes l.table.graph) l.left;
+  left : (width : ℕ) → HasWidth l.formula l.fn.table.graph.order l.plan width → l.left ≤ width;
+  price : (width : ℕ) → HasWidth l.formula l.fn.table.graph.order l.plan width → l.table.book.state.top ≤ l.fn.table.book.state.top + l.i * move_price (levels l.fn.table.graph) width;
   between : IsBetween l.formula l.plan l.i l.table.graph l.table.book.state.live l.stack.items l.trail;
   ready : IsReady l.formula l.table (all_entries l.caches);
   settled : l.table.retired ≡ [];
   own : HasUnits l.table (all_entries l.caches) (reverse l.stack.items);
   continues : Continues g.S.Sink.tells (g.S.Sink.channel l.fn.table.book.sink) (g.S.Sink.channel l.table.book.sink) l.fn.table l.table;
-  made : AreMade l.formula l.fn.table.graph.order l.plan l.table.graph;
   beside : g.S.Sink.beside l.table.book.sink ≡ g.S.Sink.beside l.fn.table.book.sink;
 }

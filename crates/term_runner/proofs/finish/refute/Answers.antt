@@ -14,7 +14,7 @@ same_state {S} old new (Ok found) refused = tt
 same_state {S} old new (Err error) refused = λ whole. ap (λ (b : Book S). b.state) (refused whole)
 
 pub returns-clause-ends : goal.returns-clause-ends
-returns-clause-ends g c formula order moves limits opened first has =
+returns-clause-ends g c formula order moves limits opened first has some =
     let added = c.add_empty-found.ensures in
     let old = c.args.ledger.now in
     let new = c.add_empty-found.new.ledger in
@@ -34,6 +34,6 @@ returns-clause-ends g c formula order moves limits opened first has =
       refused = same_state old new c.add_empty-found.result added.refused;
       only_writes = added.only_writes;
     })
-    formula order moves limits opened first has in
+    formula order moves limits opened first has some in
     c.finish.ensures.ends (g.S.Sink.channel old.sink) formula order moves limits
     (subst (λ (o : Result Outcome RunError). Leads g.S.Sink.tells (g.S.Sink.channel old.sink) (g.S.Sink.channel new.sink) formula order moves limits new o) (sym c.outcome_of.ensures) leads)

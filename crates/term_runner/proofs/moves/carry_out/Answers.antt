@@ -1,7 +1,8 @@
 use Rattle.std.proofs.Common.{◌≡◌, ℕ, false, List, ◌∷◌, Contains, reverse, refl, sym, subst, arith}
 use Rattle.node_table.specs.Made.{LacksPart}
 use Rattle.schedule_plan.specs.Plan.{Stage, Term, input, both, some_value}
-use Rattle.term_runner.specs.Needs.{KeepsOrMakes, term_function, top_function}
+use Rattle.term_runner.specs.Width.{term_function, top_function}
+use Rattle.term_runner.specs.Nodes.{KeepsOrMakes}
 use Rattle.term_runner.specs.Held.{AreHeld, AreKept, IsAt}
 use Rattle.term_runner.specs.Caches.{all_entries}
 use Rattle.term_runner.proofs.Leaving.{went_on}
@@ -253,3 +254,21 @@ returns-in-Exists-clause-at_again g c stage at is =
     let unchanged = c.quantify_out.ensures.unchanged (failed_limit c.quantify_out.result is) in
     at_still c.growth_law.ensures c.args.formula.now old.graph new.graph c.requires.ready.sound.tied.reduced extends.nodes old.book.state.live new.book.state.live extends.clauses stage
     c.args.stack.now.items c.quantify_out.new.stack.items c.args.trail.now c.quantify_out.new.trail unchanged.0 unchanged.1 at
+
+pub returns-in-Push-clause-nodes : goal.returns-in-Push-clause-nodes
+returns-in-Push-clause-nodes g c = c.push.ensures.steps.extends.nodes
+
+pub returns-in-And-clause-nodes : goal.returns-in-And-clause-nodes
+returns-in-And-clause-nodes g c = c.conjoin.ensures.steps.extends.nodes
+
+pub returns-in-Exists-clause-nodes : goal.returns-in-Exists-clause-nodes
+returns-in-Exists-clause-nodes g c = c.quantify_out.ensures.steps.extends.nodes
+
+pub returns-in-Push-clause-adds : goal.returns-in-Push-clause-adds
+returns-in-Push-clause-adds g c = let one = c.push.ensures.steps.adds in omega (arith, one)
+
+pub returns-in-And-clause-adds : goal.returns-in-And-clause-adds
+returns-in-And-clause-adds g c = c.conjoin.ensures.steps.adds
+
+pub returns-in-Exists-clause-adds : goal.returns-in-Exists-clause-adds
+returns-in-Exists-clause-adds g c = c.quantify_out.ensures.steps.adds

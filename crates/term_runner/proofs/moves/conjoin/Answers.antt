@@ -5,7 +5,7 @@ use Rattle.operations.specs.Budget.{most_additions}
 use Rattle.node_table.specs.Diagram.{Graph, levels}
 use Rattle.node_table.specs.Made.{LacksPart, MakesOnly}
 use Rattle.schedule_plan.specs.Plan.{both}
-use Rattle.term_runner.specs.Needs.{term_function}
+use Rattle.term_runner.specs.Width.{term_function}
 use Rattle.node_table.specs.Table.{TableState, IsAddedTo}
 use Rattle.term_runner.specs.declared.held.Held.{Held}
 use Rattle.term_runner.specs.Held.{AreHeld, HasUnits}

@@ -2,14 +2,15 @@
 use Rattle.std.proofs.Common.{Option, Some, reverse, ap, sym, subst, arith}
 use Rattle.node_table.specs.declared.error.TableError.{TableError}
 use Rattle.node_table.specs.declared.error.TableError.TheVariants.{NodeLimit, WriteFault}
-use Rattle.node_table.specs.Diagram.{Graph}
+use Rattle.node_table.specs.Diagram.{Graph, KeepsNodes}
 use Rattle.node_table.specs.HandedOn.{handed_on, no_error}
 use Rattle.node_table.specs.Made.{LacksPart}
 use Rattle.node_table.specs.Progress.{Leaves}
 use Rattle.node_table.specs.Table.{TableState, live_nodes}
 use Rattle.term_runner.specs.Caches.{all_entries}
 use Rattle.term_runner.specs.Held.{AreKept}
-use Rattle.term_runner.specs.Needs.{KeepsOrMakes, top_function}
+use Rattle.term_runner.specs.Width.{top_function}
+use Rattle.term_runner.specs.Nodes.{KeepsOrMakes}
 use Rattle.term_runner.proofs.Leaving.{error_handed, limit_left}
 use Rattle.term_runner.proofs.Giving.{units_settled}
 use Rattle.term_runner.proofs.OwnUnits.{held_settled, ready_settled}
@@ -137,3 +138,27 @@ returns-in_ok-settle-in-Err-clause-at_again g c stage at limit =
           (c.in-Err.ensures.again limit).own still.held;
       kept = subst (λ (graph : Graph). AreKept c.args.formula.now graph (reverse c.carry_out.new.trail) stage.trail) (sym c.settle-in-Err.ensures.nodes) still.kept;
     }
+
+pub returns-in_err-settle-in-Ok-2-clause-nodes : goal.returns-in_err-settle-in-Ok-2-clause-nodes
+returns-in_err-settle-in-Ok-2-clause-nodes g c = subst (KeepsNodes c.args.table.now.graph) (sym c.settle.ensures.nodes) c.carry_out.ensures.nodes
+
+pub returns-in_err-settle-in-Ok-2-clause-adds : goal.returns-in_err-settle-in-Ok-2-clause-adds
+returns-in_err-settle-in-Ok-2-clause-adds g c = let few = c.carry_out.ensures.adds in omega (arith, few, c.settle.ensures.top, ap live_nodes c.settle.ensures.nodes)
+
+pub returns-in_ok-settle-in-Ok-2-clause-nodes : goal.returns-in_ok-settle-in-Ok-2-clause-nodes
+returns-in_ok-settle-in-Ok-2-clause-nodes g c = subst (KeepsNodes c.args.table.now.graph) (sym c.settle.ensures.nodes) c.carry_out.ensures.nodes
+
+pub returns-in_ok-settle-in-Ok-2-clause-adds : goal.returns-in_ok-settle-in-Ok-2-clause-adds
+returns-in_ok-settle-in-Ok-2-clause-adds g c = let few = c.carry_out.ensures.adds in omega (arith, few, c.settle.ensures.top, ap live_nodes c.settle.ensures.nodes)
+
+pub returns-in_err-settle-in-Err-clause-nodes : goal.returns-in_err-settle-in-Err-clause-nodes
+returns-in_err-settle-in-Err-clause-nodes g c = subst (KeepsNodes c.args.table.now.graph) (sym c.settle-in-Err.ensures.nodes) c.carry_out.ensures.nodes
+
+pub returns-in_err-settle-in-Err-clause-adds : goal.returns-in_err-settle-in-Err-clause-adds
+returns-in_err-settle-in-Err-clause-adds g c = let few = c.carry_out.ensures.adds in omega (arith, few, c.settle-in-Err.ensures.top, ap live_nodes c.settle-in-Err.ensures.nodes)
+
+pub returns-in_ok-settle-in-Err-clause-nodes : goal.returns-in_ok-settle-in-Err-clause-nodes
+returns-in_ok-settle-in-Err-clause-nodes g c = subst (KeepsNodes c.args.table.now.graph) (sym c.settle-in-Err.ensures.nodes) c.carry_out.ensures.nodes
+
+pub returns-in_ok-settle-in-Err-clause-adds : goal.returns-in_ok-settle-in-Err-clause-adds
+returns-in_ok-settle-in-Err-clause-adds g c = let few = c.carry_out.ensures.adds in omega (arith, few, c.settle-in-Err.ensures.top, ap live_nodes c.settle-in-Err.ensures.nodes)

@@ -6,7 +6,7 @@ use Rattle.node_table.specs.HandedOn.{came_from, no_answer, no_error, other_caus
 use Rattle.node_table.specs.Made.{LacksPart, MakesOnly}
 use Rattle.operations.specs.Accounts.{none_whole, whole_result}
 use Rattle.operations.specs.Budget.{most_additions}
-use Rattle.term_runner.specs.Needs.{term_function}
+use Rattle.term_runner.specs.Width.{term_function}
 use Rattle.schedule_plan.specs.Plan.{some_value}
 use Rattle.term_runner.specs.Caches.{all_entries}
 use Rattle.node_table.specs.Table.{TableState}

@@ -1,13 +1,16 @@
 -- Behind a move that succeeded the nodes are few, or those that its terms reach.
-use Rattle.std.proofs.Common.{◌≡◌, ℕ, List, Err, ap, sym, subst, inr}
+use Rattle.std.proofs.Common.{List, Err, ap, sym, subst, arith, inr}
 use Rattle.node_table.specs.declared.error.TableError.TheVariants.{NodeLimit}
 use Rattle.node_table.specs.Diagram.{Graph}
 use Rattle.node_table.specs.HandedOn.{came_from}
-use Rattle.schedule_plan.specs.Plan.{Stage}
+use Rattle.node_table.specs.Table.{live_nodes}
 use Rattle.term_runner.specs.declared.held.Held.{Held}
 use Rattle.term_runner.specs.Held.{IsAt}
-use Rattle.term_runner.specs.Needs.{KeepsOrMakes, top_function}
-use Rattle.term_runner.specs.Tidy.{LeavesReached, held_nodes}
+use Rattle.term_runner.specs.Width.{top_function}
+use Rattle.term_runner.specs.Nodes.{KeepsOrMakes}
+use Rattle.term_runner.specs.Price.{AddsFew}
+use Rattle.term_runner.specs.Tidy.{held_nodes}
+use Rattle.term_runner.proofs.FewLeft.{few_left, in_hand_behind}
 use Rattle.term_runner.proofs.Tidied.{made_behind, none_made, were_left}
 use Rattle.term_runner.proofs.reclamation.take_move.Goals as goal
 
@@ -44,4 +47,32 @@ returns-clause-left g c stage next at is ok =
     let trail = c.try_twice.new.trail in
     let moved = subst (λ (s : List Held). IsAt formula mid.graph mid.book.state.live s trail next) (sym c.as_slice.ensures.value) (c.in_ok-refuted.ensures.held stage next at is c.if-refuted.false) in
     let so_far = c.steps_law.ensures.go_on _ _ _ c.args.table.now mid new c.in_ok-refuted.ensures.leaves c.in_ok-left.ensures.leaves in
-    inr (inr (were_left formula mid.graph new.graph new.book.state.live stack trail next c.args.table.now.graph.order _ (c.in_ok-left.ensures.at next moved) c.in_ok-left.ensures.reached so_far.order c.in_ok-left.ensures.count))
+    let were = were_left formula mid.graph new.graph new.book.state.live stack trail next c.args.table.now.graph.order _ (c.in_ok-left.ensures.at next moved) c.in_ok-left.ensures.reached so_far.order c.in_ok-left.ensures.count in
+    inr (inr were)
+
+pub returns-in_err-left-clause-few : goal.returns-in_err-left-clause-few
+returns-in_err-left-clause-few g c stage next at is width most =
+    subst (λ (graph : Graph). AddsFew (live_nodes c.args.table.now.graph) (live_nodes graph) width) (sym c.in_err-left.ensures.kept) (c.try_twice.ensures.few stage next at is width most)
+
+pub returns-clause-few : goal.returns-clause-few
+returns-clause-few g c stage next at is width most =
+    let formula = c.args.formula.now in
+    let mid = c.try_twice.new.table in
+    let new = c.give_back.new.table in
+    let stack = c.as_slice.result.now in
+    let trail = c.try_twice.new.trail in
+    let moved = subst (λ (s : List Held). IsAt formula mid.graph mid.book.state.live s trail next) (sym c.as_slice.ensures.value) (c.in_ok-refuted.ensures.held stage next at is c.if-refuted.false) in
+    let so_far = c.steps_law.ensures.go_on _ _ _ c.args.table.now mid new c.in_ok-refuted.ensures.leaves c.in_ok-left.ensures.leaves in
+    let were = were_left formula mid.graph new.graph new.book.state.live stack trail next c.args.table.now.graph.order _ (c.in_ok-left.ensures.at next moved) c.in_ok-left.ensures.reached so_far.order c.in_ok-left.ensures.count in
+    let left = few_left c.subfunction_law.ensures c.canonical_law.ensures formula c.args.table.now.graph.order c.requires.ready.sound.tied.ordered stage next next (in_hand_behind formula stage next c.args.step is) _ were width most in
+    inr (omega (arith, left, c.in_ok-left.ensures.count))
+
+pub returns-in_err-left-clause-price : goal.returns-in_err-left-clause-price
+returns-in_err-left-clause-price g c stage next at is width most =
+    let own = c.try_twice.ensures.price stage next at is width most in
+    omega (arith, own, c.give_back.ensures.top)
+
+pub returns-clause-price : goal.returns-clause-price
+returns-clause-price g c stage next at is width most =
+    let own = c.try_twice.ensures.price stage next at is width most in
+    omega (arith, own, c.give_back.ensures.top)

@@ -10,6 +10,7 @@ use Rattle.term_runner.specs.declared.outcome.Outcome.{Outcome}
 use Rattle.term_runner.specs.Ends.{Ends}
 use Rattle.term_runner.specs.Opened.{Leads}
 use Rattle.term_runner.proofs.Ending.{nothing_ends}
+use Rattle.term_runner.proofs.OneLine.{some_moves}
 use Rattle.term_runner.proofs.Opening.{proof_at_start, whole_at_start, opened_at, ready_at, decided_leads}
 use Rattle.term_runner.proofs.run.run_plan_into.Goals as goal
 
@@ -19,7 +20,7 @@ returns-in_default-clause-ends g c =
     let tells = g.S.Sink.tells in
     let channel : Channel = g.S.Sink.channel c.args.sink.now in
     let proof = proof_at_start c.start_law.ensures.clauses c.start_law.ensures.none_at_zero c.start_law.ensures.none_above c.derivation_law.ensures.none formula.clauses tells channel c.requires.fresh in
-    nothing_ends tells channel channel formula c.args.order.now c.args.plan.now c.args.limits (whole_at_start c.marks_law.ensures.start formula c.args.limits c.formula_law.ensures.literals tells channel proof) refl refl refl
+    nothing_ends tells channel channel formula c.args.order.now c.args.plan.now c.args.limits (λ within. whole_at_start c.marks_law.ensures.start formula within c.formula_law.ensures.literals tells channel proof) refl refl refl
 
 pub returns-in-Some-clause-ends : goal.returns-in-Some-clause-ends
 returns-in-Some-clause-ends g c =
@@ -33,7 +34,7 @@ returns-in-Some-clause-ends g c =
     (ap (λ (b : Book (MutBor g.row.S.Denot)). b.in_step) c.new-ledger.ensures) proof fresh in
     subst (λ (s : g.row.S.Denot). Ends g.S.Sink.tells (g.S.Sink.channel c.args.sink.now) (g.S.Sink.channel s) formula c.args.order.now c.args.plan.now c.args.limits c.refute-result.result) (search rules)
     (subst (λ (s : g.row.S.Denot). Ends g.S.Sink.tells (g.S.Sink.channel s) (g.S.Sink.channel c.refute-result.new.ledger.sink.now) formula c.args.order.now c.args.plan.now c.args.limits c.refute-result.result) same
-    (c.refute-result.ensures.ends formula c.args.order.now c.args.plan.now c.args.limits opened c.in-Some.ensures.0 c.in-Some.ensures.1))
+    (c.refute-result.ensures.ends formula c.args.order.now c.args.plan.now c.args.limits opened c.in-Some.ensures.0 c.in-Some.ensures.1 (some_moves formula c.args.plan.now c.requires.plan c.in-Some.ensures.1)))
 
 pub returns-in_default-new-clause-ends : goal.returns-in_default-new-clause-ends
 returns-in_default-new-clause-ends g c =
@@ -42,7 +43,7 @@ returns-in_default-new-clause-ends g c =
     let channel : Channel = g.S.Sink.channel c.args.sink.now in
     let proof = proof_at_start c.start_law.ensures.clauses c.start_law.ensures.none_at_zero c.start_law.ensures.none_above c.derivation_law.ensures.none formula.clauses tells channel c.requires.fresh in
     subst (λ (s : g.row.S.Denot). Ends tells channel (g.S.Sink.channel s) formula c.args.order.now c.args.plan.now c.args.limits _) (search rules)
-    (nothing_ends tells channel channel formula c.args.order.now c.args.plan.now c.args.limits (whole_at_start c.marks_law.ensures.start formula c.args.limits c.formula_law.ensures.literals tells channel proof) refl refl refl)
+    (nothing_ends tells channel channel formula c.args.order.now c.args.plan.now c.args.limits (λ within. whole_at_start c.marks_law.ensures.start formula within c.formula_law.ensures.literals tells channel proof) refl refl refl)
 
 pub decide-found-requires-clause-ready : goal.decide-found-requires-clause-ready
 decide-found-requires-clause-ready g c =
@@ -93,6 +94,8 @@ returns-clause-ends g c =
       tautologies = λ all. ap (λ (t : TableState (MutBor g.row.S.Denot)). (g.S.Sink.channel t.book.sink.now).written) (told.tautologies all);
       open_clause = told.open_clause;
       short = told.short;
+      price = told.price;
+      nodes = told.few;
       few = c.table_law.ensures.few_nodes;
     }) in
     let outcome = subst (λ (o : Result Outcome RunError). Leads tells before after formula table.graph.order moves limits new.book o) (sym c.outcome_of.ensures) leads in

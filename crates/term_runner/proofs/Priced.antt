@@ -1,0 +1,76 @@
+-- How many numbers a try of a move gives, and a move in two tries.
+use Rattle.std.proofs.Common.{◌≡◌, ℕ, zero, suc, ◌+◌, ◌*◌, ◌^◌, ◌≤◌, ◌∙◌, Bool, nat_cmp, List, Option, None, Some, refl, sym, ap, arith, inl, inr}
+use Rattle.std.specs.FinMap as map
+use Rattle.std.proofs.Math.Nat.{add-mul, one-mul, two-pow-succ}
+use Rattle.cnf_base.specs.Formula.{Formula}
+use Rattle.host_io.specs.Channel.{Channel}
+use Rattle.node_table.specs.declared.error.TableError.{TableError}
+use Rattle.node_table.specs.declared.error.TableError.TheVariants.{NodeLimit, IdLimit, OutOfMemory, WriteFault}
+use Rattle.node_table.specs.declared.node.Branch.{Branch}
+use Rattle.node_table.specs.Diagram.{Graph, IsReduced, KeepsNodes, levels}
+use Rattle.node_table.specs.Laws.{Canonical}
+use Rattle.node_table.specs.Progress.{Leaves}
+use Rattle.node_table.specs.Table.{TableState, AddsAtMost, live_nodes}
+use Rattle.operations.specs.Budget.{most_additions}
+use Rattle.schedule_plan.specs.declared.plan.Move.{Move}
+use Rattle.schedule_plan.specs.Plan.{Stage, after_move}
+use Rattle.term_runner.specs.Price.{AddsFew, most_nodes, move_price}
+use Rattle.term_runner.specs.Tidy.{IsTidy}
+use Rattle.term_runner.specs.Width.{HoldsAtMost, top_function}
+use Rattle.term_runner.specs.Nodes.{KeepsOrMakes}
+use Rattle.term_runner.proofs.InHand.{result_part}
+use Rattle.term_runner.proofs.NewNodes.{few_made}
+
+-- two for each pair of nodes, over all levels
+most_is : (n : ℕ) → most_additions n + 2 ≡ 2 ^ n + 2 ^ n
+most_is zero = refl
+most_is (suc n) = omega (arith, most_is n, two-pow-succ n)
+
+-- two tries are a move's price
+pub two_tries : (n width first second third fourth : ℕ) → second ≤ first + (4 * width + (most_additions n + 1)) → third ≡ second → fourth ≤ third + (4 * width + (most_additions n + 1)) → fourth ≤ first + move_price n width
+two_tries n width first second third fourth one same two = omega (arith, one, same, two, most_is n)
+
+-- one is no more than that
+pub one_try : (n width first second : ℕ) → second ≤ first + (4 * width + (most_additions n + 1)) → second ≤ first + move_price n width
+one_try n width first second one = omega (arith, one, most_is n)
+
+-- however a call ends, the nodes are reduced
+reduced_left : {S : Type 0} (tells : Bool) (before after : Channel) (old new : TableState S) (error : Option TableError) → Leaves tells before after old new error → IsReduced new.graph
+reduced_left tells before after old new None leaves = leaves.sound.tied.reduced
+reduced_left tells before after old new (Some NodeLimit) leaves = leaves.0.sound.tied.reduced
+reduced_left tells before after old new (Some IdLimit) leaves = leaves.0.sound.tied.reduced
+reduced_left tells before after old new (Some OutOfMemory) leaves = leaves.sound.tied.reduced
+reduced_left tells before after old new (Some WriteFault) leaves = leaves.reduced
+
+-- so many moves and one more
+pub one_more : (count price : ℕ) → (count + 1) * price ≡ count * price + price
+one_more count price = add-mul count 1 price ∙ ap (λ n. count * price + n) (one-mul price)
+
+-- no nodes
+pub no_nodes : (graph : Graph) → graph.nodes ≡ map.empty → live_nodes graph ≡ 0
+no_nodes graph empty = ap map.len empty ∙ map.len-empty nat_cmp Branch
+
+-- between two moves
+pub tidy_few : (live left width : ℕ) → IsTidy live left → left ≤ width → live ≤ 2 * width + 999
+tidy_few live left width tidy few = elim tidy [ inl small ↦ omega (arith, small) | inr more ↦ omega (arith, more, few) ]
+
+-- and however a move ends
+pub moved_few : (old new left width : ℕ) → IsTidy old left → left ≤ width → AddsFew old new width → new ≤ most_nodes width
+moved_few old new left width tidy few adds =
+    let before = tidy_few old left width tidy few in
+    elim adds [ inl more ↦ omega (arith, before, more) | inr all ↦ omega (arith, all) ]
+
+-- one try, however it ends
+module _ {S : Type 0} (canonical : Canonical) (formula : Formula) (order : List ℕ) (before after : Stage) (step : Move) (leads : after_move formula before step ≡ Some after) (old new : TableState S)
+    (tells : Bool) (one other : Channel) (error : Option TableError) (leaves : Leaves tells one other old new error) (keeps : KeepsNodes old.graph new.graph)
+    (made : KeepsOrMakes old.graph new.graph (top_function formula order after.stack)) (width : ℕ) (most : HoldsAtMost formula order before after width) where
+  pub tried_few : live_nodes new.graph ≤ live_nodes old.graph + width
+  tried_few =
+      few_made old.graph new.graph keeps canonical formula order before after (reduced_left tells one other old new error leaves)
+      (λ key branch at none. elim (made.each key branch at) [
+        | inl there ↦ absurd (let wrong : Some branch ≡ None = sym there.0 ∙ none in cc)
+        | inr part ↦ result_part formula order before after step leads _ part
+      ]) width most
+
+  pub tried : AddsAtMost (most_additions (levels old.graph) + 1) old new → new.book.state.top ≤ old.book.state.top + (4 * width + (most_additions (levels old.graph) + 1))
+  tried adds = omega (arith, adds, tried_few)
