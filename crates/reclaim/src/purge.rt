@@ -1,5 +1,5 @@
 // What reclamation wants of caches.
-ghost use Rattle.std.specs.Prelude.{◌≡◌, None, List};
+ghost use Rattle.std.specs.Prelude.{◌≡◌, ℕ, None, List};
 ghost use Rattle.node_table.specs.Progress.{Steps};
 ghost use Rattle.node_table.specs.Table.{IsSound};
 ghost use Rattle.operations.specs.Entries.{Entry, Fits};
@@ -13,11 +13,15 @@ pub trait Purge {
     /// The entries of all of them as one list.
     ghost entries: { Self → List Entry };
 
+    /// How many entries each of them may have.
+    ghost sizes: { Self → List ℕ };
+
     /// Lets entries go that name an unmarked node, and retires their clauses. It takes no memory.
     fn purge<S: Sink + Drop>(&mut self, table: &mut Table<S>, marks: &Marks)
         requires sound { IsSound table.old }
         requires fits { Fits table.old (entries self.old) }
         ensures purged { IsPurged table.old table.new marks.now (entries self.old) (entries self.new) }
+        ensures sizes { sizes self.new ≡ sizes self.old }
         ensures steps { Steps S.tells (S.channel table.old.book.sink) (S.channel table.new.book.sink) table.old table.new 0 None }
         ensures beside { S.beside table.new.book.sink ≡ S.beside table.old.book.sink };
 }

@@ -27,8 +27,9 @@ pub fn reclaim<S: Sink + Drop, P: Purge>(
     ensures reclaims { OnOk result (Reclaims table.old table.new roots.now (P.entries caches.old) (P.entries caches.new)) }
     ensures count { IfOk result (λ count. live_nodes table.new.graph + count ≡ live_nodes table.old.graph) }
     ensures memory { result ≡ Err OutOfMemory → (table.new ≡ table.old) × (caches.new ≡ caches.old) }
-    // However it ends, no clause was added.
+    // However it ends, no clause was added, and the caches may have as many entries as before.
     ensures top { table.new.book.state.top ≡ table.old.book.state.top }
+    ensures sizes { P.sizes caches.new ≡ P.sizes caches.old }
     // A refusal leaves the nodes as they were.
     ensures kept { OnErr result (table.new.graph ≡ table.old.graph) }
     ensures leaves { Leaves S.tells (S.channel table.old.book.sink) (S.channel table.new.book.sink) table.old table.new (error_of result) }

@@ -38,7 +38,7 @@ module _ (law : Subfunctions) (canonical : Canonical) (formula : Formula) (order
         absurd (most (record {
           parts = functions_of were.graph es;
           more = omega (arith, many, all, count, were.count);
-          in_hand = λ place small. part place (within place small);
+          are = λ place small. part place (within place small);
           essential = λ place small. essential_at canonical were.graph were.reduced es (finmap.entries_sorted were.graph.nodes) stands place (within place small);
           differ = λ place other less small. differ_at canonical were.graph were.reduced es (finmap.entries_sorted were.graph.nodes) stands place other less (within other small);
         }))
@@ -53,7 +53,11 @@ first_or : {X : Type 0} (x : X) (xs : List X) (y : X) → Contains (x ∷ xs) y 
 first_or x xs y (zero, small, at) = inl at
 first_or x xs y (suc k, small, at) = inr (k, omega (arith, small), at)
 
-result_is : (top : Term) (rest stack : List Term) (term : Term) → stack ≡ top ∷ rest → top ≡ term → IsResult stack term
+-- the second of a list
+pub in_front : (first second : Term) (rest : List Term) → Contains (first ∷ second ∷ rest) second
+in_front first second rest = (1, omega arith, refl)
+
+pub result_is : (top : Term) (rest stack : List Term) (term : Term) → stack ≡ top ∷ rest → top ≡ term → IsResult stack term
 result_is top rest stack term same is = subst (λ (s : List Term). IsResult s term) (sym same) is
 
 -- a term behind a move is in hand at it

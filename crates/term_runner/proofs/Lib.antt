@@ -29,5 +29,6 @@ pub mod Reclaimed
 pub mod InHand
 pub mod FewLeft
 pub mod ReachedList
+pub mod Pairs
 pub mod Priced
 pub mod WidthExamples

@@ -97,7 +97,7 @@ module _ (old new : Graph) (keeps : KeepsNodes old new) where
           absurd (most (record {
             parts = functions_of new fresh;
             more = omega (arith, many, counted, listed_all);
-            in_hand = λ place small. in_hand place (within place small);
+            are = λ place small. in_hand place (within place small);
             essential = λ place small. essential_at canonical new reduced fresh sorted stands place (within place small);
             differ = λ place other less small. differ_at canonical new reduced fresh sorted stands place other less (within other small);
           }))

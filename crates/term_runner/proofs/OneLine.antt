@@ -22,7 +22,7 @@ use Rattle.schedule_plan.specs.declared.limits.Limits.{Limits}
 use Rattle.schedule_plan.specs.Plan.{IsAdmissible, Stage, is_pushed, no_stage}
 use Rattle.term_runner.specs.declared.error.RunError.TheVariants.{WriteFault}
 use Rattle.term_runner.specs.Clauses.{is_tautology, has_empty_clause, first_empty}
-use Rattle.term_runner.specs.Price.{IsDecision, most_ids, move_price, priced}
+use Rattle.term_runner.specs.Price.{IsDecision, IsMovePrice, most_ids, priced}
 use Rattle.term_runner.specs.Proofs.{IsBroken, KeepsWithin}
 use Rattle.term_runner.specs.Ends.{Says, Shows, outcome_of}
 use Rattle.term_runner.specs.Opened.{IsOpened, Leads}
@@ -73,12 +73,19 @@ one_power : (n : ℕ) → 0 < 2 ^ n
 one_power zero = omega arith
 one_power (suc n) = omega (arith, one_power n, two-pow-succ n)
 
+-- a move's price isn't nothing
+some_price : (vars size width price : ℕ) → IsMovePrice vars size width price → 0 < price
+some_price vars size width price is = elim is [
+  | inl by_variables ↦ omega (arith, by_variables, one_power vars)
+  | inr by_width ↦
+      let one : 0 < width + 1 = omega arith in
+      let square = one-le-mul one one in
+      omega (arith, by_width.1, square)
+]
+
 -- a plan of some moves has room for a number above the formula's
-above_start : (formula : Formula) (moves : List Move) (width : ℕ) → 0 < length moves → length formula.clauses < most_ids formula moves width
-above_start formula moves width some =
-    let price : 0 < move_price formula.vars width = omega (arith, one_power formula.vars) in
-    let all = one-le-mul some price in
-    omega (arith, all)
+above_start : (formula : Formula) (moves : List Move) (price : ℕ) → 0 < price → 0 < length moves → length formula.clauses < most_ids formula moves price
+above_start formula moves price paid some = let all = one-le-mul some paid in omega (arith, all)
 
 -- a plan of a formula with clauses has some moves
 pub some_moves : (formula : Formula) (moves : List Move) → IsAdmissible formula moves → has_empty_clause formula.clauses ≡ true → 0 < length moves
@@ -124,8 +131,8 @@ module _ {S : Type 0} (unused : Unused) (appended : Appended) (tells : Bool) (be
   ]
 
   -- of a number more there is room within the price of any width
-  room_by_price : (width : ℕ) → length formula.clauses < most_ids formula moves width
-  room_by_price width = above_start formula moves width some
+  room_by_price : (width price : ℕ) → IsMovePrice formula.vars limits.cache width price → length formula.clauses < most_ids formula moves price
+  room_by_price width price is = above_start formula moves price (some_price formula.vars limits.cache width price is) some
 
   same_within : (within : Limits) → new.state ≡ old.state → KeepsWithin formula within new.state
   same_within within same = subst (λ (s : State). KeepsWithin formula within s) (sym (same ∙ opened.state)) (start_within unused formula within opened.literals)
@@ -157,14 +164,14 @@ module _ {S : Type 0} (unused : Unused) (appended : Appended) (tells : Bool) (be
     in_step = λ whole. added.in_step (whole_of result whole);
     proof = λ whole. added.kept formula.clauses opened.proof (whole_of result whole);
     within = λ whole. within_of limits result room_of (whole_of result whole) added.found added.refused;
-    within_price = λ width has whole. within_of (priced limits formula moves width) result (λ _. room_by_price width) (whole_of result whole) added.found added.refused;
+    within_price = λ width price has paid whole. within_of (priced limits formula moves width price) result (λ _. room_by_price width price paid) (whole_of result whole) added.found added.refused;
     broken = λ is t. broken_within limits is t (room_of (λ e. two_causes (sym (torn_of result is) ∙ e)));
-    broken_price = λ width has is t. broken_within (priced limits formula moves width) is t (room_by_price width);
-    certain = λ width has_width ample.
+    broken_price = λ width price has paid is t. broken_within (priced limits formula moves width price) is t (room_by_price width price paid);
+    certain = λ width price has_width paid ample.
         by_outcome IsDecision result (λ _. tt) (λ values is. tt) (λ is. absurd (added.no_node_limit is))
         (λ is.
         let limit = added.id_limit.0 is in
-        let above = room_by_price width in
+        let above = room_by_price width price paid in
         omega (arith, limit, opened.limit, top_at_start, ample.1, above));
     says = by_outcome (Says formula order moves limits) result (λ _. none_satisfies formula.clauses has) (λ values is. absurd (none_found values is)) (λ is. absurd (added.no_node_limit is)) (λ _. tt);
     shows = λ t.

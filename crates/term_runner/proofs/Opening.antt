@@ -29,7 +29,7 @@ use Rattle.term_runner.specs.Proofs.{IsProof, KeepsWithin}
 use Rattle.term_runner.specs.Recovered.{IsRecovered}
 use Rattle.term_runner.specs.Ends.{Says, Shows, outcome_of}
 use Rattle.term_runner.specs.Held.{IsReady}
-use Rattle.term_runner.specs.Price.{IsDecision, most_ids, most_nodes, move_price}
+use Rattle.term_runner.specs.Price.{IsDecision, IsMovePrice, most_ids, most_nodes}
 use Rattle.term_runner.specs.Width.{HasWidth}
 use Rattle.term_runner.specs.Nodes.{RunsShort}
 use Rattle.term_runner.specs.Opened.{IsOpened, Leads}
@@ -123,7 +123,7 @@ pub record Decided {S : Type 0} (tells : Bool) (before after : Channel) (formula
   pub tautologies : IsTrue (list_all is_tautology formula.clauses) → after.written ≡ before.written
   pub open_clause : (result ≡ Err NodeLimit) ⊎ (result ≡ Err IdLimit) → IsFalse (list_all is_tautology formula.clauses)
   pub short : result ≡ Err NodeLimit → RunsShort formula order moves new.graph
-  pub price : (width : ℕ) → HasWidth formula order moves width → new.book.state.top ≤ old.book.state.top + length moves * move_price (levels old.graph) width
+  pub price : (width price : ℕ) → HasWidth formula order moves width → IsMovePrice (levels old.graph) limits.cache width price → new.book.state.top ≤ old.book.state.top + length moves * price
   pub few : live_nodes new.graph ≤ new.max_nodes
   pub nodes : (width : ℕ) → HasWidth formula order moves width → live_nodes new.graph ≤ most_nodes width
 
@@ -192,9 +192,9 @@ module _ {S : Type 0} (canonical : Canonical) (unsatisfied : DerivedEmpty) (refu
   }
 
   -- the last number, by the plan's width
-  by_price : (width : ℕ) → HasWidth formula order moves width → new.book.state.top ≤ most_ids formula moves width
-  by_price width has =
-      let own = subst (λ (vars : ℕ). new.book.state.top ≤ old.book.state.top + length moves * move_price vars width) ready.vars (decided.price width has) in
+  by_price : (width price : ℕ) → HasWidth formula order moves width → IsMovePrice formula.vars limits.cache width price → new.book.state.top ≤ most_ids formula moves price
+  by_price width price has is =
+      let own = decided.price width price has (subst (λ (vars : ℕ). IsMovePrice vars limits.cache width price) (sym ready.vars) is) in
       omega (arith, own, top_at_start)
 
   not_torn : (other : Result (Option (List Bool)) TableError) → result ≡ other → other ≢ Err WriteFault → result ≢ Err WriteFault
@@ -252,10 +252,10 @@ module _ {S : Type 0} (canonical : Canonical) (unsatisfied : DerivedEmpty) (refu
         let cut = (torn (torn_of result is)).cut formula.clauses all_inputs opened.proof t in
         let few = (torn (torn_of result is)).few in
         record { before = cut.before; after = new.book.state; cut = cut.cut; within_before = within_limits few cut.before cut.within_before; within_after = within_limits few new.book.state cut.within_after };
-    within_price = λ width has whole. record { numbers = omega (arith, by_price width has); nodes = omega (arith, used (whole_of result whole), decided.nodes width has) };
-    broken_price = λ width has is t.
+    within_price = λ width price has paid whole. record { numbers = omega (arith, by_price width price has paid); nodes = omega (arith, used (whole_of result whole), decided.nodes width has) };
+    broken_price = λ width price has paid is t.
         let cut = (torn (torn_of result is)).cut formula.clauses all_inputs opened.proof t in
-        let last = by_price width has in
+        let last = by_price width price has paid in
         let few = decided.nodes width has in
         record {
           before = cut.before;
@@ -264,14 +264,14 @@ module _ {S : Type 0} (canonical : Canonical) (unsatisfied : DerivedEmpty) (refu
           within_before = record { numbers = omega (arith, cut.no_less, last); nodes = nodes_within (most_nodes width) few cut.before cut.within_before };
           within_after = record { numbers = omega (arith, last); nodes = nodes_within (most_nodes width) few new.book.state cut.within_after };
         };
-    certain = λ width has ample.
+    certain = λ width price has paid ample.
         by_outcome IsDecision result (λ _. tt) (λ values is. tt)
         (λ is.
         let more = grown (not_torn (Err NodeLimit) is (λ e. cc)) in
         let wider = is_wider canonical formula order moves new.graph more.sound.tied.reduced (decided.short is) limits.max_nodes (omega (arith, at_node_limit is, decided.few, more.max_nodes, few_nodes)) in
         has (wider_less formula order moves width limits.max_nodes ample.0 wider))
         (λ is.
-        let last = by_price width has in
+        let last = by_price width price has paid in
         omega (arith, at_id_limit is, (grown (not_torn (Err IdLimit) is (λ e. cc))).limit, opened.limit, last, ample.1));
     says = says;
     shows = shows;

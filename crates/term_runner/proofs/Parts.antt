@@ -59,7 +59,7 @@ module _ (canonical : Canonical) (formula : Formula) (order : List ℕ) (moves :
     more = record {
       parts = all;
       more = omega (arith, length-functions graph es, finmap.len-entries graph.nodes, live);
-      in_hand = in_hand;
+      are = in_hand;
       essential = essential;
       differ = differ;
     };
@@ -72,5 +72,5 @@ wider_less formula order moves few number less wider = record {
   before = wider.before;
   after = wider.after;
   move = wider.move;
-  more = record { parts = wider.more.parts; more = omega (arith, less, wider.more.more); in_hand = wider.more.in_hand; essential = wider.more.essential; differ = wider.more.differ };
+  more = record { parts = wider.more.parts; more = omega (arith, less, wider.more.more); are = wider.more.are; essential = wider.more.essential; differ = wider.more.differ };
 }

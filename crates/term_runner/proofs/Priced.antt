@@ -1,7 +1,7 @@
 -- How many numbers a try of a move gives, and a move in two tries.
-use Rattle.std.proofs.Common.{◌≡◌, ℕ, zero, suc, ◌+◌, ◌*◌, ◌^◌, ◌≤◌, ◌∙◌, Bool, nat_cmp, List, Option, None, Some, refl, sym, ap, arith, inl, inr}
+use Rattle.std.proofs.Common.{◌≡◌, ℕ, zero, suc, ◌+◌, ◌*◌, ◌^◌, ◌≤◌, ◌∙◌, Bool, nat_cmp, List, Option, None, Some, refl, sym, ap, subst, arith, inl, inr}
 use Rattle.std.specs.FinMap as map
-use Rattle.std.proofs.Math.Nat.{add-mul, one-mul, two-pow-succ}
+use Rattle.std.proofs.Math.Nat.{add-mul, mul-add, mul-one, one-mul, two-pow-succ}
 use Rattle.cnf_base.specs.Formula.{Formula}
 use Rattle.host_io.specs.Channel.{Channel}
 use Rattle.node_table.specs.declared.error.TableError.{TableError}
@@ -14,7 +14,7 @@ use Rattle.node_table.specs.Table.{TableState, AddsAtMost, live_nodes}
 use Rattle.operations.specs.Budget.{most_additions}
 use Rattle.schedule_plan.specs.declared.plan.Move.{Move}
 use Rattle.schedule_plan.specs.Plan.{Stage, after_move}
-use Rattle.term_runner.specs.Price.{AddsFew, most_nodes, move_price}
+use Rattle.term_runner.specs.Price.{AddsFew, IsMovePrice, most_nodes}
 use Rattle.term_runner.specs.Tidy.{IsTidy}
 use Rattle.term_runner.specs.Width.{HoldsAtMost, top_function}
 use Rattle.term_runner.specs.Nodes.{KeepsOrMakes}
@@ -26,13 +26,16 @@ most_is : (n : ℕ) → most_additions n + 2 ≡ 2 ^ n + 2 ^ n
 most_is zero = refl
 most_is (suc n) = omega (arith, most_is n, two-pow-succ n)
 
--- two tries are a move's price
-pub two_tries : (n width first second third fourth : ℕ) → second ≤ first + (4 * width + (most_additions n + 1)) → third ≡ second → fourth ≤ third + (4 * width + (most_additions n + 1)) → fourth ≤ first + move_price n width
-two_tries n width first second third fourth one same two = omega (arith, one, same, two, most_is n)
+square : (n : ℕ) → (n + 1) * (n + 1) ≡ n * n + n + n + 1
+square n = omega (arith, add-mul n 1 (n + 1), mul-add n n 1, mul-one n, one-mul (n + 1))
 
--- one is no more than that
-pub one_try : (n width first second : ℕ) → second ≤ first + (4 * width + (most_additions n + 1)) → second ≤ first + move_price n width
-one_try n width first second one = omega (arith, one, most_is n)
+-- a try takes no more than half of a move's price
+pub half_price : (vars size width price : ℕ) → IsMovePrice vars size width price → (first last : ℕ) → last ≤ first + (4 * width + (most_additions vars + 1))
+    → (width * width ≤ size → last ≤ first + (4 * width + (2 * (width * width) + 1))) → 2 * last ≤ 2 * first + price
+half_price vars size width price is first last any room = elim is [
+  | inl by_variables ↦ omega (arith, any, by_variables, most_is vars)
+  | inr by_width ↦ let own = room by_width.0 in omega (arith, own, by_width.1, square width)
+]
 
 -- however a call ends, the nodes are reduced
 reduced_left : {S : Type 0} (tells : Bool) (before after : Channel) (old new : TableState S) (error : Option TableError) → Leaves tells before after old new error → IsReduced new.graph
@@ -72,5 +75,9 @@ module _ {S : Type 0} (canonical : Canonical) (formula : Formula) (order : List 
         | inr part ↦ result_part formula order before after step leads _ part
       ]) width most
 
-  pub tried : AddsAtMost (most_additions (levels old.graph) + 1) old new → new.book.state.top ≤ old.book.state.top + (4 * width + (most_additions (levels old.graph) + 1))
-  tried adds = omega (arith, adds, tried_few)
+  pub tried : (vars size price : ℕ) → levels old.graph ≡ vars → IsMovePrice vars size width price → AddsAtMost (most_additions (levels old.graph) + 1) old new
+      → (width * width ≤ size → AddsAtMost (2 * (width * width) + 1) old new) → 2 * new.book.state.top ≤ 2 * old.book.state.top + price
+  tried vars size price same is adds pairs =
+      half_price vars size width price is old.book.state.top new.book.state.top
+      (subst (λ (n : ℕ). new.book.state.top ≤ old.book.state.top + (4 * width + (most_additions n + 1))) same (omega (arith, adds, tried_few)))
+      (λ room. let own = pairs room in omega (arith, own, tried_few))

@@ -1,5 +1,4 @@
--- The nodes that a node reaches, as a list without repetition: it is no longer than there are parts of terms in hand, where the
--- node's function is that of a term in hand.
+-- The nodes that a node reaches, as a list without repetition: it is no longer than the node's function has parts.
 use Rattle.std.proofs.Common.{◌≡◌, ◌≢◌, ◌∙◌, ◌+◌, ◌<◌, ◌≤◌, ◌==◌, ◌||◌, ℕ, zero, suc, Bool, true, false, cond, List, [], ◌∷◌, map, length, Option, None, Some, Contains, is_some, nat_cmp, T, Equal, refl, sym, ap, subst, arith, inl, inr, eq-eqb}
 use Rattle.std.specs.List.{list_any}
 use Rattle.std.specs.Ordering.{eq_by_cmp}
@@ -8,7 +7,6 @@ use Rattle.std.specs.FinMap.Entries.{find, find-where_key, is_some-find, is_sort
 use Rattle.std.specs.Cmp.{unsigned_tied}
 use Rattle.std.proofs.lemmas.Bool.{cases_lt, eqb-true, or_cases, or_left, or_right}
 use Rattle.std.proofs.lemmas.List.{length-map}
-use Rattle.cnf_base.specs.Formula.{Formula}
 use Rattle.node_table.specs.declared.node.Node.{Node}
 use Rattle.node_table.specs.declared.node.Node.TheVariants.{False, True, Inner}
 use Rattle.node_table.specs.declared.node.NodeKey.{NodeKey}
@@ -16,11 +14,10 @@ use Rattle.node_table.specs.declared.node.Branch.{Branch}
 use Rattle.node_table.specs.Diagram.{Graph, IsReduced, branch_at, branch_of, is_node, level_in, level_of, levels}
 use Rattle.node_table.specs.Laws.{Canonical, Subfunctions}
 use Rattle.node_table.specs.Made.{Reaches, child_of, end_of, inner}
-use Rattle.node_table.specs.Value.{Levels, value_of}
+use Rattle.node_table.specs.Value.{Levels, IsSubfunction, value_of}
 use Rattle.operations.specs.Pairs.{IsNoConstant}
 use Rattle.operations.specs.Price.{HoldsReached}
-use Rattle.schedule_plan.specs.Plan.{Stage, Term}
-use Rattle.term_runner.specs.Width.{HoldsAtMost, IsInHand, IsPartInHand, part_at, term_function}
+use Rattle.term_runner.specs.Width.{HasAtMost, part_at}
 use Rattle.term_runner.proofs.InHand.{part_of_same, reached_part}
 use Rattle.term_runner.proofs.Listed.{differ_at, essential_at, function_at, functions_of, key_at, length-functions, listed, some_of}
 
@@ -149,24 +146,21 @@ module _ (law : Subfunctions) (canonical : Canonical) (graph : Graph) (reduced :
       let parts = some_cond (is_led q) (find nat_cmp q all) (sym (ap is_some (find-where_key nat_cmp is_led q (alike q) all)) ∙ is_some-find nat_cmp q es ∙ listed es place small) in
       (parts.0, ap is_some (finmap.get-entries graph.nodes q) ∙ parts.1)
 
-  module _ (formula : Formula) (order : List ℕ) (first last : Stage) (term : Term) (in_hand : IsInHand first last term) (same : (a : Levels) → value_of graph a u ≡ term_function formula order term a) where
+  module _ (function : Levels → Bool) (same : (a : Levels) → value_of graph a u ≡ function a) where
     sorted : T (is_sorted nat_cmp es)
     sorted = is_sorted-where_key nat_cmp is_led all (finmap.entries_sorted graph.nodes)
 
     there : (place : ℕ) → place < length es → is_some (branch_at graph (key_at es place)) ≡ true
     there place small = (led_at place small).1
 
-    part : (place : ℕ) → place < length es → IsPartInHand formula order first last (part_at (functions_of graph es) place)
+    part : (place : ℕ) → place < length es → IsSubfunction function (part_at (functions_of graph es) place)
     part place small =
         let key = key_at es place in
         let reached = reached_part law graph reduced u (inner key) stands (reaches_led graph (levels graph) u key (led_at place small).0) in
-        subst (IsPartInHand formula order first last) (sym (function_at graph es place small)) (record {
-          term = term;
-          in_hand = in_hand;
-          is_part = part_of_same (λ a. value_of graph a u) (term_function formula order term) (λ a. value_of graph a (inner key)) (λ a. value_of graph a (inner key)) same (λ a. refl) reached;
-        })
+        subst (IsSubfunction function) (sym (function_at graph es place small))
+        (part_of_same (λ a. value_of graph a u) function (λ a. value_of graph a (inner key)) (λ a. value_of graph a (inner key)) same (λ a. refl) reached)
 
-    few_reached : (width : ℕ) → HoldsAtMost formula order first last width → length es ≤ width
+    few_reached : (width : ℕ) → HasAtMost function width → length es ≤ width
     few_reached width most = elim (cases_lt width (length es)) [
       | inr few ↦ few
       | inl many ↦
@@ -175,14 +169,14 @@ module _ (law : Subfunctions) (canonical : Canonical) (graph : Graph) (reduced :
           absurd (most (record {
             parts = functions_of graph es;
             more = omega (arith, many, count);
-            in_hand = λ place small. part place (within place small);
+            are = λ place small. part place (within place small);
             essential = λ place small. essential_at canonical graph reduced es sorted there place (within place small);
             differ = λ place other less small. differ_at canonical graph reduced es sorted there place other less (within other small);
           }))
     ]
 
-    -- the nodes that a term's node reaches are listed, and no more than there are parts in hand
-    pub reached_few : (width : ℕ) → HoldsAtMost formula order first last width → (nodes : List Node) × HoldsReached graph u nodes × (length nodes ≤ width)
+    -- the nodes that it reaches are listed, and no more than its function has parts
+    pub reached_few : (width : ℕ) → HasAtMost function width → (nodes : List Node) × HoldsReached graph u nodes × (length nodes ≤ width)
     reached_few width most =
         let few = few_reached width most in
         let count = length-map {B = Node} es (λ e. inner e.0) in

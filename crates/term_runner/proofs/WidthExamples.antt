@@ -59,7 +59,7 @@ one_at_most wider =
     let same : (place : ℕ) → place < 2 → (a : Levels) → part_at many.parts place a ≡ a 0 =
     λ place small.
     let here : place < length many.parts = omega (arith, small, many.more) in
-    let in_hand = many.in_hand place here in
+    let in_hand = many.are place here in
     part_is (part_at many.parts place)
     (subst (λ (t : Term). IsSubfunction (term_function one_clause order t) (part_at many.parts place)) (sym (in_hand_is wider.count wider.before wider.after wider.move in_hand.term in_hand.in_hand)) in_hand.is_part)
     (many.essential place here) in

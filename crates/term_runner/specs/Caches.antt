@@ -1,17 +1,32 @@
 -- The computed caches of all operations as one list of entries, and what a call within a move leaves of them.
-use Rattle.std.specs.Prelude.{◌++◌, List, Option}
+use Rattle.std.specs.Prelude.{◌≡◌, ◌≤◌, ◌*◌, ◌++◌, ℕ, List, [], ◌∷◌, Option}
 use Rattle.node_table.specs.declared.error.TableError.{TableError}
 use Rattle.node_table.specs.Table.{TableState}
 use Rattle.operations.specs.Accounts.{IsWhole}
 use Rattle.operations.specs.Entries.{Entry, Fits, NamesOnly, RetiresOwn}
-use Rattle.apply_and.specs.Cache.{entries as conjunctions}
-use Rattle.imply.specs.Cache.{entries as implications}
-use Rattle.quantify.specs.ExistsCache.{both_caches}
+use Rattle.apply_and.specs.Cache.{entries as conjunctions, most_entries as most_conjunctions}
+use Rattle.imply.specs.Cache.{entries as implications, most_entries as most_implications}
+use Rattle.quantify.specs.ExistsCache.{both_caches, most_quantifications}
+use Rattle.quantify.specs.OrCache.{most_disjunctions}
 use Rattle.term_runner.specs.declared.caches.Caches.{Caches}
 
 -- the entries of all four
 abbrev pub all_entries : Caches → List Entry
 all_entries caches = conjunctions caches.ands ++ (implications caches.implications ++ both_caches caches.quantifications caches.ors)
+
+-- how many entries each of them may have
+abbrev pub sizes : Caches → List ℕ
+sizes caches = most_conjunctions caches.ands ∷ most_implications caches.implications ∷ most_quantifications caches.quantifications ∷ most_disjunctions caches.ors ∷ []
+
+-- each may have so many
+abbrev pub HaveSize : Caches → ℕ → Type 0
+HaveSize caches size = sizes caches ≡ size ∷ size ∷ size ∷ size ∷ []
+
+-- each has room for all pairs of so many nodes
+pub record HaveRoom (caches : Caches) (nodes : ℕ) : Type 0 where
+  pub size : ℕ
+  pub have : HaveSize caches size
+  pub room : nodes * nodes ≤ size
 
 -- A call within a move leaves the entries right, unless a write failed: each fits, and was there before or names a clause
 -- that came since. It retired only clauses that came since, and those that an entry named.

@@ -15,7 +15,7 @@ use Rattle.term_runner.specs.declared.outcome.Run.{Run}
 use Rattle.term_runner.specs.Clauses.{is_tautology}
 use Rattle.term_runner.specs.Proofs.{AreUnsatisfiable, IsProof, IsProofSoFar, LeadsTo, Refutation, NodesAreUsed, NumbersAreUsed}
 use Rattle.term_runner.specs.Recovered.{IsRecovered}
-use Rattle.term_runner.specs.Price.{AreAmple, IsDecision, priced}
+use Rattle.term_runner.specs.Price.{AreAmple, IsDecision, IsMovePrice, priced}
 use Rattle.term_runner.specs.Width.{HasWidth, IsWider}
 
 -- What an outcome says of the formula: no assignment satisfies it; these values, which are recovered, do; or the plan
@@ -48,12 +48,12 @@ outcome_of (Err table.WriteFault) = Err WriteFault
 -- within what the plan's width needs. Where all clauses are tautologies nothing is written.
 pub record Ends (tells : Bool) (before after : Channel) (formula : Formula) (order : List ℕ) (moves : List Move) (limits : Limits) (result : Result Run RunError) : Type 0 where
   pub says : IfOk result (λ run. Says formula order moves limits run.outcome)
-  pub certain : (width : ℕ) → HasWidth formula order moves width → AreAmple limits formula moves width → IfOk result (λ run. IsDecision run.outcome)
+  pub certain : (width price : ℕ) → HasWidth formula order moves width → IsMovePrice formula.vars limits.cache width price → AreAmple limits formula moves width price → IfOk result (λ run. IsDecision run.outcome)
   pub shows : IsTrue tells → IfOk result (λ run. Shows formula limits after.written run.outcome)
   pub last : IsTrue tells → IfOk result (λ run. LeadsTo formula limits after.written run.last_id)
   pub whole : result ≢ Err WriteFault → IsTrue tells → IsProof formula limits after.written
   pub so_far : IsTrue tells → IsProofSoFar formula limits after.written
-  pub price : (width : ℕ) → HasWidth formula order moves width → IsTrue tells → IsProofSoFar formula (priced limits formula moves width) after.written
+  pub price : (width price : ℕ) → HasWidth formula order moves width → IsMovePrice formula.vars limits.cache width price → IsTrue tells → IsProofSoFar formula (priced limits formula moves width price) after.written
   pub flushed : IsOk result → IsTrue tells → after.flushed ≡ length after.written
   pub fault : result ≡ Err WriteFault → Rose before.faults after.faults
   pub unfailed : result ≢ Err WriteFault → after.faults ≡ before.faults

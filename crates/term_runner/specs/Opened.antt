@@ -14,7 +14,7 @@ use Rattle.term_runner.specs.declared.error.RunError.{RunError}
 use Rattle.term_runner.specs.declared.error.RunError.TheVariants.{WriteFault}
 use Rattle.term_runner.specs.Clauses.{is_tautology}
 use Rattle.term_runner.specs.Ends.{Says, Shows}
-use Rattle.term_runner.specs.Price.{AreAmple, IsDecision, priced}
+use Rattle.term_runner.specs.Price.{AreAmple, IsDecision, IsMovePrice, priced}
 use Rattle.term_runner.specs.Proofs.{IsBroken, KeepsWithin}
 use Rattle.term_runner.specs.Width.{HasWidth}
 
@@ -41,9 +41,9 @@ pub record Leads {S : Type 0} (tells : Bool) (before after : Channel) (formula :
   pub within : found ≢ Err WriteFault → KeepsWithin formula limits book.state
   pub broken : found ≡ Err WriteFault → IsTrue tells → IsBroken formula limits after.written
   -- the same by the price of the plan's width
-  pub within_price : (width : ℕ) → HasWidth formula order moves width → found ≢ Err WriteFault → KeepsWithin formula (priced limits formula moves width) book.state
-  pub broken_price : (width : ℕ) → HasWidth formula order moves width → found ≡ Err WriteFault → IsTrue tells → IsBroken formula (priced limits formula moves width) after.written
-  pub certain : (width : ℕ) → HasWidth formula order moves width → AreAmple limits formula moves width → IfOk found IsDecision
+  pub within_price : (width price : ℕ) → HasWidth formula order moves width → IsMovePrice formula.vars limits.cache width price → found ≢ Err WriteFault → KeepsWithin formula (priced limits formula moves width price) book.state
+  pub broken_price : (width price : ℕ) → HasWidth formula order moves width → IsMovePrice formula.vars limits.cache width price → found ≡ Err WriteFault → IsTrue tells → IsBroken formula (priced limits formula moves width price) after.written
+  pub certain : (width price : ℕ) → HasWidth formula order moves width → IsMovePrice formula.vars limits.cache width price → AreAmple limits formula moves width price → IfOk found IsDecision
   pub says : IfOk found (Says formula order moves limits)
   pub shows : IsTrue tells → IfOk found (Shows formula limits after.written)
   pub fault : found ≡ Err WriteFault → Rose before.faults after.faults

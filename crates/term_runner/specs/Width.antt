@@ -53,15 +53,23 @@ Differ one other = ((a : Levels) → one a ≡ other a) → ⊥
 abbrev pub part_at : List (Levels → Bool) → ℕ → Levels → Bool
 part_at parts place = slice_index_or parts place (λ a. false)
 
--- More parts than this number are in hand that aren't constant and differ from one another.
-pub record HoldsMore (formula : Formula) (order : List ℕ) (before after : Stage) (number : ℕ) : Type 0 where
+-- More of these parts than this number aren't constant and differ from one another.
+pub record AreMore (is_part : (Levels → Bool) → Type 0) (number : ℕ) : Type 0 where
   pub parts : List (Levels → Bool)
   pub more : number < length parts
-  pub in_hand : (place : ℕ) → place < length parts → IsPartInHand formula order before after (part_at parts place)
+  pub are : (place : ℕ) → place < length parts → is_part (part_at parts place)
   pub essential : (place : ℕ) → place < length parts → IsEssential (part_at parts place)
   pub differ : (place other : ℕ) → place < other → other < length parts → Differ (part_at parts place) (part_at parts other)
 
--- so at most so many are
+-- more parts are in hand than this number
+abbrev pub HoldsMore : Formula → List ℕ → Stage → Stage → ℕ → Type 0
+HoldsMore formula order before after number = AreMore (IsPartInHand formula order before after) number
+
+-- a function has no more parts than this number
+abbrev pub HasAtMost : (Levels → Bool) → ℕ → Type 0
+HasAtMost function number = AreMore (IsSubfunction function) number → ⊥
+
+-- at most so many are in hand
 abbrev pub HoldsAtMost : Formula → List ℕ → Stage → Stage → ℕ → Type 0
 HoldsAtMost formula order before after number = HoldsMore formula order before after number → ⊥
 

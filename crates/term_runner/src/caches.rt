@@ -1,17 +1,19 @@
 // The computed caches of all operations, which a run keeps from move to move. Their entries stay right as one list.
-ghost use Rattle.std.specs.Prelude.{◌≡◌, ◌≢◌, ◌≤◌, ◌<◌, [], Err, IsTrue, IfOk};
+ghost use Rattle.std.specs.Prelude.{◌≡◌, ◌≢◌, ◌≤◌, ◌<◌, ◌*◌, ℕ, List, [], Err, IsTrue, IfOk, length};
 ghost use Rattle.node_table.specs.declared.error.TableError.TheVariants.{NodeLimit};
 ghost use Rattle.node_table.specs.Diagram.{is_node, levels};
 ghost use Rattle.node_table.specs.Made.{LacksPart, MakesOnly};
 ghost use Rattle.node_table.specs.Progress.{Steps, error_of};
-ghost use Rattle.node_table.specs.Table.{IsSound, UnlessTorn};
+ghost use Rattle.node_table.specs.Table.{AddsAtMost, IsSound, UnlessTorn};
+ghost use Rattle.node_table.specs.declared.node.Node.{Node as NodeValue};
 ghost use Rattle.operations.specs.Budget.{most_additions};
 ghost use Rattle.operations.specs.Entries.{Accounts, Fits};
+ghost use Rattle.operations.specs.Price.{HoldsReached};
 ghost use Rattle.operations.specs.Results.{Conjoined, Quantified};
 ghost use Rattle.apply_and.specs.Conjunction.{conjunction_of};
 ghost use Rattle.imply.specs.Implication.{IsDecided};
 ghost use Rattle.quantify.specs.Quantification.{quantification_of};
-ghost use Rattle.term_runner.specs.Caches.{KeepsEntries, all_entries};
+ghost use Rattle.term_runner.specs.Caches.{HaveSize, KeepsEntries, all_entries, sizes};
 
 use apply_and::{AndCache, and};
 use cnf_base::OutOfMemory;
@@ -36,7 +38,7 @@ impl Caches {
     /// Empty caches of at most so many entries each. Memory comes with the entries.
     pub fn new(alloc: Global, capacity: u32) -> Result<Caches, OutOfMemory>
         requires { 1 ≤ capacity }
-        ensures { IfOk result (λ caches. all_entries caches ≡ []) }
+        ensures { IfOk result (λ caches. (all_entries caches ≡ []) × HaveSize caches capacity) }
     {
         let ands = AndCache::new(alloc, capacity)?;
         let implications = ImplyCache::new(alloc, capacity)?;
@@ -65,6 +67,10 @@ impl Caches {
         ensures steps { Steps S.tells (S.channel table.old.book.sink) (S.channel table.new.book.sink) table.old table.new (most_additions (levels table.old.graph)) (error_of result) }
         ensures keeps { KeepsEntries table.old table.new (all_entries self.old) (all_entries self.new) (error_of result) }
         ensures accounts { UnlessTorn result (Accounts table.old table.new (all_entries self.old) (all_entries self.new)) }
+        // Where the caches have room for all pairs of inner nodes that the operands reach, two clauses for each of these.
+        ensures price { (size : ℕ) (us vs : List NodeValue) → HaveSize self.old size → HoldsReached table.old.graph u us → HoldsReached table.old.graph v vs → length us * length vs ≤ size
+            → AddsAtMost (2 * (length us * length vs)) table.old table.new }
+        ensures sizes { sizes self.new ≡ sizes self.old }
         ensures made { MakesOnly table.old.graph table.new.graph (conjunction_of table.old.graph u v) }
         ensures lacks { result ≡ Err NodeLimit → LacksPart table.new.graph (conjunction_of table.old.graph u v) }
         ensures beside { S.beside table.new.book.sink ≡ S.beside table.old.book.sink }
@@ -89,6 +95,10 @@ impl Caches {
         ensures steps { Steps S.tells (S.channel table.old.book.sink) (S.channel table.new.book.sink) table.old table.new (most_additions (levels table.old.graph)) (error_of result) }
         ensures keeps { KeepsEntries table.old table.new (all_entries self.old) (all_entries self.new) (error_of result) }
         ensures accounts { UnlessTorn result (Accounts table.old table.new (all_entries self.old) (all_entries self.new)) }
+        // Where the caches have room for all pairs of inner nodes that the operands reach, two clauses for each of these.
+        ensures price { (size : ℕ) (us vs : List NodeValue) → HaveSize self.old size → HoldsReached table.old.graph u us → HoldsReached table.old.graph v vs → length us * length vs ≤ size
+            → AddsAtMost (2 * (length us * length vs)) table.old table.new }
+        ensures sizes { sizes self.new ≡ sizes self.old }
         ensures nodes { table.new.graph ≡ table.old.graph }
         ensures no_node_limit { result ≢ Err NodeLimit }
         ensures beside { S.beside table.new.book.sink ≡ S.beside table.old.book.sink }
@@ -114,6 +124,7 @@ impl Caches {
         ensures steps { Steps S.tells (S.channel table.old.book.sink) (S.channel table.new.book.sink) table.old table.new 0 (error_of result) }
         ensures keeps { KeepsEntries table.old table.new (all_entries self.old) (all_entries self.new) (error_of result) }
         ensures accounts { UnlessTorn result (Accounts table.old table.new (all_entries self.old) (all_entries self.new)) }
+        ensures sizes { sizes self.new ≡ sizes self.old }
         ensures made { MakesOnly table.old.graph table.new.graph (quantification_of table.old.graph u level) }
         ensures lacks { result ≡ Err NodeLimit → LacksPart table.new.graph (quantification_of table.old.graph u level) }
         ensures beside { S.beside table.new.book.sink ≡ S.beside table.old.book.sink }
@@ -125,6 +136,8 @@ impl Caches {
 
 impl Purge for Caches {
     ghost entries = { all_entries };
+
+    ghost sizes = { sizes };
 
     fn purge<S: Sink + Drop>(&mut self, table: &mut Table<S>, marks: &Marks) {
         entry_law::<S>();

@@ -10,7 +10,7 @@ ghost use Rattle.node_table.specs.Table.{live_nodes};
 ghost use Rattle.schedule_plan.specs.Plan.{IsAdmissible};
 ghost use Rattle.term_runner.specs.Clauses.{is_tautology};
 ghost use Rattle.term_runner.specs.Recovered.{IsRecovered};
-ghost use Rattle.term_runner.specs.Price.{most_nodes, move_price};
+ghost use Rattle.term_runner.specs.Price.{IsMovePrice, most_nodes};
 ghost use Rattle.term_runner.specs.Width.{HasWidth};
 ghost use Rattle.term_runner.specs.Nodes.{RunsShort};
 ghost use Rattle.term_runner.specs.Held.{IsReady, top_node};
@@ -47,8 +47,8 @@ pub fn decide<S: Sink + Drop>(
     ensures tautologies { IsTrue (list_all is_tautology formula.now.clauses) → table.new ≡ table.old }
     ensures open_clause { (result ≡ Err NodeLimit) ⊎ (result ≡ Err IdLimit) → IsFalse (list_all is_tautology formula.now.clauses) }
     // However it ends, it gave so many numbers at most, and has so few nodes, by the plan's width.
-    ensures price { (width : ℕ) → HasWidth formula.now table.old.graph.order plan.now width
-        → table.new.book.state.top ≤ table.old.book.state.top + length plan.now * move_price (levels table.old.graph) width }
+    ensures price { (width price : ℕ) → HasWidth formula.now table.old.graph.order plan.now width → IsMovePrice (levels table.old.graph) capacity width price
+        → table.new.book.state.top ≤ table.old.book.state.top + length plan.now * price }
     ensures few { (width : ℕ) → HasWidth formula.now table.old.graph.order plan.now width → live_nodes table.new.graph ≤ most_nodes width }
     // A node that is wanted is refused for want of room.
     ensures short { result ≡ Err NodeLimit → RunsShort formula.now table.old.graph.order plan.now table.new.graph }
@@ -81,8 +81,8 @@ fn run_moves<S: Sink + Drop>(
     ensures found { IfOk result (λ found. MatchOption found ((id : ℕ) × (clause_at table.new.book.state.live id ≡ Some []))
         (λ model. IsRecovered formula.now table.old.graph.order plan.now model)) }
     ensures leaves { Leaves S.tells (S.channel table.old.book.sink) (S.channel table.new.book.sink) table.old table.new (error_of result) }
-    ensures price { (width : ℕ) → HasWidth formula.now table.old.graph.order plan.now width
-        → table.new.book.state.top ≤ table.old.book.state.top + length plan.now * move_price (levels table.old.graph) width }
+    ensures price { (width price : ℕ) → HasWidth formula.now table.old.graph.order plan.now width → IsMovePrice (levels table.old.graph) capacity width price
+        → table.new.book.state.top ≤ table.old.book.state.top + length plan.now * price }
     ensures few { (width : ℕ) → HasWidth formula.now table.old.graph.order plan.now width → live_nodes table.new.graph ≤ most_nodes width }
     ensures short { result ≡ Err NodeLimit → RunsShort formula.now table.old.graph.order plan.now table.new.graph }
     ensures beside { S.beside table.new.book.sink ≡ S.beside table.old.book.sink }

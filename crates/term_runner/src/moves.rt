@@ -1,6 +1,6 @@
 // One move of a plan. (Bryant, Heule: Generating Extended Resolution Proofs with a BDD-Based SAT Solver, 2021,
 // section 5.)
-ghost use Rattle.std.specs.Prelude.{◌≡◌, ◌↔◌, ◌≤◌, ◌⊎◌, ◌+◌, ℕ, List, [], ◌∷◌, Ok, Err, Some, IsTrue, IsErr, IfOk, false, length, reverse};
+ghost use Rattle.std.specs.Prelude.{◌≡◌, ◌↔◌, ◌≤◌, ◌⊎◌, ◌+◌, ◌*◌, ℕ, List, [], ◌∷◌, Ok, Err, Some, IsTrue, IsErr, IfOk, false, length, reverse};
 ghost use Rattle.lrat_rules.specs.State.{clause_at};
 ghost use Rattle.node_table.specs.declared.error.TableError.TheVariants.{NodeLimit};
 ghost use Rattle.node_table.specs.Diagram.{KeepsNodes, levels};
@@ -11,8 +11,8 @@ ghost use Rattle.cnf_base.specs.Formula.{Formula};
 ghost use Rattle.operations.specs.Budget.{most_additions};
 ghost use Rattle.operations.specs.Entries.{Entry, Fits};
 ghost use Rattle.schedule_plan.specs.Plan.{Stage, Term as TermValue, after_move, both, input};
-ghost use Rattle.term_runner.specs.Caches.{all_entries};
-ghost use Rattle.term_runner.specs.Width.{term_function, top_function};
+ghost use Rattle.term_runner.specs.Caches.{HaveRoom, all_entries, sizes};
+ghost use Rattle.term_runner.specs.Width.{HasAtMost, HoldsAtMost, term_function, top_function};
 ghost use Rattle.term_runner.specs.Nodes.{KeepsOrMakes};
 ghost use Rattle.term_runner.specs.Held.{AreHeld, IsAt, IsReady, HasUnits};
 
@@ -23,7 +23,9 @@ use crate::unit::{is_same, retire_unit, unit_of};
 use clause_terms::{Trail, push_clause};
 use cnf_base::{Cnf, Id};
 use host_io::Sink;
-use node_table::{Node, Table, TableError, growth_law, steps_law};
+use node_table::{
+    Node, Table, TableError, canonical_law, growth_law, steps_law, subfunction_law,
+};
 use operations::entry_law;
 use schedule_plan::Move;
 use std::alloc::Global;
@@ -55,9 +57,13 @@ pub fn try_move<S: Sink + Drop>(
     ensures at_again { (stage : Stage) → IsAt formula.now table.old.graph table.old.book.state.live stack.old.items trail.old stage
         → result ≡ Err NodeLimit → IsAt formula.now table.new.graph table.new.book.state.live stack.new.items trail.new stage }
     ensures leaves { Leaves S.tells (S.channel table.old.book.sink) (S.channel table.new.book.sink) table.old table.new (error_of result) }
-    // However it ends, nodes stay, and the new clauses are those of new nodes and no more beside them than this.
+    // However it ends, nodes stay, and the new clauses are those of new nodes and no more beside them than this, or, where the
+    // caches have room for all pairs of parts in hand, than two for each of these.
     ensures nodes { KeepsNodes table.old.graph table.new.graph }
     ensures adds { AddsAtMost (most_additions (levels table.old.graph) + 1) table.old table.new }
+    ensures pairs { (stage next : Stage) → IsAt formula.now table.old.graph table.old.book.state.live stack.old.items trail.old stage → after_move formula.now stage step ≡ Some next
+        → (width : ℕ) → HaveRoom caches.old width → HoldsAtMost formula.now table.old.graph.order stage next width → AddsAtMost (2 * (width * width) + 1) table.old table.new }
+    ensures sizes { sizes caches.new ≡ sizes caches.old }
     ensures made { (stage next : Stage) → IsAt formula.now table.old.graph table.old.book.state.live stack.old.items trail.old stage → after_move formula.now stage step ≡ Some next
         → KeepsOrMakes table.old.graph table.new.graph (top_function formula.now table.old.graph.order next.stack) }
     ensures lacks { (stage next : Stage) → IsAt formula.now table.old.graph table.old.book.state.live stack.old.items trail.old stage → after_move formula.now stage step ≡ Some next
@@ -113,6 +119,9 @@ fn carry_out<S: Sink + Drop>(
     ensures leaves { Leaves S.tells (S.channel table.old.book.sink) (S.channel table.new.book.sink) table.old table.new (error_of result) }
     ensures nodes { KeepsNodes table.old.graph table.new.graph }
     ensures adds { AddsAtMost (most_additions (levels table.old.graph) + 1) table.old table.new }
+    ensures pairs { (stage next : Stage) → IsAt formula.now table.old.graph table.old.book.state.live stack.old.items trail.old stage → after_move formula.now stage step ≡ Some next
+        → (width : ℕ) → HaveRoom caches.old width → HoldsAtMost formula.now table.old.graph.order stage next width → AddsAtMost (2 * (width * width) + 1) table.old table.new }
+    ensures sizes { sizes caches.new ≡ sizes caches.old }
     ensures made { (stage next : Stage) → IsAt formula.now table.old.graph table.old.book.state.live stack.old.items trail.old stage → after_move formula.now stage step ≡ Some next
         → KeepsOrMakes table.old.graph table.new.graph (top_function formula.now table.old.graph.order next.stack) }
     ensures lacks { (stage next : Stage) → IsAt formula.now table.old.graph table.old.book.state.live stack.old.items trail.old stage → after_move formula.now stage step ≡ Some next
@@ -182,8 +191,15 @@ fn conjoin<S: Sink + Drop>(
         → MakesOnly table.old.graph table.new.graph (term_function formula table.old.graph.order (both one other)) }
     ensures lacks { (formula : Formula) (one other : TermValue) (terms : List TermValue) → AreHeld formula table.old.graph table.old.book.state.live (reverse stack.old.items) (other ∷ one ∷ terms)
         → result ≡ Err NodeLimit → LacksPart table.new.graph (term_function formula table.old.graph.order (both one other)) }
+    // Where the caches have room for all pairs of the terms' parts, no more than two clauses for each of these, and the unit.
+    ensures pairs { (formula : Formula) (one other : TermValue) (terms : List TermValue) → AreHeld formula table.old.graph table.old.book.state.live (reverse stack.old.items) (other ∷ one ∷ terms)
+        → (width : ℕ) → HaveRoom caches.old width → HasAtMost (term_function formula table.old.graph.order one) width → HasAtMost (term_function formula table.old.graph.order other) width
+        → AddsAtMost (2 * (width * width) + 1) table.old table.new }
+    ensures sizes { sizes caches.new ≡ sizes caches.old }
     ensures beside { S.beside table.new.book.sink ≡ S.beside table.old.book.sink }
 {
+    canonical_law();
+    subfunction_law();
     growth_law();
     steps_law::<S>();
     entry_law::<S>();

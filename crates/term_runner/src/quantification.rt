@@ -1,6 +1,6 @@
 // A variable is quantified from the top term. The term implies what comes of it, and so the new unit follows from the old
 // one, which is retired then. (Bryant, Heule: Generating Extended Resolution Proofs with a BDD-Based SAT Solver, 2021, section 5.)
-ghost use Rattle.std.specs.Prelude.{◌≡◌, ◌≢◌, ◌≤◌, ◌<◌, ◌+◌, ℕ, List, [], ◌∷◌, Err, Some, IsTrue, IsErr, IfOk, false, reverse, true};
+ghost use Rattle.std.specs.Prelude.{◌≡◌, ◌≢◌, ◌≤◌, ◌<◌, ◌+◌, ◌*◌, ℕ, List, [], ◌∷◌, Err, Some, IsTrue, IsErr, IfOk, false, reverse, true};
 ghost use Rattle.lrat_rules.specs.State.{clause_at};
 ghost use Rattle.cnf_base.specs.Formula.{Formula};
 ghost use Rattle.node_table.specs.declared.error.TableError.TheVariants.{NodeLimit};
@@ -11,23 +11,25 @@ ghost use Rattle.node_table.specs.Diagram.{is_node, levels};
 ghost use Rattle.node_table.specs.Just.{IsJustified};
 ghost use Rattle.node_table.specs.Made.{LacksPart, MakesOnly};
 ghost use Rattle.node_table.specs.Progress.{Steps, error_of};
-ghost use Rattle.node_table.specs.Table.{IsSound, UnlessTorn};
+ghost use Rattle.node_table.specs.Table.{AddsAtMost, IsSound, UnlessTorn};
 ghost use Rattle.node_table.specs.Value.{Levels, value_of};
 ghost use Rattle.operations.specs.Budget.{most_additions};
 ghost use Rattle.operations.specs.Entries.{Accounts, Fits, IsAccounted};
 ghost use Rattle.operations.specs.Results.{Quantified};
 ghost use Rattle.quantify.specs.Quantification.{quantification_of};
 ghost use Rattle.schedule_plan.specs.Plan.{Term as TermValue, some_value};
-ghost use Rattle.term_runner.specs.Caches.{KeepsEntries, all_entries};
+ghost use Rattle.term_runner.specs.Caches.{HaveRoom, KeepsEntries, all_entries, sizes};
 ghost use Rattle.term_runner.specs.Held.{AreHeld, AreKept, GivesUnit, HasUnits};
-ghost use Rattle.term_runner.specs.Width.{term_function};
+ghost use Rattle.term_runner.specs.Width.{HasAtMost, term_function};
 
 use crate::caches::Caches;
 use crate::held::{Held, last_term, replace_last};
 use crate::unit::{is_same, retire_unit, unit_of_implied};
 use clause_terms::Trail;
 use host_io::Sink;
-use node_table::{Just, Node, Table, TableError, growth_law, steps_law};
+use node_table::{
+    Just, Node, Table, TableError, canonical_law, growth_law, steps_law, subfunction_law,
+};
 use operations::entry_law;
 
 /// Quantifies a variable from the top term, and puts it on the trail with the node that it was quantified from.
@@ -58,6 +60,10 @@ pub fn quantify_out<S: Sink + Drop>(
         → MakesOnly table.old.graph table.new.graph (term_function formula table.old.graph.order (some_value variable term)) }
     ensures lacks { (formula : Formula) (term : TermValue) (terms : List TermValue) → AreHeld formula table.old.graph table.old.book.state.live (reverse stack.old.items) (term ∷ terms)
         → result ≡ Err NodeLimit → LacksPart table.new.graph (term_function formula table.old.graph.order (some_value variable term)) }
+    ensures pairs { (formula : Formula) (term : TermValue) (terms : List TermValue) → AreHeld formula table.old.graph table.old.book.state.live (reverse stack.old.items) (term ∷ terms)
+        → (width : ℕ) → HaveRoom caches.old width → HasAtMost (term_function formula table.old.graph.order term) width → HasAtMost (term_function formula table.old.graph.order (some_value variable term)) width
+        → AddsAtMost (2 * (width * width) + 1) table.old table.new }
+    ensures sizes { sizes caches.new ≡ sizes caches.old }
     ensures beside { S.beside table.new.book.sink ≡ S.beside table.old.book.sink }
 {
     growth_law();
@@ -102,6 +108,9 @@ fn weaken<S: Sink + Drop>(
     ensures accounts { result ≡ Err NodeLimit → Accounts table.old table.new (all_entries caches.old) (all_entries caches.new) }
     ensures made { MakesOnly table.old.graph table.new.graph (quantification_of table.old.graph u.now.node level) }
     ensures lacks { result ≡ Err NodeLimit → LacksPart table.new.graph (quantification_of table.old.graph u.now.node level) }
+    ensures pairs { (width : ℕ) → HaveRoom caches.old width → HasAtMost (λ a. value_of table.old.graph a u.now.node) width → HasAtMost (quantification_of table.old.graph u.now.node level) width
+        → AddsAtMost (2 * (width * width) + 1) table.old table.new }
+    ensures sizes { sizes caches.new ≡ sizes caches.old }
     ensures beside { S.beside table.new.book.sink ≡ S.beside table.old.book.sink }
 {
     growth_law();
@@ -133,8 +142,13 @@ fn implied_unit<S: Sink + Drop>(
     ensures steps { Steps S.tells (S.channel table.old.book.sink) (S.channel table.new.book.sink) table.old table.new (most_additions (levels table.old.graph) + 1) (error_of result) }
     ensures keeps { KeepsEntries table.old table.new (all_entries caches.old) (all_entries caches.new) (error_of result) }
     ensures no_node_limit { result ≢ Err NodeLimit }
+    ensures pairs { (width : ℕ) → HaveRoom caches.old width → HasAtMost (λ a. value_of table.old.graph a u.now.node) width → HasAtMost (λ a. value_of table.old.graph a w) width
+        → AddsAtMost (2 * (width * width) + 1) table.old table.new }
+    ensures sizes { sizes caches.new ≡ sizes caches.old }
     ensures beside { S.beside table.new.book.sink ≡ S.beside table.old.book.sink }
 {
+    canonical_law();
+    subfunction_law();
     growth_law();
     steps_law::<S>();
     entry_law::<S>();

@@ -11,8 +11,8 @@ ghost use Rattle.node_table.specs.Made.{LacksPart};
 ghost use Rattle.node_table.specs.Progress.{Leaves, error_of};
 ghost use Rattle.node_table.specs.Table.{UnlessTorn, live_nodes};
 ghost use Rattle.schedule_plan.specs.Plan.{Stage, after_move};
-ghost use Rattle.term_runner.specs.Caches.{all_entries};
-ghost use Rattle.term_runner.specs.Price.{AddsFew, move_price};
+ghost use Rattle.term_runner.specs.Caches.{HaveSize, all_entries, sizes};
+ghost use Rattle.term_runner.specs.Price.{AddsFew, IsMovePrice};
 ghost use Rattle.term_runner.specs.Width.{HoldsAtMost, top_function};
 ghost use Rattle.term_runner.specs.Nodes.{KeepsOrMakes};
 ghost use Rattle.term_runner.specs.Held.{IsAt, IsReady, HasUnits};
@@ -69,7 +69,9 @@ pub fn take_move<S: Sink + Drop>(
         → result ≡ Ok false → (left.new ≡ left.old) ⊎ (WereLeft formula.now table.old.graph.order stage left.new ⊎ WereLeft formula.now table.old.graph.order next left.new) }
     // However it ends, it gave so many numbers at most, and made so few nodes, by the parts in hand at the move.
     ensures price { (stage next : Stage) → IsAt formula.now table.old.graph table.old.book.state.live stack.old.items trail.old stage → after_move formula.now stage step ≡ Some next
-        → (width : ℕ) → HoldsAtMost formula.now table.old.graph.order stage next width → table.new.book.state.top ≤ table.old.book.state.top + move_price (levels table.old.graph) width }
+        → (size width price : ℕ) → HaveSize caches.old size → IsMovePrice (levels table.old.graph) size width price → HoldsAtMost formula.now table.old.graph.order stage next width
+        → table.new.book.state.top ≤ table.old.book.state.top + price }
+    ensures sizes { sizes caches.new ≡ sizes caches.old }
     ensures few { (stage next : Stage) → IsAt formula.now table.old.graph table.old.book.state.live stack.old.items trail.old stage → after_move formula.now stage step ≡ Some next
         → (width : ℕ) → HoldsAtMost formula.now table.old.graph.order stage next width → AddsFew (live_nodes table.old.graph) (live_nodes table.new.graph) width }
     ensures beside { S.beside table.new.book.sink ≡ S.beside table.old.book.sink }
@@ -119,7 +121,9 @@ fn try_twice<S: Sink + Drop>(
         → result ≡ Err NodeLimit → (were : WereLeft formula.now table.old.graph.order stage left.new) × KeepsOrMakes were.graph table.new.graph (top_function formula.now table.old.graph.order next.stack) }
     ensures left { (stage : Stage) → IsAt formula.now table.old.graph table.old.book.state.live stack.old.items trail.old stage → (left.new ≡ left.old) ⊎ WereLeft formula.now table.old.graph.order stage left.new }
     ensures price { (stage next : Stage) → IsAt formula.now table.old.graph table.old.book.state.live stack.old.items trail.old stage → after_move formula.now stage step ≡ Some next
-        → (width : ℕ) → HoldsAtMost formula.now table.old.graph.order stage next width → table.new.book.state.top ≤ table.old.book.state.top + move_price (levels table.old.graph) width }
+        → (size width price : ℕ) → HaveSize caches.old size → IsMovePrice (levels table.old.graph) size width price → HoldsAtMost formula.now table.old.graph.order stage next width
+        → table.new.book.state.top ≤ table.old.book.state.top + price }
+    ensures sizes { sizes caches.new ≡ sizes caches.old }
     ensures few { (stage next : Stage) → IsAt formula.now table.old.graph table.old.book.state.live stack.old.items trail.old stage → after_move formula.now stage step ≡ Some next
         → (width : ℕ) → HoldsAtMost formula.now table.old.graph.order stage next width → AddsFew (live_nodes table.old.graph) (live_nodes table.new.graph) width }
     ensures beside { S.beside table.new.book.sink ≡ S.beside table.old.book.sink }
@@ -160,6 +164,7 @@ fn give_back<S: Sink + Drop>(
     // A refusal leaves the nodes as they were.
     ensures kept { OnErr result (table.new.graph ≡ table.old.graph) }
     ensures top { table.new.book.state.top ≡ table.old.book.state.top }
+    ensures sizes { sizes caches.new ≡ sizes caches.old }
     ensures leaves { Leaves S.tells (S.channel table.old.book.sink) (S.channel table.new.book.sink) table.old table.new (error_of result) }
     ensures error { IfErr result (λ e. (e ≡ OutOfMemory) ⊎ (e ≡ WriteFault)) }
     ensures beside { S.beside table.new.book.sink ≡ S.beside table.old.book.sink }

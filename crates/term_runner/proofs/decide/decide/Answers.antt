@@ -32,7 +32,7 @@ pub returns-clause-beside : goal.returns-clause-beside
 returns-clause-beside g c = c.run_moves.ensures.beside
 
 pub returns-then-are_tautologies-clause-price : goal.returns-then-are_tautologies-clause-price
-returns-then-are_tautologies-clause-price g c width has = omega arith
+returns-then-are_tautologies-clause-price g c width price has is = omega arith
 
 pub returns-clause-price : goal.returns-clause-price
 returns-clause-price g c = c.run_moves.ensures.price

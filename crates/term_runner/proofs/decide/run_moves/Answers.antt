@@ -12,7 +12,7 @@ use Rattle.node_table.specs.Table.{live_nodes}
 use Rattle.operations.specs.Entries.{Entry}
 use Rattle.schedule_plan.specs.declared.plan.Move.{Move}
 use Rattle.schedule_plan.specs.Plan.{Stage, after_move, after_moves, no_stage}
-use Rattle.term_runner.specs.Price.{most_nodes, move_price}
+use Rattle.term_runner.specs.Price.{IsMovePrice, most_nodes}
 use Rattle.term_runner.specs.Width.{HasWidth, HoldsAtMost}
 use Rattle.term_runner.specs.Nodes.{RunsShort}
 use Rattle.term_runner.specs.Held.{IsReady, top_node}
@@ -44,9 +44,10 @@ moves-init g c =
       few = omega arith;
       tidy = inl (let none = no_nodes table.graph c.requires.empty in omega (arith, none));
       left = λ width has. omega arith;
-      price = λ width has. omega arith;
+      price = λ width price has is. omega arith;
+      size = c.in_ok-caches.ensures.1;
       between = at_first formula c.args.plan.now table.graph table.book.state.live c.new-stack.result.items c.new-trail.result (search rules) (search rules);
-      ready = subst (λ (kept : List Entry). IsReady formula table kept) (sym c.in_ok-caches.ensures) c.requires.ready;
+      ready = subst (λ (kept : List Entry). IsReady formula table kept) (sym c.in_ok-caches.ensures.0) c.requires.ready;
       settled = c.requires.settled;
       own = units_none table (all_entries c.in_ok-caches.caches) c.new-stack.result.items c.requires.ready.sound c.requires.fresh (search rules);
       continues = (c.steps_law.ensures.none table c.requires.ready.sound).leaves;
@@ -76,9 +77,9 @@ at_move formula plan order i step before after at reached leads width has more =
     has (record { count = i; before = before; after = after; move = record { step = step; is = at; reached = reached; leads = leads }; more = more })
 
 -- the numbers given behind a move, however it ended
-so_far : (g : Over) (c : After-take_move g) (width : ℕ) → HasWidth c.args.formula.now c.args.table.now.graph.order c.args.plan.now width
-    → c.take_move.new.table.book.state.top ≤ c.args.table.now.book.state.top + (c.moves.i + 1) * move_price (levels c.args.table.now.graph) width
-so_far g c width has =
+so_far : (g : Over) (c : After-take_move g) (width price : ℕ) → HasWidth c.args.formula.now c.args.table.now.graph.order c.args.plan.now width → IsMovePrice (levels c.args.table.now.graph) c.args.capacity width price
+    → c.take_move.new.table.book.state.top ≤ c.args.table.now.book.state.top + (c.moves.i + 1) * price
+so_far g c width price has is =
     let formula = c.args.formula.now in
     let plan = c.args.plan.now in
     let table = c.moves.table in
@@ -89,10 +90,10 @@ so_far g c width has =
     let most : HoldsAtMost formula table.graph.order between.stage next.next width =
     subst (λ (o : List ℕ). HoldsAtMost formula o between.stage next.next width) (sym order)
     (at_move formula plan c.args.table.now.graph.order c.moves.i c.in-Some.step between.stage next.next at between.front next.is width has) in
-    let own = subst (λ (vars : ℕ). c.take_move.new.table.book.state.top ≤ table.book.state.top + move_price vars width) (ap length order)
-    (c.take_move.ensures.price between.stage next.next between.at next.is width most) in
-    let before = c.moves.invariant.price width has in
-    omega (arith, own, before, one_more c.moves.i (move_price (levels c.args.table.now.graph) width))
+    let own = c.take_move.ensures.price between.stage next.next between.at next.is c.args.capacity width price c.moves.invariant.size
+    (subst (λ (vars : ℕ). IsMovePrice vars c.args.capacity width price) (sym (ap length order)) is) most in
+    let before = c.moves.invariant.price width price has is in
+    omega (arith, own, before, one_more c.moves.i price)
 
 -- all moves' price is no less than that of some
 within_all : (few all price first last : ℕ) → few ≤ all → last ≤ first + few * price → last ≤ first + all * price
@@ -108,7 +109,8 @@ moves-preserved g c =
     let front : after_moves c.args.formula.now no_stage (take (c.moves.i + 1) c.args.plan.now) ≡ Some next.next = subst (λ (n : ℕ). after_moves c.args.formula.now no_stage (take n c.args.plan.now) ≡ Some next.next) shift moved in
     record {
       few = omega (arith, c.moves-test.true, c.len-i-end.ensures);
-      price = λ width has. so_far g (goal.at.moves-preserved g c).After-take_move width has;
+      price = λ width price has is. so_far g (goal.at.moves-preserved g c).After-take_move width price has is;
+      size = c.in_ok-take_move.ensures.sizes ∙ c.moves.invariant.size;
       tidy = c.in_ok-take_move.ensures.tidy (ap Ok c.if-branch.false);
       left = λ width has.
           let before = c.moves.table in
@@ -234,23 +236,23 @@ returns-in_err-model-clause-leaves g c =
     memory_left g.S.Sink.tells (channel old.book.sink) (channel new.book.sink) old new _ (search rules) c.moves.invariant.continues
 
 pub returns-in_err-take_move-clause-price : goal.returns-in_err-take_move-clause-price
-returns-in_err-take_move-clause-price g c width has =
-    within_all (c.moves.i + 1) (length c.args.plan.now) (move_price (levels c.args.table.now.graph) width) c.args.table.now.book.state.top c.take_move.new.table.book.state.top (omega (arith, c.moves-test.true, c.len-i-end.ensures)) (so_far g (goal.at.returns-in_err-take_move-clause-price g c).After-take_move width has)
+returns-in_err-take_move-clause-price g c width price has is =
+    within_all (c.moves.i + 1) (length c.args.plan.now) price c.args.table.now.book.state.top c.take_move.new.table.book.state.top (omega (arith, c.moves-test.true, c.len-i-end.ensures)) (so_far g (goal.at.returns-in_err-take_move-clause-price g c).After-take_move width price has is)
 
 pub returns-then-branch-clause-price : goal.returns-then-branch-clause-price
-returns-then-branch-clause-price g c width has =
-    within_all (c.moves.i + 1) (length c.args.plan.now) (move_price (levels c.args.table.now.graph) width) c.args.table.now.book.state.top c.take_move.new.table.book.state.top (omega (arith, c.moves-test.true, c.len-i-end.ensures)) (so_far g (goal.at.returns-then-branch-clause-price g c).After-take_move width has)
+returns-then-branch-clause-price g c width price has is =
+    within_all (c.moves.i + 1) (length c.args.plan.now) price c.args.table.now.book.state.top c.take_move.new.table.book.state.top (omega (arith, c.moves-test.true, c.len-i-end.ensures)) (so_far g (goal.at.returns-then-branch-clause-price g c).After-take_move width price has is)
 
 pub returns-in_err-model-clause-price : goal.returns-in_err-model-clause-price
-returns-in_err-model-clause-price g c width has =
-    within_all (c.moves.i) (length c.args.plan.now) (move_price (levels c.args.table.now.graph) width) c.args.table.now.book.state.top c.moves.table.book.state.top (c.moves.invariant.few) (c.moves.invariant.price width has)
+returns-in_err-model-clause-price g c width price has is =
+    within_all (c.moves.i) (length c.args.plan.now) price c.args.table.now.book.state.top c.moves.table.book.state.top (c.moves.invariant.few) (c.moves.invariant.price width price has is)
 
 pub returns-clause-price : goal.returns-clause-price
-returns-clause-price g c width has =
-    within_all (c.moves.i) (length c.args.plan.now) (move_price (levels c.args.table.now.graph) width) c.args.table.now.book.state.top c.moves.table.book.state.top (c.moves.invariant.few) (c.moves.invariant.price width has)
+returns-clause-price g c width price has is =
+    within_all (c.moves.i) (length c.args.plan.now) price c.args.table.now.book.state.top c.moves.table.book.state.top (c.moves.invariant.few) (c.moves.invariant.price width price has is)
 
 pub returns-in_err-caches-clause-price : goal.returns-in_err-caches-clause-price
-returns-in_err-caches-clause-price g c width has = omega arith
+returns-in_err-caches-clause-price g c width price has is = omega arith
 
 -- the nodes behind a move, however it ended
 nodes_so_far : (g : Over) (c : After-take_move g) (width : ℕ) → HasWidth c.args.formula.now c.args.table.now.graph.order c.args.plan.now width → live_nodes c.take_move.new.table.graph ≤ most_nodes width

@@ -2,9 +2,9 @@ use Rattle.std.proofs.Common.{◌≡◌, ℕ, ◌+◌, ◌*◌, ◌≤◌, [], l
 use Rattle.node_table.specs.Diagram.{levels}
 use Rattle.node_table.specs.Progress.{Continues}
 use Rattle.node_table.specs.Table.{live_nodes}
-use Rattle.term_runner.specs.Caches.{all_entries}
+use Rattle.term_runner.specs.Caches.{HaveSize, all_entries}
 use Rattle.term_runner.specs.Held.{IsReady, HasUnits}
-use Rattle.term_runner.specs.Price.{move_price}
+use Rattle.term_runner.specs.Price.{IsMovePrice}
 use Rattle.term_runner.specs.Tidy.{IsTidy}
 use Rattle.term_runner.specs.Width.{HasWidth}
 use Rattle.term_runner.proofs.Between.{IsBetween}
@@ -15,7 +15,8 @@ invariant-moves g l = record {
   few : l.i ≤ length l.plan;
   tidy : IsTidy (live_nodes l.table.graph) l.left;
   left : (width : ℕ) → HasWidth l.formula l.fn.table.graph.order l.plan width → l.left ≤ width;
-  price : (width : ℕ) → HasWidth l.formula l.fn.table.graph.order l.plan width → l.table.book.state.top ≤ l.fn.table.book.state.top + l.i * move_price (levels l.fn.table.graph) width;
+  price : (width price : ℕ) → HasWidth l.formula l.fn.table.graph.order l.plan width → IsMovePrice (levels l.fn.table.graph) l.capacity width price → l.table.book.state.top ≤ l.fn.table.book.state.top + l.i * price;
+  size : HaveSize l.caches l.capacity;
   between : IsBetween l.formula l.plan l.i l.table.graph l.table.book.state.live l.stack.items l.trail;
   ready : IsReady l.formula l.table (all_entries l.caches);
   settled : l.table.retired ≡ [];

@@ -1,4 +1,4 @@
-use Rattle.std.proofs.Common.{◌≡◌, ℕ, false, List, ◌∷◌, Contains, reverse, refl, sym, subst, arith}
+use Rattle.std.proofs.Common.{◌≡◌, ℕ, false, List, ◌∷◌, Contains, zero, suc, reverse, refl, ap, sym, subst, arith, inl, inr}
 use Rattle.node_table.specs.Made.{LacksPart}
 use Rattle.schedule_plan.specs.Plan.{Stage, Term, input, both, some_value}
 use Rattle.term_runner.specs.Width.{term_function, top_function}
@@ -6,6 +6,8 @@ use Rattle.term_runner.specs.Nodes.{KeepsOrMakes}
 use Rattle.term_runner.specs.Held.{AreHeld, AreKept, IsAt}
 use Rattle.term_runner.specs.Caches.{all_entries}
 use Rattle.term_runner.proofs.Leaving.{went_on}
+use Rattle.term_runner.proofs.FewLeft.{in_front, result_is}
+use Rattle.term_runner.proofs.Pairs.{few_of_term}
 use Rattle.term_runner.proofs.Planned.{keeps_or_makes}
 use Rattle.term_runner.proofs.Stacks.{both_ok, if_ok, ready_after}
 use Rattle.term_runner.proofs.Taking.{push_of, and_of, exists_of}
@@ -272,3 +274,29 @@ returns-in-And-clause-adds g c = c.conjoin.ensures.steps.adds
 
 pub returns-in-Exists-clause-adds : goal.returns-in-Exists-clause-adds
 returns-in-Exists-clause-adds g c = c.quantify_out.ensures.steps.adds
+
+pub returns-in-Push-clause-pairs : goal.returns-in-Push-clause-pairs
+returns-in-Push-clause-pairs g c stage next at is width room most = let one = c.push.ensures.steps.adds in omega (arith, one)
+
+pub returns-in-And-clause-pairs : goal.returns-in-And-clause-pairs
+returns-in-And-clause-pairs g c stage next at is width room most =
+    let formula = c.args.formula.now in
+    let old = c.args.table.now in
+    let order = old.graph.order in
+    let move = and_of formula stage next c.args.step c.in-And.is is in
+    let two = subst (λ (terms : List Term). AreHeld formula old.graph old.book.state.live (reverse c.args.stack.now.items) terms) move.before at.held in
+    c.conjoin.ensures.pairs formula move.one move.other move.rest two width room
+    (few_of_term formula order stage next move.one (inl (subst (λ (terms : List Term). Contains terms move.one) (sym move.before) (in_front move.other move.one move.rest))) width most)
+    (few_of_term formula order stage next move.other (inl (subst (λ (terms : List Term). Contains terms move.other) (sym move.before) (zero, omega arith, refl))) width most)
+
+pub returns-in-Exists-clause-pairs : goal.returns-in-Exists-clause-pairs
+returns-in-Exists-clause-pairs g c stage next at is width room most =
+    let formula = c.args.formula.now in
+    let x = c.in-Exists.variable in
+    let old = c.args.table.now in
+    let order = old.graph.order in
+    let move = exists_of formula stage next c.args.step x c.in-Exists.is is in
+    let held = subst (λ (terms : List Term). AreHeld formula old.graph old.book.state.live (reverse c.args.stack.now.items) terms) move.stacked at.held in
+    c.quantify_out.ensures.pairs formula move.top move.rest held width room
+    (few_of_term formula order stage next move.top (inl (subst (λ (terms : List Term). Contains terms move.top) (sym move.stacked) (zero, omega arith, refl))) width most)
+    (few_of_term formula order stage next (some_value x move.top) (inr (inr (result_is (some_value x move.top) move.rest next.stack (some_value x move.top) (ap (λ (s : Stage). s.stack) move.after) refl))) width most)

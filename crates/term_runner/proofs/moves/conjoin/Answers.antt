@@ -1,25 +1,30 @@
 use Rattle.std.proofs.Common.{◌≡◌, ◌∙◌, ◌+◌, ◌<◌, ℕ, Bool, List, [], ◌∷◌, Contains, length, reverse, None, Some, Result, Err, ap, sym, subst, arith, inl, inr}
 use Rattle.operations.specs.Accounts.{none_whole, whole_result}
-use Rattle.term_runner.specs.Caches.{all_entries}
+use Rattle.term_runner.specs.Caches.{HaveRoom, all_entries}
 use Rattle.operations.specs.Budget.{most_additions}
 use Rattle.node_table.specs.Diagram.{Graph, levels}
 use Rattle.node_table.specs.Made.{LacksPart, MakesOnly}
-use Rattle.schedule_plan.specs.Plan.{both}
-use Rattle.term_runner.specs.Width.{term_function}
-use Rattle.node_table.specs.Table.{TableState, IsAddedTo}
+use Rattle.schedule_plan.specs.Plan.{Term, both}
+use Rattle.cnf_base.specs.Formula.{Formula}
+use Rattle.term_runner.specs.Width.{HasAtMost, term_function}
+use Rattle.node_table.specs.Table.{TableState, AddsAtMost, IsAddedTo}
+use Rattle.node_table.specs.Value.{value_of}
 use Rattle.term_runner.specs.declared.held.Held.{Held}
 use Rattle.term_runner.specs.Held.{AreHeld, HasUnits}
 use Rattle.node_table.specs.declared.error.TableError.TheVariants.{NodeLimit, WriteFault}
 use Rattle.node_table.specs.declared.error.TableError.{TableError}
 use Rattle.node_table.specs.declared.node.Just.{Just}
 use Rattle.node_table.specs.HandedOn.{came_from, no_answer, no_error, other_cause, same_error}
-use Rattle.term_runner.proofs.Planned.{both_function}
+use Rattle.term_runner.proofs.Pairs.{adds_pairs, at_most_same}
+use Rattle.term_runner.proofs.Planned.{both_function, node_function}
 use Rattle.term_runner.proofs.Leaving.{limit_left, limit_whole, steps_handed, went_on}
 use Rattle.term_runner.proofs.Stacks.{held_kept, held_one_kept, few_left, false_refutes, conjunction_kept}
 use Rattle.term_runner.proofs.Giving.{two_give, units_behind}
 use Rattle.term_runner.proofs.Replaced.{first_unit, free_after, later_unit, none_retired, one_more_retired, unit_left, units_replaced, RetiresUnits}
 use Rattle.term_runner.proofs.Units.{not_both}
+use Rattle.term_runner.proofs.moves.conjoin.Given.{Over}
 use Rattle.term_runner.proofs.moves.conjoin.Goals as goal
+use Rattle.term_runner.proofs.moves.conjoin.Goals.{After-and}
 
 pub unreachable-requires : goal.unreachable-requires
 unreachable-requires g c =
@@ -420,3 +425,41 @@ returns-then-is_same-clause-again g c is = absurd (no_error is)
 
 pub returns-clause-again : goal.returns-clause-again
 returns-clause-again g c is = absurd (no_error is)
+
+-- the conjunction of two terms of few parts
+pairs_found : (g : Over) (c : After-and g) (formula : Formula) (one other : Term) (terms : List Term)
+    → AreHeld formula c.args.table.now.graph c.args.table.now.book.state.live (reverse c.args.stack.now.items) (other ∷ one ∷ terms) → (width : ℕ) → HaveRoom c.args.caches.now width
+    → HasAtMost (term_function formula c.args.table.now.graph.order one) width → HasAtMost (term_function formula c.args.table.now.graph.order other) width
+    → AddsAtMost (2 * (width * width)) c.args.table.now c.and.new.table
+pairs_found g c formula one other terms are width room few_one few_other =
+    let old = c.args.table.now in
+    let rest = c.in-Some.ensures.0 in
+    let items : reverse c.args.stack.now.items ≡ c.in-Some.v ∷ c.in-Some.u ∷ rest = ap reverse (sym c.as_slice.ensures.value) ∙ c.in-Some.ensures.1 in
+    let held = subst (λ (s : List Held). AreHeld formula old.graph old.book.state.live s (other ∷ one ∷ terms)) items are in
+    let tied = c.requires.sound.tied in
+    let first = held.1.0.is in
+    let second = held.0.is in
+    adds_pairs c.subfunction_law.ensures c.canonical_law.ensures old c.and.new.table tied.reduced c.in-Some.u.node c.in-Some.v.node first.stands second.stands c.args.caches.now width room
+    (at_most_same (term_function formula old.graph.order one) (λ a. value_of old.graph a c.in-Some.u.node) (λ a. sym (node_function old.graph tied.reduced tied.ordered formula c.in-Some.u.node one first.stands first.value a)) width few_one)
+    (at_most_same (term_function formula old.graph.order other) (λ a. value_of old.graph a c.in-Some.v.node) (λ a. sym (node_function old.graph tied.reduced tied.ordered formula c.in-Some.v.node other second.stands second.value a)) width few_other)
+    c.and.ensures.price
+
+pub returns-in_err-node-clause-pairs : goal.returns-in_err-node-clause-pairs
+returns-in_err-node-clause-pairs g c formula one other terms are width room few_one few_other =
+    let own = pairs_found g (goal.at.returns-in_err-node-clause-pairs g c).After-and formula one other terms are width room few_one few_other in
+    omega (arith, own)
+
+pub returns-in_err-unit-clause-pairs : goal.returns-in_err-unit-clause-pairs
+returns-in_err-unit-clause-pairs g c formula one other terms are width room few_one few_other =
+    let own = pairs_found g (goal.at.returns-in_err-unit-clause-pairs g c).After-and formula one other terms are width room few_one few_other in
+    omega (arith, own, c.in_err-unit.ensures.steps.adds)
+
+pub returns-then-is_same-clause-pairs : goal.returns-then-is_same-clause-pairs
+returns-then-is_same-clause-pairs g c formula one other terms are width room few_one few_other =
+    let own = pairs_found g (goal.at.returns-then-is_same-clause-pairs g c).After-and formula one other terms are width room few_one few_other in
+    omega (arith, own, c.in_ok-unit.ensures.steps.adds)
+
+pub returns-clause-pairs : goal.returns-clause-pairs
+returns-clause-pairs g c formula one other terms are width room few_one few_other =
+    let own = pairs_found g (goal.at.returns-clause-pairs g c).After-and formula one other terms are width room few_one few_other in
+    omega (arith, own, c.in_ok-unit.ensures.steps.adds, c.retire_unit.ensures.steps.adds, c.retire_unit-2.ensures.steps.adds)

@@ -162,3 +162,23 @@ returns-in_ok-settle-in-Err-clause-nodes g c = subst (KeepsNodes c.args.table.no
 
 pub returns-in_ok-settle-in-Err-clause-adds : goal.returns-in_ok-settle-in-Err-clause-adds
 returns-in_ok-settle-in-Err-clause-adds g c = let few = c.carry_out.ensures.adds in omega (arith, few, c.settle-in-Err.ensures.top, ap live_nodes c.settle-in-Err.ensures.nodes)
+
+pub returns-in_err-settle-in-Ok-2-clause-pairs : goal.returns-in_err-settle-in-Ok-2-clause-pairs
+returns-in_err-settle-in-Ok-2-clause-pairs g c stage next at is width room most =
+    let few = c.carry_out.ensures.pairs stage next at is width room most in
+    omega (arith, few, c.settle.ensures.top, ap live_nodes c.settle.ensures.nodes)
+
+pub returns-in_ok-settle-in-Ok-2-clause-pairs : goal.returns-in_ok-settle-in-Ok-2-clause-pairs
+returns-in_ok-settle-in-Ok-2-clause-pairs g c stage next at is width room most =
+    let few = c.carry_out.ensures.pairs stage next at is width room most in
+    omega (arith, few, c.settle.ensures.top, ap live_nodes c.settle.ensures.nodes)
+
+pub returns-in_err-settle-in-Err-clause-pairs : goal.returns-in_err-settle-in-Err-clause-pairs
+returns-in_err-settle-in-Err-clause-pairs g c stage next at is width room most =
+    let few = c.carry_out.ensures.pairs stage next at is width room most in
+    omega (arith, few, c.settle-in-Err.ensures.top, ap live_nodes c.settle-in-Err.ensures.nodes)
+
+pub returns-in_ok-settle-in-Err-clause-pairs : goal.returns-in_ok-settle-in-Err-clause-pairs
+returns-in_ok-settle-in-Err-clause-pairs g c stage next at is width room most =
+    let few = c.carry_out.ensures.pairs stage next at is width room most in
+    omega (arith, few, c.settle-in-Err.ensures.top, ap live_nodes c.settle-in-Err.ensures.nodes)

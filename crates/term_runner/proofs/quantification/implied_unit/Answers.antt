@@ -1,23 +1,28 @@
-use Rattle.std.proofs.Common.{◌≡◌, ◌⊎◌, ℕ, [], ◌∷◌, inl, inr, subst, ◌∙◌}
+use Rattle.std.proofs.Common.{◌≡◌, ◌⊎◌, ◌*◌, ℕ, [], ◌∷◌, arith, inl, inr, subst, ◌∙◌}
 use Rattle.node_table.specs.declared.node.Just.TheVariants.{Clause}
 use Rattle.node_table.specs.Diagram.{Graph, levels}
 use Rattle.node_table.specs.Defined.{atom_of}
 use Rattle.node_table.specs.Just.{IsJustified}
 use Rattle.operations.specs.Accounts.{none_whole, whole_error}
 use Rattle.operations.specs.Budget.{most_additions}
-use Rattle.node_table.specs.Table.{IsAddedTo}
+use Rattle.node_table.specs.Table.{AddsAtMost, IsAddedTo}
+use Rattle.node_table.specs.Value.{value_of}
 use Rattle.node_table.specs.HandedOn.{no_error}
 use Rattle.operations.specs.Entries.{IsAccounted, IsNewJust}
 use Rattle.term_runner.specs.Held.{GivesUnit}
 use Rattle.imply.specs.Implication.{IsDecided, IsRefuted}
-use Rattle.term_runner.specs.Caches.{all_entries}
+use Rattle.term_runner.specs.Caches.{HaveRoom, all_entries}
+use Rattle.term_runner.specs.Width.{HasAtMost}
 use Rattle.term_runner.proofs.AllCaches.{keeps_all, keeps_further}
 use Rattle.term_runner.proofs.Leaving.{went_on}
 use Rattle.term_runner.proofs.OwnUnits.{unaccounted_after, unit_own, unit_within}
 use Rattle.term_runner.proofs.Giving.{one_give}
+use Rattle.term_runner.proofs.Pairs.{adds_pairs}
 use Rattle.term_runner.proofs.Stacks.{both_ok, if_ok, justified_kept}
 use Rattle.term_runner.proofs.Units.{not_both}
+use Rattle.term_runner.proofs.quantification.implied_unit.Given.{Over}
 use Rattle.term_runner.proofs.quantification.implied_unit.Goals as goal
+use Rattle.term_runner.proofs.quantification.implied_unit.Goals.{After-implies}
 
 pub unreachable-requires : goal.unreachable-requires
 unreachable-requires g c =
@@ -112,3 +117,20 @@ returns-clause-gives g c =
     (λ unit. (unit ≡ u.unit) ⊎ ((id : ℕ) → unit ≡ Clause id → IsAddedTo new id)) (λ unit. (id : ℕ) → IsAddedTo new id → IsAddedTo mid id ⊎ (unit ≡ Clause id))
     (λ unit. ((unit ≡ u.unit) ⊎ ((id : ℕ) → unit ≡ Clause id → IsAddedTo new id)) × ((id : ℕ) → IsAddedTo new id → IsAddedTo mid id ⊎ (unit ≡ Clause id)))
     (λ unit one two. (one, two)) given.added given.alone)
+
+-- the implication adds no more than two clauses for each pair of parts
+pairs_found : (g : Over) (c : After-implies g) (width : ℕ) → HaveRoom c.args.caches.now width → HasAtMost (λ a. value_of c.args.table.now.graph a c.args.u.now.node) width
+    → HasAtMost (λ a. value_of c.args.table.now.graph a c.args.w) width → AddsAtMost (2 * (width * width)) c.args.table.now c.implies.new.table
+pairs_found g c width room few_u few_w =
+    adds_pairs c.subfunction_law.ensures c.canonical_law.ensures c.args.table.now c.implies.new.table c.requires.sound.tied.reduced c.args.u.now.node c.args.w c.requires.first c.requires.second c.args.caches.now width room
+    few_u few_w c.implies.ensures.price
+
+pub returns-in_err-just-clause-pairs : goal.returns-in_err-just-clause-pairs
+returns-in_err-just-clause-pairs g c width room few_u few_w =
+    let own = pairs_found g (goal.at.returns-in_err-just-clause-pairs g c).After-implies width room few_u few_w in
+    omega (arith, own)
+
+pub returns-clause-pairs : goal.returns-clause-pairs
+returns-clause-pairs g c width room few_u few_w =
+    let own = pairs_found g (goal.at.returns-clause-pairs g c).After-implies width room few_u few_w in
+    omega (arith, own, c.unit_of_implied.ensures.steps.adds)

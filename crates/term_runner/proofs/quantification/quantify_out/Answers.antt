@@ -1,4 +1,4 @@
-use Rattle.std.proofs.Common.{◌≡◌, ◌∙◌, ◌+◌, ◌<◌, ℕ, zero, Bool, List, [], ◌∷◌, length, reverse, None, Err, refl, ap, sym, subst, arith, inl, inr}
+use Rattle.std.proofs.Common.{◌≡◌, ◌∙◌, ◌+◌, ◌*◌, ◌<◌, ℕ, zero, Bool, List, [], ◌∷◌, length, reverse, None, Err, refl, ap, sym, subst, arith, inl, inr}
 use Rattle.std.specs.Prelude.{slice_index_or}
 use Rattle.node_table.specs.declared.error.TableError.TheVariants.{NodeLimit, WriteFault}
 use Rattle.node_table.specs.Diagram.{levels, variable_at}
@@ -6,20 +6,26 @@ use Rattle.node_table.specs.HandedOn.{came_from, no_answer, no_error, other_caus
 use Rattle.node_table.specs.Made.{LacksPart, MakesOnly}
 use Rattle.operations.specs.Accounts.{none_whole, whole_result}
 use Rattle.operations.specs.Budget.{most_additions}
-use Rattle.term_runner.specs.Width.{term_function}
-use Rattle.schedule_plan.specs.Plan.{some_value}
-use Rattle.term_runner.specs.Caches.{all_entries}
-use Rattle.node_table.specs.Table.{TableState}
+use Rattle.term_runner.specs.Width.{HasAtMost, term_function}
+use Rattle.schedule_plan.specs.Plan.{Term, some_value}
+use Rattle.cnf_base.specs.Formula.{Formula}
+use Rattle.term_runner.specs.Caches.{HaveRoom, all_entries}
+use Rattle.node_table.specs.Table.{TableState, AddsAtMost}
+use Rattle.node_table.specs.Value.{value_of}
 use Rattle.term_runner.specs.declared.held.Held.{Held}
 use Rattle.term_runner.specs.Held.{AreHeld, AreKept, HasUnits}
 use Rattle.term_runner.proofs.Leaving.{limit_left, limit_whole, steps_handed}
 use Rattle.term_runner.proofs.Giving.{units_behind}
 use Rattle.term_runner.proofs.Replaced.{first_unit, free_after, none_retired, one_more_retired, units_replaced, RetiresUnits}
+use Rattle.term_runner.proofs.Pairs.{at_most_same}
+use Rattle.term_runner.proofs.Planned.{node_function}
 use Rattle.term_runner.proofs.Quantified.{quantified_function, quantified_held}
 use Rattle.term_runner.proofs.Stacks.{false_refutes, held_kept, held_one_kept, none_left}
 use Rattle.term_runner.proofs.Units.{not_both}
 use Rattle.term_runner.proofs.Trails.{kept_grown, kept_pushed}
+use Rattle.term_runner.proofs.quantification.quantify_out.Given.{Over}
 use Rattle.term_runner.proofs.quantification.quantify_out.Goals as goal
+use Rattle.term_runner.proofs.quantification.quantify_out.Goals.{After-weaken}
 
 pub unreachable-requires : goal.unreachable-requires
 unreachable-requires g c =
@@ -293,3 +299,34 @@ returns-then-is_same-clause-again g c is = absurd (no_error is)
 
 pub returns-clause-again : goal.returns-clause-again
 returns-clause-again g c is = absurd (no_error is)
+
+-- what the quantification of a term of few parts adds
+pairs_found : (g : Over) (c : After-weaken g) (formula : Formula) (term : Term) (terms : List Term)
+    → AreHeld formula c.args.table.now.graph c.args.table.now.book.state.live (reverse c.args.stack.now.items) (term ∷ terms) → (width : ℕ) → HaveRoom c.args.caches.now width
+    → HasAtMost (term_function formula c.args.table.now.graph.order term) width → HasAtMost (term_function formula c.args.table.now.graph.order (some_value c.args.variable term)) width
+    → AddsAtMost (2 * (width * width) + 1) c.args.table.now c.weaken.new.table
+pairs_found g c formula term terms are width room few_term few_some =
+    let old = c.args.table.now in
+    let rest = c.in-Some.ensures.0 in
+    let items : reverse c.args.stack.now.items ≡ c.in-Some.u ∷ rest = ap reverse (sym c.as_slice.ensures.value) ∙ c.in-Some.ensures.1 in
+    let top = subst (λ (s : List Held). AreHeld formula old.graph old.book.state.live s (term ∷ terms)) items are in
+    let tied = c.requires.sound.tied in
+    let level = c.in-Some-level in
+    let function = quantified_function old.graph tied.reduced tied.ordered level.level c.args.variable level.ensures.0 level.ensures.1 formula term c.in-Some.u.node top.0.is.stands top.0.is.value in
+    c.weaken.ensures.pairs width room
+    (at_most_same (term_function formula old.graph.order term) (λ a. value_of old.graph a c.in-Some.u.node) (λ a. sym (node_function old.graph tied.reduced tied.ordered formula c.in-Some.u.node term top.0.is.stands top.0.is.value a)) width few_term)
+    (subst (λ f. HasAtMost f width) (sym function) few_some)
+
+pub returns-in_err-held-clause-pairs : goal.returns-in_err-held-clause-pairs
+returns-in_err-held-clause-pairs g c = pairs_found g (goal.at.returns-in_err-held-clause-pairs g c).After-weaken
+
+pub returns-in_err-push-clause-pairs : goal.returns-in_err-push-clause-pairs
+returns-in_err-push-clause-pairs g c = pairs_found g (goal.at.returns-in_err-push-clause-pairs g c).After-weaken
+
+pub returns-then-is_same-clause-pairs : goal.returns-then-is_same-clause-pairs
+returns-then-is_same-clause-pairs g c = pairs_found g (goal.at.returns-then-is_same-clause-pairs g c).After-weaken
+
+pub returns-clause-pairs : goal.returns-clause-pairs
+returns-clause-pairs g c formula term terms are width room few_term few_some =
+    let own = pairs_found g (goal.at.returns-clause-pairs g c).After-weaken formula term terms are width room few_term few_some in
+    omega (arith, own, c.retire_unit.ensures.steps.adds)

@@ -1,4 +1,4 @@
-use Rattle.std.proofs.Common.{◌≡◌, ◌∙◌, ◌+◌, ℕ, Bool, true, List, [], ◌∷◌, length, None, Some, Err, ap, sym, subst, arith}
+use Rattle.std.proofs.Common.{◌≡◌, ◌∙◌, ◌+◌, ◌*◌, ℕ, Bool, true, false, ◌||◌, List, [], ◌∷◌, length, None, Some, Err, ap, sym, subst, arith}
 use Rattle.node_table.specs.declared.error.TableError.TheVariants.{NodeLimit}
 use Rattle.node_table.specs.Diagram.{Graph, levels}
 use Rattle.node_table.specs.Defined.{atom_of}
@@ -7,16 +7,22 @@ use Rattle.node_table.specs.HandedOn.{came_from, no_answer, no_error, same_error
 use Rattle.node_table.specs.Made.{MakesOnly}
 use Rattle.operations.specs.Accounts.{none_whole}
 use Rattle.operations.specs.Budget.{most_additions}
-use Rattle.operations.specs.Results.{Quantified}
+use Rattle.node_table.specs.Table.{AddsAtMost}
+use Rattle.node_table.specs.Value.{Levels, value_of}
+use Rattle.operations.specs.Results.{Quantified, with_level}
 use Rattle.quantify.specs.Quantification.{quantification_of}
-use Rattle.term_runner.specs.Caches.{all_entries}
+use Rattle.term_runner.specs.Caches.{HaveRoom, all_entries}
+use Rattle.term_runner.specs.Width.{HasAtMost}
 use Rattle.term_runner.proofs.AllCaches.{keeps_further, keeps_handed}
 use Rattle.term_runner.proofs.Giving.{given_further}
 use Rattle.term_runner.proofs.Leaving.{limit_whole, steps_handed}
 use Rattle.term_runner.proofs.OwnUnits.{unaccounted_after, unit_within}
+use Rattle.term_runner.proofs.Pairs.{at_most_same}
 use Rattle.term_runner.proofs.Quantified.{implies_some}
 use Rattle.term_runner.proofs.Stacks.{justified_kept}
+use Rattle.term_runner.proofs.quantification.weaken.Given.{Over}
 use Rattle.term_runner.proofs.quantification.weaken.Goals as goal
+use Rattle.term_runner.proofs.quantification.weaken.Goals.{After-implied_unit}
 
 pub implied_unit-requires : goal.implied_unit-requires
 implied_unit-requires g c =
@@ -173,3 +179,31 @@ returns-in_err-node-clause-accounts g c is =
 pub returns-in_err-unit-clause-accounts : goal.returns-in_err-unit-clause-accounts
 returns-in_err-unit-clause-accounts g c is =
     absurd (c.in_err-unit.ensures.no_node_limit (ap Err (came_from _ c.in_err-unit.field-0.0 NodeLimit c.from_residual-in_err-unit.ensures.1 is)))
+
+-- what the implication adds, whose nodes have the functions of the term and of its quantification
+pairs_found : (g : Over) (c : After-implied_unit g) (width : ℕ) → HaveRoom c.args.caches.now width → HasAtMost (λ a. value_of c.args.table.now.graph a c.args.u.now.node) width
+    → HasAtMost (quantification_of c.args.table.now.graph c.args.u.now.node c.args.level) width → AddsAtMost (2 * (width * width) + 1) c.exists.new.table c.implied_unit.new.table
+pairs_found g c width room few_u few_w =
+    let old = c.args.table.now.graph in
+    let mid = c.exists.new.table.graph in
+    let u = c.args.u.now.node in
+    let done = c.in_ok-node.ensures in
+    let value : (a : Levels) → value_of mid a u ≡ value_of old a u = λ a. c.growth_law.ensures.value old mid c.requires.sound.tied.reduced done.steps.extends.nodes a u c.requires.stands in
+    let quantified : (a : Levels) → quantification_of old u c.args.level a ≡ value_of mid a c.in_ok-node.node =
+    λ a. (λ k. sym (value (with_level a c.args.level true)) k || sym (value (with_level a c.args.level false)) k) ∙ sym (done.quantified.value a) in
+    c.implied_unit.ensures.pairs width (record { size = room.size; have = c.exists.ensures.sizes ∙ room.have; room = room.room })
+    (at_most_same (λ a. value_of old a u) (λ a. value_of mid a u) (λ a. sym (value a)) width few_u)
+    (at_most_same (quantification_of old u c.args.level) (λ a. value_of mid a c.in_ok-node.node) quantified width few_w)
+
+pub returns-in_err-node-clause-pairs : goal.returns-in_err-node-clause-pairs
+returns-in_err-node-clause-pairs g c width room few_u few_w = omega (arith, c.in_err-node.ensures.steps.adds)
+
+pub returns-in_err-unit-clause-pairs : goal.returns-in_err-unit-clause-pairs
+returns-in_err-unit-clause-pairs g c width room few_u few_w =
+    let own = pairs_found g (goal.at.returns-in_err-unit-clause-pairs g c).After-implied_unit width room few_u few_w in
+    omega (arith, own, c.in_ok-node.ensures.steps.adds)
+
+pub returns-clause-pairs : goal.returns-clause-pairs
+returns-clause-pairs g c width room few_u few_w =
+    let own = pairs_found g (goal.at.returns-clause-pairs g c).After-implied_unit width room few_u few_w in
+    omega (arith, own, c.in_ok-node.ensures.steps.adds)

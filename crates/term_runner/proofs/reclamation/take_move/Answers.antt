@@ -68,11 +68,11 @@ returns-clause-few g c stage next at is width most =
     inr (omega (arith, left, c.in_ok-left.ensures.count))
 
 pub returns-in_err-left-clause-price : goal.returns-in_err-left-clause-price
-returns-in_err-left-clause-price g c stage next at is width most =
-    let own = c.try_twice.ensures.price stage next at is width most in
+returns-in_err-left-clause-price g c stage next at is size width price have paid most =
+    let own = c.try_twice.ensures.price stage next at is size width price have paid most in
     omega (arith, own, c.give_back.ensures.top)
 
 pub returns-clause-price : goal.returns-clause-price
-returns-clause-price g c stage next at is width most =
-    let own = c.try_twice.ensures.price stage next at is width most in
+returns-clause-price g c stage next at is size width price have paid most =
+    let own = c.try_twice.ensures.price stage next at is size width price have paid most in
     omega (arith, own, c.give_back.ensures.top)

@@ -1,22 +1,22 @@
 -- A move that was refused is tried once more over the nodes that its terms reach.
-use Rattle.std.proofs.Common.{◌≡◌, ℕ, ◌+◌, ◌*◌, ◌≤◌, List, Err, Some, length, ap, sym, subst, arith, inl, inr}
+use Rattle.std.proofs.Common.{◌≡◌, ℕ, ◌+◌, ◌*◌, ◌≤◌, ◌∙◌, List, Err, Some, length, refl, ap, sym, subst, arith, inl, inr}
 use Rattle.node_table.specs.declared.error.TableError.TheVariants.{NodeLimit}
 use Rattle.node_table.specs.Diagram.{Graph, levels}
 use Rattle.node_table.specs.Made.{LacksPart}
 use Rattle.node_table.specs.Progress.{Continues, error_of}
 use Rattle.node_table.specs.Table.{live_nodes}
-use Rattle.operations.specs.Budget.{most_additions}
 use Rattle.schedule_plan.specs.Plan.{Stage, after_move}
 use Rattle.term_runner.specs.declared.held.Held.{Held}
 use Rattle.term_runner.specs.Held.{IsAt}
-use Rattle.term_runner.specs.Price.{AddsFew, move_price}
+use Rattle.term_runner.specs.Price.{AddsFew, IsMovePrice}
 use Rattle.term_runner.specs.Width.{HoldsAtMost, top_function}
 use Rattle.term_runner.specs.Nodes.{KeepsOrMakes}
 use Rattle.term_runner.specs.Tidy.{LeavesReached, WereLeft, held_nodes}
 use Rattle.term_runner.proofs.Leaving.{limit_left}
 use Rattle.term_runner.proofs.FewLeft.{few_left}
 use Rattle.term_runner.proofs.InHand.{in_hand_before}
-use Rattle.term_runner.proofs.Priced.{one_try, tried, tried_few, two_tries}
+use Rattle.term_runner.specs.Caches.{HaveSize}
+use Rattle.term_runner.proofs.Priced.{tried, tried_few}
 use Rattle.term_runner.proofs.Tidied.{made_behind, were_left}
 use Rattle.term_runner.proofs.reclamation.try_twice.Given.{Over}
 use Rattle.term_runner.proofs.reclamation.try_twice.Goals as goal
@@ -100,15 +100,13 @@ returns-in_ok-left-in-Err-clause-left g c stage at = inr (left_mid g c stage at)
 
 module _ (g : Over) (c : After-try_move g) (stage next : Stage) (at : IsAt c.args.formula.now c.args.table.now.graph c.args.table.now.book.state.live c.args.stack.now.items c.args.trail.now stage)
     (is : after_move c.args.formula.now stage c.args.step ≡ Some next) (width : ℕ) (most : HoldsAtMost c.args.formula.now c.args.table.now.graph.order stage next width) where
-  -- the first try
-  once : c.try_move.new.table.book.state.top ≤ c.args.table.now.book.state.top + (4 * width + (most_additions (levels c.args.table.now.graph) + 1))
-  once =
+  -- the first try takes half of the price
+  once : (size price : ℕ) → HaveSize c.args.caches.now size → IsMovePrice (levels c.args.table.now.graph) size width price → 2 * c.try_move.new.table.book.state.top ≤ 2 * c.args.table.now.book.state.top + price
+  once size price have paid =
       let own = c.try_move.ensures in
       tried c.canonical_law.ensures c.args.formula.now c.args.table.now.graph.order stage next c.args.step is c.args.table.now c.try_move.new.table
-      g.S.Sink.tells _ _ _ own.leaves own.nodes (own.made stage next at is) width most own.adds
-
-  once_price : c.try_move.new.table.book.state.top ≤ c.args.table.now.book.state.top + move_price (levels c.args.table.now.graph) width
-  once_price = one_try (levels c.args.table.now.graph) width c.args.table.now.book.state.top c.try_move.new.table.book.state.top once
+      g.S.Sink.tells _ _ _ own.leaves own.nodes (own.made stage next at is) width most (levels c.args.table.now.graph) size price refl paid own.adds
+      (λ room. own.pairs stage next at is width (record { size = size; have = have; room = room }) most)
 
   once_few : AddsFew (live_nodes c.args.table.now.graph) (live_nodes c.try_move.new.table.graph) width
   once_few =
@@ -117,20 +115,24 @@ module _ (g : Over) (c : After-try_move g) (stage next : Stage) (at : IsAt c.arg
       g.S.Sink.tells _ _ _ own.leaves own.nodes (own.made stage next at is) width most)
 
 pub returns-in-Ok-clause-price : goal.returns-in-Ok-clause-price
-returns-in-Ok-clause-price g c = once_price g (goal.at.returns-in-Ok-clause-price g c).After-try_move
+returns-in-Ok-clause-price g c stage next at is size width price have paid most =
+    let first = once g (goal.at.returns-in-Ok-clause-price g c).After-try_move stage next at is width most size price have paid in
+    omega (arith, first)
 
 pub returns-in-Ok-clause-few : goal.returns-in-Ok-clause-few
 returns-in-Ok-clause-few g c = once_few g (goal.at.returns-in-Ok-clause-few g c).After-try_move
 
 pub returns-in-Err-2-clause-price : goal.returns-in-Err-2-clause-price
-returns-in-Err-2-clause-price g c = once_price g (goal.at.returns-in-Err-2-clause-price g c).After-try_move
+returns-in-Err-2-clause-price g c stage next at is size width price have paid most =
+    let first = once g (goal.at.returns-in-Err-2-clause-price g c).After-try_move stage next at is width most size price have paid in
+    omega (arith, first)
 
 pub returns-in-Err-2-clause-few : goal.returns-in-Err-2-clause-few
 returns-in-Err-2-clause-few g c = once_few g (goal.at.returns-in-Err-2-clause-few g c).After-try_move
 
 pub returns-in_err-left-in-Err-clause-price : goal.returns-in_err-left-in-Err-clause-price
-returns-in_err-left-in-Err-clause-price g c stage next at is width most =
-    let first = once_price g (goal.at.returns-in_err-left-in-Err-clause-price g c).After-try_move stage next at is width most in
+returns-in_err-left-in-Err-clause-price g c stage next at is size width price have paid most =
+    let first = once g (goal.at.returns-in_err-left-in-Err-clause-price g c).After-try_move stage next at is width most size price have paid in
     omega (arith, first, c.give_back.ensures.top)
 
 pub returns-in_err-left-in-Err-clause-few : goal.returns-in_err-left-in-Err-clause-few
@@ -139,15 +141,19 @@ returns-in_err-left-in-Err-clause-few g c stage next at is width most =
     (once_few g (goal.at.returns-in_err-left-in-Err-clause-few g c).After-try_move stage next at is width most)
 
 pub returns-in_ok-left-in-Err-clause-price : goal.returns-in_ok-left-in-Err-clause-price
-returns-in_ok-left-in-Err-clause-price g c stage next at is width most =
+returns-in_ok-left-in-Err-clause-price g c stage next at is size width price have paid most =
+    let formula = c.args.formula.now in
     let old = c.args.table.now in
     let mid = c.give_back.new.table in
     let new = c.try_move-in-Err.new.table in
     let own = c.try_move-in-Err.ensures in
-    let second = tried c.canonical_law.ensures c.args.formula.now old.graph.order stage next c.args.step is mid new g.S.Sink.tells _ _ _ own.leaves own.nodes (made_last g c stage next at is) width most own.adds in
-    two_tries (levels old.graph) width old.book.state.top c.try_move.new.table.book.state.top mid.book.state.top new.book.state.top
-    (once g (goal.at.returns-in_ok-left-in-Err-clause-price g c).After-try_move stage next at is width most) c.give_back.ensures.top
-    (subst (λ (vars : ℕ). new.book.state.top ≤ mid.book.state.top + (4 * width + (most_additions vars + 1))) (ap length (continues_mid g c).order) second)
+    let order = (continues_mid g c).order in
+    let first = once g (goal.at.returns-in_ok-left-in-Err-clause-price g c).After-try_move stage next at is width most size price have paid in
+    let second = tried c.canonical_law.ensures formula old.graph.order stage next c.args.step is mid new g.S.Sink.tells _ _ _ own.leaves own.nodes (made_last g c stage next at is) width most
+    (levels old.graph) size price (ap length order) paid own.adds
+    (λ room. own.pairs stage next (at_mid g c stage at) is width (record { size = size; have = c.give_back.ensures.sizes ∙ c.try_move.ensures.sizes ∙ have; room = room })
+    (subst (λ (o : List ℕ). HoldsAtMost formula o stage next width) (sym order) most)) in
+    omega (arith, first, second, c.give_back.ensures.top)
 
 pub returns-in_ok-left-in-Err-clause-few : goal.returns-in_ok-left-in-Err-clause-few
 returns-in_ok-left-in-Err-clause-few g c stage next at is width most =
