@@ -49,3 +49,4 @@ pub mod Numbered
 pub mod Marked
 pub mod Remaining
 pub mod Freed
+pub mod Lean

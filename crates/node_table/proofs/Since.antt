@@ -1,5 +1,5 @@
 -- What is live comes from before or came since: of states that grew, of those with fewer clauses, and one after another.
-use Rattle.std.proofs.Common.{◌≡◌, ◌≤◌, ◌∙◌, ℕ, true, false, ℤ, List, Option, None, Some, is_some, sym, arith, inl, inr}
+use Rattle.std.proofs.Common.{◌≡◌, ◌≤◌, ◌∙◌, true, false, ℤ, List, Option, None, Some, is_some, sym, arith, inl, inr}
 use Rattle.lrat_rules.specs.State.{State, clause_at}
 use Rattle.node_table.specs.Tied.{KeepsClauses}
 use Rattle.node_table.specs.Progress.{ComesSince}
