@@ -22,6 +22,7 @@ use Rattle.node_table.proofs.InUseSame.{in_use_nodes}
 use Rattle.node_table.proofs.Fresh.{IsNobodys, live_more, KeepsNodes-new}
 use Rattle.node_table.proofs.Fronts.{IsCutBefore, Grows-definitions, Grows-front, Grows-rest}
 use Rattle.node_table.proofs.Progressed.{Continues-none, Extends-none}
+use Rattle.node_table.proofs.Since.{ComesSince-grown}
 use Rattle.node_table.proofs.Retired.{AreRetired-kept}
 
 -- A call that was refused: nothing changed but the room that is reserved, and a limit that is told is met.
@@ -43,6 +44,7 @@ module _ {S : Type 0} (tells : Bool) (channel : S → Channel) where
           limit = refl;
           no_less = same.no_less;
           numbers = same.numbers;
+          since = same.since;
           unfailed = refl;
           writes = same.writes;
         },
@@ -86,7 +88,7 @@ pub record Wrote {S : Type 0} (tells : Bool) (before after : Channel) (old new :
 
 pub record Tore {S : Type 0} (tells : Bool) (before after : Channel) (old new : Book S) : Type 0 where
   pub rose : Rose before.faults after.faults
-  pub cut : (clauses : List (List ℤ)) → IsProofOf clauses tells before old.state → IsTrue tells → IsCutBefore clauses after.written new.state
+  pub cut : (clauses : List (List ℤ)) → IsProofOf clauses tells before old.state → IsTrue tells → IsCutBefore clauses after.written old.state new.state
   pub out_of_step : new.in_step ≡ false
   pub limit : new.limit ≡ old.limit
   pub writes : OnlyWrites before after
@@ -135,6 +137,7 @@ module _ {S : Type 0} (tells : Bool) (aside : Aside) (before after : Channel) (g
       limit = wrote.limit;
       no_less = grew.grows.gives.no_less;
       numbers = grew.within;
+      since = ComesSince-grown old.state new.state grew.grows;
       unfailed = wrote.unfailed;
       writes = wrote.writes;
     };
@@ -153,6 +156,8 @@ module _ {S : Type 0} (tells : Bool) (aside : Aside) (before after : Channel) (g
             before = cut.0;
             cut = cut.1;
             no_less = cut.3;
+            from = cut.4;
+            since = cut.5;
             within_before = record {
               numbers = ≤-then cut.0.top new.state.top (max old.state.top old.limit) cut.3 grew.within;
               nodes = ≤-then (in_use (levels graph) cut.0) (in_use (levels graph) new.state) (live_nodes later) (fewer (levels graph) cut.0 new.state cut.2) used;
@@ -167,6 +172,7 @@ module _ {S : Type 0} (tells : Bool) (aside : Aside) (before after : Channel) (g
       limit = tore.limit;
       no_less = grew.grows.gives.no_less;
       numbers = grew.within;
+      since = ComesSince-grown old.state new.state grew.grows;
       writes = tore.writes;
     };
     extends = extends;

@@ -26,7 +26,7 @@ use Rattle.node_table.proofs.Made.{some_up, some_down}
 use Rattle.node_table.proofs.Settled.{may_delete}
 
 -- the variable of a clause's first literal
-abbrev head_variable : Option (List ℤ) → ℕ
+abbrev pub head_variable : Option (List ℤ) → ℕ
 head_variable None = 0
 head_variable (Some []) = 0
 head_variable (Some (literal ∷ clause)) = nat_abs literal
@@ -40,10 +40,10 @@ abs-neg_pos zero = refl
 abs-neg_pos (suc n) = refl
 
 -- the number of a live clause of a node
-record IsOwn (live : Live) (b : Branch) (id : ℕ) : Type 0 where
-  stands : is_some (clause_at live id) ≡ true
-  variable : head_variable (clause_at live id) ≡ b.variable
-  no_less : b.first ≤ id
+pub record IsOwn (live : Live) (b : Branch) (id : ℕ) : Type 0 where
+  pub stands : is_some (clause_at live id) ≡ true
+  pub variable : head_variable (clause_at live id) ≡ b.variable
+  pub no_less : b.first ≤ id
 
 named_own : (live : Live) (b : Branch) (given : Bool) (n id : ℕ) (clause : Option (List ℤ)) → is_given (given_if given n) id ≡ true → clause_named live (given_if given n) ≡ clause
     → is_some clause ≡ given → (is_some clause ≡ true → head_variable clause ≡ b.variable) → b.first ≤ n → IsOwn live b id
@@ -78,7 +78,7 @@ module _ (graph : Graph) (live : Live) (reduced : IsReduced graph) (key : ℕ) (
       (some_down graph (neg_ℤ u) x b.low (reduced.low key b at).stands)
       (λ some. head_in (neg_ℤ u) (clause_of (Of x ∷ atom_of graph b.low ∷ [])) some ∙ abs-neg_pos b.variable) (omega arith)
 
-  own_clause : is_defined_by (defs_of b) id ≡ true → IsOwn live b id
+  pub own_clause : is_defined_by (defs_of b) id ≡ true → IsOwn live b id
   own_clause is =
       let one = is_given (defs_of b).hu id in
       let two = is_given (defs_of b).lu id in

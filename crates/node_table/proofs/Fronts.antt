@@ -10,12 +10,16 @@ use Rattle.std.specs.Prelude.{◌+◌, ◌≤◌, pos}
 use Rattle.node_table.specs.Defined.{Definition, atom_of, definitions, with_some, with_definitions}
 use Rattle.node_table.specs.Tied.{KeepsClauses}
 use Rattle.node_table.specs.Table.{node_definitions}
+use Rattle.node_table.specs.Progress.{ComesSince}
+use Rattle.node_table.proofs.Since.{ComesSince-grown}
 use Rattle.node_table.proofs.Stands.{AreNumbers, Grows, Grows-none, Grows-some, Grows-then, Grows-reached}
 use Rattle.node_table.proofs.DefineSteps.{with_definitions-append}
 
--- The bytes end in a front of the line that leads to this state. The state before has fewer clauses.
-abbrev pub IsCutBefore : List (List ℤ) → List ℕ → State → Type 0
-IsCutBefore clauses bytes after = (before : State) × IsCutProof clauses bytes before after × KeepsClauses before.live after.live × (before.top ≤ after.top)
+-- The bytes end in a front of the line that leads to this state. The state before has fewer clauses, from the old state or
+-- come since.
+abbrev pub IsCutBefore : List (List ℤ) → List ℕ → State → State → Type 0
+IsCutBefore clauses bytes old after =
+    (before : State) × IsCutProof clauses bytes before after × KeepsClauses before.live after.live × (before.top ≤ after.top) × (old.top ≤ before.top) × ComesSince old before
 
 pub Grows-definitions : (state : State) (all : List Definition) → AreNumbers state → Grows state (with_definitions state all)
 Grows-definitions state [] numbers = Grows-none state numbers
@@ -49,7 +53,7 @@ definitions_handed handed i = definitions (handed.own i) (handed.input i) (hande
 
 -- the line of one clause more was cut short
 pub cut_next : {clauses : List (List ℤ)} {bytes : List ℕ} {state later last : State} (o : Option (List ℤ)) → Grows state later → IsCutProof clauses bytes later last → last ≡ with_some later o
-    → IsCutBefore clauses bytes last
-cut_next {later = later} {last = last} o so_far cut is =
+    → IsCutBefore clauses bytes state last
+cut_next {state = state} {later = later} {last = last} o so_far cut is =
     let grows : Grows later last = Grows-reached later later last o (Grows-none later so_far.numbers) is in
-    (later, cut, grows.clauses, grows.gives.no_less)
+    (later, cut, grows.clauses, grows.gives.no_less, so_far.gives.no_less, ComesSince-grown state later so_far)

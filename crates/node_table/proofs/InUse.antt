@@ -10,11 +10,11 @@ use Rattle.std.proofs.lemmas.Cmp.{nat_cmp_total}
 use Rattle.std.proofs.lemmas.Bool.{cases_eq, or_left, or_right}
 use Rattle.node_table.specs.declared.node.Branch.{Branch}
 
-both_parts : (a b : Bool) → T (a && b) → T a × T b
+pub both_parts : (a b : Bool) → T (a && b) → T a × T b
 both_parts true b h = (tt, h)
 both_parts false b h = absurd h
 
-is_less : (x y : ℕ) → T (is_lt (nat_cmp x y)) → x < y
+pub is_less : (x y : ℕ) → T (is_lt (nat_cmp x y)) → x < y
 is_less x y h =
     elim (nat_cmp x y) as (λ r. r ≡ nat_cmp x y → T (is_lt r) → x < y) [
       | Less ↦ λ is _. ranked x y Less is
@@ -35,10 +35,10 @@ above k (e ∷ es) below q b is =
       | inr differ ↦ above k es parts.1 q b (sym (ap (λ t. cond t (Some e.1) (find nat_cmp q es)) (unsigned_tied q e.0 ∙ ne_eqb q e.0 differ)) ∙ is)
     ]
 
-found_here : (k : ℕ) (b : Branch) (es : List (ℕ × Branch)) → find nat_cmp k ((k, b) ∷ es) ≡ Some b
+pub found_here : (k : ℕ) (b : Branch) (es : List (ℕ × Branch)) → find nat_cmp k ((k, b) ∷ es) ≡ Some b
 found_here k b es = ap (λ t. cond t (Some b) (find nat_cmp k es)) (unsigned_tied k k ∙ eq-eqb k k refl)
 
-found_there : (k : ℕ) (c : Branch) (es : List (ℕ × Branch)) → T (below_all nat_cmp k es) → (q : ℕ) (b : Branch) → find nat_cmp q es ≡ Some b → find nat_cmp q ((k, c) ∷ es) ≡ Some b
+pub found_there : (k : ℕ) (c : Branch) (es : List (ℕ × Branch)) → T (below_all nat_cmp k es) → (q : ℕ) (b : Branch) → find nat_cmp q es ≡ Some b → find nat_cmp q ((k, c) ∷ es) ≡ Some b
 found_there k c es below q b is =
     let late = above k es below q b is in
     ap (λ t. cond t (Some c) (find nat_cmp q es)) (unsigned_tied q k ∙ ne_eqb q k (λ same. omega (arith, same, late))) ∙ is

@@ -37,7 +37,7 @@ module _ {X : Type 0} (t : X → Bool) where
   any-append [] ys = refl
   any-append (x ∷ xs) ys = elim (t x) as (λ b. (b || list_any t (xs ++ ys)) ≡ ((b || list_any t xs) || list_any t ys)) [ true ↦ refl | false ↦ any-append xs ys ]
 
-  any-flat_map : {Y : Type 0} (f : Y → List X) (ys : List Y) → list_any t (flat_map f ys) ≡ list_any (λ y. list_any t (f y)) ys
+  pub any-flat_map : {Y : Type 0} (f : Y → List X) (ys : List Y) → list_any t (flat_map f ys) ≡ list_any (λ y. list_any t (f y)) ys
   any-flat_map f [] = refl
   any-flat_map f (y ∷ ys) = any-append (f y) (flat_map f ys) ∙ ap (λ b. list_any t (f y) || b) (any-flat_map f ys)
 
@@ -45,7 +45,7 @@ module _ {X : Type 0} (t : X → Bool) where
   any_gives [] is = absurd (let e : false ≡ true = is in cc)
   any_gives (x ∷ xs) is = elim (or_cases (t x) (list_any t xs) is) [ inl here ↦ (x, here) | inr there ↦ any_gives xs there ]
 
-any_at : (t : ℕ → Bool) (id : ℕ) (ids : List ℕ) → list_any (eq_by_cmp nat_cmp id) ids ≡ true → t id ≡ true → list_any t ids ≡ true
+pub any_at : (t : ℕ → Bool) (id : ℕ) (ids : List ℕ) → list_any (eq_by_cmp nat_cmp id) ids ≡ true → t id ≡ true → list_any t ids ≡ true
 any_at t id [] among is = absurd (let e : false ≡ true = among in cc)
 any_at t id (k ∷ ids) among is =
     elim (or_cases (eq_by_cmp nat_cmp id k) (list_any (eq_by_cmp nat_cmp id) ids) among) [

@@ -16,6 +16,7 @@ use Rattle.node_table.specs.Table.{IsSound, live_nodes}
 use Rattle.node_table.specs.Progress.{Steps}
 use Rattle.node_table.proofs.Stands.{Grows, Grows-next}
 use Rattle.node_table.proofs.Progressed.{Steps-at_most}
+use Rattle.node_table.proofs.Since.{ComesSince-fewer}
 use Rattle.node_table.proofs.CallSteps.{FewerInUse, no_room, no_ids_left, justified_on, justified_torn, Aside, table_of}
 
 -- the error that the ledger's answer is told as
@@ -75,7 +76,7 @@ module _ {S : Type 0} (tells : Bool) (channel : S → Channel) (aside : Aside) (
       justified_torn tells aside (channel old.sink) (channel new.sink) graph old new clause sound over (below_limit (Err LedgerWriteFault) answers.id_limit no_limit) state
       (record {
         rose = (answers.write_fault refl).rose;
-        cut = λ clauses proof told. (old.state, answers.cut clauses proof told refl, grows.clauses, grows.gives.no_less);
+        cut = λ clauses proof told. (old.state, answers.cut clauses proof told refl, grows.clauses, grows.gives.no_less, omega arith, ComesSince-fewer old.state old.state (λ id clause is. is));
         out_of_step = answers.out_of_step refl;
         limit = answers.limit;
         writes = answers.only_writes;

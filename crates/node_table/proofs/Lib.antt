@@ -10,6 +10,7 @@ pub mod Variables
 pub mod Canonical
 pub mod Kept
 pub mod Stands
+pub mod Since
 pub mod Made
 pub mod DefineClauses
 pub mod DefineHolders
@@ -48,3 +49,4 @@ pub mod Numbered
 pub mod Marked
 pub mod Remaining
 pub mod Freed
+pub mod Lean

@@ -14,6 +14,7 @@ use Rattle.node_table.specs.Table.{TableState, IsSound, Extends, live_nodes}
 use Rattle.node_table.specs.Progress.{Continues, BreaksOff, Leaves, Steps, number_limit}
 use Rattle.node_table.proofs.Grown.{KeepsNodes-none, KeepsNodes-further}
 use Rattle.node_table.proofs.Stands.{Grows-none}
+use Rattle.node_table.proofs.Since.{ComesSince-fewer, ComesSince-further}
 
 pub OnlyWrites-same : (channel : Channel) → OnlyWrites channel channel
 OnlyWrites-same channel = record { flushed = refl; taken = refl; left = refl; name = refl; faults = omega arith }
@@ -98,6 +99,7 @@ module _ {S : Type 0} where
       limit = refl;
       no_less = omega arith;
       numbers = omega arith;
+      since = ComesSince-fewer table.book.state table.book.state (λ id clause is. is);
       unfailed = refl;
       writes = OnlyWrites-same channel;
     }
@@ -115,6 +117,7 @@ module _ {S : Type 0} where
           limit = after.limit ∙ before.limit;
           no_less = omega (arith, before.no_less, after.no_less);
           numbers = ≤-further new.book.state.top (number_limit mid) (number_limit old) after.numbers within;
+          since = ComesSince-further old.book.state mid.book.state new.book.state before.no_less after.no_less before.since after.since;
           unfailed = after.unfailed ∙ before.unfailed;
           writes = OnlyWrites-further first second third before.writes after.writes;
         }
@@ -131,6 +134,8 @@ module _ {S : Type 0} where
                 before = cut.before;
                 cut = cut.cut;
                 no_less = cut.no_less;
+                from = omega (arith, before.no_less, cut.from);
+                since = ComesSince-further old.book.state mid.book.state cut.before before.no_less cut.from before.since cut.since;
                 within_before = IsWithin-further old mid before.order (live_nodes new.graph) within cut.before cut.within_before;
                 within_after = IsWithin-further old mid before.order (live_nodes new.graph) within new.book.state cut.within_after;
               };
@@ -142,6 +147,7 @@ module _ {S : Type 0} where
           limit = after.limit ∙ before.limit;
           no_less = omega (arith, before.no_less, after.no_less);
           numbers = ≤-further new.book.state.top (number_limit mid) (number_limit old) after.numbers within;
+          since = ComesSince-further old.book.state mid.book.state new.book.state before.no_less after.no_less before.since after.since;
           writes = OnlyWrites-further first second third before.writes after.writes;
         }
 
@@ -186,6 +192,7 @@ module _ {S : Type 0} where
           limit = none.limit;
           no_less = none.no_less;
           numbers = none.numbers;
+          since = none.since;
           unfailed = none.unfailed;
           writes = none.writes;
         }

@@ -25,6 +25,7 @@ use Rattle.node_table.proofs.DefinedOver.{definition_over}
 use Rattle.node_table.proofs.Deletable.{same_owner}
 use Rattle.node_table.proofs.InUseSame.{in_use_nodes}
 use Rattle.node_table.proofs.Places.{HavePlaces-same}
+use Rattle.node_table.proofs.Since.{ComesSince-fewer}
 use Rattle.node_table.proofs.Settled.{IsDefined-stays}
 use Rattle.node_table.proofs.Swept.{atom_of_swept, branch_at_marked, left_marked, reduced_swept}
 
@@ -161,6 +162,7 @@ module _ {S : Type 0} (tells : Bool) (channel : S → Channel) (aside : Aside) (
     limit = limit;
     no_less = omega (arith, top);
     numbers = omega (arith, top);
+    since = ComesSince-fewer old.state new.state left.among;
     unfailed = unfailed;
     writes = writes;
   }
@@ -181,6 +183,8 @@ module _ {S : Type 0} (tells : Bool) (channel : S → Channel) (aside : Aside) (
               before = c.before;
               cut = c.cut;
               no_less = omega (arith, c.top, top);
+              from = omega (arith, c.top);
+              since = ComesSince-fewer old.state c.before c.among;
               within_before = record { numbers = omega (arith, c.top); nodes = omega (arith, less_before, used) };
               within_after = record { numbers = omega (arith, top); nodes = omega (arith, less, used) };
             };
@@ -192,5 +196,6 @@ module _ {S : Type 0} (tells : Bool) (channel : S → Channel) (aside : Aside) (
         limit = limit;
         no_less = omega (arith, top);
         numbers = omega (arith, top);
+        since = ComesSince-fewer old.state new.state among;
         writes = writes;
       }

@@ -9,6 +9,7 @@ pub mod Table
 pub mod Places
 pub mod Just
 pub mod Progress
+pub mod Lean
 pub mod Made
 pub mod Marks
 pub mod Swept

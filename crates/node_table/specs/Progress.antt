@@ -1,7 +1,7 @@
 -- What a call that may make nodes and clauses leaves, as it ends in step with the proof or breaks off.
-use Rattle.std.specs.Prelude.{◌≡◌, ◌≤◌, ◌<◌, ◌+◌, ℕ, max, Bool, false, ℤ, List, Option, None, Some, Result, Ok, Err, IsTrue, length}
+use Rattle.std.specs.Prelude.{◌≡◌, ◌⊎◌, ◌≤◌, ◌<◌, ◌+◌, ℕ, max, Bool, false, ℤ, List, Option, None, Some, Result, Ok, Err, IsTrue, length}
 use Rattle.host_io.specs.Channel.{Channel, Rose}
-use Rattle.lrat_rules.specs.State.{State}
+use Rattle.lrat_rules.specs.State.{State, clause_at}
 use Rattle.lrat_rules.specs.Derivation.{IsCutProof}
 use Rattle.lrat_rules.specs.Marks.{IsWithin}
 use Rattle.clause_ledger.specs.Book.{IsProofOf, OnlyWrites}
@@ -14,6 +14,10 @@ use Rattle.node_table.specs.Table.{TableState, IsSound, Extends, AddsAtMost, liv
 abbrev pub number_limit : {S : Type 0} → TableState S → ℕ
 number_limit table = max table.book.state.top table.book.limit
 
+-- What is live then was live before, with the same literals, or came since.
+abbrev pub ComesSince : State → State → Type 0
+ComesSince old new = (id : ℕ) (clause : List ℤ) → clause_at new.live id ≡ Some clause → (clause_at old.live id ≡ Some clause) ⊎ ((old.top < id) × (id ≤ new.top))
+
 -- The table is sound, over the same variables and formula and within the same limits; the sink's bytes are still a proof of
 -- what is live, from the formula's clauses, and no write failed.
 pub record Continues {S : Type 0} (tells : Bool) (before after : Channel) (old new : TableState S) : Type 0 where
@@ -25,14 +29,18 @@ pub record Continues {S : Type 0} (tells : Bool) (before after : Channel) (old n
   pub limit : new.book.limit ≡ old.book.limit
   pub no_less : old.book.state.top ≤ new.book.state.top
   pub numbers : new.book.state.top ≤ number_limit old
+  pub since : ComesSince old.book.state new.book.state
   pub unfailed : after.faults ≡ before.faults
   pub writes : OnlyWrites before after
 
--- a proof that was cut short in the line that leads to this state, and kept within these limits before and behind it
-pub record IsCutWithin (clauses : List (List ℤ)) (bytes : List ℕ) (vars max_ids max_nodes : ℕ) (after : State) : Type 0 where
+-- A proof that was cut short in the line that leads to this state, and kept within these limits before and behind it. What
+-- is live before this line comes from an old state, or came since.
+pub record IsCutWithin (clauses : List (List ℤ)) (bytes : List ℕ) (vars max_ids max_nodes : ℕ) (old after : State) : Type 0 where
   pub before : State
   pub cut : IsCutProof clauses bytes before after
   pub no_less : before.top ≤ after.top
+  pub from : old.top ≤ before.top
+  pub since : ComesSince old before
   pub within_before : IsWithin vars max_ids max_nodes before
   pub within_after : IsWithin vars max_ids max_nodes after
 
@@ -42,7 +50,7 @@ pub record IsCutWithin (clauses : List (List ℤ)) (bytes : List ℕ) (vars max_
 pub record BreaksOff {S : Type 0} (tells : Bool) (before after : Channel) (old new : TableState S) : Type 0 where
   pub rose : Rose before.faults after.faults
   pub cut : (clauses : List (List ℤ)) → length clauses ≤ old.inputs → IsProofOf clauses tells before old.book.state → IsTrue tells
-      → IsCutWithin clauses after.written (levels old.graph) (number_limit old) (live_nodes new.graph) new.book.state
+      → IsCutWithin clauses after.written (levels old.graph) (number_limit old) (live_nodes new.graph) old.book.state new.book.state
   pub few : live_nodes new.graph ≤ old.max_nodes
   pub out_of_step : new.book.in_step ≡ false
   pub reduced : IsReduced new.graph
@@ -51,6 +59,7 @@ pub record BreaksOff {S : Type 0} (tells : Bool) (before after : Channel) (old n
   pub limit : new.book.limit ≡ old.book.limit
   pub no_less : old.book.state.top ≤ new.book.state.top
   pub numbers : new.book.state.top ≤ number_limit old
+  pub since : ComesSince old.book.state new.book.state
   pub writes : OnlyWrites before after
 
 -- the error that a call ended with, if with one

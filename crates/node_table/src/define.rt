@@ -12,6 +12,7 @@ ghost use Rattle.clause_ledger.specs.Book.{IsProofOf, IsTorn, OnlyWrites};
 ghost use Rattle.clause_ledger.specs.declared.error.LedgerError.TheVariants.{WriteFault};
 ghost use Rattle.node_table.specs.Defined.{IsNewVariable, definitions, count_atoms, one_if, with_some, line_of_some, with_definitions, definition_lines};
 ghost use Rattle.node_table.specs.Tied.{KeepsClauses};
+ghost use Rattle.node_table.specs.Progress.{ComesSince};
 
 use clause_ledger::{Ledger, LedgerError};
 use cnf_base::{Id, Lit};
@@ -47,7 +48,8 @@ pub fn write_definitions<S: Sink + Drop>(
     ensures out_of_step { IsErr result → ledger.new.in_step ≡ false }
     ensures cut { (clauses : List (List ℤ)) → IsProofOf clauses S.tells (S.channel ledger.old.sink) ledger.old.state → IsTrue S.tells
         → IsErr result → (before : State) × IsCutProof clauses (S.channel ledger.new.sink).written before ledger.new.state
-        × KeepsClauses before.live ledger.new.state.live × (before.top ≤ ledger.new.state.top) }
+        × KeepsClauses before.live ledger.new.state.live × (before.top ≤ ledger.new.state.top)
+        × (ledger.old.state.top ≤ before.top) × ComesSince ledger.old.state before }
 
     ensures unfailed { OnOk result ((S.channel ledger.new.sink).faults ≡ (S.channel ledger.old.sink).faults) }
     ensures only_writes { OnlyWrites (S.channel ledger.old.sink) (S.channel ledger.new.sink) }

@@ -1,13 +1,15 @@
 // Laws of diagrams, over everything: functions without work, each of which ensures a record of `specs/Laws.antt`. The
 // crates above cite them by a call.
-ghost use Rattle.std.specs.Prelude.{◌≡◌, ℕ, ℤ, List, [], length};
+ghost use Rattle.std.specs.Prelude.{◌≡◌, ◌+◌, ◌-◌, ℕ, ℤ, List, [], length};
 ghost use Rattle.std.specs.FinMap as map;
 ghost use Rattle.cnf_base.specs.Truth.{AreClausesOf};
 ghost use Rattle.lrat_rules.specs.State.{State, start};
 ghost use Rattle.lrat_rules.specs.Marks.{in_use};
 ghost use Rattle.node_table.specs.Diagram.{Graph, IsOrder, levels};
 ghost use Rattle.node_table.specs.Tied.{IsTied, AreRetired};
-ghost use Rattle.node_table.specs.Table.{live_nodes};
+ghost use Rattle.node_table.specs.Table.{TableState, IsSound, live_nodes};
+ghost use Rattle.node_table.specs.Progress.{ComesSince};
+ghost use Rattle.node_table.specs.Lean.{HasAdded, IsLean};
 ghost use Rattle.node_table.specs.Laws.{Canonical, Missing, Growth, Kept, Cofactors, Subfunctions, Reachability, StepByStep};
 
 use hint_chain::clause_law;
@@ -68,4 +70,11 @@ pub fn opening_law()
 /// The extension variables in use on the proof are as many as the nodes.
 pub fn in_use_law()
     ensures { (graph : Graph) (state : State) → IsTied graph state → in_use (levels graph) state ≡ live_nodes graph }
+{}
+
+/// Of the clauses above the formula's no more are live than four for each extension variable in use, those that were added
+/// beside the definitions of nodes, and those that came since.
+pub fn lean_law<S: Sink + Drop>()
+    ensures { (old : TableState S) (number : ℕ) (state : State) → IsSound old → HasAdded old number → ComesSince old.book.state state
+        → IsLean (levels old.graph) old.inputs (number + (state.top - old.book.state.top)) state }
 {}

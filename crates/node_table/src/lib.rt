@@ -22,8 +22,8 @@ mod table;
 pub use diagram::Diagram;
 pub use error::TableError;
 pub use laws::{
-    canonical_law, cofactor_law, growth_law, in_use_law, kept_law, missing_law, opening_law,
-    reach_law, steps_law, subfunction_law,
+    canonical_law, cofactor_law, growth_law, in_use_law, kept_law, lean_law, missing_law,
+    opening_law, reach_law, steps_law, subfunction_law,
 };
 pub use marks::Marks;
 pub use node::{Branch, Defs, Just, Node, NodeKey};
