@@ -193,6 +193,19 @@ some_clause : (o : Option (List ℤ)) → is_some o ≡ true → (clause : List 
 some_clause None is = absurd (let e : false ≡ true = is in cc)
 some_clause (Some clause) is = (clause, refl)
 
+-- where a list has all live numbers above one, there are no more of them
+module _ (inputs : ℕ) (live : Live) (ids : List ℕ) (listed : (id : ℕ) → inputs < id → is_some (clause_at live id) ≡ true → is_member nat_eq ids id ≡ true) where
+  key_listed : (id : ℕ) → is_member nat_eq (filter (nat_lt inputs) (finmap.keys live)) id ≡ true → is_member nat_eq ids id ≡ true
+  key_listed id is =
+      let parts = and_parts (nat_lt inputs id) (is_member nat_eq (finmap.keys live) id)
+      (sym (any-filter_same (nat_eq id) (nat_lt inputs) (nat_lt inputs id) (λ k same. ap (nat_lt inputs) (sym (eqb-true id k same))) (finmap.keys live)) ∙ is) in
+      listed id (ltb-true inputs id parts.0)
+      (finmap.contains_key-keys live id ∙ (λ i. list_any (λ x. unsigned_tied id x i) (finmap.keys live)) ∙ parts.1)
+
+  pub few_above : live_above inputs live ≤ length ids
+  few_above =
+      length-le_from_is_member nat_eq_equiv (filter (nat_lt inputs) (finmap.keys live)) ids (distinct_keys (nat_lt inputs) (finmap.entries live) (finmap.entries_sorted live)) key_listed
+
 module _ {S : Type 0} (old : TableState S) (number : ℕ) (state : State) (sound : IsSound old) (added : HasAdded old number) (since : ComesSince old.book.state state) where
   abbrev entries : List (ℕ × Branch)
   entries = finmap.entries old.graph.nodes
@@ -246,17 +259,9 @@ module _ {S : Type 0} (old : TableState S) (number : ℕ) (state : State) (sound
             (in_row (old.book.state.top + 1) (state.top - old.book.state.top) id (omega (arith, came.0)) (omega (arith, came.0, came.1))))
       ]
 
-  key_listed : (id : ℕ) → is_member nat_eq (filter (nat_lt old.inputs) (finmap.keys state.live)) id ≡ true → is_member nat_eq listed id ≡ true
-  key_listed id is =
-      let parts = and_parts (nat_lt old.inputs id) (is_member nat_eq (finmap.keys state.live) id)
-      (sym (any-filter_same (nat_eq id) (nat_lt old.inputs) (nat_lt old.inputs id) (λ k same. ap (nat_lt old.inputs) (sym (eqb-true id k same))) (finmap.keys state.live)) ∙ is) in
-      is_listed id (ltb-true old.inputs id parts.0)
-      (finmap.contains_key-keys state.live id ∙ (λ i. list_any (λ x. unsigned_tied id x i) (finmap.keys state.live)) ∙ parts.1)
-
   pub lean : IsLean (levels old.graph) old.inputs (number + (state.top - old.book.state.top)) state
   lean =
-      let distinct = distinct_keys (nat_lt old.inputs) (finmap.entries state.live) (finmap.entries_sorted state.live) in
-      let less : live_above old.inputs state.live ≤ length listed = length-le_from_is_member nat_eq_equiv (filter (nat_lt old.inputs) (finmap.keys state.live)) listed distinct key_listed in
+      let less = few_above old.inputs state.live listed is_listed in
       let definitions_few : length definitions.ids ≤ 4 * in_use (levels old.graph) state = definitions.few in
       omega (
         arith,

@@ -1,15 +1,15 @@
 // Laws of diagrams, over everything: functions without work, each of which ensures a record of `specs/Laws.antt`. The
 // crates above cite them by a call.
-ghost use Rattle.std.specs.Prelude.{◌≡◌, ◌+◌, ◌-◌, ℕ, ℤ, List, [], length};
+ghost use Rattle.std.specs.Prelude.{◌≡◌, ◌+◌, ◌-◌, ◌<◌, ◌≤◌, ℕ, ℤ, List, [], Contains, IsTrue, is_some, length};
 ghost use Rattle.std.specs.FinMap as map;
 ghost use Rattle.cnf_base.specs.Truth.{AreClausesOf};
-ghost use Rattle.lrat_rules.specs.State.{State, start};
+ghost use Rattle.lrat_rules.specs.State.{State, Live, clause_at, start};
 ghost use Rattle.lrat_rules.specs.Marks.{in_use};
 ghost use Rattle.node_table.specs.Diagram.{Graph, IsOrder, levels};
 ghost use Rattle.node_table.specs.Tied.{IsTied, AreRetired};
 ghost use Rattle.node_table.specs.Table.{TableState, IsSound, live_nodes};
 ghost use Rattle.node_table.specs.Progress.{ComesSince};
-ghost use Rattle.node_table.specs.Lean.{HasAdded, IsLean};
+ghost use Rattle.node_table.specs.Lean.{HasAdded, IsLean, live_above};
 ghost use Rattle.node_table.specs.Laws.{Canonical, Missing, Growth, Kept, Cofactors, Subfunctions, Reachability, StepByStep};
 
 use hint_chain::clause_law;
@@ -73,8 +73,9 @@ pub fn in_use_law()
 {}
 
 /// Of the clauses above the formula's no more are live than four for each extension variable in use, those that were added
-/// beside the definitions of nodes, and those that came since.
+/// beside the definitions of nodes, and those that came since. Where a list has all that are live, there are no more of them.
 pub fn lean_law<S: Sink + Drop>()
-    ensures { (old : TableState S) (number : ℕ) (state : State) → IsSound old → HasAdded old number → ComesSince old.book.state state
+    ensures few { (inputs : ℕ) (live : Live) (ids : List ℕ) → ((id : ℕ) → inputs < id → IsTrue (is_some (clause_at live id)) → Contains ids id) → live_above inputs live ≤ length ids }
+    ensures lean { (old : TableState S) (number : ℕ) (state : State) → IsSound old → HasAdded old number → ComesSince old.book.state state
         → IsLean (levels old.graph) old.inputs (number + (state.top - old.book.state.top)) state }
 {}
