@@ -1,6 +1,6 @@
 // The computed cache: conjunctions that were found before, by their operands. Where it is full, the entry whose use lies
 // the longest ago makes room. (Brace, Rudell, Bryant: Efficient Implementation of a BDD Package, DAC 1990.)
-ghost use Rattle.std.specs.Prelude.{◌≡◌, ◌≤◌, ◌<◌, ℕ, [], List, None, Some, Contains, IsFalse, IfOk, IfSome, MatchOption, OnErr};
+ghost use Rattle.std.specs.Prelude.{◌≡◌, ◌≤◌, ◌<◌, ℕ, [], List, None, Some, Contains, IsFalse, IfOk, IfSome, MatchOption, OnErr, length};
 ghost use Rattle.node_table.specs.Progress.{Steps};
 ghost use Rattle.node_table.specs.Table.{IsSound};
 ghost use Rattle.op_cache.specs.Cache.{last_of};
@@ -45,6 +45,13 @@ impl AndCache {
     {
         let results = Bounded::new(alloc, capacity)?;
         Ok(AndCache { alloc, results })
+    }
+
+    /// For the prover alone: there are no more entries than there may be.
+    pub fn few_law(&self)
+        ensures { length (entries self.now) ≤ most_entries self.now }
+    {
+        let _ = self.results.len();
     }
 
     /// The allocator that it was made with.

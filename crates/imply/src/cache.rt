@@ -1,6 +1,6 @@
 // The computed cache: implications that were found to hold, by their operands, with the number of the clause that justifies
 // each; 0 where none is needed. (Brace, Rudell, Bryant: Efficient Implementation of a BDD Package, DAC 1990.)
-ghost use Rattle.std.specs.Prelude.{◌≡◌, ◌≤◌, ◌<◌, ◌&&◌, ℕ, [], List, None, Some, Contains, IsFalse, IfOk, IfSome, MatchOption, OnErr};
+ghost use Rattle.std.specs.Prelude.{◌≡◌, ◌≤◌, ◌<◌, ◌&&◌, ℕ, [], List, None, Some, Contains, IsFalse, IfOk, IfSome, MatchOption, OnErr, length};
 ghost use Rattle.node_table.specs.Marks.{is_marked};
 ghost use Rattle.node_table.specs.Progress.{Steps};
 ghost use Rattle.node_table.specs.Table.{IsSound};
@@ -35,6 +35,13 @@ impl ImplyCache {
     {
         let results = Bounded::new(alloc, capacity)?;
         Ok(ImplyCache { alloc, results })
+    }
+
+    /// For the prover alone: there are no more entries than there may be.
+    pub fn few_law(&self)
+        ensures { length (entries self.now) ≤ most_entries self.now }
+    {
+        let _ = self.results.len();
     }
 
     /// The allocator that it was made with.

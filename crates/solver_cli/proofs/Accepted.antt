@@ -3,15 +3,15 @@ use Rattle.std.proofs.Common.{◌≡◌, ℕ, false, List, [], refl, sym, ap, �
 use Rattle.std.specs.Prelude.{Result, ◌⊎◌}
 use Rattle.cnf_base.specs.Formula.{Formula}
 use Rattle.host_io.specs.declared.role.Role.TheVariants.{ProofOut, Made, Out}
-use Rattle.schedule_plan.specs.declared.limits.Limits.{Limits}
+use Rattle.lrat_rules.specs.State.{State}
 use Rattle.schedule_plan.specs.declared.plan.Move.{Move}
 use Rattle.term_runner.specs.declared.outcome.Outcome.{Outcome}
 use Rattle.term_runner.specs.declared.outcome.Outcome.TheVariants as outcome
 use Rattle.term_runner.specs.declared.outcome.Run.{Run as Ending}
 use Rattle.term_runner.specs.declared.error.RunError.{RunError}
 use Rattle.term_runner.specs.declared.error.RunError.TheVariants.{WriteFault as Torn}
-use Rattle.term_runner.specs.Price.{priced}
-use Rattle.term_runner.specs.Proofs.{IsProof, IsProofSoFar}
+use Rattle.term_runner.specs.Price.{IsPaidFor}
+use Rattle.term_runner.specs.Proofs.{IsProof, IsProofSoFarOfKind, KeepsWithin}
 use Rattle.command_line.specs.Command.{Command, ToSolve, ToBench, Solve, Bench, command, limits_asked, limits_of}
 use Rattle.solver_cli.specs.declared.status.Status.{Status}
 use Rattle.solver_cli.specs.declared.status.Status.TheVariants.{Done, Help, ReadFault, WriteFault, OutOfMemory}
@@ -136,8 +136,9 @@ uncreated run {problem = problem} posed u =
     }
 
 -- the proof so far, told of the bytes that the run wrote
-pub proof_so_far : (run : Run) (problem : Formula) (limits : Limits) → (run.before ProofOut).written ≡ [] → IsProofSoFar problem limits (run.after ProofOut).written → IsProofSoFar problem limits (written_in run ProofOut)
-proof_so_far run problem limits idle p = subst (λ (bytes : List ℕ). IsProofSoFar problem limits bytes) (sym (whole_of (run.before ProofOut) (run.after ProofOut) idle)) p
+pub so_far_of_kind : (run : Run) (problem : Formula) (kind : State → Type 0) → (run.before ProofOut).written ≡ [] → IsProofSoFarOfKind problem.clauses kind (run.after ProofOut).written
+    → IsProofSoFarOfKind problem.clauses kind (written_in run ProofOut)
+so_far_of_kind run problem kind idle p = subst (λ (bytes : List ℕ). IsProofSoFarOfKind problem.clauses kind bytes) (sym (whole_of (run.before ProofOut) (run.after ProofOut) idle)) p
 
 pub proof_whole : (run : Run) (problem : Formula) → (run.before ProofOut).written ≡ [] → IsProof problem (limits_given run) (run.after ProofOut).written → IsProof problem (limits_given run) (written_in run ProofOut)
 proof_whole run problem idle p = subst (λ (bytes : List ℕ). IsProof problem (limits_given run) bytes) (sym (whole_of (run.before ProofOut) (run.after ProofOut) idle)) p
@@ -161,9 +162,9 @@ undecided run {problem = problem} {order = order} {moves = moves} posed u = both
 
   stands : ProofStands run
   stands = record {
-    so_far = λ t. inr (problem, asks_for run posed t, proof_so_far run problem (limits_given run) u.opens.was_idle.written (writes.so_far t));
+    so_far = λ t. inr (problem, asks_for run posed t, so_far_of_kind run problem (KeepsWithin problem (limits_given run)) u.opens.was_idle.written (writes.so_far t));
     whole = λ unfaulted t. inr (problem, asks_for run posed t, proof_whole run problem u.opens.was_idle.written (writes.whole (λ e. unfaulted (torn e)) t));
-    price = λ t. inr (problem, asks_for run posed t, λ width has. proof_so_far run problem (priced (limits_given run) problem moves width) u.opens.was_idle.written (writes.price width has t));
+    price = λ t. inr (problem, asks_for run posed t, λ width price has paid. so_far_of_kind run problem (IsPaidFor problem (limits_given run) moves width price) u.opens.was_idle.written (writes.price width price has paid t));
   }
 
   core : is_answer run.status ≡ false → Accepts run.status → RefusalsAreDue run → (run.status ≡ WriteFault → OutputFailed run) → (IsUnharmed run → run.status ≡ OutOfMemory) → Core run

@@ -12,7 +12,7 @@ use Rattle.term_runner.specs.declared.outcome.Outcome.TheVariants as outcome
 use Rattle.term_runner.specs.declared.outcome.Run.{Run as Ending}
 use Rattle.term_runner.specs.declared.error.RunError.{RunError}
 use Rattle.term_runner.specs.declared.error.RunError.TheVariants.{WriteFault as Torn}
-use Rattle.term_runner.specs.Price.{IsDecision, priced}
+use Rattle.term_runner.specs.Price.{IsDecision, IsPaidFor}
 use Rattle.term_runner.specs.Proofs.{Refutation, IsProof}
 use Rattle.term_runner.specs.Ends.{Says, Shows}
 use Rattle.term_runner.specs.Recovered.{IsRecovered}
@@ -27,7 +27,7 @@ use Rattle.solver_cli.specs.Stages.{Job, Answered, status_after}
 use Rattle.solver_cli.specs.Headline.{Run, written_in, limits_given, text_for, OutputFailed, AsksFor, AnswerTo, IsRefuted, IsSatisfied, IsUndecided, IsTrueAnswer, ProofStands}
 use Rattle.solver_cli.proofs.Facts.{behind, grown_by, whole_of, no_answer}
 use Rattle.solver_cli.proofs.Promised.{Core, due, no_text, no_verdict}
-use Rattle.solver_cli.proofs.Accepted.{Posed, asks_by, asks_for, decision, same_limits, solve_complete, answer_due, Accepts, accepts_write, accepts_answer, proof_so_far, proof_whole}
+use Rattle.solver_cli.proofs.Accepted.{Posed, asks_by, asks_for, decision, same_limits, solve_complete, answer_due, Accepts, accepts_write, accepts_answer, proof_whole, so_far_of_kind}
 
 is_unsat : (found : Outcome) → status_of found ≡ Unsat → found ≡ outcome.Unsat
 is_unsat (outcome.Sat values) e = cc
@@ -117,7 +117,7 @@ answered run {problem = problem} {order = order} {moves = moves} {job = job} pos
   stands = record {
     so_far = λ t. inr (problem, given t, inl (whole t));
     whole = λ unfaulted t. inr (problem, given t, whole t);
-    price = λ t. inr (problem, given t, λ width has. proof_so_far run problem (priced (limits_given run) problem moves width) a.opens.was_idle.written (writes.price width has t));
+    price = λ t. inr (problem, given t, λ width price has paid. so_far_of_kind run problem (IsPaidFor problem (limits_given run) moves width price) a.opens.was_idle.written (writes.price width price has paid t));
   }
 
   true_answer : IsTrue run.tells → (rest : List ℕ) → text_for run problem found ≡ written_in run Out ++ rest → IsTrueAnswer run (AnswerTo problem found)
@@ -162,7 +162,7 @@ answered run {problem = problem} {order = order} {moves = moves} {job = job} pos
         one_each = recovered.one_each;
         satisfied = recovered.satisfied;
         recovered = recovered;
-        shown = λ t. record { asked = asks_by run posed t; printed = printed_as all (outcome.Sat values) is t };
+        shown = λ t. record { asked = asks_by run posed t; few = shows_as (outcome.Sat values) is t; printed = printed_as all (outcome.Sat values) is t };
       }
 
   undecided : (IsTrue run.tells → written_in run Out ≡ text) → (why : Why) → found ≡ outcome_at why → IsUndecided run why
@@ -172,7 +172,7 @@ answered run {problem = problem} {order = order} {moves = moves} {job = job} pos
     order = order;
     moves = moves;
     needs = says_as (outcome_at why) is;
-    short = λ width has ample. none_decided why (subst IsDecision is (writes.certain width has ample));
+    short = λ width price has paid ample. none_decided why (subst IsDecision is (writes.certain width price has paid ample));
     shown = λ t. record { asked = asks_by run posed t; reached = shows_as (outcome_at why) is t; printed = printed_as all (outcome_at why) is t };
   }
 

@@ -20,8 +20,8 @@ use Rattle.schedule_plan.specs.declared.limits.Limits.{Limits}
 use Rattle.term_runner.specs.declared.outcome.Outcome.{Outcome}
 use Rattle.term_runner.specs.declared.outcome.Outcome.TheVariants as outcome
 use Rattle.term_runner.specs.Clauses.{has_empty_clause, one_line}
-use Rattle.term_runner.specs.Price.{AreAmple, priced}
-use Rattle.term_runner.specs.Proofs.{AreUnsatisfiable, IsProof, IsProofSoFar}
+use Rattle.term_runner.specs.Price.{AreAmple, IsLeanAtEnd, IsMovePrice, IsPaidFor}
+use Rattle.term_runner.specs.Proofs.{AreUnsatisfiable, IsProof, IsProofOfKind, IsProofSoFar, IsProofSoFarOfKind}
 use Rattle.term_runner.specs.Width.{HasWidth}
 use Rattle.term_runner.specs.Ends.{Says, Shows}
 use Rattle.term_runner.specs.Recovered.{IsRecovered}
@@ -167,9 +167,11 @@ UnsatisfiableIsProved run = run.status ≡ Unsat → IsRefuted run
 
 -- Satisfiable: the words give `solve` or `bench`, and these values, one for each variable, satisfy the formula's clauses.
 -- They are recovered: the least that make the plan's last term true, the variables compared in their order, with the
--- quantified ones set back. It is the formula that is asked for, by its order and plan, and the values were printed.
+-- quantified ones set back. It is the formula that is asked for, by its order and plan, and the values were printed. The proof
+-- leaves few clauses live beside those of nodes: as many as two caches have entries, and one.
 pub record IsShownSatisfied (run : Run) (problem : Formula) (order : List ℕ) (moves : List Move) (values : List Bool) : Type 0 where
   pub asked : AsksBy run problem order moves
+  pub few : IsProofOfKind problem.clauses (IsLeanAtEnd problem.vars (length problem.clauses) (limits_given run).cache) (written_in run ProofOut)
   pub printed : written_in run Out ≡ text_for run problem (outcome.Sat values)
 
 pub record IsSatisfied (run : Run) : Type 0 where
@@ -200,7 +202,7 @@ pub record IsUndecided (run : Run) (why : Why) : Type 0 where
   pub order : List ℕ
   pub moves : List Move
   pub needs : Says problem order moves (limits_given run) (outcome_at why)
-  pub short : (width : ℕ) → HasWidth problem order moves width → AreAmple (limits_given run) problem moves width → ⊥
+  pub short : (width price : ℕ) → HasWidth problem order moves width → IsMovePrice problem.vars (limits_given run).cache width price → AreAmple (limits_given run) problem moves width price → ⊥
   pub shown : IsTrue run.tells → IsShownUndecided run why problem order moves
 
 abbrev pub LimitsAreReached : Run → Type 0
@@ -430,12 +432,14 @@ pub record ErrorStands (run : Run) : Type 0 where
 -- The proof: nothing, or exactly the lines of good steps from the clauses of the formula that is asked for, whose deletions
 -- name only live clauses that were added; no number in it is above the formula's and the greatest allowed, and no more
 -- extension variables are in use than nodes are allowed. A front of one more such line may stand behind them only after
--- a failed write. However the run ends, it keeps within what the width of the plan that is asked for needs.
+-- a failed write. However the run ends, it keeps within the price of the plan that is asked for, by its width: numbers, nodes
+-- and live clauses.
 pub record ProofStands (run : Run) : Type 0 where
   pub so_far : IsTrue run.tells → (written_in run ProofOut ≡ []) ⊎ ((problem : Formula) × AsksFor run problem × IsProofSoFar problem (limits_given run) (written_in run ProofOut))
   pub whole : run.status ≢ WriteFault → IsTrue run.tells → (written_in run ProofOut ≡ []) ⊎ ((problem : Formula) × AsksFor run problem × IsProof problem (limits_given run) (written_in run ProofOut))
   pub price : IsTrue run.tells → (written_in run ProofOut ≡ []) ⊎ ((problem : Formula) × (asked : AsksFor run problem)
-      × ((width : ℕ) → HasWidth problem asked.order asked.moves width → IsProofSoFar problem (priced (limits_given run) problem asked.moves width) (written_in run ProofOut)))
+      × ((width price : ℕ) → HasWidth problem asked.order asked.moves width → IsMovePrice problem.vars (limits_given run).cache width price
+      → IsProofSoFarOfKind problem.clauses (IsPaidFor problem (limits_given run) asked.moves width price) (written_in run ProofOut)))
 
 -- a status with which a run ends that creates no file, or before it does
 abbrev pub ends_before_proof : Status → Bool

@@ -29,8 +29,8 @@ use Rattle.command_line.specs.Command.{Planned, ByName, ByFile}
 use Rattle.solver_cli.specs.Answer.{last_identifier, moves_of_plan}
 use Rattle.schedule_plan.specs.declared.limits.Limits.{Limits}
 use Rattle.term_runner.specs.Ends.{Says, Shows}
-use Rattle.term_runner.specs.Price.{AreAmple, IsDecision, priced}
-use Rattle.term_runner.specs.Proofs.{IsProof, IsProofSoFar}
+use Rattle.term_runner.specs.Price.{AreAmple, IsDecision, IsMovePrice, IsPaidFor}
+use Rattle.term_runner.specs.Proofs.{IsProof, IsProofSoFar, IsProofSoFarOfKind}
 use Rattle.term_runner.specs.Width.{HasWidth}
 use Rattle.term_runner.specs.declared.outcome.Run.{Run as Ending}
 use Rattle.term_runner.specs.declared.error.RunError.{RunError}
@@ -151,12 +151,12 @@ pub record OnlyWritten (old new : Channel) : Type 0 where
 -- The greatest identifier is that of the bytes.
 pub record WritesProof (tells : Bool) (old new : Channel) (problem : Formula) (order : List ℕ) (moves : List Move) (limits : Limits) (result : Result Ending RunError) : Type 0 where
   pub says : IfOk result (λ ending. Says problem order moves limits ending.outcome)
-  pub certain : (width : ℕ) → HasWidth problem order moves width → AreAmple limits problem moves width → IfOk result (λ ending. IsDecision ending.outcome)
+  pub certain : (width price : ℕ) → HasWidth problem order moves width → IsMovePrice problem.vars limits.cache width price → AreAmple limits problem moves width price → IfOk result (λ ending. IsDecision ending.outcome)
   pub shows : IsTrue tells → IfOk result (λ ending. Shows problem limits new.written ending.outcome)
   pub last : IsTrue tells → IfOk result (λ ending. ending.last_id ≡ last_identifier problem.clauses new.written)
   pub whole : result ≢ Err Torn → IsTrue tells → IsProof problem limits new.written
   pub so_far : IsTrue tells → IsProofSoFar problem limits new.written
-  pub price : (width : ℕ) → HasWidth problem order moves width → IsTrue tells → IsProofSoFar problem (priced limits problem moves width) new.written
+  pub price : (width price : ℕ) → HasWidth problem order moves width → IsMovePrice problem.vars limits.cache width price → IsTrue tells → IsProofSoFarOfKind problem.clauses (IsPaidFor problem limits moves width price) new.written
   pub flushed : IsOk result → IsTrue tells → new.flushed ≡ length new.written
   pub fault : result ≡ Err Torn → Rose old.faults new.faults
   pub unfailed : result ≢ Err Torn → new.faults ≡ old.faults

@@ -17,8 +17,8 @@ use Rattle.term_runner.specs.declared.outcome.Outcome.{Outcome}
 use Rattle.term_runner.specs.declared.outcome.Outcome.TheVariants.{Unsat, Sat, NodeLimit, IdLimit}
 use Rattle.term_runner.specs.declared.outcome.Run.{Run}
 use Rattle.term_runner.specs.Clauses.{is_tautology}
-use Rattle.term_runner.specs.Price.{AreAmple, IsDecision, IsMovePrice, priced}
-use Rattle.term_runner.specs.Proofs.{IsProof, LeadsTo}
+use Rattle.term_runner.specs.Price.{AreAmple, IsDecision, IsMovePrice, IsPaidFor}
+use Rattle.term_runner.specs.Proofs.{IsProof, IsProofOfKind, LeadsTo}
 use Rattle.term_runner.specs.Width.{HasWidth}
 use Rattle.term_runner.specs.Ends.{Ends, Says, Shows, outcome_of}
 use Rattle.term_runner.specs.Opened.{IsFlushed, Leads}
@@ -56,7 +56,7 @@ module _ (tells : Bool) (before mid after : Channel) (formula : Formula) (order 
     pub certain : (width price : ℕ) → HasWidth formula order moves width → IsMovePrice formula.vars limits.cache width price → AreAmple limits formula moves width price → IsDecision run.outcome
     pub shows : IsTrue tells → Shows formula limits mid.written run.outcome
     pub last : IsTrue tells → LeadsTo formula limits mid.written run.last_id
-    pub price : (width price : ℕ) → HasWidth formula order moves width → IsMovePrice formula.vars limits.cache width price → IsTrue tells → IsProof formula (priced limits formula moves width price) mid.written
+    pub price : (width price : ℕ) → HasWidth formula order moves width → IsMovePrice formula.vars limits.cache width price → IsTrue tells → IsProofOfKind formula.clauses (IsPaidFor formula limits moves width price) mid.written
     pub tautologies : IsTrue (list_all is_tautology formula.clauses) → mid.written ≡ before.written
     pub name : mid.name ≡ before.name
     pub unfailed : mid.faults ≡ before.faults
@@ -70,7 +70,7 @@ module _ (tells : Bool) (before mid after : Channel) (formula : Formula) (order 
     last = λ t. subst (λ (b : List ℕ). LeadsTo formula limits b run.last_id) (sym written) (shown.last t);
     whole = λ _ t. subst (λ (b : List ℕ). IsProof formula limits b) (sym written) (shown.last t).proof;
     so_far = λ t. inl (subst (λ (b : List ℕ). IsProof formula limits b) (sym written) (shown.last t).proof);
-    price = λ width price has paid t. inl (subst (λ (b : List ℕ). IsProof formula (priced limits formula moves width price) b) (sym written) (shown.price width price has paid t));
+    price = λ width price has paid t. inl (subst (λ (b : List ℕ). IsProofOfKind formula.clauses (IsPaidFor formula limits moves width price) b) (sym written) (shown.price width price has paid t));
     flushed = λ _ t. flushed t;
     fault = λ e. cc;
     unfailed = λ _. unfailed ∙ shown.unfailed;
@@ -88,7 +88,7 @@ module _ (tells : Bool) (before mid after : Channel) (formula : Formula) (order 
     last = λ t. tt;
     whole = λ no t. absurd (no refl);
     so_far = λ t. inl (subst (λ (b : List ℕ). IsProof formula limits b) (sym written) (shown.last t).proof);
-    price = λ width price has paid t. inl (subst (λ (b : List ℕ). IsProof formula (priced limits formula moves width price) b) (sym written) (shown.price width price has paid t));
+    price = λ width price has paid t. inl (subst (λ (b : List ℕ). IsProofOfKind formula.clauses (IsPaidFor formula limits moves width price) b) (sym written) (shown.price width price has paid t));
     flushed = λ ok t. absurd (let e : false ≡ true = ok in cc);
     fault = λ e. omega (arith, rose, shown.unfailed);
     unfailed = λ no. absurd (no refl);
@@ -107,9 +107,9 @@ module _ (tells : Bool) (before mid after : Channel) (formula : Formula) (order 
     proof_of : (found : Result Outcome RunError) → Leads tells before mid formula order moves limits book found → found ≢ Err WriteFault → IsTrue tells → IsProof formula limits mid.written
     proof_of found leads whole t = record { state = book.state; written = written_of formula.clauses tells mid book.state (leads.proof whole) t; within = leads.within whole }
 
-    priced_of : (found : Result Outcome RunError) → Leads tells before mid formula order moves limits book found → found ≢ Err WriteFault → (width price : ℕ) → HasWidth formula order moves width → IsMovePrice formula.vars limits.cache width price → IsTrue tells → IsProof formula (priced limits formula moves width price) mid.written
+    priced_of : (found : Result Outcome RunError) → Leads tells before mid formula order moves limits book found → found ≢ Err WriteFault → (width price : ℕ) → HasWidth formula order moves width → IsMovePrice formula.vars limits.cache width price → IsTrue tells → IsProofOfKind formula.clauses (IsPaidFor formula limits moves width price) mid.written
     priced_of found leads whole width price has paid t =
-        record { state = book.state; written = written_of formula.clauses tells mid book.state (leads.proof whole) t; within = leads.within_price width price has paid whole }
+        record { state = book.state; written = written_of formula.clauses tells mid book.state (leads.proof whole) t; within = leads.paid width price has paid whole }
 
     pub outcome_shown : (outcome : Outcome) (last : ℕ) → Leads tells before mid formula order moves limits book (Ok outcome) → last ≡ book.state.top → Shown (record { outcome = outcome; last_id = last })
     unfolding proof_of
@@ -148,7 +148,7 @@ module _ (tells : Bool) (before mid after : Channel) (formula : Formula) (order 
       last = λ t. tt;
       whole = λ no t. absurd (no refl);
       so_far = λ t. inr (leads.broken refl t);
-      price = λ width price has paid t. inr (leads.broken_price width price has paid refl t);
+      price = λ width price has paid t. inr (leads.broken_paid width price has paid refl t);
       flushed = λ ok t. absurd (let e : false ≡ true = ok in cc);
       fault = λ e. leads.fault refl;
       unfailed = λ no. absurd (no refl);
@@ -158,16 +158,17 @@ module _ (tells : Bool) (before mid after : Channel) (formula : Formula) (order 
     }
 
 -- the end where memory ran out before the moves
-pub nothing_ends : (tells : Bool) (before after : Channel) (formula : Formula) (order : List ℕ) (moves : List Move) (limits : Limits) → ((within : Limits) → IsTrue tells → IsProof formula within after.written)
+pub nothing_ends : (tells : Bool) (before after : Channel) (formula : Formula) (order : List ℕ) (moves : List Move) (limits : Limits) → (IsTrue tells → IsProof formula limits after.written)
+    → ((width price : ℕ) → IsTrue tells → IsProofOfKind formula.clauses (IsPaidFor formula limits moves width price) after.written)
     → after.written ≡ before.written → after.name ≡ before.name → after.faults ≡ before.faults → Ends tells before after formula order moves limits (Err OutOfMemory)
-nothing_ends tells before after formula order moves limits whole written name unfailed = record {
+nothing_ends tells before after formula order moves limits whole within_price written name unfailed = record {
   says = tt;
   certain = λ width price has paid ample. tt;
   shows = λ t. tt;
   last = λ t. tt;
-  whole = λ _ t. whole limits t;
-  so_far = λ t. inl (whole limits t);
-  price = λ width price has paid t. inl (whole (priced limits formula moves width price) t);
+  whole = λ _ t. whole t;
+  so_far = λ t. inl (whole t);
+  price = λ width price has paid t. inl (within_price width price t);
   flushed = λ ok t. absurd (let e : false ≡ true = ok in cc);
   fault = λ e. cc;
   unfailed = λ _. unfailed;

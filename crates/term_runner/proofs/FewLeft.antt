@@ -49,7 +49,7 @@ behind : {X : Type 0} (x : X) (xs : List X) (y : X) → Contains xs y → Contai
 behind x xs y there = (suc there.0, omega (arith, there.1), there.2)
 
 -- the first, or one behind it
-first_or : {X : Type 0} (x : X) (xs : List X) (y : X) → Contains (x ∷ xs) y → (x ≡ y) ⊎ Contains xs y
+pub first_or : {X : Type 0} (x : X) (xs : List X) (y : X) → Contains (x ∷ xs) y → (x ≡ y) ⊎ Contains xs y
 first_or x xs y (zero, small, at) = inl at
 first_or x xs y (suc k, small, at) = inr (k, omega (arith, small), at)
 

@@ -30,5 +30,7 @@ pub mod InHand
 pub mod FewLeft
 pub mod ReachedList
 pub mod Pairs
+pub mod Few
+pub mod Paid
 pub mod Priced
 pub mod WidthExamples

@@ -1,20 +1,22 @@
 -- The line that refutes a formula with an empty clause.
-use Rattle.std.proofs.Common.{◌≡◌, ◌≢◌, ℕ, zero, suc, ◌+◌, ◌^◌, ◌<◌, ◌≤◌, ◌++◌, Bool, true, false, List, ℤ, [], ◌∷◌, length, Option, None, Some, Result, Ok, Err, refl, sym, ap, ◌∙◌, subst, arith, inl, inr}
+use Rattle.std.proofs.Common.{◌≡◌, ◌≢◌, ℕ, zero, suc, ◌+◌, ◌*◌, ◌^◌, ◌<◌, ◌≤◌, ◌++◌, Bool, true, false, List, ℤ, [], ◌∷◌, length, Option, None, Some, Contains, is_some, Result, Ok, Err, refl, sym, ap, ◌∙◌, subst, arith, inl, inr}
 use Rattle.std.specs.Prelude.{◌↔◌, IsTrue, IsOk, IfOk, IfErr, nat_lt, nat_le, ◌&&◌}
 use Rattle.std.specs.List.{list_all}
 use Rattle.std.proofs.Math.Nat.{one-le-mul, two-pow-succ}
 use Rattle.std.proofs.lemmas.Bool.{and_from, cases_lt, lt-ltb, le-leb}
+use Rattle.std.proofs.lemmas.List.{length-append}
 use Rattle.std.proofs.lemmas.List.Folds.{list_all-append}
 use Rattle.cnf_base.specs.Truth.{AreClausesOf, is_literal_of}
 use Rattle.cnf_base.specs.Formula.{Formula}
 use Rattle.cnf_base.specs.declared.step.Step.TheVariants.{Add}
 use Rattle.cnf_base.specs.ProofText.{is_id, is_printable, max_id}
 use Rattle.host_io.specs.Channel.{Channel, Rose}
-use Rattle.lrat_rules.specs.State.{State, start, with_clause}
+use Rattle.lrat_rules.specs.State.{State, Live, clause_at, start, with_clause}
 use Rattle.lrat_rules.specs.Derivation.{IsCutProof}
 use Rattle.lrat_rules.specs.Marks.{in_use}
 use Rattle.lrat_rules.specs.Run.{Refutes}
 use Rattle.clause_ledger.specs.Book.{Book, IsProofOf, OnlyWrites, next_line, with_next}
+use Rattle.node_table.specs.Lean.{IsLean, live_above}
 use Rattle.node_table.specs.declared.error.TableError.{TableError}
 use Rattle.node_table.specs.declared.error.TableError.TheVariants as table
 use Rattle.schedule_plan.specs.declared.plan.Move.{Move}
@@ -22,8 +24,8 @@ use Rattle.schedule_plan.specs.declared.limits.Limits.{Limits}
 use Rattle.schedule_plan.specs.Plan.{IsAdmissible, Stage, is_pushed, no_stage}
 use Rattle.term_runner.specs.declared.error.RunError.TheVariants.{WriteFault}
 use Rattle.term_runner.specs.Clauses.{is_tautology, has_empty_clause, first_empty}
-use Rattle.term_runner.specs.Price.{IsDecision, IsMovePrice, most_ids, priced}
-use Rattle.term_runner.specs.Proofs.{IsBroken, KeepsWithin}
+use Rattle.term_runner.specs.Price.{IsDecision, IsMovePrice, IsPaidFor, most_ids, most_nodes}
+use Rattle.term_runner.specs.Proofs.{IsBrokenOfKind, KeepsWithin}
 use Rattle.term_runner.specs.Ends.{Says, Shows, outcome_of}
 use Rattle.term_runner.specs.Opened.{IsOpened, Leads}
 use Rattle.term_runner.proofs.Ending.{by_outcome, torn_of, whole_of, written_of}
@@ -67,6 +69,43 @@ next_within unused appended formula limits literals room =
     record {
       numbers = omega (arith, room);
       nodes = subst (λ (s : State). in_use formula.vars s ≤ limits.max_nodes) (appended formula.clauses []) (omega (arith, none));
+    }
+
+abbrev pub NoneAbove : Type 0
+NoneAbove = (clauses : List (List ℤ)) (id : ℕ) → length clauses < id → clause_at (start clauses).live id ≡ None
+
+abbrev pub FewLive : Type 0
+FewLive = (inputs : ℕ) (live : Live) (ids : List ℕ) → ((id : ℕ) → inputs < id → is_some (clause_at live id) ≡ true → Contains ids id) → live_above inputs live ≤ length ids
+
+none_live : {o : Option (List ℤ)} → o ≡ None → is_some o ≡ true → ⊥
+none_live none is = let e : false ≡ true = sym (ap is_some none) ∙ is in cc
+
+-- at the start all is within any price
+pub start_paid : Unused → NoneAbove → FewLive → (formula : Formula) (limits : Limits) (moves : List Move) (width price : ℕ) → AreClausesOf formula.vars formula.clauses → IsPaidFor formula limits moves width price (start formula.clauses)
+start_paid unused none_above few formula limits moves width price literals = record {
+  within = record { numbers = omega arith; nodes = omega (arith, unused formula.vars formula.clauses literals) };
+  lean = let none = few (length formula.clauses) (start formula.clauses).live [] (λ id above is. absurd (none_live (none_above formula.clauses id above) is)) in omega (arith, none);
+}
+
+-- and with the empty clause under the next number, where the price is that of some moves
+next_paid : Unused → Appended → NoneAbove → FewLive → (formula : Formula) (limits : Limits) (moves : List Move) (width price : ℕ) → AreClausesOf formula.vars formula.clauses → 0 < price
+    → length formula.clauses < most_ids formula moves price → IsPaidFor formula limits moves width price (with_next (start formula.clauses) [])
+next_paid unused appended none_above few formula limits moves width price literals some room =
+    let clauses = formula.clauses ++ [] ∷ [] in
+    let more : AreClausesOf formula.vars clauses =
+    list_all-append (list_all (is_literal_of formula.vars)) formula.clauses ([] ∷ []) ∙ and_from (list_all (list_all (is_literal_of formula.vars)) formula.clauses) true literals refl in
+    let none = unused formula.vars clauses more in
+    let one = few (length formula.clauses) (start clauses).live ((length formula.clauses + 1) ∷ [])
+    (λ id above is. elim (cases_lt (length clauses) id) [
+      | inl large ↦ absurd (none_live (none_above clauses id large) is)
+      | inr small ↦ (zero, omega arith, omega (arith, above, small, length-append formula.clauses ([] ∷ [])))
+    ]) in
+    record {
+      within = record {
+        numbers = omega (arith, room);
+        nodes = subst (λ (s : State). in_use formula.vars s ≤ most_nodes width) (appended formula.clauses []) (omega (arith, none));
+      };
+      lean = subst (λ (s : State). IsLean formula.vars (length formula.clauses) (2 * limits.cache + length formula.clauses + price) s) (appended formula.clauses []) (omega (arith, one, some));
     }
 
 one_power : (n : ℕ) → 0 < 2 ^ n
@@ -117,7 +156,7 @@ pub record Added {S : Type 0} (tells : Bool) (before after : Channel) (hint : �
   pub refused : IfErr result (λ e. e ≢ table.WriteFault → new.state ≡ old.state)
   pub only_writes : OnlyWrites before after
 
-module _ {S : Type 0} (unused : Unused) (appended : Appended) (tells : Bool) (before after : Channel) (hint : ℕ) (old new : Book S) (result : Result (Option (List Bool)) TableError)
+module _ {S : Type 0} (unused : Unused) (appended : Appended) (none_above : NoneAbove) (few_live : FewLive) (tells : Bool) (before after : Channel) (hint : ℕ) (old new : Book S) (result : Result (Option (List Bool)) TableError)
     (added : Added tells before after hint old new result) (formula : Formula) (order : List ℕ) (moves : List Move) (limits : Limits) (opened : IsOpened tells before formula limits.max_ids old)
     (first : hint ≡ first_empty formula.clauses) (has : IsTrue (has_empty_clause formula.clauses)) (some : 0 < length moves) where
   top_at_start : old.state.top ≡ length formula.clauses
@@ -146,6 +185,22 @@ module _ {S : Type 0} (unused : Unused) (appended : Appended) (tells : Bool) (be
   within_of within (Ok found) room whole ok refused = more_within within (room (λ e. let wrong : ◌≡◌ {A = Result (Option (List Bool)) TableError} (Ok found) (Err table.IdLimit) = e in cc)) ok.1
   within_of within (Err e) room whole ok refused = same_within within (refused (λ torn. whole (ap Err torn)))
 
+  at_start_within : (within : Limits) → KeepsWithin formula within old.state
+  at_start_within within = subst (λ (s : State). KeepsWithin formula within s) (sym opened.state) (start_within unused formula within opened.literals)
+
+  at_start_paid : (width price : ℕ) → IsPaidFor formula limits moves width price old.state
+  at_start_paid width price = subst (IsPaidFor formula limits moves width price) (sym opened.state) (start_paid unused none_above few_live formula limits moves width price opened.literals)
+
+  more_paid : (width price : ℕ) → IsMovePrice formula.vars limits.cache width price → new.state ≡ with_next old.state [] → IsPaidFor formula limits moves width price new.state
+  more_paid width price paid is =
+      subst (IsPaidFor formula limits moves width price) (sym (is ∙ (λ k. with_next (opened.state k) [])))
+      (next_paid unused appended none_above few_live formula limits moves width price opened.literals (some_price formula.vars limits.cache width price paid) (room_by_price width price paid))
+
+  paid_of : (width price : ℕ) → IsMovePrice formula.vars limits.cache width price → (r : Result (Option (List Bool)) TableError) → r ≢ Err table.WriteFault
+      → IfOk r (λ found. (found ≡ None) × (new.state ≡ with_next old.state [])) → IfErr r (λ e. e ≢ table.WriteFault → new.state ≡ old.state) → IsPaidFor formula limits moves width price new.state
+  paid_of width price paid (Ok found) whole ok refused = more_paid width price paid ok.1
+  paid_of width price paid (Err e) whole ok refused = subst (IsPaidFor formula limits moves width price) (sym (refused (λ torn. whole (ap Err torn)))) (at_start_paid width price)
+
   none_found : (values : List Bool) → result ≡ Ok (Some values) → ⊥
   none_found values is = refuted (subst (λ (r : Result (Option (List Bool)) TableError). IfOk r (λ found. (found ≡ None) × (new.state ≡ with_next old.state []))) is added.found).0
     where
@@ -164,9 +219,9 @@ module _ {S : Type 0} (unused : Unused) (appended : Appended) (tells : Bool) (be
     in_step = λ whole. added.in_step (whole_of result whole);
     proof = λ whole. added.kept formula.clauses opened.proof (whole_of result whole);
     within = λ whole. within_of limits result room_of (whole_of result whole) added.found added.refused;
-    within_price = λ width price has paid whole. within_of (priced limits formula moves width price) result (λ _. room_by_price width price paid) (whole_of result whole) added.found added.refused;
-    broken = λ is t. broken_within limits is t (room_of (λ e. two_causes (sym (torn_of result is) ∙ e)));
-    broken_price = λ width price has paid is t. broken_within (priced limits formula moves width price) is t (room_by_price width price paid);
+    paid = λ width price has paid whole. paid_of width price paid result (whole_of result whole) added.found added.refused;
+    broken = λ is t. broken_of_kind (KeepsWithin formula limits) is t (at_start_within limits) (more_within limits (room_of (λ e. two_causes (sym (torn_of result is) ∙ e))) (added.fault_state (torn_of result is)));
+    broken_paid = λ width price has paid is t. broken_of_kind (IsPaidFor formula limits moves width price) is t (at_start_paid width price) (more_paid width price paid (added.fault_state (torn_of result is)));
     certain = λ width price has_width paid ample.
         by_outcome IsDecision result (λ _. tt) (λ values is. tt) (λ is. absurd (added.no_node_limit is))
         (λ is.
@@ -180,7 +235,7 @@ module _ {S : Type 0} (unused : Unused) (appended : Appended) (tells : Bool) (be
           refutes = added.refutes formula.clauses opened.proof t (ok_of result None is);
           at_once = λ _. added.line t (ok_of result None is) ∙ (λ k. opened.fresh t k ++ next_line (opened.state k) [] (first k ∷ []));
         })
-        (λ values is. tt) (λ is. absurd (added.no_node_limit is))
+        (λ values is. absurd (none_found values is)) (λ is. absurd (added.no_node_limit is))
         (λ is.
         let limit = added.id_limit.0 is in
         let proof = added.kept formula.clauses opened.proof (λ e. two_causes (sym e ∙ is)) in
@@ -202,13 +257,11 @@ module _ {S : Type 0} (unused : Unused) (appended : Appended) (tells : Bool) (be
       two_causes : ◌≡◌ {A = Result (Option (List Bool)) TableError} (Err table.WriteFault) (Err table.IdLimit) → ⊥
       two_causes e = cc
 
-      broken_within : (within : Limits) → outcome_of result ≡ Err WriteFault → IsTrue tells → length formula.clauses < within.max_ids → IsBroken formula within after.written
-      broken_within within is t room =
-          let torn = torn_of result is in
-          record {
-            before = old.state;
-            after = new.state;
-            cut = added.cut formula.clauses opened.proof t torn;
-            within_before = subst (λ (s : State). KeepsWithin formula within s) (sym opened.state) (start_within unused formula within opened.literals);
-            within_after = more_within within room (added.fault_state torn);
-          }
+      broken_of_kind : (kind : State → Type 0) → outcome_of result ≡ Err WriteFault → IsTrue tells → kind old.state → kind new.state → IsBrokenOfKind formula.clauses kind after.written
+      broken_of_kind kind is t before_is after_is = record {
+        before = old.state;
+        after = new.state;
+        cut = added.cut formula.clauses opened.proof t (torn_of result is);
+        within_before = before_is;
+        within_after = after_is;
+      }

@@ -1,6 +1,6 @@
 -- From an opened ledger to the end of the moves.
 use Rattle.std.proofs.Common.{◌≡◌, ◌≢◌, ℕ, zero, suc, ◌+◌, ◌*◌, ◌<◌, ◌≤◌, ◌⊎◌, Bool, true, false, ℤ, List, [], length, Option, None, Some, Result, Ok, Err, refl, sym, ap, ◌∙◌, subst, arith, inl, inr}
-use Rattle.std.specs.Prelude.{IsTrue, IsFalse, IfOk, MatchOption, slice_index_or}
+use Rattle.std.specs.Prelude.{IsTrue, IsFalse, IsSome, IfOk, MatchOption, slice_index_or}
 use Rattle.std.specs.List.{list_all, list_any}
 use Rattle.std.specs.FinMap as map
 use Rattle.std.proofs.lemmas.Bool.{cases_lt}
@@ -25,27 +25,24 @@ use Rattle.cnf_base.specs.Order.{IsOrder}
 use Rattle.schedule_plan.specs.declared.plan.Move.{Move}
 use Rattle.schedule_plan.specs.declared.limits.Limits.{Limits}
 use Rattle.term_runner.specs.Clauses.{is_tautology, has_empty_clause}
-use Rattle.term_runner.specs.Proofs.{IsProof, KeepsWithin}
+use Rattle.term_runner.specs.Proofs.{IsBrokenOfKind, IsProofOfKind, KeepsWithin}
 use Rattle.term_runner.specs.Recovered.{IsRecovered}
 use Rattle.term_runner.specs.Ends.{Says, Shows, outcome_of}
 use Rattle.term_runner.specs.Held.{IsReady}
-use Rattle.term_runner.specs.Price.{IsDecision, IsMovePrice, most_ids, most_nodes}
+use Rattle.term_runner.specs.Price.{IsDecision, IsLeanAtEnd, IsMovePrice, IsPaid, IsPaidFor, most_ids}
 use Rattle.term_runner.specs.Width.{HasWidth}
 use Rattle.term_runner.specs.Nodes.{RunsShort}
-use Rattle.term_runner.specs.Opened.{IsOpened, Leads}
+use Rattle.term_runner.specs.Opened.{IsOpened, Leads, LeavesKind}
 use Rattle.term_runner.proofs.Parts.{is_wider, wider_less}
 use Rattle.term_runner.proofs.Leaving.{went_on}
 use Rattle.term_runner.proofs.Ending.{by_outcome, torn_of, whole_of, written_of}
-use Rattle.term_runner.proofs.OneLine.{Unused, start_within}
+use Rattle.term_runner.proofs.OneLine.{NoneAbove}
 
 abbrev pub StartClauses : Type 0
 StartClauses = (clauses : List (List ℤ)) (i : ℕ) → i < length clauses → clause_at (start clauses).live (i + 1) ≡ Some (slice_index_or clauses i [])
 
 abbrev pub NoneAtZero : Type 0
 NoneAtZero = (clauses : List (List ℤ)) → clause_at (start clauses).live 0 ≡ None
-
-abbrev pub NoneAbove : Type 0
-NoneAbove = (clauses : List (List ℤ)) (id : ℕ) → length clauses < id → clause_at (start clauses).live id ≡ None
 
 some_is_some : (clause : List ℤ) → None ≡ Some clause → ⊥
 some_is_some clause e = cc
@@ -70,10 +67,10 @@ proof_at_start there zero_law above none clauses tells channel fresh = record {
 }
 
 -- nothing was written yet
-pub whole_at_start : Unused → (formula : Formula) (limits : Limits) → AreClausesOf formula.vars formula.clauses → (tells : Bool) (channel : Channel) → IsProofOf formula.clauses tells channel (start formula.clauses) → IsTrue tells
-    → IsProof formula limits channel.written
-whole_at_start unused formula limits literals tells channel proof t =
-    record { state = start formula.clauses; written = written_of formula.clauses tells channel (start formula.clauses) proof t; within = start_within unused formula limits literals }
+pub whole_at_start : (formula : Formula) (kind : State → Type 0) → kind (start formula.clauses) → (tells : Bool) (channel : Channel) → IsProofOf formula.clauses tells channel (start formula.clauses) → IsTrue tells
+    → IsProofOfKind formula.clauses kind channel.written
+whole_at_start formula kind is tells channel proof t =
+    record { state = start formula.clauses; written = written_of formula.clauses tells channel (start formula.clauses) proof t; within = is }
 
 pub opened_at : {S : Type 0} (tells : Bool) (channel : Channel) (formula : Formula) (max_ids : ℕ) (book : Book S) → AreClausesOf formula.vars formula.clauses → book.state ≡ start formula.clauses → book.limit ≡ max_ids → IsTrue book.in_step
     → IsProofOf formula.clauses tells channel (start formula.clauses) → (IsTrue tells → channel.written ≡ []) → IsOpened tells channel formula max_ids book
@@ -117,15 +114,16 @@ abbrev pub IsDecided : Formula → List ℕ → List Move → Live → Option (L
 IsDecided formula order moves live found = MatchOption found ((id : ℕ) × (clause_at live id ≡ Some [])) (λ model. IsRecovered formula order moves model)
 
 -- what the decision told
-pub record Decided {S : Type 0} (tells : Bool) (before after : Channel) (formula : Formula) (order : List ℕ) (moves : List Move) (old new : TableState S) (result : Result (Option (List Bool)) TableError) : Type 0 where
+pub record Decided {S : Type 0} (tells : Bool) (before after : Channel) (formula : Formula) (order : List ℕ) (moves : List Move) (size : ℕ) (old new : TableState S) (result : Result (Option (List Bool)) TableError) : Type 0 where
   pub found : IfOk result (IsDecided formula order moves new.book.state.live)
   pub leaves : Leaves tells before after old new (error_of result)
   pub tautologies : IsTrue (list_all is_tautology formula.clauses) → after.written ≡ before.written
   pub open_clause : (result ≡ Err NodeLimit) ⊎ (result ≡ Err IdLimit) → IsFalse (list_all is_tautology formula.clauses)
   pub short : result ≡ Err NodeLimit → RunsShort formula order moves new.graph
-  pub price : (width price : ℕ) → HasWidth formula order moves width → IsMovePrice (levels old.graph) limits.cache width price → new.book.state.top ≤ old.book.state.top + length moves * price
+  pub paid : (width price : ℕ) → HasWidth formula order moves width → IsMovePrice (levels old.graph) size width price
+      → LeavesKind tells before after old new (IsPaid (levels old.graph) old.inputs (length moves) size width price) (error_of result)
+  pub lean : IfOk result (λ found. IsSome found → IsLeanAtEnd (levels old.graph) old.inputs size new.book.state)
   pub few : live_nodes new.graph ≤ new.max_nodes
-  pub nodes : (width : ℕ) → HasWidth formula order moves width → live_nodes new.graph ≤ most_nodes width
 
 either : (result : Result (Option (List Bool)) TableError) (X : Type 0) → (result ≢ Err WriteFault → X) → (result ≡ Err WriteFault → X) → X
 either (Ok found) X whole torn = whole (λ e. cc)
@@ -133,6 +131,15 @@ either (Err NodeLimit) X whole torn = whole (λ e. cc)
 either (Err IdLimit) X whole torn = whole (λ e. cc)
 either (Err OutOfMemory) X whole torn = whole (λ e. cc)
 either (Err WriteFault) X whole torn = torn refl
+
+-- a call in step left a state of the kind
+kind_of_whole : {S : Type 0} (tells : Bool) (before after : Channel) (old new : TableState S) (kind : State → Type 0) (result : Result (Option (List Bool)) TableError) → result ≢ Err WriteFault
+    → LeavesKind tells before after old new kind (error_of result) → kind new.book.state
+kind_of_whole tells before after old new kind (Ok found) whole is = is
+kind_of_whole tells before after old new kind (Err NodeLimit) whole is = is
+kind_of_whole tells before after old new kind (Err IdLimit) whole is = is
+kind_of_whole tells before after old new kind (Err OutOfMemory) whole is = is
+kind_of_whole tells before after old new kind (Err WriteFault) whole is = absurd (whole refl)
 
 abbrev pub DerivedEmpty : Type 0
 DerivedEmpty = (vars : ℕ) (clauses : List (List ℤ)) (steps : List Step) (state : State) (id : ℕ) → AreClausesOf vars clauses → IsDerivation clauses steps state
@@ -144,7 +151,7 @@ WrittenEmpty = (clauses : List (List ℤ)) (bytes : List ℕ) (state : State) (i
 module _ {S : Type 0} (canonical : Canonical) (unsatisfied : DerivedEmpty) (refutes : WrittenEmpty) (uses : (graph : Graph) (state : State) → IsTied graph state → in_use (levels graph) state ≡ live_nodes graph)
     (tells : Bool) (before after : Channel) (formula : Formula) (order : List ℕ) (moves : List Move) (limits : Limits) (old new : TableState S) (result : Result (Option (List Bool)) TableError)
     (opened : IsOpened tells before formula limits.max_ids old.book) (ready : IsReady formula old []) (inputs : old.inputs ≡ old.book.state.top) (few_nodes : old.max_nodes ≡ limits.max_nodes)
-    (decided : Decided tells before after formula order moves old new result) where
+    (decided : Decided tells before after formula order moves limits.cache old new result) where
   has_none : (has : IsTrue (has_empty_clause formula.clauses)) → ⊥
   has_none has = let e : true ≡ false = sym has ∙ ready.none_empty in cc
 
@@ -191,11 +198,37 @@ module _ {S : Type 0} (canonical : Canonical) (unsatisfied : DerivedEmpty) (refu
     nodes = nodes_within limits.max_nodes (omega (arith, few, few_nodes)) state is;
   }
 
-  -- the last number, by the plan's width
-  by_price : (width price : ℕ) → HasWidth formula order moves width → IsMovePrice formula.vars limits.cache width price → new.book.state.top ≤ most_ids formula moves price
-  by_price width price has is =
-      let own = decided.price width price has (subst (λ (vars : ℕ). IsMovePrice vars limits.cache width price) (sym ready.vars) is) in
-      omega (arith, own, top_at_start)
+  -- the clauses of the formula are the table's inputs, and its variables the levels
+  same_inputs : old.inputs ≡ length formula.clauses
+  same_inputs = inputs ∙ top_at_start
+
+  own_price : (width price : ℕ) → HasWidth formula order moves width → IsMovePrice formula.vars limits.cache width price
+      → LeavesKind tells before after old new (IsPaid (levels old.graph) old.inputs (length moves) limits.cache width price) (error_of result)
+  own_price width price has is = decided.paid width price has (subst (λ (vars : ℕ). IsMovePrice vars limits.cache width price) (sym ready.vars) is)
+
+  as_paid : (width price : ℕ) (state : State) → IsPaid (levels old.graph) old.inputs (length moves) limits.cache width price state → IsPaidFor formula limits moves width price state
+  as_paid width price state paid =
+      subst (λ (vars : ℕ). IsPaid vars (length formula.clauses) (length moves) limits.cache width price state) ready.vars
+      (subst (λ (count : ℕ). IsPaid (levels old.graph) count (length moves) limits.cache width price state) same_inputs paid)
+
+  paid : (width price : ℕ) → HasWidth formula order moves width → IsMovePrice formula.vars limits.cache width price → result ≢ Err WriteFault → IsPaidFor formula limits moves width price new.book.state
+  paid width price has is whole =
+      as_paid width price new.book.state (kind_of_whole tells before after old new (IsPaid (levels old.graph) old.inputs (length moves) limits.cache width price) result whole (own_price width price has is))
+
+  broken_paid : (width price : ℕ) → HasWidth formula order moves width → IsMovePrice formula.vars limits.cache width price → result ≡ Err WriteFault → IsTrue tells
+      → IsBrokenOfKind formula.clauses (IsPaidFor formula limits moves width price) after.written
+  broken_paid width price has is torn_is t =
+      let kind = IsPaid (levels old.graph) old.inputs (length moves) limits.cache width price in
+      let own = subst (λ (r : Result (Option (List Bool)) TableError). LeavesKind tells before after old new kind (error_of r)) torn_is (own_price width price has is) in
+      let cut = own formula.clauses all_inputs opened.proof t in
+      record { before = cut.before; after = cut.after; cut = cut.cut; within_before = as_paid width price cut.before cut.within_before; within_after = as_paid width price cut.after cut.within_after }
+
+  -- with a model few clauses are left
+  lean : (values : List Bool) → result ≡ Ok (Some values) → IsLeanAtEnd formula.vars (length formula.clauses) limits.cache new.book.state
+  lean values is =
+      let own = subst (λ (r : Result (Option (List Bool)) TableError). IfOk r (λ found. IsSome found → IsLeanAtEnd (levels old.graph) old.inputs limits.cache new.book.state)) is decided.lean refl in
+      subst (λ (vars : ℕ). IsLeanAtEnd vars (length formula.clauses) limits.cache new.book.state) ready.vars
+      (subst (λ (count : ℕ). IsLeanAtEnd (levels old.graph) count limits.cache new.book.state) same_inputs own)
 
   not_torn : (other : Result (Option (List Bool)) TableError) → result ≡ other → other ≢ Err WriteFault → result ≢ Err WriteFault
   not_torn other is differs e = differs (sym is ∙ e)
@@ -223,7 +256,11 @@ module _ {S : Type 0} (canonical : Canonical) (unsatisfied : DerivedEmpty) (refu
         refutes = refutes formula.clauses after.written new.book.state empty.0 (written_of formula.clauses tells after new.book.state (proof_new (not_torn (Ok None) is (λ e. cc))) t) ready.none_empty empty.1;
         at_once = λ has. absurd (has_none has);
       })
-      (λ values is. tt)
+      (λ values is. record {
+        state = new.book.state;
+        written = written_of formula.clauses tells after new.book.state (proof_new (not_torn (Ok (Some values)) is (λ e. cc))) t;
+        within = lean values is;
+      })
       (λ is.
       let whole = not_torn (Err NodeLimit) is (λ e. cc) in
       record {
@@ -252,27 +289,18 @@ module _ {S : Type 0} (canonical : Canonical) (unsatisfied : DerivedEmpty) (refu
         let cut = (torn (torn_of result is)).cut formula.clauses all_inputs opened.proof t in
         let few = (torn (torn_of result is)).few in
         record { before = cut.before; after = new.book.state; cut = cut.cut; within_before = within_limits few cut.before cut.within_before; within_after = within_limits few new.book.state cut.within_after };
-    within_price = λ width price has paid whole. record { numbers = omega (arith, by_price width price has paid); nodes = omega (arith, used (whole_of result whole), decided.nodes width has) };
-    broken_price = λ width price has paid is t.
-        let cut = (torn (torn_of result is)).cut formula.clauses all_inputs opened.proof t in
-        let last = by_price width price has paid in
-        let few = decided.nodes width has in
-        record {
-          before = cut.before;
-          after = new.book.state;
-          cut = cut.cut;
-          within_before = record { numbers = omega (arith, cut.no_less, last); nodes = nodes_within (most_nodes width) few cut.before cut.within_before };
-          within_after = record { numbers = omega (arith, last); nodes = nodes_within (most_nodes width) few new.book.state cut.within_after };
-        };
-    certain = λ width price has paid ample.
+    paid = λ width price has is whole. paid width price has is (whole_of result whole);
+    broken_paid = λ width price has is torn_is t. broken_paid width price has is (torn_of result torn_is) t;
+    certain = λ width price has is_price ample.
         by_outcome IsDecision result (λ _. tt) (λ values is. tt)
         (λ is.
         let more = grown (not_torn (Err NodeLimit) is (λ e. cc)) in
         let wider = is_wider canonical formula order moves new.graph more.sound.tied.reduced (decided.short is) limits.max_nodes (omega (arith, at_node_limit is, decided.few, more.max_nodes, few_nodes)) in
         has (wider_less formula order moves width limits.max_nodes ample.0 wider))
         (λ is.
-        let last = by_price width price has paid in
-        omega (arith, at_id_limit is, (grown (not_torn (Err IdLimit) is (λ e. cc))).limit, opened.limit, last, ample.1));
+        let whole = not_torn (Err IdLimit) is (λ e. cc) in
+        let last = (paid width price has is_price whole).within.numbers in
+        omega (arith, at_id_limit is, (grown whole).limit, opened.limit, last, ample.1));
     says = says;
     shows = shows;
     fault = λ is. (torn (torn_of result is)).rose;

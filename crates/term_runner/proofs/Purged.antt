@@ -11,7 +11,7 @@ use Rattle.operations.specs.Purged.{IsPurged, Purging, are_marked}
 use Rattle.term_runner.proofs.AllCaches.{AreParts, AreUnnamed, conjunctions_apart, disjoins, implications_fit, kind_of, quantifies}
 
 -- such entries need no clause
-needs_none : (entry : Entry) → (kind_of entry ≡ disjoins) ⊎ (kind_of entry ≡ quantifies) → just_of entry ≡ Trivial
+pub needs_none : (entry : Entry) → (kind_of entry ≡ disjoins) ⊎ (kind_of entry ≡ quantifies) → just_of entry ≡ Trivial
 needs_none (Conjunction u v w just) (inl of) = cc
 needs_none (Conjunction u v w just) (inr of) = cc
 needs_none (Implication u v just) (inl of) = cc

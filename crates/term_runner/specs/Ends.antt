@@ -13,9 +13,9 @@ use Rattle.term_runner.specs.declared.outcome.Outcome.{Outcome}
 use Rattle.term_runner.specs.declared.outcome.Outcome.TheVariants.{Unsat, Sat, NodeLimit, IdLimit}
 use Rattle.term_runner.specs.declared.outcome.Run.{Run}
 use Rattle.term_runner.specs.Clauses.{is_tautology}
-use Rattle.term_runner.specs.Proofs.{AreUnsatisfiable, IsProof, IsProofSoFar, LeadsTo, Refutation, NodesAreUsed, NumbersAreUsed}
+use Rattle.term_runner.specs.Proofs.{AreUnsatisfiable, IsProof, IsProofOfKind, IsProofSoFar, IsProofSoFarOfKind, LeadsTo, Refutation, NodesAreUsed, NumbersAreUsed}
 use Rattle.term_runner.specs.Recovered.{IsRecovered}
-use Rattle.term_runner.specs.Price.{AreAmple, IsDecision, IsMovePrice, priced}
+use Rattle.term_runner.specs.Price.{AreAmple, IsDecision, IsLeanAtEnd, IsMovePrice, IsPaidFor}
 use Rattle.term_runner.specs.Width.{HasWidth, IsWider}
 
 -- What an outcome says of the formula: no assignment satisfies it; these values, which are recovered, do; or the plan
@@ -26,10 +26,10 @@ Says formula order moves limits (Sat values) = IsRecovered formula order moves v
 Says formula order moves limits NodeLimit = IsWider formula order moves limits.max_nodes
 Says formula order moves limits IdLimit = ⊤
 
--- What the very bytes of the proof show of it: a refutation, or that the limit is reached.
+-- What the very bytes of the proof show of it: a refutation, that few clauses are left, or that the limit is reached.
 abbrev pub Shows : Formula → Limits → List ℕ → Outcome → Type 0
 Shows formula limits bytes Unsat = Refutation formula.clauses bytes
-Shows formula limits bytes (Sat values) = ⊤
+Shows formula limits bytes (Sat values) = IsProofOfKind formula.clauses (IsLeanAtEnd formula.vars (length formula.clauses) limits.cache) bytes
 Shows formula limits bytes NodeLimit = NodesAreUsed formula limits.max_nodes bytes
 Shows formula limits bytes IdLimit = NumbersAreUsed formula limits.max_ids bytes
 
@@ -53,7 +53,7 @@ pub record Ends (tells : Bool) (before after : Channel) (formula : Formula) (ord
   pub last : IsTrue tells → IfOk result (λ run. LeadsTo formula limits after.written run.last_id)
   pub whole : result ≢ Err WriteFault → IsTrue tells → IsProof formula limits after.written
   pub so_far : IsTrue tells → IsProofSoFar formula limits after.written
-  pub price : (width price : ℕ) → HasWidth formula order moves width → IsMovePrice formula.vars limits.cache width price → IsTrue tells → IsProofSoFar formula (priced limits formula moves width price) after.written
+  pub price : (width price : ℕ) → HasWidth formula order moves width → IsMovePrice formula.vars limits.cache width price → IsTrue tells → IsProofSoFarOfKind formula.clauses (IsPaidFor formula limits moves width price) after.written
   pub flushed : IsOk result → IsTrue tells → after.flushed ≡ length after.written
   pub fault : result ≡ Err WriteFault → Rose before.faults after.faults
   pub unfailed : result ≢ Err WriteFault → after.faults ≡ before.faults

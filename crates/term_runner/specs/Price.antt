@@ -4,6 +4,9 @@
 -- Generating Extended Resolution Proofs with a BDD-Based SAT Solver, 2021, section 4.)
 use Rattle.std.specs.Prelude.{◌≡◌, ◌⊎◌, ◌≤◌, ◌+◌, ◌*◌, ◌^◌, ℕ, List, length, ⊤}
 use Rattle.cnf_base.specs.Formula.{Formula}
+use Rattle.lrat_rules.specs.State.{State}
+use Rattle.lrat_rules.specs.Marks.{IsWithin}
+use Rattle.node_table.specs.Lean.{IsLean}
 use Rattle.schedule_plan.specs.declared.plan.Move.{Move}
 use Rattle.schedule_plan.specs.declared.limits.Limits.{Limits}
 use Rattle.term_runner.specs.declared.outcome.Outcome.{Outcome}
@@ -26,9 +29,20 @@ most_nodes width = 3 * width + 999
 abbrev pub AddsFew : ℕ → ℕ → ℕ → Type 0
 AddsFew old new width = (new ≤ old + width) ⊎ (new ≤ 2 * width)
 
--- what a plan of this width needs, in place of the limits that are given
-abbrev pub priced : Limits → Formula → List Move → ℕ → ℕ → Limits
-priced limits formula moves width price = record limits { max_ids = most_ids formula moves price; max_nodes = most_nodes width }
+-- A state within the price of so many moves, over so many variables and clauses and with caches of so many entries: no number is
+-- greater, no more extension variables are in use, and of the clauses above the formula's no more are live than four for each
+-- variable in use, one for each place of two caches and each clause of the formula, and those that one move may give.
+pub record IsPaid (vars inputs moves size width price : ℕ) (state : State) : Type 0 where
+  pub within : IsWithin vars (inputs + moves * price) (most_nodes width) state
+  pub lean : IsLean vars inputs (2 * size + inputs + price) state
+
+-- that of a plan over a formula
+abbrev pub IsPaidFor : Formula → Limits → List Move → ℕ → ℕ → State → Type 0
+IsPaidFor formula limits moves width price = IsPaid formula.vars (length formula.clauses) (length moves) limits.cache width price
+
+-- At the end of a plan one clause is left beside those of nodes and of two caches, the unit of its term.
+abbrev pub IsLeanAtEnd : ℕ → ℕ → ℕ → State → Type 0
+IsLeanAtEnd vars inputs size state = IsLean vars inputs (2 * size + 1) state
 
 -- the formula was decided
 abbrev pub IsDecision : Outcome → Type 0

@@ -20,23 +20,33 @@ AreUnsatisfiable clauses = (a : Assignment) → Satisfies a clauses → ⊥
 abbrev pub KeepsWithin : Formula → Limits → State → Type 0
 KeepsWithin formula limits state = IsWithin formula.vars (max (length formula.clauses) limits.max_ids) limits.max_nodes state
 
--- the bytes are exactly the lines of good steps from the formula's clauses, and keep within the limits
-pub record IsProof (formula : Formula) (limits : Limits) (bytes : List ℕ) : Type 0 where
+-- The bytes are exactly the lines of good steps from the clauses, and lead to a state of this kind.
+pub record IsProofOfKind (clauses : List (List ℤ)) (kind : State → Type 0) (bytes : List ℕ) : Type 0 where
   pub state : State
-  pub written : IsWritten formula.clauses bytes state
-  pub within : KeepsWithin formula limits state
+  pub written : IsWritten clauses bytes state
+  pub within : kind state
 
--- The same but for the last line, of which a front stands: the limits are kept before it and behind it.
-pub record IsBroken (formula : Formula) (limits : Limits) (bytes : List ℕ) : Type 0 where
+-- The same but for the last line, of which a front stands: the states before it and behind it are of this kind.
+pub record IsBrokenOfKind (clauses : List (List ℤ)) (kind : State → Type 0) (bytes : List ℕ) : Type 0 where
   pub before : State
   pub after : State
-  pub cut : IsCutProof formula.clauses bytes before after
-  pub within_before : KeepsWithin formula limits before
-  pub within_after : KeepsWithin formula limits after
+  pub cut : IsCutProof clauses bytes before after
+  pub within_before : kind before
+  pub within_after : kind after
 
 -- a proof, whole or cut short in its last line
+abbrev pub IsProofSoFarOfKind : List (List ℤ) → (State → Type 0) → List ℕ → Type 0
+IsProofSoFarOfKind clauses kind bytes = IsProofOfKind clauses kind bytes ⊎ IsBrokenOfKind clauses kind bytes
+
+-- those that keep within the limits of a run
+abbrev pub IsProof : Formula → Limits → List ℕ → Type 0
+IsProof formula limits bytes = IsProofOfKind formula.clauses (KeepsWithin formula limits) bytes
+
+abbrev pub IsBroken : Formula → Limits → List ℕ → Type 0
+IsBroken formula limits bytes = IsBrokenOfKind formula.clauses (KeepsWithin formula limits) bytes
+
 abbrev pub IsProofSoFar : Formula → Limits → List ℕ → Type 0
-IsProofSoFar formula limits bytes = IsProof formula limits bytes ⊎ IsBroken formula limits bytes
+IsProofSoFar formula limits bytes = IsProofSoFarOfKind formula.clauses (KeepsWithin formula limits) bytes
 
 -- they are a proof whose greatest number is this one
 pub record LeadsTo (formula : Formula) (limits : Limits) (bytes : List ℕ) (last : ℕ) : Type 0 where

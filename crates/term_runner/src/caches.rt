@@ -1,5 +1,5 @@
 // The computed caches of all operations, which a run keeps from move to move. Their entries stay right as one list.
-ghost use Rattle.std.specs.Prelude.{◌≡◌, ◌≢◌, ◌≤◌, ◌<◌, ◌*◌, ℕ, List, [], Err, IsTrue, IfOk, length};
+ghost use Rattle.std.specs.Prelude.{◌≡◌, ◌≢◌, ◌≤◌, ◌<◌, ◌*◌, ℕ, List, [], Contains, Err, IsTrue, IfOk, length};
 ghost use Rattle.node_table.specs.declared.error.TableError.TheVariants.{NodeLimit};
 ghost use Rattle.node_table.specs.Diagram.{is_node, levels};
 ghost use Rattle.node_table.specs.Made.{LacksPart, MakesOnly};
@@ -7,7 +7,7 @@ ghost use Rattle.node_table.specs.Progress.{Steps, error_of};
 ghost use Rattle.node_table.specs.Table.{AddsAtMost, IsSound, UnlessTorn};
 ghost use Rattle.node_table.specs.declared.node.Node.{Node as NodeValue};
 ghost use Rattle.operations.specs.Budget.{most_additions};
-ghost use Rattle.operations.specs.Entries.{Accounts, Fits};
+ghost use Rattle.operations.specs.Entries.{Accounts, Fits, IsNamed};
 ghost use Rattle.operations.specs.Price.{HoldsReached};
 ghost use Rattle.operations.specs.Results.{Conjoined, Quantified};
 ghost use Rattle.apply_and.specs.Conjunction.{conjunction_of};
@@ -50,6 +50,14 @@ impl Caches {
             quantifications,
             ors,
         })
+    }
+
+    /// For the prover alone: no more entries name clauses than two caches may have.
+    pub fn few_law(&self)
+        ensures { (size : ℕ) → HaveSize self.now size → (ids : List ℕ) × (length ids ≤ 2 * size) × ((id : ℕ) → IsNamed (all_entries self.now) id → Contains ids id) }
+    {
+        self.ands.few_law();
+        self.implications.few_law();
     }
 
     /// The conjunction of two nodes, and why its clause holds.

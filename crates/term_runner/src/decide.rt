@@ -1,18 +1,18 @@
 // From the moves of a plan to what was found.
-ghost use Rattle.std.specs.Prelude.{◌≡◌, ◌⊎◌, ◌≤◌, ◌+◌, ◌*◌, ℕ, [], Ok, Err, None, Some, IsTrue, IsFalse, IfOk, MatchOption, length, reverse};
+ghost use Rattle.std.specs.Prelude.{◌≡◌, ◌⊎◌, ◌≤◌, ◌+◌, ◌*◌, ℕ, [], Ok, Err, None, Some, IsTrue, IsFalse, IfOk, IsSome, MatchOption, length, reverse};
 ghost use Rattle.std.specs.List.{list_all};
 ghost use Rattle.std.specs.FinMap as map;
 ghost use Rattle.lrat_rules.specs.State.{clause_at};
 ghost use Rattle.node_table.specs.declared.error.TableError.TheVariants.{NodeLimit, IdLimit};
 ghost use Rattle.node_table.specs.Diagram.{levels};
 ghost use Rattle.node_table.specs.Progress.{Leaves, error_of};
-ghost use Rattle.node_table.specs.Table.{live_nodes};
 ghost use Rattle.schedule_plan.specs.Plan.{IsAdmissible};
 ghost use Rattle.term_runner.specs.Clauses.{is_tautology};
 ghost use Rattle.term_runner.specs.Recovered.{IsRecovered};
-ghost use Rattle.term_runner.specs.Price.{IsMovePrice, most_nodes};
+ghost use Rattle.term_runner.specs.Price.{IsLeanAtEnd, IsMovePrice, IsPaid};
 ghost use Rattle.term_runner.specs.Width.{HasWidth};
 ghost use Rattle.term_runner.specs.Nodes.{RunsShort};
+ghost use Rattle.term_runner.specs.Opened.{LeavesKind};
 ghost use Rattle.term_runner.specs.Held.{IsReady, top_node};
 
 use crate::caches::Caches;
@@ -22,7 +22,9 @@ use crate::reclamation::take_move;
 use clause_terms::{Model, Trail, recover};
 use cnf_base::Cnf;
 use host_io::Sink;
-use node_table::{Node, Table, TableError, canonical_law, steps_law, subfunction_law};
+use node_table::{
+    Node, Table, TableError, canonical_law, in_use_law, lean_law, steps_law, subfunction_law,
+};
 use schedule_plan::Plan;
 use std::alloc::Global;
 
@@ -46,15 +48,17 @@ pub fn decide<S: Sink + Drop>(
     ensures leaves { Leaves S.tells (S.channel table.old.book.sink) (S.channel table.new.book.sink) table.old table.new (error_of result) }
     ensures tautologies { IsTrue (list_all is_tautology formula.now.clauses) → table.new ≡ table.old }
     ensures open_clause { (result ≡ Err NodeLimit) ⊎ (result ≡ Err IdLimit) → IsFalse (list_all is_tautology formula.now.clauses) }
-    // However it ends, it gave so many numbers at most, and has so few nodes, by the plan's width.
-    ensures price { (width price : ℕ) → HasWidth formula.now table.old.graph.order plan.now width → IsMovePrice (levels table.old.graph) capacity width price
-        → table.new.book.state.top ≤ table.old.book.state.top + length plan.now * price }
-    ensures few { (width : ℕ) → HasWidth formula.now table.old.graph.order plan.now width → live_nodes table.new.graph ≤ most_nodes width }
+    // However it ends, it keeps within the price of the plan's width; with a model few clauses are left.
+    ensures paid { (width price : ℕ) → HasWidth formula.now table.old.graph.order plan.now width → IsMovePrice (levels table.old.graph) capacity width price
+        → LeavesKind S.tells (S.channel table.old.book.sink) (S.channel table.new.book.sink) table.old table.new (IsPaid (levels table.old.graph) table.old.inputs (length plan.now) capacity width price) (error_of result) }
+    ensures lean { IfOk result (λ found. IsSome found → IsLeanAtEnd (levels table.old.graph) table.old.inputs capacity table.new.book.state) }
     // A node that is wanted is refused for want of room.
     ensures short { result ≡ Err NodeLimit → RunsShort formula.now table.old.graph.order plan.now table.new.graph }
     ensures beside { S.beside table.new.book.sink ≡ S.beside table.old.book.sink }
 {
     steps_law::<S>();
+    in_use_law();
+    lean_law::<S>();
     formula.formula_law();
     table.table_law();
     if are_tautologies(formula) {
@@ -81,15 +85,17 @@ fn run_moves<S: Sink + Drop>(
     ensures found { IfOk result (λ found. MatchOption found ((id : ℕ) × (clause_at table.new.book.state.live id ≡ Some []))
         (λ model. IsRecovered formula.now table.old.graph.order plan.now model)) }
     ensures leaves { Leaves S.tells (S.channel table.old.book.sink) (S.channel table.new.book.sink) table.old table.new (error_of result) }
-    ensures price { (width price : ℕ) → HasWidth formula.now table.old.graph.order plan.now width → IsMovePrice (levels table.old.graph) capacity width price
-        → table.new.book.state.top ≤ table.old.book.state.top + length plan.now * price }
-    ensures few { (width : ℕ) → HasWidth formula.now table.old.graph.order plan.now width → live_nodes table.new.graph ≤ most_nodes width }
+    ensures paid { (width price : ℕ) → HasWidth formula.now table.old.graph.order plan.now width → IsMovePrice (levels table.old.graph) capacity width price
+        → LeavesKind S.tells (S.channel table.old.book.sink) (S.channel table.new.book.sink) table.old table.new (IsPaid (levels table.old.graph) table.old.inputs (length plan.now) capacity width price) (error_of result) }
+    ensures lean { IfOk result (λ found. IsSome found → IsLeanAtEnd (levels table.old.graph) table.old.inputs capacity table.new.book.state) }
     ensures short { result ≡ Err NodeLimit → RunsShort formula.now table.old.graph.order plan.now table.new.graph }
     ensures beside { S.beside table.new.book.sink ≡ S.beside table.old.book.sink }
 {
     steps_law::<S>();
     subfunction_law();
     canonical_law();
+    in_use_law();
+    lean_law::<S>();
     formula.formula_law();
     let mut caches = Caches::new(alloc, capacity)?;
     let mut stack: Vec<Held> = Vec::new(alloc);
@@ -97,6 +103,7 @@ fn run_moves<S: Sink + Drop>(
     // How many nodes the last reclamation left.
     let mut left = 0;
     'moves: for i in 0..plan.len() {
+        caches.few_law();
         let Some(step) = plan.get(i) else {
             unreachable!();
         };
@@ -113,6 +120,7 @@ fn run_moves<S: Sink + Drop>(
             return Ok(None);
         }
     }
+    caches.few_law();
     let model = recover(alloc, table, top(stack.as_slice()), &trail)?;
     Ok(Some(model))
 }

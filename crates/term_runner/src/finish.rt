@@ -22,7 +22,7 @@ use clause_terms::Model;
 use cnf_base::Id;
 use host_io::Sink;
 use lrat_rules::{conflict_law, derivation_law, marks_law, start_law, strict_addition_law};
-use node_table::TableError;
+use node_table::{TableError, lean_law};
 
 /// Flushes the proof of an outcome. It isn't flushed where memory ran out or a write failed before.
 pub fn finish<S: Sink + Drop>(
@@ -67,6 +67,7 @@ pub fn refute<S: Sink + Drop>(ledger: &mut Ledger<S>, number: usize) -> Result<R
 {
     start_law();
     marks_law();
+    lean_law::<S>();
     let found = add_empty(ledger, Id(number as u64));
     finish(ledger, outcome_of(found))
 }

@@ -23,9 +23,7 @@ use crate::unit::{is_same, retire_unit, unit_of};
 use clause_terms::{Trail, push_clause};
 use cnf_base::{Cnf, Id};
 use host_io::Sink;
-use node_table::{
-    Node, Table, TableError, canonical_law, growth_law, steps_law, subfunction_law,
-};
+use node_table::{Node, Table, TableError, canonical_law, growth_law, steps_law, subfunction_law};
 use operations::entry_law;
 use schedule_plan::Move;
 use std::alloc::Global;

@@ -13,7 +13,7 @@ use clause_ledger::{Ledger, start_clauses};
 use cnf_base::Cnf;
 use host_io::Sink;
 use lrat_rules::{derivation_law, marks_law, soundness_law, start_law};
-use node_table::{Diagram, Table, canonical_law, in_use_law, opening_law};
+use node_table::{Diagram, Table, canonical_law, in_use_law, lean_law, opening_law};
 use schedule_plan::{Limits, Order, Plan};
 use std::alloc::Global;
 
@@ -61,6 +61,7 @@ pub fn run_plan_into<S: Sink + Drop>(
     marks_law();
     opening_law();
     in_use_law();
+    lean_law::<S>();
     canonical_law();
     formula.formula_law();
     let Ok(live) = start_clauses(alloc, formula) else {

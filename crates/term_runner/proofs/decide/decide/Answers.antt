@@ -1,12 +1,17 @@
-use Rattle.std.proofs.Common.{ℕ, List, reverse, sym, subst, ◌∙◌, arith}
+use Rattle.std.proofs.Common.{rules, ℕ, List, length, reverse, sym, subst, ◌∙◌, arith}
+use Rattle.node_table.specs.Diagram.{levels}
 use Rattle.node_table.specs.declared.node.Node.{Node}
 use Rattle.node_table.specs.declared.node.Node.TheVariants.{True}
 use Rattle.clause_terms.specs.Recovery.{IsRecoveredFrom}
+use Rattle.term_runner.specs.Price.{IsPaid}
+use Rattle.term_runner.proofs.Paid.{kind_of_memory, lean_here, none_added}
 use Rattle.term_runner.proofs.Plans.{all_hold}
 use Rattle.term_runner.proofs.Priced.{no_nodes}
 use Rattle.term_runner.proofs.Tautologies.{tautologies_satisfied}
 use Rattle.term_runner.proofs.Trails.{tautologies_recovered}
+use Rattle.term_runner.proofs.decide.decide.Given.{Over}
 use Rattle.term_runner.proofs.decide.decide.Goals as goal
+use Rattle.term_runner.proofs.decide.decide.Goals.{After-are_tautologies}
 
 pub returns-then-are_tautologies-clause-found : goal.returns-then-are_tautologies-clause-found
 returns-then-are_tautologies-clause-found g c =
@@ -31,17 +36,36 @@ returns-clause-short g c = c.run_moves.ensures.short
 pub returns-clause-beside : goal.returns-clause-beside
 returns-clause-beside g c = c.run_moves.ensures.beside
 
-pub returns-then-are_tautologies-clause-price : goal.returns-then-are_tautologies-clause-price
-returns-then-are_tautologies-clause-price g c width price has is = omega arith
+-- nothing was added to the formula's clauses
+none_there : (g : Over) (c : After-are_tautologies g) (width price : ℕ) → IsPaid (levels c.args.table.now.graph) c.args.table.now.inputs (length c.args.plan.now) c.args.capacity width price c.args.table.now.book.state
+none_there g c width price =
+    let table = c.args.table.now in
+    let sound = c.requires.ready.sound in
+    let none = no_nodes table.graph c.requires.empty in
+    let uses = c.in_use_law.ensures table.graph table.book.state sound.tied in
+    let lean = lean_here c.lean_law.ensures.lean table sound 0 (none_added table sound c.requires.fresh) in
+    record {
+      within = record { numbers = omega (arith, c.requires.fresh); nodes = omega (arith, none, uses) };
+      lean = omega (arith, lean);
+    }
 
-pub returns-clause-price : goal.returns-clause-price
-returns-clause-price g c = c.run_moves.ensures.price
+pub returns-then-are_tautologies-clause-paid : goal.returns-then-are_tautologies-clause-paid
+returns-then-are_tautologies-clause-paid g c width price has is = none_there g (goal.at.returns-then-are_tautologies-clause-paid g c).After-are_tautologies width price
 
-pub returns-then-are_tautologies-clause-few : goal.returns-then-are_tautologies-clause-few
-returns-then-are_tautologies-clause-few g c width has = let none = no_nodes c.args.table.now.graph c.requires.empty in omega (arith, none)
+pub returns-in_err-model-clause-paid : goal.returns-in_err-model-clause-paid
+returns-in_err-model-clause-paid g c width price has is =
+    kind_of_memory g.S.Sink.tells (g.S.Sink.channel c.args.table.now.book.sink) (g.S.Sink.channel c.args.table.now.book.sink) c.args.table.now c.args.table.now (IsPaid (levels c.args.table.now.graph) c.args.table.now.inputs (length c.args.plan.now) c.args.capacity width price) _ (search rules)
+    (none_there g (goal.at.returns-in_err-model-clause-paid g c).After-are_tautologies width price)
 
-pub returns-in_err-model-clause-few : goal.returns-in_err-model-clause-few
-returns-in_err-model-clause-few g c width has = let none = no_nodes c.args.table.now.graph c.requires.empty in omega (arith, none)
+pub returns-clause-paid : goal.returns-clause-paid
+returns-clause-paid g c = c.run_moves.ensures.paid
 
-pub returns-clause-few : goal.returns-clause-few
-returns-clause-few g c = c.run_moves.ensures.few
+pub returns-then-are_tautologies-clause-lean : goal.returns-then-are_tautologies-clause-lean
+returns-then-are_tautologies-clause-lean g c some =
+    let table = c.args.table.now in
+    let sound = c.requires.ready.sound in
+    let lean = lean_here c.lean_law.ensures.lean table sound 0 (none_added table sound c.requires.fresh) in
+    omega (arith, lean)
+
+pub returns-clause-lean : goal.returns-clause-lean
+returns-clause-lean g c = c.run_moves.ensures.lean

@@ -1,4 +1,4 @@
-use Rattle.std.proofs.Common.{rules, ◌≡◌, ℕ, suc, ◌+◌, ◌*◌, ◌≤◌, true, List, Option, length, take, reverse, Some, Ok, Err, refl, ap, sym, ◌∙◌, subst, arith, inl, inr}
+use Rattle.std.proofs.Common.{rules, ◌≡◌, ℕ, suc, ◌+◌, ◌*◌, ◌≤◌, true, List, Option, length, take, reverse, None, Some, Ok, Err, refl, ap, sym, ◌∙◌, subst, arith, inl, inr}
 use Rattle.std.proofs.Math.Nat.{mul-le-mul_right}
 use Rattle.std.specs.List.{slice_get}
 use Rattle.cnf_base.specs.Formula.{Formula}
@@ -12,9 +12,10 @@ use Rattle.node_table.specs.Table.{live_nodes}
 use Rattle.operations.specs.Entries.{Entry}
 use Rattle.schedule_plan.specs.declared.plan.Move.{Move}
 use Rattle.schedule_plan.specs.Plan.{Stage, after_move, after_moves, no_stage}
-use Rattle.term_runner.specs.Price.{IsMovePrice, most_nodes}
+use Rattle.term_runner.specs.Price.{IsLeanAtEnd, IsMovePrice, IsPaid, most_nodes}
 use Rattle.term_runner.specs.Width.{HasWidth, HoldsAtMost}
 use Rattle.term_runner.specs.Nodes.{RunsShort}
+use Rattle.term_runner.specs.Opened.{LeavesKind}
 use Rattle.term_runner.specs.Held.{IsReady, top_node}
 use Rattle.term_runner.specs.Recovered.{IsRecovered}
 use Rattle.node_table.specs.HandedOn.{no_error, came_from, no_answer}
@@ -27,11 +28,13 @@ use Rattle.term_runner.proofs.Trails.{are_variables, kept_there}
 use Rattle.term_runner.proofs.Leaving.{error_handed, memory_left}
 use Rattle.term_runner.proofs.InHand.{in_hand_before, short_at_limit}
 use Rattle.term_runner.proofs.Planned.{moved_on}
+use Rattle.term_runner.proofs.Few.{added_between, has_added, held_length}
 use Rattle.term_runner.proofs.FewLeft.{few_left, in_hand_behind}
+use Rattle.term_runner.proofs.Paid.{kind_of_memory, lean_here, none_added, paid_behind}
 use Rattle.term_runner.proofs.Priced.{moved_few, no_nodes, one_more, tidy_few}
 use Rattle.term_runner.proofs.decide.run_moves.Given.{Over}
 use Rattle.term_runner.proofs.decide.run_moves.Goals as goal
-use Rattle.term_runner.proofs.decide.run_moves.Goals.{After-take_move}
+use Rattle.term_runner.proofs.decide.run_moves.Goals.{After-few_law-2, After-take_move}
 
 pub unreachable-requires : goal.unreachable-requires
 unreachable-requires g c = some_at c.args.plan.now c.moves.i (omega (arith, c.moves-test.true, c.len-i-end.ensures)) (sym c.get.ensures ∙ c.in_default.is)
@@ -76,10 +79,10 @@ at_move : (formula : Formula) (plan : List Move) (order : List ℕ) (i : ℕ) (s
 at_move formula plan order i step before after at reached leads width has more =
     has (record { count = i; before = before; after = after; move = record { step = step; is = at; reached = reached; leads = leads }; more = more })
 
--- the numbers given behind a move, however it ended
-so_far : (g : Over) (c : After-take_move g) (width price : ℕ) → HasWidth c.args.formula.now c.args.table.now.graph.order c.args.plan.now width → IsMovePrice (levels c.args.table.now.graph) c.args.capacity width price
-    → c.take_move.new.table.book.state.top ≤ c.args.table.now.book.state.top + (c.moves.i + 1) * price
-so_far g c width price has is =
+-- a move gives so many numbers, however it ended
+near_by : (g : Over) (c : After-take_move g) (width price : ℕ) → HasWidth c.args.formula.now c.args.table.now.graph.order c.args.plan.now width → IsMovePrice (levels c.args.table.now.graph) c.args.capacity width price
+    → c.take_move.new.table.book.state.top ≤ c.moves.table.book.state.top + price
+near_by g c width price has is =
     let formula = c.args.formula.now in
     let plan = c.args.plan.now in
     let table = c.moves.table in
@@ -90,8 +93,14 @@ so_far g c width price has is =
     let most : HoldsAtMost formula table.graph.order between.stage next.next width =
     subst (λ (o : List ℕ). HoldsAtMost formula o between.stage next.next width) (sym order)
     (at_move formula plan c.args.table.now.graph.order c.moves.i c.in-Some.step between.stage next.next at between.front next.is width has) in
-    let own = c.take_move.ensures.price between.stage next.next between.at next.is c.args.capacity width price c.moves.invariant.size
-    (subst (λ (vars : ℕ). IsMovePrice vars c.args.capacity width price) (sym (ap length order)) is) most in
+    c.take_move.ensures.price between.stage next.next between.at next.is c.args.capacity width price c.moves.invariant.size
+    (subst (λ (vars : ℕ). IsMovePrice vars c.args.capacity width price) (sym (ap length order)) is) most
+
+-- and all so far
+so_far : (g : Over) (c : After-take_move g) (width price : ℕ) → HasWidth c.args.formula.now c.args.table.now.graph.order c.args.plan.now width → IsMovePrice (levels c.args.table.now.graph) c.args.capacity width price
+    → c.take_move.new.table.book.state.top ≤ c.args.table.now.book.state.top + (c.moves.i + 1) * price
+so_far g c width price has is =
+    let own = near_by g c width price has is in
     let before = c.moves.invariant.price width price has is in
     omega (arith, own, before, one_more c.moves.i price)
 
@@ -235,25 +244,6 @@ returns-in_err-model-clause-leaves g c =
     let channel = g.S.Sink.channel in
     memory_left g.S.Sink.tells (channel old.book.sink) (channel new.book.sink) old new _ (search rules) c.moves.invariant.continues
 
-pub returns-in_err-take_move-clause-price : goal.returns-in_err-take_move-clause-price
-returns-in_err-take_move-clause-price g c width price has is =
-    within_all (c.moves.i + 1) (length c.args.plan.now) price c.args.table.now.book.state.top c.take_move.new.table.book.state.top (omega (arith, c.moves-test.true, c.len-i-end.ensures)) (so_far g (goal.at.returns-in_err-take_move-clause-price g c).After-take_move width price has is)
-
-pub returns-then-branch-clause-price : goal.returns-then-branch-clause-price
-returns-then-branch-clause-price g c width price has is =
-    within_all (c.moves.i + 1) (length c.args.plan.now) price c.args.table.now.book.state.top c.take_move.new.table.book.state.top (omega (arith, c.moves-test.true, c.len-i-end.ensures)) (so_far g (goal.at.returns-then-branch-clause-price g c).After-take_move width price has is)
-
-pub returns-in_err-model-clause-price : goal.returns-in_err-model-clause-price
-returns-in_err-model-clause-price g c width price has is =
-    within_all (c.moves.i) (length c.args.plan.now) price c.args.table.now.book.state.top c.moves.table.book.state.top (c.moves.invariant.few) (c.moves.invariant.price width price has is)
-
-pub returns-clause-price : goal.returns-clause-price
-returns-clause-price g c width price has is =
-    within_all (c.moves.i) (length c.args.plan.now) price c.args.table.now.book.state.top c.moves.table.book.state.top (c.moves.invariant.few) (c.moves.invariant.price width price has is)
-
-pub returns-in_err-caches-clause-price : goal.returns-in_err-caches-clause-price
-returns-in_err-caches-clause-price g c width price has is = omega arith
-
 -- the nodes behind a move, however it ended
 nodes_so_far : (g : Over) (c : After-take_move g) (width : ℕ) → HasWidth c.args.formula.now c.args.table.now.graph.order c.args.plan.now width → live_nodes c.take_move.new.table.graph ≤ most_nodes width
 nodes_so_far g c width has =
@@ -269,21 +259,77 @@ nodes_so_far g c width has =
     moved_few (live_nodes table.graph) (live_nodes c.take_move.new.table.graph) c.moves.left width c.moves.invariant.tidy (c.moves.invariant.left width has)
     (c.take_move.ensures.few between.stage next.next between.at next.is width most)
 
-pub returns-in_err-take_move-clause-few : goal.returns-in_err-take_move-clause-few
-returns-in_err-take_move-clause-few g c = nodes_so_far g (goal.at.returns-in_err-take_move-clause-few g c).After-take_move
+-- a move that was taken keeps within the price, however it ended
+paid_so_far : (g : Over) (c : After-take_move g) (width price : ℕ) → HasWidth c.args.formula.now c.args.table.now.graph.order c.args.plan.now width → IsMovePrice (levels c.args.table.now.graph) c.args.capacity width price
+    → (error : Option TableError) → Leaves g.S.Sink.tells (g.S.Sink.channel c.moves.table.book.sink) (g.S.Sink.channel c.take_move.new.table.book.sink) c.moves.table c.take_move.new.table error
+    → LeavesKind g.S.Sink.tells (g.S.Sink.channel c.args.table.now.book.sink) (g.S.Sink.channel c.take_move.new.table.book.sink) c.args.table.now c.take_move.new.table
+    (IsPaid (levels c.args.table.now.graph) c.args.table.now.inputs (length c.args.plan.now) c.args.capacity width price) error
+paid_so_far g c width price has is error leaves =
+    let first = c.args.table.now in
+    let mid = c.moves.table in
+    let new = c.take_move.new.table in
+    let added =
+    added_between c.args.formula.now c.args.plan.now c.moves.i mid (all_entries c.moves.caches) c.moves.stack.items c.moves.trail (2 * c.args.capacity) (c.few_law.ensures c.args.capacity c.moves.invariant.size)
+    c.moves.invariant.settled c.moves.invariant.own c.moves.invariant.between in
+    let all = within_all (c.moves.i + 1) (length c.args.plan.now) price first.book.state.top new.book.state.top (omega (arith, c.moves-test.true, c.len-i-end.ensures)) (so_far g c width price has is) in
+    paid_behind c.lean_law.ensures.lean c.in_use_law.ensures g.S.Sink.tells _ _ _ first mid new c.moves.invariant.continues c.args.capacity (2 * c.args.capacity + length (reverse c.moves.stack.items)) (length c.args.plan.now) width price
+    added.0 (omega (arith, added.1, c.requires.ready.counted)) (omega (arith, all, c.requires.fresh)) (near_by g c width price has is) (nodes_so_far g c width has) error leaves
 
-pub returns-then-branch-clause-few : goal.returns-then-branch-clause-few
-returns-then-branch-clause-few g c = nodes_so_far g (goal.at.returns-then-branch-clause-few g c).After-take_move
+pub returns-in_err-take_move-clause-paid : goal.returns-in_err-take_move-clause-paid
+returns-in_err-take_move-clause-paid g c width price has is =
+    let first = c.args.table.now in
+    let new = c.take_move.new.table in
+    let kind = IsPaid (levels first.graph) first.inputs (length c.args.plan.now) c.args.capacity width price in
+    subst (λ (error : Option TableError). LeavesKind g.S.Sink.tells (g.S.Sink.channel first.book.sink) (g.S.Sink.channel new.book.sink) first new kind error) (sym (error_handed _ c.in_err-take_move.field-0.0 c.from_residual-in_err-take_move.ensures.1))
+    (paid_so_far g (goal.at.returns-in_err-take_move-clause-paid g c).After-take_move width price has is (Some c.in_err-take_move.field-0.0) c.in_err-take_move.ensures.leaves)
 
-pub returns-in_err-model-clause-few : goal.returns-in_err-model-clause-few
-returns-in_err-model-clause-few g c width has =
-    let few = tidy_few (live_nodes c.moves.table.graph) c.moves.left width c.moves.invariant.tidy (c.moves.invariant.left width has) in
-    omega (arith, few)
+pub returns-then-branch-clause-paid : goal.returns-then-branch-clause-paid
+returns-then-branch-clause-paid g c width price has is = paid_so_far g (goal.at.returns-then-branch-clause-paid g c).After-take_move width price has is None c.in_ok-take_move.ensures.leaves
 
-pub returns-clause-few : goal.returns-clause-few
-returns-clause-few g c width has =
-    let few = tidy_few (live_nodes c.moves.table.graph) c.moves.left width c.moves.invariant.tidy (c.moves.invariant.left width has) in
-    omega (arith, few)
+-- behind the last move
+paid_at_last : (g : Over) (c : After-few_law-2 g) (width price : ℕ) → HasWidth c.args.formula.now c.args.table.now.graph.order c.args.plan.now width → IsMovePrice (levels c.args.table.now.graph) c.args.capacity width price
+    → IsPaid (levels c.args.table.now.graph) c.args.table.now.inputs (length c.args.plan.now) c.args.capacity width price c.moves.table.book.state
+paid_at_last g c width price has is =
+    let first = c.args.table.now in
+    let mid = c.moves.table in
+    let added =
+    added_between c.args.formula.now c.args.plan.now c.moves.i mid (all_entries c.moves.caches) c.moves.stack.items c.moves.trail (2 * c.args.capacity) (c.few_law-2.ensures c.args.capacity c.moves.invariant.size)
+    c.moves.invariant.settled c.moves.invariant.own c.moves.invariant.between in
+    let all = within_all c.moves.i (length c.args.plan.now) price first.book.state.top mid.book.state.top c.moves.invariant.few (c.moves.invariant.price width price has is) in
+    let few = tidy_few (live_nodes mid.graph) c.moves.left width c.moves.invariant.tidy (c.moves.invariant.left width has) in
+    paid_behind c.lean_law.ensures.lean c.in_use_law.ensures g.S.Sink.tells _ _ _ first mid mid c.moves.invariant.continues c.args.capacity (2 * c.args.capacity + length (reverse c.moves.stack.items)) (length c.args.plan.now) width price
+    added.0 (omega (arith, added.1, c.requires.ready.counted)) (omega (arith, all, c.requires.fresh)) (omega arith) (omega (arith, few)) None (c.steps_law.ensures.none mid c.moves.invariant.ready.sound).leaves
 
-pub returns-in_err-caches-clause-few : goal.returns-in_err-caches-clause-few
-returns-in_err-caches-clause-few g c width has = let none = no_nodes c.args.table.now.graph c.requires.empty in omega (arith, none)
+pub returns-in_err-model-clause-paid : goal.returns-in_err-model-clause-paid
+returns-in_err-model-clause-paid g c width price has is =
+    kind_of_memory g.S.Sink.tells (g.S.Sink.channel c.args.table.now.book.sink) (g.S.Sink.channel c.moves.table.book.sink) c.args.table.now c.moves.table (IsPaid (levels c.args.table.now.graph) c.args.table.now.inputs (length c.args.plan.now) c.args.capacity width price) _ (search rules)
+    (paid_at_last g (goal.at.returns-in_err-model-clause-paid g c).After-few_law-2 width price has is)
+
+pub returns-clause-paid : goal.returns-clause-paid
+returns-clause-paid g c width price has is = paid_at_last g (goal.at.returns-clause-paid g c).After-few_law-2 width price has is
+
+pub returns-in_err-caches-clause-paid : goal.returns-in_err-caches-clause-paid
+returns-in_err-caches-clause-paid g c width price has is =
+    let table = c.args.table.now in
+    let sound = c.requires.ready.sound in
+    let none = no_nodes table.graph c.requires.empty in
+    let uses = c.in_use_law.ensures table.graph table.book.state sound.tied in
+    let lean = lean_here c.lean_law.ensures.lean table sound 0 (none_added table sound c.requires.fresh) in
+    kind_of_memory g.S.Sink.tells (g.S.Sink.channel table.book.sink) (g.S.Sink.channel table.book.sink) table table (IsPaid (levels table.graph) table.inputs (length c.args.plan.now) c.args.capacity width price) _ (search rules) (record {
+      within = record { numbers = omega (arith, c.requires.fresh); nodes = omega (arith, none, uses) };
+      lean = omega (arith, lean);
+    })
+
+pub returns-clause-lean : goal.returns-clause-lean
+returns-clause-lean g c some =
+    let formula = c.args.formula.now in
+    let first = c.args.table.now in
+    let table = c.moves.table in
+    let so_far = c.moves.invariant.continues in
+    let held = at_last formula c.args.plan.now c.moves.i table.graph table.book.state.live c.moves.stack.items c.moves.trail c.requires.plan.last (omega (arith, c.moves-test.false, c.len-i-end.ensures)) c.requires.plan.possible c.moves.invariant.between in
+    let one = held_length formula table.graph table.book.state.live (reverse c.moves.stack.items) c.requires.plan.last.stack held.held in
+    let added = has_added table (all_entries c.moves.caches) (reverse c.moves.stack.items) (2 * c.args.capacity) (c.few_law-2.ensures c.args.capacity c.moves.invariant.size) c.moves.invariant.settled c.moves.invariant.own in
+    let own = lean_here c.lean_law.ensures.lean table c.moves.invariant.ready.sound (2 * c.args.capacity + length (reverse c.moves.stack.items)) added in
+    let more : IsLeanAtEnd (levels table.graph) table.inputs c.args.capacity table.book.state = omega (arith, own, one, c.requires.plan.one_term) in
+    subst (λ (vars : ℕ). IsLeanAtEnd vars first.inputs c.args.capacity table.book.state) (ap length so_far.order)
+    (subst (λ (inputs : ℕ). IsLeanAtEnd (levels table.graph) inputs c.args.capacity table.book.state) so_far.inputs more)

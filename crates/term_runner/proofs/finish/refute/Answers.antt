@@ -18,7 +18,7 @@ returns-clause-ends g c formula order moves limits opened first has some =
     let added = c.add_empty-found.ensures in
     let old = c.args.ledger.now in
     let new = c.add_empty-found.new.ledger in
-    let leads = added_leads c.marks_law.ensures.start c.start_law.ensures.appended g.S.Sink.tells (g.S.Sink.channel old.sink) (g.S.Sink.channel new.sink) c.args.number old new c.add_empty-found.result
+    let leads = added_leads c.marks_law.ensures.start c.start_law.ensures.appended c.start_law.ensures.none_above c.lean_law.ensures.few g.S.Sink.tells (g.S.Sink.channel old.sink) (g.S.Sink.channel new.sink) c.args.number old new c.add_empty-found.result
     (record {
       found = added.found;
       refutes = added.refutes;

@@ -1,4 +1,4 @@
-use Rattle.std.proofs.Common.{◌≡◌, ◌∙◌, ◌+◌, ◌<◌, ℕ, Bool, List, [], ◌∷◌, Contains, length, reverse, None, Some, Result, Err, ap, sym, subst, arith, inl, inr}
+use Rattle.std.proofs.Common.{◌≡◌, ◌∙◌, ◌+◌, ◌*◌, ◌<◌, ℕ, Bool, List, [], ◌∷◌, Contains, length, reverse, None, Some, Result, Err, ap, sym, subst, arith, inl, inr}
 use Rattle.operations.specs.Accounts.{none_whole, whole_result}
 use Rattle.term_runner.specs.Caches.{HaveRoom, all_entries}
 use Rattle.operations.specs.Budget.{most_additions}

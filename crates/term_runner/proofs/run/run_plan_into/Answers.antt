@@ -10,7 +10,9 @@ use Rattle.term_runner.specs.declared.outcome.Outcome.{Outcome}
 use Rattle.term_runner.specs.Ends.{Ends}
 use Rattle.term_runner.specs.Opened.{Leads}
 use Rattle.term_runner.proofs.Ending.{nothing_ends}
-use Rattle.term_runner.proofs.OneLine.{some_moves}
+use Rattle.term_runner.specs.Price.{IsPaidFor}
+use Rattle.term_runner.specs.Proofs.{KeepsWithin}
+use Rattle.term_runner.proofs.OneLine.{some_moves, start_paid, start_within}
 use Rattle.term_runner.proofs.Opening.{proof_at_start, whole_at_start, opened_at, ready_at, decided_leads}
 use Rattle.term_runner.proofs.run.run_plan_into.Goals as goal
 
@@ -20,7 +22,10 @@ returns-in_default-clause-ends g c =
     let tells = g.S.Sink.tells in
     let channel : Channel = g.S.Sink.channel c.args.sink.now in
     let proof = proof_at_start c.start_law.ensures.clauses c.start_law.ensures.none_at_zero c.start_law.ensures.none_above c.derivation_law.ensures.none formula.clauses tells channel c.requires.fresh in
-    nothing_ends tells channel channel formula c.args.order.now c.args.plan.now c.args.limits (λ within. whole_at_start c.marks_law.ensures.start formula within c.formula_law.ensures.literals tells channel proof) refl refl refl
+    nothing_ends tells channel channel formula c.args.order.now c.args.plan.now c.args.limits (whole_at_start formula (KeepsWithin formula c.args.limits) (start_within c.marks_law.ensures.start formula c.args.limits c.formula_law.ensures.literals) tells channel proof)
+    (λ width price. whole_at_start formula (IsPaidFor formula c.args.limits c.args.plan.now width price)
+    (start_paid c.marks_law.ensures.start c.start_law.ensures.none_above c.lean_law.ensures.few formula c.args.limits c.args.plan.now width price c.formula_law.ensures.literals) tells channel proof)
+    refl refl refl
 
 pub returns-in-Some-clause-ends : goal.returns-in-Some-clause-ends
 returns-in-Some-clause-ends g c =
@@ -43,7 +48,10 @@ returns-in_default-new-clause-ends g c =
     let channel : Channel = g.S.Sink.channel c.args.sink.now in
     let proof = proof_at_start c.start_law.ensures.clauses c.start_law.ensures.none_at_zero c.start_law.ensures.none_above c.derivation_law.ensures.none formula.clauses tells channel c.requires.fresh in
     subst (λ (s : g.row.S.Denot). Ends tells channel (g.S.Sink.channel s) formula c.args.order.now c.args.plan.now c.args.limits _) (search rules)
-    (nothing_ends tells channel channel formula c.args.order.now c.args.plan.now c.args.limits (λ within. whole_at_start c.marks_law.ensures.start formula within c.formula_law.ensures.literals tells channel proof) refl refl refl)
+    (nothing_ends tells channel channel formula c.args.order.now c.args.plan.now c.args.limits (whole_at_start formula (KeepsWithin formula c.args.limits) (start_within c.marks_law.ensures.start formula c.args.limits c.formula_law.ensures.literals) tells channel proof)
+    (λ width price. whole_at_start formula (IsPaidFor formula c.args.limits c.args.plan.now width price)
+    (start_paid c.marks_law.ensures.start c.start_law.ensures.none_above c.lean_law.ensures.few formula c.args.limits c.args.plan.now width price c.formula_law.ensures.literals) tells channel proof)
+    refl refl refl)
 
 pub decide-found-requires-clause-ready : goal.decide-found-requires-clause-ready
 decide-found-requires-clause-ready g c =
@@ -94,8 +102,8 @@ returns-clause-ends g c =
       tautologies = λ all. ap (λ (t : TableState (MutBor g.row.S.Denot)). (g.S.Sink.channel t.book.sink.now).written) (told.tautologies all);
       open_clause = told.open_clause;
       short = told.short;
-      price = told.price;
-      nodes = told.few;
+      paid = told.paid;
+      lean = told.lean;
       few = c.table_law.ensures.few_nodes;
     }) in
     let outcome = subst (λ (o : Result Outcome RunError). Leads tells before after formula table.graph.order moves limits new.book o) (sym c.outcome_of.ensures) leads in

@@ -1,0 +1,15 @@
+use Rattle.std.proofs.Common.{◌≡◌, arith}
+use Rattle.apply_and.specs.Cache.{entries as conjunctions, most_entries as most_conjunctions}
+use Rattle.imply.specs.Cache.{entries as implications, most_entries as most_implications}
+use Rattle.quantify.specs.ExistsCache.{both_caches}
+use Rattle.term_runner.proofs.AllCaches.{both_unnamed}
+use Rattle.term_runner.proofs.Few.{named_few}
+use Rattle.term_runner.proofs.caches.Caches.few_law.Goals as goal
+
+pub returns : goal.returns
+returns c size have =
+    let caches = c.args.self.now in
+    let ands : most_conjunctions caches.ands ≡ size = cc in
+    let own : most_implications caches.implications ≡ size = cc in
+    named_few (conjunctions caches.ands) (implications caches.implications) (both_caches caches.quantifications caches.ors) (both_unnamed caches.quantifications caches.ors) size
+    (omega (arith, c.few_law.ensures, ands)) (omega (arith, c.few_law-2.ensures, own))
