@@ -58,7 +58,7 @@ Example:
 };
 
 const LAX_HELP: &str =
-    "Read FILE also with another number of clauses than announced, or without its last zero";
+    "The number of clauses that FILE announces may be wrong, and its last zero may be missing";
 
 const ORDER_HELP: &str =
     "A file with the order of the variables, the top one first [default: 1, 2, ..]";
