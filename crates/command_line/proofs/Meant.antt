@@ -14,7 +14,7 @@ use Rattle.clap.proofs.OnLiterals.{clap_on_literals}
 use Rattle.clap.proofs.WalkLemmas.{first_value-rows}
 use Rattle.schedule_plan.specs.declared.limits.Limits.{Limits}
 use Rattle.command_line.specs.Parser.{the_app}
-use Rattle.command_line.specs.Command.{Command, Meaning, Asks, Misuse, IsOneOf, MayMean, bench_means, board_means, check_means, command, command_means, limits_among, make_means, means, meanings, only_command, part_named, refusal_means, size_among, solve_by, solve_means, taken_means, to_bench, to_check, to_make, two_names}
+use Rattle.command_line.specs.Command.{Command, Meaning, Asks, Misuse, IsOneOf, MayMean, bench_means, board_means, check_means, command, command_means, limits_among, make_means, means, meanings, mode_given, only_command, part_named, refusal_means, size_among, solve_by, solve_means, taken_means, to_bench, to_check, to_make, two_names}
 
 -- the parser is one whose meaning is known
 simple : is_simple the_app ≡ true
@@ -123,12 +123,12 @@ of_row values name value is = sym (is ∙ first_value-rows (found_of values) nam
 pub ap₃ : {A B C D : Type 0} (f : A → B → C → D) {a d : A} {b e : B} {c g : C} → a ≡ d → b ≡ e → c ≡ g → f a b c ≡ f d e g
 ap₃ f p q r = λ i. f (p i) (q i) (r i)
 
-pub solve_values : (values : ArgMatches) (file proof order schedule plan : Option Text) (limits : Option Limits)
-    → file ≡ first_value (found_of values) (codes "FILE") → proof ≡ first_value (found_of values) (codes "proof") → order ≡ first_value (found_of values) (codes "order")
+pub solve_values : (values : ArgMatches) (file proof lax order schedule plan : Option Text) (limits : Option Limits)
+    → file ≡ first_value (found_of values) (codes "FILE") → proof ≡ first_value (found_of values) (codes "proof") → lax ≡ first_value (found_of values) (codes "lax") → order ≡ first_value (found_of values) (codes "order")
     → schedule ≡ first_value (found_of values) (codes "schedule") → plan ≡ first_value (found_of values) (codes "plan") → limits ≡ limits_among (rows_of (found_of values))
-    → solve_means (rows_of (found_of values)) ≡ solve_by file proof order schedule plan limits
-solve_values values file proof order schedule plan limits file_is proof_is order_is schedule_is plan_is limits_are = λ i.
-    solve_by (of_row values (codes "FILE") file file_is i) (of_row values (codes "proof") proof proof_is i) (of_row values (codes "order") order order_is i)
+    → solve_means (rows_of (found_of values)) ≡ solve_by file proof lax order schedule plan limits
+solve_values values file proof lax order schedule plan limits file_is proof_is lax_is order_is schedule_is plan_is limits_are = λ i.
+    solve_by (of_row values (codes "FILE") file file_is i) (of_row values (codes "proof") proof proof_is i) (of_row values (codes "lax") lax lax_is i) (of_row values (codes "order") order order_is i)
     (of_row values (codes "schedule") schedule schedule_is i) (of_row values (codes "plan") plan plan_is i) (sym limits_are i)
 
 -- files that aren't named change nothing
@@ -138,12 +138,13 @@ two_alone None (Some proof) = refl
 two_alone (Some file) None = refl
 two_alone (Some file) (Some proof) = refl
 
-pub check_values : (values : ArgMatches) (file proof : Option Text)
-    → file ≡ first_value (found_of values) (codes "FILE") → proof ≡ first_value (found_of values) (codes "PROOF")
-    → check_means (rows_of (found_of values)) ≡ to_check (two_names file proof (None ∷ None ∷ []))
-check_values values file proof file_is proof_is =
-    ap₂ (λ (f p : Option Text). to_check (two_names f p [])) (of_row values (codes "FILE") file file_is) (of_row values (codes "PROOF") proof proof_is)
-    ∙ ap to_check (two_alone file proof)
+pub check_values : (values : ArgMatches) (file proof lax : Option Text)
+    → file ≡ first_value (found_of values) (codes "FILE") → proof ≡ first_value (found_of values) (codes "PROOF") → lax ≡ first_value (found_of values) (codes "lax")
+    → check_means (rows_of (found_of values)) ≡ to_check (two_names file proof (None ∷ None ∷ [])) (mode_given lax)
+check_values values file proof lax file_is proof_is lax_is =
+    ap₃ (λ (f p l : Option Text). to_check (two_names f p []) (mode_given l)) (of_row values (codes "FILE") file file_is) (of_row values (codes "PROOF") proof proof_is)
+    (of_row values (codes "lax") lax lax_is)
+    ∙ ap (λ (names : Option (Text × Text)). to_check names (mode_given lax)) (two_alone file proof)
 
 pub bench_values : (values : ArgMatches) (size : Option ℕ) (proof : Option Text) (limits : Option Limits)
     → size ≡ size_among (rows_of (found_of values)) → proof ≡ first_value (found_of values) (codes "proof") → limits ≡ limits_among (rows_of (found_of values))

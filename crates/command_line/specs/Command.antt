@@ -8,6 +8,8 @@ use Rattle.clap.specs.Words.{Row, Text, first_of, fault_of, subcommand_of}
 use Rattle.clap.specs.declared.error.ErrorKind.{ErrorKind}
 use Rattle.clap.specs.declared.error.ErrorKind.TheVariants as kind
 use Rattle.cnf_base.specs.Number.{numeral_value}
+use Rattle.dimacs_reader.specs.declared.mode.Mode.{Mode}
+use Rattle.dimacs_reader.specs.declared.mode.Mode.TheVariants.{Strict, Lax}
 use Rattle.schedule_plan.specs.Limits.{most_ids}
 use Rattle.schedule_plan.specs.declared.limits.Limits.{Limits}
 use Rattle.command_line.specs.declared.plan.PlanName.{PlanName}
@@ -21,19 +23,21 @@ pub data Planned : Type 0 where
   ByName : PlanName → Planned
   ByFile : Text → Planned
 
--- to decide the formula in a file by a plan and within limits, and to write the proof to another one; the order of its
+-- to decide the formula in a file, read in a mode, by a plan and within limits, and to write the proof to another one; the order of its
 -- variables stands in the file of that name, if one is named
 pub record ToSolve : Type 0 where
   pub file : Text
   pub proof : Text
+  pub mode : Mode
   pub order : Option Text
   pub plan : Planned
   pub limits : Limits
 
--- to judge the proof in a file over the formula in another one
+-- to judge the proof in a file over the formula in another one, read in a mode
 pub record ToCheck : Type 0 where
   pub file : Text
   pub proof : Text
+  pub mode : Mode
 
 -- to decide the board of so many squares a side by its column order and schedule, within limits, and to write the proof to a file
 pub record ToBench : Type 0 where
@@ -59,6 +63,13 @@ formula_file (Solve task) = Some task.file
 formula_file (Check task) = Some task.file
 formula_file (Bench task) = None
 formula_file (Make task) = None
+
+-- the mode in which the formula's file is read, where one is named
+abbrev pub mode_of : Command → Mode
+mode_of (Solve task) = task.mode
+mode_of (Check task) = task.mode
+mode_of (Bench task) = Strict
+mode_of (Make task) = Strict
 
 -- the limits where the words give none
 abbrev pub default_limits : Limits
@@ -130,6 +141,11 @@ abbrev pub number_given : ℕ → ℕ → ℕ → Option Text → Option ℕ
 number_given least default greatest None = Some default
 number_given least default greatest (Some text) = number_within least greatest text
 
+-- the mode, by the text of the flag `--lax`
+abbrev pub mode_given : Option Text → Mode
+mode_given None = Strict
+mode_given (Some text) = if bytes_eq text (codes "true") then Lax else Strict
+
 -- the plan of this name, if it is one
 abbrev pub plan_named : Text → Option PlanName
 plan_named name = if bytes_eq name (codes "bucket") then Some Bucket else if bytes_eq name (codes "conjoin") then Some Conjoin else None
@@ -161,15 +177,16 @@ abbrev pub part_named : Text → Option Part
 part_named name =
     if bytes_eq name (codes "cnf") then Some Cnf else if bytes_eq name (codes "order") then Some Order else if bytes_eq name (codes "schedule") then Some Schedule else None
 
--- two files, an order, what gives the plan, and limits to solve within
-abbrev pub to_solve : Option (Text × Text) → Option Text → Option Planned → Option Limits → Meaning
-to_solve (Some names) order (Some plan) (Some limits) = Asks (Solve (record { file = names.0; proof = names.1; order = order; plan = plan; limits = limits }))
-to_solve _ _ _ _ = Misuse
+-- two files, a mode, an order, what gives the plan, and limits to solve within
+abbrev pub to_solve : Option (Text × Text) → Mode → Option Text → Option Planned → Option Limits → Meaning
+to_solve (Some names) mode order (Some plan) (Some limits) =
+    Asks (Solve (record { file = names.0; proof = names.1; mode = mode; order = order; plan = plan; limits = limits }))
+to_solve _ _ _ _ _ = Misuse
 
--- two files to check
-abbrev pub to_check : Option (Text × Text) → Meaning
-to_check (Some names) = Asks (Check (record { file = names.0; proof = names.1 }))
-to_check None = Misuse
+-- two files to check, and a mode
+abbrev pub to_check : Option (Text × Text) → Mode → Meaning
+to_check (Some names) mode = Asks (Check (record { file = names.0; proof = names.1; mode = mode }))
+to_check None mode = Misuse
 
 -- a size, a proof's file, and limits to decide the board of that size within
 abbrev pub to_bench : Option ℕ → Option Text → Option Limits → Meaning
@@ -186,16 +203,17 @@ abbrev pub limits_among : List Row → Option Limits
 limits_among rows = limits_given (first_of (codes "max-nodes") rows) (first_of (codes "max-ids") rows) (first_of (codes "cache") rows)
 
 -- `solve` by the values of its arguments
-abbrev pub solve_by : Option Text → Option Text → Option Text → Option Text → Option Text → Option Limits → Meaning
-solve_by file proof order schedule plan limits = to_solve (two_names file proof (order ∷ schedule ∷ [])) order (plan_given plan schedule) limits
+abbrev pub solve_by : Option Text → Option Text → Option Text → Option Text → Option Text → Option Text → Option Limits → Meaning
+solve_by file proof lax order schedule plan limits =
+    to_solve (two_names file proof (order ∷ schedule ∷ [])) (mode_given lax) order (plan_given plan schedule) limits
 
 abbrev pub solve_means : List Row → Meaning
 solve_means rows =
-    solve_by (first_of (codes "FILE") rows) (first_of (codes "proof") rows) (first_of (codes "order") rows) (first_of (codes "schedule") rows)
-    (first_of (codes "plan") rows) (limits_among rows)
+    solve_by (first_of (codes "FILE") rows) (first_of (codes "proof") rows) (first_of (codes "lax") rows) (first_of (codes "order") rows)
+    (first_of (codes "schedule") rows) (first_of (codes "plan") rows) (limits_among rows)
 
 abbrev pub check_means : List Row → Meaning
-check_means rows = to_check (two_names (first_of (codes "FILE") rows) (first_of (codes "PROOF") rows) [])
+check_means rows = to_check (two_names (first_of (codes "FILE") rows) (first_of (codes "PROOF") rows) []) (mode_given (first_of (codes "lax") rows))
 
 -- the size of a board that is among these values
 abbrev pub size_among : List Row → Option ℕ
@@ -248,6 +266,11 @@ only_command _ = None
 
 abbrev pub command : List Text → Option Command
 command words = only_command (meanings words)
+
+-- the mode in which they have the formula's file read
+abbrev pub mode_asked : Option Command → Mode
+mode_asked None = Strict
+mode_asked (Some asked) = mode_of asked
 
 -- the limits of their run
 abbrev pub limits_asked : Option Command → Limits

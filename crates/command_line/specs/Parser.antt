@@ -1,5 +1,6 @@
 -- The words that the program knows, as its parser of command lines has them.
 use Rattle.std.specs.Prelude.{true, List, [], ◌∷◌, Some, codes}
+use Rattle.clap.specs.declared.builder.action.ArgAction.TheVariants.{SetTrue}
 use Rattle.clap.specs.Words.{App, Rule, Text, new_app, new_rule, with_rule, with_subcommand}
 
 -- a command with these arguments, behind those that it has
@@ -23,6 +24,10 @@ needed_rule name = record (option_rule name) { required = true }
 abbrev pub proof_rule : Rule
 proof_rule = needed_rule (codes "proof")
 
+-- `[--lax]`, without a value: the parser reads it as the text `true`, or `false` where it isn't among the words
+abbrev pub lax_rule : Rule
+lax_rule = record (new_rule (codes "lax")) { long = Some (codes "lax"); action = Some SetTrue }
+
 -- `[--max-nodes N] [--max-ids N] [--cache N]`
 abbrev pub limit_rules : List Rule
 limit_rules = option_rule (codes "max-nodes") ∷ option_rule (codes "max-ids") ∷ option_rule (codes "cache") ∷ []
@@ -31,19 +36,19 @@ limit_rules = option_rule (codes "max-nodes") ∷ option_rule (codes "max-ids") 
 abbrev pub source_rules : List Rule
 source_rules = option_rule (codes "order") ∷ option_rule (codes "schedule") ∷ option_rule (codes "plan") ∷ []
 
--- `solve FILE --proof P [--order F] [--schedule F] [--plan PLAN] [--max-nodes N] [--max-ids N] [--cache N]`
+-- `solve FILE --proof P [--lax] [--order F] [--schedule F] [--plan PLAN] [--max-nodes N] [--max-ids N] [--cache N]`
 abbrev pub solve_app : App
 solve_app =
     with_rules (new_app (codes "solve"))
-    (file_rule ∷ proof_rule ∷ option_rule (codes "order") ∷ option_rule (codes "schedule") ∷ option_rule (codes "plan") ∷ limit_rules)
+    (file_rule ∷ proof_rule ∷ lax_rule ∷ option_rule (codes "order") ∷ option_rule (codes "schedule") ∷ option_rule (codes "plan") ∷ limit_rules)
 
 -- a proof's file, behind the formula's
 abbrev pub proof_file_rule : Rule
 proof_file_rule = record (new_rule (codes "PROOF")) { required = true }
 
--- `check FILE PROOF`
+-- `check FILE PROOF [--lax]`
 abbrev pub check_app : App
-check_app = with_rules (new_app (codes "check")) (file_rule ∷ proof_file_rule ∷ [])
+check_app = with_rules (new_app (codes "check")) (file_rule ∷ proof_file_rule ∷ lax_rule ∷ [])
 
 -- a word that must be there, without an option in front of it; help shows it by another name
 abbrev pub word_rule : Text → Rule

@@ -24,8 +24,15 @@ planned_of (source.Schedule file) = ByFile file.now
 -- the command with its values
 abbrev pub command_of : Asked → Command
 command_of (asked.Solve task) =
-    Solve (record { file = task.files.formula.now; proof = task.files.proof.now; order = text_of task.order; plan = planned_of task.plan; limits = task.limits })
-command_of (asked.Check files) = Check (record { file = files.formula.now; proof = files.proof.now })
+    Solve (record {
+      file = task.files.formula.now;
+      proof = task.files.proof.now;
+      mode = task.mode;
+      order = text_of task.order;
+      plan = planned_of task.plan;
+      limits = task.limits;
+    })
+command_of (asked.Check task) = Check (record { file = task.files.formula.now; proof = task.files.proof.now; mode = task.mode })
 command_of (asked.Bench task) = Bench (record { size = task.size; proof = task.proof.now; limits = task.limits })
 command_of (asked.Make task) = Make (record { size = task.size; part = task.part; file = task.file.now })
 

@@ -2,19 +2,19 @@
 ghost use Rattle.std.specs.Prelude.{◌≡◌, IfOk, MatchResult, false};
 ghost use Rattle.clap.specs.Words.{app_of, rule_of, shape_of, with_subcommand};
 ghost use Rattle.clap.specs.declared.Command.TheViews.{out-Command};
-ghost use Rattle.command_line.specs.Parser.{check_app, file_rule, proof_file_rule, solve_app, source_rules, the_app, with_rules};
+ghost use Rattle.command_line.specs.Parser.{check_app, file_rule, lax_rule, proof_file_rule, solve_app, source_rules, the_app, with_rules};
 
 use crate::args::{Texts, command, option_arg, proof_arg, with_limits};
 use crate::board_parser::{bench_parser, make_parser};
-use clap::{Arg, Command};
+use clap::{Arg, ArgAction, Command};
 use std::alloc::{AllocError, Global};
 
 const ALL: Texts<'static> = Texts {
     about: "Decides a CNF formula and proves the answer, or checks a proof.",
     usage: "\
-bddsat solve FILE --proof P [--order F] [--schedule F] [--plan PLAN]
+bddsat solve FILE --proof P [--lax] [--order F] [--schedule F] [--plan PLAN]
                     [--max-nodes N] [--max-ids N] [--cache N]
-       bddsat check FILE PROOF
+       bddsat check FILE PROOF [--lax]
        bddsat bench board N --proof P [--max-nodes N] [--max-ids N] [--cache N]
        bddsat make board N --part PART --out F",
     after: "\
@@ -42,7 +42,7 @@ Example:
 const SOLVE: Texts<'static> = Texts {
     about: "Decides FILE, and writes the proof to P where it is unsatisfiable",
     usage: "\
-bddsat solve FILE --proof P [--order F] [--schedule F] [--plan PLAN]
+bddsat solve FILE --proof P [--lax] [--order F] [--schedule F] [--plan PLAN]
                     [--max-nodes N] [--max-ids N] [--cache N]",
     after: "\
 Example:
@@ -51,11 +51,14 @@ Example:
 
 const CHECK: Texts<'static> = Texts {
     about: "Judges the proof in PROOF that FILE is unsatisfiable",
-    usage: "bddsat check FILE PROOF",
+    usage: "bddsat check FILE PROOF [--lax]",
     after: "\
 Example:
   bddsat check formula.cnf formula.lrat",
 };
+
+const LAX_HELP: &str =
+    "The number of clauses that FILE announces may be wrong, and its last zero may be missing";
 
 const ORDER_HELP: &str =
     "A file with the order of the variables, the top one first [default: 1, 2, ..]";
@@ -93,7 +96,8 @@ fn solve_parser<'a>(alloc: Global) -> Result<Command<'a>, AllocError>
 {
     let command = command(alloc, "solve", SOLVE)
         .arg(formula_arg(alloc))?
-        .arg(proof_arg(alloc))?;
+        .arg(proof_arg(alloc))?
+        .arg(lax_arg(alloc))?;
     let command = with_sources(alloc, command)?;
     with_limits(alloc, command)
 }
@@ -115,7 +119,8 @@ fn check_parser<'a>(alloc: Global) -> Result<Command<'a>, AllocError>
 {
     command(alloc, "check", CHECK)
         .arg(formula_arg(alloc))?
-        .arg(proof_file_arg(alloc))
+        .arg(proof_file_arg(alloc))?
+        .arg(lax_arg(alloc))
 }
 
 fn formula_arg<'a>(alloc: Global) -> Arg<'a>
@@ -125,6 +130,16 @@ fn formula_arg<'a>(alloc: Global) -> Arg<'a>
     Arg::new(alloc, "FILE")
         .required(true)
         .help("The formula, in DIMACS CNF")
+}
+
+fn lax_arg<'a>(alloc: Global) -> Arg<'a>
+    ensures rule { rule_of result ≡ lax_rule }
+    ensures local { result.global ≡ false }
+{
+    Arg::new(alloc, "lax")
+        .long("lax")
+        .action(ArgAction::SetTrue)
+        .help(LAX_HELP)
 }
 
 fn proof_file_arg<'a>(alloc: Global) -> Arg<'a>

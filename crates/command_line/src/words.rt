@@ -11,12 +11,14 @@ ghost use Rattle.command_line.specs.Reading.{IsRefusal, IsRefusalOf, IsWithin, c
 
 use crate::board::{BenchTask, MakeTask, bench_asked, make_asked};
 use crate::limits::limits_among;
+use crate::mode::mode_given;
 use crate::names::{FileNames, two_names};
 use crate::parser::parser;
 use crate::plan::{PlanSource, plan_given};
 use clap::ArgMatches;
 use clap::error::ErrorKind;
 use cnf_base::OutOfMemory;
+use dimacs_reader::Mode;
 use schedule_plan::Limits;
 use std::alloc::Global;
 
@@ -26,7 +28,7 @@ pub enum Asked<'a> {
     /// To decide a formula, and to write the proof.
     Solve(SolveTask<'a>),
     /// To judge the proof over the formula.
-    Check(FileNames<'a>),
+    Check(CheckTask<'a>),
     /// To decide a board, and to write the proof.
     Bench(BenchTask<'a>),
     /// To write a text of a board.
@@ -37,10 +39,20 @@ pub enum Asked<'a> {
 #[derive(Drop)]
 pub struct SolveTask<'a> {
     pub files: FileNames<'a>,
+    /// How the formula is read.
+    pub mode: Mode,
     /// The file of the variables' order, if one is named.
     pub order: Option<&'a str>,
     pub plan: PlanSource<'a>,
     pub limits: Limits,
+}
+
+/// What is to be judged.
+#[derive(Drop)]
+pub struct CheckTask<'a> {
+    pub files: FileNames<'a>,
+    /// How the formula is read.
+    pub mode: Mode,
 }
 
 /// Why the words ask for nothing that is to be done.
@@ -135,10 +147,12 @@ fn solve_asked<'a>(values: &ArgMatches<'a>) -> Option<Asked<'a>>
         order,
         schedule,
     )?;
+    let mode = mode_given(values.get_str("lax"));
     let plan = plan_given(values.get_str("plan"), schedule)?;
     let limits = limits_among(values)?;
     Some(Asked::Solve(SolveTask {
         files,
+        mode,
         order,
         plan,
         limits,
@@ -151,7 +165,8 @@ fn check_asked<'a>(values: &ArgMatches<'a>) -> Option<Asked<'a>>
     ensures within { IfSome result (λ asked. IsWithin (command_of asked)) }
 {
     let files = two_names(values.get_str("FILE"), values.get_str("PROOF"), None, None)?;
-    Some(Asked::Check(files))
+    let mode = mode_given(values.get_str("lax"));
+    Some(Asked::Check(CheckTask { files, mode }))
 }
 
 // What a refusal of the parser is; the text of help is made whole.

@@ -1,5 +1,5 @@
 -- What two calls say together of the header, and of the bytes taken as the front of a text.
-use Rattle.std.proofs.Common.{◌≡◌, ℕ, true, false, List, ◌++◌, Option, None, Some, Result, Ok, Err, refl, sym, ◌∙◌, ap, subst, append_assoc, arith}
+use Rattle.std.proofs.Common.{◌≡◌, ℕ, true, false, List, [], ◌++◌, Option, None, Some, Result, Ok, Err, refl, sym, ◌∙◌, ap, subst, append_assoc, arith}
 use Rattle.std.specs.Prelude.{nat_lt, min, ◌<◌}
 use Rattle.std.specs.Option.{option_map}
 use Rattle.cnf_base.specs.Formula.{Formula, Draft}
@@ -13,6 +13,7 @@ use Rattle.text_scan.specs.declared.scanner.ScanError.{ScanError}
 use Rattle.text_scan.specs.declared.scanner.ScanError.TheVariants.{ReadFault as ScanFault, TooLong as ScanTooLong}
 use Rattle.dimacs_reader.specs.declared.error.CnfError.{CnfError}
 use Rattle.dimacs_reader.specs.declared.error.CnfError.TheVariants.{Refused, ReadFault, TooLong, OutOfMemory}
+use Rattle.dimacs_reader.specs.declared.mode.Mode.{Mode}
 use Rattle.dimacs_reader.specs.Answers.{Answers, WantsMemory, error_of}
 use Rattle.dimacs_reader.specs.Body.{BodyState, Wants, no_clauses}
 use Rattle.dimacs_reader.specs.Cnf.{CnfText, overlong, max_vars, max_clauses, body, after_vars, after_format, after_p, cnf_of}
@@ -66,13 +67,13 @@ error_so_far reads long r ScanFault old new bytes r_is sound last gives =
 error_so_far reads long r ScanTooLong old new bytes r_is sound last gives = rw r_is tt
 
 -- a read that failed in the body
-pub fault_so_far : (r : Result Formula CnfError) (e : ScanError) (old new : Scan) (bytes : List ℕ) (count : ℕ) (draft : Draft) → r ≡ Err (error_of e) → r ≡ Err ReadFault
+pub fault_so_far : (mode : Mode) (r : Result Formula CnfError) (e : ScanError) (old new : Scan) (bytes : List ℕ) (count : ℕ) (draft : Draft) → r ≡ Err (error_of e) → r ≡ Err ReadFault
     → is_faulted old.status ≡ false → (is_reading old.status ≡ false → ◌≡◌ {A = Result (Option Word) ScanError} (Err e) (last_answer old.status))
-    → (is_reading old.status ≡ true → GivesSoFar (Err e) old new bytes) → (is_reading old.status ≡ true) × (body (so_far old bytes) count draft ≡ overlong)
-fault_so_far r ScanFault old new bytes count draft r_is failed sound last gives =
+    → (is_reading old.status ≡ true → GivesSoFar (Err e) old new bytes) → (is_reading old.status ≡ true) × (body mode (so_far old bytes) count draft ≡ overlong)
+fault_so_far mode r ScanFault old new bytes count draft r_is failed sound last gives =
     let reading = failed_reading old sound last in
-    (reading, ap (λ is. body is count draft) (gives reading))
-fault_so_far r ScanTooLong old new bytes count draft r_is failed sound last gives = let same = sym r_is ∙ failed in cc
+    (reading, ap (λ is. body mode is count draft) (gives reading))
+fault_so_far mode r ScanTooLong old new bytes count draft r_is failed sound last gives = let same = sym r_is ∙ failed in cc
 
 -- What a call said of the bytes that it took, behind those of the call before.
 pub behind_so_far : (r : Result BodyState CnfError) (old mid new : Scan) (text rest : List ℕ → CnfText) (first second whole : List ℕ) → whole ≡ first ++ second
@@ -90,41 +91,41 @@ behind_so_far (Err ReadFault) old mid new text rest first second whole joined fr
 behind_so_far (Err OutOfMemory) old mid new text rest first second whole joined front began = tt
 
 -- Behind a good header the text is what its body is.
-count_body : (items : Items) (vars count : ℕ) (rest : Items) → HasCount items count rest → after_vars vars items ≡ body rest count (no_clauses vars)
-count_body (the_end line) vars count rest header = absurd header
-count_body (too_long line) vars count rest header = absurd header
-count_body (next_word word items) vars count rest header =
+count_body : (mode : Mode) (items : Items) (vars count : ℕ) (rest : Items) → HasCount items count rest → after_vars mode vars items ≡ body mode rest count (no_clauses vars)
+count_body mode (the_end line) vars count rest header = absurd header
+count_body mode (too_long line) vars count rest header = absurd header
+count_body mode (next_word word items) vars count rest header =
     let within : nat_lt max_clauses count ≡ false = grind (arith, header.1) in
     rw (header.0, within, header.2) refl
 
-vars_body : (items : Items) (vars count : ℕ) (rest : Items) → HasVars items vars count rest → after_format items ≡ body rest count (no_clauses vars)
-vars_body (the_end line) vars count rest header = absurd header
-vars_body (too_long line) vars count rest header = absurd header
-vars_body (next_word word items) vars count rest header =
+vars_body : (mode : Mode) (items : Items) (vars count : ℕ) (rest : Items) → HasVars items vars count rest → after_format mode items ≡ body mode rest count (no_clauses vars)
+vars_body mode (the_end line) vars count rest header = absurd header
+vars_body mode (too_long line) vars count rest header = absurd header
+vars_body mode (next_word word items) vars count rest header =
     let within : nat_lt max_vars vars ≡ false = grind (arith, header.1) in
-    rw (header.0, within) (count_body items vars count rest header.2)
+    rw (header.0, within) (count_body mode items vars count rest header.2)
 
-format_body : (items : Items) (vars count : ℕ) (rest : Items) → HasFormat items vars count rest → after_p items ≡ body rest count (no_clauses vars)
-format_body (the_end line) vars count rest header = absurd header
-format_body (too_long line) vars count rest header = absurd header
-format_body (next_word word items) vars count rest header = rw (header.0) (vars_body items vars count rest header.1)
+format_body : (mode : Mode) (items : Items) (vars count : ℕ) (rest : Items) → HasFormat items vars count rest → after_p mode items ≡ body mode rest count (no_clauses vars)
+format_body mode (the_end line) vars count rest header = absurd header
+format_body mode (too_long line) vars count rest header = absurd header
+format_body mode (next_word word items) vars count rest header = rw (header.0) (vars_body mode items vars count rest header.1)
 
-pub header_body : (items : Items) (vars count : ℕ) (rest : Items) → HasHeader items vars count rest → cnf_of items ≡ body rest count (no_clauses vars)
-header_body (the_end line) vars count rest header = absurd header
-header_body (too_long line) vars count rest header = absurd header
-header_body (next_word word items) vars count rest header = rw (header.0) (format_body items vars count rest header.1)
+pub header_body : (mode : Mode) (items : Items) (vars count : ℕ) (rest : Items) → HasHeader items vars count rest → cnf_of mode items ≡ body mode rest count (no_clauses vars)
+header_body mode (the_end line) vars count rest header = absurd header
+header_body mode (too_long line) vars count rest header = absurd header
+header_body mode (next_word word items) vars count rest header = rw (header.0) (format_body mode items vars count rest header.1)
 
-pub began_body : (state : BodyState) (text : CnfText) (all rest : Items) → Begins (Ok state) text (λ vars count. HasHeader all vars count rest) → cnf_of all ≡ body rest state.count state.draft
-began_body state text all rest began = header_body all state.draft.vars state.count rest began.0 ∙ ap (body rest state.count) (sym began.1)
+pub began_body : (mode : Mode) (state : BodyState) (text : CnfText) (all rest : Items) → Begins (Ok state) text (λ vars count. HasHeader all vars count rest) → state.mode ≡ mode → cnf_of mode all ≡ body state.mode rest state.count state.draft
+began_body mode state text all rest began mode_is = rw mode_is (header_body mode all state.draft.vars state.count rest began.0 ∙ ap (body mode rest state.count) (sym began.1))
 
-pub began_wants : (state : BodyState) (text : CnfText) (all rest after : Items) → Begins (Ok state) text (λ vars count. HasHeader all vars count rest) → Wants state.count rest state.draft after → WantsMemory all
-began_wants state text all rest after began wants = record {
+pub began_wants : (mode : Mode) (state : BodyState) (text : CnfText) (all rest : Items) → Begins (Ok state) text (λ vars count. HasHeader all vars count rest) → state.mode ≡ mode
+    → (state.draft.begun ≡ [] → Wants state.mode state.count rest state.draft) → WantsMemory mode all
+began_wants mode state text all rest began mode_is wants = record {
   vars = state.draft.vars;
   count = state.count;
   rest = rest;
   header = began.0;
-  after = after;
-  wants = subst (λ draft. Wants state.count rest draft after) began.1 wants;
+  wants = subst (λ draft. Wants mode state.count rest draft) began.1 (rw mode_is at (wants (ap (λ (draft : Draft). draft.begun) began.1)));
 }
 
 -- an error of the header is the answer

@@ -8,6 +8,7 @@ use Rattle.dimacs_reader.specs.declared.error.CnfError.{CnfError}
 use Rattle.dimacs_reader.specs.declared.error.CnfError.TheVariants.{Refused, ReadFault, TooLong, OutOfMemory}
 use Rattle.dimacs_reader.specs.declared.error.CnfKind.{CnfKind}
 use Rattle.dimacs_reader.specs.declared.error.CnfKind.TheVariants.{NoHeader, BadHeader, BadToken, LiteralRange, TooManyClauses, ClauseMissing, NoEndingZero, Limit}
+use Rattle.dimacs_reader.specs.declared.mode.Mode.{Mode}
 use Rattle.dimacs_reader.specs.Body.{Wants, no_clauses}
 use Rattle.dimacs_reader.specs.Cnf.{CnfText, formula, refusal, overlong}
 use Rattle.dimacs_reader.specs.Header.{HasHeader}
@@ -21,13 +22,12 @@ Answers (Err ReadFault) text = ⊤
 Answers (Err OutOfMemory) text = ⊤
 
 -- Memory may be wanted for a text of these items: it has a good header, and behind it a number that offends nothing.
-pub record WantsMemory (all : Items) : Type 0 where
+pub record WantsMemory (mode : Mode) (all : Items) : Type 0 where
   pub vars : ℕ
   pub count : ℕ
   pub rest : Items
   pub header : HasHeader all vars count rest
-  pub after : Items
-  pub wants : Wants count rest (no_clauses vars) after
+  pub wants : Wants mode count rest (no_clauses vars)
 
 -- the number of a kind
 abbrev pub number_of : CnfKind → ℕ

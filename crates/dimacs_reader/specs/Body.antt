@@ -1,5 +1,5 @@
 -- The body of a text as it is read: what is announced, and the draft so far.
-use Rattle.std.specs.Prelude.{◌≡◌, ℕ, ◌≤◌, false, [], length, Option, None, Some, Result, Ok, Err, codes, ⊤}
+use Rattle.std.specs.Prelude.{◌≡◌, ℕ, ◌≤◌, ◌<◌, false, [], length, Option, None, Some, Result, Ok, Err, codes, ⊤}
 use Rattle.cnf_base.specs.Formula.{Formula, Draft}
 use Rattle.cnf_base.specs.Number.{signed_number}
 use Rattle.cnf_base.specs.Text.{Word}
@@ -7,10 +7,12 @@ use Rattle.text_scan.specs.Items.{Items, next_word}
 use Rattle.dimacs_reader.specs.declared.error.CnfError.{CnfError}
 use Rattle.dimacs_reader.specs.declared.error.CnfError.TheVariants.{Refused, ReadFault, TooLong, OutOfMemory}
 use Rattle.dimacs_reader.specs.declared.error.CnfKind.{CnfKind}
+use Rattle.dimacs_reader.specs.declared.mode.Mode.{Mode}
 use Rattle.dimacs_reader.specs.Cnf.{CnfText, formula, refusal, overlong, max_vars, max_clauses, max_literals, literals_of, is_word, with_read, offence_of}
 
--- how many clauses are announced, and what was read of them
+-- the mode, how many clauses are announced, and what was read of them
 pub record BodyState : Type 0 where
+  pub mode : Mode
   pub count : ℕ
   pub draft : Draft
 
@@ -19,29 +21,31 @@ abbrev pub no_clauses : ℕ → Draft
 no_clauses vars = record { vars = vars; clauses = []; begun = [] }
 
 -- a token that neither ends the clauses nor offends, after this draft
-pub record IsGood (word : Word) (count : ℕ) (draft : Draft) : Type 0 where
+pub record IsGood (mode : Mode) (word : Word) (count : ℕ) (draft : Draft) : Type 0 where
   pub goes_on : is_word (codes "%") word.bytes ≡ false
-  pub unoffending : offence_of (signed_number word.bytes) count draft ≡ None
+  pub unoffending : offence_of mode (signed_number word.bytes) count draft ≡ None
 
 -- Of all these items the first tokens are good, each after the draft of those before it; then come those items, and
 -- that is the draft.
-pub data Passes (count : ℕ) (all : Items) (start : Draft) : Items → Draft → Type 0 where
-  pass_none : Passes count all start all start
-  pass_one : {word : Word} {items : Items} {draft : Draft} → Passes count all start (next_word word items) draft → IsGood word count draft
-      → Passes count all start items (with_read (signed_number word.bytes) draft)
+pub data Passes (mode : Mode) (count : ℕ) (all : Items) (start : Draft) : Items → Draft → Type 0 where
+  pass_none : Passes mode count all start all start
+  pass_one : {word : Word} {items : Items} {draft : Draft} → Passes mode count all start (next_word word items) draft → IsGood mode word count draft
+      → Passes mode count all start items (with_read (signed_number word.bytes) draft)
 
--- Memory was wanted for a number: all tokens before those items are good, and there is at least one.
-pub record Wants (count : ℕ) (all : Items) (start : Draft) (after : Items) : Type 0 where
+-- Memory may be wanted for a number: the first tokens of all these items are good, and there is at least one.
+pub record Wants (mode : Mode) (count : ℕ) (all : Items) (start : Draft) : Type 0 where
   pub word : Word
+  pub after : Items
   pub draft : Draft
-  pub passed : Passes count all start (next_word word after) draft
-  pub good : IsGood word count draft
+  pub passed : Passes mode count all start (next_word word after) draft
+  pub good : IsGood mode word count draft
 
 -- the counters are those of the draft, and within the limits
 pub record IsBody (vars count ended begun literals : ℕ) (draft : Draft) : Type 0 where
   pub vars_are : vars ≡ draft.vars
   pub few_vars : vars ≤ max_vars
   pub few_clauses : count ≤ max_clauses
+  pub room : 0 < begun → ended < max_clauses
   pub ended_are : ended ≡ length draft.clauses
   pub begun_are : begun ≡ length draft.begun
   pub literals_are : literals ≡ literals_of draft

@@ -45,7 +45,7 @@ Begins (Err OutOfMemory) text Good = ⊥
 -- decide nothing yet.
 abbrev pub BeginsSoFar : Result BodyState CnfError → Scan → Scan → (List ℕ → CnfText) → List ℕ → Type 0
 BeginsSoFar (Ok state) old new text bytes = is_reading new.status ≡ true
-    → (is_reading old.status ≡ true) × ((more : List ℕ) → text (bytes ++ more) ≡ body (so_far new more) state.count state.draft)
+    → (is_reading old.status ≡ true) × ((more : List ℕ) → text (bytes ++ more) ≡ body state.mode (so_far new more) state.count state.draft)
 BeginsSoFar (Err (Refused kind line)) old new text bytes = ⊤
 BeginsSoFar (Err TooLong) old new text bytes = ⊤
 BeginsSoFar (Err ReadFault) old new text bytes = (is_reading old.status ≡ true) × (text bytes ≡ overlong)

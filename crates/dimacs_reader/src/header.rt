@@ -12,6 +12,7 @@ ghost use Rattle.dimacs_reader.specs.Cnf.{max_bytes, max_vars, overlong, cnf, cn
 
 use crate::body::{Body, is_word, read_body};
 use crate::error::{CnfError, CnfKind};
+use crate::mode::Mode;
 use cnf_base::Cnf;
 use host_io::Source;
 use std::alloc::Global;
@@ -25,26 +26,26 @@ const MAX_VARS: u64 = 1_000_000;
 
 const MAX_CLAUSES: u64 = 10_000_000;
 
-/// Reads a CNF text to its end, or to the `%` that ends it, and answers what it is. Memory may be refused instead,
+/// Reads a CNF text to its end, or to the `%` that ends it, and answers what it is in this mode. Memory may be refused instead,
 /// or a read may fail. No read follows once the answer is decided.
-pub fn read_cnf<S: Source>(alloc: Global, source: &mut S) -> Result<Cnf, CnfError>
+pub fn read_cnf<S: Source>(alloc: Global, source: &mut S, mode: Mode) -> Result<Cnf, CnfError>
     // The answer is the grammar's of the bytes that were taken and whatever may follow them, so of the whole text.
-    ensures decides { IsTrue S.tells → Decides (S.channel source.old) (S.channel source.new) (λ bytes more. Answers result (cnf bytes)) }
+    ensures decides { IsTrue S.tells → Decides (S.channel source.old) (S.channel source.new) (λ bytes more. Answers result (cnf mode bytes)) }
     ensures fault { result ≡ Err ReadFault → Rose (S.channel source.old).faults (S.channel source.new).faults }
     // no failed read is told as anything else
     ensures unfailed { result ≢ Err ReadFault → (S.channel source.new).faults ≡ (S.channel source.old).faults }
     // a read fails only where the bytes taken decide nothing yet
-    ensures undecided { IsTrue S.tells → result ≡ Err ReadFault → cnf_so_far (gained (S.channel source.old) (S.channel source.new)) ≡ overlong }
+    ensures undecided { IsTrue S.tells → result ≡ Err ReadFault → cnf_so_far mode (gained (S.channel source.old) (S.channel source.new)) ≡ overlong }
     // memory is wanted only for a token that offends nothing, behind a header within the limits
     ensures memory { IsTrue S.tells → result ≡ Err OutOfMemory → Decides (S.channel source.old) (S.channel source.new)
-        (λ bytes more. WantsMemory (items 99 max_bytes bytes)) }
+        (λ bytes more. WantsMemory mode (items 99 max_bytes bytes)) }
     ensures formula { IfOk result IsFormula }
 
     ensures reads { OnlyReads (S.channel source.old) (S.channel source.new) }
     ensures beside { S.beside source.new ≡ S.beside source.old }
 {
     let mut scanner = Scanner::new(b'c', MAX_BYTES);
-    let body = read_header(alloc, &mut scanner, source)?;
+    let body = read_header(alloc, &mut scanner, source, mode)?;
     let cnf = read_body(body, &mut scanner, source)?;
     cnf.formula_law();
     Ok(cnf)
@@ -54,14 +55,15 @@ fn read_header<S: Source>(
     alloc: Global,
     scanner: &mut Scanner,
     source: &mut S,
+    mode: Mode,
 ) -> Result<Body, CnfError>
     requires { is_faulted scanner.old.status ≡ false }
     ensures decides { IsTrue S.tells → Decides (S.channel source.old) (S.channel source.new)
-        (λ bytes more. Begins result (cnf_of (ahead scanner.old bytes)) (λ vars count. HasHeader (ahead scanner.old bytes) vars count (ahead scanner.new more))) }
-    ensures so_far { IsTrue S.tells → BeginsSoFar result scanner.old scanner.new (λ more. cnf_of (so_far scanner.old more))
+        (λ bytes more. Begins result (cnf_of mode (ahead scanner.old bytes)) (λ vars count. HasHeader (ahead scanner.old bytes) vars count (ahead scanner.new more))) }
+    ensures so_far { IsTrue S.tells → BeginsSoFar result scanner.old scanner.new (λ more. cnf_of mode (so_far scanner.old more))
         (gained (S.channel source.old) (S.channel source.new)) }
     ensures memory { result ≢ Err OutOfMemory }
-    ensures sound { IfOk result (λ _. is_faulted scanner.new.status ≡ false) }
+    ensures sound { IfOk result (λ body. (is_faulted scanner.new.status ≡ false) × (body.mode ≡ mode)) }
     ensures fault { result ≡ Err ReadFault → Rose (S.channel source.old).faults (S.channel source.new).faults }
     ensures unfailed { result ≢ Err ReadFault → (S.channel source.new).faults ≡ (S.channel source.old).faults }
     ensures reads { OnlyReads (S.channel source.old) (S.channel source.new) }
@@ -71,7 +73,7 @@ fn read_header<S: Source>(
         None => Err(CnfError::Refused(CnfKind::NoHeader, scanner.line())),
         Some(token) => {
             if is_word(&token, b"p") {
-                read_format(alloc, scanner, source)
+                read_format(alloc, scanner, source, mode)
             } else {
                 Err(CnfError::Refused(CnfKind::NoHeader, token.line()))
             }
@@ -83,14 +85,15 @@ fn read_format<S: Source>(
     alloc: Global,
     scanner: &mut Scanner,
     source: &mut S,
+    mode: Mode,
 ) -> Result<Body, CnfError>
     requires { is_faulted scanner.old.status ≡ false }
     ensures decides { IsTrue S.tells → Decides (S.channel source.old) (S.channel source.new)
-        (λ bytes more. Begins result (after_p (ahead scanner.old bytes)) (λ vars count. HasFormat (ahead scanner.old bytes) vars count (ahead scanner.new more))) }
-    ensures so_far { IsTrue S.tells → BeginsSoFar result scanner.old scanner.new (λ more. after_p (so_far scanner.old more))
+        (λ bytes more. Begins result (after_p mode (ahead scanner.old bytes)) (λ vars count. HasFormat (ahead scanner.old bytes) vars count (ahead scanner.new more))) }
+    ensures so_far { IsTrue S.tells → BeginsSoFar result scanner.old scanner.new (λ more. after_p mode (so_far scanner.old more))
         (gained (S.channel source.old) (S.channel source.new)) }
     ensures memory { result ≢ Err OutOfMemory }
-    ensures sound { IfOk result (λ _. is_faulted scanner.new.status ≡ false) }
+    ensures sound { IfOk result (λ body. (is_faulted scanner.new.status ≡ false) × (body.mode ≡ mode)) }
     ensures fault { result ≡ Err ReadFault → Rose (S.channel source.old).faults (S.channel source.new).faults }
     ensures unfailed { result ≢ Err ReadFault → (S.channel source.new).faults ≡ (S.channel source.old).faults }
     ensures reads { OnlyReads (S.channel source.old) (S.channel source.new) }
@@ -100,7 +103,7 @@ fn read_format<S: Source>(
         None => Err(CnfError::Refused(CnfKind::BadHeader, scanner.line())),
         Some(token) => {
             if is_word(&token, b"cnf") {
-                read_vars(alloc, scanner, source)
+                read_vars(alloc, scanner, source, mode)
             } else {
                 Err(CnfError::Refused(CnfKind::BadHeader, token.line()))
             }
@@ -112,14 +115,15 @@ fn read_vars<S: Source>(
     alloc: Global,
     scanner: &mut Scanner,
     source: &mut S,
+    mode: Mode,
 ) -> Result<Body, CnfError>
     requires { is_faulted scanner.old.status ≡ false }
     ensures decides { IsTrue S.tells → Decides (S.channel source.old) (S.channel source.new)
-        (λ bytes more. Begins result (after_format (ahead scanner.old bytes)) (λ vars count. HasVars (ahead scanner.old bytes) vars count (ahead scanner.new more))) }
-    ensures so_far { IsTrue S.tells → BeginsSoFar result scanner.old scanner.new (λ more. after_format (so_far scanner.old more))
+        (λ bytes more. Begins result (after_format mode (ahead scanner.old bytes)) (λ vars count. HasVars (ahead scanner.old bytes) vars count (ahead scanner.new more))) }
+    ensures so_far { IsTrue S.tells → BeginsSoFar result scanner.old scanner.new (λ more. after_format mode (so_far scanner.old more))
         (gained (S.channel source.old) (S.channel source.new)) }
     ensures memory { result ≢ Err OutOfMemory }
-    ensures sound { IfOk result (λ _. is_faulted scanner.new.status ≡ false) }
+    ensures sound { IfOk result (λ body. (is_faulted scanner.new.status ≡ false) × (body.mode ≡ mode)) }
     ensures fault { result ≡ Err ReadFault → Rose (S.channel source.old).faults (S.channel source.new).faults }
     ensures unfailed { result ≢ Err ReadFault → (S.channel source.new).faults ≡ (S.channel source.old).faults }
     ensures reads { OnlyReads (S.channel source.old) (S.channel source.new) }
@@ -133,7 +137,7 @@ fn read_vars<S: Source>(
                 if vars > MAX_VARS {
                     return Err(CnfError::Refused(CnfKind::Limit, token.line()));
                 }
-                read_count(alloc, vars as u32, scanner, source)
+                read_count(alloc, vars as u32, scanner, source, mode)
             }
         },
     }
@@ -144,16 +148,17 @@ fn read_count<S: Source>(
     vars: u32,
     scanner: &mut Scanner,
     source: &mut S,
+    mode: Mode,
 ) -> Result<Body, CnfError>
     requires few_vars { vars ≤ max_vars }
     requires sound { is_faulted scanner.old.status ≡ false }
     ensures decides { IsTrue S.tells → Decides (S.channel source.old) (S.channel source.new)
-        (λ bytes more. Begins result (after_vars vars (ahead scanner.old bytes))
+        (λ bytes more. Begins result (after_vars mode vars (ahead scanner.old bytes))
         (λ same count. (same ≡ vars) × HasCount (ahead scanner.old bytes) count (ahead scanner.new more))) }
-    ensures so_far { IsTrue S.tells → BeginsSoFar result scanner.old scanner.new (λ more. after_vars vars (so_far scanner.old more))
+    ensures so_far { IsTrue S.tells → BeginsSoFar result scanner.old scanner.new (λ more. after_vars mode vars (so_far scanner.old more))
         (gained (S.channel source.old) (S.channel source.new)) }
     ensures memory { result ≢ Err OutOfMemory }
-    ensures sound { IfOk result (λ _. is_faulted scanner.new.status ≡ false) }
+    ensures sound { IfOk result (λ body. (is_faulted scanner.new.status ≡ false) × (body.mode ≡ mode)) }
     ensures fault { result ≡ Err ReadFault → Rose (S.channel source.old).faults (S.channel source.new).faults }
     ensures unfailed { result ≢ Err ReadFault → (S.channel source.new).faults ≡ (S.channel source.old).faults }
     ensures reads { OnlyReads (S.channel source.old) (S.channel source.new) }
@@ -167,7 +172,7 @@ fn read_count<S: Source>(
                 if count > MAX_CLAUSES {
                     return Err(CnfError::Refused(CnfKind::Limit, token.line()));
                 }
-                Ok(Body::new(alloc, vars, count as u32))
+                Ok(Body::new(alloc, vars, count as u32, mode))
             }
         },
     }

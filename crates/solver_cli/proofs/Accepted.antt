@@ -57,7 +57,7 @@ posed_by_files run task {problem = problem} gives prepared = record {
   gives = gives;
   decides = refl;
   given = λ t. record {
-    read = formula_read prepared.takes t;
+    read = formula_read task.mode prepared.takes t;
     ordered = ordered problem task.order prepared.orders t;
     planned = planned task.plan prepared.plans t;
   };

@@ -1,5 +1,5 @@
 -- What the words and the texts call for: the refusal of the first text in turn that isn't accepted, or none.
-use Rattle.std.proofs.Common.{◌≡◌, ℕ, List, refl, sym, ap, ◌∙◌, Some, None}
+use Rattle.std.proofs.Common.{◌≡◌, ℕ, List, refl, sym, ap, ap₂, ◌∙◌, Some, None}
 use Rattle.std.specs.Prelude.{Option}
 use Rattle.cnf_base.specs.Formula.{Formula}
 use Rattle.host_io.specs.Files.{Files}
@@ -11,12 +11,12 @@ use Rattle.cnf_base.specs.Order.{natural}
 use Rattle.schedule_plan.specs.OrderText.{OrderText, order as given_order, refusal as order_refusal, overlong as overlong_order, order_text}
 use Rattle.schedule_plan.specs.ScheduleText.{ScheduleText, plan as given_plan, refusal as schedule_refusal, overlong as overlong_schedule, schedule}
 use Rattle.schedule_plan.specs.declared.plan.Move.{Move}
-use Rattle.command_line.specs.Command.{Command, Solve, Check, Bench, Make, Planned, ByName, ByFile, formula_file, command}
+use Rattle.command_line.specs.Command.{Command, Solve, Check, Bench, Make, Planned, ByName, ByFile, formula_file, mode_of, command}
 use Rattle.solver_cli.specs.declared.status.Status.{Status}
 use Rattle.solver_cli.specs.declared.status.Status.TheVariants.{Sat, Unsat, Unknown, Verified, NotVerified, Done, Help, Usage, CnfRefused, OrderRefused, PlanRefused, TooLong, ReadFault, WriteFault, OutOfMemory}
 use Rattle.solver_cli.specs.Answer.{AreGiven, IsRead, IsOrdered, IsPlanned}
 use Rattle.solver_cli.specs.Headline.{Run, GivesCommand, GivesMake, Asks, AsksFor, AsksByOrder, AsksBySchedule, AsksToJudge, HasVerdict, CallsFor}
-use Rattle.solver_cli.proofs.Facts.{one_text}
+use Rattle.solver_cli.proofs.Facts.{one_text, same_command}
 
 -- The refusals, text by text: what a text is refused by, and what comes next where it is accepted.
 
@@ -65,7 +65,7 @@ after_formula run (Check task) problem = in_file (run.files task.proof) (λ byte
 
 abbrev pub by_words : Run → Option Command → Option Status
 by_words run None = None
-by_words run (Some asked) = in_file (text_named run (formula_file asked)) (λ bytes. by_formula (cnf bytes) (after_formula run asked))
+by_words run (Some asked) = in_file (text_named run (formula_file asked)) (λ bytes. by_formula (cnf (mode_of asked) bytes) (after_formula run asked))
 
 abbrev pub refusal_due : Run → Option Status
 refusal_due run = by_words run (command run.words)
@@ -74,14 +74,17 @@ refusal_due run = by_words run (command run.words)
 reads : {Text : Type 0} (files : Files) {file : List ℕ} {whole : List ℕ → Text} {text : Text} (says : Text → Option Status) → IsRead files file whole text → in_file (files file) (λ bytes. says (whole bytes)) ≡ says text
 reads files {whole = whole} says read = ap (λ (bytes : Option (List ℕ)). in_file bytes (λ b. says (whole b))) read.stands ∙ ap says read.says
 
--- the words name one formula's file, and it has one text
+-- the words name one formula's file and one mode, and it has one text
 pub same_text : (run : Run) {asked other : Command} {text said : CnfText} → Asks run asked text → Asks run other said → text ≡ said
-same_text run here there = sym here.read.says ∙ ap cnf (one_text run.files here.command there.command here.named there.named here.read.stands there.read.stands) ∙ there.read.says
+same_text run here there =
+    sym here.read.says
+    ∙ ap₂ cnf (ap mode_of (same_command here.command there.command)) (one_text run.files here.command there.command here.named there.named here.read.stands there.read.stands)
+    ∙ there.read.says
 
 asks : (run : Run) (asked : Command) (text : CnfText) → Asks run asked text → refusal_due run ≡ by_formula text (after_formula run asked)
 asks run asked text a =
     ap (by_words run) a.command
-    ∙ ap (λ (file : Option (List ℕ)). in_file (text_named run file) (λ bytes. by_formula (cnf bytes) (after_formula run asked))) a.named
+    ∙ ap (λ (file : Option (List ℕ)). in_file (text_named run file) (λ bytes. by_formula (cnf (mode_of asked) bytes) (after_formula run asked))) a.named
     ∙ reads run.files (λ t. by_formula t (after_formula run asked)) a.read
 
 ordered : (run : Run) (file : Option (List ℕ)) (problem : Formula) (order : List ℕ) (next : Option Status) → IsOrdered run.files file problem order → with_order run file problem (λ order. next) ≡ next

@@ -6,7 +6,7 @@ use Rattle.host_io.specs.declared.role.Role.{Role}
 use Rattle.host_io.specs.declared.role.Role.TheVariants.{Cnf, Order, Schedule, ProofIn, ProofOut, Made, Out, Err as ErrRole}
 use Rattle.host_io.specs.declared.source.Failed.{Failed}
 use Rattle.cnf_base.specs.Formula.{Formula}
-use Rattle.command_line.specs.Command.{Command, ToSolve, ToCheck, ToBench, ToMake, Solve, Check, Bench, Make, formula_file, command}
+use Rattle.command_line.specs.Command.{Command, ToSolve, ToCheck, ToBench, ToMake, Solve, Check, Bench, Make, formula_file, mode_of, command}
 use Rattle.term_runner.specs.declared.outcome.Outcome.{Outcome}
 use Rattle.term_runner.specs.declared.outcome.Outcome.TheVariants as outcome
 use Rattle.term_runner.specs.declared.outcome.Run.{Run as Ending}
@@ -224,7 +224,7 @@ helped_names run unnamed h =
     }
 
 untaken_names : (run : Run) (asked : Command) (file : List ℕ) → ((role : Role) → (run.before role).name ≡ None) → command run.words ≡ Some asked → formula_file asked ≡ Some file
-    → Untaken run.tells (streams_of run.before) (streams_of run.after) run.files file run.status → StreamNames run
+    → Untaken (mode_of asked) run.tells (streams_of run.before) (streams_of run.after) run.files file run.status → StreamNames run
 untaken_names run asked file unnamed gives named u = quiet_names run unnamed (record { proof = u.proof; made = u.made; out = u.out }) (record {
   cnf = given run asked file gives named u.takes.name;
   order = inl (name_of u.order (unnamed Order));
@@ -256,7 +256,7 @@ solve_names run task unnamed asked (inr (inr (inr s))) = answered_names run unna
     s.came
 
 check_names : (run : Run) (task : ToCheck) → ((role : Role) → (run.before role).name ≡ None) → command run.words ≡ Some (Check task)
-    → CameToCheck run.tells (streams_of run.before) (streams_of run.after) run.files task.file task.proof run.status → StreamNames run
+    → CameToCheck run.tells (streams_of run.before) (streams_of run.after) run.files task run.status → StreamNames run
 check_names run task unnamed asked (inl u) = untaken_names run (Check task) task.file unnamed asked refl u
 check_names run task unnamed asked (inr (inl u)) = quiet_names run unnamed (record { proof = u.proof; made = u.made; out = u.out }) (record {
   cnf = given run (Check task) task.file asked refl u.takes.name;

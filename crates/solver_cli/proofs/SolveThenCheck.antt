@@ -3,6 +3,7 @@ use Rattle.std.proofs.Common.{◌≡◌, ◌<◌, ℕ, ℤ, List, length, refl, 
 use Rattle.std.specs.Prelude.{Option}
 use Rattle.cnf_base.specs.Formula.{Formula}
 use Rattle.dimacs_reader.specs.Cnf.{formula, refusal, overlong, cnf}
+use Rattle.dimacs_reader.specs.declared.mode.Mode.{Mode}
 use Rattle.dimacs_reader.specs.declared.error.CnfKind.{CnfKind}
 use Rattle.host_io.specs.declared.role.Role.TheVariants.{Cnf, Order, Schedule, ProofIn, ProofOut, Made, Out, Err as ErrRole}
 use Rattle.lrat_rules.specs.Run.{verdict}
@@ -14,7 +15,7 @@ use Rattle.command_line.specs.Command.{Command}
 use Rattle.solver_cli.specs.Answer.{AreGiven, AreOfFiles}
 use Rattle.solver_cli.specs.Headline.{Run, written_in, GivesDecision, GivesSolve, Asks, AsksToJudge, IsDue, IsShownRefuted, IsRefuted, Promises}
 use Rattle.solver_cli.specs.SolveThenCheck.{ChecksSolved, MayEnd}
-use Rattle.solver_cli.proofs.Facts.{one_text, one_proof, same_command, two_commands, decided_apart, checks_apart, no_misuse, no_help, same_formula}
+use Rattle.solver_cli.proofs.Facts.{one_proof, same_command, two_commands, decided_apart, checks_apart, no_misuse, no_help, same_formula}
 use Rattle.solver_cli.proofs.CallsFor.{same_text}
 use Rattle.solver_cli.proofs.Unjudged.{one_verdict}
 
@@ -47,7 +48,7 @@ ends long_text solved run first second asks = by run.status refl where
       read = record {
         bytes = of_files.read.bytes;
         stands = asks.same_formula ∙ of_files.read.stands;
-        says = of_files.read.says;
+        says = ap (λ (mode : Mode). cnf mode of_files.read.bytes) asks.same_mode ∙ of_files.read.says;
       };
     };
     stands = asks.same_proof;
@@ -61,7 +62,7 @@ ends long_text solved run first second asks = by run.status refl where
 
   same_verdict : {other : Formula} {text : List ℕ} → AsksToJudge run other text → verdict other.clauses text ≡ verdict problem.clauses bytes
   same_verdict there = ap₂ (λ (p : Formula) (b : List ℕ). verdict p.clauses b)
-      (same_formula there.asks.read.says (ap cnf (one_text run.files there.asks.command to_judge.asks.command there.asks.named to_judge.asks.named there.asks.read.stands to_judge.asks.read.stands) ∙ to_judge.asks.read.says))
+      (same_formula refl (same_text run there.asks to_judge.asks))
       (one_proof run.files there.asks.command to_judge.asks.command there.stands to_judge.stands)
 
   none_some : {line : ℕ} {reason : Reason} {given : Option (ℕ × Reason)} → given ≡ None → given ≡ Some (line, reason) → ⊥

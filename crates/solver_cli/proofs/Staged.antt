@@ -7,6 +7,7 @@ use Rattle.host_io.specs.declared.role.Role.TheVariants.{Cnf, Order, Schedule, P
 use Rattle.host_io.specs.declared.source.Failed.{Failed}
 use Rattle.host_io.specs.Channel.{Channel}
 use Rattle.host_io.specs.Files.{Files, FilesBut, Opens, Kept, same_role}
+use Rattle.dimacs_reader.specs.declared.mode.Mode.{Mode}
 use Rattle.dimacs_reader.specs.declared.error.CnfError.{CnfError}
 use Rattle.schedule_plan.specs.declared.plan.Move.{Move}
 use Rattle.schedule_plan.specs.declared.order_error.OrderError.{OrderError}
@@ -21,8 +22,10 @@ use Rattle.solver_cli.specs.Phases.{TakesFormula, HasOrder, HasPlan, WritesProof
 use Rattle.solver_cli.specs.Stages.{Job, LeavesInputs, streams_of, solve_job, Prepared, Came, CameToAnswer}
 
 -- what was told of a stream that later calls left alone
-pub still_taken : {tells : Bool} {old new now : Channel} {files : Files} {file : List ℕ} {result : Result Formula CnfError} → now ≡ new → TakesFormula tells old new files file result → TakesFormula tells old now files file result
-still_taken {tells = tells} {old = old} {files = files} {file = file} {result = result} same takes = subst (λ (c : Channel). TakesFormula tells old c files file result) (sym same) takes
+pub still_taken : (mode : Mode) {tells : Bool} {old new now : Channel} {files : Files} {file : List ℕ} {result : Result Formula CnfError} → now ≡ new → TakesFormula mode tells old new files file result
+    → TakesFormula mode tells old now files file result
+still_taken mode {tells = tells} {old = old} {files = files} {file = file} {result = result} same takes =
+    subst (λ (c : Channel). TakesFormula mode tells old c files file result) (sym same) takes
 
 pub opened_from : {start old new : Channel} {file : List ℕ} {answer : Result ⊤ Failed} → old ≡ start → Opens old new file answer → Opens start new file answer
 opened_from {new = new} {file = file} {answer = answer} same opens = subst (λ (c : Channel). Opens c new file answer) same opens
@@ -55,13 +58,13 @@ plan_at {tells = tells} {start = start} {old = old} {new = new} {now = now} {bef
     (subst (λ (c : Channel). HasPlan problem order plan tells start c files result) (sym to) (subst (λ (c : Channel). HasPlan problem order plan tells c new files result) from has))
 
 -- The formula was taken.
-pub record Took (tells : Bool) (old taken : Role → Channel) (before files : Files) (file : List ℕ) (problem : Formula) : Type 0 where
-  pub takes : TakesFormula tells (old Cnf) (taken Cnf) before file (Ok problem)
+pub record Took (mode : Mode) (tells : Bool) (old taken : Role → Channel) (before files : Files) (file : List ℕ) (problem : Formula) : Type 0 where
+  pub takes : TakesFormula mode tells (old Cnf) (taken Cnf) before file (Ok problem)
   pub kept : Kept Cnf None old taken before files
 
 -- And the order was had.
 pub record Orders (tells : Bool) (old taken had : Role → Channel) (before files later : Files) (task : ToSolve) (problem : Formula) (order : List ℕ) : Type 0 where
-  pub took : Took tells old taken before files task.file problem
+  pub took : Took task.mode tells old taken before files task.file problem
   pub orders : HasOrder problem.vars task.order tells (taken Order) (had Order) files (Ok order)
   pub kept : Kept Order None taken had files later
 
@@ -77,12 +80,12 @@ pub order_of : {tells : Bool} {old new : Channel} {files : Files} {vars known : 
 order_of {tells = tells} {old = old} {new = new} {files = files} {file = file} {result = result} same has = subst (λ (v : ℕ). HasOrder v file tells old new files result) same has
 
 pub unordered : {tells : Bool} {task : ToSolve} {problem : Formula} {error : OrderError} {status : Status} (old taken new : Role → Channel) (before files later : Files)
-    → Took tells old taken before files task.file problem → HasOrder problem.vars task.order tells (taken Order) (new Order) files (Err error) → Kept Order None taken new files later → status ≡ status_of_order error
+    → Took task.mode tells old taken before files task.file problem → HasOrder problem.vars task.order tells (taken Order) (new Order) files (Err error) → Kept Order None taken new files later → status ≡ status_of_order error
     → Came tells (streams_of old) (streams_of new) before task status
-unordered {problem = problem} {error = error} old taken new before files later took has kept ends =
+unordered {task = task} {problem = problem} {error = error} old taken new before files later took has kept ends =
     inr (inl (record {
       problem = problem;
-      takes = still_taken (kept.others Cnf refl) took.takes;
+      takes = still_taken task.mode (kept.others Cnf refl) took.takes;
       error = error;
       orders = order_at (took.kept.others Order refl) refl (same_files took.kept.files) has;
       schedule = kept.others Schedule refl ∙ took.kept.others Schedule refl;
@@ -96,11 +99,11 @@ unordered {problem = problem} {error = error} old taken new before files later t
 pub unplanned : {tells : Bool} {task : ToSolve} {problem : Formula} {order : List ℕ} {error : PlanError} {status : Status} (old taken had new : Role → Channel) (before files later last : Files)
     → Orders tells old taken had before files later task problem order → HasPlan problem order task.plan tells (had Schedule) (new Schedule) later (Err error) → Kept Schedule None had new later last
     → status ≡ status_of_plan error → Came tells (streams_of old) (streams_of new) before task status
-unplanned {problem = problem} {order = order} {error = error} old taken had new before files later last o has kept ends =
+unplanned {task = task} {problem = problem} {order = order} {error = error} old taken had new before files later last o has kept ends =
     let took = o.took in
     inr (inr (inl (record {
       problem = problem;
-      takes = still_taken (kept.others Cnf refl ∙ o.kept.others Cnf refl) took.takes;
+      takes = still_taken task.mode (kept.others Cnf refl ∙ o.kept.others Cnf refl) took.takes;
       order = order;
       orders = order_at (took.kept.others Order refl) (kept.others Order refl) (same_files took.kept.files) o.orders;
       error = error;
@@ -115,11 +118,11 @@ unplanned {problem = problem} {order = order} {error = error} old taken had new 
 -- all was had, and the inputs were left alone from then on
 prepared : {tells : Bool} {old taken had made new : Role → Channel} {before files later last : Files} {task : ToSolve} {problem : Formula} {order : List ℕ} {moves : List Move}
     → Plans tells old taken had made before files later last task problem order moves → LeavesInputs made new → Prepared tells (streams_of old) (streams_of new) before task problem order moves
-prepared p leaves =
+prepared {task = task} p leaves =
     let o = p.ordered in
     let took = o.took in
     record {
-      takes = still_taken (leaves.cnf ∙ p.kept.others Cnf refl ∙ o.kept.others Cnf refl) took.takes;
+      takes = still_taken task.mode (leaves.cnf ∙ p.kept.others Cnf refl ∙ o.kept.others Cnf refl) took.takes;
       orders = order_at (took.kept.others Order refl) (leaves.order ∙ p.kept.others Order refl) (same_files took.kept.files) o.orders;
       plans = plan_at (o.kept.others Schedule refl ∙ took.kept.others Schedule refl) leaves.schedule (same_files o.kept.files ∙ same_files took.kept.files) p.plans;
       judged = leaves.judged ∙ p.kept.others ProofIn refl ∙ o.kept.others ProofIn refl ∙ took.kept.others ProofIn refl;

@@ -9,6 +9,7 @@ use Rattle.host_io.specs.Channel.{Channel}
 use Rattle.host_io.specs.Files.{Files, FilesBut, Others}
 use Rattle.lrat_checker.specs.declared.verdict.Verdict.{Verdict}
 use Rattle.lrat_checker.specs.declared.verdict.CheckError.{CheckError}
+use Rattle.command_line.specs.Command.{ToCheck}
 use Rattle.solver_cli.specs.declared.status.Status.{Status}
 use Rattle.solver_cli.specs.ExitCode.{status_of_check}
 use Rattle.solver_cli.specs.Verdict.{verdict_text}
@@ -40,14 +41,14 @@ judged_from : {tells : Bool} {start old new now : Channel} {files : Files} {file
 judged_from {tells = tells} {start = start} {new = new} {files = files} {file = file} {clauses = clauses} {result = result} from to judges =
     subst (λ (c : Channel). JudgesProof tells start c files file clauses result) (sym to) (subst (λ (c : Channel). JudgesProof tells c new files file clauses result) from judges)
 
-pub unjudged : {tells : Bool} {file proof : List ℕ} {problem : Formula} {error : CheckError} {status : Status} (old taken new : Role → Channel) (before files : Files)
-    → TakesFormula tells (old Cnf) (taken Cnf) before file (Ok problem) → Others Cnf old taken → FilesBut None before files
-    → JudgesProof tells (taken ProofIn) (new ProofIn) files proof problem.clauses (Err error) → Others ProofIn taken new → status ≡ status_of_check error
-    → CameToCheck tells (streams_of old) (streams_of new) before file proof status
-unjudged {problem = problem} {error = error} old taken new before files takes beside_taken same judges beside_new ends =
+pub unjudged : {tells : Bool} {task : ToCheck} {problem : Formula} {error : CheckError} {status : Status} (old taken new : Role → Channel) (before files : Files)
+    → TakesFormula task.mode tells (old Cnf) (taken Cnf) before task.file (Ok problem) → Others Cnf old taken → FilesBut None before files
+    → JudgesProof tells (taken ProofIn) (new ProofIn) files task.proof problem.clauses (Err error) → Others ProofIn taken new → status ≡ status_of_check error
+    → CameToCheck tells (streams_of old) (streams_of new) before task status
+unjudged {task = task} {problem = problem} {error = error} old taken new before files takes beside_taken same judges beside_new ends =
     inr (inl (record {
       problem = problem;
-      takes = still_taken (beside_new Cnf refl) takes;
+      takes = still_taken task.mode (beside_new Cnf refl) takes;
       order = beside_new Order refl ∙ beside_taken Order refl;
       schedule = beside_new Schedule refl ∙ beside_taken Schedule refl;
       error = error;
@@ -58,15 +59,15 @@ unjudged {problem = problem} {error = error} old taken new before files takes be
       ends = ends;
     }))
 
-pub judged : {tells : Bool} {file proof : List ℕ} {problem : Formula} {verdict : Verdict} {printed : Result ⊤ Failed} {status : Status} (old taken checked new : Role → Channel) (before files : Files)
-    → TakesFormula tells (old Cnf) (taken Cnf) before file (Ok problem) → Others Cnf old taken → FilesBut None before files
-    → JudgesProof tells (taken ProofIn) (checked ProofIn) files proof problem.clauses (Ok verdict) → Others ProofIn taken checked
+pub judged : {tells : Bool} {task : ToCheck} {problem : Formula} {verdict : Verdict} {printed : Result ⊤ Failed} {status : Status} (old taken checked new : Role → Channel) (before files : Files)
+    → TakesFormula task.mode tells (old Cnf) (taken Cnf) before task.file (Ok problem) → Others Cnf old taken → FilesBut None before files
+    → JudgesProof tells (taken ProofIn) (checked ProofIn) files task.proof problem.clauses (Ok verdict) → Others ProofIn taken checked
     → PutsText tells (checked Out) (new Out) (verdict_text verdict) printed → Others Out checked new → status ≡ status_of_printed verdict printed
-    → CameToCheck tells (streams_of old) (streams_of new) before file proof status
-judged {problem = problem} {verdict = verdict} {printed = printed} old taken checked new before files takes beside_taken same judges beside_checked puts beside_new ends =
+    → CameToCheck tells (streams_of old) (streams_of new) before task status
+judged {task = task} {problem = problem} {verdict = verdict} {printed = printed} old taken checked new before files takes beside_taken same judges beside_checked puts beside_new ends =
     inr (inr (record {
       problem = problem;
-      takes = still_taken (beside_new Cnf refl ∙ beside_checked Cnf refl) takes;
+      takes = still_taken task.mode (beside_new Cnf refl ∙ beside_checked Cnf refl) takes;
       order = beside_new Order refl ∙ beside_checked Order refl ∙ beside_taken Order refl;
       schedule = beside_new Schedule refl ∙ beside_checked Schedule refl ∙ beside_taken Schedule refl;
       verdict = verdict;

@@ -12,7 +12,8 @@ use Rattle.schedule_plan.specs.declared.plan.Move.{Move}
 use Rattle.term_runner.specs.declared.outcome.Run.{Run as Ending}
 use Rattle.term_runner.specs.declared.error.RunError.{RunError}
 use Rattle.term_runner.specs.declared.error.RunError.TheVariants as run_error
-use Rattle.command_line.specs.Command.{ToSolve, ToBench, ToMake}
+use Rattle.dimacs_reader.specs.declared.mode.Mode.{Mode}
+use Rattle.command_line.specs.Command.{ToSolve, ToCheck, ToBench, ToMake}
 use Rattle.solver_cli.specs.declared.status.Status.{Status}
 use Rattle.solver_cli.specs.declared.status.Status.TheVariants.{Usage, ReadFault, WriteFault, OutOfMemory}
 use Rattle.solver_cli.specs.ExitCode.{status_of_error, status_of_order, status_of_plan, status_of_run, status_of_check}
@@ -116,7 +117,7 @@ helped h = record {
   out = λ differs. h.shows.puts.unfailed (help_ok h.shows.printed (λ e. differs (h.shows.ends ∙ e)));
 }
 
-untaken : {tells : Bool} {old new : Streams} {files : Files} {file : List ℕ} {status : Status} → Untaken tells old new files file status → Told old new status
+untaken : {mode : Mode} {tells : Bool} {old new : Streams} {files : Files} {file : List ℕ} {status : Status} → Untaken mode tells old new files file status → Told old new status
 untaken u = record {
   quiet = λ _. record { cnf = u.takes.written; order = written_of u.order; schedule = written_of u.schedule; judged = written_of u.judged; proof = written_of u.proof; made = written_of u.made; out = written_of u.out };
   cnf = λ differs. u.takes.unfailed (λ e. differs (u.ends ∙ ap status_of_error (same_error e)));
@@ -228,7 +229,7 @@ written_ok : (written : Result ⊤ Failed) → status_of_written written ≢ Wri
 written_ok (Ok x) differs = refl
 written_ok (Err e) differs = absurd (differs refl)
 
-unjudged : {tells : Bool} {old new : Streams} {files : Files} {file proof : List ℕ} {status : Status} → Unjudged tells old new files file proof status → Told old new status
+unjudged : {tells : Bool} {old new : Streams} {files : Files} {task : ToCheck} {status : Status} → Unjudged tells old new files task status → Told old new status
 unjudged u = record {
   quiet = λ _. record { cnf = u.takes.written; order = written_of u.order; schedule = written_of u.schedule; judged = u.judges.written; proof = written_of u.proof; made = written_of u.made; out = written_of u.out };
   cnf = λ _. u.takes.unfailed (λ e. ok_err e);
@@ -240,7 +241,7 @@ unjudged u = record {
   out = λ _. faults_of u.out;
 }
 
-judged : {tells : Bool} {old new : Streams} {files : Files} {file proof : List ℕ} {status : Status} → Judged tells old new files file proof status → Told old new status
+judged : {tells : Bool} {old new : Streams} {files : Files} {task : ToCheck} {status : Status} → Judged tells old new files task status → Told old new status
 judged j = record {
   quiet = λ e. absurd (verdict_read j.verdict j.printed j.ends e);
   cnf = λ _. j.takes.unfailed (λ e. ok_err e);
@@ -258,7 +259,7 @@ came (inr (inl u)) = unordered u
 came (inr (inr (inl u))) = unplanned u
 came (inr (inr (inr s))) = solved s
 
-came_to_check : {tells : Bool} {old new : Streams} {files : Files} {file proof : List ℕ} {status : Status} → CameToCheck tells old new files file proof status → Told old new status
+came_to_check : {tells : Bool} {old new : Streams} {files : Files} {task : ToCheck} {status : Status} → CameToCheck tells old new files task status → Told old new status
 came_to_check (inl u) = untaken u
 came_to_check (inr (inl u)) = unjudged u
 came_to_check (inr (inr j)) = judged j

@@ -4,7 +4,7 @@ use Rattle.std.specs.Prelude.{Option, Result, ◌⊎◌}
 use Rattle.cnf_base.specs.Formula.{Formula}
 use Rattle.cnf_base.specs.Truth.{AreClausesOf}
 use Rattle.term_runner.specs.Proofs.{AreUnsatisfiable}
-use Rattle.dimacs_reader.specs.Cnf.{formula, cnf}
+use Rattle.dimacs_reader.specs.Cnf.{formula}
 use Rattle.host_io.specs.declared.role.Role.TheVariants.{ProofIn}
 use Rattle.lrat_rules.specs.Run.{Refutes, verdict}
 use Rattle.lrat_rules.specs.declared.outcome.Reason.{Reason}
@@ -21,7 +21,8 @@ use Rattle.solver_cli.specs.Verdict.{status_of_verdict}
 use Rattle.solver_cli.specs.Phases.{JudgesText, JudgesProof}
 use Rattle.solver_cli.specs.Stages.{streams_of, Unjudged}
 use Rattle.solver_cli.specs.Headline.{Run, taken_in, IsUnharmed, Asks, AsksToJudge, HasVerdict, IsLongProof, IsOpenProof, CallsFor, IsComplete}
-use Rattle.solver_cli.proofs.Facts.{one_text, one_proof, not_unasked, checks_apart, decided_apart, only_misuse, only_help, same_formula}
+use Rattle.solver_cli.proofs.Facts.{one_proof, not_unasked, checks_apart, decided_apart, only_misuse, only_help, same_formula}
+use Rattle.solver_cli.proofs.CallsFor.{same_text}
 use Rattle.solver_cli.proofs.Promised.{Core, LeftAlone, refused, short, unread}
 use Rattle.solver_cli.proofs.Deciding.{deciding}
 use Rattle.solver_cli.proofs.Untaken.{took}
@@ -42,7 +43,7 @@ pub record Laws : Type 0 where
 pub one_verdict : (run : Run) {problem other : Formula} {bytes text : List ℕ} → AsksToJudge run problem bytes → AsksToJudge run other text
     → text_verdict problem.clauses bytes ≡ text_verdict other.clauses text
 one_verdict run here there = ap₂ (λ (p : Formula) (b : List ℕ). text_verdict p.clauses b)
-    (same_formula here.asks.read.says (ap cnf (one_text run.files here.asks.command there.asks.command here.asks.named there.asks.named here.asks.read.stands there.asks.read.stands) ∙ there.asks.read.says))
+    (same_formula refl (same_text run here.asks there.asks))
     (one_proof run.files here.asks.command there.asks.command here.stands there.stands)
 
 pub one_some : {text : Option Verdict} (here there : Verdict) → text ≡ Some here → text ≡ Some there → here ≡ there
@@ -66,7 +67,7 @@ check_complete run task gives uncalled judges = record {
 }
 
 -- the proof was not judged
-pub unjudged : Laws → (run : Run) (task : ToCheck) → command run.words ≡ Some (Check task) → Unjudged run.tells (streams_of run.before) (streams_of run.after) run.files task.file task.proof run.status → Core run
+pub unjudged : Laws → (run : Run) (task : ToCheck) → command run.words ≡ Some (Check task) → Unjudged run.tells (streams_of run.before) (streams_of run.after) run.files task run.status → Core run
 unjudged laws run task asked u = go u.error u.judges u.ends where
   read : IsTrue run.tells → Asks run (Check task) (formula u.problem)
   read = took run (Check task) task.file u.problem asked refl u.takes

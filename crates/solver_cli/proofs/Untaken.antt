@@ -7,6 +7,7 @@ use Rattle.host_io.specs.Files.{Files, IsInput}
 use Rattle.host_io.specs.declared.role.Role.{Role}
 use Rattle.host_io.specs.declared.role.Role.TheVariants.{Cnf, Order, Schedule, ProofIn, ProofOut, Made, Out, Err as ErrRole}
 use Rattle.dimacs_reader.specs.Cnf.{CnfText, formula, cnf}
+use Rattle.dimacs_reader.specs.declared.mode.Mode.{Mode}
 use Rattle.dimacs_reader.specs.declared.error.CnfError.{CnfError}
 use Rattle.dimacs_reader.specs.declared.error.CnfError.TheVariants as cnf_error
 use Rattle.schedule_plan.specs.OrderText.{OrderText, order_text}
@@ -16,7 +17,7 @@ use Rattle.schedule_plan.specs.declared.order_error.OrderError.{OrderError}
 use Rattle.schedule_plan.specs.declared.order_error.OrderError.TheVariants as order_error
 use Rattle.schedule_plan.specs.declared.schedule.error.PlanError.{PlanError}
 use Rattle.schedule_plan.specs.declared.schedule.error.PlanError.TheVariants as plan_error
-use Rattle.command_line.specs.Command.{Command, ToSolve, ToMake, Solve, Make, Planned, ByName, ByFile, formula_file, command}
+use Rattle.command_line.specs.Command.{Command, ToSolve, ToMake, Solve, Make, Planned, ByName, ByFile, formula_file, mode_of, command}
 use Rattle.solver_cli.specs.declared.status.Status.{Status}
 use Rattle.solver_cli.specs.declared.status.Status.TheVariants.{CnfRefused, OrderRefused, PlanRefused, TooLong, ReadFault, OutOfMemory}
 use Rattle.solver_cli.specs.Answer.{IsRead, IsOrdered, IsPlanned}
@@ -29,14 +30,14 @@ use Rattle.solver_cli.proofs.Facts.{same_command, decided_apart}
 use Rattle.solver_cli.proofs.Promised.{Core, LeftAlone, refused, short, unread, untouched}
 
 -- the formula was not taken, by a command that makes no text
-pub untaken : (run : Run) (asked : Command) (file : List ℕ) → command run.words ≡ Some asked → formula_file asked ≡ Some file → Untaken run.tells (streams_of run.before) (streams_of run.after) run.files file run.status → Core run
+pub untaken : (run : Run) (asked : Command) (file : List ℕ) → command run.words ≡ Some asked → formula_file asked ≡ Some file → Untaken (mode_of asked) run.tells (streams_of run.before) (streams_of run.after) run.files file run.status → Core run
 untaken run asked file gives named u = go u.error u.takes u.ends where
-  text : {Answer : Result Formula CnfError → CnfText → Type 0} {result : Result Formula CnfError} {said : CnfText} → (says : ReadsText cnf Answer run.files file (taken_in run Cnf) result)
-      → cnf says.bytes ≡ said → cnf (taken_in run Cnf) ≡ said → IsRefusedBy run said
+  text : {Answer : Result Formula CnfError → CnfText → Type 0} {result : Result Formula CnfError} {said : CnfText} → (says : ReadsText (cnf (mode_of asked)) Answer run.files file (taken_in run Cnf) result)
+      → cnf (mode_of asked) says.bytes ≡ said → cnf (mode_of asked) (taken_in run Cnf) ≡ said → IsRefusedBy run said
   text says told decided = record { asked = asked; asks = record { command = gives; file = file; named = named; read = record { bytes = says.bytes; stands = says.stands; says = told } }; decided = decided }
 
-  is_open : TakesFormula run.tells (run.before Cnf) (run.after Cnf) run.files file (Err cnf_error.ReadFault) → IsTrue run.tells → IsOpenFormula run
-  is_open takes t = record { failed = takes.failed refl; undecided = takes.undecided t refl; before_others = others } where
+  is_open : TakesFormula (mode_of asked) run.tells (run.before Cnf) (run.after Cnf) run.files file (Err cnf_error.ReadFault) → IsTrue run.tells → IsOpenFormula run
+  is_open takes t = record { asked = asked; given = gives; failed = takes.failed refl; undecided = takes.undecided t refl; before_others = others } where
     others : (role : Role) → IsInput role → role ≢ Cnf → taken_in run role ≡ []
     others Cnf is other = absurd (other refl)
     others Order is other = untouched run Order u.order
@@ -55,7 +56,7 @@ untaken run asked file gives named u = go u.error u.takes u.ends where
   alone : (status : Status) → LeftAlone run status
   alone status = record { proof = u.proof; made = u.made; out = u.out; makes = λ make. absurd (no_file (same_command gives make.1)) }
 
-  go : (error : CnfError) → TakesFormula run.tells (run.before Cnf) (run.after Cnf) run.files file (Err error) → run.status ≡ status_of_error error → Core run
+  go : (error : CnfError) → TakesFormula (mode_of asked) run.tells (run.before Cnf) (run.after Cnf) run.files file (Err error) → run.status ≡ status_of_error error → Core run
   go (cnf_error.Refused kind line) takes ends =
       refused run asked gives (alone (CnfRefused kind line)) ends refl (λ e. cc) ((asked, gives), λ t. let says = text_read (λ e. cc) takes t in text says says.told says.decided)
   go cnf_error.TooLong takes ends =
@@ -64,12 +65,13 @@ untaken run asked file gives named u = go u.error u.takes u.ends where
   go cnf_error.OutOfMemory takes ends = short run asked gives (alone OutOfMemory) ends
 
 -- the formula that is asked for was read
-pub formula_read : {tells : Bool} {old new : Channel} {files : Files} {file : List ℕ} {problem : Formula} → TakesFormula tells old new files file (Ok problem) → IsTrue tells → IsRead files file cnf (formula problem)
-formula_read takes t = let says = text_read (λ e. ok_err e) takes t in record { bytes = says.bytes; stands = says.stands; says = says.told }
+pub formula_read : (mode : Mode) {tells : Bool} {old new : Channel} {files : Files} {file : List ℕ} {problem : Formula} → TakesFormula mode tells old new files file (Ok problem) → IsTrue tells
+    → IsRead files file (cnf mode) (formula problem)
+formula_read mode takes t = let says = text_read (λ e. ok_err e) takes t in record { bytes = says.bytes; stands = says.stands; says = says.told }
 
 pub took : (run : Run) (asked : Command) (file : List ℕ) (problem : Formula) → command run.words ≡ Some asked → formula_file asked ≡ Some file
-    → TakesFormula run.tells (run.before Cnf) (run.after Cnf) run.files file (Ok problem) → IsTrue run.tells → Asks run asked (formula problem)
-took run asked file problem gives named takes t = record { command = gives; file = file; named = named; read = formula_read takes t }
+    → TakesFormula (mode_of asked) run.tells (run.before Cnf) (run.after Cnf) run.files file (Ok problem) → IsTrue run.tells → Asks run asked (formula problem)
+took run asked file problem gives named takes t = record { command = gives; file = file; named = named; read = formula_read (mode_of asked) takes t }
 
 -- a run of `solve` that nothing was written in
 solve_alone : (run : Run) (task : ToSolve) → command run.words ≡ Some (Solve task) → run.after ProofOut ≡ run.before ProofOut → run.after Made ≡ run.before Made → run.after Out ≡ run.before Out

@@ -67,7 +67,7 @@ verdict_due run judgement.Verified ends = due run ends tt
 verdict_due run (judgement.Refused line reason) ends = due run ends tt
 
 -- the proof was judged
-pub judged : Laws → (run : Run) (task : ToCheck) → command run.words ≡ Some (Check task) → Judged run.tells (streams_of run.before) (streams_of run.after) run.files task.file task.proof run.status → Core run
+pub judged : Laws → (run : Run) (task : ToCheck) → command run.words ≡ Some (Check task) → Judged run.tells (streams_of run.before) (streams_of run.after) run.files task run.status → Core run
 judged laws run task asked j = go j.printed j.puts j.ends where
   text : List ℕ
   text = verdict_text j.verdict

@@ -38,7 +38,7 @@ core law run (inr (inr (inl t))) = came t.came where
   came (inr (inr (inl u))) = unplanned run t.task t.asked u
   came (inr (inr (inr s))) = answers run (posed_by_files run t.task t.asked s.prepared) s.came
 core law run (inr (inr (inr (inl c)))) = came c.came where
-  came : CameToCheck run.tells (streams_of run.before) (streams_of run.after) run.files c.task.file c.task.proof run.status → Core run
+  came : CameToCheck run.tells (streams_of run.before) (streams_of run.after) run.files c.task run.status → Core run
   came (inl u) = untaken run (Check c.task) c.task.file c.asked refl u
   came (inr (inl u)) = unjudged law run c.task c.asked u
   came (inr (inr j)) = judged law run c.task c.asked j

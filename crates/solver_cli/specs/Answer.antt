@@ -52,7 +52,7 @@ IsPlanned files (ByFile file) problem order moves = IsRead files file (schedule 
 
 -- The files that are named give this formula, this order of its variables and these moves.
 pub record AreOfFiles (files : Files) (task : ToSolve) (problem : Formula) (order : List ℕ) (moves : List Move) : Type 0 where
-  pub read : IsRead files task.file cnf (given_formula problem)
+  pub read : IsRead files task.file (cnf task.mode) (given_formula problem)
   pub ordered : IsOrdered files task.order problem order
   pub planned : IsPlanned files task.plan problem order moves
 

@@ -26,7 +26,7 @@ use Rattle.term_runner.specs.Width.{HasWidth}
 use Rattle.term_runner.specs.Ends.{Says, Shows}
 use Rattle.term_runner.specs.Recovered.{IsRecovered}
 use Rattle.answer_text.specs.Status.{verified_line, refused_text}
-use Rattle.command_line.specs.Command.{Command, ToSolve, ToCheck, ToMake, Solve, Check, Bench, Make, Planned, ByName, ByFile, formula_file, AsksHelp, Misuse, MayMean, CanOnlyMean, command, limits_asked}
+use Rattle.command_line.specs.Command.{Command, ToSolve, ToCheck, ToMake, Solve, Check, Bench, Make, Planned, ByName, ByFile, formula_file, mode_of, AsksHelp, Misuse, MayMean, CanOnlyMean, command, limits_asked}
 use Rattle.solver_cli.specs.declared.status.Why.{Why}
 use Rattle.solver_cli.specs.declared.status.Status.{Status}
 use Rattle.solver_cli.specs.declared.status.Status.TheVariants.{Sat, Unsat, Unknown, Verified, NotVerified, Done, Help, Usage, CnfRefused, OrderRefused, PlanRefused, TooLong, ReadFault, WriteFault, OutOfMemory}
@@ -95,12 +95,12 @@ decides (Make task) = false
 abbrev pub GivesDecision : Run → Type 0
 GivesDecision run = (asked : Command) × (command run.words ≡ Some asked) × IsTrue (decides asked)
 
--- the words ask for this command, and the text of its formula's file says this
+-- the words ask for this command, and the text of its formula's file, read in its mode, says this
 pub record Asks (run : Run) (asked : Command) (text : CnfText) : Type 0 where
   pub command : command run.words ≡ Some asked
   pub file : List ℕ
   pub named : formula_file asked ≡ Some file
-  pub read : IsRead run.files file cnf text
+  pub read : IsRead run.files file (cnf (mode_of asked)) text
 
 -- They ask to decide this formula by an order that stands in a file, whose text says this.
 pub record AsksByOrder (run : Run) (problem : Formula) (text : OrderText) : Type 0 where
@@ -252,7 +252,7 @@ MadeStands run = IsTrue run.tells → (written_in run Made ≡ []) ⊎ IsFrontOf
 pub record IsRefusedBy (run : Run) (text : CnfText) : Type 0 where
   pub asked : Command
   pub asks : Asks run asked text
-  pub decided : cnf (taken_in run Cnf) ≡ text
+  pub decided : cnf (mode_of asked) (taken_in run Cnf) ≡ text
 
 -- and so is one of the order, and one of the schedule, of a formula that was accepted
 pub record OrderIsRefusedBy (run : Run) (text : OrderText) : Type 0 where
@@ -311,8 +311,10 @@ TextsAreRead run = ((problem : Formula) × AsksFor run problem)
 
 -- A call on the formula's file failed where the bytes taken of it decide nothing yet, and none of another file was taken.
 pub record IsOpenFormula (run : Run) : Type 0 where
+  pub asked : Command
+  pub given : command run.words ≡ Some asked
   pub failed : HasFault run Cnf
-  pub undecided : cnf_so_far (taken_in run Cnf) ≡ overlong
+  pub undecided : cnf_so_far (mode_of asked) (taken_in run Cnf) ≡ overlong
   pub before_others : (role : Role) → IsInput role → role ≢ Cnf → taken_in run role ≡ []
 
 -- The words give `solve` with an order's file, the formula was accepted, and a call on that file failed where the bytes

@@ -7,6 +7,7 @@ use Rattle.host_io.specs.Files.{Files}
 use Rattle.text_scan.specs.Decides.{gained}
 use Rattle.dimacs_reader.specs.Cnf.{overlong as unread_cnf, cnf, cnf_so_far}
 use Rattle.dimacs_reader.specs.Answers.{Answers as CnfAnswers}
+use Rattle.dimacs_reader.specs.declared.mode.Mode.{Mode}
 use Rattle.dimacs_reader.specs.declared.error.CnfError.{CnfError}
 use Rattle.dimacs_reader.specs.declared.error.CnfError.TheVariants.{ReadFault as CnfReadFault}
 use Rattle.lrat_checker.specs.TextVerdict.{text_verdict, verdict_so_far, Answers}
@@ -77,12 +78,12 @@ pub record TakesText {Text T E : Type 0} (whole so_far : List ℕ → Text) (unr
 abbrev pub IsOrderOf : ℕ → List ℕ → Type 0
 IsOrderOf vars order = IsOrder order × (length order ≡ vars)
 
--- the three texts that a formula is decided by: its own, and those of an order of its variables and of a schedule
-abbrev pub ReadsFormula : Bool → Channel → Channel → Result Formula CnfError → Type 0
-ReadsFormula = ReadsOpened cnf cnf_so_far unread_cnf CnfAnswers IsFormula CnfReadFault
+-- the three texts that a formula is decided by: its own in a mode, and those of an order of its variables and of a schedule
+abbrev pub ReadsFormula : Mode → Bool → Channel → Channel → Result Formula CnfError → Type 0
+ReadsFormula mode = ReadsOpened (cnf mode) (cnf_so_far mode) unread_cnf CnfAnswers IsFormula CnfReadFault
 
-abbrev pub TakesFormula : Bool → Channel → Channel → Files → List ℕ → Result Formula CnfError → Type 0
-TakesFormula = TakesText cnf cnf_so_far unread_cnf CnfAnswers IsFormula CnfReadFault
+abbrev pub TakesFormula : Mode → Bool → Channel → Channel → Files → List ℕ → Result Formula CnfError → Type 0
+TakesFormula mode = TakesText (cnf mode) (cnf_so_far mode) unread_cnf CnfAnswers IsFormula CnfReadFault
 
 abbrev pub ReadsOrder : ℕ → Bool → Channel → Channel → Result (List ℕ) OrderError → Type 0
 ReadsOrder vars = ReadsOpened (order_text vars) (order_so_far vars) unread_order OrderAnswers (IsOrderOf vars) OrderReadFault

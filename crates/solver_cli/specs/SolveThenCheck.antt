@@ -7,8 +7,8 @@ use Rattle.solver_cli.specs.declared.status.Status.TheVariants.{Sat, Unsat, Unkn
 use Rattle.command_line.specs.Command.{ToSolve, ToCheck, Solve, Check, command}
 use Rattle.solver_cli.specs.Headline.{Run, written_in, InputFailed, OutputFailed}
 
--- One run found a formula unsatisfiable. Another judges a proof over the same text of a formula, and the proof's file
--- holds the bytes that the first run wrote as its proof.
+-- One run found a formula unsatisfiable. Another judges a proof over the same text of a formula, read in the same mode, and
+-- the proof's file holds the bytes that the first run wrote as its proof.
 pub record ChecksSolved (solved checked : Run) : Type 0 where
   pub solved_tells : IsTrue solved.tells
   pub checked_tells : IsTrue checked.tells
@@ -17,6 +17,7 @@ pub record ChecksSolved (solved checked : Run) : Type 0 where
   pub solve_asked : command solved.words ≡ Some (Solve solve)
   pub task : ToCheck
   pub check_asked : command checked.words ≡ Some (Check task)
+  pub same_mode : task.mode ≡ solve.mode
   pub same_formula : checked.files task.file ≡ solved.files solve.file
   pub same_proof : checked.files task.proof ≡ Some (written_in solved ProofOut)
 

@@ -14,6 +14,7 @@ use Rattle.solver_cli.specs.declared.status.Status.{Status}
 use Rattle.solver_cli.specs.declared.status.Status.TheVariants.{Help, Usage, Done, WriteFault, OutOfMemory}
 use Rattle.term_runner.specs.declared.outcome.Run.{Run as Ending}
 use Rattle.term_runner.specs.declared.error.RunError.{RunError}
+use Rattle.dimacs_reader.specs.declared.mode.Mode.{Mode}
 use Rattle.dimacs_reader.specs.declared.error.CnfError.{CnfError}
 use Rattle.schedule_plan.specs.declared.limits.Limits.{Limits}
 use Rattle.schedule_plan.specs.declared.plan.Move.{Move}
@@ -25,6 +26,7 @@ use Rattle.solver_cli.specs.Verdict.{verdict_text, status_of_verdict}
 use Rattle.solver_cli.specs.ExitCode.{status_of_check, status_of_error, status_of_order, status_of_plan, status_of_run}
 use Rattle.command_line.specs.Reading.{text_of, planned_of}
 use Rattle.command_line.specs.declared.words.SolveTask.{SolveTask}
+use Rattle.command_line.specs.declared.words.CheckTask.{CheckTask}
 use Rattle.command_line.specs.declared.board.BenchTask.{BenchTask}
 use Rattle.command_line.specs.declared.board.MakeTask.{MakeTask}
 use Rattle.command_line.specs.Command.{ToSolve, ToCheck, ToBench, ToMake, Solve, Check, Bench, Make, AsksHelp, Misuse, MayMean, command}
@@ -73,10 +75,10 @@ pub record Helped (tells : Bool) (words : List (List ℕ)) (old new : Streams) (
   pub proof : new.proof ≡ old.proof
   pub made : new.made ≡ old.made
 
--- the formula was not taken
-pub record Untaken (tells : Bool) (old new : Streams) (files : Files) (file : List ℕ) (status : Status) : Type 0 where
+-- the formula was not taken, in a mode
+pub record Untaken (mode : Mode) (tells : Bool) (old new : Streams) (files : Files) (file : List ℕ) (status : Status) : Type 0 where
   pub error : CnfError
-  pub takes : TakesFormula tells old.cnf new.cnf files file (Err error)
+  pub takes : TakesFormula mode tells old.cnf new.cnf files file (Err error)
   pub order : new.order ≡ old.order
   pub schedule : new.schedule ≡ old.schedule
   pub judged : new.judged ≡ old.judged
@@ -88,7 +90,7 @@ pub record Untaken (tells : Bool) (old new : Streams) (files : Files) (file : Li
 -- the formula was taken, and the order was not had
 pub record Unordered (tells : Bool) (old new : Streams) (files : Files) (task : ToSolve) (status : Status) : Type 0 where
   pub problem : Formula
-  pub takes : TakesFormula tells old.cnf new.cnf files task.file (Ok problem)
+  pub takes : TakesFormula task.mode tells old.cnf new.cnf files task.file (Ok problem)
   pub error : OrderError
   pub orders : HasOrder problem.vars task.order tells old.order new.order files (Err error)
   pub schedule : new.schedule ≡ old.schedule
@@ -101,7 +103,7 @@ pub record Unordered (tells : Bool) (old new : Streams) (files : Files) (task : 
 -- the order was had, and the plan was not
 pub record Unplanned (tells : Bool) (old new : Streams) (files : Files) (task : ToSolve) (status : Status) : Type 0 where
   pub problem : Formula
-  pub takes : TakesFormula tells old.cnf new.cnf files task.file (Ok problem)
+  pub takes : TakesFormula task.mode tells old.cnf new.cnf files task.file (Ok problem)
   pub order : List ℕ
   pub orders : HasOrder problem.vars task.order tells old.order new.order files (Ok order)
   pub error : PlanError
@@ -114,7 +116,7 @@ pub record Unplanned (tells : Bool) (old new : Streams) (files : Files) (task : 
 
 -- all was had that is to be decided by; no proof is judged, and no text made
 pub record Prepared (tells : Bool) (old new : Streams) (files : Files) (task : ToSolve) (problem : Formula) (order : List ℕ) (moves : List Move) : Type 0 where
-  pub takes : TakesFormula tells old.cnf new.cnf files task.file (Ok problem)
+  pub takes : TakesFormula task.mode tells old.cnf new.cnf files task.file (Ok problem)
   pub orders : HasOrder problem.vars task.order tells old.order new.order files (Ok order)
   pub plans : HasPlan problem order task.plan tells old.schedule new.schedule files (Ok moves)
   pub judged : new.judged ≡ old.judged
@@ -209,25 +211,28 @@ pub record LeavesInputs (old new : Role → Channel) : Type 0 where
 abbrev pub FilesBeside : Option (List ℕ) → Option (List ℕ) → Files → Files → Type 0
 FilesBeside one other old new = (file : List ℕ) → one ≢ Some file → other ≢ Some file → new file ≡ old file
 
--- what `solve` is asked to do
+-- what `solve` is asked to do, and what `check` is
 abbrev pub task_of : SolveTask → ToSolve
-task_of task = record { file = task.files.formula.now; proof = task.files.proof.now; order = text_of task.order; plan = planned_of task.plan; limits = task.limits }
+task_of task = record { file = task.files.formula.now; proof = task.files.proof.now; mode = task.mode; order = text_of task.order; plan = planned_of task.plan; limits = task.limits }
+
+abbrev pub check_of : CheckTask → ToCheck
+check_of task = record { file = task.files.formula.now; proof = task.files.proof.now; mode = task.mode }
 
 -- how far `solve` came
 abbrev pub Came : Bool → Streams → Streams → Files → ToSolve → Status → Type 0
-Came tells old new files task status = Untaken tells old new files task.file status
+Came tells old new files task status = Untaken task.mode tells old new files task.file status
     ⊎ (Unordered tells old new files task status
     ⊎ (Unplanned tells old new files task status
     ⊎ Solved tells old new files task status))
 
 -- the proof was not judged
-pub record Unjudged (tells : Bool) (old new : Streams) (files : Files) (file proof_file : List ℕ) (status : Status) : Type 0 where
+pub record Unjudged (tells : Bool) (old new : Streams) (files : Files) (task : ToCheck) (status : Status) : Type 0 where
   pub problem : Formula
-  pub takes : TakesFormula tells old.cnf new.cnf files file (Ok problem)
+  pub takes : TakesFormula task.mode tells old.cnf new.cnf files task.file (Ok problem)
   pub order : new.order ≡ old.order
   pub schedule : new.schedule ≡ old.schedule
   pub error : CheckError
-  pub judges : JudgesProof tells old.judged new.judged files proof_file problem.clauses (Err error)
+  pub judges : JudgesProof tells old.judged new.judged files task.proof problem.clauses (Err error)
   pub proof : new.proof ≡ old.proof
   pub made : new.made ≡ old.made
   pub out : new.out ≡ old.out
@@ -239,13 +244,13 @@ status_of_printed verdict (Ok x) = status_of_verdict verdict
 status_of_printed verdict (Err e) = WriteFault
 
 -- it was judged, and the verdict was printed or not
-pub record Judged (tells : Bool) (old new : Streams) (files : Files) (file proof_file : List ℕ) (status : Status) : Type 0 where
+pub record Judged (tells : Bool) (old new : Streams) (files : Files) (task : ToCheck) (status : Status) : Type 0 where
   pub problem : Formula
-  pub takes : TakesFormula tells old.cnf new.cnf files file (Ok problem)
+  pub takes : TakesFormula task.mode tells old.cnf new.cnf files task.file (Ok problem)
   pub order : new.order ≡ old.order
   pub schedule : new.schedule ≡ old.schedule
   pub verdict : Verdict
-  pub judges : JudgesProof tells old.judged new.judged files proof_file problem.clauses (Ok verdict)
+  pub judges : JudgesProof tells old.judged new.judged files task.proof problem.clauses (Ok verdict)
   pub proof : new.proof ≡ old.proof
   pub made : new.made ≡ old.made
   pub printed : Result ⊤ Failed
@@ -253,8 +258,9 @@ pub record Judged (tells : Bool) (old new : Streams) (files : Files) (file proof
   pub ends : status ≡ status_of_printed verdict printed
 
 -- how far `check` came
-abbrev pub CameToCheck : Bool → Streams → Streams → Files → List ℕ → List ℕ → Status → Type 0
-CameToCheck tells old new files file proof status = Untaken tells old new files file status ⊎ (Unjudged tells old new files file proof status ⊎ Judged tells old new files file proof status)
+abbrev pub CameToCheck : Bool → Streams → Streams → Files → ToCheck → Status → Type 0
+CameToCheck tells old new files task status = Untaken task.mode tells old new files task.file status
+    ⊎ (Unjudged tells old new files task status ⊎ Judged tells old new files task status)
 
 -- the board was not made: memory ran out
 pub record Unmade (old new : Streams) (status : Status) : Type 0 where
@@ -322,7 +328,7 @@ pub record Tried (tells : Bool) (words : List (List ℕ)) (old new : Streams) (f
 pub record Checked (tells : Bool) (words : List (List ℕ)) (old new : Streams) (files : Files) (status : Status) : Type 0 where
   pub task : ToCheck
   pub asked : command words ≡ Some (Check task)
-  pub came : CameToCheck tells old new files task.file task.proof status
+  pub came : CameToCheck tells old new files task status
 
 -- `bench` was tried
 pub record Tested (tells : Bool) (words : List (List ℕ)) (old new : Streams) (status : Status) : Type 0 where

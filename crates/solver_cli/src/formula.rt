@@ -5,28 +5,33 @@ ghost use Rattle.host_io.specs.Files.{Kept};
 ghost use Rattle.solver_cli.specs.Phases.{TakesFormula, ReadsFormula};
 
 use cnf_base::Cnf;
-use dimacs_reader::{CnfError, read_cnf};
+use dimacs_reader::{CnfError, Mode, read_cnf};
 use host_io::{Host, HostSource, Role, beside_kept};
 use std::alloc::Global;
 
-/// Opens the file of this name and reads the formula.
-pub fn take_formula<H: Host>(alloc: Global, host: &mut H, name: &str) -> Result<Cnf, CnfError>
+/// Opens the file of this name and reads the formula in this mode.
+pub fn take_formula<H: Host>(
+    alloc: Global,
+    host: &mut H,
+    name: &str,
+    mode: Mode,
+) -> Result<Cnf, CnfError>
     requires { (H.channel host.old CnfRole).name ≡ None }
-    ensures takes { TakesFormula H.tells (H.channel host.old CnfRole) (H.channel host.new CnfRole) (H.files host.old) name.now result }
+    ensures takes { TakesFormula mode H.tells (H.channel host.old CnfRole) (H.channel host.new CnfRole) (H.files host.old) name.now result }
     ensures kept { Kept CnfRole None (H.channel host.old) (H.channel host.new) (H.files host.old) (H.files host.new) }
 {
     if host.open_read(Role::Cnf, name).is_err() {
         return Err(CnfError::ReadFault);
     }
-    read_formula(alloc, host)
+    read_formula(alloc, host, mode)
 }
 
-fn read_formula<H: Host>(alloc: Global, host: &mut H) -> Result<Cnf, CnfError>
+fn read_formula<H: Host>(alloc: Global, host: &mut H, mode: Mode) -> Result<Cnf, CnfError>
     requires { (H.channel host.old CnfRole).name ≢ None }
-    ensures reads { ReadsFormula H.tells (H.channel host.old CnfRole) (H.channel host.new CnfRole) result }
+    ensures reads { ReadsFormula mode H.tells (H.channel host.old CnfRole) (H.channel host.new CnfRole) result }
     ensures kept { Kept CnfRole None (H.channel host.old) (H.channel host.new) (H.files host.old) (H.files host.new) }
 {
     beside_kept::<H>();
     let mut source = HostSource::new(host, Role::Cnf);
-    read_cnf(alloc, &mut source)
+    read_cnf(alloc, &mut source, mode)
 }

@@ -15,7 +15,7 @@ ghost use Rattle.solver_cli.specs.ExitCode.{exit_code};
 ghost use Rattle.solver_cli.specs.Start.{OnlyTold, status_of_kind};
 ghost use Rattle.solver_cli.specs.declared.status.Status.{Status};
 ghost use Rattle.solver_cli.specs.declared.status.Status.TheVariants.{OutOfMemory};
-ghost use Rattle.solver_cli.specs.Stages.{Came, CameToAnswer, CameToBench, CameToCheck, CameToMake, FilesBeside, LeavesInputs, ShowsHelp, Stages, bench_of, job_of, make_of, streams_of, task_of};
+ghost use Rattle.solver_cli.specs.Stages.{Came, CameToAnswer, CameToBench, CameToCheck, CameToMake, FilesBeside, LeavesInputs, ShowsHelp, Stages, bench_of, check_of, job_of, make_of, streams_of, task_of};
 
 use crate::answer::{Shape, status_of};
 use crate::complaint::complain;
@@ -30,7 +30,7 @@ use crate::proof::prove;
 use crate::status::Status;
 use crate::verdict::{put_verdict, verdict_status};
 use cnf_base::Cnf;
-use command_line::{Asked, BenchTask, FileNames, MakeTask, Refusal, SolveTask, gather, read_words};
+use command_line::{Asked, BenchTask, CheckTask, MakeTask, Refusal, SolveTask, gather, read_words};
 use host_io::{Host, MemoryHost, Role as HostRole};
 use lrat_checker::check_law;
 use lrat_rules::soundness_law;
@@ -47,7 +47,7 @@ fn work<H: Host>(alloc: Global, words: &[String], host: &mut H) -> Status
 {
     match read_words(alloc, words) {
         Ok(Asked::Solve(task)) => solve(alloc, &task, host),
-        Ok(Asked::Check(files)) => check(alloc, &files, host),
+        Ok(Asked::Check(task)) => check(alloc, &task, host),
         Ok(Asked::Bench(task)) => bench(alloc, &task, host),
         Ok(Asked::Make(task)) => make(alloc, &task, host),
         Err(Refusal::Help(text)) => show_help(&text, host),
@@ -76,7 +76,7 @@ fn solve<H: Host>(alloc: Global, asked: &SolveTask<'_>, host: &mut H) -> Status
     ensures error { H.channel host.new ErrRole ≡ H.channel host.old ErrRole }
     ensures files { FilesBut (H.channel host.new ProofOut).name (H.files host.old) (H.files host.new) }
 {
-    let formula = match take_formula(alloc, host, asked.files.formula) {
+    let formula = match take_formula(alloc, host, asked.files.formula, asked.mode) {
         Ok(formula) => formula,
         Err(error) => return Status::from(error),
     };
@@ -174,17 +174,17 @@ fn make<H: Host>(alloc: Global, asked: &MakeTask<'_>, host: &mut H) -> Status
 }
 
 // Reads the formula, judges the proof over it and prints the verdict.
-fn check<H: Host>(alloc: Global, asked: &FileNames<'_>, host: &mut H) -> Status
+fn check<H: Host>(alloc: Global, asked: &CheckTask<'_>, host: &mut H) -> Status
     requires unnamed { (role : Role) → (H.channel host.old role).name ≡ None }
-    ensures came { CameToCheck H.tells (streams_of (H.channel host.old)) (streams_of (H.channel host.new)) (H.files host.old) asked.now.formula.now asked.now.proof.now result }
+    ensures came { CameToCheck H.tells (streams_of (H.channel host.old)) (streams_of (H.channel host.new)) (H.files host.old) (check_of asked.now) result }
     ensures error { H.channel host.new ErrRole ≡ H.channel host.old ErrRole }
     ensures files { FilesBut None (H.files host.old) (H.files host.new) }
 {
-    let problem = match take_formula(alloc, host, asked.formula) {
+    let problem = match take_formula(alloc, host, asked.files.formula, asked.mode) {
         Ok(problem) => problem,
         Err(error) => return Status::from(error),
     };
-    let verdict = match judge(alloc, host, &problem, asked.proof) {
+    let verdict = match judge(alloc, host, &problem, asked.files.proof) {
         Ok(verdict) => verdict,
         Err(error) => return Status::from(error),
     };

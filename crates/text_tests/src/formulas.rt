@@ -1,7 +1,7 @@
 // cnf_base: formulas, built by the reader of DIMACS texts, and at which values they are true.
 use crate::support::{push_clauses, text_of};
 use cnf_base::Cnf;
-use dimacs_reader::read_cnf;
+use dimacs_reader::{Mode, read_cnf};
 use host_io::SliceSource;
 use std::alloc::{AllocError, Global};
 use std::process::Abort;
@@ -48,7 +48,11 @@ fn expect_formula(rt: &impl Abort, alloc: Global, row: &str) -> Result<(), Fail>
     let (text, rest) = row.split_once(';').ok_or("no values")?;
     let (values, wanted) = rest.split_once(';').ok_or("no description")?;
     let text = text_of(alloc, text)?;
-    let formula = read_cnf(alloc, &mut SliceSource::new(text.as_bytes(), usize::MAX))?;
+    let formula = read_cnf(
+        alloc,
+        &mut SliceSource::new(text.as_bytes(), usize::MAX),
+        Mode::Strict,
+    )?;
     let given = described(rt, alloc, &formula, values)?;
     assert_eq!(rt; given.as_str(), wanted);
     Ok(())

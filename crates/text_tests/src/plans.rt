@@ -1,6 +1,6 @@
 // schedule_plan: an order and a plan, typed out.
 use crate::support::expect_text;
-use dimacs_reader::read_cnf;
+use dimacs_reader::{Mode, read_cnf};
 use host_io::SliceSource;
 use schedule_plan::{Order, Plan};
 use std::alloc::{AllocError, Global};
@@ -28,7 +28,11 @@ fn described(alloc: Global, plan: &Plan, places: usize) -> Result<String, AllocE
 #[test]
 fn conjoined_clauses(rt: HostRuntime) -> Result<(), Fail> {
     let text = b"p cnf 0 3\n0 0 0";
-    let formula = read_cnf(rt.alloc(), &mut SliceSource::new(text, usize::MAX))?;
+    let formula = read_cnf(
+        rt.alloc(),
+        &mut SliceSource::new(text, usize::MAX),
+        Mode::Strict,
+    )?;
     let plan = Plan::conjoin(rt.alloc(), &formula)?;
     let given = described(rt.alloc(), &plan, 6)?;
     let wanted = "5 Some(Push(1)) Some(Push(2)) Some(And) Some(Push(3)) Some(And) None";
@@ -39,7 +43,11 @@ fn conjoined_clauses(rt: HostRuntime) -> Result<(), Fail> {
 #[test]
 fn bucket_of_chain(rt: HostRuntime) -> Result<(), Fail> {
     let text = b"p cnf 3 3\n1 -2 0\n2 -3 0\n3 0";
-    let formula = read_cnf(rt.alloc(), &mut SliceSource::new(text, usize::MAX))?;
+    let formula = read_cnf(
+        rt.alloc(),
+        &mut SliceSource::new(text, usize::MAX),
+        Mode::Strict,
+    )?;
     let order = Order::natural(rt.alloc(), formula.vars())?;
     let plan = Plan::bucket(rt.alloc(), &formula, &order)?;
     let given = described(rt.alloc(), &plan, 9)?;

@@ -1,7 +1,7 @@
 // schedule_plan: texts of schedules and what they are, read in pieces of one byte, of three, and whole. The expected
 // answers are those of the format's rules.
 use crate::support::text_of;
-use dimacs_reader::read_cnf;
+use dimacs_reader::{Mode, read_cnf};
 use host_io::SliceSource;
 use schedule_plan::{Move, Plan, PlanKind};
 use std::alloc::{AllocError, Global};
@@ -73,7 +73,11 @@ fn expect_answer(
     wanted: &str,
     faults: u64,
 ) -> Result<(), Fail> {
-    let formula = read_cnf(alloc, &mut SliceSource::new(FORMULA, usize::MAX))?;
+    let formula = read_cnf(
+        alloc,
+        &mut SliceSource::new(FORMULA, usize::MAX),
+        Mode::Strict,
+    )?;
     let given = match Plan::read(alloc, &formula, source) {
         Ok(plan) => moves_of(alloc, &plan)?,
         Err(error) => format!(in alloc; "{error}")?,

@@ -1,7 +1,7 @@
 use Rattle.std.proofs.Common.{ap₂, codes, ◌≡◌, ◌∙◌}
 use Rattle.std.proofs.lemmas.Result.{IfOk-weaker}
 use Rattle.clap.specs.Words.{app_of, new_app, with_rule}
-use Rattle.command_line.specs.Parser.{file_rule}
+use Rattle.command_line.specs.Parser.{file_rule, proof_file_rule}
 use Rattle.command_line.proofs.Arguments.{stays}
 use Rattle.command_line.proofs.parser.check_parser.Goals as goal
 
@@ -9,9 +9,12 @@ pub returns-clause-app : goal.returns-clause-app
 returns-clause-app c =
     let one_is : app_of c.in_ok-arg.field-0 ≡ with_rule (new_app (codes "check")) file_rule =
     c.in_ok-arg.ensures.shape c.formula_arg.ensures.local ∙ ap₂ with_rule c.command.ensures.app c.formula_arg.ensures.rule in
-    IfOk-weaker c.arg-2.result _ _ (λ r adds. adds.shape c.proof_file_arg.ensures.local ∙ ap₂ with_rule one_is c.proof_file_arg.ensures.rule) c.arg-2.ensures
+    let two_are : app_of c.in_ok-arg-2.field-0 ≡ with_rule (with_rule (new_app (codes "check")) file_rule) proof_file_rule =
+    c.in_ok-arg-2.ensures.shape c.proof_file_arg.ensures.local ∙ ap₂ with_rule one_is c.proof_file_arg.ensures.rule in
+    IfOk-weaker c.arg-3.result _ _ (λ r adds. adds.shape c.lax_arg.ensures.local ∙ ap₂ with_rule two_are c.lax_arg.ensures.rule) c.arg-3.ensures
 
 pub returns-clause-local : goal.returns-clause-local
 returns-clause-local c =
-    IfOk-weaker c.arg-2.result _ _
-    (λ r adds. adds.globals ∙ stays _ _ c.proof_file_arg.ensures.local ∙ c.in_ok-arg.ensures.globals ∙ stays _ _ c.formula_arg.ensures.local ∙ c.command.ensures.local) c.arg-2.ensures
+    IfOk-weaker c.arg-3.result _ _
+    (λ r adds. adds.globals ∙ stays _ _ c.lax_arg.ensures.local ∙ c.in_ok-arg-2.ensures.globals ∙ stays _ _ c.proof_file_arg.ensures.local
+    ∙ c.in_ok-arg.ensures.globals ∙ stays _ _ c.formula_arg.ensures.local ∙ c.command.ensures.local) c.arg-3.ensures

@@ -1,45 +1,46 @@
 -- The end of the clauses decides the answer, and the body goes on behind a token that does not.
-use Rattle.std.proofs.Common.{◌≡◌, ℕ, true, false, List, ◌++◌, Err, refl, sym, ◌∙◌, ap, arith}
+use Rattle.std.proofs.Common.{◌≡◌, ℕ, true, false, List, [], ◌++◌, Err, refl, sym, ◌∙◌, ap, arith}
 use Rattle.std.specs.Prelude.{codes}
 use Rattle.text_scan.specs.Decides.{gained, Decides-none, Decides-map, Decides-then, OnlyReads-then, gained-none, front-then}
 use Rattle.text_scan.specs.Scan.{ahead, so_far}
 use Rattle.dimacs_reader.specs.declared.error.CnfError.TheVariants.{OutOfMemory}
 use Rattle.dimacs_reader.specs.Answers.{error_of}
 use Rattle.dimacs_reader.specs.Body.{IsGood, Passes, pass_none, pass_one, Wants}
-use Rattle.dimacs_reader.specs.Cnf.{CnfText, is_word, text_end, body}
-use Rattle.dimacs_reader.proofs.Judged.{answer_is, then_answers, passes_same, undecided_behind, goes_on, error_is, error_answers, take_answers}
+use Rattle.dimacs_reader.specs.Cnf.{CnfText, is_word, body}
+use Rattle.dimacs_reader.proofs.Judged.{then_answers, passes_same, begun_wants, undecided_behind, goes_on, error_is, error_answers, take_answers}
 use Rattle.dimacs_reader.proofs.Began.{front_of_next, fault_so_far}
 use Rattle.dimacs_reader.proofs.body.read_body.Goals as goal
 
 pub returns-in-None-clause-decides : goal.returns-in-None-clause-decides
 returns-in-None-clause-decides g c = λ told.
-    let same = Decides-map (λ bytes more. body (ahead c.args.scanner.now bytes) c.args.body.count c.args.body.draft ≡ body (ahead c.tokens.scanner more) c.args.body.count c.tokens.body.draft)
+    let same = Decides-map (λ bytes more. body c.args.body.mode (ahead c.args.scanner.now bytes) c.args.body.count c.args.body.draft ≡ body c.args.body.mode (ahead c.tokens.scanner more) c.args.body.count c.tokens.body.draft)
     (c.tokens.invariant.passed told) (λ bytes more passed. passes_same passed) in
-    let whole : List ℕ → CnfText = λ bytes. body (ahead c.args.scanner.now bytes) c.args.body.count c.args.body.draft in
-    let rest : List ℕ → CnfText = λ more. body (ahead c.tokens.scanner more) c.args.body.count c.tokens.body.draft in
+    let whole : List ℕ → CnfText = λ bytes. body c.args.body.mode (ahead c.args.scanner.now bytes) c.args.body.count c.args.body.draft in
+    let rest : List ℕ → CnfText = λ more. body c.args.body.mode (ahead c.tokens.scanner more) c.args.body.count c.tokens.body.draft in
     let gives = rw c.in-None.is at (c.in_ok-next.ensures.gives told) in
     then_answers c.finish.result whole rest same gives
-    (λ middle more q. rw (q.0, c.finish.ensures, c.line.ensures, c.tokens.invariant.count) (answer_is (text_end c.args.body.count c.tokens.body.draft c.next.new.self.line)))
+    (λ middle more q. rw q.0 (rw (c.line.ensures, c.tokens.invariant.count, c.tokens.invariant.mode) at c.finish.ensures.answers))
 
 pub returns-then-is_word-clause-decides : goal.returns-then-is_word-clause-decides
 returns-then-is_word-clause-decides g c = λ told.
-    let same = Decides-map (λ bytes more. body (ahead c.args.scanner.now bytes) c.args.body.count c.args.body.draft ≡ body (ahead c.tokens.scanner more) c.args.body.count c.tokens.body.draft)
+    let same = Decides-map (λ bytes more. body c.args.body.mode (ahead c.args.scanner.now bytes) c.args.body.count c.args.body.draft ≡ body c.args.body.mode (ahead c.tokens.scanner more) c.args.body.count c.tokens.body.draft)
     (c.tokens.invariant.passed told) (λ bytes more passed. passes_same passed) in
-    let whole : List ℕ → CnfText = λ bytes. body (ahead c.args.scanner.now bytes) c.args.body.count c.args.body.draft in
-    let rest : List ℕ → CnfText = λ more. body (ahead c.tokens.scanner more) c.args.body.count c.tokens.body.draft in
+    let whole : List ℕ → CnfText = λ bytes. body c.args.body.mode (ahead c.args.scanner.now bytes) c.args.body.count c.args.body.draft in
+    let rest : List ℕ → CnfText = λ more. body c.args.body.mode (ahead c.tokens.scanner more) c.args.body.count c.tokens.body.draft in
     let gives = rw c.in-Some.is at (c.in_ok-next.ensures.gives told) in
     let percent : is_word (codes "%") c.in-Some.token.bytes ≡ true = sym c.is_word.ensures ∙ c.if-is_word.true in
     then_answers c.finish-then-is_word.result whole rest same gives
-    (λ middle more q. rw (q, percent, c.finish-then-is_word.ensures, c.line-then-is_word.ensures, c.tokens.invariant.count) (answer_is (text_end c.args.body.count c.tokens.body.draft c.in-Some.token.line)))
+    (λ middle more q. rw (q, percent) (rw (c.line-then-is_word.ensures, c.tokens.invariant.count, c.tokens.invariant.mode) at c.finish-then-is_word.ensures.answers))
 
 pub tokens-init : goal.tokens-init
 tokens-init g c =
     let none = gained-none (g.S.Source.channel c.args.source.now) in
     record {
       passed = λ told. Decides-none (g.S.Source.channel c.args.source.now)
-          (λ bytes more. Passes c.args.body.count (ahead c.args.scanner.now bytes) c.args.body.draft (ahead c.args.scanner.now more) c.args.body.draft) (λ more. pass_none);
-      front = λ told reads. (reads, λ more. ap (λ (l : List ℕ). body (so_far c.args.scanner.now (l ++ more)) c.args.body.count c.args.body.draft) none);
+          (λ bytes more. Passes c.args.body.mode c.args.body.count (ahead c.args.scanner.now bytes) c.args.body.draft (ahead c.args.scanner.now more) c.args.body.draft) (λ more. pass_none);
+      front = λ told reads. (reads, λ more. ap (λ (l : List ℕ). body c.args.body.mode (so_far c.args.scanner.now (l ++ more)) c.args.body.count c.args.body.draft) none);
       count = refl;
+      mode = refl;
       sound = c.requires;
       reads = record { written = refl; flushed = refl; name = refl; faults = omega arith };
       unfailed = refl;
@@ -50,26 +51,27 @@ pub tokens-preserved : goal.tokens-preserved
 tokens-preserved g c =
     let moves = rw c.in-Some.is at c.in_ok-next.ensures.moves in
     let percent : is_word (codes "%") c.in-Some.token.bytes ≡ false = sym c.is_word.ensures ∙ c.if-is_word.false in
-    let takes = rw c.tokens.invariant.count at c.in_ok-take-in-Some.ensures.takes in
-    let good : IsGood c.in-Some.token c.args.body.count c.tokens.body.draft = record { goes_on = percent; unoffending = takes.0 } in
+    let takes = rw (c.tokens.invariant.count, c.tokens.invariant.mode) at c.in_ok-take-in-Some.ensures.takes in
+    let good : IsGood c.args.body.mode c.in-Some.token c.args.body.count c.tokens.body.draft = record { goes_on = percent; unoffending = takes.0 } in
     record {
       passed = λ told.
           let gives = rw c.in-Some.is at (c.in_ok-next.ensures.gives told) in
-          Decides-then (λ bytes more. Passes c.args.body.count (ahead c.args.scanner.now bytes) c.args.body.draft (ahead c.next.new.self more) c.take.new.self.draft)
+          Decides-then (λ bytes more. Passes c.args.body.mode c.args.body.count (ahead c.args.scanner.now bytes) c.args.body.draft (ahead c.next.new.self more) c.take.new.self.draft)
           (c.tokens.invariant.passed told) gives
           (λ bytes middle more p q. rw takes.1 (pass_one (rw q at p) good));
       front = λ told reads.
           let gives = rw c.in-Some.is at (c.in_ok-next.ensures.so_far told) in
           let step = front_of_next c.tokens.scanner c.next.new.self c.in-Some.token (gained (g.S.Source.channel c.tokens.source) (g.S.Source.channel c.next.new.source))
-          (λ is. body is c.args.body.count c.tokens.body.draft) (λ is. body is c.args.body.count c.take.new.self.draft)
-          (λ items. goes_on c.in-Some.token items c.args.body.count c.args.body.count c.tokens.body.draft c.take.new.self.draft percent takes.0 takes.1 refl)
+          (λ is. body c.args.body.mode is c.args.body.count c.tokens.body.draft) (λ is. body c.args.body.mode is c.args.body.count c.take.new.self.draft)
+          (λ items. goes_on c.args.body.mode c.args.body.mode c.in-Some.token items c.args.body.count c.args.body.count c.tokens.body.draft c.take.new.self.draft percent takes.0 takes.1 refl refl)
           c.next.ensures.stopped_scanner gives reads in
           let before = c.tokens.invariant.front told step.0 in (
             before.0,
-            front-then (λ l. body (so_far c.args.scanner.now l) c.args.body.count c.args.body.draft) (λ l. body (so_far c.tokens.scanner l) c.args.body.count c.tokens.body.draft)
-                (λ l. body (so_far c.next.new.self l) c.args.body.count c.take.new.self.draft) (c.tokens.invariant.passed told) (c.in_ok-next.ensures.gives told) before.1 step.1,
+            front-then (λ l. body c.args.body.mode (so_far c.args.scanner.now l) c.args.body.count c.args.body.draft) (λ l. body c.args.body.mode (so_far c.tokens.scanner l) c.args.body.count c.tokens.body.draft)
+                (λ l. body c.args.body.mode (so_far c.next.new.self l) c.args.body.count c.take.new.self.draft) (c.tokens.invariant.passed told) (c.in_ok-next.ensures.gives told) before.1 step.1,
           );
       count = c.take.ensures.count ∙ c.tokens.invariant.count;
+      mode = c.take.ensures.mode ∙ c.tokens.invariant.mode;
       sound = moves.sound;
       reads = OnlyReads-then c.tokens.invariant.reads c.next.ensures.reads;
       unfailed = c.in_ok-next.ensures.unfailed (λ e. cc) ∙ c.tokens.invariant.unfailed;
@@ -78,36 +80,36 @@ tokens-preserved g c =
 
 pub returns-in_err-next-clause-decides : goal.returns-in_err-next-clause-decides
 returns-in_err-next-clause-decides g c = λ told.
-    let same = Decides-map (λ bytes more. body (ahead c.args.scanner.now bytes) c.args.body.count c.args.body.draft ≡ body (ahead c.tokens.scanner more) c.args.body.count c.tokens.body.draft)
+    let same = Decides-map (λ bytes more. body c.args.body.mode (ahead c.args.scanner.now bytes) c.args.body.count c.args.body.draft ≡ body c.args.body.mode (ahead c.tokens.scanner more) c.args.body.count c.tokens.body.draft)
     (c.tokens.invariant.passed told) (λ bytes more passed. passes_same passed) in
-    let whole : List ℕ → CnfText = λ bytes. body (ahead c.args.scanner.now bytes) c.args.body.count c.args.body.draft in
-    let rest : List ℕ → CnfText = λ more. body (ahead c.tokens.scanner more) c.args.body.count c.tokens.body.draft in
+    let whole : List ℕ → CnfText = λ bytes. body c.args.body.mode (ahead c.args.scanner.now bytes) c.args.body.count c.args.body.draft in
+    let rest : List ℕ → CnfText = λ more. body c.args.body.mode (ahead c.tokens.scanner more) c.args.body.count c.tokens.body.draft in
     let error = error_is c.from_residual.result (error_of c.in_err-next.field-0.0) c.from_residual.ensures.1 in
     then_answers c.from_residual.result whole rest same (c.in_err-next.ensures.gives told)
-    (λ middle more q. error_answers c.from_residual.result c.in_err-next.field-0.0 c.next.new.self.line c.args.body.count c.tokens.body.draft (ahead c.tokens.scanner middle) (ahead c.next.new.self more) error q)
+    (λ middle more q. error_answers c.args.body.mode c.from_residual.result c.in_err-next.field-0.0 c.next.new.self.line c.args.body.count c.tokens.body.draft (ahead c.tokens.scanner middle) (ahead c.next.new.self more) error q)
 
 pub returns-in_err-take-in-Some-clause-decides : goal.returns-in_err-take-in-Some-clause-decides
 returns-in_err-take-in-Some-clause-decides g c = λ told.
-    let same = Decides-map (λ bytes more. body (ahead c.args.scanner.now bytes) c.args.body.count c.args.body.draft ≡ body (ahead c.tokens.scanner more) c.args.body.count c.tokens.body.draft)
+    let same = Decides-map (λ bytes more. body c.args.body.mode (ahead c.args.scanner.now bytes) c.args.body.count c.args.body.draft ≡ body c.args.body.mode (ahead c.tokens.scanner more) c.args.body.count c.tokens.body.draft)
     (c.tokens.invariant.passed told) (λ bytes more passed. passes_same passed) in
-    let whole : List ℕ → CnfText = λ bytes. body (ahead c.args.scanner.now bytes) c.args.body.count c.args.body.draft in
-    let rest : List ℕ → CnfText = λ more. body (ahead c.tokens.scanner more) c.args.body.count c.tokens.body.draft in
+    let whole : List ℕ → CnfText = λ bytes. body c.args.body.mode (ahead c.args.scanner.now bytes) c.args.body.count c.args.body.draft in
+    let rest : List ℕ → CnfText = λ more. body c.args.body.mode (ahead c.tokens.scanner more) c.args.body.count c.tokens.body.draft in
     let gives = rw c.in-Some.is at (c.in_ok-next.ensures.gives told) in
     let percent : is_word (codes "%") c.in-Some.token.bytes ≡ false = sym c.is_word.ensures ∙ c.if-is_word.false in
     let error = error_is c.from_residual-in_err-take-in-Some.result c.in_err-take-in-Some.field-0.0 c.from_residual-in_err-take-in-Some.ensures.1 in
     then_answers c.from_residual-in_err-take-in-Some.result whole rest same gives
-    (λ middle more q. rw q (take_answers c.from_residual-in_err-take-in-Some.result c.in_err-take-in-Some.field-0.0 c.in-Some.token (ahead c.next.new.self more)
-    c.args.body.count c.tokens.body.draft c.take.new.self.draft error percent (rw c.tokens.invariant.count at c.in_err-take-in-Some.ensures.takes)))
+    (λ middle more q. rw q (take_answers c.args.body.mode c.from_residual-in_err-take-in-Some.result c.in_err-take-in-Some.field-0.0 c.in-Some.token (ahead c.next.new.self more)
+    c.args.body.count c.tokens.body.draft c.take.new.self.draft error percent (rw (c.tokens.invariant.count, c.tokens.invariant.mode) at c.in_err-take-in-Some.ensures.takes)))
 
 -- A failed read was met while the bytes taken gave no further token.
 pub returns-in_err-next-clause-undecided : goal.returns-in_err-next-clause-undecided
 returns-in_err-next-clause-undecided g c = λ told failed.
     let error = error_is c.from_residual.result (error_of c.in_err-next.field-0.0) c.from_residual.ensures.1 in
-    let last = fault_so_far c.from_residual.result c.in_err-next.field-0.0 c.tokens.scanner c.next.new.self (gained (g.S.Source.channel c.tokens.source) (g.S.Source.channel c.next.new.source))
+    let last = fault_so_far c.args.body.mode c.from_residual.result c.in_err-next.field-0.0 c.tokens.scanner c.next.new.self (gained (g.S.Source.channel c.tokens.source) (g.S.Source.channel c.next.new.source))
     c.args.body.count c.tokens.body.draft error failed c.tokens.invariant.sound c.in_err-next.ensures.stopped_answer (c.in_err-next.ensures.so_far told) in
     let before = c.tokens.invariant.front told last.0 in (
       before.0,
-      undecided_behind (λ l. body (so_far c.args.scanner.now l) c.args.body.count c.args.body.draft) (λ l. body (so_far c.tokens.scanner l) c.args.body.count c.tokens.body.draft)
+      undecided_behind (λ l. body c.args.body.mode (so_far c.args.scanner.now l) c.args.body.count c.args.body.draft) (λ l. body c.args.body.mode (so_far c.tokens.scanner l) c.args.body.count c.tokens.body.draft)
           (c.tokens.invariant.passed told) (c.in_err-next.ensures.gives told) before.1 last.1,
     )
 
@@ -118,7 +120,24 @@ returns-in_err-take-in-Some-clause-memory g c = λ told wanted.
     let gives = rw c.in-Some.is at (c.in_ok-next.ensures.gives told) in
     let error = error_is c.from_residual-in_err-take-in-Some.result c.in_err-take-in-Some.field-0.0 c.from_residual-in_err-take-in-Some.ensures.1 in
     let memory : c.in_err-take-in-Some.field-0.0 ≡ OutOfMemory = cc in
-    let none = rw c.tokens.invariant.count at (c.in_err-take-in-Some.ensures.memory (ap Err memory)) in
-    Decides-then (λ bytes more. Wants c.args.body.count (ahead c.args.scanner.now bytes) c.args.body.draft (ahead c.next.new.self more))
+    let none = rw (c.tokens.invariant.count, c.tokens.invariant.mode) at (c.in_err-take-in-Some.ensures.memory (ap Err memory)) in
+    Decides-then (λ bytes more. c.args.body.draft.begun ≡ [] → Wants c.args.body.mode c.args.body.count (ahead c.args.scanner.now bytes) c.args.body.draft)
     (c.tokens.invariant.passed told) gives
-    (λ bytes middle more p q. record { word = c.in-Some.token; draft = c.tokens.body.draft; passed = rw q at p; good = record { goes_on = percent; unoffending = none } })
+    (λ bytes middle more p q fresh. record {
+      word = c.in-Some.token;
+      after = ahead c.next.new.self more;
+      draft = c.tokens.body.draft;
+      passed = rw q at p;
+      good = record { goes_on = percent; unoffending = none };
+    })
+
+-- or for the end of a clause that was begun
+pub returns-in-None-clause-memory : goal.returns-in-None-clause-memory
+returns-in-None-clause-memory g c = λ told wanted.
+    Decides-then (λ bytes more. c.args.body.draft.begun ≡ [] → Wants c.args.body.mode c.args.body.count (ahead c.args.scanner.now bytes) c.args.body.draft)
+    (c.tokens.invariant.passed told) (c.in_ok-next.ensures.gives told) (λ bytes middle more p q fresh. begun_wants p fresh (c.finish.ensures.memory wanted))
+
+pub returns-then-is_word-clause-memory : goal.returns-then-is_word-clause-memory
+returns-then-is_word-clause-memory g c = λ told wanted.
+    Decides-then (λ bytes more. c.args.body.draft.begun ≡ [] → Wants c.args.body.mode c.args.body.count (ahead c.args.scanner.now bytes) c.args.body.draft)
+    (c.tokens.invariant.passed told) (c.in_ok-next.ensures.gives told) (λ bytes middle more p q fresh. begun_wants p fresh (c.finish-then-is_word.ensures.memory wanted))
