@@ -4,6 +4,7 @@ use Rattle.std.specs.Prelude.{Result, ◌⊎◌}
 use Rattle.cnf_base.specs.Formula.{Formula}
 use Rattle.host_io.specs.declared.role.Role.TheVariants.{ProofOut, Made, Out}
 use Rattle.lrat_rules.specs.State.{State}
+use Rattle.schedule_plan.specs.declared.limits.Limits.{Limits}
 use Rattle.schedule_plan.specs.declared.plan.Move.{Move}
 use Rattle.term_runner.specs.declared.outcome.Outcome.{Outcome}
 use Rattle.term_runner.specs.declared.outcome.Outcome.TheVariants as outcome

@@ -7,19 +7,14 @@ use Rattle.node_table.specs.Value.{Levels, IsSubfunction, fixed_to}
 use Rattle.schedule_plan.specs.declared.plan.Move.{Move}
 use Rattle.schedule_plan.specs.declared.plan.Move.TheVariants.{Push}
 use Rattle.schedule_plan.specs.Plan.{Stage, Term, after_move, conjoin, input, no_stage}
-use Rattle.term_runner.specs.Width.{HasWidth, IsEssential, IsInHand, IsMove, IsResult, part_at, term_function}
-
-pub one_clause : Formula
-one_clause = record { vars = 1; clauses = (pos 1 ∷ []) ∷ [] }
-
-abbrev pub order : List ℕ
-order = 1 ∷ []
+use Rattle.term_runner.specs.Examples.{one_clause, one_variable}
+use Rattle.term_runner.specs.Width.{HasWidth, IsWider, IsEssential, IsInHand, IsMove, IsPartInHand, IsResult, part_at, term_function}
 
 or_false : (b : Bool) → (b || false) ≡ b
 or_false true = refl
 or_false false = refl
 
-function_is : (a : Levels) → term_function one_clause order (input 1) a ≡ a 0
+function_is : (a : Levels) → term_function one_clause one_variable (input 1) a ≡ a 0
 unfolding one_clause
 function_is a = or_false (a 0)
 
@@ -27,10 +22,10 @@ inside : {X : Type 0} (x y : X) → Some x ≡ Some y → x ≡ y
 inside x y e = cc
 
 -- a part of it that isn't constant is itself
-part_is : (part : Levels → Bool) → IsSubfunction (term_function one_clause order (input 1)) part → IsEssential part → (a : Levels) → part a ≡ a 0
+part_is : (part : Levels → Bool) → IsSubfunction (term_function one_clause one_variable (input 1)) part → IsEssential part → (a : Levels) → part a ≡ a 0
 part_is part is essential = go is.level is.fixed is.same
   where
-    go : (level : ℕ) (fixed : Levels) → ((a : Levels) → part a ≡ term_function one_clause order (input 1) (fixed_to level fixed a)) → (a : Levels) → part a ≡ a 0
+    go : (level : ℕ) (fixed : Levels) → ((a : Levels) → part a ≡ term_function one_clause one_variable (input 1) (fixed_to level fixed a)) → (a : Levels) → part a ≡ a 0
     go zero fixed same a = same a ∙ function_is (fixed_to zero fixed a)
     go (suc level) fixed same a =
         absurd (essential (fixed 0) (λ b. same b ∙ function_is (fixed_to (suc level) fixed b) ∙ ap (λ t. if t then fixed 0 else b 0) (lt-ltb 0 (suc level) (omega arith))))
@@ -53,7 +48,7 @@ in_hand_is : (count : ℕ) (before after : Stage) → IsMove one_clause (conjoin
 in_hand_is zero before after move = behind_push before after move.step (inside no_stage before move.reached) (inside (Push 1) move.step move.is) move.leads
 in_hand_is (suc count) before after move = absurd (let e : None ≡ Some move.step = move.is in cc)
 
-pub one_at_most : HasWidth one_clause order (conjoin 1) 1
+pub one_at_most : HasWidth one_clause one_variable (conjoin 1) 1
 one_at_most wider =
     let many = wider.more in
     let same : (place : ℕ) → place < 2 → (a : Levels) → part_at many.parts place a ≡ a 0 =
@@ -61,6 +56,32 @@ one_at_most wider =
     let here : place < length many.parts = omega (arith, small, many.more) in
     let in_hand = many.are place here in
     part_is (part_at many.parts place)
-    (subst (λ (t : Term). IsSubfunction (term_function one_clause order t) (part_at many.parts place)) (sym (in_hand_is wider.count wider.before wider.after wider.move in_hand.term in_hand.in_hand)) in_hand.is_part)
+    (subst (λ (t : Term). IsSubfunction (term_function one_clause one_variable t) (part_at many.parts place)) (sym (in_hand_is wider.count wider.before wider.after wider.move in_hand.term in_hand.in_hand)) in_hand.is_part)
     (many.essential place here) in
     many.differ 0 1 (omega arith) (omega (arith, many.more)) (λ a. same 0 (omega arith) a ∙ sym (same 1 (omega arith) a))
+
+-- and its own function is in hand
+pub one_at_least : ((function : Levels → Bool) → IsSubfunction function function) → IsWider one_clause one_variable (conjoin 1) 0
+unfolding one_clause
+one_at_least itself =
+    let after : Stage = record { stack = input 1 ∷ []; pushed = 1 ∷ []; trail = [] } in
+    let function : Levels → Bool = term_function one_clause one_variable (input 1) in
+    record {
+      count = 0;
+      before = no_stage;
+      after = after;
+      move = record { step = Push 1; is = refl; reached = refl; leads = refl };
+      more = record {
+        parts = function ∷ [];
+        more = omega arith;
+        are = λ place small. elim place as (λ n. n < 1 → IsPartInHand one_clause one_variable no_stage after (part_at (function ∷ []) n)) [
+          | zero ↦ λ _. record { term = input 1; in_hand = inr (inr refl); is_part = itself function }
+          | suc n ↦ λ less. absurd (omega (arith, less))
+        ] small;
+        essential = λ place small. elim place as (λ n. n < 1 → IsEssential (part_at (function ∷ []) n)) [
+          | zero ↦ λ _ b same. let e : true ≡ false = sym (function_is (λ _. true)) ∙ same (λ _. true) ∙ sym (same (λ _. false)) ∙ function_is (λ _. false) in cc
+          | suc n ↦ λ less. absurd (omega (arith, less))
+        ] small;
+        differ = λ place other less small. absurd (omega (arith, less, small));
+      };
+    }

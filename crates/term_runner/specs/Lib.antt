@@ -9,3 +9,4 @@ pub mod Ends
 pub mod Opened
 pub mod Held
 pub mod Tidy
+pub mod Examples

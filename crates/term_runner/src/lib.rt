@@ -7,6 +7,7 @@
 mod caches;
 mod decide;
 mod error;
+mod examples;
 mod finish;
 mod held;
 mod moves;
@@ -19,6 +20,7 @@ mod unit;
 
 pub use clause_terms::{Model, Trail, push_clause, recover};
 pub use error::RunError;
+pub use examples::width_example;
 pub use outcome::{Outcome, Run};
 pub use run::{run_plan, run_plan_into};
 pub use schedule_plan::Limits;
