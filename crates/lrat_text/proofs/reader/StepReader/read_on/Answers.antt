@@ -4,13 +4,14 @@ use Rattle.std.specs.Prelude.{⊤}
 use Rattle.std.proofs.lemmas.Bool.Decides.{nat_tests}
 use Rattle.text_scan.specs.declared.scanner.ScanError.TheVariants.{ReadFault as ScanFault}
 use Rattle.text_scan.specs.Items.{next_word}
+use Rattle.lrat_text.specs.declared.error.StepError.TheVariants.{ReadFault}
 use Rattle.lrat_text.specs.declared.reader.Status.TheVariants.{Reading}
 use Rattle.text_scan.specs.Decides.{gained, Decides-then, OnlyReads-then, gained-then, front-then}
 use Rattle.text_scan.specs.Scan.{Scan, ahead, so_far as scan_so_far, is_reading as is_scanning, fuel}
 use Rattle.lrat_text.specs.Draft.{is_open, with_token, drafted}
-use Rattle.lrat_text.specs.Reader.{Reader, so_far, open_count}
+use Rattle.lrat_text.specs.Reader.{Reader, given, so_far, open_count}
 use Rattle.lrat_text.specs.Steps.{broken_off}
-use Rattle.lrat_text.proofs.SoFar.{scanned, scanned_fault, off_overlong, before_so_far, stopped_so_far}
+use Rattle.lrat_text.proofs.SoFar.{given_err, scanned, scanned_fault, off_overlong, before_so_far, stopped_so_far}
 use Rattle.lrat_text.proofs.Settled.{before_gives, end_gives, limit_gives, call_gives, token_goes, open_small}
 use Rattle.lrat_text.proofs.reader.StepReader.read_on.Goals as goal
 use Rattle.lrat_text.proofs.reader.StepReader.read_on.Goals.{else-is_open-via-then-is_open+else-line, else-is_open-via-else-is_open}
@@ -21,24 +22,24 @@ returns-then-line-clause-gives g c = λ told.
     let gives = rw c.in-Ok-Some.field-0-is at (c.in-Ok-Some.ensures.gives told) in
     let begun : is_open c.self.inside.draft ≡ true = sym c.is_open.ensures ∙ c.if-is_open.true in
     let differs : (c.self.inside.draft.line == c.in-Ok-Some.token.line) ≡ false = grind (arith, nat_tests) in
-    call_gives c.give_before.result c.args.self.now c.tokens.self c.give_before.new.self c.requires (c.tokens.invariant.same told) gives
-    (λ middle more q. rw (← c.self.view_is, q) (before_gives c.give_before.result c.in-Ok-Some.token old c.give_before.new.self c.give_before.ensures begun differs more))
+    call_gives (given c.give_before.new.step c.give_before.result) c.args.self.now c.tokens.self c.give_before.new.self c.requires (c.tokens.invariant.same told) gives
+    (λ middle more q. rw (← c.self.view_is, q) (before_gives (given c.give_before.new.step c.give_before.result) c.in-Ok-Some.token old c.give_before.new.self c.give_before.ensures begun differs more))
 
 pub returns-in-Ok-None-clause-gives : goal.returns-in-Ok-None-clause-gives
 returns-in-Ok-None-clause-gives g c = λ told.
     let old : Reader = record { scan = c.next.new.self; draft = c.self.inside.draft; status = c.self.inside.status; line = c.self.inside.line } in
     let gives = rw c.in-Ok-None.field-0-is at (c.in-Ok-None.ensures.gives told) in
     let end = c.give_at_end.ensures in
-    call_gives c.give_at_end.result c.args.self.now c.tokens.self c.give_at_end.new.self c.requires (c.tokens.invariant.same told) gives
-    (λ middle more q. rw (← c.self.view_is, q.0) (end_gives c.give_at_end.result old c.give_at_end.new.self end.last end.ended end.stopped more q.1))
+    call_gives (given c.give_at_end.new.step c.give_at_end.result) c.args.self.now c.tokens.self c.give_at_end.new.self c.requires (c.tokens.invariant.same told) gives
+    (λ middle more q. rw (← c.self.view_is, q.0) (end_gives (given c.give_at_end.new.step c.give_at_end.result) old c.give_at_end.new.self end.last (λ h. ap (given c.give_at_end.new.step) (end.ended h)) end.stopped more q.1))
 
 pub returns-in-Err-TooLong-clause-gives : goal.returns-in-Err-TooLong-clause-gives
 returns-in-Err-TooLong-clause-gives g c = λ told.
     let old : Reader = record { scan = c.next.new.self; draft = c.self.inside.draft; status = c.self.inside.status; line = c.self.inside.line } in
     let gives = rw c.in-Err-TooLong.field-0-is at (c.in-Err-TooLong.ensures.gives told) in
     let limit = c.give_at_limit.ensures in
-    call_gives c.give_at_limit.result c.args.self.now c.tokens.self c.give_at_limit.new.self c.requires (c.tokens.invariant.same told) gives
-    (λ middle more q. rw (← c.self.view_is, q.0) (limit_gives c.give_at_limit.result old c.give_at_limit.new.self limit.last limit.over limit.stopped more q.1))
+    call_gives (given c.give_at_limit.new.step c.give_at_limit.result) c.args.self.now c.tokens.self c.give_at_limit.new.self c.requires (c.tokens.invariant.same told) gives
+    (λ middle more q. rw (← c.self.view_is, q.0) (limit_gives (given c.give_at_limit.new.step c.give_at_limit.result) old c.give_at_limit.new.self limit.last (λ h. ap (given c.give_at_limit.new.step) (limit.over h)) limit.stopped more q.1))
 
 pub tokens-preserved : goal.tokens-preserved
 tokens-preserved g c =
@@ -100,7 +101,7 @@ returns-then-line-clause-so_far g c = λ told.
     λ reading. scanned c.self.inside.scanner c.next.new.self c.in-Ok-Some.ensures.stopped_scanner reading in
     let scanning : is_scanning c.next.new.self.status ≡ true → is_scanning c.tokens.self.scan.status ≡ true =
     λ reading. ap (λ (r : Reader). is_scanning r.scan.status) (sym c.self.view_is) ∙ inside reading in
-    before_so_far c.give_before.result c.in-Ok-Some.token c.args.self.now old c.give_before.new.self (gained (g.S.Source.channel c.args.source.now) (g.S.Source.channel c.next.new.source))
+    before_so_far (given c.give_before.new.step c.give_before.result) c.in-Ok-Some.token c.args.self.now old c.give_before.new.self (gained (g.S.Source.channel c.args.source.now) (g.S.Source.channel c.next.new.source))
     c.give_before.ensures begun differs (λ reading. c.tokens.invariant.scanning (scanning reading)) (λ reading.
     let token = rw c.in-Ok-Some.field-0-is at (c.in-Ok-Some.ensures.so_far told (inside reading)) in
     front-then (so_far c.args.self.now) (so_far c.tokens.self) (λ more. drafted (next_word c.in-Ok-Some.token (broken_off (scan_so_far c.next.new.self more))) c.self.inside.draft)
@@ -112,13 +113,13 @@ pub returns-in-Ok-None-clause-so_far : goal.returns-in-Ok-None-clause-so_far
 returns-in-Ok-None-clause-so_far g c = λ told.
     let moves = rw c.in-Ok-None.field-0-is at c.in-Ok-None.ensures.moves in
     let stopped : is_scanning c.give_at_end.new.self.scan.status ≡ false = ap (λ (s : Scan). is_scanning s.status) c.give_at_end.ensures.same_scan ∙ ap is_scanning moves in
-    stopped_so_far c.give_at_end.result c.args.self.now c.give_at_end.new.self _ stopped c.give_at_end.ensures.unfailed
+    stopped_so_far (given c.give_at_end.new.step c.give_at_end.result) c.args.self.now c.give_at_end.new.self _ stopped (λ e. c.give_at_end.ensures.unfailed (given_err c.give_at_end.new.step c.give_at_end.result ReadFault e))
 
 pub returns-in-Err-TooLong-clause-so_far : goal.returns-in-Err-TooLong-clause-so_far
 returns-in-Err-TooLong-clause-so_far g c = λ told.
     let moves = rw c.in-Err-TooLong.field-0-is at c.in-Err-TooLong.ensures.moves in
     let stopped : is_scanning c.give_at_limit.new.self.scan.status ≡ false = ap (λ (s : Scan). is_scanning s.status) c.give_at_limit.ensures.same_scan ∙ ap is_scanning moves in
-    stopped_so_far c.give_at_limit.result c.args.self.now c.give_at_limit.new.self _ stopped c.give_at_limit.ensures.unfailed
+    stopped_so_far (given c.give_at_limit.new.step c.give_at_limit.result) c.args.self.now c.give_at_limit.new.self _ stopped (λ e. c.give_at_limit.ensures.unfailed (given_err c.give_at_limit.new.step c.give_at_limit.result ReadFault e))
 
 pub returns-in-Err-ReadFault-clause-so_far : goal.returns-in-Err-ReadFault-clause-so_far
 returns-in-Err-ReadFault-clause-so_far g c = λ told.
