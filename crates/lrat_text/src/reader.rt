@@ -159,15 +159,16 @@ impl StepReader {
         ensures reads { OnlyReads (S.channel source.old) (S.channel source.new) }
         ensures beside { S.beside source.new ≡ S.beside source.old }
     {
+        let mut token = Token::blank();
         'tokens: loop {
-            match self.scanner.next(source) {
-                Ok(Some(token)) => {
+            match self.scanner.next_into(source, &mut token) {
+                Ok(true) => {
                     if self.draft.is_open() && self.draft.line() != token.line() {
                         return self.give_before(&token, step);
                     }
                     self.take(&token)?;
                 }
-                Ok(None) => return self.give_at_end(step),
+                Ok(false) => return self.give_at_end(step),
                 Err(ScanError::TooLong) => return self.give_at_limit(step),
                 Err(ScanError::ReadFault) => {
                     self.status = Status::Failed(StepError::ReadFault);
