@@ -146,7 +146,6 @@ fn put_groups(alloc: Global, groups: &mut GroupList, numbers: &[i64]) -> Result<
 
 /// Whether these numbers behind an identifier spell an addition, which then is the step. Memory is wanted only for that.
 pub fn put_addition(
-    alloc: Global,
     lists: &mut Lists,
     id: u64,
     numbers: &[i64],
@@ -163,7 +162,6 @@ pub fn put_addition(
         return Ok(false);
     };
     put_addition_of(
-        alloc,
         lists,
         id,
         &numbers[..end],
@@ -174,7 +172,6 @@ pub fn put_addition(
 }
 
 fn put_addition_of(
-    alloc: Global,
     lists: &mut Lists,
     id: u64,
     literals: &[i64],
@@ -188,17 +185,16 @@ fn put_addition_of(
     if !(is_id(id) && are_literals(literals) && are_hints(hints) && rest.is_empty()) {
         return Ok(false);
     }
-    lists.take_back(alloc, step);
+    lists.take_back(step);
     put_clause(&mut lists.clause, literals)?;
     put_hints(&mut lists.hints, hints)?;
-    put_groups(alloc, &mut lists.groups, hints)?;
-    *step = lists.addition(alloc, id);
+    put_groups(lists.alloc, &mut lists.groups, hints)?;
+    *step = lists.addition(id);
     Ok(true)
 }
 
 /// Whether these numbers behind the `d` spell a deletion, which then is the step. Memory is wanted only for that.
 pub fn put_deletion(
-    alloc: Global,
     lists: &mut Lists,
     id: u64,
     numbers: &[i64],
@@ -210,11 +206,10 @@ pub fn put_deletion(
     let Some(end) = first_zero(numbers) else {
         return Ok(false);
     };
-    put_deletion_with(alloc, lists, id, &numbers[..end], &numbers[end + 1..], step)
+    put_deletion_with(lists, id, &numbers[..end], &numbers[end + 1..], step)
 }
 
 fn put_deletion_with(
-    alloc: Global,
     lists: &mut Lists,
     id: u64,
     ids: &[i64],
@@ -227,8 +222,8 @@ fn put_deletion_with(
     if !(id <= MAX_ID && are_hints(ids) && rest.is_empty()) {
         return Ok(false);
     }
-    lists.take_back(alloc, step);
+    lists.take_back(step);
     put_ids(&mut lists.deleted, ids)?;
-    *step = lists.deletion(alloc, id);
+    *step = lists.deletion(id);
     Ok(true)
 }

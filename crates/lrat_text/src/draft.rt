@@ -137,12 +137,7 @@ impl Draft {
     }
 
     /// Whether the line spells a step, which then is the step. Memory is wanted only for that.
-    pub fn put_step(
-        &self,
-        alloc: Global,
-        lists: &mut Lists,
-        step: &mut Step,
-    ) -> Result<bool, OutOfMemory>
+    pub fn put_step(&self, lists: &mut Lists, step: &mut Step) -> Result<bool, OutOfMemory>
         ensures step { IfOk result (λ is_step. judged self.now ≡ given_if is_step step.new) }
         ensures memory { OnErr result (IsTrue (is_some (judged self.now))) }
     {
@@ -154,8 +149,8 @@ impl Draft {
         }
         match self.kind {
             Kind::Empty | Kind::Begun => Ok(false),
-            Kind::Adds => put_addition(alloc, lists, id, self.numbers.as_slice(), step),
-            Kind::Deletes => put_deletion(alloc, lists, id, self.numbers.as_slice(), step),
+            Kind::Adds => put_addition(lists, id, self.numbers.as_slice(), step),
+            Kind::Deletes => put_deletion(lists, id, self.numbers.as_slice(), step),
         }
     }
 }

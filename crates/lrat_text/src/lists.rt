@@ -9,23 +9,17 @@ use std::mem::replace;
 /// The lists of an addition and of a deletion, but for those that stand in a step.
 #[derive(Debug, Drop)]
 pub struct Lists {
+    pub alloc: Global,
     pub clause: LitList,
     pub hints: IdList,
     pub groups: GroupList,
     pub deleted: IdList,
 }
 
-/// A step without lists of any length.
-pub fn blank_step(alloc: Global) -> Step {
-    Step::Delete {
-        id: Id(0),
-        ids: IdList::new(alloc),
-    }
-}
-
 impl Lists {
     pub fn new(alloc: Global) -> Lists {
         Lists {
+            alloc,
             clause: LitList::new(alloc),
             hints: IdList::new(alloc),
             groups: GroupList::new(alloc),
@@ -33,9 +27,17 @@ impl Lists {
         }
     }
 
+    /// A step that takes no memory.
+    pub fn blank_step(&self) -> Step {
+        Step::Delete {
+            id: Id(0),
+            ids: IdList::new(self.alloc),
+        }
+    }
+
     /// Takes the lists of a step that is needed no more.
-    pub fn take_back(&mut self, alloc: Global, step: &mut Step) {
-        match replace(step, blank_step(alloc)) {
+    pub fn take_back(&mut self, step: &mut Step) {
+        match replace(step, self.blank_step()) {
             Step::Add {
                 lits,
                 pos,
@@ -51,24 +53,24 @@ impl Lists {
     }
 
     /// Gives the addition of this clause with these hints and groups.
-    pub fn addition(&mut self, alloc: Global, id: u64) -> Step
+    pub fn addition(&mut self, id: u64) -> Step
         ensures { result ≡ Add id self.old.clause self.old.hints self.old.groups }
     {
         Step::Add {
             id: Id(id),
-            lits: replace(&mut self.clause, LitList::new(alloc)),
-            pos: replace(&mut self.hints, IdList::new(alloc)),
-            groups: replace(&mut self.groups, GroupList::new(alloc)),
+            lits: replace(&mut self.clause, LitList::new(self.alloc)),
+            pos: replace(&mut self.hints, IdList::new(self.alloc)),
+            groups: replace(&mut self.groups, GroupList::new(self.alloc)),
         }
     }
 
     /// Gives the deletion of these clauses.
-    pub fn deletion(&mut self, alloc: Global, id: u64) -> Step
+    pub fn deletion(&mut self, id: u64) -> Step
         ensures { result ≡ Delete id self.old.deleted }
     {
         Step::Delete {
             id: Id(id),
-            ids: replace(&mut self.deleted, IdList::new(alloc)),
+            ids: replace(&mut self.deleted, IdList::new(self.alloc)),
         }
     }
 }

@@ -10,7 +10,7 @@ ghost use Rattle.lrat_text.specs.Reader.{given, Gives, GivesSoFar, Moves, steps_
 
 use crate::draft::Draft;
 use crate::error::StepError;
-use crate::lists::{Lists, blank_step};
+use crate::lists::Lists;
 use cnf_base::Step;
 use host_io::Source;
 use std::alloc::Global;
@@ -28,7 +28,6 @@ enum Status {
 /// Reads the lines of a textual LRAT proof as steps.
 #[derive(Debug, Drop)]
 pub struct StepReader {
-    alloc: Global,
     scanner: Scanner,
     draft: Draft,
     lists: Lists,
@@ -59,7 +58,6 @@ impl StepReader {
         ensures line { result.line ≡ 1 }
     {
         StepReader {
-            alloc,
             scanner: Scanner::new(b'c', limit),
             draft: Draft::new(alloc),
             lists: Lists::new(alloc),
@@ -99,7 +97,7 @@ impl StepReader {
         ensures reads { OnlyReads (S.channel source.old) (S.channel source.new) }
         ensures beside { S.beside source.new ≡ S.beside source.old }
     {
-        let mut step = blank_step(self.alloc);
+        let mut step = self.lists.blank_step();
         match self.next_into(source, &mut step) {
             Ok(Some(line)) => Ok(Some((step, line))),
             Ok(None) => Ok(None),
@@ -250,7 +248,7 @@ impl StepReader {
         ensures { Judges result step.new self.old self.new }
     {
         let line = self.draft.line();
-        match self.draft.put_step(self.alloc, &mut self.lists, step) {
+        match self.draft.put_step(&mut self.lists, step) {
             Err(_) => Err(self.fail(StepError::OutOfMemory)),
             Ok(false) => Err(self.fail(StepError::Syntax(line))),
             Ok(true) => {
