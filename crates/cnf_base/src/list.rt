@@ -63,6 +63,15 @@ impl<T> Items<T> {
         Ok(())
     }
 
+    /// Empties the list. Its memory is kept for the items that come next.
+    pub fn clear(&mut self)
+    where
+        T: Drop,
+        ensures { self.new ≡ [] }
+    {
+        self.items.clear();
+    }
+
     pub fn as_slice(&self) -> &[T]
         ensures { result.now ≡ self.now }
     {

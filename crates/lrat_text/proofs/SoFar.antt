@@ -12,10 +12,16 @@ use Rattle.lrat_text.specs.declared.error.StepError.{StepError}
 use Rattle.lrat_text.specs.declared.error.StepError.TheVariants.{Syntax, ReadFault, TooLong, OutOfMemory}
 use Rattle.lrat_text.specs.Steps.{overlong, broken_off}
 use Rattle.lrat_text.specs.Draft.{DraftLine, draft_of_word, is_open, drafted}
-use Rattle.lrat_text.specs.Reader.{Reader, GivesSoFar, Settles, so_far}
+use Rattle.lrat_text.specs.Reader.{Reader, given, GivesSoFar, Settles, so_far}
 
 abbrev Answer : Type 0
 Answer = Result (Option (Step × ℕ)) StepError
+
+-- an error is the same with a step beside it
+pub given_err : (step : Step) (r : Result (Option ℕ) StepError) (error : StepError) → given step r ≡ Err error → r ≡ Err error
+given_err step (Ok None) error h = cc
+given_err step (Ok (Some at)) error h = cc
+given_err step (Err other) error h = cc
 
 -- a scanner that reads now did so before
 pub scanned : (old new : Scan) → (is_scanning old.status ≡ false → new ≡ old) → is_scanning new.status ≡ true → is_scanning old.status ≡ true

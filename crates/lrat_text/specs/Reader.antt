@@ -49,6 +49,12 @@ fuel_in (Failed error) reader = 0
 abbrev pub fuel : Reader → ℕ
 fuel reader = fuel_in reader.status reader
 
+-- the answer of a call after which this step stands in a place of the caller's
+abbrev pub given : Step → Result (Option ℕ) StepError → Result (Option (Step × ℕ)) StepError
+given step (Ok (Some at)) = Ok (Some (step, at))
+given step (Ok None) = Ok None
+given step (Err error) = Err error
+
 -- An answer, and the line that the reader then answers, are the first of the steps ahead; those after it are ahead
 -- now. A failed read and want of memory say nothing of the text.
 abbrev pub Gives : Result (Option (Step × ℕ)) StepError → ℕ → Steps → Steps → Type 0
@@ -92,13 +98,13 @@ last_answer (Failed error) = Err error
 abbrev pub is_under : Reader → Bool
 is_under reader = is_open reader.draft && nat_lt reader.draft.line reader.scan.line
 
--- the line that is begun was judged; memory is wanted only where it spells a step
-abbrev pub Judges : Result Step StepError → Reader → Reader → Type 0
-Judges (Ok step) old new = (judged old.draft ≡ Some step) × (new ≡ record old { line = old.draft.line })
-Judges (Err (Syntax at)) old new = (judged old.draft ≡ None) × (at ≡ old.draft.line) × (new ≡ record old { status = Failed (Syntax at) })
-Judges (Err TooLong) old new = ⊥
-Judges (Err ReadFault) old new = ⊥
-Judges (Err OutOfMemory) old new = IsTrue (is_some (judged old.draft)) × (new ≡ record old { status = Failed OutOfMemory })
+-- the line that is begun was judged, and this step stands in the caller's place; memory is wanted only where it spells a step
+abbrev pub Judges : Result ℕ StepError → Step → Reader → Reader → Type 0
+Judges (Ok at) step old new = (judged old.draft ≡ Some step) × (at ≡ old.draft.line) × (new ≡ record old { line = at })
+Judges (Err (Syntax at)) step old new = (judged old.draft ≡ None) × (at ≡ old.draft.line) × (new ≡ record old { status = Failed (Syntax at) })
+Judges (Err TooLong) step old new = ⊥
+Judges (Err ReadFault) step old new = ⊥
+Judges (Err OutOfMemory) step old new = IsTrue (is_some (judged old.draft)) × (new ≡ record old { status = Failed OutOfMemory })
 
 -- it was judged and is given, and this line is begun now
 abbrev pub Settles : Result (Option (Step × ℕ)) StepError → DraftLine → Reader → Reader → Type 0

@@ -1,11 +1,12 @@
 // From the numbers of a line to its step.
-ghost use Rattle.std.specs.Prelude.{◌≡◌, true, pos, slice_index_or, [], ◌∷◌, ◌++◌, ◌+◌, ◌<◌, ◌≤◌, ◌^◌, ℤ, nat_abs, List, map, take, drop, length, Option, None, Some, Ok, OnOk, OnErr, IsTrue, IfSome, is_some};
+ghost use Rattle.std.specs.Prelude.{◌≡◌, true, pos, slice_index_or, [], ◌∷◌, ◌++◌, ◌+◌, ◌<◌, ◌≤◌, ◌^◌, ℤ, nat_abs, List, map, take, drop, length, Option, None, Some, Ok, OnOk, OnErr, IfOk, IsTrue, IfSome, is_some};
 ghost use Rattle.std.specs.List.{list_all};
 ghost use Rattle.std.specs.Option.{option_map};
 ghost use Rattle.cnf_base.specs.Truth.{is_literal_of};
-ghost use Rattle.cnf_base.specs.ProofText.{max_id, max_literal, is_id, is_hint, is_zero, split_at, hints_before_group, groups_of, addition_of};
+ghost use Rattle.cnf_base.specs.ProofText.{max_id, max_literal, is_id, is_hint, is_zero, split_at, given_if, hints_before_group, groups_of, addition_of};
 ghost use Rattle.lrat_text.specs.Numbers.{addition_by, deletion_from, deletion_with};
 
+use crate::lists::Lists;
 use cnf_base::{Group, GroupList, Id, IdList, Lit, LitList, OutOfMemory, Step};
 use std::alloc::Global;
 
@@ -70,16 +71,16 @@ fn are_literals(literals: &[i64]) -> bool
     literals.iter().all(|literal| is_literal(*literal))
 }
 
-// The clause of these literals.
-fn clause(alloc: Global, literals: &[i64]) -> Result<LitList, OutOfMemory>
+// The list becomes the clause of these literals.
+fn put_clause(clause: &mut LitList, literals: &[i64]) -> Result<(), OutOfMemory>
     requires { IsTrue (list_all (is_literal_of max_literal) literals.now) }
-    ensures { OnOk result (result ≡ Ok literals.now) }
+    ensures { OnOk result (clause.new ≡ literals.now) }
 {
-    let mut clause = LitList::new(alloc);
+    clause.clear();
     for literal in literals {
-        push_literal(&mut clause, *literal)?;
+        push_literal(clause, *literal)?;
     }
-    Ok(clause)
+    Ok(())
 }
 
 #[inline(always)]
@@ -93,114 +94,136 @@ fn push_literal(clause: &mut LitList, literal: i64) -> Result<(), OutOfMemory>
     }
 }
 
-// The identifiers of these numbers.
-fn id_list(alloc: Global, numbers: &[i64]) -> Result<IdList, OutOfMemory>
-    ensures { OnOk result (result ≡ Ok (map nat_abs numbers.now)) }
+// The list becomes the identifiers of these numbers.
+fn put_ids(ids: &mut IdList, numbers: &[i64]) -> Result<(), OutOfMemory>
+    ensures { OnOk result (ids.new ≡ map nat_abs numbers.now) }
 {
-    let mut ids = IdList::new(alloc);
+    ids.clear();
     for number in numbers {
         ids.push(Id(number.unsigned_abs()))?;
     }
-    Ok(ids)
+    Ok(())
 }
 
-// The hints before the first group.
-fn hints_before_group(alloc: Global, numbers: &[i64]) -> Result<IdList, OutOfMemory>
-    ensures { OnOk result (result ≡ Ok (hints_before_group numbers.now)) }
+// The list becomes the hints before the first group.
+fn put_hints(hints: &mut IdList, numbers: &[i64]) -> Result<(), OutOfMemory>
+    ensures { OnOk result (hints.new ≡ hints_before_group numbers.now) }
 {
-    let mut hints = IdList::new(alloc);
+    hints.clear();
     for number in numbers {
         if *number < 0 {
-            return Ok(hints);
+            return Ok(());
         }
         hints.push(Id(*number as u64))?;
     }
+    Ok(())
+}
+
+// The hints of a group.
+fn group_hints(alloc: Global, numbers: &[i64]) -> Result<IdList, OutOfMemory>
+    ensures { OnOk result (result ≡ Ok (hints_before_group numbers.now)) }
+{
+    let mut hints = IdList::new(alloc);
+    put_hints(&mut hints, numbers)?;
     Ok(hints)
 }
 
-// The groups.
-fn groups(alloc: Global, numbers: &[i64]) -> Result<GroupList, OutOfMemory>
-    ensures { OnOk result (result ≡ Ok (groups_of numbers.now)) }
+// The list becomes the groups.
+fn put_groups(alloc: Global, groups: &mut GroupList, numbers: &[i64]) -> Result<(), OutOfMemory>
+    ensures { OnOk result (groups.new ≡ groups_of numbers.now) }
 {
-    let mut groups = GroupList::new(alloc);
+    groups.clear();
     for (place, number) in numbers.iter().enumerate() {
         if *number < 0 {
             groups.push(Group {
                 id: Id(number.unsigned_abs()),
-                hints: hints_before_group(alloc, &numbers[place + 1..])?,
+                hints: group_hints(alloc, &numbers[place + 1..])?,
             })?;
         }
     }
-    Ok(groups)
+    Ok(())
 }
 
-/// The addition that these numbers behind an identifier spell, if they spell one. Memory is wanted only for that.
-pub fn addition(alloc: Global, id: u64, numbers: &[i64]) -> Result<Option<Step>, OutOfMemory>
-    ensures step { OnOk result (result ≡ Ok (addition_by id numbers.now)) }
+/// Whether these numbers behind an identifier spell an addition, which then is the step. Memory is wanted only for that.
+pub fn put_addition(
+    lists: &mut Lists,
+    id: u64,
+    numbers: &[i64],
+    step: &mut Step,
+) -> Result<bool, OutOfMemory>
+    ensures step { IfOk result (λ is_step. addition_by id numbers.now ≡ given_if is_step step.new) }
     ensures memory { OnErr result (IsTrue (is_some (addition_by id numbers.now))) }
 {
     let Some(end) = first_zero(numbers) else {
-        return Ok(None);
+        return Ok(false);
     };
     let rest = &numbers[end + 1..];
     let Some(hints_end) = first_zero(rest) else {
-        return Ok(None);
+        return Ok(false);
     };
-    addition_of(
-        alloc,
+    put_addition_of(
+        lists,
         id,
         &numbers[..end],
         &rest[..hints_end],
         &rest[hints_end + 1..],
+        step,
     )
 }
 
-fn addition_of(
-    alloc: Global,
+fn put_addition_of(
+    lists: &mut Lists,
     id: u64,
     literals: &[i64],
     hints: &[i64],
     rest: &[i64],
-) -> Result<Option<Step>, OutOfMemory>
-    ensures step { OnOk result (result ≡ Ok (addition_of id literals.now (hints.now, rest.now))) }
+    step: &mut Step,
+) -> Result<bool, OutOfMemory>
+    ensures step { IfOk result (λ is_step. addition_of id literals.now (hints.now, rest.now) ≡ given_if is_step step.new) }
     ensures memory { OnErr result (IsTrue (is_some (addition_of id literals.now (hints.now, rest.now)))) }
 {
     if !(is_id(id) && are_literals(literals) && are_hints(hints) && rest.is_empty()) {
-        return Ok(None);
+        return Ok(false);
     }
-    Ok(Some(Step::Add {
-        id: Id(id),
-        lits: clause(alloc, literals)?,
-        pos: hints_before_group(alloc, hints)?,
-        groups: groups(alloc, hints)?,
-    }))
+    lists.take_back(step);
+    put_clause(&mut lists.clause, literals)?;
+    put_hints(&mut lists.hints, hints)?;
+    put_groups(lists.alloc, &mut lists.groups, hints)?;
+    *step = lists.addition(id);
+    Ok(true)
 }
 
-/// The deletion that these numbers behind the `d` spell, if they spell one. Memory is wanted only for that.
-pub fn deletion(alloc: Global, id: u64, numbers: &[i64]) -> Result<Option<Step>, OutOfMemory>
-    ensures step { OnOk result (result ≡ Ok (deletion_from id numbers.now)) }
+/// Whether these numbers behind the `d` spell a deletion, which then is the step. Memory is wanted only for that.
+pub fn put_deletion(
+    lists: &mut Lists,
+    id: u64,
+    numbers: &[i64],
+    step: &mut Step,
+) -> Result<bool, OutOfMemory>
+    ensures step { IfOk result (λ is_step. deletion_from id numbers.now ≡ given_if is_step step.new) }
     ensures memory { OnErr result (IsTrue (is_some (deletion_from id numbers.now))) }
 {
     let Some(end) = first_zero(numbers) else {
-        return Ok(None);
+        return Ok(false);
     };
-    deletion_with(alloc, id, &numbers[..end], &numbers[end + 1..])
+    put_deletion_with(lists, id, &numbers[..end], &numbers[end + 1..], step)
 }
 
-fn deletion_with(
-    alloc: Global,
+fn put_deletion_with(
+    lists: &mut Lists,
     id: u64,
     ids: &[i64],
     rest: &[i64],
-) -> Result<Option<Step>, OutOfMemory>
-    ensures step { OnOk result (result ≡ Ok (deletion_with id (ids.now, rest.now))) }
+    step: &mut Step,
+) -> Result<bool, OutOfMemory>
+    ensures step { IfOk result (λ is_step. deletion_with id (ids.now, rest.now) ≡ given_if is_step step.new) }
     ensures memory { OnErr result (IsTrue (is_some (deletion_with id (ids.now, rest.now)))) }
 {
     if !(id <= MAX_ID && are_hints(ids) && rest.is_empty()) {
-        return Ok(None);
+        return Ok(false);
     }
-    Ok(Some(Step::Delete {
-        id: Id(id),
-        ids: id_list(alloc, ids)?,
-    }))
+    lists.take_back(step);
+    put_ids(&mut lists.deleted, ids)?;
+    *step = lists.deletion(id);
+    Ok(true)
 }

@@ -1,11 +1,12 @@
 // One line as it is read, token by token.
-ghost use Rattle.std.specs.Prelude.{◌≡◌, ◌≤◌, [], None, Some, Ok, OnOk, OnErr, Option, IsTrue, is_some};
+ghost use Rattle.std.specs.Prelude.{◌≡◌, ◌≤◌, [], None, Some, Ok, OnOk, OnErr, IfOk, Option, IsTrue, is_some};
 ghost use Rattle.std.specs.Option.{option_map};
-ghost use Rattle.cnf_base.specs.ProofText.{is_delete_word};
+ghost use Rattle.cnf_base.specs.ProofText.{is_delete_word, given_if};
 ghost use Rattle.lrat_text.specs.declared.draft.Kind.TheVariants.{Empty};
 ghost use Rattle.lrat_text.specs.Draft.{no_draft, draft_of_word, draft_with, with_given, draft_as, has_numbers, judged, is_open};
 
-use crate::build::{addition, deletion};
+use crate::build::{put_addition, put_deletion};
+use crate::lists::Lists;
 use cnf_base::{OutOfMemory, Step};
 use std::alloc::Global;
 use std::marker::Model;
@@ -135,21 +136,21 @@ impl Draft {
         Ok(())
     }
 
-    /// The step that the line spells, if it spells one. Memory is wanted only for that.
-    pub fn step(&self, alloc: Global) -> Result<Option<Step>, OutOfMemory>
-        ensures step { OnOk result (result ≡ Ok (judged self.now)) }
+    /// Whether the line spells a step, which then is the step. Memory is wanted only for that.
+    pub fn put_step(&self, lists: &mut Lists, step: &mut Step) -> Result<bool, OutOfMemory>
+        ensures step { IfOk result (λ is_step. judged self.now ≡ given_if is_step step.new) }
         ensures memory { OnErr result (IsTrue (is_some (judged self.now))) }
     {
         let Some(id) = self.id else {
-            return Ok(None);
+            return Ok(false);
         };
         if self.broken {
-            return Ok(None);
+            return Ok(false);
         }
         match self.kind {
-            Kind::Empty | Kind::Begun => Ok(None),
-            Kind::Adds => addition(alloc, id, self.numbers.as_slice()),
-            Kind::Deletes => deletion(alloc, id, self.numbers.as_slice()),
+            Kind::Empty | Kind::Begun => Ok(false),
+            Kind::Adds => put_addition(lists, id, self.numbers.as_slice(), step),
+            Kind::Deletes => put_deletion(lists, id, self.numbers.as_slice(), step),
         }
     }
 }

@@ -7,6 +7,7 @@ mod build;
 mod draft;
 mod error;
 mod laws;
+mod lists;
 mod reader;
 
 pub use error::StepError;

@@ -6,10 +6,11 @@ ghost use Rattle.lrat_text.specs.declared.error.StepError.TheVariants.{ReadFault
 ghost use Rattle.lrat_text.specs.declared.reader.Status.TheVariants.{Reading, Ended, Failed};
 ghost use Rattle.lrat_text.specs.Steps.{steps, steps_so_far};
 ghost use Rattle.lrat_text.specs.Draft.{no_draft, draft_of_word, has_numbers, is_open, with_token};
-ghost use Rattle.lrat_text.specs.Reader.{Gives, GivesSoFar, Moves, steps_ahead, so_far, is_reading, last_answer, is_under, Judges, Settles};
+ghost use Rattle.lrat_text.specs.Reader.{given, Gives, GivesSoFar, Moves, steps_ahead, so_far, is_reading, last_answer, is_under, Judges, Settles};
 
 use crate::draft::Draft;
 use crate::error::StepError;
+use crate::lists::Lists;
 use cnf_base::Step;
 use host_io::Source;
 use std::alloc::Global;
@@ -27,9 +28,9 @@ enum Status {
 /// Reads the lines of a textual LRAT proof as steps.
 #[derive(Debug, Drop)]
 pub struct StepReader {
-    alloc: Global,
     scanner: Scanner,
     draft: Draft,
+    lists: Lists,
     status: Status,
     line: u64,
 }
@@ -57,9 +58,9 @@ impl StepReader {
         ensures line { result.line ≡ 1 }
     {
         StepReader {
-            alloc,
             scanner: Scanner::new(b'c', limit),
             draft: Draft::new(alloc),
+            lists: Lists::new(alloc),
             status: Status::Reading,
             line: 1,
         }
@@ -96,35 +97,77 @@ impl StepReader {
         ensures reads { OnlyReads (S.channel source.old) (S.channel source.new) }
         ensures beside { S.beside source.new ≡ S.beside source.old }
     {
+        let mut step = self.lists.blank_step();
+        match self.next_into(source, &mut step) {
+            Ok(Some(line)) => Ok(Some((step, line))),
+            Ok(None) => Ok(None),
+            Err(error) => Err(error),
+        }
+    }
+
+    /// The same, but the step is put into the caller's place, and the memory of the lists there is used again, so that a line
+    /// takes none once they are large enough, but for the hints of groups. Any step may stand there before. After None or an
+    /// error it is some step.
+    pub fn next_into<S: Source>(
+        &mut self,
+        source: &mut S,
+        step: &mut Step,
+    ) -> Result<Option<u64>, StepError>
+        // The answer is the next of the steps of the bytes that were taken and whatever may follow them.
+        ensures gives { IsTrue S.tells → Decides (S.channel source.old) (S.channel source.new)
+            (λ bytes more. Gives (given step.new result) self.new.line (steps_ahead self.old bytes) (steps_ahead self.new more)) }
+        // A read fails only where no line that was ended is left.
+        ensures so_far { IsTrue S.tells → is_reading self.old.status ≡ true →
+            GivesSoFar (given step.new result) self.old self.new (gained (S.channel source.old) (S.channel source.new)) }
+        ensures moves { Moves (given step.new result) self.old self.new }
+        ensures fault { result ≡ Err ReadFault → is_reading self.old.status ≡ true →
+            Rose (S.channel source.old).faults (S.channel source.new).faults }
+        // No failed read is told as anything else.
+        ensures unfailed { result ≢ Err ReadFault → (S.channel source.new).faults ≡ (S.channel source.old).faults }
+        // Memory is wanted only for a line whose tokens so far are numbers.
+        ensures memory { result ≡ Err OutOfMemory → is_reading self.old.status ≡ true → IsTrue (has_numbers self.new.draft) }
+        // Once it has stopped, nothing changes.
+        ensures stopped_answer { is_reading self.old.status ≡ false → given step.new result ≡ last_answer self.old.status }
+        ensures stopped_reader { is_reading self.old.status ≡ false → self.new ≡ self.old }
+        ensures stopped_source { is_reading self.old.status ≡ false → S.channel source.new ≡ S.channel source.old }
+
+        ensures reads { OnlyReads (S.channel source.old) (S.channel source.new) }
+        ensures beside { S.beside source.new ≡ S.beside source.old }
+    {
         match self.status {
-            Status::Reading => self.read_on(source),
+            Status::Reading => self.read_on(source, step),
             Status::Ended => Ok(None),
             Status::Failed(error) => Err(error),
         }
     }
 
-    fn read_on<S: Source>(&mut self, source: &mut S) -> Result<Option<(Step, u64)>, StepError>
+    fn read_on<S: Source>(
+        &mut self,
+        source: &mut S,
+        step: &mut Step,
+    ) -> Result<Option<u64>, StepError>
         requires { self.old.status ≡ Reading }
         ensures gives { IsTrue S.tells → Decides (S.channel source.old) (S.channel source.new)
-            (λ bytes more. Gives result self.new.line (steps_ahead self.old bytes) (steps_ahead self.new more)) }
-        ensures so_far { IsTrue S.tells → GivesSoFar result self.old self.new (gained (S.channel source.old) (S.channel source.new)) }
-        ensures moves { Moves result self.old self.new }
+            (λ bytes more. Gives (given step.new result) self.new.line (steps_ahead self.old bytes) (steps_ahead self.new more)) }
+        ensures so_far { IsTrue S.tells → GivesSoFar (given step.new result) self.old self.new (gained (S.channel source.old) (S.channel source.new)) }
+        ensures moves { Moves (given step.new result) self.old self.new }
         ensures fault { result ≡ Err ReadFault → Rose (S.channel source.old).faults (S.channel source.new).faults }
         ensures unfailed { result ≢ Err ReadFault → (S.channel source.new).faults ≡ (S.channel source.old).faults }
         ensures memory { result ≡ Err OutOfMemory → IsTrue (has_numbers self.new.draft) }
         ensures reads { OnlyReads (S.channel source.old) (S.channel source.new) }
         ensures beside { S.beside source.new ≡ S.beside source.old }
     {
+        let mut token = Token::blank();
         'tokens: loop {
-            match self.scanner.next(source) {
-                Ok(Some(token)) => {
+            match self.scanner.next_into(source, &mut token) {
+                Ok(true) => {
                     if self.draft.is_open() && self.draft.line() != token.line() {
-                        return self.give_before(&token);
+                        return self.give_before(&token, step);
                     }
                     self.take(&token)?;
                 }
-                Ok(None) => return self.give_at_end(),
-                Err(ScanError::TooLong) => return self.give_at_limit(),
+                Ok(false) => return self.give_at_end(step),
+                Err(ScanError::TooLong) => return self.give_at_limit(step),
                 Err(ScanError::ReadFault) => {
                     self.status = Status::Failed(StepError::ReadFault);
                     return Err(StepError::ReadFault);
@@ -154,21 +197,21 @@ impl StepReader {
     }
 
     // The line that a token of another line has ended. That token begins the next.
-    fn give_before(&mut self, token: &Token) -> Result<Option<(Step, u64)>, StepError>
+    fn give_before(&mut self, token: &Token, step: &mut Step) -> Result<Option<u64>, StepError>
         requires { self.old.status ≡ Reading }
-        ensures { Settles result (draft_of_word token.now) self.old self.new }
+        ensures { Settles (given step.new result) (draft_of_word token.now) self.old self.new }
     {
-        let step = self.judge()?;
+        let line = self.judge(step)?;
         self.draft.begin(token);
-        Ok(Some((step, self.line)))
+        Ok(Some(line))
     }
 
     // The last line, if one is begun, or the end.
-    fn give_at_end(&mut self) -> Result<Option<(Step, u64)>, StepError>
+    fn give_at_end(&mut self, step: &mut Step) -> Result<Option<u64>, StepError>
         requires { self.old.status ≡ Reading }
         ensures same_scan { self.new.scan ≡ self.old.scan }
         ensures unfailed { result ≢ Err ReadFault }
-        ensures last { is_open self.old.draft ≡ true → Settles result no_draft self.old self.new }
+        ensures last { is_open self.old.draft ≡ true → Settles (given step.new result) no_draft self.old self.new }
         ensures ended { is_open self.old.draft ≡ false → result ≡ Ok None }
         ensures stopped { is_open self.old.draft ≡ false → self.new ≡ record self.old { status = Ended; line = self.old.scan.line } }
     {
@@ -177,40 +220,40 @@ impl StepReader {
             self.line = self.scanner.line();
             return Ok(None);
         }
-        let step = self.judge()?;
+        let line = self.judge(step)?;
         self.draft.clear();
-        Ok(Some((step, self.line)))
+        Ok(Some(line))
     }
 
     // The last line whose end stands under the limit, if it isn't given yet; else that the text is too long.
-    fn give_at_limit(&mut self) -> Result<Option<(Step, u64)>, StepError>
+    fn give_at_limit(&mut self, step: &mut Step) -> Result<Option<u64>, StepError>
         requires { self.old.status ≡ Reading }
         ensures same_scan { self.new.scan ≡ self.old.scan }
         ensures unfailed { result ≢ Err ReadFault }
-        ensures last { is_under self.old ≡ true → Settles result no_draft self.old self.new }
+        ensures last { is_under self.old ≡ true → Settles (given step.new result) no_draft self.old self.new }
         ensures over { is_under self.old ≡ false → result ≡ Err TooLong }
         ensures stopped { is_under self.old ≡ false → self.new ≡ record self.old { status = Failed TooLong } }
     {
         if !(self.draft.is_open() && self.draft.line() < self.scanner.line()) {
             return Err(self.fail(StepError::TooLong));
         }
-        let step = self.judge()?;
+        let line = self.judge(step)?;
         self.draft.clear();
-        Ok(Some((step, self.line)))
+        Ok(Some(line))
     }
 
     // Judges the line and takes it as the one that is given.
-    fn judge(&mut self) -> Result<Step, StepError>
+    fn judge(&mut self, step: &mut Step) -> Result<u64, StepError>
         requires { self.old.status ≡ Reading }
-        ensures { Judges result self.old self.new }
+        ensures { Judges result step.new self.old self.new }
     {
         let line = self.draft.line();
-        match self.draft.step(self.alloc) {
+        match self.draft.put_step(&mut self.lists, step) {
             Err(_) => Err(self.fail(StepError::OutOfMemory)),
-            Ok(None) => Err(self.fail(StepError::Syntax(line))),
-            Ok(Some(step)) => {
+            Ok(false) => Err(self.fail(StepError::Syntax(line))),
+            Ok(true) => {
                 self.line = line;
-                Ok(step)
+                Ok(line)
             }
         }
     }

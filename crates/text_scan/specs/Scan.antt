@@ -60,6 +60,12 @@ fuel_in Faulted room = 0
 abbrev pub fuel : Scan → ℕ
 fuel scan = fuel_in scan.status scan.room
 
+-- the answer of a call that puts this token into a place of the caller's where it answers yes, and no at the end
+abbrev pub given : Word → Result Bool ScanError → Result (Option Word) ScanError
+given word (Ok true) = Ok (Some word)
+given word (Ok false) = Ok None
+given word (Err error) = Err error
+
 -- An answer, and the line that the scanner then answers, are the first of the items ahead; those after it are ahead
 -- now. A fault gives none.
 abbrev pub Gives : Result (Option Word) ScanError → ℕ → Items → Items → Type 0

@@ -1,12 +1,12 @@
 // The scanner: blocks of bytes from a source, cut into tokens byte by byte, up to a limit.
-ghost use Rattle.std.specs.Prelude.{◌≡◌, ◌≢◌, ℕ, ◌+◌, ◌^◌, ◌<◌, ◌≤◌, true, false, List, [], ◌++◌, length, None, Ok, Err, IsTrue, IfSome, IfNone, IfOk, OnOk, OnErr, is_ok, if◌then◌else◌};
+ghost use Rattle.std.specs.Prelude.{◌≡◌, ◌≢◌, ℕ, ◌+◌, ◌^◌, ◌<◌, ◌≤◌, true, false, List, [], ◌++◌, length, None, Ok, Err, IsTrue, IfSome, IfOk, OnOk, OnErr, is_ok, if◌then◌else◌};
 ghost use Rattle.cnf_base.specs.Text.{has_bytes};
 ghost use Rattle.host_io.specs.Channel.{Rose};
 ghost use Rattle.text_scan.specs.declared.scanner.Status.TheVariants.{Reading, Ended, Overlong, Faulted};
 ghost use Rattle.text_scan.specs.declared.scanner.ScanError.TheVariants.{ReadFault};
 ghost use Rattle.text_scan.specs.Items.{items, items_of_front, the_end, too_long, next_word};
 ghost use Rattle.text_scan.specs.Lexer.{items_from, word_then};
-ghost use Rattle.text_scan.specs.Scan.{ahead, so_far, is_reading, is_faulted, Gives, GivesSoFar, Moves, last_answer};
+ghost use Rattle.text_scan.specs.Scan.{ahead, so_far, is_reading, is_faulted, given, Gives, GivesSoFar, Moves, last_answer};
 ghost use Rattle.text_scan.specs.Block.{IsWordAhead};
 ghost use Rattle.text_scan.specs.Decides.{gained, Decides, OnlyReads};
 
@@ -113,9 +113,43 @@ impl Scanner {
         ensures reads { OnlyReads (S.channel source.old) (S.channel source.new) }
         ensures beside { S.beside source.new ≡ S.beside source.old }
     {
+        let mut token = Token::blank();
+        match self.next_into(source, &mut token) {
+            Ok(true) => Ok(Some(token)),
+            Ok(false) => Ok(None),
+            Err(error) => Err(error),
+        }
+    }
+
+    /// The same, but the token is put into the caller's place, so that its bytes are copied once. Whether there is one.
+    /// After the end or an error some token stands there.
+    #[inline(always)]
+    pub fn next_into<S: Source>(
+        &mut self,
+        source: &mut S,
+        token: &mut Token,
+    ) -> Result<bool, ScanError>
+        ensures gives { IsTrue S.tells → Decides (S.channel source.old) (S.channel source.new)
+            (λ bytes more. Gives (given token.new result) self.new.line (ahead self.old bytes) (ahead self.new more)) }
+        // A read fails only where the bytes taken give no token yet.
+        ensures so_far { IsTrue S.tells → is_reading self.old.status ≡ true →
+            GivesSoFar (given token.new result) self.old self.new (gained (S.channel source.old) (S.channel source.new)) }
+        ensures moves { Moves (given token.new result) self.old self.new }
+        ensures fault { result ≡ Err ReadFault → is_faulted self.old.status ≡ false →
+            Rose (S.channel source.old).faults (S.channel source.new).faults }
+        // No failed read is told as anything else.
+        ensures unfailed { result ≢ Err ReadFault → (S.channel source.new).faults ≡ (S.channel source.old).faults }
+        // Once it has stopped, nothing changes.
+        ensures stopped_answer { is_reading self.old.status ≡ false → given token.new result ≡ last_answer self.old.status }
+        ensures stopped_scanner { is_reading self.old.status ≡ false → self.new ≡ self.old }
+        ensures stopped_source { is_reading self.old.status ≡ false → S.channel source.new ≡ S.channel source.old }
+
+        ensures reads { OnlyReads (S.channel source.old) (S.channel source.new) }
+        ensures beside { S.beside source.new ≡ S.beside source.old }
+    {
         match self.status {
-            Status::Reading => self.read_on(source),
-            Status::Ended => Ok(None),
+            Status::Reading => self.read_on(source, token),
+            Status::Ended => Ok(false),
             Status::Overlong => Err(ScanError::TooLong),
             Status::Faulted => Err(ScanError::ReadFault),
         }
@@ -130,78 +164,78 @@ impl Scanner {
         self.line
     }
 
-    fn read_on<S: Source>(&mut self, source: &mut S) -> Result<Option<Token>, ScanError>
+    fn read_on<S: Source>(&mut self, source: &mut S, token: &mut Token) -> Result<bool, ScanError>
         requires { self.old.status ≡ Reading }
         ensures gives { IsTrue S.tells → Decides (S.channel source.old) (S.channel source.new)
-            (λ bytes more. Gives result self.new.line (ahead self.old bytes) (ahead self.new more)) }
-        ensures so_far { IsTrue S.tells → GivesSoFar result self.old self.new (gained (S.channel source.old) (S.channel source.new)) }
-        ensures moves { Moves result self.old self.new }
+            (λ bytes more. Gives (given token.new result) self.new.line (ahead self.old bytes) (ahead self.new more)) }
+        ensures so_far { IsTrue S.tells → GivesSoFar (given token.new result) self.old self.new (gained (S.channel source.old) (S.channel source.new)) }
+        ensures moves { Moves (given token.new result) self.old self.new }
         ensures fault { result ≡ Err ReadFault → Rose (S.channel source.old).faults (S.channel source.new).faults }
         ensures unfailed { result ≢ Err ReadFault → (S.channel source.new).faults ≡ (S.channel source.old).faults }
         ensures reads { OnlyReads (S.channel source.old) (S.channel source.new) }
         ensures beside { S.beside source.new ≡ S.beside source.old }
     {
         'turns: loop {
-            if let Some(token) = self.buffered_token() {
+            if self.buffered_token(token) {
                 self.set_line(token.line());
-                return Ok(Some(token));
+                return Ok(true);
             }
             if self.has_unread() {
                 self.set_overlong();
                 return Err(ScanError::TooLong);
             }
             if !self.fill(source)? {
-                return Ok(self.last_token());
+                return Ok(self.last_token(token));
             }
         }
     }
 
-    // The next token that ends among the bytes that are read and under the limit.
+    // Puts the next token that ends among the bytes that are read and under the limit. Whether there is one.
     #[inline(always)]
-    fn buffered_token(&mut self) -> Option<Token>
-        ensures found { IfSome result (λ token. (more : List ℕ) → items_from self.old.lex self.old.room (self.old.unread ++ more)
-            ≡ next_word token (items_from self.new.lex self.new.room (self.new.unread ++ more))) }
-        ensures none { IfNone result ((more : List ℕ) → items_from self.old.lex self.old.room (self.old.unread ++ more)
-            ≡ items_from self.new.lex self.new.room (self.new.unread ++ more)) }
-        ensures found_so_far { IfSome result (λ token. (more : List ℕ) → so_far self.old more ≡ next_word token (so_far self.new more)) }
-        ensures none_so_far { IfNone result ((more : List ℕ) → so_far self.old more ≡ so_far self.new more) }
-        ensures over { IfNone result (IsTrue (has_bytes self.new.unread) → self.new.room ≡ 0) }
+    fn buffered_token(&mut self, token: &mut Token) -> bool
+        ensures found { result ≡ true → (more : List ℕ) → items_from self.old.lex self.old.room (self.old.unread ++ more)
+            ≡ next_word token.new (items_from self.new.lex self.new.room (self.new.unread ++ more)) }
+        ensures none { result ≡ false → (more : List ℕ) → items_from self.old.lex self.old.room (self.old.unread ++ more)
+            ≡ items_from self.new.lex self.new.room (self.new.unread ++ more) }
+        ensures found_so_far { result ≡ true → (more : List ℕ) → so_far self.old more ≡ next_word token.new (so_far self.new more) }
+        ensures none_so_far { result ≡ false → (more : List ℕ) → so_far self.old more ≡ so_far self.new more }
+        ensures over { result ≡ false → IsTrue (has_bytes self.new.unread) → self.new.room ≡ 0 }
         ensures room { self.new.room + length self.old.unread ≡ self.old.room + length self.new.unread }
-        ensures progress { IfSome result (λ _. self.new.room < self.old.room) }
+        ensures progress { result ≡ true → self.new.room < self.old.room }
         ensures status { self.new.status ≡ self.old.status }
         ensures line { self.new.line ≡ self.old.line }
     {
-        match self.whole_token() {
-            Some(token) => Some(token),
-            None => self.token_by_bytes(),
+        if self.whole_token(token) {
+            return true;
         }
+        self.token_by_bytes(token)
     }
 
     // The same where the next byte begins a token that ends in the block; else nothing. Its bytes are copied at once.
     #[inline(always)]
-    fn whole_token(&mut self) -> Option<Token>
-        ensures found { IfSome result (λ token. (more : List ℕ) → items_from self.old.lex self.old.room (self.old.unread ++ more)
-            ≡ next_word token (items_from self.new.lex self.new.room (self.new.unread ++ more))) }
-        ensures found_so_far { IfSome result (λ token. (more : List ℕ) → so_far self.old more ≡ next_word token (so_far self.new more)) }
-        ensures none { IfNone result (self.new ≡ self.old) }
+    fn whole_token(&mut self, token: &mut Token) -> bool
+        ensures found { result ≡ true → (more : List ℕ) → items_from self.old.lex self.old.room (self.old.unread ++ more)
+            ≡ next_word token.new (items_from self.new.lex self.new.room (self.new.unread ++ more)) }
+        ensures found_so_far { result ≡ true → (more : List ℕ) → so_far self.old more ≡ next_word token.new (so_far self.new more) }
+        ensures none { result ≡ false → self.new ≡ self.old }
         ensures room { self.new.room + length self.old.unread ≡ self.old.room + length self.new.unread }
-        ensures progress { IfSome result (λ _. self.new.room < self.old.room) }
+        ensures progress { result ≡ true → self.new.room < self.old.room }
         ensures status { self.new.status ≡ self.old.status }
         ensures line { self.new.line ≡ self.old.line }
     {
-        let Some((token, len)) = self.word_ahead() else {
-            return None;
+        let Some(len) = self.word_ahead(token) else {
+            return false;
         };
         let blank = self.block[self.at + len];
         self.lexer.pass_word(blank);
         self.at += len + 1;
-        Some(token)
+        true
     }
 
-    // The token that begins with the next byte, with its length, if there is one and it ends in the block.
+    // Puts the token that begins with the next byte, if there is one and it ends in the block. Its length.
     #[inline(always)]
-    fn word_ahead(&self) -> Option<(Token, usize)>
-        ensures { IfSome result (λ word. IsWordAhead self.now word.0 word.1) }
+    fn word_ahead(&self, token: &mut Token) -> Option<usize>
+        ensures { IfSome result (λ len. IsWordAhead self.now token.new len) }
     {
         if self.stop - self.at < SPACE {
             return None;
@@ -211,20 +245,21 @@ impl Scanner {
         if len >= window.len() || !self.lexer.begins_word(window[0]) {
             return None;
         }
-        Some((Token::of_front(window, len, self.lexer.line()), len))
+        token.put_front(window, len, self.lexer.line());
+        Some(len)
     }
 
     // The same byte by byte.
-    fn token_by_bytes(&mut self) -> Option<Token>
-        ensures found { IfSome result (λ token. (more : List ℕ) → items_from self.old.lex self.old.room (self.old.unread ++ more)
-            ≡ next_word token (items_from self.new.lex self.new.room (self.new.unread ++ more))) }
-        ensures none { IfNone result ((more : List ℕ) → items_from self.old.lex self.old.room (self.old.unread ++ more)
-            ≡ items_from self.new.lex self.new.room (self.new.unread ++ more)) }
-        ensures found_so_far { IfSome result (λ token. (more : List ℕ) → so_far self.old more ≡ next_word token (so_far self.new more)) }
-        ensures none_so_far { IfNone result ((more : List ℕ) → so_far self.old more ≡ so_far self.new more) }
-        ensures over { IfNone result (IsTrue (has_bytes self.new.unread) → self.new.room ≡ 0) }
+    fn token_by_bytes(&mut self, token: &mut Token) -> bool
+        ensures found { result ≡ true → (more : List ℕ) → items_from self.old.lex self.old.room (self.old.unread ++ more)
+            ≡ next_word token.new (items_from self.new.lex self.new.room (self.new.unread ++ more)) }
+        ensures none { result ≡ false → (more : List ℕ) → items_from self.old.lex self.old.room (self.old.unread ++ more)
+            ≡ items_from self.new.lex self.new.room (self.new.unread ++ more) }
+        ensures found_so_far { result ≡ true → (more : List ℕ) → so_far self.old more ≡ next_word token.new (so_far self.new more) }
+        ensures none_so_far { result ≡ false → (more : List ℕ) → so_far self.old more ≡ so_far self.new more }
+        ensures over { result ≡ false → IsTrue (has_bytes self.new.unread) → self.new.room ≡ 0 }
         ensures room { self.new.room + length self.old.unread ≡ self.old.room + length self.new.unread }
-        ensures progress { IfSome result (λ _. self.new.room < self.old.room) }
+        ensures progress { result ≡ true → self.new.room < self.old.room }
         ensures status { self.new.status ≡ self.old.status }
         ensures line { self.new.line ≡ self.old.line }
     {
@@ -232,13 +267,13 @@ impl Scanner {
             let byte = self.block[self.at];
             self.at += 1;
             if self.lexer.ends_word(byte) {
-                let token = self.lexer.word();
+                *token = self.lexer.word();
                 self.lexer.take(byte);
-                return Some(token);
+                return true;
             }
             self.lexer.take(byte);
         }
-        None
+        false
     }
 
     #[inline(always)]
@@ -263,20 +298,20 @@ impl Scanner {
         self.line = self.lexer.line();
     }
 
-    // The token that the end of the text ends, if one has begun. Nothing is read from then on.
-    fn last_token(&mut self) -> Option<Token>
+    // Puts the token that the end of the text ends, if one has begun. Nothing is read from then on.
+    fn last_token(&mut self, token: &mut Token) -> bool
         ensures stopped { self.new ≡ record self.old { status = Ended; line = self.old.lex.line } }
-        ensures found { IfSome result (λ token. (items : _) → word_then self.old.lex.word self.old.lex.line items ≡ next_word token items) }
-        ensures none { IfNone result ((items : _) → word_then self.old.lex.word self.old.lex.line items ≡ items) }
-        ensures line { IfSome result (λ token. token.line ≡ self.old.lex.line) }
+        ensures found { result ≡ true → (items : _) → word_then self.old.lex.word self.old.lex.line items ≡ next_word token.new items }
+        ensures none { result ≡ false → (items : _) → word_then self.old.lex.word self.old.lex.line items ≡ items }
+        ensures line { result ≡ true → token.new.line ≡ self.old.lex.line }
     {
         self.status = Status::Ended;
         self.line = self.lexer.line();
-        if self.lexer.has_word() {
-            Some(self.lexer.word())
-        } else {
-            None
+        if !self.lexer.has_word() {
+            return false;
         }
+        *token = self.lexer.word();
+        true
     }
 
     // Reads the next block. False is the end.

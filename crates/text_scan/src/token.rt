@@ -42,19 +42,25 @@ impl Token {
         }
     }
 
-    /// The token of so many bytes at the front of these.
+    /// A place for tokens, with one of no bytes.
     #[inline(always)]
-    pub(crate) fn of_front(front: &[u8], len: usize, line: u64) -> Token
-        requires { 72 ≤ length front.now }
-        ensures { result ≡ record { bytes = take 65 (take len front.now); line = line } }
-    {
-        let mut bytes = [0; SPACE];
-        bytes.copy_from_slice(&front[..SPACE]);
+    pub fn blank() -> Token {
         Token {
-            bytes,
-            len: len.min(KEPT),
-            line,
+            bytes: [0; SPACE],
+            len: 0,
+            line: 0,
         }
+    }
+
+    /// Becomes the token of so many bytes at the front of these.
+    #[inline(always)]
+    pub(crate) fn put_front(&mut self, front: &[u8], len: usize, line: u64)
+        requires { 72 ≤ length front.now }
+        ensures { self.new ≡ record { bytes = take 65 (take len front.now); line = line } }
+    {
+        self.bytes.copy_from_slice(&front[..SPACE]);
+        self.len = len.min(KEPT);
+        self.line = line;
     }
 
     /// At most 64 bytes, of a long token its first 64.

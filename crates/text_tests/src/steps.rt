@@ -1,7 +1,7 @@
 // lrat_text: proof texts and their steps, read in pieces of one byte, of three, and whole. The expected answers are those
 // of the format's rules.
 use crate::support::{expect_text, push_ids, push_literals, text_of};
-use cnf_base::{Group, Id, Lit, Step};
+use cnf_base::{Group, Id, IdList, Lit, Step};
 use host_io::SliceSource;
 use lrat_text::{StepError, StepReader};
 use std::alloc::{AllocError, Global};
@@ -25,6 +25,7 @@ const TEXTS: &str = "1000;;end 1
 1000;999999999999999999 2147483647 0 -999999999999999999 0;1: 999999999999999999 + 2147483647 | (999999999999999999); end 1
 1000;999999999999999999 d 999999999999999999 0;1: 999999999999999999 - 999999999999999999; end 1
 1000;3 0 1 0/3 0/;1: 3 + | 1; line 2 is no step of a proof 1
+1000;1 1 2 3 0 4 5 -6 7 -8 0/2 d 9 8 7 0/3 -4 0 5 -6 0/4 d 3 0/5 0 0/6 d 0/7 d 2 0/;1: 1 + 1 2 3 | 4 5 (6 7) (8); 2: 2 - 9 8 7; 3: 3 + -4 | 5 (6); 4: 4 - 3; 5: 5 + |; 6: 6 -; 7: 7 - 2; end 8
 1000;3 1 0 1 0 2;line 1 is no step of a proof 1
 1000;3 d -1 0;line 1 is no step of a proof 1
 0;1 0 0/2 0 0/;the text is too long 1
@@ -101,6 +102,26 @@ fn listing(
     Ok(out)
 }
 
+// The same through `next_into`.
+fn listing_into(
+    alloc: Global,
+    reader: &mut StepReader,
+    source: &mut SliceSource,
+    step: &mut Step,
+) -> Result<String, AllocError> {
+    let mut out = String::new(alloc);
+    for _ in 0..100 {
+        match reader.next_into(source, step) {
+            Ok(Some(line)) => push_step(&mut out, step, line)?,
+            end => {
+                push_end(&mut out, end.err(), reader.line())?;
+                return Ok(out);
+            }
+        }
+    }
+    Ok(out)
+}
+
 fn expect_steps(
     rt: &impl Abort,
     alloc: Global,
@@ -143,6 +164,37 @@ fn reads_steps(rt: HostRuntime) -> Result<(), Fail> {
         expect_in_pieces(&rt, rt.alloc(), row, 1)?;
         expect_in_pieces(&rt, rt.alloc(), row, 3)?;
         expect_in_pieces(&rt, rt.alloc(), row, usize::MAX)?;
+    }
+    Ok(())
+}
+
+fn expect_into(
+    rt: &impl Abort,
+    alloc: Global,
+    row: &str,
+    piece: usize,
+    step: &mut Step,
+) -> Result<(), Fail> {
+    let (limit, rest) = row.split_once(';').ok_or("no text")?;
+    let (text, wanted) = rest.split_once(';').ok_or("no steps")?;
+    let text = text_of(alloc, text)?;
+    let mut source = SliceSource::new(text.as_bytes(), piece);
+    let mut reader = StepReader::new(alloc, u64::from(limit.parse::<u32>()?));
+    let given = listing_into(alloc, &mut reader, &mut source, step)?;
+    assert_eq!(rt; given.as_str(), wanted);
+    Ok(())
+}
+
+/// Into one place, whose lists have what the lines of this text and of those before it left there.
+#[test]
+fn reads_steps_into_one_place(rt: HostRuntime) -> Result<(), Fail> {
+    let mut step = Step::Delete {
+        id: Id(0),
+        ids: IdList::new(rt.alloc()),
+    };
+    for row in TEXTS.lines() {
+        expect_into(&rt, rt.alloc(), row, 1, &mut step)?;
+        expect_into(&rt, rt.alloc(), row, usize::MAX, &mut step)?;
     }
     Ok(())
 }

@@ -3,7 +3,7 @@ use Rattle.std.proofs.Common.{◌≡◌, true, ◌++◌, drop}
 use Rattle.std.specs.List.{list_all}
 use Rattle.cnf_base.specs.Truth.{is_literal_of}
 use Rattle.cnf_base.specs.ProofText.{max_literal}
-use Rattle.lrat_text.proofs.build.clause.Given as goal
+use Rattle.lrat_text.proofs.build.put_clause.Given as goal
 
 abbrev pub invariant-loop-literal : goal.invariant-loop-literal
 invariant-loop-literal l = record {
