@@ -1,4 +1,5 @@
 pub mod Tests
+pub mod Trails
 pub mod Strictness
 pub mod Definitions
 pub mod Starts

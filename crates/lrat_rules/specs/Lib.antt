@@ -7,3 +7,6 @@ pub mod Strict
 pub mod Soundness
 pub mod Marks
 pub mod FalseLiterals
+pub mod Flags
+pub mod Trail
+pub mod Pass

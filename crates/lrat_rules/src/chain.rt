@@ -1,15 +1,18 @@
 // The chain of hints of one addition: reverse unit propagation under the literals that the addition makes false,
 // and under those of a candidate while its group is open. (Cruz-Filipe, Heule, Hunt, Kaufmann, Schneider-Kamp:
-// Efficient Certified RAT Verification, CADE 2017.) The literals stand in a plain list, in the order in which they
+// Efficient Certified RAT Verification, CADE 2017.) The literals stand on a trail, in the order in which they
 // became false, so that the end of a group cuts off what it added.
-ghost use Rattle.std.specs.Prelude.{◌≡◌, ◌<◌, ◌&&◌, ◌++◌, not, neg_ℤ, IsTrue, false, None, Some, OnOk, OnErr, IfOk, take, length};
-ghost use Rattle.std.specs.List.{filter, list_any};
+ghost use Rattle.std.specs.Prelude.{◌≡◌, ◌<◌, ◌≤◌, ◌&&◌, not, neg_ℤ, IsTrue, false, None, Some, OnOk, OnErr, IfOk, take, length};
+ghost use Rattle.std.specs.List.{list_any};
 ghost use Rattle.std.specs.Ordering.{int_eq};
 ghost use Rattle.lrat_rules.specs.Chain.{literals_of, effect, is_unit};
 ghost use Rattle.lrat_rules.specs.Addition.{is_blocked_by, has_other, with_candidate};
+ghost use Rattle.lrat_rules.specs.Pass.{with_others};
 ghost use Rattle.lrat_rules.specs.FalseLiterals.{set_of, before_of, is_open, set_after, SameSets};
 
+use crate::effect::effect_under;
 use crate::outcome::Effect;
+use crate::trail::Trail;
 use cnf_base::{Lit, OutOfMemory};
 use std::alloc::Global;
 use std::marker::Model;
@@ -17,7 +20,7 @@ use std::marker::Model;
 /// The literals that are false in an addition's chain of hints.
 #[derive(Debug, Drop)]
 pub struct Chain {
-    literals: Vec<Lit>,
+    trail: Trail,
     opened: Option<usize>,
 }
 
@@ -26,9 +29,9 @@ impl Model for Chain {
 
     ghost Value = { FalseLiterals };
 
-    ghost view = { λ c. record { literals = c.literals.items; opened = c.opened } };
+    ghost view = { λ c. record { literals = c.trail; opened = c.opened } };
 
-    ghost invariant = { λ c. IsWithin c.literals.items c.opened };
+    ghost invariant = { λ c. IsWithin c.trail c.opened };
 }
 
 #[tactic(auto, unfolding(crate::specs::FalseLiterals::set_of, crate::specs::FalseLiterals::before_of))]
@@ -38,9 +41,10 @@ impl Chain {
         ensures set { IfOk result (λ chain. set_of chain ≡ literals_of clause.now) }
         ensures no_group { IfOk result (λ chain. before_of chain ≡ None) }
     {
-        let literals = Vec::from_slice(alloc, clause)?;
+        let mut trail = Trail::new(alloc);
+        trail.restart(clause)?;
         Ok(Chain {
-            literals,
+            trail,
             opened: None,
         })
     }
@@ -53,10 +57,8 @@ impl Chain {
         // The empty clause wants no memory.
         ensures memory { OnErr result (0 < length clause.now) }
     {
-        self.literals.reserve(clause.len())?;
+        self.trail.restart(clause)?;
         self.opened = None;
-        self.literals.clear();
-        self.literals.extend_from_slice(clause).unwrap();
         Ok(())
     }
 
@@ -69,9 +71,9 @@ impl Chain {
         // A conflict and a bad hint want no memory.
         ensures memory { OnErr result (IsTrue (is_unit (effect (set_of self.old) clause.now))) }
     {
-        let effect = effect_on(self.literals.as_slice(), clause);
+        let effect = effect_under(&self.trail, clause);
         if let Effect::Unit(literal) = effect {
-            self.literals.push(literal.negated())?;
+            self.trail.push(literal.negated())?;
         }
         Ok(effect)
     }
@@ -81,9 +83,9 @@ impl Chain {
         requires { before_of self.now ≡ None }
         ensures { result ≡ is_blocked_by (set_of self.now) pivot clause.now }
     {
-        let literals = self.literals.as_slice();
+        let trail = &self.trail;
         let negated = pivot.negated();
-        clause.iter().any(|x| blocks(literals, negated, *x))
+        clause.iter().any(|x| blocks(trail, negated, *x))
     }
 
     /// Opens the group of a candidate: its literals other than the pivot's negation become false.
@@ -95,15 +97,15 @@ impl Chain {
         // A candidate that has only the pivot's negation wants no memory.
         ensures memory { OnErr result (IsTrue (has_other pivot clause.now)) }
     {
-        let count = self.literals.len();
+        let count = self.trail.len();
         let negated = pivot.negated();
-        match push_others(&mut self.literals, clause, negated) {
+        match push_others(&mut self.trail, clause, negated) {
             Ok(()) => {
                 self.opened = Some(count);
                 Ok(())
             }
             Err(e) => {
-                self.literals.truncate(count);
+                self.trail.truncate(count);
                 Err(e)
             }
         }
@@ -116,53 +118,29 @@ impl Chain {
         ensures no_group { before_of self.new ≡ None }
     {
         if let Some(count) = self.opened {
-            self.literals.truncate(count);
+            self.trail.truncate(count);
         }
         self.opened = None;
     }
 }
 
-/// The effect of a hint's clause where these literals are false. One pass: the first literal that isn't false is
-/// forced, unless another one follows.
-pub fn effect_on(literals: &[Lit], clause: &[Lit]) -> Effect
-    ensures { result ≡ effect (literals_of literals.now) clause.now }
-{
-    let mut forced: Option<Lit> = None;
-    for literal in clause {
-        if literals.contains(literal) {
-            continue;
-        }
-        match forced {
-            None => forced = Some(*literal),
-            Some(first) => {
-                if first != *literal {
-                    return Effect::NotUnit;
-                }
-            }
-        }
-    }
-    match forced {
-        None => Effect::Conflict,
-        Some(literal) => Effect::Unit(literal),
-    }
-}
-
 // A candidate's literal that isn't the pivot's negation, and has its own negation among the false ones.
-fn blocks(literals: &[Lit], negated_pivot: Lit, literal: Lit) -> bool
-    ensures { result ≡ (not (int_eq literal negated_pivot) && literals_of literals.now (neg_ℤ literal)) }
+fn blocks(trail: &Trail, negated_pivot: Lit, literal: Lit) -> bool
+    ensures { result ≡ (not (int_eq literal negated_pivot) && literals_of trail.now (neg_ℤ literal)) }
 {
-    literal != negated_pivot && literals.contains(&literal.negated())
+    literal != negated_pivot && trail.contains(literal.negated())
 }
 
-// Appends the literals of a clause other than one. After a refusal some may stand behind the old ones.
-fn push_others(literals: &mut Vec<Lit>, clause: &[Lit], other_than: Lit) -> Result<(), OutOfMemory>
-    ensures ok { OnOk result (literals.new.items ≡ literals.old.items ++ filter (λ x. not (int_eq x other_than)) clause.now) }
-    ensures err { OnErr result (take (length literals.old.items) literals.new.items ≡ literals.old.items) }
+// Puts the literals of a clause other than one on a trail. After a refusal some may stand behind the old ones.
+fn push_others(trail: &mut Trail, clause: &[Lit], other_than: Lit) -> Result<(), OutOfMemory>
+    ensures front { take (length trail.old) trail.new ≡ trail.old }
+    ensures longer { length trail.old ≤ length trail.new }
+    ensures ok { OnOk result (literals_of trail.new ≡ with_others (literals_of trail.old) other_than clause.now) }
     ensures memory { OnErr result (IsTrue (list_any (λ x. not (int_eq x other_than)) clause.now)) }
 {
     for literal in clause {
         if *literal != other_than {
-            literals.push(*literal)?;
+            trail.push(*literal)?;
         }
     }
     Ok(())

@@ -4,12 +4,16 @@
 #![tactic(auto)]
 
 mod chain;
+mod effect;
 mod examples;
+mod flags;
 mod laws;
 mod outcome;
 mod soundness;
+mod trail;
 
-pub use chain::{Chain, effect_on};
+pub use chain::Chain;
+pub use effect::effect_on;
 pub use examples::{refutation_example, resolvent_example};
 pub use laws::{
     conflict_law, definition_law, derivation_law, live_law, marks_law, refuted_law, start_law,

@@ -1,0 +1,10 @@
+use Rattle.std.proofs.Common.{◌≡◌, ◌&&◌, not, ℤ, take}
+use Rattle.lrat_rules.specs.Chain.{literals_of}
+use Rattle.lrat_rules.specs.Flags.{is_set, has_flag}
+use Rattle.lrat_rules.proofs.trail.clear_all.Given as goal
+
+abbrev pub invariant-loop-literal : goal.invariant-loop-literal
+invariant-loop-literal l = record {
+  cleared : (x : ℤ) → is_set l.flags x ≡ (not (literals_of (take l.literal-index l.literals) x) && is_set l.fn.flags x);
+  flags : (x : ℤ) → has_flag l.flags x ≡ has_flag l.fn.flags x;
+}
