@@ -85,12 +85,12 @@ fn plans(rt: HostRuntime) -> Result<(), Fail> {
 }
 
 // The call on standard output that fails, of those that move 16 bytes each: how the run ends, how many bytes of the help are
-// shown, and the first of them. The text has 1,005 bytes.
+// shown, and the first of them. The text has 1,125 bytes.
 const HELP: &str = "\
 1;WriteFault 0 ''
 3;WriteFault 32 'Decides FILE, and writes the pro'
-64;WriteFault 1005 'Decides FILE, and writes the pro'
-65;Help 1005 'Decides FILE, and writes the pro'";
+72;WriteFault 1125 'Decides FILE, and writes the pro'
+73;Help 1125 'Decides FILE, and writes the pro'";
 
 fn helped(alloc: Global, number: u64) -> Result<String, Fail> {
     let words = words_of(alloc, "bddsat solve --help")?;

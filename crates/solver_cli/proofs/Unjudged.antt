@@ -1,5 +1,5 @@
 -- What is promised of a run that took its formula, and did not judge the proof.
-use Rattle.std.proofs.Common.{◌≡◌, ◌<◌, ℕ, ℤ, List, length, refl, sym, ap, ap₂, ◌∙◌, Some, None, Err, IsTrue, inl, inr}
+use Rattle.std.proofs.Common.{◌≡◌, ◌<◌, ℕ, ℤ, List, length, refl, sym, ap₂, ◌∙◌, Some, None, Err, IsTrue, inl, inr}
 use Rattle.std.specs.Prelude.{Option, Result, ◌⊎◌}
 use Rattle.cnf_base.specs.Formula.{Formula}
 use Rattle.cnf_base.specs.Truth.{AreClausesOf}
