@@ -1,5 +1,5 @@
 -- What two calls say together of the header, and of the bytes taken as the front of a text.
-use Rattle.std.proofs.Common.{◌≡◌, ℕ, true, false, List, [], ◌++◌, Option, None, Some, Result, Ok, Err, refl, sym, ◌∙◌, ap, subst, append_assoc, arith}
+use Rattle.std.proofs.Common.{◌≡◌, ℕ, true, false, List, ◌++◌, Option, None, Some, Result, Ok, Err, refl, sym, ◌∙◌, ap, subst, append_assoc, arith}
 use Rattle.std.specs.Prelude.{nat_lt, min, ◌<◌}
 use Rattle.std.specs.Option.{option_map}
 use Rattle.cnf_base.specs.Formula.{Formula, Draft}
@@ -118,14 +118,15 @@ header_body mode (next_word word items) vars count rest header = rw (header.0) (
 pub began_body : (mode : Mode) (state : BodyState) (text : CnfText) (all rest : Items) → Begins (Ok state) text (λ vars count. HasHeader all vars count rest) → state.mode ≡ mode → cnf_of mode all ≡ body state.mode rest state.count state.draft
 began_body mode state text all rest began mode_is = rw mode_is (header_body mode all state.draft.vars state.count rest began.0 ∙ ap (body mode rest state.count) (sym began.1))
 
-pub began_wants : (mode : Mode) (state : BodyState) (text : CnfText) (all rest : Items) → Begins (Ok state) text (λ vars count. HasHeader all vars count rest) → state.mode ≡ mode
-    → (state.draft.begun ≡ [] → Wants state.mode state.count rest state.draft) → WantsMemory mode all
-began_wants mode state text all rest began mode_is wants = record {
+pub began_wants : (mode : Mode) (state : BodyState) (text : CnfText) (all rest after : Items) → Begins (Ok state) text (λ vars count. HasHeader all vars count rest) → state.mode ≡ mode
+    → Wants state.mode state.count rest state.draft after → WantsMemory mode all
+began_wants mode state text all rest after began mode_is wants = record {
   vars = state.draft.vars;
   count = state.count;
   rest = rest;
   header = began.0;
-  wants = subst (λ draft. Wants mode state.count rest draft) began.1 (rw mode_is at (wants (ap (λ (draft : Draft). draft.begun) began.1)));
+  after = after;
+  wants = subst (λ draft. Wants mode state.count rest draft after) began.1 (rw mode_is at wants);
 }
 
 -- an error of the header is the answer

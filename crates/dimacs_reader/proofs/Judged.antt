@@ -1,7 +1,7 @@
 -- What two calls say together of the answer: the second decides it, of the bytes that follow those of the first.
-use Rattle.std.proofs.Common.{◌≡◌, ℕ, false, List, [], ◌++◌, None, Result, Ok, Err, refl, sym, ◌∙◌, ap, subst, arith}
+use Rattle.std.proofs.Common.{◌≡◌, ℕ, false, List, ◌++◌, None, Result, Ok, Err, refl, sym, ◌∙◌, ap, subst}
 use Rattle.std.specs.Result.{IsErrAnd}
-use Rattle.std.specs.Prelude.{codes, ◌<◌, length}
+use Rattle.std.specs.Prelude.{codes}
 use Rattle.host_io.specs.Channel.{Channel}
 use Rattle.cnf_base.specs.Formula.{Formula, Draft}
 use Rattle.cnf_base.specs.Number.{signed_number}
@@ -15,7 +15,7 @@ use Rattle.dimacs_reader.specs.declared.error.CnfError.{CnfError}
 use Rattle.dimacs_reader.specs.declared.error.CnfError.TheVariants.{Refused, ReadFault, TooLong, OutOfMemory}
 use Rattle.dimacs_reader.specs.declared.mode.Mode.{Mode}
 use Rattle.dimacs_reader.specs.Answers.{Answers, error_of}
-use Rattle.dimacs_reader.specs.Body.{Takes, Passes, pass_none, pass_one, Wants}
+use Rattle.dimacs_reader.specs.Body.{Takes, Passes, pass_none, pass_one}
 use Rattle.dimacs_reader.specs.Cnf.{CnfText, overlong, is_word, with_read, offence_of, body}
 
 pub then_answers : {a b c : Channel} {Q : List ℕ → List ℕ → Type 0} (r : Result Formula CnfError) (whole rest : List ℕ → CnfText)
@@ -54,12 +54,6 @@ pub passes_same : {mode : Mode} {count : ℕ} {all : Items} {start : Draft} {ite
 passes_same pass_none = refl
 passes_same {mode} {count} (pass_one {word} {items} {draft} before good) =
     passes_same before ∙ goes_on mode mode word items count count draft (with_read (signed_number word.bytes) draft) good.goes_on good.unoffending refl refl refl
-
--- Behind good tokens that began a clause there is a number for which memory may be wanted.
-pub begun_wants : {mode : Mode} {count : ℕ} {all : Items} {start : Draft} {items : Items} {draft : Draft} → Passes mode count all start items draft → start.begun ≡ []
-    → 0 < length draft.begun → Wants mode count all start
-begun_wants {start = start} pass_none none begun = absurd (grind (arith, ap length none))
-begun_wants (pass_one {word} {items} {draft} before good) none begun = record { word = word; after = items; draft = draft; passed = before; good = good }
 
 -- Where those bytes decide nothing that follow others, both together don't.
 pub undecided_behind : {a b c : Channel} {P Q : List ℕ → List ℕ → Type 0} (text rest : List ℕ → CnfText) → Decides a b P → Decides b c Q

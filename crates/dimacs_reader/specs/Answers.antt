@@ -21,13 +21,15 @@ Answers (Err TooLong) text = text ≡ overlong
 Answers (Err ReadFault) text = ⊤
 Answers (Err OutOfMemory) text = ⊤
 
--- Memory may be wanted for a text of these items: it has a good header, and behind it a number that offends nothing.
+-- Memory may be wanted for a text of these items: it has a good header, and behind it a number that offends nothing, or
+-- in the mode Lax a last clause without its zero.
 pub record WantsMemory (mode : Mode) (all : Items) : Type 0 where
   pub vars : ℕ
   pub count : ℕ
   pub rest : Items
   pub header : HasHeader all vars count rest
-  pub wants : Wants mode count rest (no_clauses vars)
+  pub after : Items
+  pub wants : Wants mode count rest (no_clauses vars) after
 
 -- the number of a kind
 abbrev pub number_of : CnfKind → ℕ

@@ -1,13 +1,14 @@
 -- The body of a text as it is read: what is announced, and the draft so far.
-use Rattle.std.specs.Prelude.{◌≡◌, ℕ, ◌≤◌, ◌<◌, false, [], length, Option, None, Some, Result, Ok, Err, codes, ⊤}
+use Rattle.std.specs.Prelude.{◌≡◌, ℕ, ◌≤◌, ◌<◌, true, false, [], length, Option, None, Some, Result, Ok, Err, codes, ⊤}
 use Rattle.cnf_base.specs.Formula.{Formula, Draft}
 use Rattle.cnf_base.specs.Number.{signed_number}
 use Rattle.cnf_base.specs.Text.{Word}
-use Rattle.text_scan.specs.Items.{Items, next_word}
+use Rattle.text_scan.specs.Items.{Items, the_end, too_long, next_word}
 use Rattle.dimacs_reader.specs.declared.error.CnfError.{CnfError}
 use Rattle.dimacs_reader.specs.declared.error.CnfError.TheVariants.{Refused, ReadFault, TooLong, OutOfMemory}
 use Rattle.dimacs_reader.specs.declared.error.CnfKind.{CnfKind}
 use Rattle.dimacs_reader.specs.declared.mode.Mode.{Mode}
+use Rattle.dimacs_reader.specs.declared.mode.Mode.TheVariants.{Lax}
 use Rattle.dimacs_reader.specs.Cnf.{CnfText, formula, refusal, overlong, max_vars, max_clauses, max_literals, literals_of, is_word, with_read, offence_of}
 
 -- the mode, how many clauses are announced, and what was read of them
@@ -32,13 +33,33 @@ pub data Passes (mode : Mode) (count : ℕ) (all : Items) (start : Draft) : Item
   pass_one : {word : Word} {items : Items} {draft : Draft} → Passes mode count all start (next_word word items) draft → IsGood mode word count draft
       → Passes mode count all start items (with_read (signed_number word.bytes) draft)
 
--- Memory may be wanted for a number: the first tokens of all these items are good, and there is at least one.
-pub record Wants (mode : Mode) (count : ℕ) (all : Items) (start : Draft) : Type 0 where
+-- The clauses end where these items begin: at the end of the text, or at `%`, behind which those items come.
+abbrev pub EndsClauses : Items → Items → Type 0
+EndsClauses (the_end line) after = after ≡ the_end line
+EndsClauses (too_long line) after = ⊥
+EndsClauses (next_word word items) after = (is_word (codes "%") word.bytes ≡ true) × (items ≡ after)
+
+-- Memory was wanted for a number: all tokens before those items are good, and the last of them is that number.
+pub record WantsForNumber (mode : Mode) (count : ℕ) (all : Items) (start : Draft) (after : Items) : Type 0 where
   pub word : Word
-  pub after : Items
   pub draft : Draft
   pub passed : Passes mode count all start (next_word word after) draft
   pub good : IsGood mode word count draft
+
+-- Memory was wanted in the mode Lax for a clause without its zero: all tokens are good, they leave a clause begun, and
+-- there the clauses end.
+pub record WantsForEnd (mode : Mode) (count : ℕ) (all : Items) (start : Draft) (after : Items) : Type 0 where
+  pub lax : mode ≡ Lax
+  pub rest : Items
+  pub draft : Draft
+  pub passed : Passes mode count all start rest draft
+  pub begun : 0 < length draft.begun
+  pub ends : EndsClauses rest after
+
+-- Memory was wanted, and nothing was looked at of those items.
+pub data Wants (mode : Mode) (count : ℕ) (all : Items) (start : Draft) (after : Items) : Type 0 where
+  for_number : WantsForNumber mode count all start after → Wants mode count all start after
+  for_end : WantsForEnd mode count all start after → Wants mode count all start after
 
 -- the counters are those of the draft, and within the limits
 pub record IsBody (vars count ended begun literals : ℕ) (draft : Draft) : Type 0 where

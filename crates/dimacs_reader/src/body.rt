@@ -5,7 +5,7 @@ ghost use Rattle.host_io.specs.Channel.{Rose};
 ghost use Rattle.text_scan.specs.Decides.{gained, Decides, OnlyReads};
 ghost use Rattle.text_scan.specs.Scan.{ahead, so_far, is_reading, is_overlong, is_faulted};
 ghost use Rattle.dimacs_reader.specs.declared.error.CnfError.TheVariants.{ReadFault, OutOfMemory};
-ghost use Rattle.dimacs_reader.specs.declared.mode.Mode.TheVariants.{Strict};
+ghost use Rattle.dimacs_reader.specs.declared.mode.Mode.TheVariants.{Strict, Lax};
 ghost use Rattle.dimacs_reader.specs.Answers.{Answers};
 ghost use Rattle.dimacs_reader.specs.Body.{Takes, Wants, answer_of};
 ghost use Rattle.text_scan.specs.Capped.{cap};
@@ -172,8 +172,8 @@ impl Body {
     fn finish(self, line: u64) -> Result<Cnf, CnfError>
         ensures answers { Answers result (text_end self.mode self.count self.draft line) }
         ensures unfailed { result ≢ Err ReadFault }
-        // memory is wanted only for the end of a clause that was begun
-        ensures memory { result ≡ Err OutOfMemory → 0 < length self.draft.begun }
+        // memory is wanted only for a clause without its zero
+        ensures memory { result ≡ Err OutOfMemory → (self.mode ≡ Lax) × (0 < length self.draft.begun) }
     {
         match self.mode {
             Mode::Strict => self.finish_strict(line),
@@ -236,7 +236,7 @@ pub fn read_body<S: Source>(
         × (body_text body.mode (so_far scanner.old (gained (S.channel source.old) (S.channel source.new))) body.count body.draft ≡ overlong) }
     // want of memory never stands for a refusal, nor for a text that is too long
     ensures memory { IsTrue S.tells → result ≡ Err OutOfMemory → Decides (S.channel source.old) (S.channel source.new)
-        (λ bytes more. body.draft.begun ≡ [] → Wants body.mode body.count (ahead scanner.old bytes) body.draft) }
+        (λ bytes more. Wants body.mode body.count (ahead scanner.old bytes) body.draft (ahead scanner.new more)) }
     ensures memory_within { result ≡ Err OutOfMemory → is_overlong scanner.new.status ≡ false }
     ensures fault { result ≡ Err ReadFault → Rose (S.channel source.old).faults (S.channel source.new).faults }
     ensures unfailed { result ≢ Err ReadFault → (S.channel source.new).faults ≡ (S.channel source.old).faults }

@@ -36,7 +36,7 @@ pub fn read_cnf<S: Source>(alloc: Global, source: &mut S, mode: Mode) -> Result<
     ensures unfailed { result ≢ Err ReadFault → (S.channel source.new).faults ≡ (S.channel source.old).faults }
     // a read fails only where the bytes taken decide nothing yet
     ensures undecided { IsTrue S.tells → result ≡ Err ReadFault → cnf_so_far mode (gained (S.channel source.old) (S.channel source.new)) ≡ overlong }
-    // memory is wanted only for a token that offends nothing, behind a header within the limits
+    // memory is wanted only for a number that offends nothing, or for a last clause without its zero, behind a good header
     ensures memory { IsTrue S.tells → result ≡ Err OutOfMemory → Decides (S.channel source.old) (S.channel source.new)
         (λ bytes more. WantsMemory mode (items 99 max_bytes bytes)) }
     ensures formula { IfOk result IsFormula }

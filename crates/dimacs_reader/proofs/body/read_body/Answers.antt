@@ -1,13 +1,14 @@
 -- The end of the clauses decides the answer, and the body goes on behind a token that does not.
-use Rattle.std.proofs.Common.{◌≡◌, ℕ, true, false, List, [], ◌++◌, Err, refl, sym, ◌∙◌, ap, arith}
+use Rattle.std.proofs.Common.{◌≡◌, ℕ, true, false, List, ◌++◌, Err, refl, sym, ◌∙◌, ap, arith}
 use Rattle.std.specs.Prelude.{codes}
 use Rattle.text_scan.specs.Decides.{gained, Decides-none, Decides-map, Decides-then, OnlyReads-then, gained-none, front-then}
+use Rattle.text_scan.specs.Items.{the_end, next_word}
 use Rattle.text_scan.specs.Scan.{ahead, so_far}
 use Rattle.dimacs_reader.specs.declared.error.CnfError.TheVariants.{OutOfMemory}
 use Rattle.dimacs_reader.specs.Answers.{error_of}
-use Rattle.dimacs_reader.specs.Body.{IsGood, Passes, pass_none, pass_one, Wants}
+use Rattle.dimacs_reader.specs.Body.{IsGood, Passes, pass_none, pass_one, Wants, for_number, for_end}
 use Rattle.dimacs_reader.specs.Cnf.{CnfText, is_word, body}
-use Rattle.dimacs_reader.proofs.Judged.{then_answers, passes_same, begun_wants, undecided_behind, goes_on, error_is, error_answers, take_answers}
+use Rattle.dimacs_reader.proofs.Judged.{then_answers, passes_same, undecided_behind, goes_on, error_is, error_answers, take_answers}
 use Rattle.dimacs_reader.proofs.Began.{front_of_next, fault_so_far}
 use Rattle.dimacs_reader.proofs.body.read_body.Goals as goal
 
@@ -121,23 +122,24 @@ returns-in_err-take-in-Some-clause-memory g c = λ told wanted.
     let error = error_is c.from_residual-in_err-take-in-Some.result c.in_err-take-in-Some.field-0.0 c.from_residual-in_err-take-in-Some.ensures.1 in
     let memory : c.in_err-take-in-Some.field-0.0 ≡ OutOfMemory = cc in
     let none = rw (c.tokens.invariant.count, c.tokens.invariant.mode) at (c.in_err-take-in-Some.ensures.memory (ap Err memory)) in
-    Decides-then (λ bytes more. c.args.body.draft.begun ≡ [] → Wants c.args.body.mode c.args.body.count (ahead c.args.scanner.now bytes) c.args.body.draft)
+    Decides-then (λ bytes more. Wants c.args.body.mode c.args.body.count (ahead c.args.scanner.now bytes) c.args.body.draft (ahead c.next.new.self more))
     (c.tokens.invariant.passed told) gives
-    (λ bytes middle more p q fresh. record {
-      word = c.in-Some.token;
-      after = ahead c.next.new.self more;
-      draft = c.tokens.body.draft;
-      passed = rw q at p;
-      good = record { goes_on = percent; unoffending = none };
-    })
+    (λ bytes middle more p q. for_number (record { word = c.in-Some.token; draft = c.tokens.body.draft; passed = rw q at p; good = record { goes_on = percent; unoffending = none } }))
 
--- or for the end of a clause that was begun
+-- or, at the end of the clauses, for one without its zero
 pub returns-in-None-clause-memory : goal.returns-in-None-clause-memory
 returns-in-None-clause-memory g c = λ told wanted.
-    Decides-then (λ bytes more. c.args.body.draft.begun ≡ [] → Wants c.args.body.mode c.args.body.count (ahead c.args.scanner.now bytes) c.args.body.draft)
-    (c.tokens.invariant.passed told) (c.in_ok-next.ensures.gives told) (λ bytes middle more p q fresh. begun_wants p fresh (c.finish.ensures.memory wanted))
+    let gives = rw c.in-None.is at (c.in_ok-next.ensures.gives told) in
+    let asked = c.finish.ensures.memory wanted in
+    Decides-then (λ bytes more. Wants c.args.body.mode c.args.body.count (ahead c.args.scanner.now bytes) c.args.body.draft (ahead c.next.new.self more))
+    (c.tokens.invariant.passed told) gives
+    (λ bytes middle more p q. for_end (record { lax = sym c.tokens.invariant.mode ∙ asked.0; rest = the_end c.next.new.self.line; draft = c.tokens.body.draft; passed = rw q.0 at p; begun = asked.1; ends = q.1 }))
 
 pub returns-then-is_word-clause-memory : goal.returns-then-is_word-clause-memory
 returns-then-is_word-clause-memory g c = λ told wanted.
-    Decides-then (λ bytes more. c.args.body.draft.begun ≡ [] → Wants c.args.body.mode c.args.body.count (ahead c.args.scanner.now bytes) c.args.body.draft)
-    (c.tokens.invariant.passed told) (c.in_ok-next.ensures.gives told) (λ bytes middle more p q fresh. begun_wants p fresh (c.finish-then-is_word.ensures.memory wanted))
+    let percent : is_word (codes "%") c.in-Some.token.bytes ≡ true = sym c.is_word.ensures ∙ c.if-is_word.true in
+    let gives = rw c.in-Some.is at (c.in_ok-next.ensures.gives told) in
+    let asked = c.finish-then-is_word.ensures.memory wanted in
+    Decides-then (λ bytes more. Wants c.args.body.mode c.args.body.count (ahead c.args.scanner.now bytes) c.args.body.draft (ahead c.next.new.self more))
+    (c.tokens.invariant.passed told) gives
+    (λ bytes middle more p q. for_end (record { lax = sym c.tokens.invariant.mode ∙ asked.0; rest = next_word c.in-Some.token (ahead c.next.new.self more); draft = c.tokens.body.draft; passed = rw q at p; begun = asked.1; ends = (percent, refl) }))

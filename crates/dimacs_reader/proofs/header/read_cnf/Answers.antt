@@ -48,4 +48,4 @@ returns-in_err-cnf-clause-memory g c = λ told wanted.
     let memory : c.in_err-cnf.field-0.0 ≡ OutOfMemory = cc in
     Decides-then (λ bytes more. WantsMemory c.args.mode (items 99 max_bytes bytes)) (c.in_ok-body.ensures.decides told) (c.in_err-cnf.ensures.memory told (ap Err memory))
     (λ bytes middle more p q. subst (WantsMemory c.args.mode) (c.new-scanner.ensures.items bytes)
-    (began_wants c.args.mode c.in_ok-body.body (cnf_of c.args.mode (ahead c.new-scanner.result bytes)) (ahead c.new-scanner.result bytes) (ahead c.read_header.new.scanner middle) p c.in_ok-body.ensures.sound.1 q))
+    (began_wants c.args.mode c.in_ok-body.body (cnf_of c.args.mode (ahead c.new-scanner.result bytes)) (ahead c.new-scanner.result bytes) (ahead c.read_header.new.scanner middle) (ahead c.read_body.new.scanner more) p c.in_ok-body.ensures.sound.1 q))
