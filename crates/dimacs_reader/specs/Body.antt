@@ -56,7 +56,7 @@ pub record WantsForEnd (mode : Mode) (count : ℕ) (all : Items) (start : Draft)
   pub begun : 0 < length draft.begun
   pub ends : EndsClauses rest after
 
--- Memory was wanted, and nothing was looked at of those items.
+-- Memory was wanted while those items were ahead.
 pub data Wants (mode : Mode) (count : ℕ) (all : Items) (start : Draft) (after : Items) : Type 0 where
   for_number : WantsForNumber mode count all start after → Wants mode count all start after
   for_end : WantsForEnd mode count all start after → Wants mode count all start after
