@@ -1,7 +1,9 @@
-pub mod TreeMaps
+pub mod Slots
+pub mod Chunks
+pub mod Stored
+pub mod Totals
+pub mod Counted
 pub mod Walks
-pub mod Kept
-pub mod Indexed
 pub mod GroupFaults
 pub mod Verdicts
 pub mod Turns

@@ -1,42 +1,32 @@
--- The walk over the numbers in the list of the pivot's negation decides of all live clauses.
-use Rattle.std.proofs.Common.{◌≡◌, ℕ, Bool, true, false, not, ◌||◌, ◌&&◌, ℤ, neg_ℤ, List, [], ◌∷◌, Option, Some, None, is_some, nat_eq, nat_cmp, BTreeMap, ◌==◌, refl, sym, ap, subst, ◌∙◌}
+-- The walk over all live clauses decides whether each of them settles.
+use Rattle.std.proofs.Common.{◌≡◌, ℕ, ◌++◌, Bool, Bor, map, cond, nat_eq, true, false, not, ◌||◌, ◌&&◌, ℤ, List, [], ◌∷◌, Some, None, is_some, nat_cmp, refl, sym, ap, subst, ◌∙◌}
 use Rattle.std.specs.List.{list_all, list_any}
 use Rattle.std.specs.Ordering.{eq_by_cmp}
-use Rattle.std.specs.BTreeMap as tree
 use Rattle.std.specs.FinMap as finmap
+use Rattle.std.proofs.lemmas.Bool.{and_parts, and_from}
+use Rattle.std.proofs.lemmas.List.{map-append}
+use Rattle.std.proofs.lemmas.List.Folds.{list_all-append}
+use Rattle.std.specs.Map.{lookup}
+use Rattle.std.specs.Map.Iter.{deref_pair}
 use Rattle.std.proofs.lemmas.Map.Lookups.{exact_unsigned}
-use Rattle.std.proofs.lemmas.Map.Views.{exact_unsigned_eq, tells_apart}
+use Rattle.std.proofs.lemmas.Map.Views.{tells_apart, exact_unsigned_eq}
 use Rattle.cnf_base.specs.declared.list.Group.{Group}
 use Rattle.lrat_rules.specs.State.{Live, clause_at}
 use Rattle.lrat_rules.specs.Chain.{FalseSet}
 use Rattle.lrat_rules.specs.Addition.{if_live, holds_negated, is_blocked_by, is_settled}
-use Rattle.lrat_checker.specs.declared.holders.Holders.{Holders}
-use Rattle.lrat_checker.specs.Holders.{IsIndexOf, numbers_of}
-use Rattle.lrat_checker.specs.Walk.{settles_at}
-use Rattle.lrat_checker.proofs.Kept.{either_way}
-use Rattle.lrat_checker.proofs.TreeMaps.{finite, get-finite}
+use Rattle.lrat_checker.specs.Clauses.{Place, or_else}
+use Rattle.lrat_checker.specs.Walk.{settles, settles_at, has_group}
 
 -- what is asked of a number is asked of the clause that is live under it
 settled_at : (n : FalseSet) (pivot : ℤ) (groups : List Group) (live : Live) (id : ℕ) → is_settled live n pivot groups id ≡ settles_at n pivot groups id (clause_at live id)
 settled_at n pivot groups live id =
-    elim (clause_at live id) as (λ o. (not (if_live (holds_negated pivot) o) || if_live (is_blocked_by n pivot) o || list_any (λ group. group.id == id) groups) ≡ settles_at n pivot groups id o)
+    elim (clause_at live id) as (λ o. (not (if_live (holds_negated pivot) o) || if_live (is_blocked_by n pivot) o || has_group groups id) ≡ settles_at n pivot groups id o)
     [ None ↦ refl | Some clause ↦ refl ]
 
--- of three tests, the first
-held : (a b c : Bool) → (not a || b || c) ≡ false → a ≡ true
-held true b c e = refl
-held false b c e = absurd (cc)
-
--- a number that isn't settled is of a live clause with the pivot's negation
-unsettled : (n : FalseSet) (pivot : ℤ) (groups : List Group) (id : ℕ) (o : Option (List ℤ)) → settles_at n pivot groups id o ≡ false
-    → (clause : List ℤ) × (o ≡ Some clause) × (holds_negated pivot clause ≡ true)
-unsettled n pivot groups id None e = absurd (cc)
-unsettled n pivot groups id (Some clause) e = (clause, refl, held (holds_negated pivot clause) _ _ e)
-
--- an 'and' that fails: one of both does
-one_fails : {P : Type 0} (a b : Bool) → (a && b) ≡ false → (a ≡ false → P) → (b ≡ false → P) → P
-one_fails true b e f g = g e
-one_fails false b e f g = f refl
+-- what doesn't settle is live
+live_open : (n : FalseSet) (pivot : ℤ) (groups : List Group) (id : ℕ) (o : Place) → settles_at n pivot groups id o ≡ false → is_some o ≡ true
+live_open n pivot groups id None e = cc
+live_open n pivot groups id (Some clause) e = refl
 
 left_fails : (a b : Bool) → a ≡ false → (a && b) ≡ false
 left_fails a b e = rw e refl
@@ -45,38 +35,63 @@ right_fails : (a b : Bool) → b ≡ false → (a && b) ≡ false
 right_fails true b e = e
 right_fails false b e = refl
 
--- two tests that fail together are one
-together : (a b : Bool) → (a ≡ false → b ≡ false) → (b ≡ false → a ≡ false) → a ≡ b
-together true b f g = elim b as (λ b. (b ≡ false → true ≡ false) → true ≡ b) [ true ↦ λ g. refl | false ↦ λ g. g refl ] g
-together false b f g = sym (f refl)
+either_way : {P : Type 0} (a b : Bool) → (a || b) ≡ true → (a ≡ true → P) → (b ≡ true → P) → P
+either_way true b e f g = f refl
+either_way false b e f g = g e
 
-module _ (p : ℕ → Bool) where
-  -- a test of all that fails does so at some number
-  fails_at : (xs : List ℕ) → list_all p xs ≡ false → (k : ℕ) × (p k ≡ false)
-  fails_at [] e = absurd (cc)
-  fails_at (x ∷ xs) e = one_fails (p x) (list_all p xs) e (λ h. (x, h)) (λ h. fails_at xs h)
+all_pass : (p : ℕ → Bool) (ids : List ℕ) → ((id : ℕ) → p id ≡ true) → list_all p ids ≡ true
+all_pass p [] each = refl
+all_pass p (id ∷ ids) each = rw (each id) (all_pass p ids each)
 
-  -- it fails where it does so at a number that a query finds
-  fails_all : (k : ℕ) (query : ℕ → Bool) → ((x : ℕ) → query x ≡ true → k ≡ x) → p k ≡ false → (xs : List ℕ) → list_any query xs ≡ true → list_all p xs ≡ false
-  fails_all k query one e [] h = absurd (cc)
-  fails_all k query one e (x ∷ xs) h =
-      either_way (query x) (list_any query xs) h (λ t. left_fails (p x) (list_all p xs) (subst (λ y. p y ≡ false) (one x t) e))
-      (λ t. right_fails (p x) (list_all p xs) (fails_all k query one e xs t))
+one_fails : (p : ℕ → Bool) (id : ℕ) → p id ≡ false → (ids : List ℕ) → list_any (eq_by_cmp nat_cmp id) ids ≡ true → list_all p ids ≡ false
+one_fails p id e [] h = cc
+one_fails p id e (x ∷ ids) h =
+    either_way (eq_by_cmp nat_cmp id x) (list_any (eq_by_cmp nat_cmp id) ids) h
+    (λ t. left_fails (p x) (list_all p ids) (subst (λ k. p k ≡ false) (tells_apart exact_unsigned id x t) e))
+    (λ t. right_fails (p x) (list_all p ids) (one_fails p id e ids t))
 
--- the walk over the numbers in the list of the pivot's negation asks it of all live numbers
-pub walk_settles : (holders : Holders) (clauses : BTreeMap ℕ (List ℤ)) → IsIndexOf holders clauses → (n : FalseSet) (pivot : ℤ) (groups : List Group)
-    → list_all (is_settled (finite clauses) n pivot groups) (finmap.keys (finite clauses))
-    ≡ list_all (λ id. settles_at n pivot groups id (tree.get nat_cmp clauses id)) (numbers_of holders (neg_ℤ pivot))
-walk_settles holders clauses index n pivot groups =
-    let asked : ℕ → Bool = is_settled (finite clauses) n pivot groups in
-    let walked : ℕ → Bool = λ id. settles_at n pivot groups id (tree.get nat_cmp clauses id) in
-    let same : (id : ℕ) → asked id ≡ walked id = λ id. settled_at n pivot groups (finite clauses) id ∙ ap (settles_at n pivot groups id) (get-finite clauses id) in
-    together (list_all asked (finmap.keys (finite clauses))) (list_all walked (numbers_of holders (neg_ℤ pivot)))
-    (λ e. let at = fails_at asked (finmap.keys (finite clauses)) e in
-    let open_clause = unsettled n pivot groups at.0 (tree.get nat_cmp clauses at.0) (sym (same at.0) ∙ at.1) in
-    fails_all walked at.0 (nat_eq at.0) (exact_unsigned_eq at.0) (sym (same at.0) ∙ at.1) (numbers_of holders (neg_ℤ pivot))
-    ((index.found at.0 open_clause.0 open_clause.1).entered (neg_ℤ pivot) open_clause.2))
-    (λ e. let at = fails_at walked (numbers_of holders (neg_ℤ pivot)) e in
-    let open_clause = unsettled n pivot groups at.0 (tree.get nat_cmp clauses at.0) at.1 in
-    fails_all asked at.0 (eq_by_cmp nat_cmp at.0) (tells_apart exact_unsigned at.0) (same at.0 ∙ at.1) (finmap.keys (finite clauses))
-    (sym (finmap.contains_key-keys (finite clauses) at.0) ∙ ap is_some (get-finite clauses at.0 ∙ open_clause.1)))
+module _ (live : Live) (n : FalseSet) (pivot : ℤ) (groups : List Group) where
+  pub walk_passes : ((id : ℕ) → settles_at n pivot groups id (clause_at live id) ≡ true) → true ≡ list_all (is_settled live n pivot groups) (finmap.keys live)
+  walk_passes each = sym (all_pass (is_settled live n pivot groups) (finmap.keys live) (λ id. settled_at n pivot groups live id ∙ each id))
+
+  pub walk_fails : (id : ℕ) → settles_at n pivot groups id (clause_at live id) ≡ false → false ≡ list_all (is_settled live n pivot groups) (finmap.keys live)
+  walk_fails id open_clause = sym (one_fails (is_settled live n pivot groups) id (settled_at n pivot groups live id ∙ open_clause) (finmap.keys live)
+      (sym (finmap.contains_key-keys live id) ∙ live_open n pivot groups id (clause_at live id) open_clause))
+
+  -- a clause in the chunks stands there, one in the map only where none stands in the chunks
+  pub both_settle : (id : ℕ) (near far : Place) → settles_at n pivot groups id near ≡ true → settles_at n pivot groups id far ≡ true → settles_at n pivot groups id (or_else near far) ≡ true
+  both_settle id None far e f = f
+  both_settle id (Some clause) far e f = e
+
+  pub near_open : (id : ℕ) (near far : Place) → settles_at n pivot groups id near ≡ false → settles_at n pivot groups id (or_else near far) ≡ false
+  near_open id None far e = cc
+  near_open id (Some clause) far e = e
+
+  pub far_open : (id : ℕ) (near far : Place) → (is_some near ≡ true → far ≡ None) → settles_at n pivot groups id far ≡ false → settles_at n pivot groups id (or_else near far) ≡ false
+  far_open id None far apart e = e
+  far_open id (Some clause) far apart e = let no : true ≡ false = ap (settles_at n pivot groups id) (sym (apart refl)) ∙ e in cc
+
+-- the entries of a map
+module _ (n : FalseSet) (pivot : ℤ) (groups : List Group) where
+  abbrev entry_settles : ℕ × List ℤ → Bool
+  entry_settles entry = settles n pivot groups entry.0 entry.1
+
+  pub one_entry_more : (yielded : List (Bor ℕ × Bor (List ℤ))) (entry : Bor ℕ × Bor (List ℤ)) → list_all entry_settles (map deref_pair yielded) ≡ true → settles n pivot groups entry.0.now entry.1.now ≡ true
+      → list_all entry_settles (map deref_pair (yielded ++ entry ∷ [])) ≡ true
+  one_entry_more yielded entry so_far settled =
+      ap (list_all entry_settles) (map-append deref_pair yielded (entry ∷ [])) ∙ list_all-append entry_settles (map deref_pair yielded) (deref_pair entry ∷ [])
+      ∙ and_from (list_all entry_settles (map deref_pair yielded)) (settles n pivot groups entry.0.now entry.1.now && true) so_far (and_from _ true settled refl)
+
+  pub entries_settle : (entries : List (ℕ × List ℤ)) → list_all entry_settles entries ≡ true → (id : ℕ) → settles_at n pivot groups id (lookup (nat_eq id) entries) ≡ true
+  entries_settle [] all id = refl
+  entries_settle (entry ∷ entries) all id =
+      let parts = and_parts (entry_settles entry) (list_all entry_settles entries) all in
+      elim (nat_eq id entry.0) as (λ b. nat_eq id entry.0 ≡ b → settles_at n pivot groups id (cond b (Some entry.1) (lookup (nat_eq id) entries)) ≡ true) [
+        | true ↦ λ same. ap (λ k. settles n pivot groups k entry.1) (exact_unsigned_eq id entry.0 same) ∙ parts.0
+        | false ↦ λ other. entries_settle entries parts.1 id
+      ] refl
+
+-- a test and what it decides
+pub decided : (result whole : Bool) → (result ≡ true → true ≡ whole) → (result ≡ false → false ≡ whole) → result ≡ whole
+decided true whole passes fails = passes refl
+decided false whole passes fails = fails refl

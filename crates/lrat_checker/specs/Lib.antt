@@ -1,6 +1,6 @@
 pub mod Walk
-pub mod Numbers
-pub mod Holders
+pub mod Clauses
+pub mod Counts
 pub mod Ends
 pub mod TextVerdict
 pub mod Memory

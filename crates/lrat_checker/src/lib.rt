@@ -5,14 +5,17 @@
 #![tactic(auto)]
 
 mod addition;
+mod candidates;
+mod chunk;
 mod clause;
+mod clauses;
+mod counts;
 mod groups;
 mod hints;
-mod holders;
 mod judge;
 mod laws;
 mod live;
-mod numbers;
+mod slot;
 mod text;
 mod verdict;
 

@@ -10,8 +10,8 @@ use cnf_base::{Lit, OutOfMemory};
 use std::alloc::Global;
 use std::collections::HashMap;
 
-// The places of the literals of the variables below 2 ^ 22.
-const NEAR_PLACES: usize = 8_388_608;
+/// Below this are the places of the literals of the variables below 2 ^ 22, for which a list by place is short enough.
+pub const NEAR_PLACES: usize = 8_388_608;
 
 /// A flag for each literal.
 #[derive(Drop)]
@@ -88,7 +88,8 @@ impl Flags {
     }
 }
 
-fn place_of(literal: Lit) -> usize
+/// The place of a literal in a list with a place for each literal.
+pub fn place_of(literal: Lit) -> usize
     ensures { result ≡ place_of literal }
 {
     let place = 2 * literal.var() as usize;

@@ -15,6 +15,7 @@ mod trail;
 pub use chain::Chain;
 pub use effect::effect_on;
 pub use examples::{refutation_example, resolvent_example};
+pub use flags::{NEAR_PLACES, place_of};
 pub use laws::{
     conflict_law, definition_law, derivation_law, live_law, marks_law, refuted_law, start_law,
     strict_addition_law,

@@ -1,21 +1,10 @@
-use Rattle.lrat_checker.proofs.TreeMaps.{finite-insert}
-use Rattle.lrat_checker.proofs.Kept.{live_of_all}
-use Rattle.lrat_checker.proofs.Indexed.{index_kept, index_same, index_insert}
+use Rattle.std.proofs.Common.{sym, subst}
+use Rattle.lrat_rules.specs.State.{Live}
+use Rattle.lrat_checker.specs.Counts.{AreCounted}
+use Rattle.lrat_checker.proofs.Counted.{counted_insert}
 use Rattle.lrat_checker.proofs.live.LiveClauses.insert.Goals as goal
-
-pub invariant_of-self : goal.invariant_of-self
-invariant_of-self c = index_kept c.self.inside.clauses c.self.inside.holders _ c.self.invariant (live_of_all c.self.inside.clauses _ _ c.enter.ensures.kept)
-
-pub invariant_of-self-in_err-insert : goal.invariant_of-self-in_err-insert
-invariant_of-self-in_err-insert c =
-    index_same c.self.inside.clauses _ c.insert.new.self c.in_err-insert.ensures.err
-    (index_kept c.self.inside.clauses c.self.inside.holders _ c.self.invariant (live_of_all c.self.inside.clauses _ _ c.enter.ensures.kept))
 
 pub invariant_of-self-2 : goal.invariant_of-self-2
 invariant_of-self-2 c =
-    index_insert c.self.inside.clauses _ _ c.self.inside.holders _ c.insert.new.self c.self.invariant (live_of_all c.self.inside.clauses _ _ c.enter.ensures.kept)
-    (rw c.in_ok-clause.ensures c.in_ok-enter.ensures.entered) c.in_ok-insert.ensures.updates
-
-pub returns-clause-ok : goal.returns-clause-ok
-returns-clause-ok c =
-    rw (← c.self.view_is, ← c.get-id.ensures, ← c.in_ok-clause.ensures) (finite-insert c.self.inside.clauses c.insert.new.self _ _ c.in_ok-insert.ensures.updates)
+    subst (λ (live : Live). AreCounted c.enter.new.self live) (sym c.in_ok-insert.ensures.ok)
+    (counted_insert c.self.inside.counts c.enter.new.self c.self.inside.clauses c.args.id c.args.literals.now c.self.invariant c.in_ok-enter.ensures.ok)

@@ -1,0 +1,5 @@
+use Rattle.lrat_checker.proofs.Counted.{counted_none}
+use Rattle.lrat_checker.proofs.live.LiveClauses.new.Goals as goal
+
+pub invariant_of-result : goal.invariant_of-result
+invariant_of-result c = counted_none c.new-2.result c.new.result c.new.ensures

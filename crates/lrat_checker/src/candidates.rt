@@ -1,0 +1,85 @@
+// The candidates of an addition: the live clauses with the pivot's negation. Each has to be blocked or to have a group.
+ghost use Rattle.std.specs.Prelude.{◌≡◌, ◌&&◌, ◌||◌, ◌==◌, nat_lt};
+ghost use Rattle.std.specs.List.{list_any};
+ghost use Rattle.std.specs.Option.{option_copied};
+ghost use Rattle.lrat_rules.specs.Addition.{is_candidate, holds_negated};
+ghost use Rattle.lrat_rules.specs.FalseLiterals.{set_of, before_of};
+ghost use Rattle.lrat_checker.specs.Walk.{settles, settles_at, has_group, IsCountOfNamed};
+
+use crate::clauses::Clauses;
+use cnf_base::{Group, Id, Lit};
+use lrat_rules::Chain;
+
+/// How many candidates the groups name, counting those whose numbers are greater than all before, so none twice.
+pub fn named_candidates(clauses: &Clauses, pivot: Lit, groups: &[Group]) -> usize
+    ensures { IsCountOfNamed clauses.now pivot groups.now result }
+{
+    let mut last = 0u64;
+    let mut named = 0usize;
+    for group in groups {
+        if is_next(clauses, pivot, last, group.id) {
+            last = group.id.get();
+            named += 1;
+        }
+    }
+    named
+}
+
+// Whether the number is of a candidate, and greater than the last one.
+fn is_next(clauses: &Clauses, pivot: Lit, last: u64, id: Id) -> bool
+    ensures { result ≡ (nat_lt last id && is_candidate clauses.now pivot id) }
+{
+    last < id.get() && is_candidate(clauses, pivot, id)
+}
+
+fn is_candidate(clauses: &Clauses, pivot: Lit, id: Id) -> bool
+    ensures { result ≡ is_candidate clauses.now pivot id }
+{
+    match clauses.get(id) {
+        None => false,
+        Some(clause) => holds_negated(clause, pivot),
+    }
+}
+
+fn holds_negated(clause: &[Lit], pivot: Lit) -> bool
+    ensures { result ≡ holds_negated pivot clause.now }
+{
+    clause.contains(&pivot.negated())
+}
+
+/// A place under which no clause stands, or one that settles.
+pub fn settles_place(
+    chain: &Chain,
+    pivot: Lit,
+    groups: &[Group],
+    number: u64,
+    clause: Option<&[Lit]>,
+) -> bool
+    requires { before_of chain.now ≡ None }
+    ensures { result ≡ settles_at (set_of chain.now) pivot groups.now number (option_copied clause.entry) }
+{
+    match clause {
+        None => true,
+        Some(clause) => settles_clause(chain, pivot, groups, number, clause),
+    }
+}
+
+/// No candidate, or one that is blocked or has a group.
+pub fn settles_clause(
+    chain: &Chain,
+    pivot: Lit,
+    groups: &[Group],
+    number: u64,
+    clause: &[Lit],
+) -> bool
+    requires { before_of chain.now ≡ None }
+    ensures { result ≡ settles (set_of chain.now) pivot groups.now number clause.now }
+{
+    !holds_negated(clause, pivot) || chain.is_blocked(clause, pivot) || has_group(groups, number)
+}
+
+fn has_group(groups: &[Group], id: u64) -> bool
+    ensures { result ≡ has_group groups.now id }
+{
+    groups.iter().any(|group| group.id.get() == id)
+}

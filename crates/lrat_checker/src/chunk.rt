@@ -1,0 +1,103 @@
+// A chunk of slots for 128 consecutive clause numbers. It counts its clauses, only to see in time when the last one is gone:
+// then it gives its memory back.
+ghost use Rattle.std.specs.Prelude.{◌≡◌, ◌<◌, ◌≤◌, ℕ, [], OnOk, IfOk, None, map, length, set, is_some, is_none, slice_index_or, if◌then◌else◌, ◌==◌};
+ghost use Rattle.std.specs.List.{list_all};
+ghost use Rattle.std.specs.Option.{option_copied};
+ghost use Rattle.lrat_checker.specs.Clauses.{clause_in};
+
+use crate::slot::Slot;
+use cnf_base::{Lit, OutOfMemory};
+use std::alloc::Global;
+use std::marker::Model;
+
+#[derive(Debug, Drop)]
+pub struct Chunk {
+    slots: Vec<Slot>,
+    taken: u32,
+}
+
+impl Model for Chunk {
+    ghost use Rattle.std.specs.Prelude.{◌≡◌, ◌<◌, [], length, map};
+    ghost use Rattle.lrat_checker.specs.Clauses.{Places, places_code, clause_in};
+
+    ghost Value = { Places };
+
+    ghost coded = { places_code };
+
+    ghost view = { λ chunk. map clause_in chunk.slots.items };
+
+    // all slots, or none
+    ghost invariant = { λ chunk. length chunk.slots.items < 128 → chunk.slots.items ≡ [] };
+}
+
+impl Chunk {
+    /// No slots yet.
+    pub fn new(alloc: Global) -> Chunk
+        ensures { result ≡ [] }
+    {
+        Chunk {
+            slots: Vec::new(alloc),
+            taken: 0,
+        }
+    }
+
+    /// The clause at a place, where there is one.
+    pub fn clause(&self, place: usize) -> Option<&[Lit]>
+        ensures { option_copied result ≡ slice_index_or self.now place None }
+    {
+        match self.slots.get(place) {
+            None => None,
+            Some(slot) => slot.clause(),
+        }
+    }
+
+    /// Makes the slots, where there are none. A refusal changes nothing.
+    pub fn reserve(&mut self, alloc: Global) -> Result<(), OutOfMemory>
+        ensures same { (i : ℕ) → slice_index_or self.new i None ≡ slice_index_or self.old i None }
+        ensures ok { OnOk result (128 ≤ length self.new) }
+    {
+        if self.slots.len() < 128 {
+            self.slots = free_slots(alloc)?;
+        }
+        Ok(())
+    }
+
+    /// Puts a clause into a place.
+    pub fn put(&mut self, place: usize, slot: Slot)
+        requires { place < length self.old }
+        ensures { self.new ≡ set self.old place (clause_in slot) }
+    {
+        self.slots[place] = slot;
+        self.taken = self.taken.saturating_add(1);
+    }
+
+    /// Takes the clause out of a place, and tells whether there was one.
+    pub fn clear(&mut self, alloc: Global, place: usize) -> bool
+        ensures taken { result ≡ is_some (slice_index_or self.old place None) }
+        ensures places { (i : ℕ) → slice_index_or self.new i None ≡ (if i == place then None else slice_index_or self.old i None) }
+    {
+        if self.clause(place).is_none() {
+            return false;
+        }
+        self.slots[place] = Slot::Free;
+        self.taken = self.taken.saturating_sub(1);
+        if self.taken == 0 && is_blank(self.slots.as_slice()) {
+            self.slots = Vec::new(alloc);
+        }
+        true
+    }
+}
+
+fn is_blank(slots: &[Slot]) -> bool
+    ensures { result ≡ list_all (λ slot. is_none (clause_in slot)) slots.now }
+{
+    slots.iter().all(|slot| slot.clause().is_none())
+}
+
+fn free_slots(alloc: Global) -> Result<Vec<Slot>, OutOfMemory>
+    ensures size { IfOk result (λ slots. length slots.items ≡ 128) }
+    ensures free { IfOk result (λ slots. (i : ℕ) → slice_index_or (map clause_in slots.items) i None ≡ None) }
+{
+    let slots = Vec::from_array(alloc, [Slot::Free; 128])?;
+    Ok(slots)
+}

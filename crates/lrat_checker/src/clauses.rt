@@ -1,0 +1,260 @@
+// The live clauses by their numbers. Proofs number their clauses almost one after the other, so short clauses stand in chunks of
+// 128 places, where number n has place n % 128 of chunk n / 128: they cost no allocation and no search, and a chunk whose
+// clauses are all gone gives its memory back. Longer clauses, and numbers far ahead of all others, stand in a hash map.
+ghost use Rattle.std.specs.Prelude.{◌≡◌, ◌+◌, ◌*◌, ◌<◌, ◌≤◌, ◌/◌, ◌%◌, ℕ, [], None, true, false, nat_eq, OnOk, OnErr, IsTrue, is_some, length, slice_index_or, if◌then◌else◌, ◌==◌};
+ghost use Rattle.std.specs.HashMap.{get};
+ghost use Rattle.std.specs.List.{list_all};
+ghost use Rattle.std.specs.Option.{option_copied};
+ghost use Rattle.std.specs.FinMap as map;
+ghost use Rattle.lrat_rules.specs.State.{clause_at, with_clause};
+ghost use Rattle.lrat_rules.specs.Addition.{is_settled};
+ghost use Rattle.lrat_rules.specs.FalseLiterals.{set_of, before_of};
+ghost use Rattle.lrat_checker.specs.Clauses.{near_at, clause_in};
+ghost use Rattle.lrat_checker.specs.Walk.{settles_at};
+
+use crate::candidates::{settles_clause, settles_place};
+use crate::chunk::Chunk;
+use crate::clause::Clause;
+use crate::slot::Slot;
+use cnf_base::{Group, Id, Lit, OutOfMemory};
+use lrat_rules::Chain;
+use std::alloc::Global;
+use std::collections::HashMap;
+use std::fmt;
+use std::marker::Model;
+
+/// Clauses by number.
+#[derive(Drop)]
+pub struct Clauses {
+    alloc: Global,
+    chunks: Vec<Chunk>,
+    far: HashMap<u64, Clause>,
+    top: u64,
+    inserted: u64,
+}
+
+impl Model for Clauses {
+    ghost use Rattle.std.specs.Prelude.{ℤ, List, ◌+◌, nat_eq};
+    ghost use Rattle.std.specs.Ordering.{nat_cmp};
+    ghost use Rattle.std.specs.Coded.{coded_ℕ, coded_ℤ, coded_list};
+    ghost use Rattle.std.specs.FinMap as map;
+    ghost use Rattle.std.specs.HashMap.{get};
+    ghost use Rattle.lrat_checker.specs.Clauses.{near_at, stands_at, live_below, AreStored};
+
+    ghost Value = { map.FinMap nat_cmp (List ℤ) };
+
+    ghost coded = { map.code coded_ℕ (coded_list coded_ℤ) };
+
+    ghost view = { λ l. live_below (stands_at (near_at l.chunks.items) (get nat_eq l.far)) (l.top + 1) };
+
+    ghost invariant = { λ l. AreStored (near_at l.chunks.items) (get nat_eq l.far) l.top };
+}
+
+impl Clauses {
+    /// No clause.
+    pub fn new(alloc: Global) -> Self
+        ensures { result ≡ map.empty }
+    {
+        Clauses {
+            alloc,
+            chunks: Vec::new(alloc),
+            far: HashMap::new(alloc),
+            top: 0,
+            inserted: 0,
+        }
+    }
+
+    /// The clause of this number, where it is live.
+    pub fn get(&self, id: Id) -> Option<&[Lit]>
+        ensures { option_copied result ≡ clause_at self.now id }
+    {
+        let number = id.get();
+        match near_clause(self.chunks.as_slice(), number) {
+            Some(clause) => Some(clause),
+            None => match self.far.get(&number) {
+                None => None,
+                Some(clause) => Some(clause.literals()),
+            },
+        }
+    }
+
+    /// Makes a clause live under a number. A refusal changes nothing.
+    pub fn insert(&mut self, id: Id, literals: &[Lit]) -> Result<(), OutOfMemory>
+        ensures ok { OnOk result (self.new ≡ with_clause self.old id literals.now) }
+        ensures err { OnErr result (self.new ≡ self.old) }
+    {
+        match Slot::of(literals) {
+            Some(slot) if self.is_near(id.get()) => self.insert_near(id, literals, slot),
+            _ => self.insert_far(id, literals),
+        }
+    }
+
+    // Whether chunks should reach to a number: then most of their places are used.
+    fn is_near(&self, number: u64) -> bool {
+        number / 128 < self.chunks.len() as u64 || number / 4 < self.inserted.saturating_add(16384)
+    }
+
+    fn insert_near(&mut self, id: Id, literals: &[Lit], slot: Slot) -> Result<(), OutOfMemory>
+        requires { clause_in slot ≡ Some literals.now }
+        ensures ok { OnOk result (self.new ≡ with_clause self.old id literals.now) }
+        ensures err { OnErr result (self.new ≡ self.old) }
+    {
+        let number = id.get();
+        reach(&mut self.chunks, self.alloc, number)?;
+        put(&mut self.chunks, number, slot);
+        if number <= self.top {
+            self.far.remove(&number);
+        } else {
+            self.top = number;
+        }
+        self.inserted = self.inserted.saturating_add(1);
+        Ok(())
+    }
+
+    fn insert_far(&mut self, id: Id, literals: &[Lit]) -> Result<(), OutOfMemory>
+        ensures ok { OnOk result (self.new ≡ with_clause self.old id literals.now) }
+        ensures err { OnErr result (self.new ≡ self.old) }
+    {
+        let number = id.get();
+        let clause = Clause::of(self.alloc, literals)?;
+        self.far.insert(number, clause)?;
+        clear(&mut self.chunks, self.alloc, number);
+        self.top = self.top.max(number);
+        self.inserted = self.inserted.saturating_add(1);
+        Ok(())
+    }
+
+    /// Whether each candidate of the pivot is blocked or has a group.
+    pub fn all_settled(&self, chain: &Chain, pivot: Lit, groups: &[Group]) -> bool
+        requires { before_of chain.now ≡ None }
+        ensures { result ≡ list_all (is_settled self.now (set_of chain.now) pivot groups.now) (map.keys self.now) }
+    {
+        let chunks = self.chunks.as_slice();
+        let places = (chunks.len() as u64).saturating_mul(128);
+        if !near_settled(chunks, places, chain, pivot, groups) {
+            return false;
+        }
+        // The places may reach to the greatest number that there is, which no bound has below it.
+        if !settles_place(
+            chain,
+            pivot,
+            groups,
+            self.top,
+            near_clause(chunks, self.top),
+        ) {
+            return false;
+        }
+        far_settled(&self.far, chain, pivot, groups)
+    }
+
+    /// Takes out the clause of a number, where it is live.
+    pub fn remove(&mut self, id: Id)
+        ensures { self.new ≡ map.remove self.old id }
+    {
+        let number = id.get();
+        if !clear(&mut self.chunks, self.alloc, number) {
+            self.far.remove(&number);
+        }
+    }
+}
+
+impl fmt::Debug for Clauses {
+    fn fmt<W: fmt::Write>(&self, f: &mut fmt::Formatter<W>) -> fmt::Result {
+        f.debug_struct("Clauses")
+            .field("chunks", &self.chunks)
+            .field("far", &self.far.len())
+            .finish()
+    }
+}
+
+// The clause at a number's place in the chunks.
+fn near_clause(chunks: &[Chunk], number: u64) -> Option<&[Lit]>
+    ensures { option_copied result ≡ near_at chunks.now number }
+{
+    match chunks.get((number / 128) as usize) {
+        None => None,
+        Some(chunk) => chunk.clause((number % 128) as usize),
+    }
+}
+
+// Makes chunks up to a number, and the places of its own.
+fn reach(chunks: &mut Vec<Chunk>, alloc: Global, number: u64) -> Result<(), OutOfMemory>
+    ensures same { (n : ℕ) → near_at chunks.new.items n ≡ near_at chunks.old.items n }
+    ensures index { OnOk result (number / 128 < length chunks.new.items) }
+    ensures place { OnOk result (128 ≤ length (slice_index_or chunks.new.items (number / 128) [])) }
+{
+    let index = (number / 128) as usize;
+    while chunks.len() <= index {
+        chunks.push(Chunk::new(alloc))?;
+    }
+    reserve(chunks, alloc, index)
+}
+
+// Makes the places of a chunk.
+fn reserve(chunks: &mut Vec<Chunk>, alloc: Global, index: usize) -> Result<(), OutOfMemory>
+    requires { index < length chunks.old.items }
+    ensures same { (n : ℕ) → near_at chunks.new.items n ≡ near_at chunks.old.items n }
+    ensures len { length chunks.new.items ≡ length chunks.old.items }
+    ensures ok { OnOk result (128 ≤ length (slice_index_or chunks.new.items index [])) }
+{
+    let chunk = &mut chunks[index];
+    chunk.reserve(alloc)
+}
+
+// Puts a clause into the place of a number.
+fn put(chunks: &mut Vec<Chunk>, number: u64, slot: Slot)
+    requires index { number / 128 < length chunks.old.items }
+    requires place { 128 ≤ length (slice_index_or chunks.old.items (number / 128) []) }
+    ensures { (n : ℕ) → near_at chunks.new.items n ≡ (if n == number then clause_in slot else near_at chunks.old.items n) }
+{
+    let chunk = &mut chunks[(number / 128) as usize];
+    chunk.put((number % 128) as usize, slot);
+}
+
+// Takes the clause out of a number's place, and tells whether there was one.
+fn clear(chunks: &mut Vec<Chunk>, alloc: Global, number: u64) -> bool
+    ensures taken { result ≡ is_some (near_at chunks.old.items number) }
+    ensures places { (n : ℕ) → near_at chunks.new.items n ≡ (if n == number then None else near_at chunks.old.items n) }
+{
+    let index = number / 128;
+    index < chunks.len() as u64
+        && clear_place(chunks, alloc, index as usize, (number % 128) as usize)
+}
+
+fn clear_place(chunks: &mut Vec<Chunk>, alloc: Global, index: usize, place: usize) -> bool
+    requires index { index < length chunks.old.items }
+    requires place { place < 128 }
+    ensures taken { result ≡ is_some (near_at chunks.old.items (128 * index + place)) }
+    ensures places { (n : ℕ) → near_at chunks.new.items n ≡ (if n == 128 * index + place then None else near_at chunks.old.items n) }
+{
+    let chunk = &mut chunks[index];
+    chunk.clear(alloc, place)
+}
+
+// Whether the candidates of the numbers below a bound, in the chunks, are blocked or have groups.
+fn near_settled(chunks: &[Chunk], bound: u64, chain: &Chain, pivot: Lit, groups: &[Group]) -> bool
+    requires { before_of chain.now ≡ None }
+    ensures settled { IsTrue result → (n : ℕ) → n < bound → settles_at (set_of chain.now) pivot groups.now n (near_at chunks.now n) ≡ true }
+    ensures open { result ≡ false → (n : ℕ) × (settles_at (set_of chain.now) pivot groups.now n (near_at chunks.now n) ≡ false) }
+{
+    for number in 0..bound {
+        if !settles_place(chain, pivot, groups, number, near_clause(chunks, number)) {
+            return false;
+        }
+    }
+    true
+}
+
+// Whether those in the map are.
+fn far_settled(far: &HashMap<u64, Clause>, chain: &Chain, pivot: Lit, groups: &[Group]) -> bool
+    requires { before_of chain.now ≡ None }
+    ensures settled { IsTrue result → (n : ℕ) → settles_at (set_of chain.now) pivot groups.now n (get nat_eq far.now n) ≡ true }
+    ensures open { result ≡ false → (n : ℕ) × (settles_at (set_of chain.now) pivot groups.now n (get nat_eq far.now n) ≡ false) }
+{
+    for (number, clause) in far {
+        if !settles_clause(chain, pivot, groups, *number, clause.literals()) {
+            return false;
+        }
+    }
+    true
+}
