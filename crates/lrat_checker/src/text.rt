@@ -11,7 +11,7 @@ ghost use Rattle.lrat_checker.specs.TextVerdict.{end_verdict, error_answer, step
 
 use crate::judge::Judge;
 use crate::verdict::{CheckError, Verdict};
-use cnf_base::{Cnf, Step};
+use cnf_base::{Cnf, Id, IdList, Step};
 use host_io::Source;
 use lrat_rules::Reason;
 use lrat_text::{StepError, StepReader};
@@ -38,13 +38,18 @@ pub fn check<S: Source>(alloc: Global, formula: &Cnf, source: &mut S) -> Result<
 {
     let mut judge = Judge::open(alloc, formula)?;
     let mut reader = StepReader::new(alloc, MAX_BYTES);
-    judge_steps(&mut judge, &mut reader, source)
+    let mut step = Step::Delete {
+        id: Id(0),
+        ids: IdList::new(alloc),
+    };
+    judge_steps(&mut judge, &mut reader, &mut step, source)
 }
 
-// Judges the steps that the reader still gives.
+// Judges the steps that the reader still gives, each in the same place.
 fn judge_steps<S: Source>(
     judge: &mut Judge,
     reader: &mut StepReader,
+    step: &mut Step,
     source: &mut S,
 ) -> Result<Verdict, CheckError>
     requires { reader.old.status ≡ Reading }
@@ -62,10 +67,10 @@ fn judge_steps<S: Source>(
 {
     let mut has_empty = false;
     'steps: loop {
-        match reader.next(source) {
-            Ok(Some((step, line))) => match judge.step(&step)? {
+        match reader.next_into(source, step) {
+            Ok(Some(line)) => match judge.step(step)? {
                 Some(reason) => return Ok(Verdict::Refused { line, reason }),
-                None => has_empty = or_adds_empty(has_empty, &step),
+                None => has_empty = or_adds_empty(has_empty, step),
             },
             Ok(None) => return Ok(verdict_at_end(has_empty, reader.line())),
             Err(error) => return answer_to(error),

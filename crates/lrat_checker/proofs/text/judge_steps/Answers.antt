@@ -3,7 +3,7 @@ use Rattle.std.proofs.Common.{◌≡◌, ℕ, List, false, Some, None, Ok, Err, 
 use Rattle.host_io.specs.Channel.{Rose}
 use Rattle.text_scan.specs.Decides.{gained, OnlyReads-then, Decides-then, gained-then, front-then}
 use Rattle.lrat_text.specs.declared.error.StepError.TheVariants.{ReadFault}
-use Rattle.lrat_text.specs.Reader.{GaveStep, is_reading, steps_ahead, so_far}
+use Rattle.lrat_text.specs.Reader.{GaveStep, given, is_reading, steps_ahead, so_far}
 use Rattle.lrat_rules.specs.Run.{step_fault, after_step}
 use Rattle.lrat_checker.specs.TextVerdict.{end_verdict, error_answer, steps_verdict, Answers}
 use Rattle.lrat_checker.proofs.Turns.{at_end, at_error, at_good_step, good_so_far, fault_so_far, later_wants, read_fault_alone}
@@ -13,7 +13,7 @@ pub returns-in-Ok-None-clause-decides : goal.returns-in-Ok-None-clause-decides
 returns-in-Ok-None-clause-decides g c = λ told.
     Decides-then (λ bytes more. steps_verdict c.args.judge.now false (steps_ahead c.args.reader.now bytes) ≡ Some c.verdict_at_end.result)
     (c.steps.invariant.same told) (c.in-Ok-None.ensures.gives told)
-    (λ bytes middle more before gives. before ∙ at_end c.steps.judge c.steps.has_empty _ _ _ _ gives (ap Ok c.in-Ok-None.field-0-is)
+    (λ bytes middle more before gives. before ∙ at_end c.steps.judge c.steps.has_empty _ _ _ _ gives (ap (λ r. given c.next_into.new.step (Ok r)) c.in-Ok-None.field-0-is)
     ∙ ap Some (sym (c.verdict_at_end.ensures ∙ ap (end_verdict c.steps.has_empty) c.line.ensures)))
 
 pub returns-in-Err-clause-decides : goal.returns-in-Err-clause-decides
@@ -24,16 +24,16 @@ returns-in-Err-clause-decides g c = λ told.
 
 pub returns-in-Err-clause-undecided : goal.returns-in-Err-clause-undecided
 returns-in-Err-clause-undecided g c = λ told is.
-    let bytes : List ℕ = gained (g.S.Source.channel c.steps.source) (g.S.Source.channel c.next.new.source) in
+    let bytes : List ℕ = gained (g.S.Source.channel c.steps.source) (g.S.Source.channel c.next_into.new.source) in
     let failed : c.in-Err.error ≡ ReadFault = read_fault_alone c.in-Err.error (sym c.answer_to.ensures ∙ is) in
-    let none = fault_so_far _ c.steps.reader c.next.new.self bytes (c.in-Err.ensures.so_far told (ap is_reading c.steps.invariant.reading)) (ap Err failed) in
+    let none = fault_so_far _ c.steps.reader c.next_into.new.self bytes (c.in-Err.ensures.so_far told (ap is_reading c.steps.invariant.reading)) (ap Err failed) in
     ap (λ l. steps_verdict c.args.judge.now false (so_far c.args.reader.now l)) (gained-then (c.steps.invariant.same told) (c.in-Err.ensures.gives told))
     ∙ c.steps.invariant.so_far told none.0 bytes
     ∙ ap (steps_verdict c.steps.judge c.steps.has_empty) none.1
 
 pub returns-in-Err-clause-fault : goal.returns-in-Err-clause-fault
 returns-in-Err-clause-fault g c = λ is.
-    subst (λ n. Rose n (g.S.Source.channel c.next.new.source).faults) c.steps.invariant.unfailed
+    subst (λ n. Rose n (g.S.Source.channel c.next_into.new.source).faults) c.steps.invariant.unfailed
     (c.in-Err.ensures.fault (ap Err (read_fault_alone c.in-Err.error (sym c.answer_to.ensures ∙ is))) (ap is_reading c.steps.invariant.reading))
 
 pub returns-in-Err-clause-unfailed : goal.returns-in-Err-clause-unfailed
@@ -43,54 +43,27 @@ returns-in-Err-clause-unfailed g c = λ differ.
 
 pub steps-preserved : goal.steps-preserved
 steps-preserved g c =
-    let is_good : step_fault c.steps.judge c.in-Ok-Some.step ≡ None = sym c.in_ok-reason-in-Ok-Some.ensures.fault ∙ c.in-None.is in
-    let moved : c.step.new.self ≡ after_step c.steps.judge c.in-Ok-Some.step = search rules in
-    let gave : GaveStep c.in-Ok-Some.line c.steps.reader c.next.new.self = search rules in
+    let is_good : step_fault c.steps.judge c.next_into.new.step ≡ None = sym c.in_ok-reason-in-Ok-Some.ensures.fault ∙ c.in-None.is in
+    let moved : c.step.new.self ≡ after_step c.steps.judge c.next_into.new.step = search rules in
+    let gave : GaveStep c.in-Ok-Some.line c.steps.reader c.next_into.new.self = search rules in
     record {
       same = λ told.
           Decides-then _ (c.steps.invariant.same told) (c.in-Ok-Some.ensures.gives told)
           (λ bytes middle more before gives. before
-          ∙ at_good_step c.steps.judge c.steps.has_empty _ _ _ _ gives c.in-Ok-Some.step c.in-Ok-Some.line c.step.new.self c.or_adds_empty-has_empty.result
-          (ap Ok c.in-Ok-Some.field-0-is) is_good moved c.or_adds_empty-has_empty.ensures);
+          ∙ at_good_step c.steps.judge c.steps.has_empty _ _ _ _ gives c.next_into.new.step c.in-Ok-Some.line c.step.new.self c.or_adds_empty-has_empty.result
+          (ap (λ r. given c.next_into.new.step (Ok r)) c.in-Ok-Some.field-0-is) is_good moved c.or_adds_empty-has_empty.ensures);
       memory = λ told.
           Decides-then _ (c.steps.invariant.memory told) (c.in-Ok-Some.ensures.gives told)
           (λ bytes middle more before gives wants. before
-          (later_wants c.steps.judge _ _ _ _ gives c.in-Ok-Some.step c.in-Ok-Some.line c.step.new.self (ap Ok c.in-Ok-Some.field-0-is) is_good moved wants));
+          (later_wants c.steps.judge _ _ _ _ gives c.next_into.new.step c.in-Ok-Some.line c.step.new.self (ap (λ r. given c.next_into.new.step (Ok r)) c.in-Ok-Some.field-0-is) is_good moved wants));
       so_far = λ told scanning.
-          let good = good_so_far c.steps.judge c.steps.has_empty _ c.steps.reader c.next.new.self _ (c.in-Ok-Some.ensures.so_far told (ap is_reading c.steps.invariant.reading))
-          c.in-Ok-Some.step c.in-Ok-Some.line c.step.new.self c.or_adds_empty-has_empty.result (ap Ok c.in-Ok-Some.field-0-is) is_good moved c.or_adds_empty-has_empty.ensures scanning in
+          let good = good_so_far c.steps.judge c.steps.has_empty _ c.steps.reader c.next_into.new.self _ (c.in-Ok-Some.ensures.so_far told (ap is_reading c.steps.invariant.reading))
+          c.next_into.new.step c.in-Ok-Some.line c.step.new.self c.or_adds_empty-has_empty.result (ap (λ r. given c.next_into.new.step (Ok r)) c.in-Ok-Some.field-0-is) is_good moved c.or_adds_empty-has_empty.ensures scanning in
           front-then (λ bytes. steps_verdict c.args.judge.now false (so_far c.args.reader.now bytes)) (λ bytes. steps_verdict c.steps.judge c.steps.has_empty (so_far c.steps.reader bytes))
-          (λ bytes. steps_verdict c.step.new.self c.or_adds_empty-has_empty.result (so_far c.next.new.self bytes))
+          (λ bytes. steps_verdict c.step.new.self c.or_adds_empty-has_empty.result (so_far c.next_into.new.self bytes))
           (c.steps.invariant.same told) (c.in-Ok-Some.ensures.gives told) (c.steps.invariant.so_far told good.0) good.1;
       reading = gave.reading;
-      reads = OnlyReads-then c.steps.invariant.reads c.next.ensures.reads;
+      reads = OnlyReads-then c.steps.invariant.reads c.next_into.ensures.reads;
       unfailed = c.in-Ok-Some.ensures.unfailed (λ e. cc) ∙ c.steps.invariant.unfailed;
-      beside = c.next.ensures.beside ∙ c.steps.invariant.beside;
-    }
-
-pub steps-preserved-in-None : goal.steps-preserved-in-None
-steps-preserved-in-None g c =
-    let is_good : step_fault c.steps.judge c.in-Ok-Some.step ≡ None = sym c.in_ok-reason-in-Ok-Some.ensures.fault ∙ c.in-None.is in
-    let moved : c.step.new.self ≡ after_step c.steps.judge c.in-Ok-Some.step = search rules in
-    let gave : GaveStep c.in-Ok-Some.line c.steps.reader c.next.new.self = search rules in
-    record {
-      same = λ told.
-          Decides-then _ (c.steps.invariant.same told) (c.in-Ok-Some.ensures.gives told)
-          (λ bytes middle more before gives. before
-          ∙ at_good_step c.steps.judge c.steps.has_empty _ _ _ _ gives c.in-Ok-Some.step c.in-Ok-Some.line c.step.new.self c.or_adds_empty-has_empty.result
-          (ap Ok c.in-Ok-Some.field-0-is) is_good moved c.or_adds_empty-has_empty.ensures);
-      memory = λ told.
-          Decides-then _ (c.steps.invariant.memory told) (c.in-Ok-Some.ensures.gives told)
-          (λ bytes middle more before gives wants. before
-          (later_wants c.steps.judge _ _ _ _ gives c.in-Ok-Some.step c.in-Ok-Some.line c.step.new.self (ap Ok c.in-Ok-Some.field-0-is) is_good moved wants));
-      so_far = λ told scanning.
-          let good = good_so_far c.steps.judge c.steps.has_empty _ c.steps.reader c.next.new.self _ (c.in-Ok-Some.ensures.so_far told (ap is_reading c.steps.invariant.reading))
-          c.in-Ok-Some.step c.in-Ok-Some.line c.step.new.self c.or_adds_empty-has_empty.result (ap Ok c.in-Ok-Some.field-0-is) is_good moved c.or_adds_empty-has_empty.ensures scanning in
-          front-then (λ bytes. steps_verdict c.args.judge.now false (so_far c.args.reader.now bytes)) (λ bytes. steps_verdict c.steps.judge c.steps.has_empty (so_far c.steps.reader bytes))
-          (λ bytes. steps_verdict c.step.new.self c.or_adds_empty-has_empty.result (so_far c.next.new.self bytes))
-          (c.steps.invariant.same told) (c.in-Ok-Some.ensures.gives told) (c.steps.invariant.so_far told good.0) good.1;
-      reading = gave.reading;
-      reads = OnlyReads-then c.steps.invariant.reads c.next.ensures.reads;
-      unfailed = c.in-Ok-Some.ensures.unfailed (λ e. cc) ∙ c.steps.invariant.unfailed;
-      beside = c.next.ensures.beside ∙ c.steps.invariant.beside;
+      beside = c.next_into.ensures.beside ∙ c.steps.invariant.beside;
     }
