@@ -4,6 +4,8 @@ pub mod Stored
 pub mod Totals
 pub mod Counted
 pub mod Walks
+pub mod Kept
+pub mod Indexed
 pub mod GroupFaults
 pub mod Verdicts
 pub mod Turns

@@ -15,7 +15,7 @@ use Rattle.lrat_rules.specs.State.{Live, clause_at}
 use Rattle.lrat_rules.specs.Chain.{FalseSet}
 use Rattle.lrat_rules.specs.Addition.{if_live, holds_negated, is_blocked_by, is_settled}
 use Rattle.lrat_checker.specs.Clauses.{Place, or_else}
-use Rattle.lrat_checker.specs.Walk.{settles, settles_at, has_group}
+use Rattle.lrat_checker.specs.Walk.{passes_at, settles, settles_at, has_group}
 
 -- what is asked of a number is asked of the clause that is live under it
 settled_at : (n : FalseSet) (pivot : ℤ) (groups : List Group) (live : Live) (id : ℕ) → is_settled live n pivot groups id ≡ settles_at n pivot groups id (clause_at live id)
@@ -58,11 +58,6 @@ module _ (live : Live) (n : FalseSet) (pivot : ℤ) (groups : List Group) where
   walk_fails id open_clause = sym (one_fails (is_settled live n pivot groups) id (settled_at n pivot groups live id ∙ open_clause) (finmap.keys live)
       (sym (finmap.contains_key-keys live id) ∙ live_open n pivot groups id (clause_at live id) open_clause))
 
-  -- a clause in the chunks stands there, one in the map only where none stands in the chunks
-  pub both_settle : (id : ℕ) (near far : Place) → settles_at n pivot groups id near ≡ true → settles_at n pivot groups id far ≡ true → settles_at n pivot groups id (or_else near far) ≡ true
-  both_settle id None far e f = f
-  both_settle id (Some clause) far e f = e
-
   pub near_open : (id : ℕ) (near far : Place) → settles_at n pivot groups id near ≡ false → settles_at n pivot groups id (or_else near far) ≡ false
   near_open id None far e = cc
   near_open id (Some clause) far e = e
@@ -72,24 +67,29 @@ module _ (live : Live) (n : FalseSet) (pivot : ℤ) (groups : List Group) where
   far_open id (Some clause) far apart e = let no : true ≡ false = ap (settles_at n pivot groups id) (sym (apart refl)) ∙ e in cc
 
 -- the entries of a map
-module _ (n : FalseSet) (pivot : ℤ) (groups : List Group) where
-  abbrev entry_settles : ℕ × List ℤ → Bool
-  entry_settles entry = settles n pivot groups entry.0 entry.1
+module _ (test : ℕ → List ℤ → Bool) where
+  abbrev entry_passes : ℕ × List ℤ → Bool
+  entry_passes entry = test entry.0 entry.1
 
-  pub one_entry_more : (yielded : List (Bor ℕ × Bor (List ℤ))) (entry : Bor ℕ × Bor (List ℤ)) → list_all entry_settles (map deref_pair yielded) ≡ true → settles n pivot groups entry.0.now entry.1.now ≡ true
-      → list_all entry_settles (map deref_pair (yielded ++ entry ∷ [])) ≡ true
-  one_entry_more yielded entry so_far settled =
-      ap (list_all entry_settles) (map-append deref_pair yielded (entry ∷ [])) ∙ list_all-append entry_settles (map deref_pair yielded) (deref_pair entry ∷ [])
-      ∙ and_from (list_all entry_settles (map deref_pair yielded)) (settles n pivot groups entry.0.now entry.1.now && true) so_far (and_from _ true settled refl)
+  pub one_entry_more : (yielded : List (Bor ℕ × Bor (List ℤ))) (entry : Bor ℕ × Bor (List ℤ)) → list_all entry_passes (map deref_pair yielded) ≡ true → test entry.0.now entry.1.now ≡ true
+      → list_all entry_passes (map deref_pair (yielded ++ entry ∷ [])) ≡ true
+  one_entry_more yielded entry so_far passes =
+      ap (list_all entry_passes) (map-append deref_pair yielded (entry ∷ [])) ∙ list_all-append entry_passes (map deref_pair yielded) (deref_pair entry ∷ [])
+      ∙ and_from (list_all entry_passes (map deref_pair yielded)) (test entry.0.now entry.1.now && true) so_far (and_from _ true passes refl)
 
-  pub entries_settle : (entries : List (ℕ × List ℤ)) → list_all entry_settles entries ≡ true → (id : ℕ) → settles_at n pivot groups id (lookup (nat_eq id) entries) ≡ true
-  entries_settle [] all id = refl
-  entries_settle (entry ∷ entries) all id =
-      let parts = and_parts (entry_settles entry) (list_all entry_settles entries) all in
-      elim (nat_eq id entry.0) as (λ b. nat_eq id entry.0 ≡ b → settles_at n pivot groups id (cond b (Some entry.1) (lookup (nat_eq id) entries)) ≡ true) [
-        | true ↦ λ same. ap (λ k. settles n pivot groups k entry.1) (exact_unsigned_eq id entry.0 same) ∙ parts.0
-        | false ↦ λ other. entries_settle entries parts.1 id
+  pub entries_pass : (entries : List (ℕ × List ℤ)) → list_all entry_passes entries ≡ true → (id : ℕ) → passes_at test id (lookup (nat_eq id) entries) ≡ true
+  entries_pass [] all id = refl
+  entries_pass (entry ∷ entries) all id =
+      let parts = and_parts (entry_passes entry) (list_all entry_passes entries) all in
+      elim (nat_eq id entry.0) as (λ b. nat_eq id entry.0 ≡ b → passes_at test id (cond b (Some entry.1) (lookup (nat_eq id) entries)) ≡ true) [
+        | true ↦ λ same. ap (λ k. test k entry.1) (exact_unsigned_eq id entry.0 same) ∙ parts.0
+        | false ↦ λ other. entries_pass entries parts.1 id
       ] refl
+
+  -- a clause in the chunks stands there, one in the map only where none stands in the chunks
+  pub both_pass : (id : ℕ) (near far : Place) → passes_at test id near ≡ true → passes_at test id far ≡ true → passes_at test id (or_else near far) ≡ true
+  both_pass id None far e f = f
+  both_pass id (Some clause) far e f = e
 
 -- a test and what it decides
 pub decided : (result whole : Bool) → (result ≡ true → true ≡ whole) → (result ≡ false → false ≡ whole) → result ≡ whole

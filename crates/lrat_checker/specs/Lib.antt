@@ -1,6 +1,7 @@
 pub mod Walk
 pub mod Clauses
 pub mod Counts
+pub mod Holders
 pub mod Ends
 pub mod TextVerdict
 pub mod Memory

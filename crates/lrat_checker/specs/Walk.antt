@@ -15,10 +15,14 @@ has_group groups id = list_any (λ group. group.id == id) groups
 abbrev pub settles : FalseSet → ℤ → List Group → ℕ → List ℤ → Bool
 settles n pivot groups id clause = not (holds_negated pivot clause) || is_blocked_by n pivot clause || has_group groups id
 
+-- what is asked of a number and its clause, where it has one
+abbrev pub passes_at : (ℕ → List ℤ → Bool) → ℕ → Option (List ℤ) → Bool
+passes_at test id None = true
+passes_at test id (Some clause) = test id clause
+
 -- the same of the clause that is live under this number, if any
 abbrev pub settles_at : FalseSet → ℤ → List Group → ℕ → Option (List ℤ) → Bool
-settles_at n pivot groups id None = true
-settles_at n pivot groups id (Some clause) = settles n pivot groups id clause
+settles_at n pivot groups id place = passes_at (settles n pivot groups) id place
 
 -- 1 where the number passes the test
 abbrev pub one_where : (ℕ → Bool) → ℕ → ℕ

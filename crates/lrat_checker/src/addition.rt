@@ -14,7 +14,7 @@ use lrat_rules::{Chain, Reason};
 
 /// Why the addition of this clause under this number isn't good, if it isn't.
 pub fn addition_fault(
-    live: &LiveClauses,
+    live: &mut LiveClauses,
     top: Id,
     chain: &mut Chain,
     id: Id,
@@ -22,9 +22,10 @@ pub fn addition_fault(
     hints: &[Id],
     groups: &[Group],
 ) -> Result<Option<Reason>, OutOfMemory>
-    ensures fault { IfOk result (λ answer. answer ≡ fault (record { live = live.now; top = top }) id clause.now hints.now groups.now) }
+    ensures fault { IfOk result (λ answer. answer ≡ fault (record { live = live.old; top = top }) id clause.now hints.now groups.now) }
     ensures number { OnErr result (top < id) }
-    ensures memory { OnErr result (IsTrue (judging_keeps live.now clause.now hints.now)) }
+    ensures memory { OnErr result (IsTrue (judging_keeps live.old clause.now hints.now)) }
+    ensures same { live.new ≡ live.old }
 {
     if id.get() <= top.get() {
         return Ok(Some(Reason::IdNotGreater));
@@ -36,15 +37,16 @@ pub fn addition_fault(
 
 // After the addition's own hints.
 fn fault_after_hints(
-    live: &LiveClauses,
+    live: &mut LiveClauses,
     chain: &mut Chain,
     clause: &[Lit],
     groups: &[Group],
     end: HintsEnd,
 ) -> Result<Option<Reason>, OutOfMemory>
     requires { before_of chain.old ≡ None }
-    ensures fault { IfOk result (λ answer. answer ≡ fault_after_hints live.now clause.now groups.now (outcome_at (set_of chain.old) end)) }
-    ensures memory { OnErr result (IsTrue (kept_after_hints live.now clause.now groups.now (outcome_at (set_of chain.old) end))) }
+    ensures fault { IfOk result (λ answer. answer ≡ fault_after_hints live.old clause.now groups.now (outcome_at (set_of chain.old) end)) }
+    ensures memory { OnErr result (IsTrue (kept_after_hints live.old clause.now groups.now (outcome_at (set_of chain.old) end))) }
+    ensures same { live.new ≡ live.old }
 {
     match end {
         HintsEnd::BadHint(reason) => Ok(Some(reason)),

@@ -1,7 +1,8 @@
 // The candidates of an addition: the live clauses with the pivot's negation. Each has to be blocked or to have a group.
 ghost use Rattle.std.specs.Prelude.{◌≡◌, ◌&&◌, ◌||◌, ◌==◌, nat_lt};
-ghost use Rattle.std.specs.List.{list_any};
+ghost use Rattle.std.specs.List.{list_any, list_all};
 ghost use Rattle.std.specs.Option.{option_copied};
+ghost use Rattle.lrat_rules.specs.State.{clause_at};
 ghost use Rattle.lrat_rules.specs.Addition.{is_candidate, holds_negated};
 ghost use Rattle.lrat_rules.specs.FalseLiterals.{set_of, before_of};
 ghost use Rattle.lrat_checker.specs.Walk.{settles, settles_at, has_group, IsCountOfNamed};
@@ -45,6 +46,33 @@ fn holds_negated(clause: &[Lit], pivot: Lit) -> bool
     ensures { result ≡ holds_negated pivot clause.now }
 {
     clause.contains(&pivot.negated())
+}
+
+/// Whether each of these numbers is of no live clause or of one that settles.
+pub fn each_settled(
+    clauses: &Clauses,
+    chain: &Chain,
+    pivot: Lit,
+    groups: &[Group],
+    numbers: &[u64],
+) -> bool
+    requires { before_of chain.now ≡ None }
+    ensures { result ≡ list_all (λ number. settles_at (set_of chain.now) pivot groups.now number (clause_at clauses.now number)) numbers.now }
+{
+    numbers.iter().all(|number| settles_number(clauses, chain, pivot, groups, *number))
+}
+
+fn settles_number(
+    clauses: &Clauses,
+    chain: &Chain,
+    pivot: Lit,
+    groups: &[Group],
+    number: u64,
+) -> bool
+    requires { before_of chain.now ≡ None }
+    ensures { result ≡ settles_at (set_of chain.now) pivot groups.now number (clause_at clauses.now number) }
+{
+    settles_place(chain, pivot, groups, number, clauses.get(Id(number)))
 }
 
 /// A place under which no clause stands, or one that settles.

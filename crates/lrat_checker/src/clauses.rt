@@ -10,11 +10,13 @@ ghost use Rattle.lrat_rules.specs.State.{clause_at, with_clause};
 ghost use Rattle.lrat_rules.specs.Addition.{is_settled};
 ghost use Rattle.lrat_rules.specs.FalseLiterals.{set_of, before_of};
 ghost use Rattle.lrat_checker.specs.Clauses.{near_at, clause_in};
-ghost use Rattle.lrat_checker.specs.Walk.{settles_at};
+ghost use Rattle.lrat_checker.specs.Holders.{KeepsAll, IsIndexOf, is_entered};
+ghost use Rattle.lrat_checker.specs.Walk.{passes_at, settles_at};
 
 use crate::candidates::{settles_clause, settles_place};
 use crate::chunk::Chunk;
 use crate::clause::Clause;
+use crate::holders::Holders;
 use crate::slot::Slot;
 use cnf_base::{Group, Id, Lit, OutOfMemory};
 use lrat_rules::Chain;
@@ -147,6 +149,19 @@ impl Clauses {
         far_settled(&self.far, chain, pivot, groups)
     }
 
+    /// Enters all clauses in lists that lose no number thereby.
+    pub fn enter_all(&self, holders: &mut Holders) -> Result<(), OutOfMemory>
+        ensures { OnOk result (IsIndexOf holders.new self.now) }
+    {
+        let chunks = self.chunks.as_slice();
+        let places = (chunks.len() as u64).saturating_mul(128);
+        enter_near(holders, self.alloc, chunks, places)?;
+        // (for the number that no bound has below it)
+        enter_place(holders, self.alloc, self.top, near_clause(chunks, self.top))?;
+        enter_far(holders, self.alloc, &self.far)?;
+        Ok(())
+    }
+
     /// Takes out the clause of a number, where it is live.
     pub fn remove(&mut self, id: Id)
         ensures { self.new ≡ map.remove self.old id }
@@ -257,4 +272,51 @@ fn far_settled(far: &HashMap<u64, Clause>, chain: &Chain, pivot: Lit, groups: &[
         }
     }
     true
+}
+
+// Enters the clauses of the numbers below a bound, in the chunks.
+fn enter_near(
+    holders: &mut Holders,
+    alloc: Global,
+    chunks: &[Chunk],
+    bound: u64,
+) -> Result<(), OutOfMemory>
+    ensures kept { KeepsAll holders.old holders.new }
+    ensures entered { OnOk result ((n : ℕ) → n < bound → passes_at (is_entered holders.new) n (near_at chunks.now n) ≡ true) }
+{
+    for number in 0..bound {
+        enter_place(holders, alloc, number, near_clause(chunks, number))?;
+    }
+    Ok(())
+}
+
+// Enters what stands at a place.
+fn enter_place(
+    holders: &mut Holders,
+    alloc: Global,
+    number: u64,
+    clause: Option<&[Lit]>,
+) -> Result<(), OutOfMemory>
+    ensures kept { KeepsAll holders.old holders.new }
+    ensures entered { OnOk result (passes_at (is_entered holders.new) number (option_copied clause.entry) ≡ true) }
+{
+    match clause {
+        None => Ok(()),
+        Some(clause) => holders.enter(alloc, number, clause),
+    }
+}
+
+// Enters the clauses in the map.
+fn enter_far(
+    holders: &mut Holders,
+    alloc: Global,
+    far: &HashMap<u64, Clause>,
+) -> Result<(), OutOfMemory>
+    ensures kept { KeepsAll holders.old holders.new }
+    ensures entered { OnOk result ((n : ℕ) → passes_at (is_entered holders.new) n (get nat_eq far.now n) ≡ true) }
+{
+    for (number, clause) in far {
+        holders.enter(alloc, *number, clause.literals())?;
+    }
+    Ok(())
 }

@@ -13,14 +13,15 @@ use lrat_rules::{Chain, Reason};
 
 /// The first fault of the groups in turn, or else that a candidate is neither blocked nor named by a group.
 pub fn resolvents_fault(
-    live: &LiveClauses,
+    live: &mut LiveClauses,
     chain: &mut Chain,
     pivot: Lit,
     groups: &[Group],
 ) -> Result<Option<Reason>, OutOfMemory>
     requires { before_of chain.old ≡ None }
-    ensures fault { IfOk result (λ fault. fault ≡ resolvents_fault live.now (set_of chain.old) pivot groups.now) }
-    ensures memory { OnErr result (IsTrue (groups_keep live.now (set_of chain.old) pivot groups.now)) }
+    ensures fault { IfOk result (λ fault. fault ≡ resolvents_fault live.old (set_of chain.old) pivot groups.now) }
+    ensures memory { OnErr result (IsTrue (groups_keep live.old (set_of chain.old) pivot groups.now)) }
+    ensures same { live.new ≡ live.old }
 {
     if let Some(reason) = groups_fault(live, chain, pivot, groups)? {
         return Ok(Some(reason));

@@ -89,7 +89,7 @@ impl Judge {
         ensures memory { OnErr result (IsTrue (may_want_memory self.old (Add id clause.now hints.now groups.now))) }
     {
         let fault = addition_fault(
-            &self.live,
+            &mut self.live,
             self.top,
             &mut self.chain,
             id,

@@ -1,17 +1,21 @@
 // The live clauses by their numbers, with how often each literal stands in them. An addition whose groups name as many candidates
-// as the pivot's negation stands in clauses has named them all; only else the live clauses are looked through.
-ghost use Rattle.std.specs.Prelude.{◌≡◌, ◌-◌, ℤ, None, OnOk, OnErr};
+// as the pivot's negation stands in clauses has named them all. Once that doesn't suffice, lists are made that tell in which
+// clauses a literal stands, and kept from then on; so proofs that name their candidates pay for no list.
+ghost use Rattle.std.specs.Prelude.{◌≡◌, ◌-◌, ℤ, true, None, OnOk, OnErr, IsTrue};
 ghost use Rattle.std.specs.List.{list_all};
 ghost use Rattle.std.specs.Option.{option_copied};
 ghost use Rattle.std.specs.FinMap as map;
 ghost use Rattle.lrat_rules.specs.State.{clause_at, with_clause, without_clauses};
+ghost use Rattle.lrat_rules.specs.Chain.{FalseSet};
 ghost use Rattle.lrat_rules.specs.Addition.{is_settled};
 ghost use Rattle.lrat_rules.specs.FalseLiterals.{set_of, before_of};
 ghost use Rattle.lrat_checker.specs.Counts.{count_of, times_at};
+ghost use Rattle.lrat_checker.specs.Holders.{KeepsAll, KeepsAllLive, is_entered};
 
-use crate::candidates::named_candidates;
+use crate::candidates::{each_settled, named_candidates};
 use crate::clauses::Clauses;
 use crate::counts::Counts;
+use crate::holders::Holders;
 use cnf_base::{Group, Id, Lit, OutOfMemory};
 use lrat_rules::Chain;
 use std::alloc::Global;
@@ -20,8 +24,11 @@ use std::marker::Model;
 /// The live clauses.
 #[derive(Debug, Drop)]
 pub struct LiveClauses {
+    alloc: Global,
     clauses: Clauses,
     counts: Counts,
+    holders: Holders,
+    indexed: bool,
 }
 
 impl Model for LiveClauses {
@@ -29,7 +36,7 @@ impl Model for LiveClauses {
     ghost use Rattle.std.specs.Ordering.{nat_cmp};
     ghost use Rattle.std.specs.Coded.{coded_ℕ, coded_ℤ, coded_list};
     ghost use Rattle.std.specs.FinMap as map;
-    ghost use Rattle.lrat_checker.specs.Counts.{AreCounted};
+    ghost use Rattle.lrat_checker.specs.Holders.{AreFound};
 
     ghost Value = { map.FinMap nat_cmp (List ℤ) };
 
@@ -37,7 +44,7 @@ impl Model for LiveClauses {
 
     ghost view = { λ live. live.clauses };
 
-    ghost invariant = { λ live. AreCounted live.counts live.clauses };
+    ghost invariant = { λ live. AreFound live.counts live.holders live.indexed live.clauses };
 }
 
 impl LiveClauses {
@@ -46,8 +53,11 @@ impl LiveClauses {
         ensures { result ≡ map.empty }
     {
         LiveClauses {
+            alloc,
             clauses: Clauses::new(alloc),
             counts: Counts::new(alloc),
+            holders: Holders::new(alloc),
+            indexed: false,
         }
     }
 
@@ -64,6 +74,7 @@ impl LiveClauses {
         ensures err { OnErr result (self.new ≡ self.old) }
     {
         self.counts.enter(literals)?;
+        enter(&mut self.holders, self.indexed, self.alloc, id, literals)?;
         self.clauses.insert(id, literals)?;
         Ok(())
     }
@@ -80,26 +91,92 @@ impl LiveClauses {
     fn remove(&mut self, id: Id)
         ensures { self.new ≡ map.remove self.old id }
     {
-        leave(&mut self.counts, &self.clauses, id);
+        lower(&mut self.counts, &self.clauses, id);
+        leave(&mut self.holders, self.indexed, &self.clauses, id);
         self.clauses.remove(id);
     }
 
     /// Whether each candidate of the pivot is blocked or has a group.
-    pub fn all_settled(&self, chain: &Chain, pivot: Lit, groups: &[Group]) -> bool
+    pub fn all_settled(&mut self, chain: &Chain, pivot: Lit, groups: &[Group]) -> bool
         requires { before_of chain.now ≡ None }
-        ensures { result ≡ list_all (is_settled self.now (set_of chain.now) pivot groups.now) (map.keys self.now) }
+        ensures settled { result ≡ list_all (is_settled self.old (set_of chain.now) pivot groups.now) (map.keys self.old) }
+        ensures same { self.new ≡ self.old }
+    {
+        if self.all_named(pivot, groups) {
+            return true;
+        }
+        self.index();
+        self.walk(chain, pivot, groups)
+    }
+
+    // Whether the groups name as many candidates as the pivot's negation stands in clauses.
+    fn all_named(&self, pivot: Lit, groups: &[Group]) -> bool
+        ensures { IsTrue result → (n : FalseSet) → true ≡ list_all (is_settled self.now n pivot groups.now) (map.keys self.now) }
     {
         let named = named_candidates(&self.clauses, pivot, groups);
         self.counts.of(pivot.negated()) as usize <= named
-            || self.clauses.all_settled(chain, pivot, groups)
+    }
+
+    // Makes the lists, unless they are there or memory is wanted.
+    fn index(&mut self)
+        ensures { self.new ≡ self.old }
+    {
+        if !self.indexed {
+            let mut holders = Holders::new(self.alloc);
+            if self.clauses.enter_all(&mut holders).is_ok() {
+                self.holders = holders;
+                self.indexed = true;
+            }
+        }
+    }
+
+    // The walk over the clauses that hold the pivot's negation, or without lists over all.
+    fn walk(&self, chain: &Chain, pivot: Lit, groups: &[Group]) -> bool
+        requires { before_of chain.now ≡ None }
+        ensures { result ≡ list_all (is_settled self.now (set_of chain.now) pivot groups.now) (map.keys self.now) }
+    {
+        if self.indexed {
+            let numbers = self.holders.numbers(pivot.negated());
+            each_settled(&self.clauses, chain, pivot, groups, numbers)
+        } else {
+            self.clauses.all_settled(chain, pivot, groups)
+        }
     }
 }
 
+// The number is entered, where there are lists.
+fn enter(
+    holders: &mut Holders,
+    indexed: bool,
+    alloc: Global,
+    id: Id,
+    literals: &[Lit],
+) -> Result<(), OutOfMemory>
+    ensures kept { KeepsAll holders.old holders.new }
+    ensures entered { OnOk result (IsTrue indexed → is_entered holders.new id literals.now ≡ true) }
+{
+    if indexed {
+        holders.enter(alloc, id.get(), literals)?;
+    }
+    Ok(())
+}
+
 // The counts of the literals of this number's clause fall.
-fn leave(counts: &mut Counts, clauses: &Clauses, id: Id)
+fn lower(counts: &mut Counts, clauses: &Clauses, id: Id)
     ensures { (x : ℤ) → count_of counts.new x ≡ count_of counts.old x - times_at x (clause_at clauses.now id) }
 {
     if let Some(literals) = clauses.get(id) {
         counts.leave(literals);
+    }
+}
+
+// This number's clause goes, so its lists lose it in time.
+fn leave(holders: &mut Holders, indexed: bool, clauses: &Clauses, id: Id)
+    ensures { KeepsAllLive (map.remove clauses.now id) holders.old holders.new }
+{
+    if indexed {
+        if let Some(literals) = clauses.get(id) {
+            holders.leave(clauses, id.get(), literals);
+        }
     }
 }

@@ -5,7 +5,7 @@ use Rattle.std.specs.Map.Iter.{deref_pair}
 use Rattle.std.proofs.lemmas.Map.Iter.{hash_map_turn, iter_end}
 use Rattle.lrat_rules.specs.FalseLiterals.{set_of}
 use Rattle.lrat_checker.specs.Walk.{settles, settles_at}
-use Rattle.lrat_checker.proofs.Walks.{entries_settle, one_entry_more}
+use Rattle.lrat_checker.proofs.Walks.{entries_pass, one_entry_more}
 use Rattle.lrat_checker.proofs.clauses.far_settled.Goals as goal
 
 pub returns-then-not-settles_clause-clause-open : goal.returns-then-not-settles_clause-clause-open
@@ -22,10 +22,10 @@ loop-number-preserved c =
     let n = set_of c.args.chain.now in
     let settled : settles n c.args.pivot c.args.groups.now c.in-Some.number.now c.in-Some.clause.now ≡ true =
     ap (settles n c.args.pivot c.args.groups.now c.in-Some.number.now) (sym c.literals.ensures) ∙ sym c.settles_clause.ensures ∙ c.if-not-settles_clause.false in
-    one_entry_more n c.args.pivot c.args.groups.now c.loop-number.yielded (c.in-Some.number, c.in-Some.clause) c.loop-number.invariant settled
+    one_entry_more (settles n c.args.pivot c.args.groups.now) c.loop-number.yielded (c.in-Some.number, c.in-Some.clause) c.loop-number.invariant settled
 
 pub returns-clause-settled : goal.returns-clause-settled
 returns-clause-settled c = λ _ number.
     let all : map deref_pair c.loop-number.yielded ≡ c.args.far.now.entries = search (rules, iter_end) in
-    entries_settle (set_of c.args.chain.now) c.args.pivot c.args.groups.now c.args.far.now.entries
+    entries_pass (settles (set_of c.args.chain.now) c.args.pivot c.args.groups.now) c.args.far.now.entries
     (ap (list_all (λ entry. settles (set_of c.args.chain.now) c.args.pivot c.args.groups.now entry.0 entry.1)) (sym all) ∙ c.loop-number.invariant) number

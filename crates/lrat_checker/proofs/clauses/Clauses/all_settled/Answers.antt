@@ -9,10 +9,10 @@ use Rattle.lrat_rules.specs.Addition.{is_settled}
 use Rattle.lrat_rules.specs.FalseLiterals.{set_of}
 use Rattle.lrat_rules.specs.State.{clause_at}
 use Rattle.lrat_checker.specs.Clauses.{near_at, stands_at, live_below}
-use Rattle.lrat_checker.specs.Walk.{settles_at}
+use Rattle.lrat_checker.specs.Walk.{settles, settles_at}
 use Rattle.lrat_checker.proofs.Chunks.{near_beyond}
 use Rattle.lrat_checker.proofs.Stored.{stands_live, near_none}
-use Rattle.lrat_checker.proofs.Walks.{walk_passes, walk_fails, both_settle, near_open, far_open, decided}
+use Rattle.lrat_checker.proofs.Walks.{walk_passes, walk_fails, both_pass, near_open, far_open, decided}
 use Rattle.lrat_checker.proofs.clauses.Clauses.all_settled.Goals as goal
 
 pub returns-then-not-near_settled : goal.returns-then-not-near_settled
@@ -67,7 +67,7 @@ returns c =
       ]
     ] in
     rw (← c.self.view_is) (decided c.far_settled.result (list_all (is_settled live n pivot groups) (finmap.keys live))
-    (λ passes. walk_passes live n pivot groups (λ id. ap (settles_at n pivot groups id) (stands id) ∙ both_settle live n pivot groups id (near id) (far id) (near_settles id) (c.far_settled.ensures.settled passes id)))
+    (λ passes. walk_passes live n pivot groups (λ id. ap (settles_at n pivot groups id) (stands id) ∙ both_pass (settles n pivot groups) id (near id) (far id) (near_settles id) (c.far_settled.ensures.settled passes id)))
     (λ fails. let open_clause = c.far_settled.ensures.open fails in
     walk_fails live n pivot groups open_clause.0 (ap (settles_at n pivot groups open_clause.0) (stands open_clause.0)
     ∙ far_open live n pivot groups open_clause.0 (near open_clause.0) (far open_clause.0) (c.self.invariant.apart open_clause.0) open_clause.1)))
