@@ -1,5 +1,5 @@
 """The texts of docs/FORMATS.md as the scripts beside it read and judge them, apart from the program: a formula, an order, a schedule, a
-proof; the first refusal, with its line; and the text that tells values. It follows the tables of that page and is made to be read, not fast.
+proof; the first refusal, with its line; and the text that tells values. It follows the tables of that page, and isn't made to be fast.
 """
 import itertools
 import re
