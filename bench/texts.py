@@ -1,0 +1,246 @@
+"""The texts of docs/FORMATS.md as the scripts beside it read and judge them, apart from the program: a formula, an order, a schedule, a
+proof; the first refusal, with its line; and the text that tells values. It follows the tables of that page, and isn't made to be fast.
+"""
+import itertools
+import re
+
+from terms import AND, EXISTS, PUSH
+
+MOST_VARIABLES, MOST_CLAUSES, MOST_LITERALS = 1_000_000, 10_000_000, 100_000_000
+MOST_LITERAL, MOST_ID = 2_147_483_647, 999_999_999_999_999_999
+
+
+class Refused(Exception):
+    """What a text is refused for, and the line."""
+
+    def __init__(self, kind, line):
+        super().__init__(kind, line)
+        self.kind, self.line = kind, line
+
+
+def rows(text, comment):
+    """The lines that have a token and are no comment, with their numbers."""
+    tokens = ((number, re.findall(rb"[^ \t\r\n]+", line)) for number, line in enumerate(text.split(b"\n"), 1))
+    return [(number, row) for number, row in tokens if row and not row[0].startswith(comment)]
+
+
+def end_of(text):
+    return text.count(b"\n") + 1
+
+
+def plain(token):
+    return int(token) if len(token) <= 64 and re.fullmatch(rb"[0-9]+", token) else None
+
+
+def signed(token):
+    if len(token) > 64 or not re.fullmatch(rb"-?[0-9]+", token):
+        return None
+    return None if token.startswith(b"-") and not int(token) else int(token)
+
+
+def all_given(numbers):
+    return None if None in numbers else numbers
+
+
+def cnf(text, is_lax):
+    """The number of variables and the clauses."""
+    end = end_of(text)
+    tokens = iter([(token, line) for line, row in rows(text, b"c") for token in row])
+    token, line = next(tokens, (b"", end))
+    if token != b"p":
+        raise Refused("NoHeader", line)
+    token, line = next(tokens, (b"", end))
+    if token != b"cnf":
+        raise Refused("BadHeader", line)
+    sizes = []
+    for most in MOST_VARIABLES, MOST_CLAUSES:
+        token, line = next(tokens, (b"", end))
+        sizes.append(plain(token))
+        if sizes[-1] is None:
+            raise Refused("BadHeader", line)
+        if sizes[-1] > most:
+            raise Refused("Limit", line)
+    variables, announced = sizes
+    clauses, clause, literals = [], [], 0
+    for token, line in tokens:
+        if token == b"%":
+            break
+        number = signed(token)
+        if number is None:
+            raise Refused("BadToken", line)
+        if len(clauses) == (MOST_CLAUSES if is_lax else announced):
+            raise Refused("Limit" if is_lax else "TooManyClauses", line)
+        if abs(number) > variables:
+            raise Refused("LiteralRange", line)
+        if number:
+            literals += 1
+            if literals > MOST_LITERALS:
+                raise Refused("Limit", line)
+            clause.append(number)
+        else:
+            clauses.append(clause)
+            clause = []
+    else:
+        line = end
+    if is_lax:
+        return variables, clauses + ([clause] if clause else [])
+    if clause:
+        raise Refused("NoEndingZero", line)
+    if len(clauses) < announced:
+        raise Refused("ClauseMissing", line)
+    return variables, clauses
+
+
+def order(text, variables):
+    found, seen = [], set()
+    for line, row in rows(text, b"#"):
+        for token in row:
+            number = plain(token)
+            if number is None:
+                raise Refused("BadNumber", line)
+            if not 1 <= number <= variables:
+                raise Refused("Range", line)
+            if number in seen:
+                raise Refused("Repeated", line)
+            found.append(number)
+            seen.add(number)
+    if len(found) < variables:
+        raise Refused("Missing", end_of(text))
+    return found
+
+
+def command(row):
+    """The moves of a line, as the plan's letter and number, or None where it is no command."""
+    word, numbers = row[0], all_given([plain(token) for token in row[1:]])
+    if not numbers or word not in (b"c", b"a", b"q"):
+        return None
+    if word == b"a":
+        return None if len(numbers) > 1 or numbers[0] < 2 else itertools.repeat((AND, None), min(numbers[0] - 1, MOST_CLAUSES))
+    return [(PUSH if word == b"c" else EXISTS, number) for number in numbers]
+
+
+def schedule(text, variables, clauses):
+    """The moves, clauses by their place from 0 on."""
+    moves, stack, pushed = [], [], set()
+    for line, row in rows(text, b"#"):
+        taken = command(row)
+        if taken is None:
+            raise Refused("Syntax", line)
+        for move, number in taken:
+            if move == PUSH:
+                if not 1 <= number <= len(clauses):
+                    raise Refused("ClauseRange", line)
+                if number in pushed:
+                    raise Refused("ClauseTwice", line)
+                pushed.add(number)
+                stack.append({abs(it) for it in clauses[number - 1]})
+                number -= 1
+            elif move == AND:
+                if len(stack) < 2:
+                    raise Refused("StackShort", line)
+                stack.append(stack.pop() | stack.pop())
+            else:
+                if not stack:
+                    raise Refused("StackShort", line)
+                if not 1 <= number <= variables:
+                    raise Refused("VariableRange", line)
+                later = ({abs(it) for it in clause} for at, clause in enumerate(clauses, 1) if at not in pushed)
+                if any(number in held for held in [*stack[:-1], *later]):
+                    raise Refused("VariableInUse", line)
+                stack[-1] = stack[-1] - {number}
+            moves.append((move, number))
+    if len(pushed) < len(clauses):
+        raise Refused("ClauseUnused", end_of(text))
+    if len(stack) > 1:
+        raise Refused("TermsLeft", end_of(text))
+    return moves
+
+
+def step(row):
+    """An addition as its number, literals, hints and groups; a deletion as its numbers; or None where the line is no step."""
+    number = plain(row[0])
+    if number is None or number > MOST_ID or len(row) < 2:
+        return None
+    if row[1] == b"d":
+        numbers = all_given([plain(token) for token in row[2:]])
+        if not numbers or numbers.count(0) != 1 or numbers[-1] or max(numbers) > MOST_ID:
+            return None
+        return numbers[:-1]
+    numbers = all_given([signed(token) for token in row[1:]])
+    if not number or not numbers or numbers.count(0) != 2 or numbers[-1]:
+        return None
+    cut = numbers.index(0)
+    literals, hints = numbers[:cut], numbers[cut + 1 : -1]
+    if any(abs(it) > MOST_LITERAL for it in literals) or any(abs(it) > MOST_ID for it in hints):
+        return None
+    starts = [at for at, hint in enumerate(hints) if hint < 0] + [len(hints)]
+    groups = [(-hints[start], hints[start + 1 : end]) for start, end in zip(starts, starts[1:])]
+    return number, literals, hints[: starts[0]], groups
+
+
+def effect(live, false, hints):
+    """Adds to the false literals what the hints force. True where they reach a conflict, None where not, or what is wrong with one."""
+    for hint in hints:
+        if hint not in live:
+            return "HintNotLive"
+        rest = set(live[hint]) - false
+        if not rest:
+            return True
+        if len(rest) > 1:
+            return "HintNotUnit"
+        false.add(-rest.pop())
+    return None
+
+
+def fault(live, top, number, clause, hints, groups):
+    """Why an addition is bad, or None."""
+    if number <= top:
+        return "IdNotGreater"
+    false = set(clause)
+    outcome = effect(live, false, hints)
+    if outcome:
+        return None if outcome is True else outcome
+    if not clause:
+        return "NoConflict"
+    pivot = clause[0]
+    candidates = {it: set(live[it]) - {-pivot} for it in live if -pivot in live[it]}
+    blocked = {it for it, others in candidates.items() if any(-literal in false for literal in others)}
+    for candidate, own in groups:
+        if candidate not in candidates:
+            return "GroupStray"
+        if candidate not in blocked:
+            outcome = effect(live, false | candidates[candidate], own)
+            if outcome is not True:
+                return outcome or "CandidateOpen"
+    return "CandidateOpen" if set(candidates) - blocked - {candidate for candidate, _ in groups} else None
+
+
+def verdict(text, clauses):
+    """None where the proof is verified; else the line and the reason of its refusal."""
+    live, top, has_empty = dict(enumerate(clauses, 1)), len(clauses), False
+    for line, row in rows(text, b"c"):
+        taken = step(row)
+        if taken is None:
+            return line, "Syntax"
+        if isinstance(taken, list):
+            for number in taken:
+                live.pop(number, None)
+            continue
+        number, clause, hints, groups = taken
+        reason = fault(live, top, number, clause, hints, groups)
+        if reason:
+            return line, reason
+        live[number], top, has_empty = clause, number, has_empty or not clause
+    return None if has_empty else (end_of(text), "NoEmptyClause")
+
+
+def satisfiable(values):
+    """The answer with these values: lines of at most 78 bytes, each as full as it can be."""
+    lines, line = ["s SATISFIABLE"], "v"
+    for value in [*values, 0]:
+        word = str(value)
+        if len(line) + 1 + len(word) > 78:
+            lines.append(line)
+            line = "v"
+        line += " " + word
+    return "\n".join([*lines, line, ""]).encode()
