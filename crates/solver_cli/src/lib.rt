@@ -21,8 +21,8 @@ mod verdict;
 
 pub use answer::Shape;
 pub use command_line::{
-    Asked, BenchTask, FileNames, MakeTask, Part, PlanName, PlanSource, Refusal, SolveTask, gather,
-    read_words,
+    Asked, BenchTask, CheckTask, FileNames, MakeTask, Part, PlanName, PlanSource, Refusal,
+    SolveTask, gather, read_words,
 };
 pub use complaint::complain;
 pub use laws::solve_then_check_law;
