@@ -5,3 +5,4 @@ pub mod Lines
 pub mod Overlong
 pub mod Settled
 pub mod SoFar
+pub mod GoesOn

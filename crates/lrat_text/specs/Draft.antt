@@ -1,6 +1,6 @@
 -- A line as it is read: which kind of step it is, its first number, and the numbers behind, nothing where a token or
 -- the first one is none.
-use Rattle.std.specs.Prelude.{ℕ, Bool, true, false, ℤ, List, [], ◌∷◌, ◌++◌, Option, None, Some, is_some, nat_lt, ◌==◌, if◌then◌else◌}
+use Rattle.std.specs.Prelude.{ℕ, Bool, true, false, ℤ, pos, negsuc, List, [], ◌∷◌, ◌++◌, Option, None, Some, is_some, nat_lt, ◌==◌, if◌then◌else◌}
 use Rattle.std.specs.Option.{option_map, option_and_then}
 use Rattle.cnf_base.specs.declared.step.Step.{Step}
 use Rattle.cnf_base.specs.Number.{plain_number}
@@ -33,6 +33,14 @@ draft_from line id = record { line = line; kind = Begun; id = id; numbers = behi
 abbrev pub draft_of_word : Word → DraftLine
 draft_of_word word = draft_from word.line (option_map capped (plain_number word.bytes))
 
+-- the line that begins with a token that spells this number
+abbrev pub first_number : ℤ → Option ℕ
+first_number (pos n) = Some n
+first_number (negsuc n) = None
+
+abbrev pub draft_of_number : ℕ → ℤ → DraftLine
+draft_of_number line number = draft_from line (first_number number)
+
 -- one more number behind
 abbrev pub with_given : Option (List ℤ) → Option ℤ → Option (List ℤ)
 with_given None number = None
@@ -52,6 +60,20 @@ draft_with_in Deletes draft word = draft_as draft Deletes (with_given draft.numb
 
 abbrev pub draft_with : DraftLine → Word → DraftLine
 draft_with draft word = draft_with_in draft.kind draft word
+
+-- one more token behind the first, which spells this number
+abbrev pub unsigned : ℤ → Option ℤ
+unsigned (pos n) = Some (pos n)
+unsigned (negsuc n) = None
+
+abbrev pub draft_with_number_in : Kind → DraftLine → ℤ → DraftLine
+draft_with_number_in Empty draft number = draft
+draft_with_number_in Begun draft number = draft_as draft Adds (with_given draft.numbers (Some number))
+draft_with_number_in Adds draft number = draft_as draft Adds (with_given draft.numbers (Some number))
+draft_with_number_in Deletes draft number = draft_as draft Deletes (with_given draft.numbers (unsigned number))
+
+abbrev pub draft_with_number : DraftLine → ℤ → DraftLine
+draft_with_number draft number = draft_with_number_in draft.kind draft number
 
 -- all of its tokens so far are numbers
 abbrev pub has_numbers : DraftLine → Bool

@@ -1,7 +1,7 @@
 -- A reader of steps as its callers see it, and what a call gives.
-use Rattle.std.specs.Prelude.{◌≡◌, ℕ, ◌+◌, ◌<◌, Bool, true, false, List, ◌++◌, Option, None, Some, is_some, Result, Ok, Err, IsTrue, ⊤, ◌&&◌, nat_lt, if◌then◌else◌}
+use Rattle.std.specs.Prelude.{◌≡◌, ◌≢◌, ℕ, ℤ, ◌+◌, ◌<◌, ◌≤◌, Bool, true, false, List, ◌++◌, Option, None, Some, is_some, Result, Ok, Err, IsTrue, ⊤, ◌&&◌, nat_lt, if◌then◌else◌}
 use Rattle.cnf_base.specs.declared.step.Step.{Step}
-use Rattle.text_scan.specs.Scan.{Scan, ahead, so_far as scan_so_far, is_reading as is_scanning, fuel as scan_fuel}
+use Rattle.text_scan.specs.Scan.{Scan, TookNumber, ahead, so_far as scan_so_far, is_reading as is_scanning, is_faulted, fuel as scan_fuel}
 use Rattle.lrat_text.specs.declared.error.StepError.{StepError}
 use Rattle.lrat_text.specs.declared.error.StepError.TheVariants.{Syntax, ReadFault, TooLong, OutOfMemory}
 use Rattle.lrat_text.specs.declared.reader.Status.{Status}
@@ -105,6 +105,24 @@ Judges (Err (Syntax at)) step old new = (judged old.draft ≡ None) × (at ≡ o
 Judges (Err TooLong) step old new = ⊥
 Judges (Err ReadFault) step old new = ⊥
 Judges (Err OutOfMemory) step old new = IsTrue (is_some (judged old.draft)) × (new ≡ record old { status = Failed OutOfMemory })
+
+-- More tokens of the line that is begun were taken, and nothing was read: what is ahead is as it was.
+pub record GoesOn (old new : Reader) : Type 0 where
+  pub steps : (more : List ℕ) → drafted (ahead old.scan more) old.draft ≡ drafted (ahead new.scan more) new.draft
+  pub so_far : (more : List ℕ) → so_far old more ≡ so_far new more
+  pub scanning : is_scanning new.scan.status ≡ is_scanning old.scan.status
+  pub faulted : is_faulted new.scan.status ≡ is_faulted old.scan.status
+  pub begun : is_open new.draft ≡ is_open old.draft
+  pub status : new.status ≡ old.status
+  pub line : new.line ≡ old.line
+  pub less : scan_fuel new.scan ≤ scan_fuel old.scan
+
+-- A token of another line than the one that is begun was taken, which spells this number.
+pub record BeginsLine (number : ℤ) (old new : Reader) : Type 0 where
+  pub begun : is_open old.draft ≡ true
+  pub took : TookNumber number new.scan.line old.scan new.scan
+  pub other : new.scan.line ≢ old.draft.line
+  pub rest : new ≡ record old { scan = new.scan }
 
 -- it was judged and is given, and this line is begun now
 abbrev pub Settles : Result (Option (Step × ℕ)) StepError → DraftLine → Reader → Reader → Type 0

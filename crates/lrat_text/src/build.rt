@@ -185,6 +185,20 @@ fn put_addition_of(
     if !(is_id(id) && are_literals(literals) && are_hints(hints) && rest.is_empty()) {
         return Ok(false);
     }
+    // The lists of an addition are filled where they stand.
+    if let Step::Add {
+        id: place,
+        lits,
+        pos,
+        groups,
+    } = step
+    {
+        *place = Id(id);
+        put_clause(lits, literals)?;
+        put_hints(pos, hints)?;
+        put_groups(lists.alloc, groups, hints)?;
+        return Ok(true);
+    }
     lists.take_back(step);
     put_clause(&mut lists.clause, literals)?;
     put_hints(&mut lists.hints, hints)?;
@@ -221,6 +235,15 @@ fn put_deletion_with(
 {
     if !(id <= MAX_ID && are_hints(ids) && rest.is_empty()) {
         return Ok(false);
+    }
+    if let Step::Delete {
+        id: place,
+        ids: deleted,
+    } = step
+    {
+        *place = Id(id);
+        put_ids(deleted, ids)?;
+        return Ok(true);
     }
     lists.take_back(step);
     put_ids(&mut lists.deleted, ids)?;

@@ -3,7 +3,7 @@ ghost use Rattle.std.specs.Prelude.{◌≡◌, ◌≤◌, [], None, Some, Ok, On
 ghost use Rattle.std.specs.Option.{option_map};
 ghost use Rattle.cnf_base.specs.ProofText.{is_delete_word, given_if};
 ghost use Rattle.lrat_text.specs.declared.draft.Kind.TheVariants.{Empty};
-ghost use Rattle.lrat_text.specs.Draft.{no_draft, draft_of_word, draft_with, with_given, draft_as, has_numbers, judged, is_open};
+ghost use Rattle.lrat_text.specs.Draft.{no_draft, draft_of_word, draft_with, draft_with_number, draft_of_number, first_number, unsigned, with_given, draft_as, has_numbers, judged, is_open};
 
 use crate::build::{put_addition, put_deletion};
 use crate::lists::Lists;
@@ -46,6 +46,26 @@ fn is_delete_word(token: &Token) -> bool
     ensures { result ≡ is_delete_word token.now.bytes }
 {
     token.bytes() == b"d".as_slice()
+}
+
+// The number of a line's first token, which has no sign.
+#[inline(always)]
+fn first_number(number: i64) -> Option<u64>
+    ensures { result ≡ first_number number }
+{
+    if number < 0 {
+        None
+    } else {
+        Some(number as u64)
+    }
+}
+
+// A number without a sign.
+#[inline(always)]
+fn unsigned(number: i64) -> Option<i64>
+    ensures { result ≡ unsigned number }
+{
+    if number < 0 { None } else { Some(number) }
 }
 
 impl Draft {
@@ -97,6 +117,18 @@ impl Draft {
         self.numbers.clear();
     }
 
+    /// Lets the line go and begins this one with a token that spells this number.
+    #[inline(always)]
+    pub fn begin_with(&mut self, line: u64, number: i64)
+        ensures { self.new ≡ draft_of_number line number }
+    {
+        self.line = line;
+        self.kind = Kind::Begun;
+        self.id = first_number(number);
+        self.broken = self.id.is_none();
+        self.numbers.clear();
+    }
+
     /// Takes one more token of the line. Memory is wanted only where all tokens so far are numbers.
     #[inline(always)]
     pub fn take(&mut self, token: &Token) -> Result<(), OutOfMemory>
@@ -116,6 +148,23 @@ impl Draft {
             }
             Kind::Adds => self.put(signed_number(token)),
             Kind::Deletes => self.put(plain_number(token).map(|number| number as i64)),
+        }
+    }
+
+    /// Takes one more token of the line, which spells this number.
+    #[inline(always)]
+    pub fn take_number(&mut self, number: i64) -> Result<(), OutOfMemory>
+        ensures ok { OnOk result (self.new ≡ draft_with_number self.old number) }
+        ensures kept { OnErr result (IsTrue (has_numbers self.new)) }
+    {
+        match self.kind {
+            Kind::Empty => Ok(()),
+            Kind::Begun => {
+                self.kind = Kind::Adds;
+                self.put(Some(number))
+            }
+            Kind::Adds => self.put(Some(number)),
+            Kind::Deletes => self.put(unsigned(number)),
         }
     }
 

@@ -1,12 +1,12 @@
 // The reader: tokens from a scanner, gathered line by line.
-ghost use Rattle.std.specs.Prelude.{◌≡◌, ◌≢◌, ℕ, ◌+◌, ◌^◌, ◌<◌, true, false, List, None, Ok, Err, IsTrue, OnOk, OnErr};
+ghost use Rattle.std.specs.Prelude.{◌≡◌, ◌≢◌, ℕ, ◌+◌, ◌^◌, ◌<◌, true, false, List, None, Ok, Err, IsTrue, IfSome, OnOk, OnErr};
 ghost use Rattle.host_io.specs.Channel.{Rose};
 ghost use Rattle.text_scan.specs.Decides.{gained, Decides, OnlyReads};
 ghost use Rattle.lrat_text.specs.declared.error.StepError.TheVariants.{ReadFault, TooLong, OutOfMemory};
 ghost use Rattle.lrat_text.specs.declared.reader.Status.TheVariants.{Reading, Ended, Failed};
 ghost use Rattle.lrat_text.specs.Steps.{steps, steps_so_far};
-ghost use Rattle.lrat_text.specs.Draft.{no_draft, draft_of_word, has_numbers, is_open, with_token};
-ghost use Rattle.lrat_text.specs.Reader.{given, Gives, GivesSoFar, Moves, steps_ahead, so_far, is_reading, last_answer, is_under, Judges, Settles};
+ghost use Rattle.lrat_text.specs.Draft.{no_draft, draft_of_number, draft_of_word, has_numbers, is_open, with_token};
+ghost use Rattle.lrat_text.specs.Reader.{given, Gives, GivesSoFar, Moves, steps_ahead, so_far, is_reading, last_answer, is_under, BeginsLine, GoesOn, Judges, Settles};
 
 use crate::draft::Draft;
 use crate::error::StepError;
@@ -159,6 +159,11 @@ impl StepReader {
     {
         let mut token = Token::blank();
         'tokens: loop {
+            self.take_numbers()?;
+            match self.number_of_another_line() {
+                Some(number) => return self.give_before_number(number, step),
+                None => {}
+            }
             match self.scanner.next_into(source, &mut token) {
                 Ok(true) => {
                     if self.draft.is_open() && self.draft.line() != token.line() {
@@ -174,6 +179,42 @@ impl StepReader {
                 }
             }
         }
+    }
+
+    // Takes the numbers that come next on the line that is begun, as far as they lie in what was read.
+    #[inline(always)]
+    fn take_numbers(&mut self) -> Result<(), StepError>
+        requires { self.old.status ≡ Reading }
+        ensures ok { OnOk result (GoesOn self.old self.new) }
+        ensures err { OnErr result (result ≡ Err OutOfMemory) }
+        ensures stopped { OnErr result (self.new.status ≡ Failed OutOfMemory) }
+        ensures kept { OnErr result (IsTrue (has_numbers self.new.draft)) }
+        ensures line { self.new.line ≡ self.old.line }
+    {
+        if !self.draft.is_open() {
+            return Ok(());
+        }
+        'numbers: loop {
+            let Some(number) = self.scanner.number_on(self.draft.line()) else {
+                return Ok(());
+            };
+            match self.draft.take_number(number) {
+                Ok(()) => continue,
+                Err(_) => return Err(self.fail(StepError::OutOfMemory)),
+            }
+        }
+    }
+
+    // Takes the number that comes next where it stands on another line than the one that is begun.
+    #[inline(always)]
+    fn number_of_another_line(&mut self) -> Option<i64>
+        ensures some { IfSome result (λ number. BeginsLine number self.old self.new) }
+        ensures none { result ≡ None → self.new ≡ self.old }
+    {
+        if !self.draft.is_open() {
+            return None;
+        }
+        self.scanner.number_past(self.draft.line())
     }
 
     // A token of the line that is begun, or the first of one.
@@ -203,6 +244,16 @@ impl StepReader {
     {
         let line = self.judge(step)?;
         self.draft.begin(token);
+        Ok(Some(line))
+    }
+
+    // The same where the scanner has given the number of that token.
+    fn give_before_number(&mut self, number: i64, step: &mut Step) -> Result<Option<u64>, StepError>
+        requires { self.old.status ≡ Reading }
+        ensures { Settles (given step.new result) (draft_of_number self.old.scan.line number) self.old self.new }
+    {
+        let line = self.judge(step)?;
+        self.draft.begin_with(self.scanner.line(), number);
         Ok(Some(line))
     }
 

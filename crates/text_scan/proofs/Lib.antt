@@ -4,3 +4,4 @@ pub mod Bridge
 pub mod Kept
 pub mod WordAhead
 pub mod Numeral
+pub mod NumberAhead

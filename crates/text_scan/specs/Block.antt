@@ -1,7 +1,9 @@
 -- How a scanner stands in its block of bytes.
-use Rattle.std.specs.Prelude.{◌≡◌, ℕ, ◌+◌, ◌^◌, ◌<◌, ◌≤◌, min, true, false, List, length, take, slice_index}
-use Rattle.std.specs.List.{list_any}
+use Rattle.std.specs.Prelude.{◌≡◌, ℕ, ◌+◌, ◌^◌, ◌<◌, ◌≤◌, min, true, false, ℤ, nat_abs, List, length, take, slice_index, Some}
+use Rattle.std.specs.List.{list_all, list_any}
+use Rattle.cnf_base.specs.Number.{is_digit, value_after, signed_number}
 use Rattle.cnf_base.specs.Text.{Word, is_blank}
+use Rattle.text_scan.specs.Capped.{cap}
 use Rattle.text_scan.specs.Lexer.{begins_word}
 use Rattle.text_scan.specs.Scan.{Scan}
 
@@ -23,3 +25,28 @@ pub record IsWordAhead (scan : Scan) (word : Word) (len : ℕ) : Type 0 where
   pub under : len < scan.room
   pub line_fits : scan.lex.line + 1 < 2 ^ 64
   pub word_is : word ≡ record { bytes = take 65 (take len scan.unread); line = scan.lex.line }
+
+-- So many digits stand at the front of these bytes, with this value, and a blank behind them.
+pub record IsNumeralAtFront (bytes : List ℕ) (value len : ℕ) : Type 0 where
+  pub some : 0 < len
+  pub short : len ≤ 63
+  pub within : len < length bytes
+  pub blank : is_blank (slice_index bytes len) ≡ true
+  pub digits : list_all is_digit (take len bytes) ≡ true
+  pub value_is : value ≡ value_after 0 (take len bytes)
+  pub small : value < cap
+
+-- A token of so many bytes stands at the front of these, which spells this number, and a blank behind it.
+pub record IsNumberAtFront (bytes : List ℕ) (number : ℤ) (len : ℕ) : Type 0 where
+  pub letters : list_any is_blank (take len bytes) ≡ false
+  pub short : len ≤ 64
+  pub within : len < length bytes
+  pub blank : is_blank (slice_index bytes len) ≡ true
+  pub number_is : signed_number (take len bytes) ≡ Some number
+  pub small : nat_abs number ≤ cap
+
+-- the next byte begins a token of so many bytes, which spells this number
+pub record IsNumberAhead (scan : Scan) (number : ℤ) (len : ℕ) : Type 0 where
+  pub ahead : IsWordAhead scan (record { bytes = take 65 (take len scan.unread); line = scan.lex.line }) len
+  pub number_is : signed_number (take 65 (take len scan.unread)) ≡ Some number
+  pub small : nat_abs number ≤ cap

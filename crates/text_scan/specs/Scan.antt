@@ -1,10 +1,12 @@
 -- A scanner as its callers see it, and what a call gives.
-use Rattle.std.specs.Prelude.{◌≡◌, ℕ, ◌+◌, ◌<◌, Bool, true, false, List, ◌++◌, Option, None, Some, Result, Ok, Err, ⊤}
+use Rattle.std.specs.Prelude.{◌≡◌, ℕ, ◌+◌, ◌<◌, Bool, true, false, ℤ, nat_abs, ◌≤◌, List, ◌++◌, Option, None, Some, Result, Ok, Err, ⊤}
+use Rattle.cnf_base.specs.Number.{signed_number}
 use Rattle.cnf_base.specs.Text.{Word}
 use Rattle.text_scan.specs.declared.scanner.Status.{Status}
 use Rattle.text_scan.specs.declared.scanner.Status.TheVariants.{Reading, Ended, Overlong, Faulted}
 use Rattle.text_scan.specs.declared.scanner.ScanError.{ScanError}
 use Rattle.text_scan.specs.declared.scanner.ScanError.TheVariants.{ReadFault, TooLong}
+use Rattle.text_scan.specs.Capped.{cap}
 use Rattle.text_scan.specs.Items.{Items, the_end, too_long, next_word}
 use Rattle.text_scan.specs.Lexer.{Lex, items_from, front_from}
 
@@ -102,3 +104,15 @@ last_answer Reading = Ok None
 last_answer Ended = Ok None
 last_answer Overlong = Err TooLong
 last_answer Faulted = Err ReadFault
+
+-- A token that spells this number was given, the first of the items ahead, which stands on this line; nothing was read.
+pub record TookNumber (number : ℤ) (at : ℕ) (old new : Scan) : Type 0 where
+  pub word : Word
+  pub number_is : signed_number word.bytes ≡ Some number
+  pub small : nat_abs number ≤ cap
+  pub line : word.line ≡ at
+  pub reading : old.status ≡ Reading
+  pub status : new.status ≡ Reading
+  pub gives : (more : List ℕ) → ahead old more ≡ next_word word (ahead new more)
+  pub so_far : (more : List ℕ) → so_far old more ≡ next_word word (so_far new more)
+  pub gave : GaveWord word old new

@@ -38,7 +38,7 @@ impl Model for Lexer {
 }
 
 #[inline(always)]
-fn is_blank(byte: u8) -> bool
+pub fn is_blank(byte: u8) -> bool
     ensures { result ≡ is_blank byte }
 {
     byte == b' ' || byte == b'\t' || byte == b'\r' || byte == b'\n'

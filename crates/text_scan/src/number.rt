@@ -1,14 +1,20 @@
 // The numbers of tokens. A value is cut at a bound above every limit of the formats, so that numerals of any length are
 // judged.
-ghost use Rattle.std.specs.Prelude.{◌≡◌, ◌<◌, ◌≤◌, pos, neg_ℤ, nat_abs, None, Some, IfSome};
+ghost use Rattle.std.specs.Prelude.{◌≡◌, ◌+◌, ◌<◌, ◌≤◌, true, pos, neg_ℤ, nat_abs, length, take, None, Some, IfSome};
+ghost use Rattle.std.specs.List.{list_all};
 ghost use Rattle.std.specs.Option.{option_map};
-ghost use Rattle.cnf_base.specs.Number.{is_digit, numeral_value, plain_number, signed_number, signed_value};
+ghost use Rattle.cnf_base.specs.Number.{is_digit, numeral_value, value_after, plain_number, signed_number, signed_value};
+ghost use Rattle.text_scan.specs.Block.{IsNumberAtFront, IsNumeralAtFront};
 ghost use Rattle.text_scan.specs.Capped.{capped, cap, capped_ℤ};
 
+use crate::lexer::is_blank;
 use crate::token::Token;
 
 /// The value at which numbers are cut.
 const CAP: u64 = 1_000_000_000_000_000_000;
+
+/// A tenth of it: a value below this stays below that with one more digit.
+const SMALL: u64 = 100_000_000_000_000_000;
 
 #[inline(always)]
 fn is_digit(byte: u8) -> bool
@@ -90,4 +96,50 @@ fn negative(value: u64) -> Option<i64>
     } else {
         Some(-(value as i64))
     }
+}
+
+/// The number at the front of these bytes, where it is one of at most 64 bytes, a small one, and a blank stands behind it.
+/// Its value and how many bytes it has. Most tokens of proofs and formulas are read so, in one pass over their bytes.
+#[inline(always)]
+pub fn number_at_front(bytes: &[u8]) -> Option<(i64, usize)>
+    ensures { IfSome result (λ found. IsNumberAtFront bytes.now found.0 found.1) }
+{
+    if bytes.is_empty() {
+        return None;
+    }
+    if bytes[0] != b'-' {
+        let (value, len) = blank_ended(bytes)?;
+        return Some((value as i64, len));
+    }
+    let (value, len) = blank_ended(&bytes[1..])?;
+    Some((negative(value)?, len + 1))
+}
+
+// The value of the digits at the front, where there are at most 63, their value is small, and a blank stands behind them.
+#[inline(always)]
+fn blank_ended(bytes: &[u8]) -> Option<(u64, usize)>
+    ensures { IfSome result (λ found. IsNumeralAtFront bytes.now found.0 found.1) }
+{
+    let (value, len) = digits_at_front(bytes);
+    if len == 0 || len > 63 || len >= bytes.len() || !is_blank(bytes[len]) {
+        return None;
+    }
+    Some((value, len))
+}
+
+// The digits at the front, as far as their value is small, and that value.
+#[inline(always)]
+fn digits_at_front(bytes: &[u8]) -> (u64, usize)
+    ensures range { result.1 ≤ length bytes.now }
+    ensures digits { list_all is_digit (take result.1 bytes.now) ≡ true }
+    ensures value { result.0 ≡ value_after 0 (take result.1 bytes.now) }
+    ensures small { result.0 < cap }
+{
+    let mut len = 0;
+    let mut value: u64 = 0;
+    while len < bytes.len() && is_digit(bytes[len]) && value < SMALL {
+        value = 10 * value + (bytes[len] - b'0') as u64;
+        len += 1;
+    }
+    (value, len)
 }

@@ -6,11 +6,12 @@ ghost use Rattle.text_scan.specs.declared.scanner.Status.TheVariants.{Reading, E
 ghost use Rattle.text_scan.specs.declared.scanner.ScanError.TheVariants.{ReadFault};
 ghost use Rattle.text_scan.specs.Items.{items, items_of_front, the_end, too_long, next_word};
 ghost use Rattle.text_scan.specs.Lexer.{items_from, word_then};
-ghost use Rattle.text_scan.specs.Scan.{ahead, so_far, is_reading, is_faulted, given, Gives, GivesSoFar, Moves, last_answer};
-ghost use Rattle.text_scan.specs.Block.{IsWordAhead};
+ghost use Rattle.text_scan.specs.Scan.{ahead, so_far, is_reading, is_faulted, given, Gives, GivesSoFar, Moves, TookNumber, last_answer};
+ghost use Rattle.text_scan.specs.Block.{IsWordAhead, IsNumberAhead};
 ghost use Rattle.text_scan.specs.Decides.{gained, Decides, OnlyReads};
 
 use crate::lexer::{Lexer, letters};
+use crate::number::number_at_front;
 use crate::token::{SPACE, Token};
 use host_io::Source;
 use std::marker::Model;
@@ -153,6 +154,70 @@ impl Scanner {
             Status::Overlong => Err(ScanError::TooLong),
             Status::Faulted => Err(ScanError::ReadFault),
         }
+    }
+
+    /// The number of the next token, where the token stands on this line, is a number below 10^18, and lies whole, with the
+    /// blank behind it, in what was read. It is then given, as `next` gives it; else nothing changes. It reads nothing, and
+    /// looks at each byte once. That it answers at all is no promise: what it leaves `next` gives.
+    #[inline(always)]
+    pub fn number_on(&mut self, line: u64) -> Option<i64>
+        ensures took { IfSome result (λ number. TookNumber number line self.old self.new) }
+        ensures none { result ≡ None → self.new ≡ self.old }
+    {
+        if !self.is_on(line) {
+            return None;
+        }
+        self.take_number()
+    }
+
+    /// The same of a token that stands on another line.
+    #[inline(always)]
+    pub fn number_past(&mut self, line: u64) -> Option<i64>
+        ensures took { IfSome result (λ number. TookNumber number self.new.line self.old self.new) }
+        ensures past { IfSome result (λ number. self.new.line ≢ line) }
+        ensures none { result ≡ None → self.new ≡ self.old }
+    {
+        if self.status != Status::Reading || self.lexer.line() == line {
+            return None;
+        }
+        self.take_number()
+    }
+
+    // The number of the next token, where it is one that lies whole in what was read; then it is given.
+    #[inline(always)]
+    fn take_number(&mut self) -> Option<i64>
+        requires { self.old.status ≡ Reading }
+        ensures took { IfSome result (λ number. TookNumber number self.old.lex.line self.old self.new) }
+        ensures none { result ≡ None → self.new ≡ self.old }
+    {
+        let (number, len) = self.number_ahead()?;
+        let blank = self.block[self.at + len];
+        self.line = self.lexer.line();
+        self.lexer.pass_word(blank);
+        self.at += len + 1;
+        Some(number)
+    }
+
+    // Whether it still reads, and the next byte stands on this line.
+    #[inline(always)]
+    fn is_on(&self, line: u64) -> bool
+        ensures reading { result ≡ true → self.now.status ≡ Reading }
+        ensures line { result ≡ true → self.now.lex.line ≡ line }
+    {
+        self.status == Status::Reading && self.lexer.line() == line
+    }
+
+    // The number that begins with the next byte, if there is one and it ends in the block, and its length.
+    #[inline(always)]
+    fn number_ahead(&self) -> Option<(i64, usize)>
+        ensures { IfSome result (λ found. IsNumberAhead self.now found.0 found.1) }
+    {
+        let window = &self.block[self.at..self.stop];
+        let (number, len) = number_at_front(window)?;
+        if !self.lexer.begins_word(window[0]) {
+            return None;
+        }
+        Some((number, len))
     }
 
     /// The line of the token that was given last, 1 before the first; after None that of the end; after TooLong

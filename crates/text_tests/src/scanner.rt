@@ -105,6 +105,64 @@ fn gives_the_tokens(rt: HostRuntime) -> Result<(), Fail> {
     Ok(())
 }
 
+// The same where the numbers that lie in what was read are taken at once, each with its line before a sign of equality.
+const NUMBERS: &str = "\
+12 -7 x/5 07 -0 -y 1 c/c 3/44 ;1:12 1=-7 1:x 2=5 2=7 2:-0 2:-y 2=1 2:c 4:44 end 4
+1 0 +2 3x 4-/-/8;1:1 1=0 1:+2 1:3x 1:4- 2:- 3:8 end 3
+1 99999999999999999 999999999999999999 1000000000000000000/;1:1 1=99999999999999999 1=999999999999999999 1:1000000000000000000 end 2
+1 0000000000000000000000000000000000000000000000000000000000000000000007 000000000000000000000000000007/;\
+1:1 1:0000000000000000000000000000000000000000000000000000000000000000* 1=7 end 2";
+
+// The next number of this line or of a later one, with its line.
+fn next_number(scanner: &mut Scanner) -> Option<(u64, i64)> {
+    let line = scanner.line();
+    if let Some(number) = scanner.number_on(line) {
+        return Some((line, number));
+    }
+    let number = scanner.number_past(line)?;
+    Some((scanner.line(), number))
+}
+
+fn numbers(
+    alloc: Global,
+    scanner: &mut Scanner,
+    source: &mut SliceSource,
+) -> Result<String, AllocError> {
+    let mut out = String::new(alloc);
+    for _ in 0..100 {
+        if let Some((line, number)) = next_number(scanner) {
+            write!(out, "{line}={number} ")?;
+            continue;
+        }
+        match scanner.next(source) {
+            Ok(Some(token)) => push_token(&mut out, &token)?,
+            end => {
+                push_end(&mut out, end.err(), scanner.line())?;
+                return Ok(out);
+            }
+        }
+    }
+    Ok(out)
+}
+
+fn expect_numbers(rt: &impl Abort, alloc: Global, row: &str) -> Result<(), Fail> {
+    let (text, wanted) = row.split_once(';').ok_or("no tokens")?;
+    let text = text_of(alloc, text)?;
+    let mut source = SliceSource::new(text.as_bytes(), usize::MAX);
+    let mut scanner = Scanner::new(b'c', 999);
+    let given = numbers(alloc, &mut scanner, &mut source)?;
+    assert_eq!(rt; given.as_str(), wanted);
+    Ok(())
+}
+
+#[test]
+fn gives_numbers_at_once(rt: HostRuntime) -> Result<(), Fail> {
+    for row in NUMBERS.lines() {
+        expect_numbers(&rt, rt.alloc(), row)?;
+    }
+    Ok(())
+}
+
 #[test]
 fn a_fault_stays(rt: HostRuntime) -> Result<(), Fail> {
     let alloc = rt.alloc();

@@ -1,0 +1,17 @@
+-- One more number.
+use Rattle.std.proofs.Common.{◌≡◌, true, refl, sym, ◌∙◌, ap}
+use Rattle.lrat_text.specs.Draft.{draft_with_number, is_open}
+use Rattle.lrat_text.specs.Reader.{Reader}
+use Rattle.lrat_text.proofs.GoesOn.{GoesOn-number, GoesOn-then, read_back}
+use Rattle.lrat_text.proofs.reader.StepReader.take_numbers.Goals as goal
+
+pub numbers-preserved : goal.numbers-preserved
+numbers-preserved c =
+    let old : Reader = record { scan = c.self-in-numbers.inside.scanner; draft = c.self-in-numbers.inside.draft; status = c.self-in-numbers.inside.status; line = c.self-in-numbers.inside.line } in
+    let new : Reader = record { scan = c.number_on.new.self; draft = c.take_number.new.self; status = c.self-in-numbers.inside.status; line = c.self-in-numbers.inside.line } in
+    let begun : is_open old.draft ≡ true = ap (λ (r : Reader). is_open r.draft) c.self-in-numbers.view_is ∙ c.numbers.invariant.begun
+    ∙ ap (λ (r : Reader). is_open r.draft) (sym c.self.view_is) ∙ sym c.is_open.ensures ∙ c.if-not-is_open.false in
+    let took = rw c.line.ensures at c.in-Some.ensures.took in
+    let taken : c.take_number.new.self ≡ draft_with_number old.draft c.in-Some.number =
+    c.in-Ok.ensures.ok ∙ ap (draft_with_number old.draft) (read_back c.in-Some.number took.small) in
+    GoesOn-then c.numbers.invariant (rw (← c.self-in-numbers.view_is) (GoesOn-number c.in-Some.number old new took begun taken refl refl))
