@@ -61,7 +61,7 @@ pub fn decide<S: Sink + Drop>(
     lean_law::<S>();
     formula.formula_law();
     table.table_law();
-    if are_tautologies(formula) {
+    if are_tautologies(alloc, formula) {
         let model = recover(alloc, table, Node::True, &Trail::new(alloc))?;
         return Ok(Some(model));
     }
