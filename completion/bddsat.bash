@@ -1,0 +1,13 @@
+# Completion for bash. Made by bench/manual. What is no option and no word of the command is completed as a file's name.
+_bddsat() {
+    local word="${COMP_WORDS[COMP_CWORD]}" words='solve check bench make help' options='--help'
+    case "$([ "$COMP_CWORD" -eq 1 ] || echo "${COMP_WORDS[1]}")" in
+    solve) words='' options='--proof --lax --order --schedule --plan --max-nodes --max-ids --cache --help' ;;
+    check) words='' options='--lax --help' ;;
+    bench) words='board' options='--proof --max-nodes --max-ids --cache --help' ;;
+    make) words='board' options='--part --out --help' ;;
+    esac
+    [[ "$word" == -* ]] && words="$options"
+    mapfile -t COMPREPLY < <(compgen -W "$words" -- "$word")
+}
+complete -o default -F _bddsat bddsat
