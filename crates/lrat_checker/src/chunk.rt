@@ -42,6 +42,7 @@ impl Chunk {
     }
 
     /// The clause at a place, where there is one.
+    #[inline(always)]
     pub fn clause(&self, place: usize) -> Option<&[Lit]>
         ensures { option_copied result ≡ slice_index_or self.now place None }
     {

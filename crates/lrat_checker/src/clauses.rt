@@ -67,6 +67,7 @@ impl Clauses {
     }
 
     /// The clause of this number, where it is live.
+    #[inline(always)]
     pub fn get(&self, id: Id) -> Option<&[Lit]>
         ensures { option_copied result ≡ clause_at self.now id }
     {
@@ -183,6 +184,7 @@ impl fmt::Debug for Clauses {
 }
 
 // The clause at a number's place in the chunks.
+#[inline(always)]
 fn near_clause(chunks: &[Chunk], number: u64) -> Option<&[Lit]>
     ensures { option_copied result ≡ near_at chunks.now number }
 {

@@ -62,6 +62,7 @@ impl LiveClauses {
     }
 
     /// The clause of this number, where it is live.
+    #[inline(always)]
     pub fn clause(&self, id: Id) -> Option<&[Lit]>
         ensures { option_copied result ≡ clause_at self.now id }
     {

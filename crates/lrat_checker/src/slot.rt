@@ -32,6 +32,7 @@ impl Slot {
     }
 
     /// The clause, where there is one.
+    #[inline(always)]
     pub fn clause(&self) -> Option<&[Lit]>
         ensures { option_copied result ≡ clause_in self.now }
     {

@@ -144,6 +144,23 @@ fn put_groups(alloc: Global, groups: &mut GroupList, numbers: &[i64]) -> Result<
     Ok(())
 }
 
+// The same of numbers of which so many stand before the first group.
+fn put_groups_behind(
+    alloc: Global,
+    groups: &mut GroupList,
+    numbers: &[i64],
+    count: usize,
+) -> Result<(), OutOfMemory>
+    requires { count ≡ length (hints_before_group numbers.now) }
+    ensures { OnOk result (groups.new ≡ groups_of numbers.now) }
+{
+    if count == numbers.len() {
+        groups.clear();
+        return Ok(());
+    }
+    put_groups(alloc, groups, numbers)
+}
+
 /// Whether these numbers behind an identifier spell an addition, which then is the step. Memory is wanted only for that.
 pub fn put_addition(
     lists: &mut Lists,
@@ -196,7 +213,7 @@ fn put_addition_of(
         *place = Id(id);
         put_clause(lits, literals)?;
         put_hints(pos, hints)?;
-        put_groups(lists.alloc, groups, hints)?;
+        put_groups_behind(lists.alloc, groups, hints, pos.as_slice().len())?;
         return Ok(true);
     }
     lists.take_back(step);
