@@ -1,5 +1,5 @@
 // What a formula shows before any diagram: an empty clause, or that all clauses are tautologies. A long clause is asked for
-// opposite literals by a sorted set of its literals, so that no clause costs more than n · log n comparisons while there is
+// opposite literals by a sorted set of its literals, so that a clause takes some n · log n comparisons while there is
 // memory in proportion to it.
 ghost use Rattle.std.specs.Prelude.{◌≡◌, ◌-◌, ◌≤◌, [], IsTrue, IsFalse, IfOk, MatchOption, length, slice_index_or};
 ghost use Rattle.std.specs.BTreeSet.{IsFromIterResult};
