@@ -3,6 +3,8 @@ ghost use Rattle.std.specs.Prelude.{◌≤◌, IfOk, OnOk, length};
 ghost use Rattle.cnf_base.specs.Truth.{AreClausesOf};
 ghost use Rattle.node_table.specs.Diagram.{IsOrder};
 ghost use Rattle.node_table.specs.Table.{IsSound};
+ghost use Rattle.operations.specs.Entries.{Fits};
+ghost use Rattle.imply.specs.Cache.{entries};
 
 use crate::conjunctions::{no_clauses, value};
 use crate::disjunctions::{disjoin, no_disjunctions};
@@ -11,6 +13,7 @@ use crate::quantifications::{no_quantifications, quantify};
 use crate::support::{ProofText, make};
 use clause_ledger::Ledger;
 use cnf_base::Cnf;
+use imply::ImplyCache;
 use node_table::{Node, Table, TableError, opening_law};
 use schedule_plan::Order;
 use std::alloc::Global;
@@ -97,42 +100,97 @@ fn expect_values(
     Ok(())
 }
 
+fn expect_disjunction(
+    rt: &impl Abort,
+    alloc: Global,
+    table: &mut Table<ProofText>,
+    u: Node,
+    v: Node,
+) -> Result<(), Fail>
+    requires sound { IsSound table.old }
+{
+    let mut cache = no_disjunctions(alloc, VARIABLES)?;
+    let w = disjoin(rt, table, &mut cache, u, v)?;
+    expect_values(rt, alloc, table, w, (true, true))
+}
+
+fn expect_both(rt: &impl Abort, alloc: Global, table: &mut Table<ProofText>) -> Result<(), Fail>
+    requires sound { IsSound table.old }
+{
+    let (u, v) = two_chains(rt, table)?;
+    expect_values(rt, alloc, table, u, (false, true))?;
+    expect_values(rt, alloc, table, v, (true, false))?;
+    expect_disjunction(rt, alloc, table, u, v)
+}
+
 /// The disjunction of both clauses.
 #[test]
 fn deep_disjunction(rt: HostRuntime) -> Result<(), Fail> {
-    let alloc = rt.alloc();
-    let mut table = wide_table(alloc, VARIABLES)?;
-    let (u, v) = two_chains(&rt, &mut table)?;
-    expect_values(&rt, alloc, &table, u, (false, true))?;
-    expect_values(&rt, alloc, &table, v, (true, false))?;
-    let mut cache = no_disjunctions(alloc, VARIABLES)?;
-    let w = disjoin(&rt, &mut table, &mut cache, u, v)?;
-    expect_values(&rt, alloc, &table, w, (true, true))
+    let mut table = wide_table(rt.alloc(), VARIABLES)?;
+    expect_both(&rt, rt.alloc(), &mut table)
+}
+
+fn expect_quantified(
+    rt: &impl Abort,
+    alloc: Global,
+    table: &mut Table<ProofText>,
+    u: Node,
+) -> Result<(), Fail>
+    requires sound { IsSound table.old }
+{
+    let (mut cache, mut ors) = no_quantifications(alloc, VARIABLES)?;
+    let w = quantify(rt, table, &mut cache, &mut ors, u, VARIABLES - 1)?;
+    expect_values(rt, alloc, table, w, (true, true))
 }
 
 /// The quantification of the clause by its last variable.
 #[test]
 fn deep_quantification(rt: HostRuntime) -> Result<(), Fail> {
-    let alloc = rt.alloc();
-    let mut table = wide_table(alloc, VARIABLES)?;
+    let mut table = wide_table(rt.alloc(), VARIABLES)?;
     let positive = make(&rt, &mut table, VARIABLES - 1, Node::True, Node::False)?;
     let u = chain(&rt, &mut table, positive)?;
-    let (mut cache, mut ors) = no_quantifications(alloc, VARIABLES)?;
-    let w = quantify(&rt, &mut table, &mut cache, &mut ors, u, VARIABLES - 1)?;
-    expect_values(&rt, alloc, &table, w, (true, true))
+    expect_quantified(&rt, rt.alloc(), &mut table, u)
+}
+
+fn expect_implied(
+    rt: &impl Abort,
+    table: &mut Table<ProofText>,
+    cache: &mut ImplyCache,
+    u: Node,
+    v: Node,
+    expected: bool,
+) -> Result<(), TableError>
+    requires sound { IsSound table.old }
+    requires fits { Fits table.old (entries cache.old) }
+    ensures sound { OnOk result (IsSound table.new) }
+    ensures fits { OnOk result (Fits table.new (entries cache.new)) }
+{
+    let why = why_implied(rt, table, cache, u, v)?;
+    assert!(rt; why.is_some() == expected);
+    Ok(())
+}
+
+fn expect_implications(
+    rt: &impl Abort,
+    alloc: Global,
+    table: &mut Table<ProofText>,
+    shorter: Node,
+    u: Node,
+    v: Node,
+) -> Result<(), Fail>
+    requires sound { IsSound table.old }
+{
+    let mut cache = no_implications(alloc, VARIABLES)?;
+    expect_implied(rt, table, &mut cache, u, v, false)?;
+    expect_implied(rt, table, &mut cache, shorter, u, true)?;
+    expect_values(rt, alloc, table, shorter, (false, false))
 }
 
 /// The clause doesn't imply the other one; that of all variables but the last one implies it.
 #[test]
 fn deep_implication(rt: HostRuntime) -> Result<(), Fail> {
-    let alloc = rt.alloc();
-    let mut table = wide_table(alloc, VARIABLES)?;
+    let mut table = wide_table(rt.alloc(), VARIABLES)?;
     let (u, v) = two_chains(&rt, &mut table)?;
     let shorter = chain(&rt, &mut table, Node::False)?;
-    let mut cache = no_implications(alloc, VARIABLES)?;
-    let other = why_implied(&rt, &mut table, &mut cache, u, v)?;
-    let longer = why_implied(&rt, &mut table, &mut cache, shorter, u)?;
-    assert!(&rt; other.is_none());
-    assert!(&rt; longer.is_some());
-    expect_values(&rt, alloc, &table, shorter, (false, false))
+    expect_implications(&rt, rt.alloc(), &mut table, shorter, u, v)
 }

@@ -3,6 +3,7 @@
 ghost use Rattle.std.specs.Prelude.{ℕ, ◌<◌, ◌≤◌, Contains, IfOk, IsTrue};
 ghost use Rattle.node_table.specs.declared.node.Node.{Node as NodeValue};
 ghost use Rattle.node_table.specs.Diagram.{is_node, levels};
+ghost use Rattle.node_table.specs.Table.{IsSound};
 
 use crate::conjunctions::{no_clauses, order_of_three};
 use crate::script::{Named, make_all, node_of};
@@ -57,25 +58,42 @@ fn trail_of(
     Ok(trail)
 }
 
-// The values of the three variables behind a trail, from the last node.
-fn recovered(rt: &impl Abort, alloc: Global, name: u8, words: &str) -> Result<String, Fail> {
+// A table over three variables without nodes.
+fn opened(alloc: Global) -> Result<Table<ProofText>, Fail>
+    ensures { IfOk result (λ table. IsSound table) }
+{
     let formula = no_clauses(alloc, 3);
-    let mut table = open(
-        alloc,
-        &formula,
-        &order_of_three("123"),
-        &room_of("9 99, 99 99")?,
-    )?;
-    let mut results = Vec::new(alloc);
-    make_all(rt, &mut table, &mut results, CHAIN)?;
-    let trail = trail_of(rt, alloc, &table, results.as_slice(), words)?;
-    let node = node_of(results.as_slice(), name);
-    assert!(rt; is_known(&table, node));
+    let room = room_of("9 99, 99 99")?;
+    open(alloc, &formula, &order_of_three("123"), &room)
+}
+
+// The values of the variables behind a trail, from the last node.
+fn recovered_from(
+    rt: &impl Abort,
+    alloc: Global,
+    table: &Table<ProofText>,
+    node: Node,
+    trail: &Trail,
+) -> Result<String, Fail>
+    requires nodes { (kept : ℕ × NodeValue) → Contains trail.now kept → IsTrue (is_node table.now.graph kept.1) }
+    requires variables { (kept : ℕ × NodeValue) → Contains trail.now kept → (0 < kept.0) × (kept.0 ≤ levels table.now.graph) }
+{
+    assert!(rt; is_known(table, node));
     if matches!(node, Node::False) {
         return Err(Fail::from("no assignment"));
     }
-    let model = recover(alloc, &table, node, &trail)?;
+    let model = recover(alloc, table, node, trail)?;
     values(alloc, model.as_slice())
+}
+
+// The same by the node's name and the trail's words.
+fn recovered(rt: &impl Abort, alloc: Global, name: u8, words: &str) -> Result<String, Fail> {
+    let mut table = opened(alloc)?;
+    let mut results = Vec::new(alloc);
+    make_all(rt, &mut table, &mut results, CHAIN)?;
+    let node = node_of(results.as_slice(), name);
+    let trail = trail_of(rt, alloc, &table, results.as_slice(), words)?;
+    recovered_from(rt, alloc, &table, node, &trail)
 }
 
 // A row is a node, a trail, and the values.

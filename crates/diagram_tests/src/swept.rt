@@ -86,22 +86,41 @@ fn opened(alloc: Global, room: &str) -> Result<Table<ProofText>, Fail>
     open(alloc, &formula, &order(true), &room_of(room)?)
 }
 
+// Behind what was told before, the nodes that are live and the lines of the proof.
+fn told(alloc: Global, front: &str, table: Table<ProofText>) -> Result<String, Fail> {
+    let live = table.live();
+    let lines = table.into_ledger().close().lines(alloc)?;
+    Ok(format!(in alloc; "{front};{live};{lines}")?)
+}
+
+// Marks from two roots, sweeps the others away, and makes further nodes: which are marked, and how many went.
+fn mark_and_sweep(
+    rt: &impl Abort,
+    alloc: Global,
+    table: &mut Table<ProofText>,
+    results: &mut Vec<Named>,
+    words: &str,
+) -> Result<String, Fail>
+    requires sound { IsSound table.old }
+    requires plain { IsPlain table.old }
+{
+    let (roots, further) = halves(words);
+    let (u, v) = operands(results.as_slice(), roots);
+    let marks = marks_from(rt, table, u, v)?;
+    let marked = marked(alloc, &marks, results.as_slice())?;
+    let count = count_told(alloc, &sweep_and_make(rt, table, &marks, results, further))?;
+    Ok(format!(in alloc; "{marked};{count}")?)
+}
+
 // What is told of a script: nodes to make, behind a bar the names of two roots to mark with,
 // and behind another one the nodes to make once the others were swept away.
 fn swept(rt: &impl Abort, alloc: Global, script: &str, room: &str) -> Result<String, Fail> {
     let (made, rest) = halves(script);
-    let (roots, further) = halves(rest);
     let mut table = opened(alloc, room)?;
     let mut results = Vec::new(alloc);
     make_all(rt, &mut table, &mut results, made)?;
-    let (u, v) = operands(results.as_slice(), roots);
-    let marks = marks_from(rt, &table, u, v)?;
-    let marked = marked(alloc, &marks, results.as_slice())?;
-    let ended = sweep_and_make(rt, &mut table, &marks, &mut results, further);
-    let count = count_told(alloc, &ended)?;
-    let live = table.live();
-    let lines = table.into_ledger().close().lines(alloc)?;
-    Ok(format!(in alloc; "{marked};{count};{live};{lines}")?)
+    let front = mark_and_sweep(rt, alloc, &mut table, &mut results, rest)?;
+    told(alloc, front.as_str(), table)
 }
 
 // A row is a script with a room, which nodes are marked, how many went, how many are live at the end, and the lines.
@@ -143,25 +162,51 @@ fn purge_and_settle(
     table.settle()
 }
 
+// Marks from two roots, and purges the cache. Which are marked.
+fn mark_and_purge(
+    rt: &impl Abort,
+    alloc: Global,
+    table: &mut Table<ProofText>,
+    cache: &mut AndCache,
+    results: &[Named],
+    roots: &str,
+) -> Result<String, Fail>
+    requires sound { IsSound table.old }
+    requires fits { Fits table.old (entries cache.old) }
+{
+    let (u, v) = operands(results, roots);
+    let marks = marks_from(rt, table, u, v)?;
+    purge_and_settle(table, cache, &marks)?;
+    marked(alloc, &marks, results)
+}
+
+// Conjoins the pair that stands before the bar, and purges the cache by the roots behind it.
+fn conjoin_and_purge(
+    rt: &impl Abort,
+    alloc: Global,
+    table: &mut Table<ProofText>,
+    results: &mut Vec<Named>,
+    words: &str,
+) -> Result<String, Fail>
+    requires sound { IsSound table.old }
+{
+    let (pair, roots) = halves(words);
+    let (u, v) = operands(results.as_slice(), pair);
+    let mut cache = no_entries(alloc, 9)?;
+    let (node, id) = conjoin(rt, table, &mut cache, u, v)?;
+    results.push(Named { node, id })?;
+    mark_and_purge(rt, alloc, table, &mut cache, results.as_slice(), roots)
+}
+
 // What is told of a script: nodes to make, behind a bar the pair to conjoin, and behind another one the roots to mark
 // with before the cache is purged.
 fn purged(rt: &impl Abort, alloc: Global, script: &str) -> Result<String, Fail> {
     let (made, rest) = halves(script);
-    let (pair, roots) = halves(rest);
     let mut table = opened(alloc, "9 99, 99 99")?;
     let mut results = Vec::new(alloc);
     make_all(rt, &mut table, &mut results, made)?;
-    let mut cache = no_entries(alloc, 9)?;
-    let (u, v) = operands(results.as_slice(), pair);
-    let (node, id) = conjoin(rt, &mut table, &mut cache, u, v)?;
-    results.push(Named { node, id })?;
-    let (one, other) = operands(results.as_slice(), roots);
-    let marks = marks_from(rt, &table, one, other)?;
-    let marked = marked(alloc, &marks, results.as_slice())?;
-    purge_and_settle(&mut table, &mut cache, &marks)?;
-    let live = table.live();
-    let lines = table.into_ledger().close().lines(alloc)?;
-    Ok(format!(in alloc; "{marked};{live};{lines}")?)
+    let front = conjoin_and_purge(rt, alloc, &mut table, &mut results, rest)?;
+    told(alloc, front.as_str(), table)
 }
 
 // A row is a script, which nodes are marked, how many are live, and the lines.

@@ -249,7 +249,7 @@ fn of_the_complaint(rt: HostRuntime) -> Result<(), Fail> {
 }
 
 // Words, a formula, a proof to be checked, and what stands afterwards, or the front of it.
-const PIECES: [(&str, &[u8], &[u8], &str); 12] = [
+const PIECES: [(&str, &[u8], &[u8], &str); 14] = [
     (
         "bddsat solve in.cnf --proof out.lrat",
         b"p cnf 0 0\n",
@@ -273,6 +273,12 @@ const PIECES: [(&str, &[u8], &[u8], &str); 12] = [
         BOTH,
         b"",
         "Unknown(NodeLimit)|c node limit 0 reached/s UNKNOWN/||",
+    ),
+    (
+        "bddsat solve in.cnf --proof out.lrat",
+        BOTH,
+        b"",
+        "Unsat|s UNSATISFIABLE/|3 2 -1 0 0/4 -2 1 0 -3 0/5 2 0 3 1 0/6 3 1 0 0/7 -3 -1 0 -6 0/8 3 0 6 2 0/9 -1 -2 -3 0 7 0/10 -2 -3 0 9 4 0/11 0 5 8 10 0/|",
     ),
     (
         "bddsat solve in.cnf --proof out.lrat --max-nodes 2",
@@ -306,6 +312,12 @@ const PIECES: [(&str, &[u8], &[u8], &str); 12] = [
     ),
     (
         "bddsat solve in.cnf --proof out.lrat --plan conjoin",
+        CHAIN,
+        b"",
+        "Sat|s SATISFIABLE/v 1 2 3 0/|",
+    ),
+    (
+        "bddsat solve in.cnf --proof out.lrat --order turned",
         CHAIN,
         b"",
         "Sat|s SATISFIABLE/v 1 2 3 0/|",

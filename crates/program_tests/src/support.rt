@@ -8,7 +8,7 @@ use solver_cli::Status;
 use std::alloc::{AllocError, Global};
 
 /// A host that has this formula in `in.cnf` and this proof in `in.lrat`, an order of no variables in `order`, and a schedule of
-/// one clause in `schedule`; an order of three variables in `natural`, and a schedule for three clauses in `moves`.
+/// one clause in `schedule`; two orders of three variables in `natural` and `turned`, and a schedule for three clauses in `moves`.
 pub fn host_of(alloc: Global, formula: &[u8], proof: &[u8]) -> Result<MemoryHost, OutOfMemory>
     ensures { IfOk result (λ host. (role : Role) → channel_of host role ≡ fresh) }
 {
@@ -18,6 +18,7 @@ pub fn host_of(alloc: Global, formula: &[u8], proof: &[u8]) -> Result<MemoryHost
     host.add_file("order", b"")?;
     host.add_file("schedule", b"c 1\n")?;
     host.add_file("natural", b"1 2 3\n")?;
+    host.add_file("turned", b"3 2 1\n")?;
     host.add_file("moves", b"c 1\nq 1\nc 2\na 2\nq 2\nc 3\na 2\nq 3\n")?;
     Ok(host)
 }
