@@ -36,7 +36,8 @@ start {channel = channel} text = record {
 }
 
 -- one more part was written
-pub went_on : {T : Type 0} {tells : Bool} {a b c : Channel} {text rest piece : List ℕ} {result : Result T Failed} → Underway tells a b text rest → WritesAll tells b c piece result → IsOk result
+pub went_on : {T : Type 0} {tells : Bool} {a b c : Channel} {text rest piece : List ℕ} {result : Result T Failed}
+    → Underway tells a b text rest → WritesAll tells b c piece result → IsOk result
     → (more : List ℕ) → rest ≡ piece ++ more → Underway tells a c text more
 went_on {a = a} {piece = piece} u w ok more parts = record {
   gained = u.gained ++ piece;
@@ -50,7 +51,8 @@ went_on {a = a} {piece = piece} u w ok more parts = record {
 }
 
 -- all of it was written
-pub complete : {T : Type 0} {tells : Bool} {a b : Channel} {text : List ℕ} {answer : Result T Failed} → Underway tells a b text [] → IsOk answer → WritesAll tells a b text answer
+pub complete : {T : Type 0} {tells : Bool} {a b : Channel} {text : List ℕ} {answer : Result T Failed} → Underway tells a b text []
+    → IsOk answer → WritesAll tells a b text answer
 complete {a = a} {answer = answer} u good = record {
   done = λ t _. u.written t ∙ ap (λ (l : List ℕ). a.written ++ l) (sym (u.balance ∙ append-nil u.gained));
   failed = λ _ err. absurd (not_both answer good err);
@@ -62,39 +64,54 @@ complete {a = a} {answer = answer} u good = record {
 }
 
 -- a write of the rest, or of a front of it
-pub ended : {T : Type 0} {tells : Bool} {a b c : Channel} {text piece : List ℕ} {result : Result T Failed} → Underway tells a b text piece → WritesAll tells b c piece result → WritesAll tells a c text result
+pub ended : {T : Type 0} {tells : Bool} {a b c : Channel} {text piece : List ℕ} {result : Result T Failed} → Underway tells a b text piece
+    → WritesAll tells b c piece result → WritesAll tells a c text result
 ended {a = a} {piece = piece} u w = record {
-  done = λ t ok. w.done t ok ∙ ap (λ (l : List ℕ). l ++ piece) (u.written t) ∙ append_assoc a.written u.gained piece ∙ ap (λ (l : List ℕ). a.written ++ l) (sym u.balance);
+  done = λ t ok. w.done t ok ∙ ap (λ (l : List ℕ). l ++ piece) (u.written t) ∙ append_assoc a.written u.gained piece
+      ∙ ap (λ (l : List ℕ). a.written ++ l) (sym u.balance);
   failed = λ t err.
       let front = w.failed t err in (
         length u.gained + front.0,
         front.1 ∙ ap (λ (l : List ℕ). l ++ take front.0 piece) (u.written t) ∙ append_assoc a.written u.gained (take front.0 piece)
-            ∙ ap (λ (l : List ℕ). a.written ++ l) (sym (ap (take (length u.gained + front.0)) u.balance ∙ take-append-add u.gained piece front.0)),
+            ∙ ap (λ (l : List ℕ). a.written ++ l) (sym (ap (take (length u.gained + front.0)) u.balance
+            ∙ take-append-add u.gained piece front.0)),
       );
   flushed = w.flushed ∙ u.flushed;
   taken = w.taken ∙ u.taken;
   left = w.left ∙ u.left;
   name = w.name ∙ u.name;
-  faults = record { no_less = omega (arith, u.faults, w.faults.no_less); cause = λ err. omega (arith, u.faults, w.faults.cause err); unfailed = λ ok. w.faults.unfailed ok ∙ u.faults };
+  faults = record {
+    no_less = omega (arith, u.faults, w.faults.no_less);
+    cause = λ err. omega (arith, u.faults, w.faults.cause err);
+    unfailed = λ ok. w.faults.unfailed ok ∙ u.faults;
+  };
 }
 
 -- a write that failed, of a part with more behind it
-pub failed_within : {T U : Type 0} {tells : Bool} {a b c : Channel} {text rest piece : List ℕ} {result : Result T Failed} {answer : Result U Failed} → Underway tells a b text rest
-    → WritesAll tells b c piece result → IsErr result → IsErr answer → (more : List ℕ) → rest ≡ piece ++ more → WritesAll tells a c text answer
+pub failed_within : {T U : Type 0} {tells : Bool} {a b c : Channel} {text rest piece : List ℕ} {result : Result T Failed}
+    {answer : Result U Failed} → Underway tells a b text rest
+    → WritesAll tells b c piece result → IsErr result → IsErr answer → (more : List ℕ) → rest ≡ piece ++ more
+    → WritesAll tells a c text answer
 failed_within {a = a} {text = text} {piece = piece} {answer = answer} u w err failed more parts = record {
   done = λ t ok. absurd (not_both answer ok failed);
   failed = λ t _.
       let front = w.failed t err in
       let halves : text ≡ (u.gained ++ take front.0 piece) ++ (drop front.0 piece ++ more) =
-      u.balance ∙ ap (λ (l : List ℕ). u.gained ++ l) (parts ∙ ap (λ (l : List ℕ). l ++ more) (sym (take-append-drop front.0 piece)) ∙ append_assoc (take front.0 piece) (drop front.0 piece) more)
+      u.balance ∙ ap (λ (l : List ℕ). u.gained ++ l) (parts ∙ ap (λ (l : List ℕ). l ++ more) (sym (take-append-drop front.0 piece))
+      ∙ append_assoc (take front.0 piece) (drop front.0 piece) more)
       ∙ sym (append_assoc u.gained (take front.0 piece) (drop front.0 piece ++ more)) in (
         length (u.gained ++ take front.0 piece),
         front.1 ∙ ap (λ (l : List ℕ). l ++ take front.0 piece) (u.written t) ∙ append_assoc a.written u.gained (take front.0 piece)
-            ∙ ap (λ (l : List ℕ). a.written ++ l) (sym (ap (take (length (u.gained ++ take front.0 piece))) halves ∙ take-append_seam (u.gained ++ take front.0 piece) (drop front.0 piece ++ more))),
+            ∙ ap (λ (l : List ℕ). a.written ++ l) (sym (ap (take (length (u.gained ++ take front.0 piece))) halves
+            ∙ take-append_seam (u.gained ++ take front.0 piece) (drop front.0 piece ++ more))),
       );
   flushed = w.flushed ∙ u.flushed;
   taken = w.taken ∙ u.taken;
   left = w.left ∙ u.left;
   name = w.name ∙ u.name;
-  faults = record { no_less = omega (arith, u.faults, w.faults.no_less); cause = λ _. omega (arith, u.faults, w.faults.cause err); unfailed = λ ok. absurd (not_both answer ok failed) };
+  faults = record {
+    no_less = omega (arith, u.faults, w.faults.no_less);
+    cause = λ _. omega (arith, u.faults, w.faults.cause err);
+    unfailed = λ ok. absurd (not_both answer ok failed);
+  };
 }

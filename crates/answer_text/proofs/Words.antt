@@ -1,5 +1,6 @@
 -- What the lines of a model are from one word on.
-use Rattle.std.proofs.Common.{◌≡◌, ℕ, ◌+◌, ◌<◌, ◌≤◌, ◌∷◌, ◌++◌, Bool, true, false, List, drop, length, get_or, refl, sym, ◌∙◌, ap, add-one, append_assoc, drop-cons, rules}
+use Rattle.std.proofs.Common.{◌≡◌, ℕ, ◌+◌, ◌<◌, ◌≤◌, ◌∷◌, ◌++◌, Bool, true, false, List, drop, length, get_or, refl, sym, ◌∙◌, ap, add-one}
+use Rattle.std.proofs.Common.{append_assoc, drop-cons, rules}
 use Rattle.std.specs.Prelude.{decimal, codes}
 use Rattle.std.proofs.lemmas.List.{drop_all}
 use Rattle.answer_text.specs.Model.{literal, max_width, words_from, has_room, separator, width_behind, wrapped}
@@ -23,20 +24,24 @@ rest_of : (i : ℕ) (values : List Bool) (d : Bool) → i < length values → dr
 rest_of i values d below = drop-cons values i d below ∙ ap (λ (n : ℕ). get_or values i d ∷ drop n values) (sym (add-one i))
 
 -- the text from the value of this index on
-pub next_word : (width i behind : ℕ) (values : List Bool) (d : Bool) → i < length values → behind ≡ width_behind width (literal (i + 1) (get_or values i d))
+pub next_word : (width i behind : ℕ) (values : List Bool) (d : Bool) → i < length values → behind
+    ≡ width_behind width (literal (i + 1) (get_or values i d))
     → wrapped width (words_from (i + 1) (drop i values))
-    ≡ (separator width (literal (i + 1) (get_or values i d)) ++ literal (i + 1) (get_or values i d)) ++ wrapped behind (words_from (i + 1 + 1) (drop (i + 1) values))
+    ≡ (separator width (literal (i + 1) (get_or values i d)) ++ literal (i + 1) (get_or values i d))
+    ++ wrapped behind (words_from (i + 1 + 1) (drop (i + 1) values))
 next_word width i behind values d below is =
     let word : List ℕ = literal (i + 1) (get_or values i d) in
     ap (λ (l : List Bool). wrapped width (words_from (i + 1) l)) (rest_of i values d below)
     ∙ ap (λ (n : ℕ). (separator width word ++ word) ++ wrapped n (words_from (i + 1 + 1) (drop (i + 1) values))) (sym is)
 
 -- the text behind the last value
-pub last_word : (width i : ℕ) (values : List Bool) → length values ≤ i → wrapped width (words_from (i + 1) (drop i values)) ≡ (separator width (codes "0") ++ codes "0") ++ codes "\n"
+pub last_word : (width i : ℕ) (values : List Bool) → length values ≤ i → wrapped width (words_from (i + 1) (drop i values))
+    ≡ (separator width (codes "0") ++ codes "0") ++ codes "\n"
 last_word width i values past = ap (λ (l : List Bool). wrapped width (words_from (i + 1) l)) (drop_all i values past)
 
 -- the line of a limit, and the line behind it
-pub limit_lines : (limit : List ℕ) (n : ℕ) → limit ++ (decimal n ++ codes " reached\ns UNKNOWN\n") ≡ limit ++ decimal n ++ codes " reached\n" ++ unknown_line
+pub limit_lines : (limit : List ℕ) (n : ℕ) → limit ++ (decimal n ++ codes " reached\ns UNKNOWN\n") ≡ limit ++ decimal n
+    ++ codes " reached\n" ++ unknown_line
 limit_lines limit n = simp append_assoc
 
 -- the line of a refusal, and the line behind it

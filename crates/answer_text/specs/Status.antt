@@ -2,7 +2,8 @@
 -- `s` line of an answer and `c` lines of comment. The words of a verdict, of a limit and of a reason are this project's own.)
 use Rattle.std.specs.Prelude.{ℕ, Bool, List, ◌++◌, decimal, codes}
 use Rattle.lrat_rules.specs.declared.outcome.Reason.{Reason}
-use Rattle.lrat_rules.specs.declared.outcome.Reason.TheVariants.{Syntax, IdNotGreater, HintNotLive, HintNotUnit, NoConflict, CandidateOpen, GroupStray, NoEmptyClause}
+use Rattle.lrat_rules.specs.declared.outcome.Reason.TheVariants.{Syntax, IdNotGreater, HintNotLive, HintNotUnit, NoConflict, CandidateOpen}
+use Rattle.lrat_rules.specs.declared.outcome.Reason.TheVariants.{GroupStray, NoEmptyClause}
 use Rattle.answer_text.specs.Model.{model_text}
 
 abbrev pub sat_line : List ℕ

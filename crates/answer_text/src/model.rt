@@ -31,7 +31,8 @@ fn write_literal<S: Sink>(
     value: bool,
 ) -> Result<usize, Failed>
     requires { width ≤ max_width }
-    ensures writes { WritesAll S.tells (S.channel sink.old) (S.channel sink.new) (separator width (literal variable value) ++ literal variable value) result }
+    ensures writes { WritesAll S.tells (S.channel sink.old) (S.channel sink.new) (separator width (literal variable value)
+        ++ literal variable value) result }
     ensures width { IfOk result (λ behind. behind ≡ width_behind width (literal variable value)) }
     ensures narrow { IfOk result (λ behind. behind ≤ max_width) }
     ensures beside { S.beside sink.new ≡ S.beside sink.old }
@@ -54,7 +55,8 @@ fn write_word<S: Sink>(
 ) -> Result<usize, Failed>
     requires width { width ≤ max_width }
     requires fits { 2 + length sign.now + length digits.now ≤ max_width }
-    ensures writes { WritesAll S.tells (S.channel sink.old) (S.channel sink.new) (separator width (sign.now ++ digits.now) ++ (sign.now ++ digits.now)) result }
+    ensures writes { WritesAll S.tells (S.channel sink.old) (S.channel sink.new) (separator width (sign.now ++ digits.now)
+        ++ (sign.now ++ digits.now)) result }
     ensures width { IfOk result (λ behind. behind ≡ width_behind width (sign.now ++ digits.now)) }
     ensures narrow { IfOk result (λ behind. behind ≤ max_width) }
     ensures beside { S.beside sink.new ≡ S.beside sink.old }

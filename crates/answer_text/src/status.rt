@@ -1,7 +1,8 @@
 // The lines of an outcome.
 ghost use Rattle.std.specs.Prelude.{◌≡◌, ◌++◌, decimal, codes};
 ghost use Rattle.host_io.specs.Channel.{WritesAll};
-ghost use Rattle.answer_text.specs.Status.{unsat_line, verified_line, sat_text, node_limit_text, id_limit_text, refused_text, reason_name, board_line, last_line};
+ghost use Rattle.answer_text.specs.Status.{unsat_line, verified_line, sat_text, node_limit_text, id_limit_text, refused_text, reason_name};
+ghost use Rattle.answer_text.specs.Status.{board_line, last_line};
 
 use crate::model::write_model;
 use host_io::{Failed, Sink, write_all};
@@ -112,7 +113,8 @@ fn reason_name(reason: Reason) -> &'static [u8]
 
 // Writes which limit was reached, and that the answer is unknown.
 fn write_limit<S: Sink>(sink: &mut S, limit: &[u8], n: u64) -> Result<(), Failed>
-    ensures writes { WritesAll S.tells (S.channel sink.old) (S.channel sink.new) (limit.now ++ (decimal n ++ codes " reached\ns UNKNOWN\n")) result }
+    ensures writes { WritesAll S.tells (S.channel sink.old) (S.channel sink.new) (limit.now
+        ++ (decimal n ++ codes " reached\ns UNKNOWN\n")) result }
     ensures beside { S.beside sink.new ≡ S.beside sink.old }
 {
     write_all(sink, limit)?;

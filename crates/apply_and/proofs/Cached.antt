@@ -10,7 +10,8 @@ use Rattle.apply_and.specs.declared.cache.Found.{Found}
 use Rattle.apply_and.specs.Cache.{entry_of}
 
 -- an entry tells its operands, and what was found
-pub tells_pair : (e : Pair × Found) (u v w : Node) (just : Just) → entry_of e ≡ Conjunction u v w just → (e.0 ≡ (u, v)) × (e.1.node ≡ w) × (just_numbered e.1.clause ≡ just)
+pub tells_pair : (e : Pair × Found) (u v w : Node) (just : Just) → entry_of e ≡ Conjunction u v w just → (e.0 ≡ (u, v)) × (e.1.node ≡ w)
+    × (just_numbered e.1.clause ≡ just)
 tells_pair e u v w just is =
     let first : e.0.0 ≡ u = cc in
     let second : e.0.1 ≡ v = cc in

@@ -42,7 +42,8 @@ memory_no_limit is = cc
 
 module _ {S : Type 0} {tells : Bool} {channel : S → Channel} {lent : S → Beside} where
   -- a call that is refused for want of memory before anything changed
-  pub refused : StepByStep tells channel → Accounting S → Pricing S Found → Subfunctions → (table : TableState S) (cache : AndCache) → IsSound table → Fits table (entries cache) → (u v : Node)
+  pub refused : StepByStep tells channel → Accounting S → Pricing S Found → Subfunctions → (table : TableState S) (cache : AndCache)
+      → IsSound table → Fits table (entries cache) → (u v : Node)
       → Conjoins tells channel lent table cache u v table cache (Err OutOfMemory)
   refused law accounts pricing parts table cache sound fits u v = record {
     conjoined = tt;
@@ -59,9 +60,13 @@ module _ {S : Type 0} {tells : Bool} {channel : S → Channel} {lent : S → Bes
   }
 
   -- a call that is split: its high side, its low one, and the node of their results
-  module _ (law : StepByStep tells channel) (budget : Budget tells channel) (splits : Splitting) (growth : Growth) (fitting : Fitting S) (accounts : Accounting S) (caches : Keeping Pair Found same_pair) (pricing : Pricing S Found) (parts : Subfunctions) (paths : Reachability)
-      (old : TableState S) (before : AndCache) (sound : IsSound old) (o : Operands) (split : AreSplit old.graph o) (unknown : IsUnknown before o.u o.v) where
-    pub high_failed : (one : TableState S) (cache_one : AndCache) (came : TableError) → Conjoins tells channel lent old before o.u_high o.v_high one cache_one (Err came)
+  module _ (law : StepByStep tells channel) (budget : Budget tells channel) (splits : Splitting) (growth : Growth) (fitting : Fitting S)
+      (accounts : Accounting S) (caches : Keeping Pair Found same_pair) (pricing : Pricing S Found) (parts : Subfunctions)
+      (paths : Reachability)
+      (old : TableState S) (before : AndCache) (sound : IsSound old) (o : Operands) (split : AreSplit old.graph o)
+      (unknown : IsUnknown before o.u o.v) where
+    pub high_failed : (one : TableState S) (cache_one : AndCache) (came : TableError)
+        → Conjoins tells channel lent old before o.u_high o.v_high one cache_one (Err came)
         → Conjoins tells channel lent old before o.u o.v one cache_one (Err came)
     high_failed one cache_one came by_high = record {
       conjoined = tt;
@@ -77,7 +82,8 @@ module _ {S : Type 0} {tells : Bool} {channel : S → Channel} {lent : S → Bes
       beside = by_high.beside;
     }
 
-    module _ (one : TableState S) (cache_one : AndCache) (high : Node × Just) (by_high : Conjoins tells channel lent old before o.u_high o.v_high one cache_one (Ok high)) where
+    module _ (one : TableState S) (cache_one : AndCache) (high : Node
+        × Just) (by_high : Conjoins tells channel lent old before o.u_high o.v_high one cache_one (Ok high)) where
       sound_one : IsSound one
       sound_one = by_high.steps.leaves.sound
 
@@ -85,14 +91,17 @@ module _ {S : Type 0} {tells : Bool} {channel : S → Channel} {lent : S → Bes
       split_high = splits.kept old.graph one.graph by_high.steps.extends.nodes o split
 
       -- what the low side adds to the high one, however it ends
-      module _ (two : TableState S) (cache_two : AndCache) (by : Answer) (by_low : Conjoins tells channel lent one cache_one o.u_low o.v_low two cache_two by) where
+      module _ (two : TableState S) (cache_two : AndCache) (by : Answer)
+          (by_low : Conjoins tells channel lent one cache_one o.u_low o.v_low two cache_two by) where
         accounts_both : AccountsFor old two (entries before) (entries cache_two) (error_of by)
-        accounts_both = accounts.further old one two (entries before) (entries cache_one) (entries cache_two) (error_of by) by_high.steps.extends by_low.steps.extends by_high.accounts by_low.accounts
+        accounts_both = accounts.further old one two (entries before) (entries cache_one) (entries cache_two)
+            (error_of by) by_high.steps.extends by_low.steps.extends by_high.accounts by_low.accounts
 
         remembers_both : Remembers entry_of before.results cache_two.results
         remembers_both = caches.further entry_of before.results cache_one.results cache_two.results by_high.remembers by_low.remembers
 
-      pub low_failed : (two : TableState S) (cache_two : AndCache) (came : TableError) → Conjoins tells channel lent one cache_one o.u_low o.v_low two cache_two (Err came)
+      pub low_failed : (two : TableState S) (cache_two : AndCache) (came : TableError)
+          → Conjoins tells channel lent one cache_one o.u_low o.v_low two cache_two (Err came)
           → Conjoins tells channel lent old before o.u o.v two cache_two (Err came)
       low_failed two cache_two came by_low = record {
         conjoined = tt;
@@ -101,16 +110,20 @@ module _ {S : Type 0} {tells : Bool} {channel : S → Channel} {lent : S → Bes
         unretired = tt;
         kept = λ differ first second. tt;
         remembers = remembers_both two cache_two (Err came) by_low;
-        price = pricing.low_last old one two before.results cache_one.results cache_two.results o (Some came) sound.tied.reduced sound_one.tied.reduced by_high.steps.extends.nodes split by_high.remembers.capacity
+        price = pricing.low_last old one two before.results cache_one.results cache_two.results o
+            (Some came) sound.tied.reduced sound_one.tied.reduced by_high.steps.extends.nodes split by_high.remembers.capacity
             by_high.price by_low.price;
-        made = made_low parts growth splits old.graph sound.tied.reduced o split o.u o.v (refl, refl) one.graph sound_one.tied.reduced by_high.steps.extends.nodes by_high.made
+        made = made_low parts growth splits old.graph sound.tied.reduced o split o.u o.v
+            (refl, refl) one.graph sound_one.tied.reduced by_high.steps.extends.nodes by_high.made
             two.graph by_low.steps.extends.nodes by_low.made;
         reachable = tt;
-        lacks = λ is. lacks_low parts growth splits old.graph sound.tied.reduced o split o.u o.v (refl, refl) one.graph sound_one.tied.reduced by_high.steps.extends.nodes two.graph (by_low.lacks is);
+        lacks = λ is. lacks_low parts growth splits old.graph sound.tied.reduced o split o.u o.v
+            (refl, refl) one.graph sound_one.tied.reduced by_high.steps.extends.nodes two.graph (by_low.lacks is);
         beside = by_low.beside ∙ by_high.beside;
       }
 
-      module _ (two : TableState S) (cache_two : AndCache) (low : Node × Just) (by_low : Conjoins tells channel lent one cache_one o.u_low o.v_low two cache_two (Ok low)) where
+      module _ (two : TableState S) (cache_two : AndCache) (low : Node
+          × Just) (by_low : Conjoins tells channel lent one cache_one o.u_low o.v_low two cache_two (Ok low)) where
         pub ready : IsReady two.graph two.book.state.live o high low
         ready = record {
           split = splits.kept one.graph two.graph by_low.steps.extends.nodes o split_high;
@@ -118,36 +131,48 @@ module _ {S : Type 0} {tells : Bool} {channel : S → Channel} {lent : S → Bes
           on_low = by_low.conjoined;
         }
 
-        price_all : (three : TableState S) (cache_three : AndCache) (result : Answer) → Closes tells channel lent two cache_two o high low three cache_three result
+        price_all : (three : TableState S) (cache_three : AndCache) (result : Answer)
+            → Closes tells channel lent two cache_two o high low three cache_three result
             → Prices old before.results o.u o.v three cache_three.results (error_of result)
         price_all three cache_three result closes =
-            pricing.closed old one two three before.results cache_one.results cache_two.results cache_three.results o (error_of result) sound.tied.reduced sound_one.tied.reduced by_high.steps.extends.nodes split
-            unknown.first unknown.second unknown.unused by_high.remembers.capacity by_low.remembers.capacity by_high.price by_low.price closes.steps.adds
+            pricing.closed old one two three before.results cache_one.results cache_two.results cache_three.results o
+            (error_of result) sound.tied.reduced sound_one.tied.reduced by_high.steps.extends.nodes split
+            unknown.first unknown.second unknown.unused by_high.remembers.capacity by_low.remembers.capacity by_high.price by_low.price
+            closes.steps.adds
             (λ used front unused few. when_ok result (closes.used used front unused few))
 
-        reached : (three : TableState S) (cache_three : AndCache) (result : Answer) → Closes tells channel lent two cache_two o high low three cache_three result
+        reached : (three : TableState S) (cache_three : AndCache) (result : Answer)
+            → Closes tells channel lent two cache_two o high low three cache_three result
             → IfOk result (λ found. ReachesNew old.graph three.graph found.0)
         reached three cache_three (Err came) closes = tt
         reached three cache_three (Ok found) closes =
-            reached_all paths old.graph one.graph two.graph three.graph sound_one.tied.reduced by_low.steps.leaves.sound.tied.reduced by_low.steps.extends.nodes closes.steps.extends.nodes
-            o.level high.0 low.0 found.0 by_high.conjoined.stands by_low.conjoined.stands by_high.reachable by_low.reachable closes.reachable closes.children
+            reached_all paths old.graph one.graph two.graph three.graph sound_one.tied.reduced by_low.steps.leaves.sound.tied.reduced
+            by_low.steps.extends.nodes closes.steps.extends.nodes
+            o.level high.0 low.0 found.0 by_high.conjoined.stands by_low.conjoined.stands by_high.reachable by_low.reachable
+            closes.reachable closes.children
 
-        pub closed : (three : TableState S) (cache_three : AndCache) (result : Answer) → Closes tells channel lent two cache_two o high low three cache_three result
+        pub closed : (three : TableState S) (cache_three : AndCache) (result : Answer)
+            → Closes tells channel lent two cache_two o high low three cache_three result
             → Conjoins tells channel lent old before o.u o.v three cache_three result
         closed three cache_three result closes = record {
           conjoined = closes.conjoined;
           steps = budget.both old one two three o (error_of result) sound split by_high.steps by_low.steps closes.steps;
-          accounts = accounts.further old two three (entries before) (entries cache_two) (entries cache_three) (error_of result) (law.extend old one two by_high.steps.extends by_low.steps.extends) closes.steps.extends
+          accounts = accounts.further old two three (entries before) (entries cache_two) (entries cache_three) (error_of result)
+              (law.extend old one two by_high.steps.extends by_low.steps.extends) closes.steps.extends
               (accounts_both two cache_two (Ok low) by_low) closes.accounts;
           unretired = closes.unretired;
           kept = λ differ first second. closes.kept;
-          remembers = caches.makes_room entry_of before.results cache_two.results cache_three.results (o.u, o.v) (λ found. unknown.none found.node (just_numbered found.clause))
+          remembers = caches.makes_room entry_of before.results cache_two.results cache_three.results (o.u, o.v)
+              (λ found. unknown.none found.node (just_numbered found.clause))
               (remembers_both two cache_two (Ok low) by_low) closes.room;
           price = price_all three cache_three result closes;
-          made = made_all parts growth splits old.graph sound.tied.reduced o split o.u o.v (refl, refl) one.graph sound_one.tied.reduced by_high.steps.extends.nodes by_high.made
-              two.graph three.graph by_low.steps.leaves.sound.tied.reduced by_low.steps.extends.nodes closes.steps.extends.nodes by_low.made closes.made;
+          made = made_all parts growth splits old.graph sound.tied.reduced o split o.u o.v
+              (refl, refl) one.graph sound_one.tied.reduced by_high.steps.extends.nodes by_high.made
+              two.graph three.graph by_low.steps.leaves.sound.tied.reduced by_low.steps.extends.nodes closes.steps.extends.nodes by_low.made
+              closes.made;
           reachable = reached three cache_three result closes;
-          lacks = λ is. lacks_both parts growth splits old.graph sound.tied.reduced o split o.u o.v (refl, refl) one.graph sound_one.tied.reduced by_high.steps.extends.nodes
+          lacks = λ is. lacks_both parts growth splits old.graph sound.tied.reduced o split o.u o.v
+              (refl, refl) one.graph sound_one.tied.reduced by_high.steps.extends.nodes
               two.graph three.graph by_low.steps.extends.nodes (closes.lacks is);
           beside = closes.beside ∙ (by_low.beside ∙ by_high.beside);
         }

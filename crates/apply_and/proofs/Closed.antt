@@ -19,19 +19,25 @@ use Rattle.operations.specs.Sides.{cofactor_at}
 use Rattle.apply_and.specs.Additions.{IsSide}
 use Rattle.apply_and.proofs.ConjunctionClauses.{conjunction_apart, conjunction_open, conjunction_owned}
 
-module _ (literals : Literals) (splits : Splitting) (graph : Graph) (reduced : IsReduced graph) (ordered : IsOrder graph.order) (live : Live) (o : Operands) (split : AreSplit graph o) (w : Node) (side : Side) (found : Node × Just)
-    (finished : IsSide graph live o w side found) (clause : List ℤ) (is : clause_of (conjunction_atoms graph o.u o.v w) ≡ Some clause) (among : are_among (conjunction_atoms graph o.u o.v w) clause ≡ true) where
+module _ (literals : Literals) (splits : Splitting) (graph : Graph) (reduced : IsReduced graph) (ordered : IsOrder graph.order)
+    (live : Live) (o : Operands) (split : AreSplit graph o) (w : Node) (side : Side) (found : Node × Just)
+    (finished : IsSide graph live o w side found) (clause : List ℤ) (is : clause_of (conjunction_atoms graph o.u o.v w)
+    ≡ Some clause) (among : are_among (conjunction_atoms graph o.u o.v w) clause ≡ true) where
   pub low_apart : are_apart clause ≡ true
-  low_apart = conjunction_apart literals graph reduced o.u o.v w split.first split.second split.differ finished.first_differs finished.second_differs clause is
+  low_apart = conjunction_apart literals graph reduced o.u o.v w split.first split.second split.differ finished.first_differs
+      finished.second_differs clause is
 
   pub is_open : is_trivial (conjunction_atoms graph o.u o.v w) ≡ false
-  is_open = conjunction_open literals graph reduced o.u o.v w split.first split.second split.differ finished.first_differs finished.second_differs clause is
+  is_open = conjunction_open literals graph reduced o.u o.v w split.first split.second split.differ finished.first_differs
+      finished.second_differs clause is
 
   pub low_over : IsOverNodes graph clause
   low_over y there above = conjunction_owned literals graph o.u o.v w clause among y there
 
-  high_both : (are_apart (neg_ℤ (pos (variable_at graph o.level)) ∷ clause) ≡ true) × IsOverNodes graph (neg_ℤ (pos (variable_at graph o.level)) ∷ clause)
-  high_both = literals.behind graph reduced ordered o.level (splits.level graph reduced o split) clause (conjunction_owned literals graph o.u o.v w clause among) low_apart
+  high_both : (are_apart (neg_ℤ (pos (variable_at graph o.level)) ∷ clause) ≡ true)
+      × IsOverNodes graph (neg_ℤ (pos (variable_at graph o.level)) ∷ clause)
+  high_both = literals.behind graph reduced ordered o.level (splits.level graph reduced o split) clause
+      (conjunction_owned literals graph o.u o.v w clause among) low_apart
 
   pub high_apart : are_apart (neg_ℤ (pos (variable_at graph o.level)) ∷ clause) ≡ true
   high_apart = high_both.0
@@ -39,10 +45,13 @@ module _ (literals : Literals) (splits : Splitting) (graph : Graph) (reduced : I
   pub high_over : IsOverNodes graph (neg_ℤ (pos (variable_at graph o.level)) ∷ clause)
   high_over = high_both.1
 
-  pub high_clause : clause_of (where_true (pos (variable_at graph o.level)) (conjunction_atoms graph o.u o.v w)) ≡ Some (neg_ℤ (pos (variable_at graph o.level)) ∷ clause)
+  pub high_clause : clause_of (where_true (pos (variable_at graph o.level)) (conjunction_atoms graph o.u o.v w))
+      ≡ Some (neg_ℤ (pos (variable_at graph o.level)) ∷ clause)
   high_clause = ap (λ c. option_map (λ literals. neg_ℤ (pos (variable_at graph o.level)) ∷ literals) c) is
 
   -- the finished side's clause speaks of w's cofactor
-  pub side_justified : IsJustified live (conjunction_atoms graph (cofactor_at side graph o.level o.u) (cofactor_at side graph o.level o.v) (cofactor_at side graph o.level w)) found.1
+  pub side_justified : IsJustified live (conjunction_atoms graph (cofactor_at side graph o.level o.u) (cofactor_at side graph o.level o.v)
+      (cofactor_at side graph o.level w)) found.1
   side_justified =
-      subst (λ (n : Node). IsJustified live (conjunction_atoms graph (cofactor_at side graph o.level o.u) (cofactor_at side graph o.level o.v) n) found.1) (sym finished.cofactor) finished.justified
+      subst (λ (n : Node). IsJustified live (conjunction_atoms graph (cofactor_at side graph o.level o.u)
+      (cofactor_at side graph o.level o.v) n) found.1) (sym finished.cofactor) finished.justified

@@ -33,13 +33,15 @@ inner_of graph False stands apart = absurd (apart.0 refl)
 inner_of graph True stands apart = absurd (apart.1 refl)
 inner_of graph (Inner key) stands apart = inner_by graph (Inner key) (branch_at graph key.index) refl stands
   where
-    inner_by : (graph : Graph) (node : Node) (found : Option Branch) → branch_of graph node ≡ found → is_some found ≡ true → IsInner graph node
+    inner_by : (graph : Graph) (node : Node) (found : Option Branch) → branch_of graph node ≡ found → is_some found ≡ true
+        → IsInner graph node
     inner_by graph node None is stands = cc
     inner_by graph node (Some branch) is stands = record { branch = branch; is = is }
 
 module _ {S : Type 0} {tells : Bool} {channel : S → Channel} {lent : S → Beside} where
   -- a pair whose answer isn't known is neither kept nor plain
-  answers_unknown : (old : TableState S) (before : AndCache) (u v : Node) → IsUnknown before u v → (new : TableState S) (after : AndCache) (result : Answer) → Conjoins tells channel lent old before u v new after result
+  answers_unknown : (old : TableState S) (before : AndCache) (u v : Node) → IsUnknown before u v
+      → (new : TableState S) (after : AndCache) (result : Answer) → Conjoins tells channel lent old before u v new after result
       → Answers tells channel lent old before u v new after result
   answers_unknown old before u v unknown new after result call = record {
     call = call;
@@ -47,38 +49,61 @@ module _ {S : Type 0} {tells : Bool} {channel : S → Channel} {lent : S → Bes
     plain = λ w plain. absurd (not_plain u v w unknown.differ unknown.first unknown.second plain);
   }
 
-  module _ (law : StepByStep tells channel) (budget : Budget tells channel) (splits : Splitting) (growth : Growth) (fitting : Fitting S) (accounts : Accounting S) (caches : Keeping Pair Found same_pair) (pricing : Pricing S Found) (parts : Subfunctions) (paths : Reachability)
-      (old : TableState S) (before : AndCache) (sound : IsSound old) (fits : Fits old (entries before)) (o : Operands) (split : AreSplit old.graph o) (unknown : IsUnknown before o.u o.v) where
-    ended : (new : TableState S) (after : AndCache) (result : Answer) → Conjoins tells channel lent old before o.u o.v new after result → Answers tells channel lent old before o.u o.v new after result
+  module _ (law : StepByStep tells channel) (budget : Budget tells channel) (splits : Splitting) (growth : Growth) (fitting : Fitting S)
+      (accounts : Accounting S) (caches : Keeping Pair Found same_pair) (pricing : Pricing S Found) (parts : Subfunctions)
+      (paths : Reachability)
+      (old : TableState S) (before : AndCache) (sound : IsSound old) (fits : Fits old (entries before)) (o : Operands)
+      (split : AreSplit old.graph o) (unknown : IsUnknown before o.u o.v) where
+    ended : (new : TableState S) (after : AndCache) (result : Answer) → Conjoins tells channel lent old before o.u o.v new after result
+        → Answers tells channel lent old before o.u o.v new after result
     ended = answers_unknown old before o.u o.v unknown
 
-    module _ (one : TableState S) (cache_one : AndCache) (high : Node × Just) (by_high : Conjoins tells channel lent old before o.u_high o.v_high one cache_one (Ok high)) where
-      low_came : (two : TableState S) (cache_two : AndCache) (result : Answer) → Conjoins tells channel lent one cache_one o.u_low o.v_low two cache_two result
+    module _ (one : TableState S) (cache_one : AndCache) (high : Node
+        × Just) (by_high : Conjoins tells channel lent old before o.u_high o.v_high one cache_one (Ok high)) where
+      low_came : (two : TableState S) (cache_two : AndCache) (result : Answer)
+          → Conjoins tells channel lent one cache_one o.u_low o.v_low two cache_two result
           → LowCame (conjunctions tells channel lent) (Answers tells channel lent old before o.u o.v) o high two cache_two result
       low_came two cache_two (Err came) by_low =
-          ended two cache_two (Err came) (low_failed law budget splits growth fitting accounts caches pricing parts paths old before sound o split unknown one cache_one high by_high two cache_two came by_low)
+          ended two cache_two (Err came)
+          (low_failed law budget splits growth fitting accounts caches pricing parts paths old before sound o split unknown one
+          cache_one high by_high two cache_two came by_low)
       low_came two cache_two (Ok low) by_low =
-          let sides = ready law budget splits growth fitting accounts caches pricing parts paths old before sound o split unknown one cache_one high by_high two cache_two low by_low in record {
-            ready = record { sound = by_low.steps.leaves.sound; fits = by_low.accounts.fits none_whole; split = sides.split; on_high = sides.on_high; on_low = sides.on_low };
+          let sides = ready law budget splits growth fitting accounts caches pricing parts paths old before sound o split unknown one
+          cache_one high by_high two cache_two low by_low in record {
+            ready = record {
+              sound = by_low.steps.leaves.sound;
+              fits = by_low.accounts.fits none_whole;
+              split = sides.split;
+              on_high = sides.on_high;
+              on_low = sides.on_low;
+            };
             closes = λ three cache_three result closing.
-                ended three cache_three result (closed law budget splits growth fitting accounts caches pricing parts paths old before sound o split unknown one cache_one high by_high two cache_two low by_low three cache_three result closing);
+                ended three cache_three result
+                (closed law budget splits growth fitting accounts caches pricing parts paths old before sound o split unknown one
+                cache_one high by_high two cache_two low by_low three cache_three result closing);
           }
 
-      awaits_low : AwaitsLow (conjunctions tells channel lent) (Answers tells channel lent old before o.u o.v) one cache_one o high (o.u_low, o.v_low)
+      awaits_low : AwaitsLow (conjunctions tells channel lent) (Answers tells channel lent old before o.u o.v) one cache_one o high
+          (o.u_low, o.v_low)
       awaits_low =
           let sound_one = by_high.steps.leaves.sound in
-          let split_one = split_high law budget splits growth fitting accounts caches pricing parts paths old before sound o split unknown one cache_one high by_high in
+          let split_one = split_high law budget splits growth fitting accounts caches pricing parts paths old before sound o split unknown
+          one cache_one high by_high in
           let first = splits.u_low one.graph sound_one.tied.reduced o split_one in
           let second = splits.v_low one.graph sound_one.tied.reduced o split_one in record {
-            refused = low_came one cache_one (Err OutOfMemory) (refused law accounts pricing parts one cache_one sound_one (by_high.accounts.fits none_whole) o.u_low o.v_low);
+            refused = low_came one cache_one (Err OutOfMemory) (refused law accounts pricing parts one cache_one sound_one
+                (by_high.accounts.fits none_whole) o.u_low o.v_low);
             ready = record { sound = sound_one; first = first.stands; second = second.stands; fits = by_high.accounts.fits none_whole };
             later = both_later o.level (level_of one.graph o.u_low) (level_of one.graph o.v_low) first.below second.below;
             low = λ two cache_two result ends. low_came two cache_two result ends.call;
           }
 
-    high_came : (one : TableState S) (cache_one : AndCache) (result : Answer) → Conjoins tells channel lent old before o.u_high o.v_high one cache_one result
+    high_came : (one : TableState S) (cache_one : AndCache) (result : Answer)
+        → Conjoins tells channel lent old before o.u_high o.v_high one cache_one result
         → HighCame (conjunctions tells channel lent) (Answers tells channel lent old before o.u o.v) o one cache_one result
-    high_came one cache_one (Err came) by_high = ended one cache_one (Err came) (high_failed law budget splits growth fitting accounts caches pricing parts paths old before sound o split unknown one cache_one came by_high)
+    high_came one cache_one (Err came) by_high = ended one cache_one (Err came)
+        (high_failed law budget splits growth fitting accounts caches pricing parts paths old before sound o split unknown one cache_one
+        came by_high)
     high_came one cache_one (Ok high) by_high = awaits_low one cache_one high by_high
 
     opened : IsOpened (conjunctions tells channel lent) (Answers tells channel lent old before o.u o.v) old before o
@@ -93,12 +118,19 @@ module _ {S : Type 0} {tells : Bool} {channel : S → Channel} {lent : S → Bes
         }
 
   -- what a call is answered that was split
-  pub split_answered : StepByStep tells channel → Budget tells channel → Splitting → Growth → Fitting S → Accounting S → Keeping Pair Found same_pair → Pricing S Found → Subfunctions → Reachability → (old : TableState S) (before after : AndCache) (u v : Node) → CanConjoin old before u v
-      → (o : Operands) → AreSplit old.graph o → (o.u ≡ u) × (o.v ≡ v) → (after ≡ before) × IsUnknown before u v → IsAnswer (conjunctions tells channel lent) old before (u, v) old after (Ok (Open o))
+  pub split_answered : StepByStep tells channel → Budget tells channel → Splitting → Growth → Fitting S → Accounting S
+      → Keeping Pair Found same_pair → Pricing S Found → Subfunctions → Reachability
+      → (old : TableState S) (before after : AndCache) (u v : Node) → CanConjoin old before u v
+      → (o : Operands) → AreSplit old.graph o → (o.u ≡ u) × (o.v ≡ v) → (after ≡ before) × IsUnknown before u v
+      → IsAnswer (conjunctions tells channel lent) old before (u, v) old after (Ok (Open o))
   split_answered law budget splits growth fitting accounts caches pricing parts paths old before after u v can o split same missed =
-      let unknown : IsUnknown before o.u o.v = subst (λ (x : Node). IsUnknown before x o.v) (sym same.0) (subst (λ (y : Node). IsUnknown before u y) (sym same.1) missed.1) in
-      let own : IsAnswer (conjunctions tells channel lent) old before (o.u, o.v) old before (Ok (Open o)) =
-      (no_later old.graph o split, opened law budget splits growth fitting accounts caches pricing parts paths old before can.sound can.fits o split unknown) in
+      let unknown : IsUnknown before o.u o.v = subst (λ (x : Node). IsUnknown before x o.v) (sym same.0)
+      (subst (λ (y : Node). IsUnknown before u y) (sym same.1) missed.1) in
+      let own : IsAnswer (conjunctions tells channel lent) old before (o.u, o.v) old before (Ok (Open o)) = (
+        no_later old.graph o split,
+        opened law budget splits growth fitting accounts caches pricing parts paths old before can.sound can.fits
+            o split unknown,
+      ) in
       subst (λ (c : AndCache). IsAnswer (conjunctions tells channel lent) old before (u, v) old c (Ok (Open o))) (sym missed.0)
       (subst (λ (y : Node). IsAnswer (conjunctions tells channel lent) old before (u, y) old before (Ok (Open o))) same.1
       (subst (λ (x : Node). IsAnswer (conjunctions tells channel lent) old before (x, o.v) old before (Ok (Open o))) same.0 own))

@@ -17,7 +17,8 @@ pub record IsSide (graph : Graph) (live : Live) (o : Operands) (w : Node) (side 
   pub first_differs : w ≢ o.u
   pub second_differs : w ≢ o.v
   pub cofactor : cofactor_at side graph o.level w ≡ found.0
-  pub justified : IsJustified live (conjunction_atoms graph (cofactor_at side graph o.level o.u) (cofactor_at side graph o.level o.v) found.0) found.1
+  pub justified : IsJustified live (conjunction_atoms graph (cofactor_at side graph o.level o.u)
+      (cofactor_at side graph o.level o.v) found.0) found.1
 
 pub record AreSides (graph : Graph) (live : Live) (o : Operands) (w : Node) (high low : Node × Just) : Type 0 where
   pub on_high : IsSide graph live o w High high

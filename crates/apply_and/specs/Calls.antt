@@ -27,10 +27,12 @@ use Rattle.apply_and.specs.Cache.{Pair, StandInFront, entries, entry_of, is_one,
 
 -- The call for u and v began with this table and this cache, and ended with those and this result: what it found, made,
 -- kept and retired, and how many clauses it added.
-pub record Conjoins {S : Type 0} (tells : Bool) (channel : S → Channel) (lent : S → Beside) (old : TableState S) (before : AndCache) (u v : Node) (new : TableState S) (after : AndCache)
+pub record Conjoins {S : Type 0} (tells : Bool) (channel : S → Channel) (lent : S
+    → Beside) (old : TableState S) (before : AndCache) (u v : Node) (new : TableState S) (after : AndCache)
     (result : Result (Node × Just) TableError) : Type 0 where
   pub conjoined : IfOk result (λ found. Conjoined new.graph new.book.state.live u v found.0 found.1)
-  pub steps : Steps tells (channel old.book.sink) (channel new.book.sink) old new (most_additions (levels_from old.graph u v)) (error_of result)
+  pub steps : Steps tells (channel old.book.sink) (channel new.book.sink) old new (most_additions (levels_from old.graph u v))
+      (error_of result)
   pub accounts : AccountsFor old new (entries before) (entries after) (error_of result)
   pub unretired : IfOk result (λ found. (id : ℕ) → found.1 ≡ Clause id → Contains new.retired id → ⊥)
   pub kept : u ≢ v → IsNoConstant u → IsNoConstant v → IfOk result (λ found. Contains (entries after) (Conjunction u v found.0 found.1))
@@ -42,7 +44,8 @@ pub record Conjoins {S : Type 0} (tells : Bool) (channel : S → Channel) (lent 
   pub beside : lent new.book.sink ≡ lent old.book.sink
 
 -- The step from the results of both sides to the conjunction of these operands, which is kept.
-pub record Closes {S : Type 0} (tells : Bool) (channel : S → Channel) (lent : S → Beside) (old : TableState S) (before : AndCache) (o : Operands) (high low : Node × Just) (new : TableState S) (after : AndCache)
+pub record Closes {S : Type 0} (tells : Bool) (channel : S → Channel) (lent : S
+    → Beside) (old : TableState S) (before : AndCache) (o : Operands) (high low : Node × Just) (new : TableState S) (after : AndCache)
     (result : Result (Node × Just) TableError) : Type 0 where
   pub conjoined : IfOk result (λ found. Conjoined new.graph new.book.state.live o.u o.v found.0 found.1)
   pub steps : Steps tells (channel old.book.sink) (channel new.book.sink) old new 2 (error_of result)
@@ -50,7 +53,8 @@ pub record Closes {S : Type 0} (tells : Bool) (channel : S → Channel) (lent : 
   pub unretired : IfOk result (λ found. (id : ℕ) → found.1 ≡ Clause id → Contains new.retired id → ⊥)
   pub kept : IfOk result (λ found. Contains (entries after) (Conjunction o.u o.v found.0 found.1))
   pub room : MakesRoom entry_of before.results after.results (o.u, o.v)
-  pub used : (used : List Pair) → StandInFront before used → IsFalse (is_one used (o.u, o.v)) → length used < most_entries before → IfOk result (λ found. StandInFront after ((o.u, o.v) ∷ used))
+  pub used : (used : List Pair) → StandInFront before used → IsFalse (is_one used (o.u, o.v)) → length used < most_entries before
+      → IfOk result (λ found. StandInFront after ((o.u, o.v) ∷ used))
   pub children : IfOk result (λ found. HasChildren new.graph o.level high.0 low.0 found.0)
   pub made : MakesOnly old.graph new.graph (conjunction_of old.graph o.u o.v)
   pub reachable : IfOk result (λ found. ReachesNew old.graph new.graph found.0)
@@ -81,10 +85,12 @@ pub record CanClose {S : Type 0} (table : TableState S) (cache : AndCache) (o : 
   pub on_low : Conjoined table.graph table.book.state.live o.u_low o.v_low low.0 low.1
 
 -- A call, and what a plain pair and one that is kept are answered.
-pub record Answers {S : Type 0} (tells : Bool) (channel : S → Channel) (lent : S → Beside) (old : TableState S) (before : AndCache) (u v : Node) (new : TableState S) (after : AndCache)
+pub record Answers {S : Type 0} (tells : Bool) (channel : S → Channel) (lent : S
+    → Beside) (old : TableState S) (before : AndCache) (u v : Node) (new : TableState S) (after : AndCache)
     (result : Result (Node × Just) TableError) : Type 0 where
   pub call : Conjoins tells channel lent old before u v new after result
-  pub known : (w : Node) (just : Just) → Contains (entries before) (Conjunction u v w just) → (result ≡ Ok (w, just)) × (new ≡ old) × HaveSame (entries before) (entries after)
+  pub known : (w : Node) (just : Just) → Contains (entries before) (Conjunction u v w just) → (result ≡ Ok (w, just)) × (new ≡ old)
+      × HaveSame (entries before) (entries after)
   pub plain : (w : Node) → IsPlain u v w → (result ≡ Ok (w, Trivial)) × (new ≡ old) × (after ≡ before)
 
 -- The conjunction as an operation on diagrams: a pair is split into that of its high cofactors and that of its low ones.

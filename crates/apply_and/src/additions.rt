@@ -45,7 +45,8 @@ pub fn justify<S: Sink + Drop>(
     requires sound { IsSound table.old }
     requires split { AreSplit table.old.graph operands.now }
     requires sides { AreSides table.old.graph table.old.book.state.live operands.now w high.now low.now }
-    ensures justified { IfOk result (λ just. IsJustified table.new.book.state.live (conjunction_atoms table.new.graph operands.now.u operands.now.v w) just) }
+    ensures justified { IfOk result (λ just. IsJustified table.new.book.state.live
+        (conjunction_atoms table.new.graph operands.now.u operands.now.v w) just) }
     ensures named { IfOk result (λ just. IsNewJust table.old.book.state table.new.book.state just) }
     // The two additions alone, the first of which is retired; none where the clause is true by itself.
     ensures none_added { result ≡ Ok Trivial → table.new ≡ table.old }
@@ -109,7 +110,8 @@ fn add_high<S: Sink + Drop>(
     requires split { AreSplit table.old.graph operands.now }
     requires side { IsSide table.old.graph table.old.book.state.live operands.now w High high.now }
     requires clause { clause_of (conjunction_atoms table.old.graph operands.now.u operands.now.v w) ≡ Some clause.now }
-    ensures added { IfOk result (λ part. (part.clause ≡ neg_ℤ (pos (variable_at table.old.graph operands.now.level)) ∷ clause.now) × (clause_at table.new.book.state.live part.id ≡ Some part.clause)) }
+    ensures added { IfOk result (λ part. (part.clause ≡ neg_ℤ (pos (variable_at table.old.graph operands.now.level)) ∷ clause.now)
+        × (clause_at table.new.book.state.live part.id ≡ Some part.clause)) }
     ensures number { IfOk result (λ part. (part.id ≡ table.old.book.state.top + 1) × (table.new.book.state.top ≡ part.id)) }
     ensures own { IfOk result (λ part. IsAddedTo table.new part.id) }
     ensures unretired { IfOk result (λ part. Contains table.new.retired part.id → ⊥) }

@@ -7,7 +7,8 @@ ghost use Rattle.op_cache.specs.Cache.{last_of};
 ghost use Rattle.operations.specs.Entries.{Conjunction, Fits};
 ghost use Rattle.operations.specs.Purged.{IsPurged, MayRetire, are_marked};
 ghost use Rattle.operations.specs.Turns.{HasTurn, RetiresTurn};
-ghost use Rattle.apply_and.specs.Cache.{IsKept, IsLooked, Pair, StandInFront, entries, entry_of, is_one, most_entries, same_pair, with_used};
+ghost use Rattle.apply_and.specs.Cache.{IsKept, IsLooked, Pair, StandInFront, entries, entry_of, is_one, most_entries, same_pair};
+ghost use Rattle.apply_and.specs.Cache.{with_used};
 ghost use Rattle.apply_and.specs.declared.cache.Found.{Found as FoundValue};
 ghost use Rattle.node_table.specs.declared.node.Node.{Node as NodeValue};
 ghost use Rattle.node_table.specs.declared.node.Just.{Just as JustValue};
@@ -62,10 +63,12 @@ impl AndCache {
     /// The conjunction of two nodes, where it is kept. Its entry comes to the front.
     pub(crate) fn look(&mut self, u: Node, v: Node) -> Option<(Node, Just)>
         ensures found { IfSome result (λ f. Contains (entries self.new) (Conjunction u v f.0 f.1)) }
-        ensures exact { (w : NodeValue) (just : JustValue) → Contains (entries self.old) (Conjunction u v w just) → result ≡ Some (w, just) }
+        ensures exact { (w : NodeValue) (just : JustValue) → Contains (entries self.old) (Conjunction u v w just) → result
+            ≡ Some (w, just) }
         ensures looked { IsLooked self.old self.new }
         ensures missed { result ≡ None → self.new ≡ self.old }
-        ensures used { (pairs : List Pair) → StandInFront self.old pairs → MatchOption result (IsFalse (is_one pairs (u, v))) (λ f. StandInFront self.new (with_used pairs (u, v))) }
+        ensures used { (pairs : List Pair) → StandInFront self.old pairs
+            → MatchOption result (IsFalse (is_one pairs (u, v))) (λ f. StandInFront self.new (with_used pairs (u, v))) }
     {
         cache_law::<(Node, Node), Found>();
         let _ = self.results.len();
@@ -125,8 +128,10 @@ impl AndCache {
     fn turn<S: Sink + Drop>(&mut self, table: &mut Table<S>, marks: &Marks)
         requires sound { IsSound table.old }
         requires may { (last : Pair × FoundValue) → last_of self.old.results.entries ≡ Some last → MayRetire table.old (entry_of last) }
-        ensures cache { (last : Pair × FoundValue) → last_of self.old.results.entries ≡ Some last → HasTurn entry_of marks.now same_pair self.old.results self.new.results last }
-        ensures table { (last : Pair × FoundValue) → last_of self.old.results.entries ≡ Some last → RetiresTurn entry_of marks.now S.tells S.channel table.old table.new last }
+        ensures cache { (last : Pair × FoundValue) → last_of self.old.results.entries ≡ Some last
+            → HasTurn entry_of marks.now same_pair self.old.results self.new.results last }
+        ensures table { (last : Pair × FoundValue) → last_of self.old.results.entries ≡ Some last
+            → RetiresTurn entry_of marks.now S.tells S.channel table.old table.new last }
         ensures beside { S.beside table.new.book.sink ≡ S.beside table.old.book.sink }
     {
         let Some((pair, found)) = self.results.last() else {

@@ -1,6 +1,7 @@
 // The conjunction of two nodes, by their cofactors at the earlier of their variables. (Bryant: Graph-Based Algorithms
 // for Boolean Function Manipulation, 1986, section 4.3: apply.)
-ghost use Rattle.std.specs.Prelude.{◌≡◌, ◌≢◌, ◌↔◌, ◌⊎◌, ◌≤◌, ◌*◌, ◌++◌, ℕ, List, Ok, Err, Contains, IsTrue, IfOk, IfSome, MatchOption, None, Some, length};
+ghost use Rattle.std.specs.Prelude.{◌≡◌, ◌≢◌, ◌↔◌, ◌⊎◌, ◌≤◌, ◌*◌, ◌++◌, ℕ, List, Ok, Err, Contains, IsTrue, IfOk, IfSome, MatchOption};
+ghost use Rattle.std.specs.Prelude.{None, Some, length};
 ghost use Rattle.lrat_rules.specs.State.{Live};
 ghost use Rattle.node_table.specs.declared.error.TableError.TheVariants.{NodeLimit};
 ghost use Rattle.node_table.specs.declared.node.Node.{Node as NodeValue};
@@ -46,7 +47,8 @@ pub fn and<S: Sink + Drop>(
     requires second { IsTrue (is_node table.old.graph v) }
     requires fits { Fits table.old (entries cache.old) }
     ensures conjoined { IfOk result (λ found. Conjoined table.new.graph table.new.book.state.live u v found.0 found.1) }
-    ensures steps { Steps S.tells (S.channel table.old.book.sink) (S.channel table.new.book.sink) table.old table.new (most_additions (levels_from table.old.graph u v)) (error_of result) }
+    ensures steps { Steps S.tells (S.channel table.old.book.sink) (S.channel table.new.book.sink) table.old table.new
+        (most_additions (levels_from table.old.graph u v)) (error_of result) }
     // The cache fits, and so does it together with others that did, of which none names a clause that it named.
     ensures fits { UnlessTorn result (Fits table.new (entries cache.new)) }
     ensures others { (others : List Entry) → Fits table.old (entries cache.old ++ others) → AreApart (entries cache.old) others
@@ -57,14 +59,17 @@ pub fn and<S: Sink + Drop>(
     ensures accounts { UnlessTorn result (Accounts table.old table.new (entries cache.old) (entries cache.new)) }
     ensures unretired { IfOk result (λ found. (id : ℕ) → found.1 ≡ Clause id → Contains table.new.retired id → ⊥) }
     // Where the cache is as large as the pairs of inner nodes that the operands reach, two clauses for each of these.
-    ensures price { (us vs : List NodeValue) → HoldsReached table.old.graph u us → HoldsReached table.old.graph v vs → length us * length vs ≤ most_entries cache.old
+    ensures price { (us vs : List NodeValue) → HoldsReached table.old.graph u us → HoldsReached table.old.graph v vs → length us * length vs
+        ≤ most_entries cache.old
         → AddsAtMost (2 * (length us * length vs)) table.old table.new }
     // A conjunction that is kept is found again without a node or a clause more; a new one is kept; one is forgotten only
     // where the cache was full.
     ensures known { (w : NodeValue) (just : JustValue) → Contains (entries cache.old) (Conjunction u v w just)
         → (result ≡ Ok (w, just)) × (table.new ≡ table.old) × HaveSame (entries cache.old) (entries cache.new) }
-    ensures kept { u ≢ v → IsNoConstant u → IsNoConstant v → IfOk result (λ found. Contains (entries cache.new) (Conjunction u v found.0 found.1)) }
-    ensures remembered { (entry : Entry) → Contains (entries cache.old) entry → Contains (entries cache.new) entry ⊎ (most_entries cache.old ≤ length (entries cache.new)) }
+    ensures kept { u ≢ v → IsNoConstant u → IsNoConstant v → IfOk result
+        (λ found. Contains (entries cache.new) (Conjunction u v found.0 found.1)) }
+    ensures remembered { (entry : Entry) → Contains (entries cache.old) entry → Contains (entries cache.new) entry
+        ⊎ (most_entries cache.old ≤ length (entries cache.new)) }
     ensures no_fewer { length (entries cache.old) ≤ length (entries cache.new) }
     ensures capacity { most_entries cache.new ≡ most_entries cache.old }
     // However it ends, each node that was made is a subfunction of the conjunction; on success none is left over.
@@ -183,7 +188,8 @@ fn answer<S: Sink + Drop>(
 fn plain(u: Node, v: Node) -> Option<Node>
     ensures exact { (w : NodeValue) → IsPlain u v w → result ≡ Some w }
     ensures plain { IfSome result (λ w. IsPlain u v w) }
-    ensures conjoined { MatchOption result ((u ≢ v) × IsNoConstant u × IsNoConstant v) (λ w. (graph : Graph) (live : Live) → IsTrue (is_node graph u) → IsTrue (is_node graph v) → Conjoined graph live u v w Trivial) }
+    ensures conjoined { MatchOption result ((u ≢ v) × IsNoConstant u × IsNoConstant v) (λ w. (graph : Graph) (live : Live)
+        → IsTrue (is_node graph u) → IsTrue (is_node graph v) → Conjoined graph live u v w Trivial) }
 {
     match (u, v) {
         (Node::False, _) | (_, Node::False) => Some(Node::False),
@@ -205,7 +211,8 @@ fn finish<S: Sink + Drop>(
     requires split { AreSplit table.old.graph operands.now }
     requires high { Conjoined table.old.graph table.old.book.state.live operands.now.u_high operands.now.v_high high.now.0 high.now.1 }
     requires low { Conjoined table.old.graph table.old.book.state.live operands.now.u_low operands.now.v_low low.now.0 low.now.1 }
-    ensures conjoined { IfOk result (λ found. Conjoined table.new.graph table.new.book.state.live operands.now.u operands.now.v found.0 found.1) }
+    ensures conjoined { IfOk result
+        (λ found. Conjoined table.new.graph table.new.book.state.live operands.now.u operands.now.v found.0 found.1) }
     ensures steps { Steps S.tells (S.channel table.old.book.sink) (S.channel table.new.book.sink) table.old table.new 2 (error_of result) }
     ensures retires { RetiresNew table.old table.new }
     ensures gives { UnlessTorn result (GivesOne table.old table.new (found_just result)) }

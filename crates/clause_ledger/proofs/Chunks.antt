@@ -1,5 +1,7 @@
 -- What stands at a place of the chunks is what is live under its number, whatever is put in or taken out.
-use Rattle.std.proofs.Common.{◌≡◌, ℕ, zero, suc, ◌+◌, ◌-◌, ◌/◌, ◌%◌, ◌<◌, ◌≤◌, ◌≢◌, Bool, true, false, cond, ℤ, List, [], ◌∷◌, ◌++◌, length, get_or, set, None, Some, inl, inr, nat_cmp, refl, sym, ◌∙◌, ap, arith, nat_lt, lt-ltb, le-ltb, eq-eqb, ne_eqb, length-append, append_assoc}
+use Rattle.std.proofs.Common.{◌≡◌, ℕ, zero, suc, ◌+◌, ◌-◌, ◌/◌, ◌%◌, ◌<◌, ◌≤◌, ◌≢◌, Bool, true, false, cond, ℤ, List, [], ◌∷◌, ◌++◌, length}
+use Rattle.std.proofs.Common.{get_or, set, None, Some, inl, inr, nat_cmp, refl, sym, ◌∙◌, ap, arith, nat_lt, lt-ltb, le-ltb, eq-eqb, ne_eqb}
+use Rattle.std.proofs.Common.{length-append, append_assoc}
 use Rattle.std.proofs.lemmas.Bool.{cases_eq, cases_lt}
 use Rattle.std.proofs.lemmas.Cmp.{nat_cmp_total}
 use Rattle.std.proofs.lemmas.List.{get_or_past, get_or-set_same, get_or-set_other, get_or_append_left, get_or-append_right, length-set}
@@ -9,7 +11,8 @@ use Rattle.std.specs.Cmp.{unsigned_tied}
 use Rattle.std.specs.Ordering.{eq_by_cmp}
 use Rattle.std.specs.FinMap as finmap
 use Rattle.lrat_rules.specs.State.{Live, clause_at, with_clause}
-use Rattle.clause_ledger.specs.Chunks.{Place, Places, numbered_places, numbered_chunks, live_of, place_at, HaveSizes, AreChunks, IsBlank, IsCleared, IsGrown, max_chunks}
+use Rattle.clause_ledger.specs.Chunks.{Place, Places, numbered_places, numbered_chunks, live_of, place_at, HaveSizes, AreChunks, IsBlank}
+use Rattle.clause_ledger.specs.Chunks.{IsCleared, IsGrown, max_chunks}
 
 or_else : Place → Place → Place
 or_else None o = o
@@ -20,11 +23,13 @@ unfolding or_else
 or_none None = refl
 or_none (Some clause) = refl
 
-find_either : (id : ℕ) (front back : List (ℕ × List ℤ)) → finmap.find nat_cmp id (front ++ back) ≡ or_else (finmap.find nat_cmp id front) (finmap.find nat_cmp id back)
+find_either : (id : ℕ) (front back : List (ℕ × List ℤ)) → finmap.find nat_cmp id (front ++ back)
+    ≡ or_else (finmap.find nat_cmp id front) (finmap.find nat_cmp id back)
 unfolding or_else
 find_either id [] back = refl
 find_either id (entry ∷ front) back =
-    elim (eq_by_cmp nat_cmp id entry.0) as (λ b. cond b (Some entry.1) (finmap.find nat_cmp id (front ++ back)) ≡ or_else (cond b (Some entry.1) (finmap.find nat_cmp id front)) (finmap.find nat_cmp id back)) [
+    elim (eq_by_cmp nat_cmp id entry.0) as (λ b. cond b (Some entry.1) (finmap.find nat_cmp id (front ++ back))
+    ≡ or_else (cond b (Some entry.1) (finmap.find nat_cmp id front)) (finmap.find nat_cmp id back)) [
       | true ↦ refl
       | false ↦ find_either id front back
     ]
@@ -37,7 +42,8 @@ places_below first (Some clause ∷ places) id lt =
     let other : id ≢ first = λ same. omega arith in
     rw (unsigned_tied id first, ne_eqb id first other) (places_below (first + 1) places id (omega arith))
 
-places_at : (first : ℕ) (places : Places) (i id : ℕ) → id ≡ first + i → finmap.find nat_cmp id (numbered_places first places) ≡ get_or places i None
+places_at : (first : ℕ) (places : Places) (i id : ℕ) → id ≡ first + i → finmap.find nat_cmp id (numbered_places first places)
+    ≡ get_or places i None
 places_at first [] i id is = sym (get_or_past [] i None (omega arith))
 places_at first (None ∷ places) zero id is = places_below (first + 1) places id (omega arith)
 places_at first (None ∷ places) (suc i) id is = places_at (first + 1) places i id (omega arith)
@@ -66,36 +72,44 @@ first_place chunk chunks n lt =
     let place : n ≡ n % 64 = omega arith in
     λ i. get_or (get_or (chunk ∷ chunks) (index i) []) (place i) None
 
-chunks_at : (first : ℕ) (chunks : List Places) → HaveSizes chunks → (n id : ℕ) → id ≡ first + n → finmap.find nat_cmp id (numbered_chunks first chunks) ≡ place_at chunks n
+chunks_at : (first : ℕ) (chunks : List Places) → HaveSizes chunks → (n id : ℕ) → id ≡ first + n
+    → finmap.find nat_cmp id (numbered_chunks first chunks) ≡ place_at chunks n
 unfolding or_else
-chunks_at first [] sizes n id is = sym (ap (λ (places : Places). get_or places (n % 64) None) (get_or_past [] (n / 64) [] (omega arith)) ∙ get_or_past [] (n % 64) None (omega arith))
+chunks_at first [] sizes n id is = sym (ap (λ (places : Places). get_or places (n % 64) None) (get_or_past [] (n / 64) [] (omega arith))
+    ∙ get_or_past [] (n % 64) None (omega arith))
 chunks_at first (chunk ∷ chunks) sizes n id is =
     let size : length chunk ≤ 64 = sizes 0 in
     find_either id (numbered_places first chunk) (numbered_chunks (first + 64) chunks)
     ∙ elim (cases_lt n 64) [
-      | inl lt ↦ (λ i. or_else (places_at first chunk n id is i) (chunks_below (first + 64) chunks id (omega arith) i)) ∙ or_none (get_or chunk n None) ∙ first_place chunk chunks n lt
-      | inr le ↦ (λ i. or_else ((places_at first chunk n id is ∙ get_or_past chunk n None (omega arith)) i) (chunks_at (first + 64) chunks (λ k. sizes (suc k)) (n - 64) id (omega arith) i)) ∙ later_place chunk chunks n le
+      | inl lt ↦ (λ i. or_else (places_at first chunk n id is i) (chunks_below (first + 64) chunks id (omega arith) i))
+          ∙ or_none (get_or chunk n None) ∙ first_place chunk chunks n lt
+      | inr le ↦ (λ i. or_else ((places_at first chunk n id is ∙ get_or_past chunk n None (omega arith)) i)
+          (chunks_at (first + 64) chunks (λ k. sizes (suc k)) (n - 64) id (omega arith) i)) ∙ later_place chunk chunks n le
     ]
 
 -- what is live under a number is what stands at its place
 pub clause_at-live_of : (chunks : List Places) → HaveSizes chunks → (id : ℕ) → clause_at (live_of chunks) id ≡ place_at chunks id
-clause_at-live_of chunks sizes id = finmap.get-from_entries nat_cmp_total (numbered_chunks 0 chunks) id ∙ chunks_at 0 chunks sizes id id (omega arith)
+clause_at-live_of chunks sizes id = finmap.get-from_entries nat_cmp_total (numbered_chunks 0 chunks) id
+    ∙ chunks_at 0 chunks sizes id id (omega arith)
 
 -- one chunk in place of another
 place_at-set : (chunks : List Places) (k : ℕ) (after : Places) → k < length chunks → (id : ℕ)
     → place_at (set chunks k after) id ≡ (if id / 64 == k then get_or after (id % 64) None else place_at chunks id)
 place_at-set chunks k after lt id =
     elim (cases_eq (id / 64) k) [
-      | inl same ↦ ap (λ (places : Places). get_or places (id % 64) None) (ap (λ n. get_or (set chunks k after) n []) same ∙ get_or-set_same chunks k after [] lt)
+      | inl same ↦ ap (λ (places : Places). get_or places (id % 64) None) (ap (λ n. get_or (set chunks k after) n []) same
+          ∙ get_or-set_same chunks k after [] lt)
           ∙ ap (λ b. if b then get_or after (id % 64) None else place_at chunks id) (sym (eq-eqb (id / 64) k same))
       | inr other ↦ ap (λ (places : Places). get_or places (id % 64) None) (get_or-set_other chunks k (id / 64) after [] other)
           ∙ ap (λ b. if b then get_or after (id % 64) None else place_at chunks id) (sym (ne_eqb (id / 64) k other))
     ]
 
-sizes-set : (chunks : List Places) (k : ℕ) (after : Places) → k < length chunks → HaveSizes chunks → length after ≤ 64 → HaveSizes (set chunks k after)
+sizes-set : (chunks : List Places) (k : ℕ) (after : Places) → k < length chunks → HaveSizes chunks → length after ≤ 64
+    → HaveSizes (set chunks k after)
 sizes-set chunks k after lt sizes small i =
     elim (cases_eq i k) [
-      | inl same ↦ let is : get_or (set chunks k after) i [] ≡ after = ap (λ n. get_or (set chunks k after) n []) same ∙ get_or-set_same chunks k after [] lt in omega (arith, ap length is)
+      | inl same ↦ let is : get_or (set chunks k after) i [] ≡ after = ap (λ n. get_or (set chunks k after) n []) same
+          ∙ get_or-set_same chunks k after [] lt in omega (arith, ap length is)
       | inr other ↦ omega (arith, ap length (get_or-set_other chunks k i after [] other), sizes i)
     ]
 
@@ -105,7 +119,8 @@ same_number id number index place = omega arith
 -- a place is changed: the others stay
 module _ (chunks : List Places) (number : ℕ) (after : Places) (place : Place) (lt : number / 64 < length chunks)
     (is : (i : ℕ) → get_or after i None ≡ (if i == number % 64 then place else get_or (get_or chunks (number / 64) []) i None)) where
-  other_places : (id : ℕ) → id ≢ number → (if id / 64 == number / 64 then get_or after (id % 64) None else place_at chunks id) ≡ (if id == number then place else place_at chunks id)
+  other_places : (id : ℕ) → id ≢ number → (if id / 64 == number / 64 then get_or after (id % 64) None else place_at chunks id)
+      ≡ (if id == number then place else place_at chunks id)
   other_places id other =
       elim (cases_eq (id / 64) (number / 64)) [
         | inl index ↦
@@ -135,32 +150,40 @@ module _ (chunks : List Places) (number : ℕ) (after : Places) (place : Place) 
       ]
 
 -- what a written place holds
-pub set_at : (places : Places) (i : ℕ) (place : Place) → i < length places → (k : ℕ) → get_or (set places i place) k None ≡ (if k == i then place else get_or places k None)
+pub set_at : (places : Places) (i : ℕ) (place : Place) → i < length places → (k : ℕ) → get_or (set places i place) k None
+    ≡ (if k == i then place else get_or places k None)
 set_at places i place lt k =
     elim (cases_eq k i) [
-      | inl same ↦ ap (λ n. get_or (set places i place) n None) same ∙ get_or-set_same places i place None lt ∙ ap (λ b. if b then place else get_or places k None) (sym (eq-eqb k i same))
-      | inr other ↦ get_or-set_other places i k place None other ∙ ap (λ b. if b then place else get_or places k None) (sym (ne_eqb k i other))
+      | inl same ↦ ap (λ n. get_or (set places i place) n None) same ∙ get_or-set_same places i place None lt
+          ∙ ap (λ b. if b then place else get_or places k None) (sym (eq-eqb k i same))
+      | inr other ↦ get_or-set_other places i k place None other
+          ∙ ap (λ b. if b then place else get_or places k None) (sym (ne_eqb k i other))
     ]
 
 same_map : (few more : Live) → ((id : ℕ) → clause_at few id ≡ clause_at more id) → few ≡ more
 same_map few more is = finmap.same_map nat_cmp_total finmap.nat_cmp-IsAntisymmetric few more is
 
 -- a clause is put into a place
-pub live_of-put : (chunks : List Places) (number : ℕ) (clause : List ℤ) → HaveSizes chunks → number / 64 < length chunks → number % 64 < length (get_or chunks (number / 64) [])
-    → live_of (set chunks (number / 64) (set (get_or chunks (number / 64) []) (number % 64) (Some clause))) ≡ with_clause (live_of chunks) number clause
+pub live_of-put : (chunks : List Places) (number : ℕ) (clause : List ℤ) → HaveSizes chunks → number / 64 < length chunks → number % 64
+    < length (get_or chunks (number / 64) [])
+    → live_of (set chunks (number / 64) (set (get_or chunks (number / 64) []) (number % 64) (Some clause)))
+    ≡ with_clause (live_of chunks) number clause
 live_of-put chunks number clause sizes lt place_lt =
     let before = get_or chunks (number / 64) [] in
     let after = set before (number % 64) (Some clause) in
-    let is : (i : ℕ) → get_or after i None ≡ (if i == number % 64 then Some clause else get_or before i None) = set_at before (number % 64) (Some clause) place_lt in
+    let is : (i : ℕ) → get_or after i None ≡ (if i == number % 64 then Some clause else get_or before i None) = set_at before (number % 64)
+    (Some clause) place_lt in
     let small : length after ≤ 64 = omega (arith, length-set before (number % 64) (Some clause), sizes (number / 64)) in
     same_map _ _ (λ id.
     clause_at-live_of (set chunks (number / 64) after) (sizes-set chunks (number / 64) after lt sizes small) id
     ∙ place_at-changed chunks number after (Some clause) lt is id
     ∙ ap (λ (o : Place). if id == number then Some clause else o) (sym (clause_at-live_of chunks sizes id))
-    ∙ sym (finmap.get-insert nat_cmp_total (live_of chunks) number clause id ∙ ap (λ b. cond b (Some clause) (clause_at (live_of chunks) id)) (unsigned_tied id number)))
+    ∙ sym (finmap.get-insert nat_cmp_total (live_of chunks) number clause id
+    ∙ ap (λ b. cond b (Some clause) (clause_at (live_of chunks) id)) (unsigned_tied id number)))
 
 -- the clause of a place is taken out
-pub live_of-cleared : (chunks : List Places) (number : ℕ) (after : Places) (may_shrink : Bool) → HaveSizes chunks → number / 64 < length chunks
+pub live_of-cleared : (chunks : List Places) (number : ℕ) (after : Places) (may_shrink : Bool) → HaveSizes chunks → number / 64
+    < length chunks
     → IsCleared (get_or chunks (number / 64) []) after (number % 64) may_shrink
     → live_of (set chunks (number / 64) after) ≡ finmap.remove (live_of chunks) number
 live_of-cleared chunks number after may_shrink sizes lt cleared =
@@ -169,19 +192,24 @@ live_of-cleared chunks number after may_shrink sizes lt cleared =
     clause_at-live_of (set chunks (number / 64) after) (sizes-set chunks (number / 64) after lt sizes small) id
     ∙ place_at-changed chunks number after None lt cleared.places id
     ∙ ap (λ (o : Place). if id == number then None else o) (sym (clause_at-live_of chunks sizes id))
-    ∙ sym (finmap.get-remove nat_cmp_total (live_of chunks) number id ∙ ap (λ b. cond b None (clause_at (live_of chunks) id)) (unsigned_tied id number)))
+    ∙ sym (finmap.get-remove nat_cmp_total (live_of chunks) number id
+    ∙ ap (λ b. cond b None (clause_at (live_of chunks) id)) (unsigned_tied id number)))
 
 pub place_beyond : (chunks : List Places) (number : ℕ) → length chunks ≤ number / 64 → place_at chunks number ≡ None
-place_beyond chunks number le = ap (λ (places : Places). get_or places (number % 64) None) (get_or_past chunks (number / 64) [] le) ∙ get_or_past [] (number % 64) None (omega arith)
+place_beyond chunks number le = ap (λ (places : Places). get_or places (number % 64) None) (get_or_past chunks (number / 64) [] le)
+    ∙ get_or_past [] (number % 64) None (omega arith)
 
 -- a number that has no place is not live
-pub live_of-beyond : (chunks : List Places) (number : ℕ) → HaveSizes chunks → length chunks ≤ number / 64 → live_of chunks ≡ finmap.remove (live_of chunks) number
+pub live_of-beyond : (chunks : List Places) (number : ℕ) → HaveSizes chunks → length chunks ≤ number / 64 → live_of chunks
+    ≡ finmap.remove (live_of chunks) number
 live_of-beyond chunks number sizes le =
     same_map _ _ (λ id.
     elim (cases_eq id number) as (λ _. clause_at (live_of chunks) id ≡ clause_at (finmap.remove (live_of chunks) number) id) [
       | inl same ↦ ap (clause_at (live_of chunks)) same ∙ clause_at-live_of chunks sizes number ∙ place_beyond chunks number le
-          ∙ sym (finmap.get-remove nat_cmp_total (live_of chunks) number id ∙ ap (λ b. cond b None (clause_at (live_of chunks) id)) (unsigned_tied id number ∙ eq-eqb id number same))
-      | inr other ↦ sym (finmap.get-remove nat_cmp_total (live_of chunks) number id ∙ ap (λ b. cond b None (clause_at (live_of chunks) id)) (unsigned_tied id number ∙ ne_eqb id number other))
+          ∙ sym (finmap.get-remove nat_cmp_total (live_of chunks) number id
+          ∙ ap (λ b. cond b None (clause_at (live_of chunks) id)) (unsigned_tied id number ∙ eq-eqb id number same))
+      | inr other ↦ sym (finmap.get-remove nat_cmp_total (live_of chunks) number id
+          ∙ ap (λ b. cond b None (clause_at (live_of chunks) id)) (unsigned_tied id number ∙ ne_eqb id number other))
     ])
 
 -- blank chunks add nothing
@@ -192,19 +220,24 @@ numbered_blank first (Some clause ∷ places) blank = let no : Some clause ≡ N
 
 numbered_blanks : (first : ℕ) (more : List Places) → ((k : ℕ) → IsBlank (get_or more k [])) → numbered_chunks first more ≡ []
 numbered_blanks first [] blank = refl
-numbered_blanks first (chunk ∷ more) blank = λ i. numbered_blank first chunk (blank 0) i ++ numbered_blanks (first + 64) more (λ k. blank (suc k)) i
+numbered_blanks first (chunk ∷ more) blank = λ i. numbered_blank first chunk (blank 0) i
+    ++ numbered_blanks (first + 64) more (λ k. blank (suc k)) i
 
-numbered-grown : (first : ℕ) (before more : List Places) → ((k : ℕ) → IsBlank (get_or more k [])) → numbered_chunks first (before ++ more) ≡ numbered_chunks first before
+numbered-grown : (first : ℕ) (before more : List Places) → ((k : ℕ) → IsBlank (get_or more k [])) → numbered_chunks first (before ++ more)
+    ≡ numbered_chunks first before
 numbered-grown first [] more blank = numbered_blanks first more blank
-numbered-grown first (chunk ∷ before) more blank = ap (λ es. numbered_places first chunk ++ es) (numbered-grown (first + 64) before more blank)
+numbered-grown first (chunk ∷ before) more blank = ap (λ es. numbered_places first chunk
+    ++ es) (numbered-grown (first + 64) before more blank)
 
 pub live_of-grown : (before after : List Places) → IsGrown before after → live_of after ≡ live_of before
 live_of-grown before after grown = ap live_of grown.parts ∙ ap finmap.from_entries (numbered-grown 0 before grown.more grown.blank)
 
-pub AreChunks-grown : (before after : List Places) (top : ℕ) → AreChunks before top → IsGrown before after → length after ≤ max_chunks → AreChunks after top
+pub AreChunks-grown : (before after : List Places) (top : ℕ) → AreChunks before top → IsGrown before after → length after ≤ max_chunks
+    → AreChunks after top
 AreChunks-grown before after top chunks grown few =
     let longer : length after ≡ length before + length grown.more = ap length grown.parts ∙ length-append before grown.more in
-    let early : (k : ℕ) → k < length before → get_or after k [] ≡ get_or before k [] = λ k lt. ap (λ (l : List Places). get_or l k []) grown.parts ∙ get_or_append_left before grown.more [] k lt in
+    let early : (k : ℕ) → k < length before → get_or after k [] ≡ get_or before k [] = λ k lt. ap
+    (λ (l : List Places). get_or l k []) grown.parts ∙ get_or_append_left before grown.more [] k lt in
     let late : (k : ℕ) → length before ≤ k → get_or after k [] ≡ get_or grown.more (k - length before) [] =
     λ k le. ap (λ (l : List Places). get_or l k []) grown.parts ∙ get_or-append_right before grown.more (length before) k [] refl le in
     let sizes : HaveSizes after =
@@ -224,18 +257,23 @@ AreChunks-grown before after top chunks grown few =
       shrunk = λ k lt blank. let is = early k (omega (arith, lt, chunks.within)) in
           is ∙ chunks.shrunk k lt (λ i. ap (λ (places : Places). get_or places i None) (sym is) ∙ blank i);
       numbers = λ id clause is. chunks.numbers id clause
-          (sym (clause_at-live_of before chunks.sizes id) ∙ ap (λ (live : Live). clause_at live id) (sym (live_of-grown before after grown)) ∙ clause_at-live_of after sizes id ∙ is);
+          (sym (clause_at-live_of before chunks.sizes id) ∙ ap (λ (live : Live). clause_at live id) (sym (live_of-grown before after grown))
+          ∙ clause_at-live_of after sizes id ∙ is);
       within = omega (arith, longer, chunks.within);
       few = few;
     }
 
-pub IsGrown-push : (before after : List Places) (chunk : Places) → IsGrown before after → length chunk ≡ 64 → IsBlank chunk → IsGrown before (after ++ chunk ∷ [])
+pub IsGrown-push : (before after : List Places) (chunk : Places) → IsGrown before after → length chunk ≡ 64 → IsBlank chunk
+    → IsGrown before (after ++ chunk ∷ [])
 IsGrown-push before after chunk grown size blank =
     let more = grown.more in
-    let early : (k : ℕ) → k < length more → get_or (more ++ chunk ∷ []) k [] ≡ get_or more k [] = λ k lt. get_or_append_left more (chunk ∷ []) [] k lt in
-    let last : (k : ℕ) → k ≡ length more → get_or (more ++ chunk ∷ []) k [] ≡ chunk = λ k is. ap (λ n. get_or (more ++ chunk ∷ []) n []) is ∙ get_or-append_seam more chunk [] [] in
+    let early : (k : ℕ) → k < length more → get_or (more ++ chunk ∷ []) k []
+    ≡ get_or more k [] = λ k lt. get_or_append_left more (chunk ∷ []) [] k lt in
+    let last : (k : ℕ) → k ≡ length more → get_or (more ++ chunk ∷ []) k [] ≡ chunk = λ k is. ap (λ n. get_or (more ++ chunk ∷ []) n []) is
+    ∙ get_or-append_seam more chunk [] [] in
     let longer : length (more ++ chunk ∷ []) ≡ length more + 1 = length-append more (chunk ∷ []) in
-    let past : (k : ℕ) → length more < k → get_or (more ++ chunk ∷ []) k [] ≡ [] = λ k lt. get_or_past (more ++ chunk ∷ []) k [] (omega (arith, longer)) in
+    let past : (k : ℕ) → length more < k → get_or (more ++ chunk ∷ []) k []
+    ≡ [] = λ k lt. get_or_past (more ++ chunk ∷ []) k [] (omega (arith, longer)) in
     record {
       more = more ++ chunk ∷ [];
       parts = ap (λ (l : List Places). l ++ chunk ∷ []) grown.parts ∙ append_assoc before more (chunk ∷ []);
@@ -260,16 +298,20 @@ next_is_free chunks top are =
       | Some clause ↦ λ is. let range = are.numbers (top + 1) clause is in absurd (omega (arith, range.1))
     ] refl
 
-pub next_place : (chunks : List Places) (top : ℕ) → AreChunks chunks top → (top + 1) / 64 < length chunks → (top + 1) % 64 < length (get_or chunks ((top + 1) / 64) [])
-next_place chunks top are lt = let whole : length (get_or chunks ((top + 1) / 64) []) ≡ 64 = are.whole ((top + 1) / 64) (omega arith) lt in omega (arith, whole)
+pub next_place : (chunks : List Places) (top : ℕ) → AreChunks chunks top → (top + 1) / 64 < length chunks → (top + 1) % 64
+    < length (get_or chunks ((top + 1) / 64) [])
+next_place chunks top are lt = let whole : length (get_or chunks ((top + 1) / 64) []) ≡ 64 = are.whole ((top + 1) / 64) (omega arith) lt in
+    omega (arith, whole)
 
 set_chunk : (chunks : List Places) (k : ℕ) (after : Places) (i : ℕ) → k < length chunks → i ≡ k → get_or (set chunks k after) i [] ≡ after
 set_chunk chunks k after i lt same = ap (λ n. get_or (set chunks k after) n []) same ∙ get_or-set_same chunks k after [] lt
 
-length_of_set : (chunks : List Places) (k : ℕ) (after : Places) (i : ℕ) → k < length chunks → i ≡ k → length (get_or (set chunks k after) i []) ≡ length after
+length_of_set : (chunks : List Places) (k : ℕ) (after : Places) (i : ℕ) → k < length chunks → i ≡ k
+    → length (get_or (set chunks k after) i []) ≡ length after
 length_of_set chunks k after i lt same = ap length (ap (λ n. get_or (set chunks k after) n []) same ∙ get_or-set_same chunks k after [] lt)
 
-length_of_other : (chunks : List Places) (k : ℕ) (after : Places) (i : ℕ) → i ≢ k → length (get_or (set chunks k after) i []) ≡ length (get_or chunks i [])
+length_of_other : (chunks : List Places) (k : ℕ) (after : Places) (i : ℕ) → i ≢ k → length (get_or (set chunks k after) i [])
+    ≡ length (get_or chunks i [])
 length_of_other chunks k after i other = ap length (get_or-set_other chunks k i after [] other)
 
 pub AreChunks-put : (chunks : List Places) (top : ℕ) (clause : List ℤ) → AreChunks chunks top → (top + 1) / 64 < length chunks
@@ -281,17 +323,20 @@ AreChunks-put chunks top clause are lt =
     let place_lt = next_place chunks top are lt in
     let same_size : length after ≡ length before = length-set before (number % 64) (Some clause) in
     let small : length after ≤ 64 = omega (arith, same_size, are.sizes (number / 64)) in
-    let is : (i : ℕ) → get_or after i None ≡ (if i == number % 64 then Some clause else get_or before i None) = set_at before (number % 64) (Some clause) place_lt in
+    let is : (i : ℕ) → get_or after i None ≡ (if i == number % 64 then Some clause else get_or before i None) = set_at before (number % 64)
+    (Some clause) place_lt in
     record {
       sizes = sizes-set chunks (number / 64) after lt are.sizes small;
       whole = λ k from k_lt. elim (cases_eq k (number / 64)) [
         | inl same ↦ length_of_set chunks (number / 64) after k lt same ∙ same_size ∙ are.whole (number / 64) (omega arith) lt
-        | inr other ↦ length_of_other chunks (number / 64) after k other ∙ are.whole k (omega (arith, from)) (omega (arith, length-set chunks (number / 64) after))
+        | inr other ↦ length_of_other chunks (number / 64) after k other
+            ∙ are.whole k (omega (arith, from)) (omega (arith, length-set chunks (number / 64) after))
       ];
       shrunk = λ k passed blank. elim (cases_eq k (number / 64)) [
         | inl same ↦
             let some : get_or after (number % 64) None ≡ Some clause = get_or-set_same before (number % 64) (Some clause) None place_lt in
-            let none : get_or after (number % 64) None ≡ None = ap (λ (places : Places). get_or places (number % 64) None) (sym (set_chunk chunks (number / 64) after k lt same)) ∙ blank (number % 64) in
+            let none : get_or after (number % 64) None ≡ None = ap (λ (places : Places). get_or places (number % 64) None)
+            (sym (set_chunk chunks (number / 64) after k lt same)) ∙ blank (number % 64) in
             let no : Some clause ≡ None = sym some ∙ none in
             cc
         | inr other ↦
@@ -301,7 +346,8 @@ AreChunks-put chunks top clause are lt =
       numbers = λ id other_clause stands. elim (cases_eq id number) [
         | inl same ↦ (omega arith, omega arith)
         | inr other ↦
-            let range = are.numbers id other_clause (sym (place_at-changed chunks number after (Some clause) lt is id ∙ ap (λ b. if b then Some clause else place_at chunks id) (ne_eqb id number other)) ∙ stands) in
+            let range = are.numbers id other_clause (sym (place_at-changed chunks number after (Some clause) lt is id
+            ∙ ap (λ b. if b then Some clause else place_at chunks id) (ne_eqb id number other)) ∙ stands) in
             (range.0, omega (arith, range.1))
       ];
       within = omega (arith, length-set chunks (number / 64) after);
@@ -316,8 +362,11 @@ AreChunks-cleared chunks top number after are lt cleared =
     record {
       sizes = sizes-set chunks (number / 64) after lt are.sizes small;
       whole = λ k from k_lt. elim (cases_eq k (number / 64)) [
-        | inl same ↦ length_of_set chunks (number / 64) after k lt same ∙ cleared.kept (le-ltb (number / 64) ((top + 1) / 64) (omega (arith, from, same))) ∙ are.whole (number / 64) (omega (arith, from, same)) lt
-        | inr other ↦ length_of_other chunks (number / 64) after k other ∙ are.whole k from (omega (arith, length-set chunks (number / 64) after))
+        | inl same ↦ length_of_set chunks (number / 64) after k lt same
+            ∙ cleared.kept (le-ltb (number / 64) ((top + 1) / 64) (omega (arith, from, same)))
+            ∙ are.whole (number / 64) (omega (arith, from, same)) lt
+        | inr other ↦ length_of_other chunks (number / 64) after k other
+            ∙ are.whole k from (omega (arith, length-set chunks (number / 64) after))
       ];
       shrunk = λ k passed blank. elim (cases_eq k (number / 64)) [
         | inl same ↦
@@ -326,7 +375,8 @@ AreChunks-cleared chunks top number after are lt cleared =
             let blank_after : IsBlank after = λ i. ap (λ (places : Places). get_or places i None) (sym is) ∙ blank i in
             is ∙ elim (cleared.shrunk (lt-ltb (number / 64) ((top + 1) / 64) index) blank_after) [
               | inl none ↦ none
-              | inr unchanged ↦ unchanged ∙ are.shrunk (number / 64) index (λ i. ap (λ (places : Places). get_or places i None) (sym unchanged) ∙ blank_after i)
+              | inr unchanged ↦ unchanged ∙ are.shrunk (number / 64) index
+                  (λ i. ap (λ (places : Places). get_or places i None) (sym unchanged) ∙ blank_after i)
             ]
         | inr other ↦
             let is = get_or-set_other chunks (number / 64) k after [] other in
@@ -334,10 +384,12 @@ AreChunks-cleared chunks top number after are lt cleared =
       ];
       numbers = λ id clause stands. elim (cases_eq id number) [
         | inl same ↦
-            let none : place_at (set chunks (number / 64) after) id ≡ None = place_at-changed chunks number after None lt cleared.places id ∙ ap (λ b. if b then None else place_at chunks id) (eq-eqb id number same) in
+            let none : place_at (set chunks (number / 64) after) id ≡ None = place_at-changed chunks number after None lt cleared.places id
+            ∙ ap (λ b. if b then None else place_at chunks id) (eq-eqb id number same) in
             let no : Some clause ≡ None = sym stands ∙ none in
             cc
-        | inr other ↦ are.numbers id clause (sym (place_at-changed chunks number after None lt cleared.places id ∙ ap (λ b. if b then None else place_at chunks id) (ne_eqb id number other)) ∙ stands)
+        | inr other ↦ are.numbers id clause (sym (place_at-changed chunks number after None lt cleared.places id
+            ∙ ap (λ b. if b then None else place_at chunks id) (ne_eqb id number other)) ∙ stands)
       ];
       within = omega (arith, length-set chunks (number / 64) after, are.within);
       few = omega (arith, length-set chunks (number / 64) after, are.few);

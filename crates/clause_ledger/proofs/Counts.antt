@@ -1,5 +1,6 @@
 -- How many places of a chunk have a clause, as they are filled and emptied.
-use Rattle.std.proofs.Common.{◌≡◌, ℕ, zero, suc, ◌+◌, ◌-◌, ◌<◌, ◌≢◌, Bool, true, false, cond, List, [], ◌∷◌, ◌++◌, length, get_or, set, Option, None, Some, inl, inr, refl, sym, ◌∙◌, ap, subst, arith, Bor, map}
+use Rattle.std.proofs.Common.{◌≡◌, ℕ, zero, suc, ◌+◌, ◌-◌, ◌<◌, ◌≢◌, Bool, true, false, cond, List, [], ◌∷◌, ◌++◌, length, get_or, set}
+use Rattle.std.proofs.Common.{Option, None, Some, inl, inr, refl, sym, ◌∙◌, ap, subst, arith, Bor, map}
 use Rattle.std.proofs.lemmas.Bool.{cases_lt}
 use Rattle.std.proofs.lemmas.List.{get_or_past, length-set}
 use Rattle.std.proofs.lemmas.List.Sums.{sum_by-set, sum_by-cons}
@@ -20,7 +21,8 @@ one_if b = cond b 1 0
 bit_of : (place : Place) (b : Bool) → is_some place ≡ b → one_if (is_some place) ≡ one_if b
 bit_of place b is = ap one_if is
 
-pub clauses-put : (places : Places) (i : ℕ) (place : Place) → i < length places → get_or places i None ≡ None → is_some place ≡ true → clauses (set places i place) ≡ clauses places + 1
+pub clauses-put : (places : Places) (i : ℕ) (place : Place) → i < length places → get_or places i None ≡ None → is_some place ≡ true
+    → clauses (set places i place) ≡ clauses places + 1
 clauses-put places i place lt free some =
     let counted = sum_by-set (λ (x : Place). one_if (is_some x)) places i place None lt in
     omega (arith, counted, bit_of (get_or places i None) false (ap is_some free), bit_of place true some)
@@ -55,7 +57,8 @@ blank_more [] blank (suc i) = get_or_past [] i None (omega arith)
 blank_more (slot ∷ slots) blank zero = blank 0
 blank_more (slot ∷ slots) blank (suc i) = blank_more slots (λ k. blank (suc k)) i
 
-pub IsCleared-set : (places : Places) (i : ℕ) (may_shrink : Bool) → is_some (get_or places i None) ≡ true → (may_shrink ≡ true → clauses places - 1 ≢ 0)
+pub IsCleared-set : (places : Places) (i : ℕ) (may_shrink : Bool) → is_some (get_or places i None) ≡ true
+    → (may_shrink ≡ true → clauses places - 1 ≢ 0)
     → IsCleared places (set places i None) i may_shrink
 IsCleared-set places i may_shrink some not_last = record {
   places = set_at places i None (taken_within places i some);
@@ -74,12 +77,15 @@ cleared_last places i some last =
       shrunk = λ may blank_after. inl refl;
     }
 
-pub IsCleared-last : (places after : Places) (i : ℕ) (may_shrink : Bool) → is_some (get_or places i None) ≡ true → clauses places - 1 ≡ 0 → after ≡ [] → may_shrink ≡ true
+pub IsCleared-last : (places after : Places) (i : ℕ) (may_shrink : Bool) → is_some (get_or places i None) ≡ true → clauses places - 1 ≡ 0
+    → after ≡ [] → may_shrink ≡ true
     → IsCleared places after i may_shrink
 IsCleared-last places after i may_shrink some last none may =
-    subst (λ (a : Places). IsCleared places a i may_shrink) (sym none) (subst (λ b. IsCleared places [] i b) (sym may) (cleared_last places i some last))
+    subst (λ (a : Places). IsCleared places a i may_shrink) (sym none)
+    (subst (λ b. IsCleared places [] i b) (sym may) (cleared_last places i some last))
 
 -- a look-up found a clause
-pub found : {T : Type 0} (looked : Option (Bor T)) (place : Option T) → is_some looked ≡ true → option_copied looked ≡ place → is_some place ≡ true
+pub found : {T : Type 0} (looked : Option (Bor T)) (place : Option T) → is_some looked ≡ true → option_copied looked ≡ place → is_some place
+    ≡ true
 found None place taken is = cc
 found (Some x) place taken is = ap is_some (sym is)

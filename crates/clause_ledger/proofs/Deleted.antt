@@ -1,5 +1,6 @@
 -- One deletion more keeps the proof, where it deletes only clauses that were added.
-use Rattle.std.proofs.Common.{◌≡◌, ℕ, ◌+◌, ◌<◌, ◌≤◌, ◌≢◌, Bool, true, ◌&&◌, cond, ℤ, List, [], ◌∷◌, ◌++◌, length, get_or, take, drop, Some, None, inl, inr, refl, sym, ◌∙◌, ap, arith, eq-eqb}
+use Rattle.std.proofs.Common.{◌≡◌, ℕ, ◌+◌, ◌<◌, ◌≤◌, ◌≢◌, Bool, true, ◌&&◌, cond, ℤ, List, [], ◌∷◌, ◌++◌, length, get_or, take, drop, Some}
+use Rattle.std.proofs.Common.{None, inl, inr, refl, sym, ◌∙◌, ap, arith, eq-eqb}
 use Rattle.std.proofs.lemmas.Bool.{and_parts, and_from, lt-ltb, le-leb, ltb-true, ne_eqb, cases_eq}
 use Rattle.std.proofs.lemmas.Cmp.{nat_cmp_total}
 use Rattle.std.proofs.lemmas.List.{take-append-drop, take_more}
@@ -17,15 +18,19 @@ use Rattle.clause_ledger.specs.Book.{IsProofOf, IsWritten-IsProofOf}
 use Rattle.clause_ledger.proofs.Kept.{AreNumbers, MoreLaw, TextLaw}
 
 -- one number more is taken out
-without-append : (live : Live) (front back : List ℕ) → without_clauses live (front ++ back) ≡ without_clauses (without_clauses live front) back
+without-append : (live : Live) (front back : List ℕ) → without_clauses live (front ++ back)
+    ≡ without_clauses (without_clauses live front) back
 without-append live [] back = refl
 without-append live (id ∷ front) back = without-append (finmap.remove live id) front back
 
-removed_at : (live : Live) (id other : ℕ) (b : Bool) → (nat_eq other id) ≡ b → clause_at (finmap.remove live id) other ≡ cond b None (clause_at live other)
-removed_at live id other b is = finmap.get-remove nat_cmp_total live id other ∙ ap (λ b. cond b None (clause_at live other)) (unsigned_tied other id ∙ is)
+removed_at : (live : Live) (id other : ℕ) (b : Bool) → (nat_eq other id) ≡ b → clause_at (finmap.remove live id) other
+    ≡ cond b None (clause_at live other)
+removed_at live id other b is = finmap.get-remove nat_cmp_total live id other
+    ∙ ap (λ b. cond b None (clause_at live other)) (unsigned_tied other id ∙ is)
 
 -- what is still live was live
-was_live : (live : Live) (id other : ℕ) (clause : List ℤ) → clause_at (finmap.remove live id) other ≡ Some clause → clause_at live other ≡ Some clause
+was_live : (live : Live) (id other : ℕ) (clause : List ℤ) → clause_at (finmap.remove live id) other ≡ Some clause → clause_at live other
+    ≡ Some clause
 was_live live id other clause is =
     elim (cases_eq other id) [
       | inl same ↦ let none : None ≡ Some clause = sym (removed_at live id other true (eq-eqb other id same)) ∙ is in cc
@@ -43,11 +48,13 @@ live_in_range : (live : Live) (top id : ℕ) → AreNumbers live top → top ≤
 live_in_range live top id numbers small some =
     elim (clause_at live id) as (λ o. clause_at live id ≡ o → is_some o ≡ true → is_id id ≡ true) [
       | None ↦ λ is none. cc
-      | Some clause ↦ λ is _. let range = numbers id clause is in and_from (nat_lt 0 id) (nat_le id max_id) (lt-ltb 0 id range.0) (le-leb id max_id (omega (arith, range.1)))
+      | Some clause ↦ λ is _. let range = numbers id clause is in
+          and_from (nat_lt 0 id) (nat_le id max_id) (lt-ltb 0 id range.0) (le-leb id max_id (omega (arith, range.1)))
     ] refl some
 
 -- numbers that may be deleted are in range
-added_in_range : (count : ℕ) (live : Live) (top : ℕ) → AreNumbers live top → top ≤ max_id → (ids : List ℕ) → are_added count live ids ≡ true → list_all is_id ids ≡ true
+added_in_range : (count : ℕ) (live : Live) (top : ℕ) → AreNumbers live top → top ≤ max_id → (ids : List ℕ) → are_added count live ids ≡ true
+    → list_all is_id ids ≡ true
 added_in_range count live top numbers small [] h = refl
 added_in_range count live top numbers small (id ∷ ids) h =
     let parts = and_parts (nat_lt count id && is_some (clause_at live id)) (are_added count (finmap.remove live id) ids) h in
@@ -56,7 +63,8 @@ added_in_range count live top numbers small (id ∷ ids) h =
     (added_in_range count (finmap.remove live id) top (fewer_numbers live top id numbers) small ids parts.1)
 
 -- the clauses under the numbers up to this one stay
-formula_stays : (count : ℕ) (live : Live) (ids : List ℕ) → are_added count live ids ≡ true → (other : ℕ) → other ≤ count → clause_at (without_clauses live ids) other ≡ clause_at live other
+formula_stays : (count : ℕ) (live : Live) (ids : List ℕ) → are_added count live ids ≡ true → (other : ℕ) → other ≤ count
+    → clause_at (without_clauses live ids) other ≡ clause_at live other
 formula_stays count live [] h other le = refl
 formula_stays count live (id ∷ ids) h other le =
     let parts = and_parts (nat_lt count id && is_some (clause_at live id)) (are_added count (finmap.remove live id) ids) h in
@@ -73,10 +81,12 @@ module _ (state : State) (ids : List ℕ) (small : state.top ≤ max_id) {clause
   step = Delete state.top ids
 
   printable : is_printable step ≡ true
-  printable = and_from (nat_le state.top max_id) (list_all is_id ids) (le-leb state.top max_id small) (added_in_range (length clauses) state.live state.top proof.numbers small ids added)
+  printable = and_from (nat_le state.top max_id) (list_all is_id ids) (le-leb state.top max_id small)
+      (added_in_range (length clauses) state.live state.top proof.numbers small ids added)
 
   -- the whole line of the deletion
-  pub deletion_kept : MoreLaw → TextLaw → {after : Channel} → (IsTrue tells → after.written ≡ before.written ++ line_of_step step) → IsProofOf clauses tells after (without state ids)
+  pub deletion_kept : MoreLaw → TextLaw → {after : Channel} → (IsTrue tells → after.written ≡ before.written ++ line_of_step step)
+      → IsProofOf clauses tells after (without state ids)
   deletion_kept more text wrote = record {
     steps = proof.steps ++ step ∷ [];
     derived = more clauses proof.steps state step proof.derived refl printable added;
@@ -87,7 +97,8 @@ module _ (state : State) (ids : List ℕ) (small : state.top ≤ max_id) {clause
   }
 
   -- a front of it
-  pub deletion_cut : IsTrue tells → (n : ℕ) (written : List ℕ) → written ≡ before.written ++ take n (line_of_step step) → IsCutProof clauses written state (without state ids)
+  pub deletion_cut : IsTrue tells → (n : ℕ) (written : List ℕ) → written ≡ before.written ++ take n (line_of_step step)
+      → IsCutProof clauses written state (without state ids)
   deletion_cut t n written is = record {
     whole = before.written;
     cut = take n (line_of_step step);
@@ -104,6 +115,8 @@ module _ (state : State) (ids : List ℕ) (small : state.top ≤ max_id) {clause
     };
   }
 
-pub without_more : (live : Live) (ids : List ℕ) (i id : ℕ) → i < length ids → id ≡ get_or ids i id → without_clauses live (take (i + 1) ids) ≡ finmap.remove (without_clauses live (take i ids)) id
+pub without_more : (live : Live) (ids : List ℕ) (i id : ℕ) → i < length ids → id ≡ get_or ids i id → without_clauses live (take (i + 1) ids)
+    ≡ finmap.remove (without_clauses live (take i ids)) id
 without_more live ids i id lt is =
-    ap (without_clauses live) (take_more ids i id lt) ∙ without-append live (take i ids) (get_or ids i id ∷ []) ∙ ap (finmap.remove (without_clauses live (take i ids))) (sym is)
+    ap (without_clauses live) (take_more ids i id lt) ∙ without-append live (take i ids) (get_or ids i id ∷ [])
+    ∙ ap (finmap.remove (without_clauses live (take i ids))) (sym is)

@@ -21,7 +21,8 @@ pub record Book (S : Type 0) : Type 0 where
 -- a book can be a model's value: it is stored as its fields
 abbrev pub book_code : {S : Type 0} → Coded S → Coded (Book S)
 book_code {S} code =
-    code_by (S × (State × (ℕ × (Bool × ℕ)))) (coded× code (coded× state_code (coded× coded_ℕ (coded× coded_bool coded_ℕ)))) (λ b. (b.sink, (b.state, (b.limit, (b.in_step, b.spare)))))
+    code_by (S × (State × (ℕ × (Bool × ℕ)))) (coded× code (coded× state_code (coded× coded_ℕ (coded× coded_bool coded_ℕ))))
+    (λ b. (b.sink, (b.state, (b.limit, (b.in_step, b.spare)))))
     (λ p. record { sink = p.0; state = p.1.0; limit = p.1.1.0; in_step = p.1.1.1.0; spare = p.1.1.1.1 }) (λ _. refl)
 
 -- A derivation leads from the formula's clauses to this state, and the sink's bytes are exactly its written form. The
@@ -35,7 +36,8 @@ pub record IsProofOf (clauses : List (List ℤ)) (tells : Bool) (channel : Chann
   pub from_formula : length clauses ≤ state.top
 
 -- where the sink tells what was written, this is the written form of a derivation
-pub IsWritten-IsProofOf : {clauses : List (List ℤ)} {tells : Bool} {channel : Channel} {state : State} → IsProofOf clauses tells channel state → IsTrue tells
+pub IsWritten-IsProofOf : {clauses : List (List ℤ)} {tells : Bool} {channel : Channel} {state : State}
+    → IsProofOf clauses tells channel state → IsTrue tells
     → IsWritten clauses channel.written state
 IsWritten-IsProofOf proof t = record { steps = proof.steps; derived = proof.derived; text = proof.text t }
 

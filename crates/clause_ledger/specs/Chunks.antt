@@ -1,5 +1,6 @@
 -- How the live clauses are stored: in chunks of 64 places, one place for each number.
-use Rattle.std.specs.Prelude.{◌≡◌, ◌<◌, ◌≤◌, ℕ, ◌+◌, ◌-◌, ◌*◌, ◌/◌, ◌%◌, ◌⊎◌, Bool, true, false, ℤ, List, [], ◌∷◌, ◌++◌, length, Option, None, Some, slice_index_or, if◌then◌else◌, ◌==◌, refl}
+use Rattle.std.specs.Prelude.{◌≡◌, ◌<◌, ◌≤◌, ℕ, ◌+◌, ◌-◌, ◌*◌, ◌/◌, ◌%◌, ◌⊎◌, Bool, true, false, ℤ, List, [], ◌∷◌, ◌++◌, length, Option}
+use Rattle.std.specs.Prelude.{None, Some, slice_index_or, if◌then◌else◌, ◌==◌, refl}
 use Rattle.std.specs.Coded.{Coded, code_by, coded×, coded_ℕ, coded_ℤ, coded_list, coded_option}
 use Rattle.std.specs.FinMap as map
 use Rattle.lrat_rules.specs.State.{State, Live, state_code}
@@ -42,7 +43,8 @@ pub record Stored : Type 0 where
 
 -- stored clauses can be a model's value: they are stored as their fields
 abbrev pub stored_code : Coded Stored
-stored_code = code_by (State × ℕ) (coded× state_code coded_ℕ) (λ s. (s.state, s.spare)) (λ p. record { state = p.0; spare = p.1 }) (λ _. refl)
+stored_code = code_by (State × ℕ) (coded× state_code coded_ℕ) (λ s. (s.state, s.spare)) (λ p. record { state = p.0; spare = p.1 })
+    (λ _. refl)
 
 -- chunks and the greatest number, as callers see them: there is room for the numbers of the chunks beyond that one
 abbrev pub stored_of : List Places → ℕ → Stored

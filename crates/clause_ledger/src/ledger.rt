@@ -1,5 +1,6 @@
 // The ledger: live clauses, and the lines that made them.
-ghost use Rattle.std.specs.Prelude.{◌≡◌, ◌≢◌, ◌<◌, ◌≤◌, ◌+◌, ◌-◌, ◌++◌, ◌↔◌, ℕ, ℤ, List, [], Some, true, false, IsTrue, OnOk, IfOk, IfErr, IsErrOf, OnErr, is_ok, length};
+ghost use Rattle.std.specs.Prelude.{◌≡◌, ◌≢◌, ◌<◌, ◌≤◌, ◌+◌, ◌-◌, ◌++◌, ◌↔◌, ℕ, ℤ, List, [], Some, true, false, IsTrue, OnOk, IfOk, IfErr};
+ghost use Rattle.std.specs.Prelude.{IsErrOf, OnErr, is_ok, length};
 ghost use Rattle.std.specs.Option.{option_copied};
 ghost use Rattle.std.specs.List.{list_all};
 ghost use Rattle.cnf_base.specs.Truth.{is_literal_of};
@@ -53,7 +54,13 @@ impl<S: Sink + Drop> Ledger<S> {
     ) -> Result<Ledger<S>, (S, OutOfMemory)>
         requires limit { max_ids ≤ max_id }
         requires fresh { IsTrue S.tells → (S.channel sink).written ≡ [] }
-        ensures opened { IfOk result (λ ledger. ledger ≡ record { sink = sink; state = start formula.now.clauses; limit = max_ids; in_step = true; spare = ledger.spare }) }
+        ensures opened { IfOk result (λ ledger. ledger ≡ record {
+          sink = sink;
+          state = start formula.now.clauses;
+          limit = max_ids;
+          in_step = true;
+          spare = ledger.spare;
+        }) }
         ensures proof { IfOk result (λ ledger. IsProofOf formula.now.clauses S.tells (S.channel ledger.sink) ledger.state) }
         ensures refused { IfErr result (λ back. back.0 ≡ sink) }
     {
@@ -85,7 +92,8 @@ impl<S: Sink + Drop> Ledger<S> {
         requires in_step { IsTrue self.old.in_step }
         requires strict { RefutesStrictly self.old.state.live clause.now hints.now }
         ensures added { IfOk result (λ id. (id ≡ self.old.state.top + 1) × (self.new.state ≡ with_next self.old.state clause.now)) }
-        ensures line { IsTrue S.tells → OnOk result ((S.channel self.new.sink).written ≡ (S.channel self.old.sink).written ++ next_line self.old.state clause.now hints.now) }
+        ensures line { IsTrue S.tells → OnOk result ((S.channel self.new.sink).written ≡ (S.channel self.old.sink).written
+            ++ next_line self.old.state clause.now hints.now) }
         ensures kept { (clauses : List (List ℤ)) → IsProofOf clauses S.tells (S.channel self.old.sink) self.old.state
             → OnOk result (IsProofOf clauses S.tells (S.channel self.new.sink) self.new.state) }
         ensures in_step { OnOk result (IsTrue self.new.in_step) }
@@ -130,7 +138,8 @@ impl<S: Sink + Drop> Ledger<S> {
         requires in_step { IsTrue self.old.in_step }
         requires definition { IsDefinition self.old.state.live clause.now candidates.now }
         ensures added { IfOk result (λ id. (id ≡ self.old.state.top + 1) × (self.new.state ≡ with_next self.old.state clause.now)) }
-        ensures line { IsTrue S.tells → OnOk result ((S.channel self.new.sink).written ≡ (S.channel self.old.sink).written ++ definition_line self.old.state clause.now candidates.now) }
+        ensures line { IsTrue S.tells → OnOk result ((S.channel self.new.sink).written ≡ (S.channel self.old.sink).written
+            ++ definition_line self.old.state clause.now candidates.now) }
         ensures kept { (clauses : List (List ℤ)) → IsProofOf clauses S.tells (S.channel self.old.sink) self.old.state
             → OnOk result (IsProofOf clauses S.tells (S.channel self.new.sink) self.new.state) }
         ensures in_step { OnOk result (IsTrue self.new.in_step) }
@@ -143,7 +152,8 @@ impl<S: Sink + Drop> Ledger<S> {
         ensures spare { length clause.now ≤ 4 → self.old.spare ≤ self.new.spare + 1 }
 
         ensures write_fault { IsErrOf result LedgerError.WriteFault
-            → IsTorn S.tells (S.channel self.old.sink) (S.channel self.new.sink) (definition_line self.old.state clause.now candidates.now) }
+            → IsTorn S.tells (S.channel self.old.sink) (S.channel self.new.sink)
+            (definition_line self.old.state clause.now candidates.now) }
         ensures out_of_step { IsErrOf result LedgerError.WriteFault → self.new.in_step ≡ false }
         ensures fault_state { IsErrOf result LedgerError.WriteFault → self.new.state ≡ with_next self.old.state clause.now }
         ensures cut { (clauses : List (List ℤ)) → IsProofOf clauses S.tells (S.channel self.old.sink) self.old.state → IsTrue S.tells
@@ -170,15 +180,19 @@ impl<S: Sink + Drop> Ledger<S> {
         // distinct numbers of live clauses
         requires live { IsTrue (are_added 0 self.old.state.live ids.now) }
         ensures state { self.new.state ≡ record { live = without_clauses self.old.state.live ids.now; top = self.old.state.top } }
-        ensures line { IsTrue S.tells → OnOk result ((S.channel self.new.sink).written ≡ (S.channel self.old.sink).written ++ deletion_line self.old.state ids.now) }
+        ensures line { IsTrue S.tells → OnOk result ((S.channel self.new.sink).written ≡ (S.channel self.old.sink).written
+            ++ deletion_line self.old.state ids.now) }
         // none of the formula's clauses may be among them
         ensures kept { (clauses : List (List ℤ)) → IsProofOf clauses S.tells (S.channel self.old.sink) self.old.state
-            → IsTrue (are_added (length clauses) self.old.state.live ids.now) → OnOk result (IsProofOf clauses S.tells (S.channel self.new.sink) self.new.state) }
+            → IsTrue (are_added (length clauses) self.old.state.live ids.now)
+            → OnOk result (IsProofOf clauses S.tells (S.channel self.new.sink) self.new.state) }
         ensures in_step { self.new.in_step ≡ is_ok result }
         ensures limit { self.new.limit ≡ self.old.limit }
         ensures spare { self.new.spare ≡ self.old.spare }
-        ensures write_fault { IfErr result (λ e. (e ≡ LedgerError.WriteFault) × IsTorn S.tells (S.channel self.old.sink) (S.channel self.new.sink) (deletion_line self.old.state ids.now)) }
-        ensures cut { (clauses : List (List ℤ)) → IsProofOf clauses S.tells (S.channel self.old.sink) self.old.state → IsTrue (are_added (length clauses) self.old.state.live ids.now)
+        ensures write_fault { IfErr result (λ e. (e ≡ LedgerError.WriteFault)
+            × IsTorn S.tells (S.channel self.old.sink) (S.channel self.new.sink) (deletion_line self.old.state ids.now)) }
+        ensures cut { (clauses : List (List ℤ)) → IsProofOf clauses S.tells (S.channel self.old.sink) self.old.state
+            → IsTrue (are_added (length clauses) self.old.state.live ids.now)
             → IsTrue S.tells → OnErr result (IsCutProof clauses (S.channel self.new.sink).written self.old.state self.new.state) }
         ensures unfailed { OnOk result ((S.channel self.new.sink).faults ≡ (S.channel self.old.sink).faults) }
         ensures only_writes { OnlyWrites (S.channel self.old.sink) (S.channel self.new.sink) }
@@ -216,7 +230,8 @@ impl<S: Sink + Drop> Ledger<S> {
     pub fn last_id(&self) -> u64
         ensures value { result ≡ self.now.state.top }
         ensures range { result ≤ max_id }
-        ensures numbers { (id : ℕ) (clause : List ℤ) → clause_at self.now.state.live id ≡ Some clause → (0 < id) × (id ≤ self.now.state.top) }
+        ensures numbers { (id : ℕ) (clause : List ℤ) → clause_at self.now.state.live id ≡ Some clause → (0 < id)
+            × (id ≤ self.now.state.top) }
     {
         let _ = self.max_ids;
         self.live.top()
@@ -246,7 +261,8 @@ impl<S: Sink + Drop> Ledger<S> {
         ensures written { (S.channel self.new.sink).written ≡ (S.channel self.old.sink).written }
         ensures flushed { IsTrue S.tells → OnOk result ((S.channel self.new.sink).flushed ≡ length (S.channel self.new.sink).written) }
         ensures unflushed { OnErr result ((S.channel self.new.sink).flushed ≡ (S.channel self.old.sink).flushed) }
-        ensures write_fault { IfErr result (λ e. (e ≡ LedgerError.WriteFault) × Rose (S.channel self.old.sink).faults (S.channel self.new.sink).faults) }
+        ensures write_fault { IfErr result (λ e. (e ≡ LedgerError.WriteFault)
+            × Rose (S.channel self.old.sink).faults (S.channel self.new.sink).faults) }
         ensures unfailed { OnOk result ((S.channel self.new.sink).faults ≡ (S.channel self.old.sink).faults) }
         ensures counts { (S.channel self.old.sink).faults ≤ (S.channel self.new.sink).faults }
         ensures taken { (S.channel self.new.sink).taken ≡ (S.channel self.old.sink).taken }
@@ -262,7 +278,8 @@ impl<S: Sink + Drop> Ledger<S> {
 
     // Keeps a clause under the next number, before its line is written.
     fn keep(&mut self, clause: &[Lit]) -> Result<Id, LedgerError>
-        ensures kept { IfOk result (λ id. (id ≡ self.old.state.top + 1) × (self.new ≡ record self.old { state = with_next self.old.state clause.now; spare = self.new.spare })) }
+        ensures kept { IfOk result (λ id. (id ≡ self.old.state.top + 1)
+            × (self.new ≡ record self.old { state = with_next self.old.state clause.now; spare = self.new.spare })) }
         ensures spare { OnOk result (length clause.now ≤ 4 → self.old.spare ≤ self.new.spare + 1) }
         ensures id_limit { IsErrOf result LedgerError.IdLimit ↔ (self.old.limit ≤ self.old.state.top) }
         ensures refused { IfErr result (λ e. e ≢ LedgerError.WriteFault) }
@@ -270,7 +287,8 @@ impl<S: Sink + Drop> Ledger<S> {
         ensures memory { IsErrOf result LedgerError.OutOfMemory → length clause.now ≤ 4 → self.old.spare ≡ 0 }
         ensures next { OnOk result (self.old.state.top + 1 ≤ max_id) }
         ensures range { OnOk result (IsTrue (list_all (is_literal_of max_literal) clause.now)) }
-        ensures numbers { (id : ℕ) (clause : List ℤ) → clause_at self.old.state.live id ≡ Some clause → (0 < id) × (id ≤ self.old.state.top) }
+        ensures numbers { (id : ℕ) (clause : List ℤ) → clause_at self.old.state.live id ≡ Some clause → (0 < id)
+            × (id ≤ self.old.state.top) }
     {
         let top = self.live.top();
         if top >= self.max_ids {

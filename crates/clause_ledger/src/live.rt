@@ -1,7 +1,8 @@
 // Live clauses by their numbers, which are consecutive, in chunks of 64: number n stands at place n % 64 of chunk n / 64,
 // and place 0 of the first chunk stays free. So a short clause costs no allocation, a look-up two steps, and a chunk
 // whose clauses are all deleted gives its memory back.
-ghost use Rattle.std.specs.Prelude.{◌≡◌, ◌+◌, ◌<◌, ◌≤◌, ℕ, ℤ, List, [], None, Some, OnOk, OnErr, IsTrue, length, set, is_some, slice_index_or};
+ghost use Rattle.std.specs.Prelude.{◌≡◌, ◌+◌, ◌<◌, ◌≤◌, ℕ, ℤ, List, [], None, Some, OnOk, OnErr, IsTrue, length, set, is_some};
+ghost use Rattle.std.specs.Prelude.{slice_index_or};
 ghost use Rattle.std.specs.List.{list_all};
 ghost use Rattle.std.specs.Option.{option_copied};
 ghost use Rattle.std.specs.FinMap as map;
@@ -55,7 +56,8 @@ impl LiveClauses {
     /// The greatest number; live ones are from 1 up to it.
     pub fn top(&self) -> u64
         ensures value { result ≡ self.now.state.top }
-        ensures numbers { (id : ℕ) (clause : List ℤ) → clause_at self.now.state.live id ≡ Some clause → (0 < id) × (id ≤ self.now.state.top) }
+        ensures numbers { (id : ℕ) (clause : List ℤ) → clause_at self.now.state.live id ≡ Some clause → (0 < id)
+            × (id ≤ self.now.state.top) }
     {
         self.top
     }
@@ -154,7 +156,8 @@ fn put(chunks: &mut Vec<Chunk>, index: usize, place: usize, slot: Slot)
 
 fn clear(chunks: &mut Vec<Chunk>, alloc: Global, index: usize, place: usize, may_shrink: bool)
     requires { index < length chunks.old.items }
-    ensures { (after : Places) × (chunks.new.items ≡ set chunks.old.items index after) × IsCleared (slice_index_or chunks.old.items index []) after place may_shrink }
+    ensures { (after : Places) × (chunks.new.items ≡ set chunks.old.items index after)
+        × IsCleared (slice_index_or chunks.old.items index []) after place may_shrink }
 {
     let chunk = &mut chunks[index];
     chunk.clear(alloc, place, may_shrink);

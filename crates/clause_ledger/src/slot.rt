@@ -1,6 +1,7 @@
 // A slot for one clause: up to four literals stand in the slot itself, those of a longer clause on the heap, so that a
-// short clause costs no allocation.
-ghost use Rattle.std.specs.Prelude.{◌≡◌, ◌+◌, ◌<◌, ◌≤◌, ◌++◌, None, Some, IfOk, OnOk, OnErr, IsTrue, length, is_none, vec_len, vec_capacity};
+// short clause costs no allocation; and behind one pointer, so that a slot takes 24 bytes.
+ghost use Rattle.std.specs.Prelude.{◌≡◌, ◌+◌, ◌<◌, ◌≤◌, ◌++◌, None, Some, IfOk, OnOk, OnErr, IsTrue, length, is_none, vec_len};
+ghost use Rattle.std.specs.Prelude.{vec_capacity};
 ghost use Rattle.std.specs.List.{list_all};
 ghost use Rattle.std.specs.Option.{option_copied};
 ghost use Rattle.cnf_base.specs.Truth.{is_literal_of};
@@ -14,14 +15,15 @@ use std::alloc::Global;
 #[derive(Debug, Drop)]
 pub enum Slot {
     Free,
+    Empty,
     Unit([Lit; 1]),
     Binary([Lit; 2]),
     Ternary([Lit; 3]),
     Quaternary([Lit; 4]),
-    Other(Vec<Lit>),
+    Long(Box<Vec<Lit>>),
 }
 
-const _: () = prove!(size_of::<Slot>() == 32);
+const _: () = prove!(size_of::<Slot>() == 24);
 
 impl Slot {
     /// A slot with a clause. Only a clause of more than four literals needs memory.
@@ -33,7 +35,7 @@ impl Slot {
         if clause.len() > 4 {
             return long(alloc, clause);
         }
-        Ok(short(alloc, clause))
+        Ok(short(clause))
     }
 
     /// The clause, where there is one.
@@ -42,17 +44,18 @@ impl Slot {
     {
         match self {
             Slot::Free => None,
+            Slot::Empty => Some(&[]),
             Slot::Unit(literals) => Some(literals.as_slice()),
             Slot::Binary(literals) => Some(literals.as_slice()),
             Slot::Ternary(literals) => Some(literals.as_slice()),
             Slot::Quaternary(literals) => Some(literals.as_slice()),
-            Slot::Other(literals) => Some(literals.as_slice()),
+            Slot::Long(literals) => Some(literals.as_slice()),
         }
     }
 }
 
 // A clause of at most four literals.
-fn short(alloc: Global, clause: &[Lit]) -> Slot
+fn short(clause: &[Lit]) -> Slot
     requires { length clause.now ≤ 4 }
     ensures value { clause_in result ≡ Some clause.now }
     ensures range { IsTrue (list_all (is_literal_of max_literal) clause.now) }
@@ -74,7 +77,7 @@ fn short(alloc: Global, clause: &[Lit]) -> Slot
             let _range = (a.var(), b.var(), c.var(), d.var());
             Slot::Quaternary([*a, *b, *c, *d])
         }
-        _ => Slot::Other(Vec::new(alloc)),
+        _ => Slot::Empty,
     }
 }
 
@@ -85,7 +88,10 @@ fn long(alloc: Global, clause: &[Lit]) -> Result<Slot, OutOfMemory>
     let mut literals = Vec::new(alloc);
     literals.reserve(clause.len())?;
     copy(&mut literals, clause);
-    Ok(Slot::Other(literals))
+    match Box::new(alloc, literals) {
+        Ok(literals) => Ok(Slot::Long(literals)),
+        Err(_) => Err(OutOfMemory),
+    }
 }
 
 // Copies a clause into the room that is there. The type of a literal gives its range.

@@ -1,5 +1,6 @@
 -- A node's variable and its literal are of none of the variables below them.
-use Rattle.std.proofs.Common.{◌≡◌, ◌≢◌, ℕ, ◌<◌, ◌≤◌, true, false, ◌||◌, ℤ, List, [], ◌∷◌, Some, nat_abs, int_eq, length, refl, sym, ap, ◌∙◌, subst, arith, inl, inr, ne_eqb}
+use Rattle.std.proofs.Common.{◌≡◌, ◌≢◌, ℕ, ◌<◌, ◌≤◌, true, false, ◌||◌, ℤ, List, [], ◌∷◌, Some, nat_abs, int_eq, length, refl, sym, ap, ◌∙◌}
+use Rattle.std.proofs.Common.{subst, arith, inl, inr, ne_eqb}
 use Rattle.std.specs.Prelude.{IsTrue, ◌==◌, slice_index_or}
 use Rattle.std.specs.List.{list_any}
 use Rattle.std.proofs.lemmas.Bool.{or_right, or_left}
@@ -24,7 +25,8 @@ none_alike x (y ∷ literals) other =
     || none_alike x literals (λ z among. other z (or_right (int_eq z y) (list_any (int_eq z) literals) among)) i)
 
 -- what lies below a level is neither the variable of a node of the level nor that of the level itself
-pub node_apart : (graph : Graph) → IsReduced graph → IsOrder graph.order → (key : ℕ) (b : Branch) → branch_at graph key ≡ Some b → (level : ℕ) → b.level < level
+pub node_apart : (graph : Graph) → IsReduced graph → IsOrder graph.order → (key : ℕ) (b : Branch) → branch_at graph key ≡ Some b
+    → (level : ℕ) → b.level < level
     → (literal : ℤ) → LiesFrom graph level literal → b.variable ≢ nat_abs literal
 node_apart graph reduced ordered key b at level above literal lies same = elim lies [
   | inl place ↦
@@ -53,7 +55,8 @@ literal_apart graph reduced ordered place level small above literal lies same = 
 ]
 
 -- it still lies there in a graph that grew, and from an earlier level on
-pub lies_kept : (old new : Graph) → KeepsNodes old new → (level lower : ℕ) → level ≤ lower → (literal : ℤ) → LiesFrom old lower literal → LiesFrom new level literal
+pub lies_kept : (old new : Graph) → KeepsNodes old new → (level lower : ℕ) → level ≤ lower → (literal : ℤ) → LiesFrom old lower literal
+    → LiesFrom new level literal
 lies_kept old new keeps level lower less literal lies = elim lies [
   | inl place ↦ inl (
     place.0,

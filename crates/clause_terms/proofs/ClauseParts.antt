@@ -1,6 +1,7 @@
 -- The later literals of a clause are a part of its function: that with the levels of the earlier ones fixed so that they
 -- are false.
-use Rattle.std.proofs.Common.{◌≡◌, ℕ, zero, suc, ◌<◌, ◌≤◌, ◌+◌, Bool, false, not, ◌||◌, List, [], ◌∷◌, length, drop, sym, ap, ◌∙◌, subst, arith, inl, inr}
+use Rattle.std.proofs.Common.{◌≡◌, ℕ, zero, suc, ◌<◌, ◌≤◌, ◌+◌, Bool, false, not, ◌||◌, List, [], ◌∷◌, length, drop, sym, ap, ◌∙◌, subst}
+use Rattle.std.proofs.Common.{arith, inl, inr}
 use Rattle.std.specs.Prelude.{nat_lt, if◌then◌else◌}
 use Rattle.std.specs.List.{list_any}
 use Rattle.std.specs.List.Sorted.{IsNonDecreasingBy}
@@ -19,7 +20,8 @@ abbrev later_sorted : (p : Placed) (rest : List Placed) → Sorted (p ∷ rest) 
 later_sorted p rest sorted i j d le small = sorted (suc i) (suc j) d (omega (arith, le)) (omega (arith, small))
 
 -- only the levels of the literals count
-agree_from : (a b : Levels) (level : ℕ) → ((l : ℕ) → level ≤ l → a l ≡ b l) → (q : Placed) (rest : List Placed) → Sorted (q ∷ rest) → level ≤ q.level
+agree_from : (a b : Levels) (level : ℕ) → ((l : ℕ) → level ≤ l → a l ≡ b l) → (q : Placed) (rest : List Placed) → Sorted (q ∷ rest) → level
+    ≤ q.level
     → list_any (placed_holds a) (q ∷ rest) ≡ list_any (placed_holds b) (q ∷ rest)
 agree_from a b level agree q [] sorted above = ap (λ t. (if q.negative then not t else t) || false) (agree q.level above)
 agree_from a b level agree q (r ∷ rest) sorted above =
@@ -39,7 +41,8 @@ rest_part parts p q rest sorted none =
         fixed = λ l. p.negative;
         same = λ a.
             let b : Levels = fixed_to (p.level + 1) (λ l. p.negative) a in
-            let here : b p.level ≡ p.negative = cond-true (nat_lt p.level (p.level + 1)) p.negative (a p.level) (lt-ltb p.level (p.level + 1) (omega arith)) in
+            let here : b p.level ≡ p.negative = cond-true (nat_lt p.level (p.level + 1)) p.negative (a p.level)
+            (lt-ltb p.level (p.level + 1) (omega arith)) in
             let rest_same = agree_from a b (p.level + 1)
             (λ l above. sym (cond-false (nat_lt l (p.level + 1)) p.negative (a l) (le-ltb l (p.level + 1) (omega (arith, above)))))
             q rest (later_sorted p (q ∷ rest) sorted) (omega (arith, less)) in
@@ -50,7 +53,8 @@ rest_part parts p q rest sorted none =
           let negative : p.negative ≡ q.negative = none 0 p (omega arith) level in
           let alike : (a : Levels) → placed_holds a p ≡ placed_holds a q = λ a i. if negative i then not (a (level i)) else a (level i) in
           subst (λ (g : Levels → Bool). IsSubfunction (placed_function (p ∷ q ∷ rest)) g)
-          (λ i a. (ap (λ t. t || list_any (placed_holds a) (q ∷ rest)) (alike a) ∙ sym (or_again (placed_holds a q) (list_any (placed_holds a) rest))) i)
+          (λ i a. (ap (λ t. t || list_any (placed_holds a) (q ∷ rest)) (alike a)
+          ∙ sym (or_again (placed_holds a q) (list_any (placed_holds a) rest))) i)
           (parts.same (placed_function (p ∷ q ∷ rest)))
     ]
 

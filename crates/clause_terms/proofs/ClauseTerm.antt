@@ -24,19 +24,23 @@ use Rattle.clause_terms.proofs.Ordered.{same_literals, same_values}
 use Rattle.clause_terms.proofs.Taken.{SameSetLaw}
 
 -- a graph of the same order has the same literals
-pub still_in_order : (old new : Graph) → new.order ≡ old.order → (clause : List ℤ) (placed : List Placed) → AreInOrder old clause placed → AreInOrder new clause placed
+pub still_in_order : (old new : Graph) → new.order ≡ old.order → (clause : List ℤ) (placed : List Placed) → AreInOrder old clause placed
+    → AreInOrder new clause placed
 still_in_order old new same clause placed in_order = record {
   levels = subst (λ (order : List ℕ). list_all (λ (p : Placed). nat_lt p.level (length order)) placed ≡ true) (sym same) in_order.levels;
   sorted = in_order.sorted;
   same = subst (λ (order : List ℕ). IsPermutation clause
-      (map (λ (p : Placed). if p.negative then neg_ℤ (pos (slice_index_or order p.level 0)) else pos (slice_index_or order p.level 0)) placed)) (sym same) in_order.same;
+      (map (λ (p : Placed). if p.negative then neg_ℤ (pos (slice_index_or order p.level 0)) else pos
+      (slice_index_or order p.level 0)) placed)) (sym same) in_order.same;
 }
 
 nothing_placed : (graph : Graph) (clause : List ℤ) → AreInOrder graph clause [] → clause ≡ []
 nothing_placed graph clause in_order = nil_from_length clause (sym (length_permutation clause [] in_order.same))
 
-pub unit_path : SameSetLaw → (graph : Graph) (live : Live) (clause : List ℤ) (placed : List Placed) (node : Node) (path : List UnitPart) (input : ℕ)
-    → AreInOrder graph clause placed → clause ≢ [] → IsDiagramOf graph live placed node path → clause_at live input ≡ Some clause → HasUnitPath graph live node path input
+pub unit_path : SameSetLaw → (graph : Graph) (live : Live) (clause : List ℤ) (placed : List Placed) (node : Node) (path : List UnitPart)
+    (input : ℕ)
+    → AreInOrder graph clause placed → clause ≢ [] → IsDiagramOf graph live placed node path → clause_at live input ≡ Some clause
+    → HasUnitPath graph live node path input
 unit_path same_set graph live clause [] node path input in_order some diagram there = absurd (some (nothing_placed graph clause in_order))
 unit_path same_set graph live clause (p ∷ placed) node path input in_order some diagram there = record {
   branch = diagram.top.branch;
@@ -53,20 +57,24 @@ node_stands graph False branch is = refl
 node_stands graph True branch is = refl
 node_stands graph (Inner key) branch is = ap is_some is
 
-pub clause_term : (graph : Graph) → IsOrder graph.order → (live more : Live) (clause : List ℤ) (placed : List Placed) (node : Node) (path : List UnitPart)
+pub clause_term : (graph : Graph) → IsOrder graph.order → (live more : Live) (clause : List ℤ) (placed : List Placed) (node : Node)
+    (path : List UnitPart)
     → AreInOrder graph clause placed → IsDiagramOf graph live placed node path → (branch : Branch) → branch_of graph node ≡ Some branch
     → (id : ℕ) → IsJustified more (atom_of graph node ∷ []) (Clause id) → IsTerm graph more (λ a. clause_holds a clause) node (Clause id)
 clause_term graph ordered live more clause placed node path in_order diagram branch is id justified = record {
   stands = node_stands graph node branch is;
-  value = λ a. diagram.value (by_level graph.order a) ∙ sym (same_values graph ordered a (by_level graph.order a) (λ level small. refl) clause placed in_order);
+  value = λ a. diagram.value (by_level graph.order a)
+      ∙ sym (same_values graph ordered a (by_level graph.order a) (λ level small. refl) clause placed in_order);
   proved = justified;
 }
 
 -- a clause with both signs of a variable
-pub true_term : (graph : Graph) → IsOrder graph.order → (live : Live) (clause : List ℤ) (placed : List Placed) → AreInOrder graph clause placed
+pub true_term : (graph : Graph) → IsOrder graph.order → (live : Live) (clause : List ℤ) (placed : List Placed)
+    → AreInOrder graph clause placed
     → ((a : Levels) → list_any (placed_holds a) placed ≡ true) → IsTerm graph live (λ a. clause_holds a clause) True Trivial
 true_term graph ordered live clause placed in_order holds = record {
   stands = refl;
-  value = λ a. sym (same_values graph ordered a (by_level graph.order a) (λ level small. refl) clause placed in_order ∙ holds (by_level graph.order a));
+  value = λ a. sym (same_values graph ordered a (by_level graph.order a) (λ level small. refl) clause placed in_order
+      ∙ holds (by_level graph.order a));
   proved = refl;
 }

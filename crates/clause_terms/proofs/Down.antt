@@ -5,7 +5,8 @@ use Rattle.std.proofs.lemmas.Bool.{cases_eq, cases_lt}
 use Rattle.node_table.specs.declared.node.Node.{Node}
 use Rattle.node_table.specs.declared.node.Node.TheVariants.{False, True, Inner}
 use Rattle.node_table.specs.declared.node.Branch.{Branch}
-use Rattle.node_table.specs.Diagram.{Graph, IsReduced, IsBelow, branch_at, branch_of, is_node, levels, level_of, level_in, high_at, low_at, child_in}
+use Rattle.node_table.specs.Diagram.{Graph, IsReduced, IsBelow, branch_at, branch_of, is_node, levels, level_of, level_in, high_at, low_at}
+use Rattle.node_table.specs.Diagram.{child_in}
 use Rattle.node_table.specs.Laws.{Cofactors}
 use Rattle.node_table.specs.Value.{Levels, value_of}
 use Rattle.clause_terms.specs.Recovery.{IsLeast}
@@ -23,7 +24,8 @@ pub record HasBranch (graph : Graph) (node : Node) (b : Branch) : Type 0 where
 at_own : (level : ℕ) (x y : Node) → (if level == level then x else y) ≡ x
 at_own level x y = ap (λ t. if t then x else y) (eq-eqb level level refl)
 
-pub has_branch : Cofactors → (graph : Graph) → IsReduced graph → (node : Node) → is_node graph node ≡ true → (b : Branch) → branch_of graph node ≡ Some b → HasBranch graph node b
+pub has_branch : Cofactors → (graph : Graph) → IsReduced graph → (node : Node) → is_node graph node ≡ true → (b : Branch)
+    → branch_of graph node ≡ Some b → HasBranch graph node b
 has_branch cofactors graph reduced False stands b at = absurd (let e : None ≡ Some b = at in cc)
 has_branch cofactors graph reduced True stands b at = absurd (let e : None ≡ Some b = at in cc)
 has_branch cofactors graph reduced (Inner key) stands b at = record {
@@ -33,9 +35,12 @@ has_branch cofactors graph reduced (Inner key) stands b at = record {
   low = reduced.low key.index b at;
   differ = reduced.differ key.index b at;
   value = λ a.
-      let high : high_at graph b.level (Inner key) ≡ b.high = ap (child_in (λ x. x.high) b.level (Inner key)) at ∙ at_own b.level b.high (Inner key) in
-      let low : low_at graph b.level (Inner key) ≡ b.low = ap (child_in (λ x. x.low) b.level (Inner key)) at ∙ at_own b.level b.low (Inner key) in
-      cofactors.value graph reduced a b.level (Inner key) stands ∙ (λ i. if a b.level then value_of graph a (high i) else value_of graph a (low i));
+      let high : high_at graph b.level (Inner key) ≡ b.high = ap (child_in (λ x. x.high) b.level (Inner key)) at
+      ∙ at_own b.level b.high (Inner key) in
+      let low : low_at graph b.level (Inner key) ≡ b.low = ap (child_in (λ x. x.low) b.level (Inner key)) at
+      ∙ at_own b.level b.low (Inner key) in
+      cofactors.value graph reduced a b.level (Inner key) stands
+      ∙ (λ i. if a b.level then value_of graph a (high i) else value_of graph a (low i));
 }
 
 chosen_high : (t x y : Bool) → t ≡ true → (if t then x else y) ≡ x
@@ -55,7 +60,8 @@ node_level graph reduced (Inner key) is =
     ] refl is
 
 -- low isn't False: the variable stays false
-pub low_step : (graph : Graph) → IsReduced graph → (a : Levels) (first node : Node) (b : Branch) → HasBranch graph node b → IsDown graph a first node → b.low ≢ False → IsDown graph a first b.low
+pub low_step : (graph : Graph) → IsReduced graph → (a : Levels) (first node : Node) (b : Branch) → HasBranch graph node b
+    → IsDown graph a first node → b.low ≢ False → IsDown graph a first b.low
 low_step graph reduced a first node b has down some =
     let here = has.here in
     let below = has.low.below in
@@ -68,18 +74,21 @@ low_step graph reduced a first node b has down some =
           ∙ has.value c ∙ chosen_low (c b.level) (value_of graph c b.high) (value_of graph c b.low) (agree b.level below ∙ off);
       least = λ other holds level early agree on. elim (cases_lt level b.level) [
         | inl above ↦ down.least other holds level (omega (arith, above, here)) agree on
-        | inr late ↦ absurd (let no : a level ≡ false = down.rest level (omega (arith, late, here)) (omega (arith, early, node_level graph reduced b.low has.low.stands)) in cc)
+        | inr late ↦ absurd (let no : a level ≡ false = down.rest level (omega (arith, late, here))
+            (omega (arith, early, node_level graph reduced b.low has.low.stands)) in cc)
       ];
       rest = λ i late small. down.rest i (omega (arith, late, below, here)) small;
     }
 
 -- low is False: the variable is set, as each assignment that makes the node true must have it
-pub high_step : (graph : Graph) → IsReduced graph → (a later : Levels) (first node : Node) (b : Branch) → HasBranch graph node b → IsDown graph a first node → b.low ≡ False
+pub high_step : (graph : Graph) → IsReduced graph → (a later : Levels) (first node : Node) (b : Branch) → HasBranch graph node b
+    → IsDown graph a first node → b.low ≡ False
     → later b.level ≡ true → ((i : ℕ) → i < levels graph → (i ≡ b.level → ⊥) → later i ≡ a i) → IsDown graph later first b.high
 high_step graph reduced a later first node b has down no_low on same =
     let here = has.here in
     let below = has.high.below in
-    let above_same : (i : ℕ) → i < b.level → later i ≡ a i = λ i early. same i (omega (arith, early, has.small)) (λ e. omega (arith, e, early)) in
+    let above_same : (i : ℕ) → i < b.level → later i ≡ a i = λ i early. same i (omega (arith, early, has.small))
+    (λ e. omega (arith, e, early)) in
     let never : (c : Levels) → c b.level ≡ false → value_of graph c node ≡ false = λ c off.
     has.value c ∙ chosen_low (c b.level) (value_of graph c b.high) (value_of graph c b.low) off ∙ ap (value_of graph c) no_low in
     record {
@@ -89,24 +98,29 @@ high_step graph reduced a later first node b has down no_low on same =
           down.leads c (λ i early. agree i (omega (arith, early, here, below)) ∙ above_same i (omega (arith, early, here)))
           ∙ has.value c ∙ chosen_high (c b.level) (value_of graph c b.high) (value_of graph c b.low) (agree b.level below ∙ on);
       least = λ other holds level early agree is_on. elim (cases_lt level b.level) [
-        | inl above ↦ down.least other holds level (omega (arith, above, here)) (λ i under. agree i under ∙ above_same i (omega (arith, under, above))) (sym (above_same level above) ∙ is_on)
+        | inl above ↦ down.least other holds level (omega (arith, above, here)) (λ i under. agree i under
+            ∙ above_same i (omega (arith, under, above))) (sym (above_same level above) ∙ is_on)
         | inr late ↦ elim (cases_eq level b.level) [
           | inl at ↦
-              let leads : value_of graph other first ≡ value_of graph other node = down.leads other (λ i early. agree i (omega (arith, early, here, at)) ∙ above_same i (omega (arith, early, here))) in
+              let leads : value_of graph other first ≡ value_of graph other node = down.leads other
+              (λ i early. agree i (omega (arith, early, here, at)) ∙ above_same i (omega (arith, early, here))) in
               elim (other level) as (λ t. other level ≡ t → t ≡ true) [
                 | true ↦ λ _. refl
-                | false ↦ λ off. (let no : value_of graph other node ≡ false = never other (ap other (sym at) ∙ off) in let is : value_of graph other node ≡ true = sym leads ∙ holds in cc)
+                | false ↦ λ off. (let no : value_of graph other node ≡ false = never other (ap other (sym at) ∙ off) in
+                    let is : value_of graph other node ≡ true = sym leads ∙ holds in cc)
               ] refl
           | inr differ ↦
               let inside : level < levels graph = omega (arith, early, node_level graph reduced b.high has.high.stands) in
-              absurd (let no : a level ≡ false = down.rest level (omega (arith, late, here)) inside in let is : a level ≡ true = sym (same level inside differ) ∙ is_on in cc)
+              absurd (let no : a level ≡ false = down.rest level (omega (arith, late, here)) inside in let is : a level
+              ≡ true = sym (same level inside differ) ∙ is_on in cc)
         ]
       ];
       rest = λ i late small. same i small (λ e. omega (arith, e, late, below)) ∙ down.rest i (omega (arith, late, below, here)) small;
     }
 
 -- at first all values are false
-pub start_down : (graph : Graph) (a : Levels) (first : Node) → is_node graph first ≡ true → first ≢ False → ((i : ℕ) → i < levels graph → a i ≡ false) → level_of graph first ≤ levels graph → IsDown graph a first first
+pub start_down : (graph : Graph) (a : Levels) (first : Node) → is_node graph first ≡ true → first ≢ False
+    → ((i : ℕ) → i < levels graph → a i ≡ false) → level_of graph first ≤ levels graph → IsDown graph a first first
 start_down graph a first stands some off bottom = record {
   stands = stands;
   some = some;
@@ -116,10 +130,12 @@ start_down graph a first stands some off bottom = record {
 }
 
 -- at the end the node is True
-pub down_is_least : (graph : Graph) (a : Levels) (first node : Node) → IsDown graph a first node → branch_of graph node ≡ None → IsLeast (levels graph) (λ c. value_of graph c first) a
+pub down_is_least : (graph : Graph) (a : Levels) (first node : Node) → IsDown graph a first node → branch_of graph node ≡ None
+    → IsLeast (levels graph) (λ c. value_of graph c first) a
 down_is_least graph a first False down none = absurd (down.some refl)
 down_is_least graph a first True down none = record {
   satisfies = down.leads a (λ i early. refl);
   least = λ other holds level small agree on. down.least other holds level small agree on;
 }
-down_is_least graph a first (Inner key) down none = absurd (let some : is_some (branch_at graph key.index) ≡ true = down.stands in let no : is_some (branch_at graph key.index) ≡ false = ap is_some none in cc)
+down_is_least graph a first (Inner key) down none = absurd (let some : is_some (branch_at graph key.index) ≡ true = down.stands in
+    let no : is_some (branch_at graph key.index) ≡ false = ap is_some none in cc)

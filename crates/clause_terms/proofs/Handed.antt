@@ -11,8 +11,10 @@ pub error_handed_on : {T E : Type 0} (result : Result T E) (came : E) → IsErrA
 error_handed_on (Ok answer) came is = absurd is
 error_handed_on (Err error) came is = ap Some is
 
-pub steps_handed_on : {S T : Type 0} {tells : Bool} {before after : Channel} {old new : TableState S} {count : ℕ} (result : Result T TableError) (came : TableError)
-    → IsErrAnd result (λ e. e ≡ came) → Steps tells before after old new count (Some came) → Steps tells before after old new count (error_of result)
+pub steps_handed_on : {S T : Type 0} {tells : Bool} {before after : Channel} {old new : TableState S} {count : ℕ}
+    (result : Result T TableError) (came : TableError)
+    → IsErrAnd result (λ e. e ≡ came) → Steps tells before after old new count (Some came)
+    → Steps tells before after old new count (error_of result)
 steps_handed_on {tells = tells} {before = before} {after = after} {old = old} {new = new} {count = count} result came is steps =
     subst (λ (error : Option TableError). Steps tells before after old new count error) (sym (error_handed_on result came is)) steps
 

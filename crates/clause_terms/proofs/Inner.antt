@@ -19,7 +19,8 @@ pub record IsInnerOf (graph : Graph) (level : ℕ) (high low node : Node) : Type
   pub is_low : branch.low ≡ low
 
 at_branch : (graph : Graph) (level : ℕ) (high low : Node) (key : NodeKey) (o : Option Branch) → branch_at graph key.index ≡ o → high ≢ low
-    → child_in (λ b. b.high) level (Inner key) o ≡ high → child_in (λ b. b.low) level (Inner key) o ≡ low → IsInnerOf graph level high low (Inner key)
+    → child_in (λ b. b.high) level (Inner key) o ≡ high → child_in (λ b. b.low) level (Inner key) o ≡ low
+    → IsInnerOf graph level high low (Inner key)
 at_branch graph level high low key None at differ is_high is_low = absurd (differ (sym is_high ∙ is_low))
 at_branch graph level high low key (Some b) at differ is_high is_low = elim (cases_eq b.level level) [
   | inl same ↦ record {
@@ -36,7 +37,9 @@ at_branch graph level high low key (Some b) at differ is_high is_low = elim (cas
       ∙ (sym (ap (λ t. if t then b.low else Inner key) (ne_eqb b.level level other)) ∙ is_low)))
 ]
 
-pub inner_of : (graph : Graph) (level : ℕ) (high low node : Node) → high ≢ low → HasChildren graph level high low node → IsInnerOf graph level high low node
+pub inner_of : (graph : Graph) (level : ℕ) (high low node : Node) → high ≢ low → HasChildren graph level high low node
+    → IsInnerOf graph level high low node
 inner_of graph level high low False differ has = absurd (differ (sym has.high_child ∙ has.low_child))
 inner_of graph level high low True differ has = absurd (differ (sym has.high_child ∙ has.low_child))
-inner_of graph level high low (Inner key) differ has = at_branch graph level high low key (branch_at graph key.index) refl differ has.high_child has.low_child
+inner_of graph level high low (Inner key) differ has = at_branch graph level high low key
+    (branch_at graph key.index) refl differ has.high_child has.low_child

@@ -14,15 +14,18 @@ use Rattle.clause_terms.specs.Placed.{placed_holds, placed_function}
 use Rattle.clause_terms.specs.ClauseDiagram.{high_of, low_of}
 use Rattle.clause_terms.proofs.StepValue.{chosen}
 
-child_below : (graph : Graph) (level : ℕ) → level < levels graph → (below : Node) → IsBelow graph level below → (own : Bool) → IsBelow graph level (if own then below else True)
+child_below : (graph : Graph) (level : ℕ) → level < levels graph → (below : Node) → IsBelow graph level below → (own : Bool)
+    → IsBelow graph level (if own then below else True)
 child_below graph level small below is true = is
 child_below graph level small below is false = record { stands = refl; below = small }
 
-other_below : (graph : Graph) (level : ℕ) → level < levels graph → (below : Node) → IsBelow graph level below → (own : Bool) → IsBelow graph level (if own then True else below)
+other_below : (graph : Graph) (level : ℕ) → level < levels graph → (below : Node) → IsBelow graph level below → (own : Bool)
+    → IsBelow graph level (if own then True else below)
 other_below graph level small below is true = record { stands = refl; below = small }
 other_below graph level small below is false = is
 
-pub lacked_literal : Subfunctions → Missing → (graph : Graph) → IsReduced graph → (p : Placed) (more : List Placed) (below : Node) → p.level < levels graph
+pub lacked_literal : Subfunctions → Missing → (graph : Graph) → IsReduced graph → (p : Placed) (more : List Placed) (below : Node) → p.level
+    < levels graph
     → IsBelow graph p.level below → ((a : Levels) → value_of graph a below ≡ list_any (placed_holds a) more)
     → IsWanted graph p.level (high_of p below) (low_of p below) → LacksPart graph (placed_function (p ∷ more))
 lacked_literal parts missing graph reduced p more below small is_below value wanted = record {
@@ -34,7 +37,11 @@ lacked_literal parts missing graph reduced p more below small is_below value wan
 }
 
 pub lacked_whole : Subfunctions → (graph : Graph) (f g : Levels → Bool) → IsSubfunction f g → LacksPart graph g → LacksPart graph f
-lacked_whole parts graph f g part lacks = record { part = lacks.part; is_part = parts.further f g lacks.part part lacks.is_part; nowhere = lacks.nowhere }
+lacked_whole parts graph f g part lacks = record {
+  part = lacks.part;
+  is_part = parts.further f g lacks.part part lacks.is_part;
+  nowhere = lacks.nowhere;
+}
 
 pub lacked_by_values : (graph : Graph) (f g : Levels → Bool) → ((a : Levels) → f a ≡ g a) → LacksPart graph f → LacksPart graph g
 lacked_by_values graph f g same lacks = subst (LacksPart graph) (λ i a. same a i) lacks

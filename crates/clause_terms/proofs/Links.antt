@@ -36,7 +36,8 @@ module _ (live : Live) (graph : Graph) (b : Branch) (defined : IsDefined live gr
   hu_at h is open_ = ap (λ n. given_if (not (is_false_node n)) b.first) is ∙ ap (λ t. given_if (not t) b.first) open_
 
   lu_at : (l : Node) → b.low ≡ l → is_false_node l ≡ false → (defs_of b).lu ≡ Some (lu_first b.high b.first)
-  lu_at l is open_ = ap (λ n. given_if (not (is_false_node n)) (lu_first b.high b.first)) is ∙ ap (λ t. given_if (not t) (lu_first b.high b.first)) open_
+  lu_at l is open_ = ap (λ n. given_if (not (is_false_node n)) (lu_first b.high b.first)) is
+      ∙ ap (λ t. given_if (not t) (lu_first b.high b.first)) open_
 
   hu_clause : (h : Node) → b.high ≡ h → is_false_node h ≡ false
       → clause_at live b.first ≡ clause_of (high_up (pos b.variable) (pos (variable_at graph b.level)) (atom_of graph h))

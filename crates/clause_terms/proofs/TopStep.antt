@@ -1,5 +1,6 @@
 -- One literal more on top of a clause's diagram.
-use Rattle.std.proofs.Common.{◌≡◌, ◌≢◌, ℕ, ◌<◌, ◌≤◌, ◌+◌, true, false, not, ◌&&◌, ◌||◌, ℤ, pos, neg_ℤ, List, [], ◌∷◌, map, None, Some, nat_abs, int_eq, refl, sym, ap, ◌∙◌, subst, arith, inl, inr}
+use Rattle.std.proofs.Common.{◌≡◌, ◌≢◌, ℕ, ◌<◌, ◌≤◌, ◌+◌, true, false, not, ◌&&◌, ◌||◌, ℤ, pos, neg_ℤ, List, [], ◌∷◌, map, None, Some}
+use Rattle.std.proofs.Common.{nat_abs, int_eq, refl, sym, ap, ◌∙◌, subst, arith, inl, inr}
 use Rattle.std.specs.Prelude.{IsTrue, slice_index_or, if◌then◌else◌}
 use Rattle.std.specs.List.{list_any}
 use Rattle.std.proofs.lemmas.Bool.{or_cases, lt-ltb}
@@ -37,7 +38,8 @@ KeptLaw = (live more : Live) (path : List UnitPart) (nodes clause : List ℤ)
 
 -- two literals of different variables on top of others
 pub two_apart : (u x : ℤ) (literals : List ℤ) → is_nonzero u ≡ true → is_nonzero x ≡ true → nat_abs u ≢ nat_abs x
-    → ((y : ℤ) → IsTrue (list_any (int_eq y) literals) → nat_abs u ≢ nat_abs y) → ((y : ℤ) → IsTrue (list_any (int_eq y) literals) → nat_abs x ≢ nat_abs y)
+    → ((y : ℤ) → IsTrue (list_any (int_eq y) literals) → nat_abs u ≢ nat_abs y)
+    → ((y : ℤ) → IsTrue (list_any (int_eq y) literals) → nat_abs x ≢ nat_abs y)
     → are_apart literals ≡ true → are_apart (u ∷ x ∷ literals) ≡ true
 two_apart u x literals u_nonzero x_nonzero differ u_other x_other apart =
     let u_none = none_alike u (x ∷ literals) (λ y among. elim (or_cases (int_eq y x) (list_any (int_eq y) literals) among) [
@@ -52,7 +54,8 @@ nonzero x positive = lt-ltb 0 (nat_abs x) positive
 
 literals_kept : (old new : Graph) → KeepsNodes old new → (placed : List Placed) → map (literal_at old) placed ≡ map (literal_at new) placed
 literals_kept old new keeps placed =
-    ap (λ (order : List ℕ). map (λ (q : Placed). if q.negative then neg_ℤ (pos (slice_index_or order q.level 0)) else pos (slice_index_or order q.level 0)) placed) (sym keeps.order)
+    ap (λ (order : List ℕ). map (λ (q : Placed). if q.negative then neg_ℤ (pos (slice_index_or order q.level 0)) else pos
+    (slice_index_or order q.level 0)) placed) (sym keeps.order)
 
 -- what is needed of the part on top
 pub record IsPartOf (new : Graph) (more : Live) (literal : ℤ) (level : ℕ) (below : Node) (b : Branch) (part : UnitPart) : Type 0 where
@@ -60,12 +63,15 @@ pub record IsPartOf (new : Graph) (more : Live) (literal : ℤ) (level : ℕ) (b
   pub size : nat_abs literal ≡ variable_at new level
   pub falsifies : FalsifiesLiteral more part (pos b.variable)
   pub last : below ≡ False → next_id part ≡ None
-  pub next : (key : NodeKey) (branch : Branch) → below ≡ Inner key → branch_at new key.index ≡ Some branch → FalsifiesNext more part (pos b.variable) (pos branch.variable)
+  pub next : (key : NodeKey) (branch : Branch) → below ≡ Inner key → branch_at new key.index ≡ Some branch
+      → FalsifiesNext more part (pos b.variable) (pos branch.variable)
 
 module _ (last_law : LastLaw) (on_top_law : OnTopLaw) (kept_law : KeptLaw)
-    (old new : Graph) (live more : Live) (reduced : IsReduced new) (ordered : IsOrder new.order) (keeps : KeepsNodes old new) (clauses : KeepsClauses live more)
+    (old new : Graph) (live more : Live) (reduced : IsReduced new) (ordered : IsOrder new.order) (keeps : KeepsNodes old new)
+    (clauses : KeepsClauses live more)
     (p : Placed) (small : p.level < levels new) (below : Node) (key : NodeKey) (b : Branch) (part : UnitPart)
-    (at : branch_at new key.index ≡ Some b) (here : b.level ≡ p.level) (is_part : IsPartOf new more (literal_at new p) p.level below b part) where
+    (at : branch_at new key.index ≡ Some b) (here : b.level ≡ p.level)
+    (is_part : IsPartOf new more (literal_at new p) p.level below b part) where
   size : nat_abs part.lit ≡ variable_at new p.level
   size = ap nat_abs is_part.own ∙ is_part.size
 
@@ -79,7 +85,8 @@ module _ (last_law : LastLaw) (on_top_law : OnTopLaw) (kept_law : KeptLaw)
   apart : (lower : ℕ) → p.level < lower → (literals : List ℤ) → AllLieFrom new lower literals → are_apart literals ≡ true
       → are_apart (pos b.variable ∷ part.lit ∷ literals) ≡ true
   apart lower less literals lie apart_ =
-      two_apart (pos b.variable) part.lit literals (nonzero (pos b.variable) (omega (arith, above))) (nonzero part.lit (omega (arith, size, positive.0)))
+      two_apart (pos b.variable) part.lit literals (nonzero (pos b.variable) (omega (arith, above)))
+      (nonzero part.lit (omega (arith, size, positive.0)))
       (λ same. omega (arith, same, size, above, positive.1))
       (λ y among. node_apart new reduced ordered key.index b at lower (omega (arith, here, less)) y (lie y among))
       (λ y among same. literal_apart new reduced ordered p.level lower small less y (lie y among) (sym size ∙ same))
@@ -98,7 +105,8 @@ module _ (last_law : LastLaw) (on_top_law : OnTopLaw) (kept_law : KeptLaw)
       → IsTopNode new more p.level (map (literal_at new) (p ∷ placed)) (Inner key) (part ∷ path)
   top_step [] path before top =
       let unit : IsUnitPath more (part ∷ []) (pos b.variable ∷ []) (part.lit ∷ []) =
-      last_law more part (pos b.variable) is_part.falsifies (is_part.last top.0) (apart (p.level + 1) (omega arith) [] (λ y among. absurd (let e : false ≡ true = among in cc)) refl) in
+      last_law more part (pos b.variable) is_part.falsifies (is_part.last top.0)
+      (apart (p.level + 1) (omega arith) [] (λ y among. absurd (let e : false ≡ true = among in cc)) refl) in
       subst (λ path. IsTopNode new more p.level (literal_at new p ∷ []) (Inner key) (part ∷ path)) (sym top.1) (record {
         key = key;
         branch = b;
@@ -112,11 +120,13 @@ module _ (last_law : LastLaw) (on_top_law : OnTopLaw) (kept_law : KeptLaw)
   top_step (first ∷ placed) path before top =
       let at_below = keeps.nodes top.key.index top.branch top.stands in
       let old_literals = path_literals path (pos top.branch.variable ∷ top.nodes) in
-      let unit : IsUnitPath more (part ∷ path) (pos b.variable ∷ pos top.branch.variable ∷ top.nodes) (part.lit ∷ map (literal_at old) (first ∷ placed)) =
+      let unit : IsUnitPath more (part ∷ path) (pos b.variable ∷ pos top.branch.variable ∷ top.nodes) (part.lit
+      ∷ map (literal_at old) (first ∷ placed)) =
       on_top_law more part path (pos b.variable) (pos top.branch.variable) top.nodes (map (literal_at old) (first ∷ placed))
       (kept_law live more path (pos top.branch.variable ∷ top.nodes) (map (literal_at old) (first ∷ placed)) clauses top.unit)
       is_part.falsifies (is_part.next top.key top.branch top.named at_below)
-      (apart first.level before old_literals (λ y among. lies_kept old new keeps first.level first.level (omega arith) y (top.lies y among)) top.unit.apart) in
+      (apart first.level before old_literals (λ y among. lies_kept old new keeps first.level first.level (omega arith) y
+      (top.lies y among)) top.unit.apart) in
       record {
         key = key;
         branch = b;
@@ -124,7 +134,9 @@ module _ (last_law : LastLaw) (on_top_law : OnTopLaw) (kept_law : KeptLaw)
         named = refl;
         stands = at;
         of_level = here;
-        unit = subst (λ l. IsUnitPath more (part ∷ path) (pos b.variable ∷ pos top.branch.variable ∷ top.nodes) (l ∷ map (literal_at new) (first ∷ placed))) is_part.own
-            (subst (λ ls. IsUnitPath more (part ∷ path) (pos b.variable ∷ pos top.branch.variable ∷ top.nodes) (part.lit ∷ ls)) (literals_kept old new keeps (first ∷ placed)) unit);
+        unit = subst (λ l. IsUnitPath more (part ∷ path) (pos b.variable ∷ pos top.branch.variable ∷ top.nodes) (l
+            ∷ map (literal_at new) (first ∷ placed))) is_part.own
+            (subst (λ ls. IsUnitPath more (part ∷ path) (pos b.variable ∷ pos top.branch.variable ∷ top.nodes) (part.lit ∷ ls))
+            (literals_kept old new keeps (first ∷ placed)) unit);
         lies = lies_top old_literals (λ y among. lies_kept old new keeps p.level first.level (omega (arith, before)) y (top.lies y among));
       }

@@ -39,7 +39,8 @@ pub record IsTopNode (graph : Graph) (live : Live) (level : ℕ) (literals : Lis
   pub stands : branch_at graph key.index ≡ Some branch
   pub of_level : branch.level ≡ level
   pub unit : IsUnitPath live path (pos branch.variable ∷ nodes) literals
-  pub lies : (literal : ℤ) → IsTrue (list_any (int_eq literal) (path_literals path (pos branch.variable ∷ nodes))) → LiesFrom graph level literal
+  pub lies : (literal : ℤ) → IsTrue (list_any (int_eq literal) (path_literals path (pos branch.variable ∷ nodes)))
+      → LiesFrom graph level literal
 
 abbrev pub IsTop : Graph → Live → List Placed → Node → List UnitPart → Type 0
 IsTop graph live [] node path = (node ≡ False) × (path ≡ [])

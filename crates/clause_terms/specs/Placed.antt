@@ -1,5 +1,6 @@
 -- The literals of a clause by the levels of their variables.
-use Rattle.std.specs.Prelude.{◌≡◌, ◌+◌, ◌<◌, ◌==◌, ◌&&◌, ℕ, Bool, not, ℤ, pos, neg_ℤ, List, length, map, IsPermutation, IsTrue, nat_lt, if◌then◌else◌, slice_index_or}
+use Rattle.std.specs.Prelude.{◌≡◌, ◌+◌, ◌<◌, ◌==◌, ◌&&◌, ℕ, Bool, not, ℤ, pos, neg_ℤ, List, length, map, IsPermutation, IsTrue, nat_lt}
+use Rattle.std.specs.Prelude.{if◌then◌else◌, slice_index_or}
 use Rattle.std.specs.List.{list_all, list_any}
 use Rattle.std.specs.List.Sorted.{IsNonDecreasingBy}
 use Rattle.std.specs.Bool.{beq}
@@ -28,7 +29,8 @@ are_opposites one other = one.level == other.level && not (beq one.negative othe
 
 -- no two neighbours are of both signs of a variable
 abbrev pub HasNoOpposites : List Placed → Type 0
-HasNoOpposites placed = (i : ℕ) (d : Placed) → i + 1 < length placed → (slice_index_or placed i d).level ≡ (slice_index_or placed (i + 1) d).level
+HasNoOpposites placed = (i : ℕ) (d : Placed) → i + 1 < length placed → (slice_index_or placed i d).level
+    ≡ (slice_index_or placed (i + 1) d).level
     → (slice_index_or placed i d).negative ≡ (slice_index_or placed (i + 1) d).negative
 
 -- The clause's literals, each by its level, sorted by levels.

@@ -11,7 +11,8 @@ use Rattle.node_table.specs.Value.{Levels, by_level, value_of}
 -- It makes the function true. Each other one that does has true where it has, at the first place where they differ.
 pub record IsLeast (levels : ℕ) (function : Levels → Bool) (a : Levels) : Type 0 where
   pub satisfies : function a ≡ true
-  pub least : (other : Levels) → function other ≡ true → (level : ℕ) → level < levels → ((i : ℕ) → i < level → other i ≡ a i) → a level ≡ true → other level ≡ true
+  pub least : (other : Levels) → function other ≡ true → (level : ℕ) → level < levels → ((i : ℕ) → i < level → other i ≡ a i) → a level
+      ≡ true → other level ≡ true
 
 -- The value of a quantified variable, set back: false where the node that it was quantified from is true with it false.
 abbrev pub set_node_back : Graph → Assignment → ℕ × Node → Assignment

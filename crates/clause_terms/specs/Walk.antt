@@ -12,7 +12,8 @@ pub record IsDown (graph : Graph) (a : Levels) (first node : Node) : Type 0 wher
   pub stands : is_node graph node ≡ true
   pub some : node ≢ False
   pub leads : (b : Levels) → ((i : ℕ) → i < level_of graph node → b i ≡ a i) → value_of graph b first ≡ value_of graph b node
-  pub least : (other : Levels) → value_of graph other first ≡ true → (level : ℕ) → level < level_of graph node → ((i : ℕ) → i < level → other i ≡ a i) → a level ≡ true → other level ≡ true
+  pub least : (other : Levels) → value_of graph other first ≡ true → (level : ℕ) → level < level_of graph node
+      → ((i : ℕ) → i < level → other i ≡ a i) → a level ≡ true → other level ≡ true
   pub rest : (i : ℕ) → level_of graph node ≤ i → i < levels graph → a i ≡ false
 
 -- the values by levels

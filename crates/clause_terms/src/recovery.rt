@@ -71,7 +71,8 @@ fn set_all_back<S: Sink + Drop>(table: &Table<S>, trail: &[(u32, Node)], values:
     requires variables { (kept : ℕ × NodeValue) → Contains trail.now kept → (0 < kept.0) × (kept.0 ≤ levels table.now.graph) }
     requires one_each { length values.old.items ≡ levels table.now.graph }
     ensures one_each { length values.new.items ≡ levels table.now.graph }
-    ensures set { AreAlike (assignment_of values.new.items) (set_nodes_back table.now.graph (assignment_of values.old.items) (reverse trail.now)) }
+    ensures set { AreAlike (assignment_of values.new.items) (set_nodes_back table.now.graph (assignment_of values.old.items)
+        (reverse trail.now)) }
 {
     table.table_law();
     'back: for place in (0..trail.len()).rev() {
@@ -87,7 +88,8 @@ fn set_back<S: Sink + Drop>(table: &Table<S>, variable: u32, node: Node, values:
     requires within { variable ≤ levels table.now.graph }
     requires one_each { length values.old.items ≡ levels table.now.graph }
     ensures one_each { length values.new.items ≡ levels table.now.graph }
-    ensures set { AreAlike (assignment_of values.new.items) (set_node_back table.now.graph (assignment_of values.old.items) (variable, node)) }
+    ensures set { AreAlike (assignment_of values.new.items) (set_node_back table.now.graph (assignment_of values.old.items)
+        (variable, node)) }
 {
     table.table_law();
     let place = variable as usize - 1;

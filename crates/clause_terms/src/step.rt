@@ -1,6 +1,7 @@
 // One literal more on top of a clause's diagram: its node, and the part of it in the unit's path. (Bryant, Heule:
 // Generating Extended Resolution Proofs with a BDD-Based SAT Solver, 2021, section 5.)
-ghost use Rattle.std.specs.Prelude.{◌≡◌, ◌≢◌, ◌<◌, ◌≤◌, ◌+◌, ◌++◌, List, [], ◌∷◌, Err, IsTrue, OnOk, IfOk, false, length, reverse, drop, slice_index_or};
+ghost use Rattle.std.specs.Prelude.{◌≡◌, ◌≢◌, ◌<◌, ◌≤◌, ◌+◌, ◌++◌, List, [], ◌∷◌, Err, IsTrue, OnOk, IfOk, false, length, reverse, drop};
+ghost use Rattle.std.specs.Prelude.{slice_index_or};
 ghost use Rattle.std.specs.List.{list_any};
 ghost use Rattle.std.specs.List.Sorted.{IsNonDecreasingBy};
 ghost use Rattle.node_table.specs.declared.node.Node.TheVariants.{True};
@@ -37,7 +38,8 @@ pub fn take_literal<S: Sink + Drop>(
     requires sorted { IsNonDecreasingBy (λ (p : PlacedValue). p.level) placed.now }
     requires signs { HasNoOpposites placed.now }
     requires diagram { IsDiagramOf table.old.graph table.old.book.state.live (drop (i + 1) placed.now) below (reverse path.old.items) }
-    ensures diagram { IfOk result (λ node. IsDiagramOf table.new.graph table.new.book.state.live (drop i placed.now) node (reverse path.new.items)) }
+    ensures diagram { IfOk result (λ node. IsDiagramOf table.new.graph table.new.book.state.live (drop i placed.now) node
+        (reverse path.new.items)) }
     ensures made { MakesOnly table.old.graph table.new.graph (placed_function (drop i placed.now)) }
     ensures lacks { result ≡ Err NodeLimit → LacksPart table.new.graph (placed_function (drop i placed.now)) }
     ensures steps { Steps S.tells (S.channel table.old.book.sink) (S.channel table.new.book.sink) table.old table.new 0 (error_of result) }
@@ -57,8 +59,10 @@ pub fn take_literal<S: Sink + Drop>(
 // Whether the next literal is of the same variable.
 fn is_repeated(placed: &[Placed], i: usize) -> bool
     requires { i < length placed.now }
-    ensures same { IsTrue result → (d : PlacedValue) → (i + 1 < length placed.now) × ((slice_index_or placed.now i d).level ≡ (slice_index_or placed.now (i + 1) d).level) }
-    ensures other { result ≡ false → (d : PlacedValue) → i + 1 < length placed.now → (slice_index_or placed.now i d).level ≢ (slice_index_or placed.now (i + 1) d).level }
+    ensures same { IsTrue result → (d : PlacedValue) → (i + 1 < length placed.now)
+        × ((slice_index_or placed.now i d).level ≡ (slice_index_or placed.now (i + 1) d).level) }
+    ensures other { result ≡ false → (d : PlacedValue) → i + 1 < length placed.now → (slice_index_or placed.now i d).level
+        ≢ (slice_index_or placed.now (i + 1) d).level }
 {
     match placed.get(i + 1) {
         Some(next) => next.level == placed[i].level,
@@ -77,7 +81,8 @@ fn add_literal<S: Sink + Drop>(
     requires level { placed.now.level < levels table.old.graph }
     requires below { IsBelow table.old.graph placed.now.level below }
     requires not_true { below ≢ True }
-    ensures diagram { (more : List PlacedValue) → IsBefore placed.now.level more → IsDiagramOf table.old.graph table.old.book.state.live more below (reverse path.old.items)
+    ensures diagram { (more : List PlacedValue) → IsBefore placed.now.level more
+        → IsDiagramOf table.old.graph table.old.book.state.live more below (reverse path.old.items)
         → IfOk result (λ node. IsDiagramOf table.new.graph table.new.book.state.live (placed.now ∷ more) node (reverse path.new.items)) }
     ensures made { (more : List PlacedValue) → ((a : Levels) → value_of table.old.graph a below ≡ list_any (placed_holds a) more)
         → MakesOnly table.old.graph table.new.graph (placed_function (placed.now ∷ more)) }
@@ -106,7 +111,8 @@ fn literal_node<S: Sink + Drop>(
     requires sound { IsSound table.old }
     requires level { placed.now.level < levels table.old.graph }
     requires below { IsBelow table.old.graph placed.now.level below }
-    ensures children { IfOk result (λ node. HasChildren table.new.graph placed.now.level (high_of placed.now below) (low_of placed.now below) node) }
+    ensures children { IfOk result (λ node. HasChildren table.new.graph placed.now.level (high_of placed.now below)
+        (low_of placed.now below) node) }
     ensures made { (more : List PlacedValue) → ((a : Levels) → value_of table.old.graph a below ≡ list_any (placed_holds a) more)
         → MakesOnly table.old.graph table.new.graph (placed_function (placed.now ∷ more)) }
     ensures lacks { (more : List PlacedValue) → ((a : Levels) → value_of table.old.graph a below ≡ list_any (placed_holds a) more)

@@ -41,9 +41,11 @@ pub fn push_clause<S: Sink + Drop>(
     requires live { clause_at table.old.book.state.live input ≡ Some clause.now }
     requires variables { IsTrue (list_all (is_literal_of (levels table.old.graph)) clause.now) }
     requires some { clause.now ≢ [] }
-    ensures term { IfOk result (λ found. IsTerm table.new.graph table.new.book.state.live (λ a. clause_holds a clause.now) found.0 found.1) }
+    ensures term { IfOk result (λ found. IsTerm table.new.graph table.new.book.state.live
+        (λ a. clause_holds a clause.now) found.0 found.1) }
     // The unit is the last clause. However the call ends, each node that was made is of a part of the clause.
-    ensures last { IfOk result (λ found. (id : ℕ) → found.1 ≡ Clause id → (id ≡ table.new.book.state.top) × (table.old.book.state.top < id)) }
+    ensures last { IfOk result (λ found. (id : ℕ) → found.1 ≡ Clause id → (id ≡ table.new.book.state.top)
+        × (table.old.book.state.top < id)) }
     // It was added, and nothing else beside definitions.
     ensures own { IfOk result (λ found. (id : ℕ) → found.1 ≡ Clause id → IsAddedTo table.new id) }
     ensures alone { IfOk result (λ found. (id : ℕ) → IsAddedTo table.new id → IsAddedTo table.old id ⊎ (found.1 ≡ Clause id)) }
@@ -51,7 +53,8 @@ pub fn push_clause<S: Sink + Drop>(
     ensures made { MakesOnly table.old.graph table.new.graph (clause_function table.old.graph.order clause.now) }
     ensures steps { Steps S.tells (S.channel table.old.book.sink) (S.channel table.new.book.sink) table.old table.new 1 (error_of result) }
     ensures retired { table.new.retired ≡ table.old.retired }
-    ensures tautology { IsTautology clause.now → (table.new ≡ table.old) × IfOk result (λ found. (found.0 ≡ True) × (found.1 ≡ Trivial)) × IfErr result (λ e. e ≡ OutOfMemory) }
+    ensures tautology { IsTautology clause.now → (table.new ≡ table.old) × IfOk result (λ found. (found.0 ≡ True) × (found.1 ≡ Trivial))
+        × IfErr result (λ e. e ≡ OutOfMemory) }
     // Where the nodes are used up, some part of the clause is the function of none.
     ensures lacks { result ≡ Err NodeLimit → LacksPart table.new.graph (clause_function table.old.graph.order clause.now) }
     ensures beside { S.beside table.new.book.sink ≡ S.beside table.old.book.sink }

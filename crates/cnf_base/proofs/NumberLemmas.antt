@@ -1,5 +1,6 @@
 -- A number that is printed is read again, and its text is a word.
-use Rattle.std.proofs.Common.{◌≡◌, ℕ, suc, ◌^◌, ◌<◌, ◌≤◌, true, false, not, ◌==◌, List, [], ◌∷◌, length, ℤ, pos, negsuc, nat_abs, Some, option_map, option_and_then, decimal, refl, ap, ◌∙◌, arith, rules}
+use Rattle.std.proofs.Common.{◌≡◌, ℕ, suc, ◌^◌, ◌<◌, ◌≤◌, true, false, not, ◌==◌, List, [], ◌∷◌, length, ℤ, pos, negsuc, nat_abs, Some}
+use Rattle.std.proofs.Common.{option_map, option_and_then, decimal, refl, ap, ◌∙◌, arith, rules}
 use Rattle.std.specs.Fmt.{signed_decimal}
 use Rattle.std.specs.List.{list_all}
 use Rattle.std.proofs.lemmas.Bool.{cond-true, cond-false, and_parts, and_from, le-leb}
@@ -30,7 +31,8 @@ plain_number-decimal n small =
     let short : length (decimal n) ≤ 64 = omega (arith, short_decimal n small) in
     cond-true _ _ _ (le-leb (length (decimal n)) 64 short) ∙ numeral_value-decimal n small
 
-signed_value-digits : (bytes : List ℕ) → list_all is_digit bytes ≡ true → 0 < length bytes → signed_value bytes ≡ option_map pos (numeral_value bytes)
+signed_value-digits : (bytes : List ℕ) → list_all is_digit bytes ≡ true → 0 < length bytes → signed_value bytes
+    ≡ option_map pos (numeral_value bytes)
 signed_value-digits [] digits some = refl
 signed_value-digits (byte ∷ bytes) digits some =
     let sign : byte == 45 ≡ false = grind (arith, nat_tests, (and_parts (is_digit byte) (list_all is_digit bytes) digits).0) in
@@ -38,7 +40,8 @@ signed_value-digits (byte ∷ bytes) digits some =
 
 signed_value-signed_decimal : (z : ℤ) → nat_abs z < 2 ^ 64 → signed_value (signed_decimal z) ≡ Some z
 signed_value-signed_decimal (pos n) small =
-    signed_value-digits (decimal n) (digits_decimal numerals n small) (decimal_nonempty n small) ∙ ap (option_map pos) (numeral_value-decimal n small)
+    signed_value-digits (decimal n) (digits_decimal numerals n small) (decimal_nonempty n small)
+    ∙ ap (option_map pos) (numeral_value-decimal n small)
 signed_value-signed_decimal (negsuc n) small = ap (option_and_then negative) (numeral_value-decimal (suc n) small)
 
 short_signed : (z : ℤ) → nat_abs z < 2 ^ 64 → length (signed_decimal z) ≤ 64
@@ -64,7 +67,8 @@ has_some [] some = absurd (omega arith)
 has_some (byte ∷ bytes) some = refl
 
 pub word_decimal : (n : ℕ) → n < 2 ^ 64 → is_word (decimal n) ≡ true
-word_decimal n small = and_from _ _ (has_some (decimal n) (decimal_nonempty n small)) (digits_word (decimal n) (digits_decimal numerals n small))
+word_decimal n small = and_from _ _ (has_some (decimal n) (decimal_nonempty n small))
+    (digits_word (decimal n) (digits_decimal numerals n small))
 
 pub word_signed_decimal : (z : ℤ) → nat_abs z < 2 ^ 64 → is_word (signed_decimal z) ≡ true
 word_signed_decimal (pos n) small = word_decimal n small
@@ -74,7 +78,8 @@ word_signed_decimal (negsuc n) small = digits_word (decimal (suc n)) (digits_dec
 pub first_digit : (n : ℕ) → n < 2 ^ 64 → (byte : ℕ) × (bytes : List ℕ) × (decimal n ≡ byte ∷ bytes) × (is_digit byte ≡ true)
 first_digit n small = first (decimal n) (digits_decimal numerals n small) (decimal_nonempty n small)
   where
-    first : (ds : List ℕ) → list_all is_digit ds ≡ true → 0 < length ds → (byte : ℕ) × (bytes : List ℕ) × (ds ≡ byte ∷ bytes) × (is_digit byte ≡ true)
+    first : (ds : List ℕ) → list_all is_digit ds ≡ true → 0 < length ds → (byte : ℕ) × (bytes : List ℕ) × (ds ≡ byte ∷ bytes)
+        × (is_digit byte ≡ true)
     first [] digits some = absurd (omega arith)
     first (byte ∷ bytes) digits some = (byte, bytes, refl, (and_parts (is_digit byte) (list_all is_digit bytes) digits).0)
 

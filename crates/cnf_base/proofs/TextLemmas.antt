@@ -1,5 +1,6 @@
 -- The pieces, lines and tokens of a text, and of a text that grows by a line.
-use Rattle.std.proofs.Common.{◌≡◌, ℕ, suc, ◌+◌, ◌<◌, Bool, true, false, cond, not, ◌&&◌, ◌⊎◌, List, [], ◌∷◌, ◌++◌, length, filter, count_by, refl, ap, sym, subst, ◌∙◌, inl, inr, ⊎_elim, append_assoc, append-nil, arith}
+use Rattle.std.proofs.Common.{◌≡◌, ℕ, suc, ◌+◌, ◌<◌, Bool, true, false, cond, not, ◌&&◌, ◌⊎◌, List, [], ◌∷◌, ◌++◌, length, filter, count_by}
+use Rattle.std.proofs.Common.{refl, ap, sym, subst, ◌∙◌, inl, inr, ⊎_elim, append_assoc, append-nil, arith}
 use Rattle.std.specs.List.{list_all, join_with_byte}
 use Rattle.std.proofs.lemmas.Bool.{cond-true, cond-false, and_parts, and_from, not-true, eqb-true}
 use Rattle.std.proofs.lemmas.Bool.Decides.{nat_tests}
@@ -26,19 +27,23 @@ module _ (test : ℕ → Bool) where
   length-pieces [] = refl
   length-pieces (byte ∷ bytes) =
       let some : 0 < length (pieces test bytes) = omega (arith, length-pieces bytes) in
-      let count : count_by test (byte ∷ bytes) ≡ cond (test byte) 1 0 + count_by test bytes = sum_by-cons (λ x. cond (test x) 1 0) byte bytes in
-      elim (test byte) as (λ b. count_by test (byte ∷ bytes) ≡ cond b 1 0 + count_by test bytes → length (cond b ([] ∷ pieces test bytes) (begin_with byte (pieces test bytes))) ≡ count_by test (byte ∷ bytes) + 1) [
+      let count : count_by test (byte ∷ bytes) ≡ cond (test byte) 1 0
+      + count_by test bytes = sum_by-cons (λ x. cond (test x) 1 0) byte bytes in
+      elim (test byte) as (λ b. count_by test (byte ∷ bytes) ≡ cond b 1 0 + count_by test bytes
+      → length (cond b ([] ∷ pieces test bytes) (begin_with byte (pieces test bytes))) ≡ count_by test (byte ∷ bytes) + 1) [
         | true ↦ λ e. omega (arith, length-pieces bytes)
         | false ↦ λ e. omega (arith, length-pieces bytes, length-begin_with byte (pieces test bytes) some)
       ] count
 
   -- a byte that passes ends the pieces before it
-  pub pieces-append : (xs : List ℕ) (byte : ℕ) (ys : List ℕ) → test byte ≡ true → pieces test (xs ++ byte ∷ ys) ≡ pieces test xs ++ pieces test ys
+  pub pieces-append : (xs : List ℕ) (byte : ℕ) (ys : List ℕ) → test byte ≡ true → pieces test (xs ++ byte ∷ ys) ≡ pieces test xs
+      ++ pieces test ys
   pieces-append [] byte ys here = cond-true (test byte) _ _ here
   pieces-append (x ∷ xs) byte ys here =
       let some : 0 < length (pieces test xs) = omega (arith, length-pieces xs) in
       rw (pieces-append xs byte ys here)
-      (elim (test x) as (λ b. cond b ([] ∷ (pieces test xs ++ pieces test ys)) (begin_with x (pieces test xs ++ pieces test ys)) ≡ cond b ([] ∷ pieces test xs) (begin_with x (pieces test xs)) ++ pieces test ys) [
+      (elim (test x) as (λ b. cond b ([] ∷ (pieces test xs ++ pieces test ys)) (begin_with x (pieces test xs ++ pieces test ys))
+      ≡ cond b ([] ∷ pieces test xs) (begin_with x (pieces test xs)) ++ pieces test ys) [
         | true ↦ refl
         | false ↦ begin_with-append x (pieces test xs) (pieces test ys) some
       ])
@@ -51,11 +56,13 @@ module _ (test : ℕ → Bool) where
       cond-false (test byte) _ _ (not-true (test byte) parts.0) ∙ ap (begin_with byte) (pieces_none bytes parts.1)
 
 -- Lines.
-pub rows_from-append : (comment line : ℕ) (texts more : List (List ℕ)) → rows_from comment line (texts ++ more) ≡ rows_from comment line texts ++ rows_from comment (line + length texts) more
+pub rows_from-append : (comment line : ℕ) (texts more : List (List ℕ)) → rows_from comment line (texts ++ more)
+    ≡ rows_from comment line texts ++ rows_from comment (line + length texts) more
 rows_from-append comment line [] more = ap (λ n. rows_from comment n more) (omega arith)
 rows_from-append comment line (text ∷ texts) more =
     let next : line + 1 + length texts ≡ line + suc (length texts) = omega arith in
-    rw (rows_from-append comment (line + 1) texts more, next) (sym (append_assoc (row_of comment line (words_of text)) (rows_from comment (line + 1) texts) _))
+    rw (rows_from-append comment (line + 1) texts more, next) (sym
+    (append_assoc (row_of comment line (words_of text)) (rows_from comment (line + 1) texts) _))
 
 -- a text of whole lines is empty or ends by a line end
 pub whole_lines_split : (bytes : List ℕ) → are_whole_lines bytes ≡ true → (bytes ≡ []) ⊎ ((front : List ℕ) × (bytes ≡ front ++ 10 ∷ []))
@@ -77,7 +84,8 @@ line_ends_none bytes none =
     let whole : length (pieces is_line_end bytes) ≡ 1 = ap length (pieces_none is_line_end bytes none) in
     omega (arith, length-pieces is_line_end bytes)
 
-pub line_ends-line : (line : List ℕ) → none_pass is_line_end line ≡ true → (bytes : List ℕ) → line_ends (bytes ++ (line ++ 10 ∷ [])) ≡ line_ends bytes + 1
+pub line_ends-line : (line : List ℕ) → none_pass is_line_end line ≡ true → (bytes : List ℕ) → line_ends (bytes ++ (line ++ 10 ∷ []))
+    ≡ line_ends bytes + 1
 line_ends-line line one bytes =
     omega (arith, sum_by-append (λ x. cond (is_line_end x) 1 0) bytes (line ++ 10 ∷ []), line_ends_push line, line_ends_none line one)
 
@@ -86,21 +94,26 @@ module _ (comment : ℕ) (line : List ℕ) (one : none_pass is_line_end line ≡
   line_pieces : pieces is_line_end (line ++ 10 ∷ []) ≡ line ∷ [] ∷ []
   line_pieces = pieces-append is_line_end line 10 [] refl ∙ ap (λ ps. ps ++ [] ∷ []) (pieces_none is_line_end line one)
 
-  rows_after : (front : List ℕ) → rows comment ((front ++ 10 ∷ []) ++ (line ++ 10 ∷ [])) ≡ rows comment (front ++ 10 ∷ []) ++ row_of comment (line_ends (front ++ 10 ∷ []) + 1) (words_of line)
+  rows_after : (front : List ℕ) → rows comment ((front ++ 10 ∷ []) ++ (line ++ 10 ∷ [])) ≡ rows comment (front ++ 10 ∷ [])
+      ++ row_of comment (line_ends (front ++ 10 ∷ []) + 1) (words_of line)
   rows_after front =
       let texts = pieces is_line_end front in
-      let number : 1 + length texts ≡ line_ends (front ++ 10 ∷ []) + 1 = omega (arith, length-pieces is_line_end front, line_ends_push front) in
+      let number : 1 + length texts ≡ line_ends (front ++ 10 ∷ [])
+      + 1 = omega (arith, length-pieces is_line_end front, line_ends_push front) in
       let cut : pieces is_line_end ((front ++ 10 ∷ []) ++ (line ++ 10 ∷ [])) ≡ texts ++ line ∷ [] ∷ [] =
-      ap (pieces is_line_end) (append_assoc front (10 ∷ []) (line ++ 10 ∷ [])) ∙ pieces-append is_line_end front 10 (line ++ 10 ∷ []) refl ∙ ap (λ ps. texts ++ ps) line_pieces in
+      ap (pieces is_line_end) (append_assoc front (10 ∷ []) (line ++ 10 ∷ [])) ∙ pieces-append is_line_end front 10 (line ++ 10 ∷ []) refl
+      ∙ ap (λ ps. texts ++ ps) line_pieces in
       let before : rows comment (front ++ 10 ∷ []) ≡ rows_from comment 1 texts =
       ap (rows_from comment 1) (pieces-append is_line_end front 10 [] refl) ∙ rows_from-append comment 1 texts ([] ∷ []) ∙ append-nil _ in
       ap (rows_from comment 1) cut ∙ rows_from-append comment 1 texts (line ∷ [] ∷ [])
       ∙ ap (λ rs. rows_from comment 1 texts ++ rs) (append-nil _ ∙ ap (λ n. row_of comment n (words_of line)) number)
       ∙ ap (λ rs. rs ++ row_of comment (line_ends (front ++ 10 ∷ []) + 1) (words_of line)) (sym before)
 
-  pub rows-line : (bytes : List ℕ) → are_whole_lines bytes ≡ true → rows comment (bytes ++ (line ++ 10 ∷ [])) ≡ rows comment bytes ++ row_of comment (line_ends bytes + 1) (words_of line)
+  pub rows-line : (bytes : List ℕ) → are_whole_lines bytes ≡ true → rows comment (bytes ++ (line ++ 10 ∷ [])) ≡ rows comment bytes
+      ++ row_of comment (line_ends bytes + 1) (words_of line)
   rows-line bytes whole =
-      let P : List ℕ → Type 0 = λ bs. rows comment (bs ++ (line ++ 10 ∷ [])) ≡ rows comment bs ++ row_of comment (line_ends bs + 1) (words_of line) in
+      let P : List ℕ → Type 0 = λ bs. rows comment (bs ++ (line ++ 10 ∷ [])) ≡ rows comment bs
+      ++ row_of comment (line_ends bs + 1) (words_of line) in
       ⊎_elim
       (λ e. subst P (sym e) (ap (rows_from comment 1) line_pieces ∙ append-nil _))
       (λ h. subst P (sym h.1) (rows_after h.0))
@@ -113,7 +126,9 @@ is_word word = has_bytes word && none_pass is_blank word
 filter-append : (xs ys : List (List ℕ)) → filter has_bytes (xs ++ ys) ≡ filter has_bytes xs ++ filter has_bytes ys
 filter-append [] ys = refl
 filter-append (x ∷ xs) ys =
-    rw (filter-append xs ys) (elim (has_bytes x) as (λ b. cond b (x ∷ (filter has_bytes xs ++ filter has_bytes ys)) (filter has_bytes xs ++ filter has_bytes ys) ≡ cond b (x ∷ filter has_bytes xs) (filter has_bytes xs) ++ filter has_bytes ys) [ true ↦ refl | false ↦ refl ])
+    rw (filter-append xs ys) (elim (has_bytes x) as (λ b. cond b (x ∷ (filter has_bytes xs ++ filter has_bytes ys)) (filter has_bytes xs
+    ++ filter has_bytes ys) ≡ cond b (x ∷ filter has_bytes xs) (filter has_bytes xs)
+    ++ filter has_bytes ys) [ true ↦ refl | false ↦ refl ])
 
 word_alone : (word : List ℕ) → is_word word ≡ true → words_of word ≡ word ∷ []
 word_alone word good =

@@ -1,6 +1,7 @@
 -- Facts on a row of literals that is cut at ends, for all that store clauses so: what it is after more literals or
 -- one end more, and its clause at a place.
-use Rattle.std.proofs.Common.{◌≡◌, ℕ, zero, suc, ◌-◌, ◌<◌, ◌≤◌, Bool, true, ℤ, List, [], ◌∷◌, ◌++◌, length, get_or, take, drop, refl, ◌∙◌, ap, arith, length-drop}
+use Rattle.std.proofs.Common.{◌≡◌, ℕ, zero, suc, ◌-◌, ◌<◌, ◌≤◌, Bool, true, ℤ, List, [], ◌∷◌, ◌++◌, length, get_or, take, drop, refl, ◌∙◌}
+use Rattle.std.proofs.Common.{ap, arith, length-drop}
 use Rattle.std.proofs.lemmas.Bool.{leb-true, le-leb, and_parts, and_from}
 use Rattle.std.proofs.lemmas.List.{take-append-le, drop-append-le, take_all}
 use Rattle.std.specs.Prelude.{nat_le, slice_range, slice_index_or}
@@ -40,7 +41,8 @@ range-append xs ys s e se le =
     ap (take (e - s)) (drop-append-le s xs ys start)
     ∙ take-append-le (e - s) (drop s xs) ys (omega (arith, length-drop s xs))
 
-pub cut_at-append : (xs ys : List ℤ) (s : ℕ) (ends : List ℕ) → are_ends s ends (length xs) ≡ true → cut_at (xs ++ ys) s ends ≡ cut_at xs s ends
+pub cut_at-append : (xs ys : List ℤ) (s : ℕ) (ends : List ℕ) → are_ends s ends (length xs) ≡ true → cut_at (xs ++ ys) s ends
+    ≡ cut_at xs s ends
 cut_at-append xs ys s [] h = refl
 cut_at-append xs ys s (e ∷ ends) h =
     let first = are_ends-first s e (length xs) ends h in
@@ -49,7 +51,8 @@ cut_at-append xs ys s (e ∷ ends) h =
     let there = cut_at-append xs ys e ends first.1 in
     λ i. here i ∷ there i
 
-pub cut_at-end : (xs : List ℤ) (s e : ℕ) (ends : List ℕ) → cut_at xs s (ends ++ e ∷ []) ≡ cut_at xs s ends ++ slice_range xs (last_end s ends) e ∷ []
+pub cut_at-end : (xs : List ℤ) (s e : ℕ) (ends : List ℕ) → cut_at xs s (ends ++ e ∷ []) ≡ cut_at xs s ends
+    ++ slice_range xs (last_end s ends) e ∷ []
 cut_at-end xs s e [] = refl
 cut_at-end xs s e (f ∷ ends) = ap (λ cs. slice_range xs s f ∷ cs) (cut_at-end xs f e ends)
 
@@ -61,13 +64,15 @@ last_end-push s e (f ∷ ends) = last_end-push f e ends
 pub range-to_end : (xs : List ℤ) (s : ℕ) → slice_range xs s (length xs) ≡ drop s xs
 range-to_end xs s = take_all (length xs - s) (drop s xs) (omega (arith, length-drop s xs))
 
-pub cut_at-get : (xs : List ℤ) (s : ℕ) (ends : List ℕ) (k : ℕ) → k < length ends → slice_index_or (cut_at xs s ends) k [] ≡ slice_range xs (start_at s ends k) (get_or ends k 0)
+pub cut_at-get : (xs : List ℤ) (s : ℕ) (ends : List ℕ) (k : ℕ) → k < length ends → slice_index_or (cut_at xs s ends) k []
+    ≡ slice_range xs (start_at s ends k) (get_or ends k 0)
 cut_at-get xs s [] k h = absurd (omega arith)
 cut_at-get xs s (e ∷ ends) zero h = refl
 cut_at-get xs s (e ∷ ends) (suc zero) h = cut_at-get xs e ends zero (omega arith)
 cut_at-get xs s (e ∷ ends) (suc (suc k)) h = cut_at-get xs e ends (suc k) (omega arith)
 
-pub are_ends-get : (s n : ℕ) (ends : List ℕ) (k : ℕ) → k < length ends → are_ends s ends n ≡ true → (start_at s ends k ≤ get_or ends k 0) × (get_or ends k 0 ≤ n)
+pub are_ends-get : (s n : ℕ) (ends : List ℕ) (k : ℕ) → k < length ends → are_ends s ends n ≡ true → (start_at s ends k ≤ get_or ends k 0)
+    × (get_or ends k 0 ≤ n)
 are_ends-get s n [] k lt h = absurd (omega arith)
 are_ends-get s n (e ∷ ends) zero lt h =
     let first = are_ends-first s e n ends h in
@@ -87,7 +92,8 @@ list_all-drop p zero xs h = h
 list_all-drop p (suc n) [] h = refl
 list_all-drop p (suc n) (x ∷ xs) h = list_all-drop p n xs (and_parts (p x) (list_all p xs) h).1
 
-pub list_all-cut_at : (p : ℤ → Bool) (xs : List ℤ) (s : ℕ) (ends : List ℕ) → list_all p xs ≡ true → list_all (list_all p) (cut_at xs s ends) ≡ true
+pub list_all-cut_at : (p : ℤ → Bool) (xs : List ℤ) (s : ℕ) (ends : List ℕ) → list_all p xs ≡ true → list_all (list_all p) (cut_at xs s ends)
+    ≡ true
 list_all-cut_at p xs s [] h = refl
 list_all-cut_at p xs s (e ∷ ends) h =
     and_from (list_all p (slice_range xs s e)) (list_all (list_all p) (cut_at xs e ends))

@@ -1,6 +1,7 @@
 -- Numbers in texts. A token of more than 64 bytes is no number; leading zeros are read, and -0 is no number. (These
 -- three are this project's own rules: neither DIMACS nor the LRAT paper says anything of them.)
-use Rattle.std.specs.Prelude.{ℕ, zero, suc, ◌+◌, ◌-◌, ◌*◌, Bool, false, ◌&&◌, ℤ, pos, negsuc, List, [], ◌∷◌, length, Option, None, Some, nat_le, ◌==◌, if◌then◌else◌}
+use Rattle.std.specs.Prelude.{ℕ, zero, suc, ◌+◌, ◌-◌, ◌*◌, Bool, false, ◌&&◌, ℤ, pos, negsuc, List, [], ◌∷◌, length, Option, None, Some}
+use Rattle.std.specs.Prelude.{nat_le, ◌==◌, if◌then◌else◌}
 use Rattle.std.specs.List.{list_all}
 use Rattle.std.specs.Option.{option_map, option_and_then}
 
@@ -36,7 +37,8 @@ negative (suc n) = Some (negsuc n)
 -- digits, or a minus sign (45) and digits
 abbrev pub signed_value : List ℕ → Option ℤ
 signed_value [] = None
-signed_value (byte ∷ bytes) = if byte == 45 then option_and_then negative (numeral_value bytes) else option_map pos (numeral_value (byte ∷ bytes))
+signed_value (byte ∷ bytes) = if byte == 45 then option_and_then negative (numeral_value bytes) else option_map pos
+    (numeral_value (byte ∷ bytes))
 
 abbrev pub signed_number : List ℕ → Option ℤ
 signed_number token = if is_short token then signed_value token else None

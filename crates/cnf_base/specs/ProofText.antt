@@ -2,7 +2,8 @@
 --     addition   id literals 0 hints 0      a negative hint -d opens the group of candidate d
 --     deletion   id d ids 0
 -- (Cruz-Filipe, Heule, Hunt, Kaufmann, Schneider-Kamp: Efficient Certified RAT Verification, CADE 2017.)
-use Rattle.std.specs.Prelude.{ℕ, suc, Bool, true, false, ◌&&◌, ℤ, pos, negsuc, nat_abs, neg_ℤ, List, [], ◌∷◌, ◌++◌, map, Option, None, Some, nat_lt, nat_le, ◌==◌, if◌then◌else◌, decimal}
+use Rattle.std.specs.Prelude.{ℕ, suc, Bool, true, false, ◌&&◌, ℤ, pos, negsuc, nat_abs, neg_ℤ, List, [], ◌∷◌, ◌++◌, map, Option, None, Some}
+use Rattle.std.specs.Prelude.{nat_lt, nat_le, ◌==◌, if◌then◌else◌, decimal}
 use Rattle.std.specs.Fmt.{signed_decimal}
 use Rattle.std.specs.List.{list_all, flat_map, join_with_byte}
 use Rattle.std.specs.Option.{option_map, option_and_then}
@@ -86,7 +87,8 @@ step_with id [] = None
 step_with id (word ∷ words) =
     if is_delete_word word
     then option_and_then (λ numbers. option_and_then (deletion_of id) (split_at (λ n. n == 0) numbers)) (all_given (map plain_number words))
-    else option_and_then (λ numbers. option_and_then (addition_from id) (split_at is_zero numbers)) (all_given (map signed_number (word ∷ words)))
+    else option_and_then (λ numbers. option_and_then (addition_from id) (split_at is_zero numbers))
+    (all_given (map signed_number (word ∷ words)))
 
 -- the step that a line's tokens spell, if they spell one
 abbrev pub step_of : List (List ℕ) → Option Step
@@ -111,7 +113,8 @@ group_numbers group = neg_ℤ (pos group.id) ∷ map pos group.hints
 
 abbrev pub step_words : Step → List (List ℕ)
 step_words (Add id literals hints groups) =
-    decimal id ∷ map signed_decimal literals ++ (48 ∷ []) ∷ map signed_decimal (map pos hints ++ flat_map group_numbers groups) ++ (48 ∷ []) ∷ []
+    decimal id ∷ map signed_decimal literals ++ (48 ∷ []) ∷ map signed_decimal (map pos hints ++ flat_map group_numbers groups) ++ (48 ∷ [])
+    ∷ []
 step_words (Delete id ids) = decimal id ∷ (100 ∷ []) ∷ map decimal ids ++ (48 ∷ []) ∷ []
 
 -- one space between two words, and a line end
@@ -123,7 +126,8 @@ abbrev pub is_group : Group → Bool
 is_group group = is_id group.id && list_all is_id group.hints
 
 abbrev pub is_printable : Step → Bool
-is_printable (Add id literals hints groups) = is_id id && list_all (is_literal_of max_literal) literals && list_all is_id hints && list_all is_group groups
+is_printable (Add id literals hints groups) = is_id id && list_all (is_literal_of max_literal) literals && list_all is_id hints
+    && list_all is_group groups
 is_printable (Delete id ids) = nat_le id max_id && list_all is_id ids
 
 -- no line, or the last one is ended

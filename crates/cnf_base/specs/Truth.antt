@@ -1,6 +1,7 @@
 -- Truth of literals, clauses and formulas. A literal is a nonzero whole number, as in DIMACS: n is the variable
 -- n, and -n its negation.
-use Rattle.std.specs.Prelude.{ℕ, suc, ◌-◌, Bool, false, not, ◌&&◌, ℤ, pos, negsuc, nat_abs, List, IsTrue, nat_lt, nat_le, slice_index_or, ◌==◌, if◌then◌else◌}
+use Rattle.std.specs.Prelude.{ℕ, suc, ◌-◌, Bool, false, not, ◌&&◌, ℤ, pos, negsuc, nat_abs, List, IsTrue, nat_lt, nat_le, slice_index_or}
+use Rattle.std.specs.Prelude.{◌==◌, if◌then◌else◌}
 use Rattle.std.specs.List.{list_any, list_all}
 
 -- which variables are true

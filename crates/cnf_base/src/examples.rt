@@ -21,7 +21,8 @@ pub fn number_examples()
 
 /// Tokens: blanks, CR LF, comment lines, a last line without its end, the line of the end.
 pub fn token_examples()
-    ensures lines { tokens 99 (codes "p cnf\r\n c x\n\t1 0") ≡ record { bytes = codes "p"; line = 1 } ∷ record { bytes = codes "cnf"; line = 1 }
+    ensures lines { tokens 99 (codes "p cnf\r\n c x\n\t1 0") ≡ record { bytes = codes "p"; line = 1 }
+        ∷ record { bytes = codes "cnf"; line = 1 }
         ∷ record { bytes = codes "1"; line = 3 } ∷ record { bytes = codes "0"; line = 3 } ∷ [] }
     ensures other_comment { tokens 35 (codes "c\n#c\n") ≡ record { bytes = codes "c"; line = 1 } ∷ [] }
     ensures end { end_line (codes "1\n\n2") ≡ 3 }
@@ -52,6 +53,10 @@ pub fn proof_example()
         ∷ record { line = 2; step = Some (Add 3 (negsuc 2 ∷ pos 2 ∷ []) [] (record { id = 2; hints = [] } ∷ [])) }
         ∷ record { line = 3; step = Some (Add 4 (pos 4 ∷ negsuc 0 ∷ []) [] []) }
         ∷ record { line = 4; step = Some (Add 5 (pos 4 ∷ pos 1 ∷ negsuc 2 ∷ []) [] []) }
-        ∷ record { line = 5; step = Some (Add 6 (negsuc 3 ∷ pos 1 ∷ pos 3 ∷ []) [] (record { id = 4; hints = [] } ∷ record { id = 5; hints = [] } ∷ [])) }
+        ∷ record {
+          line = 5;
+          step = Some (Add 6 (negsuc 3 ∷ pos 1 ∷ pos 3 ∷ []) []
+              (record { id = 4; hints = [] } ∷ record { id = 5; hints = [] } ∷ []));
+        }
         ∷ record { line = 6; step = Some (Add 7 (pos 4 ∷ []) (4 ∷ 5 ∷ 2 ∷ 1 ∷ []) []) } ∷ [] }
 {}

@@ -1,5 +1,6 @@
 // Formulas, stored flat: one row of literals and one of the clauses' ends, so that a clause costs no allocation.
-ghost use Rattle.std.specs.Prelude.{◌≡◌, ℕ, ◌+◌, ◌-◌, ◌<◌, ◌≤◌, [], ◌∷◌, ◌++◌, ◌↔◌, nat_abs, length, OnOk, OnErr, IsTrue, slice_index_or, slice_range};
+ghost use Rattle.std.specs.Prelude.{◌≡◌, ℕ, ◌+◌, ◌-◌, ◌<◌, ◌≤◌, [], ◌∷◌, ◌++◌, ◌↔◌, nat_abs, length, OnOk, OnErr, IsTrue, slice_index_or};
+ghost use Rattle.std.specs.Prelude.{slice_range};
 ghost use Rattle.std.specs.List.{list_all};
 ghost use Rattle.cnf_base.specs.Truth.{literal_holds, clause_holds, assignment_of};
 ghost use Rattle.cnf_base.specs.Formula.{IsFormula, start_at};
@@ -126,7 +127,11 @@ impl Model for CnfBuilder {
 
     ghost Value = { Draft };
 
-    ghost view = { λ b. record { vars = b.vars; clauses = cut_at b.literals.items 0 b.ends.items; begun = drop (last_end 0 b.ends.items) b.literals.items } };
+    ghost view = { λ b. record {
+      vars = b.vars;
+      clauses = cut_at b.literals.items 0 b.ends.items;
+      begun = drop (last_end 0 b.ends.items) b.literals.items;
+    } };
 
     ghost invariant = { λ b. IsStored b.vars b.literals.items b.ends.items };
 }
@@ -161,7 +166,12 @@ impl CnfBuilder {
     /// Ends the clause that was begun, or adds an empty one where there is none.
     pub fn end_clause(&mut self) -> Result<(), OutOfMemory>
         requires { length self.old.clauses < 10000000 }
-        ensures ok { OnOk result (self.new ≡ record { vars = self.old.vars; clauses = self.old.clauses ++ self.old.begun ∷ []; begun = [] }) }
+        ensures ok { OnOk result (self.new ≡ record {
+          vars = self.old.vars;
+          clauses = self.old.clauses ++ self.old.begun
+              ∷ [];
+          begun = [];
+        }) }
         ensures err { OnErr result (self.new ≡ self.old) }
     {
         let end = self.literals.as_slice().len() as u32;

@@ -11,7 +11,8 @@ stays true arg is = refl
 stays false arg is = is
 
 -- a command that was made is added
-pub added : {E : Type 0} (old new : Command) (base sub : App) (made : Result Command E) → app_of old ≡ base → IfOk made (λ c. app_of c ≡ sub)
+pub added : {E : Type 0} (old new : Command) (base sub : App) (made : Result Command E) → app_of old ≡ base
+    → IfOk made (λ c. app_of c ≡ sub)
     → IfOk made (λ c. (out-Command c).has_globals ≡ false)
     → MatchResult made (λ c. (out-Command c).has_globals ≡ false → app_of new ≡ with_subcommand (app_of old) (shape_of c)) (λ error. ⊥)
     → app_of new ≡ with_subcommand base sub.top

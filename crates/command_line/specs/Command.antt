@@ -1,6 +1,7 @@
 -- The meaning of the program's words, its own name first: what the parser of command lines makes of them (`fault_of`,
 -- `subcommand_of`: the kinds of its refusal, and the values that it reads), and then this program's own tests.
-use Rattle.std.specs.Prelude.{ℕ, Bool, true, false, not, List, [], ◌∷◌, Option, None, Some, option_map, codes, length, map, nat_le, ◌≤◌, if◌then◌else◌, ◌&&◌, ◌≡◌, ◌⊎◌}
+use Rattle.std.specs.Prelude.{ℕ, Bool, true, false, not, List, [], ◌∷◌, Option, None, Some, option_map, codes, length, map, nat_le, ◌≤◌}
+use Rattle.std.specs.Prelude.{if◌then◌else◌, ◌&&◌, ◌≡◌, ◌⊎◌}
 use Rattle.std.specs.List.{list_any}
 use Rattle.std.specs.Option.{option_and_then}
 use Rattle.std.specs.Str.{bytes_eq}
@@ -14,8 +15,8 @@ use Rattle.schedule_plan.specs.Limits.{most_ids}
 use Rattle.schedule_plan.specs.declared.limits.Limits.{Limits}
 use Rattle.command_line.specs.declared.plan.PlanName.{PlanName}
 use Rattle.command_line.specs.declared.plan.PlanName.TheVariants.{Bucket, Conjoin}
-use Rattle.command_line.specs.declared.part.Part.{Part}
-use Rattle.command_line.specs.declared.part.Part.TheVariants.{Cnf, Order, Schedule}
+use Rattle.command_line.specs.declared.part.BoardText.{BoardText}
+use Rattle.command_line.specs.declared.part.BoardText.TheVariants.{Cnf, Order, Schedule}
 use Rattle.command_line.specs.Parser.{the_app}
 
 -- what gives the plan of a run: its name, or a schedule's file
@@ -48,7 +49,7 @@ pub record ToBench : Type 0 where
 -- to write one text of the board of so many squares a side to a file
 pub record ToMake : Type 0 where
   pub size : ℕ
-  pub part : Part
+  pub part : BoardText
   pub file : Text
 
 pub data Command : Type 0 where
@@ -165,7 +166,8 @@ limits_with _ _ _ = None
 -- the limits that `--max-nodes`, `--max-ids` and `--cache` give
 abbrev pub limits_given : Option Text → Option Text → Option Text → Option Limits
 limits_given nodes ids entries =
-    limits_with (number_given 0 default_limits.max_nodes 100000000 nodes) (number_given 0 default_limits.max_ids most_ids ids) (number_given 1 default_limits.cache 100000000 entries)
+    limits_with (number_given 0 default_limits.max_nodes 100000000 nodes) (number_given 0 default_limits.max_ids most_ids ids)
+    (number_given 1 default_limits.cache 100000000 entries)
 
 -- the size that words give behind the word `board`
 abbrev pub size_given : Option Text → Option Text → Option ℕ
@@ -173,9 +175,10 @@ size_given (Some kind) (Some size) = if bytes_eq kind (codes "board") then numbe
 size_given _ _ = None
 
 -- the part of this name, if it is one
-abbrev pub part_named : Text → Option Part
+abbrev pub part_named : Text → Option BoardText
 part_named name =
-    if bytes_eq name (codes "cnf") then Some Cnf else if bytes_eq name (codes "order") then Some Order else if bytes_eq name (codes "schedule") then Some Schedule else None
+    if bytes_eq name (codes "cnf") then Some Cnf else if bytes_eq name (codes "order") then Some Order else if bytes_eq name
+    (codes "schedule") then Some Schedule else None
 
 -- two files, a mode, an order, what gives the plan, and limits to solve within
 abbrev pub to_solve : Option (Text × Text) → Mode → Option Text → Option Planned → Option Limits → Meaning
@@ -194,7 +197,7 @@ to_bench (Some size) (Some proof) (Some limits) = Asks (Bench (record { size = s
 to_bench _ _ _ = Misuse
 
 -- a size, a part of that board, and a file to write it to
-abbrev pub to_make : Option ℕ → Option Part → Option Text → Meaning
+abbrev pub to_make : Option ℕ → Option BoardText → Option Text → Meaning
 to_make (Some size) (Some part) (Some file) = Asks (Make (record { size = size; part = part; file = file }))
 to_make _ _ _ = Misuse
 
@@ -213,7 +216,8 @@ solve_means rows =
     (first_of (codes "schedule") rows) (first_of (codes "plan") rows) (limits_among rows)
 
 abbrev pub check_means : List Row → Meaning
-check_means rows = to_check (two_names (first_of (codes "FILE") rows) (first_of (codes "PROOF") rows) []) (mode_given (first_of (codes "lax") rows))
+check_means rows = to_check (two_names (first_of (codes "FILE") rows) (first_of (codes "PROOF") rows) [])
+    (mode_given (first_of (codes "lax") rows))
 
 -- the size of a board that is among these values
 abbrev pub size_among : List Row → Option ℕ
@@ -227,12 +231,14 @@ make_means rows = to_make (size_among rows) (option_and_then part_named (first_o
 
 -- what the values of a command about a board mean
 abbrev pub board_means : Text → List Row → Meaning
-board_means name rows = if bytes_eq name (codes "bench") then bench_means rows else if bytes_eq name (codes "make") then make_means rows else Misuse
+board_means name rows = if bytes_eq name (codes "bench") then bench_means rows else if bytes_eq name
+    (codes "make") then make_means rows else Misuse
 
 -- what the values of a command mean
 abbrev pub command_means : Text → List Row → Meaning
 command_means name rows =
-    if bytes_eq name (codes "solve") then solve_means rows else if bytes_eq name (codes "check") then check_means rows else board_means name rows
+    if bytes_eq name (codes "solve") then solve_means rows else if bytes_eq name
+    (codes "check") then check_means rows else board_means name rows
 
 -- what words mean that the parser takes; a command must be among them
 abbrev pub taken_means : Option (Text × List Row) → Meaning

@@ -40,7 +40,8 @@ source_rules = option_rule (codes "order") ∷ option_rule (codes "schedule") �
 abbrev pub solve_app : App
 solve_app =
     with_rules (new_app (codes "solve"))
-    (file_rule ∷ proof_rule ∷ lax_rule ∷ option_rule (codes "order") ∷ option_rule (codes "schedule") ∷ option_rule (codes "plan") ∷ limit_rules)
+    (file_rule ∷ proof_rule ∷ lax_rule ∷ option_rule (codes "order") ∷ option_rule (codes "schedule") ∷ option_rule (codes "plan")
+    ∷ limit_rules)
 
 -- a proof's file, behind the formula's
 abbrev pub proof_file_rule : Rule
@@ -69,4 +70,5 @@ make_app = with_rules (with_rules (new_app (codes "make")) board_rules) (needed_
 -- the program: one of four commands after its name
 abbrev pub the_app : App
 the_app =
-    with_subcommand (with_subcommand (with_subcommand (with_subcommand (new_app (codes "bddsat")) solve_app.top) check_app.top) bench_app.top) make_app.top
+    with_subcommand (with_subcommand (with_subcommand (with_subcommand (new_app (codes "bddsat")) solve_app.top) check_app.top)
+    bench_app.top) make_app.top

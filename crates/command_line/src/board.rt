@@ -5,7 +5,7 @@ ghost use Rattle.command_line.specs.Command.{Asks, IsSize, Misuse, bench_means, 
 ghost use Rattle.command_line.specs.Reading.{IsWithin, command_of, text_of};
 
 use crate::limits::{limits_among, number_within};
-use crate::part::{Part, part_named};
+use crate::part::{BoardText, part_named};
 use crate::words::Asked;
 use clap::ArgMatches;
 use schedule_plan::Limits;
@@ -25,7 +25,7 @@ pub struct BenchTask<'a> {
 pub struct MakeTask<'a> {
     /// The squares a side.
     pub size: u32,
-    pub part: Part,
+    pub part: BoardText,
     /// The file that the text is written to.
     pub file: &'a str,
 }

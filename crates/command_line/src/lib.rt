@@ -15,6 +15,6 @@ mod words;
 
 pub use board::{BenchTask, MakeTask};
 pub use names::FileNames;
-pub use part::Part;
+pub use part::BoardText;
 pub use plan::{PlanName, PlanSource};
 pub use words::{Asked, CheckTask, Refusal, SolveTask, gather, read_words};

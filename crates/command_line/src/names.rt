@@ -17,8 +17,10 @@ pub fn two_names<'a>(
     order: Option<&str>,
     schedule: Option<&str>,
 ) -> Option<FileNames<'a>>
-    ensures { MatchOption result (two_names (text_of formula.entry) (text_of proof.entry) (text_of order.entry ∷ text_of schedule.entry ∷ []) ≡ None)
-        (λ files. two_names (text_of formula.entry) (text_of proof.entry) (text_of order.entry ∷ text_of schedule.entry ∷ []) ≡ Some (files.formula.now, files.proof.now)) }
+    ensures { MatchOption result (two_names (text_of formula.entry) (text_of proof.entry) (text_of order.entry ∷ text_of schedule.entry
+        ∷ []) ≡ None)
+        (λ files. two_names (text_of formula.entry) (text_of proof.entry) (text_of order.entry ∷ text_of schedule.entry ∷ [])
+        ≡ Some (files.formula.now, files.proof.now)) }
 {
     if !names_differ(formula, proof, order, schedule) {
         return None;

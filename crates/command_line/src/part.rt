@@ -4,7 +4,7 @@ ghost use Rattle.command_line.specs.Command.{part_named};
 
 /// A text of a board.
 #[derive(Clone, Copy, Debug, PartialEq, Eq)]
-pub enum Part {
+pub enum BoardText {
     /// The formula, in DIMACS CNF.
     Cnf,
     /// The column order of its variables.
@@ -13,15 +13,15 @@ pub enum Part {
     Schedule,
 }
 
-pub fn part_named(name: &str) -> Option<Part>
+pub fn part_named(name: &str) -> Option<BoardText>
     ensures { result ≡ part_named name.now }
 {
     if name == "cnf" {
-        Some(Part::Cnf)
+        Some(BoardText::Cnf)
     } else if name == "order" {
-        Some(Part::Order)
+        Some(BoardText::Order)
     } else if name == "schedule" {
-        Some(Part::Schedule)
+        Some(BoardText::Schedule)
     } else {
         None
     }

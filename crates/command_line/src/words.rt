@@ -5,7 +5,8 @@ ghost use Rattle.std.specs.Iterator.{IsFinite};
 ghost use Rattle.std.specs.Iterator.Runs.{WholeRun};
 ghost use Rattle.clap.specs.Words.{found_of, kind_of, rows_of, subcommand_rows_of};
 ghost use Rattle.schedule_plan.specs.Limits.{AreLimits};
-ghost use Rattle.command_line.specs.Command.{Asks, IsSize, Misuse, board_means, check_means, command, command_means, limits_of, size_of, solve_means, taken_means};
+ghost use Rattle.command_line.specs.Command.{Asks, IsSize, Misuse, board_means, check_means, command, command_means, limits_of, size_of};
+ghost use Rattle.command_line.specs.Command.{solve_means, taken_means};
 ghost use Rattle.command_line.specs.declared.words.Refusal.TheVariants.{Usage};
 ghost use Rattle.command_line.specs.Reading.{IsRefusal, IsRefusalOf, IsWithin, command_of};
 

@@ -5,7 +5,8 @@ use Rattle.node_table.specs.Diagram.{Graph}
 use Rattle.node_table.specs.Table.{TableState, IsSound}
 use Rattle.node_table.specs.Tied.{IsTied, AreRetired}
 
-pub opened_sound : {S : Type 0} (table : TableState S) (graph : Graph) (book other : Book S) (max_nodes : ℕ) → table ≡ record { graph = graph; book = book; max_nodes = max_nodes; inputs = book.state.top; retired = [] }
+pub opened_sound : {S : Type 0} (table : TableState S) (graph : Graph) (book other : Book S) (max_nodes : ℕ) → table
+    ≡ record { graph = graph; book = book; max_nodes = max_nodes; inputs = book.state.top; retired = [] }
     → book ≡ other → other.in_step ≡ true → IsTied graph other.state → AreRetired graph other.state.live other.state.top [] → IsSound table
 opened_sound {S} table graph book other max_nodes is same step tied retired =
     subst (λ (t : TableState S). IsSound t) (sym is) (record {

@@ -1,5 +1,6 @@
 -- Plain tables: a table without nodes is plain, a node more leaves it so, and its unmarked nodes may be swept away.
-use Rattle.std.proofs.Common.{◌≡◌, ◌∙◌, ◌≤◌, ℕ, ℤ, Bool, true, List, [], Option, None, Some, Result, Ok, Err, is_some, nat_abs, refl, sym, ap, subst, arith, inl, inr}
+use Rattle.std.proofs.Common.{◌≡◌, ◌∙◌, ◌≤◌, ℕ, ℤ, Bool, true, List, [], Option, None, Some, Result, Ok, Err, is_some, nat_abs, refl, sym}
+use Rattle.std.proofs.Common.{ap, subst, arith, inl, inr}
 use Rattle.std.specs.Prelude.{OnOk}
 use Rattle.std.specs.Ordering.{nat_cmp}
 use Rattle.std.specs.FinMap as map
@@ -28,24 +29,44 @@ nothing_at order key b is = let none : branch_at (record { order = order; nodes 
 
 module _ {S : Type 0} where
   plain_without : (order : List ℕ) (book : Book S) (max_nodes : ℕ)
-      → IsSound (record { graph = record { order = order; nodes = map.empty }; book = book; max_nodes = max_nodes; inputs = book.state.top; retired = [] })
-      → IsPlain (record { graph = record { order = order; nodes = map.empty }; book = book; max_nodes = max_nodes; inputs = book.state.top; retired = [] })
+      → IsSound (record {
+        graph = record { order = order; nodes = map.empty };
+        book = book;
+        max_nodes = max_nodes;
+        inputs = book.state.top;
+        retired = [];
+      })
+      → IsPlain (record {
+        graph = record { order = order; nodes = map.empty };
+        book = book;
+        max_nodes = max_nodes;
+        inputs = book.state.top;
+        retired = [];
+      })
   plain_without order book max_nodes sound = record {
     unadded = λ id own.
         let clause = live_of book.state.live id own.stands in
         let numbers = sound.tied.numbers id clause.0 clause.1 in omega (arith, numbers.1, own.above);
     within = λ id clause low at literal holds. elim (cases_lt (levels (record { order = order; nodes = map.empty })) (nat_abs literal)) [
-      | inl over ↦ let owned = sound.tied.over_nodes id clause at literal holds over in absurd (nothing_at order owned.key owned.branch owned.stands)
+      | inl over ↦ let owned = sound.tied.over_nodes id clause at literal holds over in
+          absurd (nothing_at order owned.key owned.branch owned.stands)
       | inr within ↦ within
     ];
   }
 
   -- without nodes
   pub opened_plain : (order : List ℕ) (book : Book S) (max_nodes : ℕ) (table : TableState S)
-      → table ≡ record { graph = record { order = order; nodes = map.empty }; book = book; max_nodes = max_nodes; inputs = book.state.top; retired = [] }
+      → table ≡ record {
+        graph = record { order = order; nodes = map.empty };
+        book = book;
+        max_nodes = max_nodes;
+        inputs = book.state.top;
+        retired = [];
+      }
       → IsSound table → IsPlain table
   opened_plain order book max_nodes table is sound =
-      subst (λ (t : TableState S). IsPlain t) (sym is) (plain_without order book max_nodes (subst (λ (t : TableState S). IsSound t) is sound))
+      subst (λ (t : TableState S). IsPlain t) (sym is) (plain_without order book max_nodes
+      (subst (λ (t : TableState S). IsSound t) is sound))
 
   -- with more nodes
   kept_plain : (old new : TableState S) → IsSound old → Extends old new → AddsNone old new → IsPlain old → IsPlain new
@@ -56,8 +77,10 @@ module _ {S : Type 0} where
           | inl was ↦
               let before = live_of old.book.state.live id was in
               let same : Some before.0 ≡ Some clause = sym (extends.clauses id before.0 before.1) ∙ at in
-              let bound : nat_abs literal ≤ levels old.graph = plain.within id clause (omega (arith, low, extends.inputs)) (before.1 ∙ same) literal holds in
-              subst (λ (order : List ℕ). nat_abs literal ≤ levels (record { order = order; nodes = old.graph.nodes })) (sym extends.nodes.order) bound
+              let bound : nat_abs literal ≤ levels old.graph = plain.within id clause (omega (arith, low, extends.inputs)) (before.1
+              ∙ same) literal holds in
+              subst (λ (order : List ℕ). nat_abs literal ≤ levels (record { order = order; nodes = old.graph.nodes }))
+              (sym extends.nodes.order) bound
           | inr over ↦ absurd (omega (arith, over, low, extends.inputs, sound.inputs))
         ];
   }
@@ -68,7 +91,8 @@ module _ {S : Type 0} where
   made_plain tells before after old new (Err e) sound steps none plain = tt
 
   -- A clause of the formula holds no extension variable, and each other one defines a node.
-  pub plain_clear : (table : TableState S) (marks : List Bool) → IsSound table → IsPlain table → AreClear table.graph marks table.book.state.live
+  pub plain_clear : (table : TableState S) (marks : List Bool) → IsSound table → IsPlain table
+      → AreClear table.graph marks table.book.state.live
   plain_clear table marks sound plain id clause at defines_none literal holds key branch stands unmarked same =
       elim (cases_lt table.inputs id) [
         | inl above ↦ plain.unadded id (record {

@@ -9,13 +9,15 @@ use Rattle.node_table.specs.Table.{TableState, IsSound, without_retired}
 use Rattle.operations.specs.Entries.{Entry, Fits, Fitting}
 
 module _ {S T : Type 0} (old new : TableState S) where
-  pub settled_sound : (tells : Bool) (before after : Channel) (r : Result T TableError) → Leaves tells before after old new (error_of r) → OnOk r (IsSound new)
+  pub settled_sound : (tells : Bool) (before after : Channel) (r : Result T TableError) → Leaves tells before after old new (error_of r)
+      → OnOk r (IsSound new)
   settled_sound tells before after (Ok x) leaves = leaves.sound
   settled_sound tells before after (Err e) leaves = tt
 
   pub settled_fits : (kept : List Entry) (r : Result T TableError) → Fitting S → new.graph ≡ old.graph
       → OnOk r (new ≡ record old { book = record old.book { sink = new.book.sink; state = without_retired old }; retired = [] })
-      → ((id : ℕ) → (Contains old.retired id → ⊥) → clause_at new.book.state.live id ≡ clause_at old.book.state.live id) → Fits old kept → OnOk r (Fits new kept)
+      → ((id : ℕ) → (Contains old.retired id → ⊥) → clause_at new.book.state.live id ≡ clause_at old.book.state.live id) → Fits old kept
+      → OnOk r (Fits new kept)
   settled_fits kept (Ok x) fitting nodes is stay fits =
       fitting.settled old new kept nodes (ap (λ (t : TableState S). t.inputs) is) (ap (λ (t : TableState S). t.retired) is) stay fits
   settled_fits kept (Err e) fitting nodes is stay fits = tt

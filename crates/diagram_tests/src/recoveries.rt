@@ -48,7 +48,8 @@ fn trail_of(
     words: &str,
 ) -> Result<Trail, Fail>
     ensures nodes { IfOk result (λ trail. (kept : ℕ × NodeValue) → Contains trail kept → IsTrue (is_node table.now.graph kept.1)) }
-    ensures variables { IfOk result (λ trail. (kept : ℕ × NodeValue) → Contains trail kept → (0 < kept.0) × (kept.0 ≤ levels table.now.graph)) }
+    ensures variables { IfOk result (λ trail. (kept : ℕ × NodeValue) → Contains trail kept → (0 < kept.0)
+        × (kept.0 ≤ levels table.now.graph)) }
 {
     let mut trail = Trail::new(alloc);
     'words: for word in words.split_whitespace() {

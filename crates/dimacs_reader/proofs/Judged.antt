@@ -19,16 +19,26 @@ use Rattle.dimacs_reader.specs.Body.{Takes, Passes, pass_none, pass_one}
 use Rattle.dimacs_reader.specs.Cnf.{CnfText, overlong, is_word, with_read, offence_of, body}
 
 pub then_answers : {a b c : Channel} {Q : List ℕ → List ℕ → Type 0} (r : Result Formula CnfError) (whole rest : List ℕ → CnfText)
-    → Decides a b (λ bytes more. whole bytes ≡ rest more) → Decides b c Q → ((middle more : List ℕ) → Q middle more → Answers r (rest middle))
+    → Decides a b (λ bytes more. whole bytes ≡ rest more) → Decides b c Q
+    → ((middle more : List ℕ) → Q middle more → Answers r (rest middle))
     → Decides a c (λ bytes more. Answers r (whole bytes))
 then_answers r whole rest first second ends =
-    Decides-then (λ bytes more. Answers r (whole bytes)) first second (λ bytes middle more p q. subst (λ t. Answers r t) (sym p) (ends middle more q))
+    Decides-then (λ bytes more. Answers r (whole bytes)) first second
+    (λ bytes middle more p q. subst (λ t. Answers r t) (sym p) (ends middle more q))
 
 -- a token that neither ends the clauses nor offends
-pub goes_on : (mode new_mode : Mode) (word : Word) (items : Items) (count new_count : ℕ) (draft new_draft : Draft) → is_word (codes "%") word.bytes ≡ false
-    → offence_of mode (signed_number word.bytes) count draft ≡ None → new_draft ≡ with_read (signed_number word.bytes) draft → new_count ≡ count → new_mode ≡ mode
+pub goes_on : (mode new_mode : Mode) (word : Word) (items : Items) (count new_count : ℕ) (draft new_draft : Draft)
+    → is_word (codes "%") word.bytes ≡ false
+    → offence_of mode (signed_number word.bytes) count draft ≡ None → new_draft ≡ with_read (signed_number word.bytes) draft → new_count
+    ≡ count → new_mode ≡ mode
     → body mode (next_word word items) count draft ≡ body new_mode items new_count new_draft
-goes_on mode new_mode word items count new_count draft new_draft percent none new_is count_is mode_is = rw (percent, none, new_is, count_is, mode_is) refl
+goes_on mode new_mode word items count new_count draft new_draft percent none new_is count_is mode_is = rw (
+  percent,
+  none,
+  new_is,
+  count_is,
+  mode_is,
+) refl
 
 -- an error that was handed on
 pub error_is : {A E : Type 0} (r : Result A E) (e : E) → IsErrAnd r (λ f. f ≡ e) → r ≡ Err e
@@ -36,24 +46,29 @@ error_is (Ok value) e h = absurd h
 error_is (Err f) e h = ap Err h
 
 -- one of the scanner
-pub error_answers : (mode : Mode) (r : Result Formula CnfError) (e : ScanError) (line count : ℕ) (draft : Draft) (before after : Items) → r ≡ Err (error_of e)
+pub error_answers : (mode : Mode) (r : Result Formula CnfError) (e : ScanError) (line count : ℕ) (draft : Draft) (before after : Items) → r
+    ≡ Err (error_of e)
     → Gives (Err e) line before after → Answers r (body mode before count draft)
 error_answers mode r ScanFault line count draft before after r_is q = rw r_is tt
 error_answers mode r ScanTooLong line count draft before after r_is q = rw (r_is, q.0) refl
 
 -- a token that offends, or want of memory
-pub take_answers : (mode : Mode) (r : Result Formula CnfError) (e : CnfError) (word : Word) (items : Items) (count : ℕ) (draft new : Draft) → r ≡ Err e → is_word (codes "%") word.bytes ≡ false
-    → Takes {T = Unit {0}} (Err e) (offence_of mode (signed_number word.bytes) count draft) word.line (with_read (signed_number word.bytes) draft) new → Answers r (body mode (next_word word items) count draft)
+pub take_answers : (mode : Mode) (r : Result Formula CnfError) (e : CnfError) (word : Word) (items : Items) (count : ℕ) (draft new : Draft)
+    → r ≡ Err e → is_word (codes "%") word.bytes ≡ false
+    → Takes {T = Unit {0}} (Err e) (offence_of mode (signed_number word.bytes) count draft) word.line
+    (with_read (signed_number word.bytes) draft) new → Answers r (body mode (next_word word items) count draft)
 take_answers mode r (Refused kind at) word items count draft new r_is percent takes = rw (r_is, percent, takes.0, takes.1) refl
 take_answers mode r ReadFault word items count draft new r_is percent takes = absurd takes
 take_answers mode r TooLong word items count draft new r_is percent takes = absurd takes
 take_answers mode r OutOfMemory word items count draft new r_is percent takes = rw r_is tt
 
 -- behind good tokens the body is what it was
-pub passes_same : {mode : Mode} {count : ℕ} {all : Items} {start : Draft} {items : Items} {draft : Draft} → Passes mode count all start items draft → body mode all count start ≡ body mode items count draft
+pub passes_same : {mode : Mode} {count : ℕ} {all : Items} {start : Draft} {items : Items} {draft : Draft}
+    → Passes mode count all start items draft → body mode all count start ≡ body mode items count draft
 passes_same pass_none = refl
 passes_same {mode} {count} (pass_one {word} {items} {draft} before good) =
-    passes_same before ∙ goes_on mode mode word items count count draft (with_read (signed_number word.bytes) draft) good.goes_on good.unoffending refl refl refl
+    passes_same before ∙ goes_on mode mode word items count count draft
+    (with_read (signed_number word.bytes) draft) good.goes_on good.unoffending refl refl refl
 
 -- Where those bytes decide nothing that follow others, both together don't.
 pub undecided_behind : {a b c : Channel} {P Q : List ℕ → List ℕ → Type 0} (text rest : List ℕ → CnfText) → Decides a b P → Decides b c Q

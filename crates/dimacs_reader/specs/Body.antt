@@ -9,7 +9,8 @@ use Rattle.dimacs_reader.specs.declared.error.CnfError.TheVariants.{Refused, Rea
 use Rattle.dimacs_reader.specs.declared.error.CnfKind.{CnfKind}
 use Rattle.dimacs_reader.specs.declared.mode.Mode.{Mode}
 use Rattle.dimacs_reader.specs.declared.mode.Mode.TheVariants.{Lax}
-use Rattle.dimacs_reader.specs.Cnf.{CnfText, formula, refusal, overlong, max_vars, max_clauses, max_literals, literals_of, is_word, with_read, offence_of}
+use Rattle.dimacs_reader.specs.Cnf.{CnfText, formula, refusal, overlong, max_vars, max_clauses, max_literals, literals_of, is_word}
+use Rattle.dimacs_reader.specs.Cnf.{with_read, offence_of}
 
 -- the mode, how many clauses are announced, and what was read of them
 pub record BodyState : Type 0 where
@@ -30,7 +31,8 @@ pub record IsGood (mode : Mode) (word : Word) (count : ℕ) (draft : Draft) : Ty
 -- that is the draft.
 pub data Passes (mode : Mode) (count : ℕ) (all : Items) (start : Draft) : Items → Draft → Type 0 where
   pass_none : Passes mode count all start all start
-  pass_one : {word : Word} {items : Items} {draft : Draft} → Passes mode count all start (next_word word items) draft → IsGood mode word count draft
+  pass_one : {word : Word} {items : Items} {draft : Draft} → Passes mode count all start (next_word word items) draft
+      → IsGood mode word count draft
       → Passes mode count all start items (with_read (signed_number word.bytes) draft)
 
 -- The clauses end where these items begin: at the end of the text, or at `%`, behind which those items come.

@@ -4,13 +4,15 @@
 -- clauses as stand there, and the last one needs no zero.
 -- (DIMACS, 'Satisfiability: Suggested Format', 1993; the `%` is that of SATLIB's files uf20 to uf250. The limits, the mode
 -- Lax, and which of several faults is told, are this project's own.)
-use Rattle.std.specs.Prelude.{ℕ, zero, suc, ◌+◌, Bool, ◌&&◌, ℤ, pos, negsuc, nat_abs, List, [], ◌∷◌, ◌++◌, length, sum_by, Option, None, Some, nat_lt, nat_le, codes, if◌then◌else◌}
+use Rattle.std.specs.Prelude.{ℕ, zero, suc, ◌+◌, Bool, ◌&&◌, ℤ, pos, negsuc, nat_abs, List, [], ◌∷◌, ◌++◌, length, sum_by, Option, None}
+use Rattle.std.specs.Prelude.{Some, nat_lt, nat_le, codes, if◌then◌else◌}
 use Rattle.std.specs.Str.{bytes_eq}
 use Rattle.cnf_base.specs.Formula.{Formula, Draft}
 use Rattle.cnf_base.specs.Number.{is_short, plain_number, signed_number}
 use Rattle.text_scan.specs.Items.{Items, the_end, too_long, next_word, items_of_front, items}
 use Rattle.dimacs_reader.specs.declared.error.CnfKind.{CnfKind}
-use Rattle.dimacs_reader.specs.declared.error.CnfKind.TheVariants.{NoHeader, BadHeader, BadToken, LiteralRange, TooManyClauses, ClauseMissing, NoEndingZero, Limit}
+use Rattle.dimacs_reader.specs.declared.error.CnfKind.TheVariants.{NoHeader, BadHeader, BadToken, LiteralRange, TooManyClauses}
+use Rattle.dimacs_reader.specs.declared.error.CnfKind.TheVariants.{ClauseMissing, NoEndingZero, Limit}
 use Rattle.dimacs_reader.specs.declared.mode.Mode.{Mode}
 use Rattle.dimacs_reader.specs.declared.mode.Mode.TheVariants.{Strict, Lax}
 
@@ -100,7 +102,8 @@ body mode (the_end line) count draft = text_end mode count draft line
 body mode (too_long line) count draft = overlong
 body mode (next_word word items) count draft =
     if is_word (codes "%") word.bytes then text_end mode count draft word.line
-    else judged (offence_of mode (signed_number word.bytes) count draft) word.line (body mode items count (with_read (signed_number word.bytes) draft))
+    else judged (offence_of mode (signed_number word.bytes) count draft) word.line
+    (body mode items count (with_read (signed_number word.bytes) draft))
 
 -- The header, from its last token to its first. The fourth is the number of clauses, within its limit in either mode.
 abbrev pub with_count : Mode → ℕ → Option ℕ → ℕ → Items → CnfText

@@ -1,5 +1,6 @@
 // The body of a CNF text: the clauses' numbers, up to the end of the text or `%`.
-ghost use Rattle.std.specs.Prelude.{◌≡◌, ◌≢◌, ◌<◌, ◌≤◌, [], true, false, nat_abs, length, None, Some, Err, IsTrue, IfOk, OnOk, OnErr, codes};
+ghost use Rattle.std.specs.Prelude.{◌≡◌, ◌≢◌, ◌<◌, ◌≤◌, [], true, false, nat_abs, length, None, Some, Err, IsTrue, IfOk, OnOk, OnErr};
+ghost use Rattle.std.specs.Prelude.{codes};
 ghost use Rattle.cnf_base.specs.Number.{signed_number};
 ghost use Rattle.host_io.specs.Channel.{Rose};
 ghost use Rattle.text_scan.specs.Decides.{gained, Decides, OnlyReads};
@@ -9,7 +10,8 @@ ghost use Rattle.dimacs_reader.specs.declared.mode.Mode.TheVariants.{Strict, Lax
 ghost use Rattle.dimacs_reader.specs.Answers.{Answers};
 ghost use Rattle.dimacs_reader.specs.Body.{Takes, Wants, answer_of};
 ghost use Rattle.text_scan.specs.Capped.{cap};
-ghost use Rattle.dimacs_reader.specs.Cnf.{overlong, max_vars, max_clauses, max_literals, literals_of, is_word, with_number, with_read, with_end, formula_of, most_clauses, beyond, offence_of, text_end, body as body_text};
+ghost use Rattle.dimacs_reader.specs.Cnf.{overlong, max_vars, max_clauses, max_literals, literals_of, is_word, with_number, with_read};
+ghost use Rattle.dimacs_reader.specs.Cnf.{with_end, formula_of, most_clauses, beyond, offence_of, text_end, body as body_text};
 
 use crate::error::{CnfError, CnfKind};
 use crate::mode::Mode;
@@ -90,7 +92,8 @@ impl Body {
         ensures takes { Takes result (offence_of self.old.mode (signed_number token.now.bytes) self.old.count self.old.draft) token.now.line
             (with_read (signed_number token.now.bytes) self.old.draft) self.new.draft }
         // want of memory never stands for a refusal
-        ensures memory { result ≡ Err OutOfMemory → offence_of self.old.mode (signed_number token.now.bytes) self.old.count self.old.draft ≡ None }
+        ensures memory { result ≡ Err OutOfMemory → offence_of self.old.mode (signed_number token.now.bytes) self.old.count self.old.draft
+            ≡ None }
         ensures count { self.new.count ≡ self.old.count }
         ensures mode { self.new.mode ≡ self.old.mode }
     {
@@ -102,7 +105,8 @@ impl Body {
 
     #[inline(always)]
     fn take_number(&mut self, number: i64, line: u64) -> Result<(), CnfError>
-        ensures takes { Takes result (offence_of self.old.mode (Some number) self.old.count self.old.draft) line (with_number number self.old.draft) self.new.draft }
+        ensures takes { Takes result (offence_of self.old.mode (Some number) self.old.count self.old.draft) line
+            (with_number number self.old.draft) self.new.draft }
         ensures memory { result ≡ Err OutOfMemory → offence_of self.old.mode (Some number) self.old.count self.old.draft ≡ None }
         ensures count { self.new.count ≡ self.old.count }
         ensures mode { self.new.mode ≡ self.old.mode }
@@ -147,7 +151,11 @@ impl Body {
     #[inline(always)]
     fn put(&mut self, number: i64) -> Result<(), CnfError>
         requires { offence_of self.old.mode (Some number) self.old.count self.old.draft ≡ None }
-        ensures ok { OnOk result (self.new ≡ record { mode = self.old.mode; count = self.old.count; draft = with_number number self.old.draft }) }
+        ensures ok { OnOk result (self.new ≡ record {
+          mode = self.old.mode;
+          count = self.old.count;
+          draft = with_number number self.old.draft;
+        }) }
         ensures err { OnErr result (result ≡ Err OutOfMemory) }
         ensures count { self.new.count ≡ self.old.count }
         ensures mode { self.new.mode ≡ self.old.mode }
@@ -233,7 +241,8 @@ pub fn read_body<S: Source>(
         (λ bytes more. Answers result (body_text body.mode (ahead scanner.old bytes) body.count body.draft)) }
     // a read fails only where the bytes taken decide nothing yet
     ensures undecided { IsTrue S.tells → result ≡ Err ReadFault → (is_reading scanner.old.status ≡ true)
-        × (body_text body.mode (so_far scanner.old (gained (S.channel source.old) (S.channel source.new))) body.count body.draft ≡ overlong) }
+        × (body_text body.mode (so_far scanner.old (gained (S.channel source.old) (S.channel source.new))) body.count body.draft
+        ≡ overlong) }
     // want of memory never stands for a refusal, nor for a text that is too long
     ensures memory { IsTrue S.tells → result ≡ Err OutOfMemory → Decides (S.channel source.old) (S.channel source.new)
         (λ bytes more. Wants body.mode body.count (ahead scanner.old bytes) body.draft (ahead scanner.new more)) }

@@ -30,12 +30,14 @@ const MAX_CLAUSES: u64 = 10_000_000;
 /// or a read may fail. No read follows once the answer is decided.
 pub fn read_cnf<S: Source>(alloc: Global, source: &mut S, mode: Mode) -> Result<Cnf, CnfError>
     // The answer is the grammar's of the bytes that were taken and whatever may follow them, so of the whole text.
-    ensures decides { IsTrue S.tells → Decides (S.channel source.old) (S.channel source.new) (λ bytes more. Answers result (cnf mode bytes)) }
+    ensures decides { IsTrue S.tells → Decides (S.channel source.old) (S.channel source.new)
+        (λ bytes more. Answers result (cnf mode bytes)) }
     ensures fault { result ≡ Err ReadFault → Rose (S.channel source.old).faults (S.channel source.new).faults }
     // no failed read is told as anything else
     ensures unfailed { result ≢ Err ReadFault → (S.channel source.new).faults ≡ (S.channel source.old).faults }
     // a read fails only where the bytes taken decide nothing yet
-    ensures undecided { IsTrue S.tells → result ≡ Err ReadFault → cnf_so_far mode (gained (S.channel source.old) (S.channel source.new)) ≡ overlong }
+    ensures undecided { IsTrue S.tells → result ≡ Err ReadFault → cnf_so_far mode (gained (S.channel source.old) (S.channel source.new))
+        ≡ overlong }
     // memory is wanted only for a number that offends nothing, or for a last clause without its zero, behind a good header
     ensures memory { IsTrue S.tells → result ≡ Err OutOfMemory → Decides (S.channel source.old) (S.channel source.new)
         (λ bytes more. WantsMemory mode (items 99 max_bytes bytes)) }
@@ -59,7 +61,8 @@ fn read_header<S: Source>(
 ) -> Result<Body, CnfError>
     requires { is_faulted scanner.old.status ≡ false }
     ensures decides { IsTrue S.tells → Decides (S.channel source.old) (S.channel source.new)
-        (λ bytes more. Begins result (cnf_of mode (ahead scanner.old bytes)) (λ vars count. HasHeader (ahead scanner.old bytes) vars count (ahead scanner.new more))) }
+        (λ bytes more. Begins result (cnf_of mode (ahead scanner.old bytes))
+        (λ vars count. HasHeader (ahead scanner.old bytes) vars count (ahead scanner.new more))) }
     ensures so_far { IsTrue S.tells → BeginsSoFar result scanner.old scanner.new (λ more. cnf_of mode (so_far scanner.old more))
         (gained (S.channel source.old) (S.channel source.new)) }
     ensures memory { result ≢ Err OutOfMemory }
@@ -89,7 +92,8 @@ fn read_format<S: Source>(
 ) -> Result<Body, CnfError>
     requires { is_faulted scanner.old.status ≡ false }
     ensures decides { IsTrue S.tells → Decides (S.channel source.old) (S.channel source.new)
-        (λ bytes more. Begins result (after_p mode (ahead scanner.old bytes)) (λ vars count. HasFormat (ahead scanner.old bytes) vars count (ahead scanner.new more))) }
+        (λ bytes more. Begins result (after_p mode (ahead scanner.old bytes))
+        (λ vars count. HasFormat (ahead scanner.old bytes) vars count (ahead scanner.new more))) }
     ensures so_far { IsTrue S.tells → BeginsSoFar result scanner.old scanner.new (λ more. after_p mode (so_far scanner.old more))
         (gained (S.channel source.old) (S.channel source.new)) }
     ensures memory { result ≢ Err OutOfMemory }
@@ -119,7 +123,8 @@ fn read_vars<S: Source>(
 ) -> Result<Body, CnfError>
     requires { is_faulted scanner.old.status ≡ false }
     ensures decides { IsTrue S.tells → Decides (S.channel source.old) (S.channel source.new)
-        (λ bytes more. Begins result (after_format mode (ahead scanner.old bytes)) (λ vars count. HasVars (ahead scanner.old bytes) vars count (ahead scanner.new more))) }
+        (λ bytes more. Begins result (after_format mode (ahead scanner.old bytes))
+        (λ vars count. HasVars (ahead scanner.old bytes) vars count (ahead scanner.new more))) }
     ensures so_far { IsTrue S.tells → BeginsSoFar result scanner.old scanner.new (λ more. after_format mode (so_far scanner.old more))
         (gained (S.channel source.old) (S.channel source.new)) }
     ensures memory { result ≢ Err OutOfMemory }

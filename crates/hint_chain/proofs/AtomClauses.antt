@@ -1,5 +1,6 @@
 -- Clauses over atoms: their literals are the atoms', and with the clause each atom is false.
-use Rattle.std.proofs.Common.{◌≡◌, ◌≤◌, ◌+◌, length, is_some, arith, true, false, ◌||◌, ℤ, neg_ℤ, List, [], ◌∷◌, Option, None, Some, int_eq, refl, sym, ap, ◌∙◌, subst, inl, inr}
+use Rattle.std.proofs.Common.{◌≡◌, ◌≤◌, ◌+◌, length, is_some, arith, true, false, ◌||◌, ℤ, neg_ℤ, List, [], ◌∷◌, Option, None, Some, int_eq}
+use Rattle.std.proofs.Common.{refl, sym, ap, ◌∙◌, subst, inl, inr}
 use Rattle.std.specs.List.{list_any, list_all}
 use Rattle.std.specs.Option.{option_map}
 use Rattle.std.proofs.Math.IntN.{neg_ℤ-neg_ℤ}
@@ -30,9 +31,11 @@ record BeginsWith (literal : ℤ) (o : Option (List ℤ)) (clause : List ℤ) : 
   found : o ≡ Some rest
   whole : literal ∷ rest ≡ clause
 
-BeginsWith-from : (literal : ℤ) (o : Option (List ℤ)) (clause : List ℤ) → option_map (λ literals. literal ∷ literals) o ≡ Some clause → BeginsWith literal o clause
+BeginsWith-from : (literal : ℤ) (o : Option (List ℤ)) (clause : List ℤ) → option_map (λ literals. literal ∷ literals) o ≡ Some clause
+    → BeginsWith literal o clause
 BeginsWith-from literal None clause e = cc
-BeginsWith-from literal (Some rest) clause e = let whole : literal ∷ rest ≡ clause = cc in record { rest = rest; found = refl; whole = whole }
+BeginsWith-from literal (Some rest) clause e = let whole : literal ∷ rest ≡ clause = cc in
+    record { rest = rest; found = refl; whole = whole }
 
 -- what a larger set keeps
 pub all_kept : (n m : FalseSet) (atoms : List Atom) → Grows n m → list_all (is_false n) atoms ≡ true → list_all (is_false m) atoms ≡ true
@@ -42,13 +45,15 @@ all_kept n m (atom ∷ atoms) g h =
     and_from (is_false m atom) (list_all (is_false m) atoms) (is_false-kept n m atom g parts.0) (all_kept n m atoms g parts.1)
 
 -- where the clause is false, so is each atom
-pub falsified : (atoms : List Atom) (clause : List ℤ) → clause_of atoms ≡ Some clause → list_all (is_false (literals_of clause)) atoms ≡ true
+pub falsified : (atoms : List Atom) (clause : List ℤ) → clause_of atoms ≡ Some clause → list_all (is_false (literals_of clause)) atoms
+    ≡ true
 falsified [] clause e = refl
 falsified (Always ∷ atoms) clause e = cc
 falsified (Never ∷ atoms) clause e = falsified atoms clause e
 falsified (Of literal ∷ atoms) clause e =
     let begins : BeginsWith literal (clause_of atoms) clause = BeginsWith-from literal (clause_of atoms) clause e in
-    let grows : Grows (literals_of begins.rest) (literals_of (literal ∷ begins.rest)) = record { kept = λ x h. or_right (int_eq x literal) (literals_of begins.rest x) h } in
+    let grows : Grows (literals_of begins.rest) (literals_of (literal ∷ begins.rest)) =
+    record { kept = λ x h. or_right (int_eq x literal) (literals_of begins.rest x) h } in
     subst (λ c. list_all (is_false (literals_of c)) (Of literal ∷ atoms) ≡ true) begins.whole
     (and_from (literals_of (literal ∷ begins.rest) literal) _ (or_left (int_eq literal literal) _ (int_eq-same literal))
     (all_kept (literals_of begins.rest) (literals_of (literal ∷ begins.rest)) atoms grows (falsified atoms begins.rest begins.found)))
@@ -57,7 +62,8 @@ among_more : (atom : Atom) (atoms : List Atom) (clause : List ℤ) → are_among
 among_more atom atoms [] h = refl
 among_more atom atoms (x ∷ xs) h =
     let parts = and_parts (list_any (is_literal x) atoms) (are_among atoms xs) h in
-    and_from (is_literal x atom || list_any (is_literal x) atoms) (are_among (atom ∷ atoms) xs) (or_right (is_literal x atom) _ parts.0) (among_more atom atoms xs parts.1)
+    and_from (is_literal x atom || list_any (is_literal x) atoms) (are_among (atom ∷ atoms) xs) (or_right (is_literal x atom) _ parts.0)
+    (among_more atom atoms xs parts.1)
 
 -- the clause's literals are the atoms'
 pub are_among-clause_of : (atoms : List Atom) (clause : List ℤ) → clause_of atoms ≡ Some clause → are_among atoms clause ≡ true
@@ -68,7 +74,8 @@ are_among-clause_of (Of literal ∷ atoms) clause e =
     let begins : BeginsWith literal (clause_of atoms) clause = BeginsWith-from literal (clause_of atoms) clause e in
     subst (λ c. are_among (Of literal ∷ atoms) c ≡ true) begins.whole
     (and_from (int_eq literal literal || list_any (is_literal literal) atoms) (are_among (Of literal ∷ atoms) begins.rest)
-    (or_left (int_eq literal literal) _ (int_eq-same literal)) (among_more (Of literal) atoms begins.rest (are_among-clause_of atoms begins.rest begins.found)))
+    (or_left (int_eq literal literal) _ (int_eq-same literal)) (among_more (Of literal) atoms begins.rest
+    (are_among-clause_of atoms begins.rest begins.found)))
 
 -- no clause has more literals than there are atoms
 pub length-clause_of : (atoms : List Atom) (clause : List ℤ) → clause_of atoms ≡ Some clause → length clause ≤ length atoms
@@ -77,7 +84,8 @@ length-clause_of (Always ∷ atoms) clause e = cc
 length-clause_of (Never ∷ atoms) clause e = omega (arith, length-clause_of atoms clause e)
 length-clause_of (Of literal ∷ atoms) clause e =
     let begins : BeginsWith literal (clause_of atoms) clause = BeginsWith-from literal (clause_of atoms) clause e in
-    subst (λ (c : List ℤ). length c ≤ length (Of literal ∷ atoms)) begins.whole (omega (arith, length-clause_of atoms begins.rest begins.found))
+    subst (λ (c : List ℤ). length c ≤ length (Of literal ∷ atoms)) begins.whole
+    (omega (arith, length-clause_of atoms begins.rest begins.found))
 
 some_more : (literal : ℤ) (o : Option (List ℤ)) → is_some o ≡ true → is_some (option_map (λ literals. literal ∷ literals) o) ≡ true
 some_more literal None e = cc
@@ -89,7 +97,8 @@ given-clause_of [] e = refl
 given-clause_of (Always ∷ atoms) e = cc
 given-clause_of (Never ∷ atoms) e = given-clause_of atoms e
 given-clause_of (Of literal ∷ atoms) e =
-    some_more literal (clause_of atoms) (given-clause_of atoms (or_parts (list_any (is_literal (neg_ℤ literal)) atoms) (is_trivial atoms) e).1)
+    some_more literal (clause_of atoms) (given-clause_of atoms (or_parts (list_any (is_literal (neg_ℤ literal)) atoms)
+    (is_trivial atoms) e).1)
 
 -- the literal of a false atom is false
 false_literal : (n : FalseSet) (atom : Atom) (x : ℤ) → is_false n atom ≡ true → is_literal x atom ≡ true → n x ≡ true
@@ -98,7 +107,8 @@ false_literal n Never x f h = cc
 false_literal n (Of literal) x f h = ap n (int_eq-true x literal h) ∙ f
 
 -- of a clause over a, b and c, only c may be open where a and b are false
-only_last : (n : FalseSet) (a b c : Atom) (clause : List ℤ) → is_false n a ≡ true → is_false n b ≡ true → are_among (a ∷ b ∷ c ∷ []) clause ≡ true → are_false_but n (c ∷ []) clause ≡ true
+only_last : (n : FalseSet) (a b c : Atom) (clause : List ℤ) → is_false n a ≡ true → is_false n b ≡ true → are_among (a ∷ b ∷ c ∷ []) clause
+    ≡ true → are_false_but n (c ∷ []) clause ≡ true
 only_last n a b c [] fa fb h = refl
 only_last n a b c (x ∷ xs) fa fb h =
     let parts = and_parts (is_literal x a || (is_literal x b || (is_literal x c || false))) (are_among (a ∷ b ∷ c ∷ []) xs) h in
@@ -113,7 +123,8 @@ only_last n a b c (x ∷ xs) fa fb h =
     (only_last n a b c xs fa fb parts.1)
 
 -- of a clause over a and others, only a may be open where the others are false
-pub only_first : (n : FalseSet) (a : Atom) (atoms : List Atom) (clause : List ℤ) → list_all (is_false n) atoms ≡ true → are_among (a ∷ atoms) clause ≡ true → are_false_but n (a ∷ []) clause ≡ true
+pub only_first : (n : FalseSet) (a : Atom) (atoms : List Atom) (clause : List ℤ) → list_all (is_false n) atoms ≡ true
+    → are_among (a ∷ atoms) clause ≡ true → are_false_but n (a ∷ []) clause ≡ true
 only_first n a atoms [] all h = refl
 only_first n a atoms (x ∷ xs) all h =
     let parts = and_parts (is_literal x a || list_any (is_literal x) atoms) (are_among (a ∷ atoms) xs) h in
@@ -133,7 +144,8 @@ only_first n a atoms (x ∷ xs) all h =
           ]
 
 -- a defining clause that doesn't exist has a child that always holds
-child_always : (n : FalseSet) (a : Atom) (side : ℤ) (c : Atom) → is_false n a ≡ true → None ≡ clause_of (a ∷ Of side ∷ c ∷ []) → is_false n (neg_atom c) ≡ true
+child_always : (n : FalseSet) (a : Atom) (side : ℤ) (c : Atom) → is_false n a ≡ true → None ≡ clause_of (a ∷ Of side ∷ c ∷ [])
+    → is_false n (neg_atom c) ≡ true
 child_always n Always side c f e = cc
 child_always n Never side Always f e = refl
 child_always n Never side Never f e = cc
@@ -145,19 +157,23 @@ child_always n (Of k) side (Of l) f e = cc
 leaves_defined : (n : FalseSet) (a : Atom) (side : ℤ) (c : Atom) (part : Option Part) → is_false n a ≡ true → n side ≡ true
     → part_clause part ≡ clause_of (a ∷ Of side ∷ c ∷ []) → leaves_child n c part ≡ true
 leaves_defined n a side c None fa fs e = child_always n a side c fa e
-leaves_defined n a side c (Some part) fa fs e = only_last n a (Of side) c part.clause fa fs (are_among-clause_of (a ∷ Of side ∷ c ∷ []) part.clause (sym e))
+leaves_defined n a side c (Some part) fa fs e = only_last n a (Of side) c part.clause fa fs
+    (are_among-clause_of (a ∷ Of side ∷ c ∷ []) part.clause (sym e))
 
 -- the parts of a node's defining clauses leave its child
-pub up_leaves : (n : FalseSet) (side : ℤ) (node child : Atom) (part : Option Part) → n side ≡ true → is_false n node ≡ true → IsUpPart side node child part → IsChildPart n (neg_atom child) part
+pub up_leaves : (n : FalseSet) (side : ℤ) (node child : Atom) (part : Option Part) → n side ≡ true → is_false n node ≡ true
+    → IsUpPart side node child part → IsChildPart n (neg_atom child) part
 up_leaves n side node child part fs fn up = record {
   nonzero = is_nonzero_atom-neg_atom child up.nonzero;
   leaves = elim up.up [
     | inl defined ↦ leaves_defined n node side (neg_atom child) part fn fs defined
-    | inr below ↦ subst (λ p. leaves_child n (neg_atom child) p ≡ true) (sym below.0) (ap (is_false n) (neg_atom-neg_atom child ∙ below.1) ∙ fn)
+    | inr below ↦ subst (λ p. leaves_child n (neg_atom child) p ≡ true) (sym below.0) (ap (is_false n) (neg_atom-neg_atom child ∙ below.1)
+        ∙ fn)
   ];
 }
 
-pub down_leaves : (n : FalseSet) (side : ℤ) (node child : Atom) (part : Option Part) → n side ≡ true → is_false n (neg_atom node) ≡ true → IsDownPart side node child part → IsChildPart n child part
+pub down_leaves : (n : FalseSet) (side : ℤ) (node child : Atom) (part : Option Part) → n side ≡ true → is_false n (neg_atom node) ≡ true
+    → IsDownPart side node child part → IsChildPart n child part
 down_leaves n side node child part fs fn down = record {
   nonzero = down.nonzero;
   leaves = elim down.down [

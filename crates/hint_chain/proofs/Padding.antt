@@ -4,7 +4,8 @@ use Rattle.std.specs.Prelude.{replicate}
 use Rattle.std.proofs.lemmas.List.{drop-set-lt, drop-replicate, drop-drop}
 use Rattle.hint_chain.specs.Inline.{IsPadded}
 
-pub IsPadded-set : (places : ℕ) (array : List ℤ) (count : ℕ) (literal : ℤ) → count < places → IsPadded places array count → IsPadded places (set array count literal) (count + 1)
+pub IsPadded-set : (places : ℕ) (array : List ℤ) (count : ℕ) (literal : ℤ) → count < places → IsPadded places array count
+    → IsPadded places (set array count literal) (count + 1)
 IsPadded-set places array count literal room p =
     let rest : places - count - 1 ≡ places - (count + 1) = omega arith in
     record {

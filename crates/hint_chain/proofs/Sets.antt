@@ -1,5 +1,6 @@
 -- Sets of false literals: literals and their negations, clauses as sets, what stays false as a set grows.
-use Rattle.std.proofs.Common.{◌≡◌, ◌==◌, suc, zero, Bool, true, false, not, ◌&&◌, ℤ, pos, negsuc, neg_ℤ, List, [], ◌∷◌, nat_abs, int_eq, refl, sym, ap, ◌∙◌, inl, inr, eq-eqb}
+use Rattle.std.proofs.Common.{◌≡◌, ◌==◌, suc, zero, Bool, true, false, not, ◌&&◌, ℤ, pos, negsuc, neg_ℤ, List, [], ◌∷◌, nat_abs, int_eq}
+use Rattle.std.proofs.Common.{refl, sym, ap, ◌∙◌, inl, inr, eq-eqb}
 use Rattle.std.specs.List.{list_any}
 use Rattle.std.proofs.Math.IntN.{neg_ℤ-neg_ℤ}
 use Rattle.std.proofs.lemmas.Bool.{and_parts, or_cases, or_parts, or_from, or_left, or_right, both_ways, false_from_ne_true, not-true}
@@ -50,7 +51,8 @@ pub with_literal-other : (n : FalseSet) (literal x : ℤ) → (x ≡ literal →
 with_literal-other n literal x other h = or_from (int_eq x literal) (n x) (false_from_ne_true _ (λ e. other (int_eq-true x literal e))) h
 
 -- the negation of a literal that isn't false yet
-pub IsConsistent-with : (n : FalseSet) (literal : ℤ) → IsConsistent n → is_nonzero literal ≡ true → n literal ≡ false → IsConsistent (with_literal (neg_ℤ literal) n)
+pub IsConsistent-with : (n : FalseSet) (literal : ℤ) → IsConsistent n → is_nonzero literal ≡ true → n literal ≡ false
+    → IsConsistent (with_literal (neg_ℤ literal) n)
 IsConsistent-with n literal c nonzero open_ = record {
   apart = λ x h. elim (or_cases (int_eq x (neg_ℤ literal)) (n x) h) [
     | inl here ↦
@@ -71,7 +73,8 @@ pub absent : (xs : List ℤ) (x : ℤ) → has_variable x xs ≡ false → liter
 absent [] x h = refl
 absent (y ∷ ys) x h =
     or_from (int_eq x y) (literals_of ys x)
-    (false_from_ne_true _ (λ e. both_ways (nat_abs x == nat_abs y) (or_parts (nat_abs x == nat_abs y) _ h).0 (eq-eqb _ _ (ap nat_abs (int_eq-true x y e)))))
+    (false_from_ne_true _ (λ e. both_ways (nat_abs x == nat_abs y) (or_parts (nat_abs x == nat_abs y) _ h).0
+    (eq-eqb _ _ (ap nat_abs (int_eq-true x y e)))))
     (absent ys x (or_parts (nat_abs x == nat_abs y) _ h).1)
 
 pub has_variable-neg_ℤ : (x : ℤ) (xs : List ℤ) → has_variable (neg_ℤ x) xs ≡ has_variable x xs

@@ -9,11 +9,13 @@ use Rattle.hint_chain.specs.declared.part.Part.{Part}
 use Rattle.hint_chain.specs.Greedy.{after_part, greedy, AreLiveParts}
 
 -- the last hint is a conflict
-pub conflict_hint : (live : Live) (n : FalseSet) (id : ℕ) (clause : List ℤ) → clause_at live id ≡ Some clause → effect n clause ≡ Conflict → is_strict live n (id ∷ []) ≡ true
+pub conflict_hint : (live : Live) (n : FalseSet) (id : ℕ) (clause : List ℤ) → clause_at live id ≡ Some clause → effect n clause ≡ Conflict
+    → is_strict live n (id ∷ []) ≡ true
 conflict_hint live n id clause at effects = rw (at, effects) refl
 
 -- a hint forces a literal whose negation isn't false yet
-pub forced_hint : (live : Live) (n : FalseSet) (id : ℕ) (clause : List ℤ) (literal : ℤ) (hints : List ℕ) → clause_at live id ≡ Some clause → effect n clause ≡ Forced literal
+pub forced_hint : (live : Live) (n : FalseSet) (id : ℕ) (clause : List ℤ) (literal : ℤ) (hints : List ℕ) → clause_at live id ≡ Some clause
+    → effect n clause ≡ Forced literal
     → n (neg_ℤ literal) ≡ false → is_strict live (with_literal (neg_ℤ literal) n) hints ≡ true → is_strict live n (id ∷ hints) ≡ true
 forced_hint live n id clause literal hints at effects new rest = rw (at, effects, new) rest
 
@@ -27,22 +29,27 @@ HasTail-from : (id : ℕ) (o : Option (List ℕ)) (hints : List ℕ) → option_
 HasTail-from id None hints e = cc
 HasTail-from id (Some tail) hints e = let whole : id ∷ tail ≡ hints = cc in record { tail = tail; found = refl; whole = whole }
 
-pub greedy-strict : (live : Live) (n : FalseSet) (parts : List (Option Part)) (hints : List ℕ) → greedy n parts ≡ Some hints → AreLiveParts live parts → is_strict live n hints ≡ true
+pub greedy-strict : (live : Live) (n : FalseSet) (parts : List (Option Part)) (hints : List ℕ) → greedy n parts ≡ Some hints
+    → AreLiveParts live parts → is_strict live n hints ≡ true
 greedy-strict live n [] hints found are = cc
 greedy-strict live n (None ∷ parts) hints found are = greedy-strict live n parts hints found are.1
 greedy-strict live n (Some part ∷ parts) hints found are =
-    elim (effect n part.clause) as (λ e. effect n part.clause ≡ e → after_part n part.id (λ m. greedy m parts) e ≡ Some hints → is_strict live n hints ≡ true) [
+    elim (effect n part.clause) as (λ e. effect n part.clause ≡ e → after_part n part.id (λ m. greedy m parts) e ≡ Some hints
+    → is_strict live n hints ≡ true) [
       | Conflict ↦ λ effects ends.
           let same : part.id ∷ [] ≡ hints = cc in
           subst (λ hs. is_strict live n hs ≡ true) same (conflict_hint live n part.id part.clause are.0 effects)
       | Forced literal ↦ λ effects goes.
           elim (n (neg_ℤ literal)) as (λ b. n (neg_ℤ literal) ≡ b
-          → (if b then greedy n parts else option_map (λ ids. part.id ∷ ids) (greedy (with_literal (neg_ℤ literal) n) parts)) ≡ Some hints → is_strict live n hints ≡ true) [
+          → (if b then greedy n parts else option_map (λ ids. part.id ∷ ids) (greedy (with_literal (neg_ℤ literal) n) parts)) ≡ Some hints
+          → is_strict live n hints ≡ true) [
             | true ↦ λ known later. greedy-strict live n parts hints later are.1
             | false ↦ λ new later.
-                let split : HasTail part.id (greedy (with_literal (neg_ℤ literal) n) parts) hints = HasTail-from part.id (greedy (with_literal (neg_ℤ literal) n) parts) hints later in
+                let split : HasTail part.id (greedy (with_literal (neg_ℤ literal) n) parts) hints = HasTail-from part.id
+                (greedy (with_literal (neg_ℤ literal) n) parts) hints later in
                 subst (λ hs. is_strict live n hs ≡ true) split.whole
-                (forced_hint live n part.id part.clause literal split.tail are.0 effects new (greedy-strict live (with_literal (neg_ℤ literal) n) parts split.tail split.found are.1))
+                (forced_hint live n part.id part.clause literal split.tail are.0 effects new
+                (greedy-strict live (with_literal (neg_ℤ literal) n) parts split.tail split.found are.1))
           ] refl goes
       | NotUnit ↦ λ effects none. cc
     ] refl found

@@ -1,5 +1,6 @@
 -- The hints of a unit are a strict refutation: of a clause's top node, and of what follows from other units.
-use Rattle.std.proofs.Common.{◌≡◌, ◌==◌, ℕ, true, false, ℤ, neg_ℤ, List, [], ◌∷◌, map, Some, nat_abs, int_eq, refl, sym, ap, ◌∙◌, subst, inl, inr, ◌⊎◌, eq-eqb}
+use Rattle.std.proofs.Common.{◌≡◌, ◌==◌, ℕ, true, false, ℤ, neg_ℤ, List, [], ◌∷◌, map, Some, nat_abs, int_eq, refl, sym, ap, ◌∙◌, subst}
+use Rattle.std.proofs.Common.{inl, inr, ◌⊎◌, eq-eqb}
 use Rattle.std.specs.List.{list_any, list_all}
 use Rattle.std.proofs.Math.IntN.{neg_ℤ-neg_ℤ}
 use Rattle.std.proofs.lemmas.Bool.{and_parts, and_from, or_cases, or_parts, or_from, or_left, or_right, both_ways, false_from_ne_true}
@@ -14,7 +15,8 @@ use Rattle.hint_chain.specs.Atoms.{clause_of, is_false, is_literal}
 use Rattle.hint_chain.specs.Closing.{are_apart, are_among}
 use Rattle.hint_chain.specs.Additions.{conjunction, implication}
 use Rattle.hint_chain.specs.Units.{unit_list, FalsifiesLiteral, FalsifiesNext, IsLinked, path_literals, IsUnitPath}
-use Rattle.hint_chain.proofs.Sets.{int_eq-true, int_eq-same, nat_abs-neg_ℤ, Grows, Grows-with, with_literal-own, with_literal-other, has_variable, has_variable-neg_ℤ, absent, IsApart, IsApart-from}
+use Rattle.hint_chain.proofs.Sets.{int_eq-true, int_eq-same, nat_abs-neg_ℤ, Grows, Grows-with, with_literal-own, with_literal-other}
+use Rattle.hint_chain.proofs.Sets.{has_variable, has_variable-neg_ℤ, absent, IsApart, IsApart-from}
 use Rattle.hint_chain.proofs.StrictHints.{conflict_hint, forced_hint}
 use Rattle.hint_chain.proofs.ChildSteps.{false_among}
 use Rattle.hint_chain.proofs.AtomClauses.{all_kept, falsified}
@@ -65,7 +67,8 @@ all_covered n (x ∷ xs) covers =
     (all_covered n xs (λ y m. covers y (or_right (int_eq y x) (literals_of xs y) m)))
 
 -- the literal at the head becomes false, or the set grows
-covers_next : (n m : FalseSet) (clause literals : List ℤ) (x : ℤ) → Grows n m → m x ≡ true → Covers n clause (x ∷ literals) → Covers m clause literals
+covers_next : (n m : FalseSet) (clause literals : List ℤ) (x : ℤ) → Grows n m → m x ≡ true → Covers n clause (x ∷ literals)
+    → Covers m clause literals
 covers_next n m clause literals x grows here covers = λ y h. elim (covers y h) [
   | inl is ↦ inl (grows.kept y is)
   | inr among ↦ elim (or_cases (int_eq y x) (literals_of literals y) among) [
@@ -78,8 +81,10 @@ abbrev literals_on : List UnitPart → List ℤ
 literals_on path = map (λ part. part.lit) path
 
 -- the hint that makes a literal false
-literal_hint : (live : Live) (n : FalseSet) (part : UnitPart) (node : ℤ) (others : List ℤ) (hints : List ℕ) → (link : FalsifiesLiteral live part node)
-    → n node ≡ true → IsAbsent n (part.lit ∷ others) → is_strict live (with_literal part.lit n) hints ≡ true → is_strict live n (link.id ∷ hints) ≡ true
+literal_hint : (live : Live) (n : FalseSet) (part : UnitPart) (node : ℤ) (others : List ℤ) (hints : List ℕ)
+    → (link : FalsifiesLiteral live part node)
+    → n node ≡ true → IsAbsent n (part.lit ∷ others) → is_strict live (with_literal part.lit n) hints ≡ true
+    → is_strict live n (link.id ∷ hints) ≡ true
 literal_hint live n part node others hints link fn absent rest =
     let back : neg_ℤ (neg_ℤ part.lit) ≡ part.lit = neg_ℤ-neg_ℤ part.lit in
     forced_hint live n link.id (node ∷ neg_ℤ part.lit ∷ []) (neg_ℤ part.lit) hints link.stands
@@ -88,8 +93,10 @@ literal_hint live n part node others hints link fn absent rest =
     (subst (λ l. is_strict live (with_literal l n) hints ≡ true) (sym back) rest)
 
 -- the hint that makes the next node false
-next_hint : (live : Live) (n : FalseSet) (part : UnitPart) (node next : ℤ) (others : List ℤ) (hints : List ℕ) → (link : FalsifiesNext live part node next)
-    → n node ≡ true → n part.lit ≡ true → IsAbsent n (next ∷ others) → is_strict live (with_literal next n) hints ≡ true → is_strict live n (link.id ∷ hints) ≡ true
+next_hint : (live : Live) (n : FalseSet) (part : UnitPart) (node next : ℤ) (others : List ℤ) (hints : List ℕ)
+    → (link : FalsifiesNext live part node next)
+    → n node ≡ true → n part.lit ≡ true → IsAbsent n (next ∷ others) → is_strict live (with_literal next n) hints ≡ true
+    → is_strict live n (link.id ∷ hints) ≡ true
 next_hint live n part node next others hints link fn fl absent rest =
     let back : neg_ℤ (neg_ℤ next) ≡ next = neg_ℤ-neg_ℤ next in
     forced_hint live n link.id (node ∷ part.lit ∷ neg_ℤ next ∷ []) (neg_ℤ next) hints link.stands
@@ -98,9 +105,11 @@ next_hint live n part node next others hints link fn fl absent rest =
     (subst (λ l. is_strict live (with_literal l n) hints ≡ true) (sym back) rest)
 
 -- from a node that is false, with the rest of the path still open
-strict_path : (live : Live) (n : FalseSet) (part : UnitPart) (path : List UnitPart) (node : ℤ) (nodes clause : List ℤ) (input : ℕ) → IsLinked live (part ∷ path) (node ∷ nodes)
+strict_path : (live : Live) (n : FalseSet) (part : UnitPart) (path : List UnitPart) (node : ℤ) (nodes clause : List ℤ) (input : ℕ)
+    → IsLinked live (part ∷ path) (node ∷ nodes)
     → are_apart (part.lit ∷ path_literals path nodes) ≡ true → n node ≡ true → IsAbsent n (part.lit ∷ path_literals path nodes)
-    → Covers n clause (literals_on (part ∷ path)) → clause_at live input ≡ Some clause → is_strict live n (unit_list (part ∷ path) input) ≡ true
+    → Covers n clause (literals_on (part ∷ path)) → clause_at live input ≡ Some clause → is_strict live n (unit_list (part ∷ path) input)
+    ≡ true
 strict_path live n part [] node [] clause input linked apart fn absent covers stands =
     let link = linked.0 in
     let m = with_literal part.lit n in
@@ -124,11 +133,13 @@ strict_path live n part (after ∷ path) node (next ∷ nodes) clause input link
     let false_lit : k part.lit ≡ true = (Grows-with m next).kept part.lit (with_literal-own n part.lit) in
     rw (link.named, step.named)
     (literal_hint live n part node (next ∷ rest) (step.id ∷ unit_list (after ∷ path) input) link fn absent
-    (next_hint live m part node next rest (unit_list (after ∷ path) input) step ((Grows-with n part.lit).kept node fn) (with_literal-own n part.lit) absent_m
+    (next_hint live m part node next rest (unit_list (after ∷ path) input) step ((Grows-with n part.lit).kept node fn)
+    (with_literal-own n part.lit) absent_m
     (strict_path live k after path next nodes clause input linked.2 second.rest (with_literal-own m next) absent_k
     (covers_next n k clause (literals_on (after ∷ path)) part.lit grows false_lit covers) stands)))
 
-pub unit-refutes : (live : Live) (path : List UnitPart) (node : ℤ) (nodes clause : List ℤ) (input : ℕ) → IsUnitPath live path (node ∷ nodes) clause
+pub unit-refutes : (live : Live) (path : List UnitPart) (node : ℤ) (nodes clause : List ℤ) (input : ℕ)
+    → IsUnitPath live path (node ∷ nodes) clause
     → clause_at live input ≡ Some clause → is_strict live (literals_of (node ∷ [])) (unit_list path input) ≡ true
 unit-refutes live [] node nodes clause input is stands = absurd is.linked
 unit-refutes live (part ∷ path) node nodes clause input is stands =
@@ -138,35 +149,43 @@ unit-refutes live (part ∷ path) node nodes clause input is stands =
     (or_left (int_eq node node) false (int_eq-same node))
     (record {
       absent_ = λ x has. or_from (int_eq x node) false
-          (false_from_ne_true _ (λ same. both_ways (has_variable node rest) first.others (ap (λ z. has_variable z rest) (sym (int_eq-true x node same)) ∙ has))) refl;
+          (false_from_ne_true _ (λ same. both_ways (has_variable node rest) first.others
+          (ap (λ z. has_variable z rest) (sym (int_eq-true x node same)) ∙ has))) refl;
     })
     (λ x h. inr (sym (is.exact x) ∙ h)) stands
 
 -- each literal of a clause over false atoms is false
-all_among : (n : FalseSet) (atoms : List Atom) (clause : List ℤ) → list_all (is_false n) atoms ≡ true → are_among atoms clause ≡ true → list_all n clause ≡ true
+all_among : (n : FalseSet) (atoms : List Atom) (clause : List ℤ) → list_all (is_false n) atoms ≡ true → are_among atoms clause ≡ true
+    → list_all n clause ≡ true
 all_among n atoms [] all h = refl
 all_among n atoms (x ∷ xs) all h =
     let parts = and_parts (list_any (is_literal x) atoms) (are_among atoms xs) h in
     and_from (n x) (list_all n xs) (false_among n atoms x all parts.0) (all_among n atoms xs all parts.1)
 
 -- a unit whose literal isn't false, nor its negation
-unit_hint : (live : Live) (n : FalseSet) (x : ℤ) (id : ℕ) (hints : List ℕ) → clause_at live id ≡ Some (x ∷ []) → n x ≡ false → n (neg_ℤ x) ≡ false
+unit_hint : (live : Live) (n : FalseSet) (x : ℤ) (id : ℕ) (hints : List ℕ) → clause_at live id ≡ Some (x ∷ []) → n x ≡ false → n (neg_ℤ x)
+    ≡ false
     → is_strict live (with_literal (neg_ℤ x) n) hints ≡ true → is_strict live n (id ∷ hints) ≡ true
 unit_hint live n x id hints stands open_ new rest = forced_hint live n id (x ∷ []) x hints stands (forced_alone n x open_) new rest
 
-pub implication_unit-refutes : (live : Live) (u : ℤ) (w : Atom) (clause justified : List ℤ) (unit_u id : ℕ) → clause_of (w ∷ []) ≡ Some clause → are_apart (u ∷ clause) ≡ true
+pub implication_unit-refutes : (live : Live) (u : ℤ) (w : Atom) (clause justified : List ℤ) (unit_u id : ℕ) → clause_of (w ∷ [])
+    ≡ Some clause → are_apart (u ∷ clause) ≡ true
     → clause_at live unit_u ≡ Some (u ∷ []) → clause_at live id ≡ Some justified → are_among (implication (Of u) w) justified ≡ true
     → is_strict live (literals_of clause) (unit_u ∷ id ∷ []) ≡ true
 implication_unit-refutes live u w clause justified unit_u id is_clause apart stands_u stands among =
     let n = literals_of clause in
     let first : IsApart u clause = IsApart-from u clause apart in
     let m = with_literal (neg_ℤ u) n in
-    unit_hint live n u unit_u (id ∷ []) stands_u (absent clause u first.others) (absent clause (neg_ℤ u) (has_variable-neg_ℤ u clause ∙ first.others))
+    unit_hint live n u unit_u (id ∷ []) stands_u (absent clause u first.others)
+    (absent clause (neg_ℤ u) (has_variable-neg_ℤ u clause ∙ first.others))
     (conflict_hint live m id justified stands (conflict_all m justified (all_among m (implication (Of u) w) justified
-    (and_from _ _ (with_literal-own n (neg_ℤ u)) (all_kept n m (w ∷ []) (Grows-with n (neg_ℤ u)) (falsified (w ∷ []) clause is_clause))) among)))
+    (and_from _ _ (with_literal-own n (neg_ℤ u)) (all_kept n m (w ∷ []) (Grows-with n (neg_ℤ u)) (falsified (w ∷ []) clause is_clause)))
+    among)))
 
-pub conjunction_unit-refutes : (live : Live) (u v : ℤ) (w : Atom) (clause justified : List ℤ) (unit_u unit_v id : ℕ) → clause_of (w ∷ []) ≡ Some clause → are_apart (u ∷ v ∷ clause) ≡ true
-    → clause_at live unit_u ≡ Some (u ∷ []) → clause_at live unit_v ≡ Some (v ∷ []) → clause_at live id ≡ Some justified → are_among (conjunction (Of u) (Of v) w) justified ≡ true
+pub conjunction_unit-refutes : (live : Live) (u v : ℤ) (w : Atom) (clause justified : List ℤ) (unit_u unit_v id : ℕ) → clause_of (w ∷ [])
+    ≡ Some clause → are_apart (u ∷ v ∷ clause) ≡ true
+    → clause_at live unit_u ≡ Some (u ∷ []) → clause_at live unit_v ≡ Some (v ∷ []) → clause_at live id ≡ Some justified
+    → are_among (conjunction (Of u) (Of v) w) justified ≡ true
     → is_strict live (literals_of clause) (unit_u ∷ unit_v ∷ id ∷ []) ≡ true
 conjunction_unit-refutes live u v w clause justified unit_u unit_v id is_clause apart stands_u stands_v stands among =
     let n = literals_of clause in
@@ -178,10 +197,12 @@ conjunction_unit-refutes live u v w clause justified unit_u unit_v id is_clause 
     let grows : Grows n k = record { kept = λ x h. (Grows-with m (neg_ℤ v)).kept x ((Grows-with n (neg_ℤ u)).kept x h) } in
     let other : (x : ℤ) → nat_abs x ≡ nat_abs v → x ≡ neg_ℤ u → ⊥ = λ x same e. both_ways (nat_abs u == nat_abs v) differ.0
     (eq-eqb (nat_abs u) (nat_abs v) (sym (nat_abs-neg_ℤ u) ∙ sym (ap nat_abs e) ∙ same)) in
-    unit_hint live n u unit_u (unit_v ∷ id ∷ []) stands_u (absent clause u differ.1) (absent clause (neg_ℤ u) (has_variable-neg_ℤ u clause ∙ differ.1))
+    unit_hint live n u unit_u (unit_v ∷ id ∷ []) stands_u (absent clause u differ.1)
+    (absent clause (neg_ℤ u) (has_variable-neg_ℤ u clause ∙ differ.1))
     (unit_hint live m v unit_v (id ∷ []) stands_v
     (with_literal-other n (neg_ℤ u) v (other v refl) (absent clause v second.others))
-    (with_literal-other n (neg_ℤ u) (neg_ℤ v) (other (neg_ℤ v) (nat_abs-neg_ℤ v)) (absent clause (neg_ℤ v) (has_variable-neg_ℤ v clause ∙ second.others)))
+    (with_literal-other n (neg_ℤ u) (neg_ℤ v) (other (neg_ℤ v) (nat_abs-neg_ℤ v))
+    (absent clause (neg_ℤ v) (has_variable-neg_ℤ v clause ∙ second.others)))
     (conflict_hint live k id justified stands (conflict_all k justified (all_among k (conjunction (Of u) (Of v) w) justified
     (and_from _ _ ((Grows-with m (neg_ℤ v)).kept (neg_ℤ u) (with_literal-own n (neg_ℤ u)))
     (and_from _ _ (with_literal-own m (neg_ℤ v)) (all_kept n k (w ∷ []) grows (falsified (w ∷ []) clause is_clause)))) among))))

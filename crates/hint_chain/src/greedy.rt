@@ -8,7 +8,7 @@ use crate::hints::Hints;
 use crate::inline::InlineLiterals;
 use crate::part::Part;
 use cnf_base::Lit;
-use lrat_rules::{Effect, effect_on};
+use lrat_rules::{Effect, effect_on, is_among};
 use std::alloc::Global;
 
 /// The hints for the addition of a conjunction on the variable's high side. Its parts are the clause from w's high
@@ -68,7 +68,7 @@ pub fn greedy_hints(alloc: Global, clause: &[Lit], parts: &[Option<Part>]) -> Op
             }
             Effect::Unit(literal) => {
                 let negated = literal.negated();
-                if falses.as_slice().contains(&negated) {
+                if is_among(falses.as_slice(), negated) {
                     continue;
                 }
                 hints.push(part.id());

@@ -24,7 +24,10 @@ impl<const N: usize> Model for InlineLiterals<N> {
 
     ghost inverse = { λ literals. record { literals = padded N literals; count = length literals } };
 
-    ghost inverse_ok = { λ l h i. record { literals = padded-counted N l.literals l.count h i; count = length-counted N l.literals l.count h i } };
+    ghost inverse_ok = { λ l h i. record {
+      literals = padded-counted N l.literals l.count h i;
+      count = length-counted N l.literals l.count h i;
+    } };
 }
 
 impl<const N: usize> InlineLiterals<N> {

@@ -23,9 +23,11 @@ pub fn clause_law()
 
 /// The greedy choice among live parts is a strict refutation.
 pub fn greedy_law()
-    ensures strict { (live : Live) (n : FalseSet) (parts : List (Option Part)) (hints : List ℕ) → greedy n parts ≡ Some hints → AreLiveParts live parts
+    ensures strict { (live : Live) (n : FalseSet) (parts : List (Option Part)) (hints : List ℕ) → greedy n parts ≡ Some hints
+        → AreLiveParts live parts
         → IsTrue (is_strict live n hints) }
-    ensures refutes { (live : Live) (clause : List ℤ) (parts : List (Option Part)) (hints : List ℕ) → greedy (literals_of clause) parts ≡ Some hints
+    ensures refutes { (live : Live) (clause : List ℤ) (parts : List (Option Part)) (hints : List ℕ) → greedy (literals_of clause) parts
+        ≡ Some hints
         → AreLiveParts live parts → RefutesStrictly live clause hints }
 {}
 
@@ -45,7 +47,8 @@ pub fn closing_law()
 pub fn conjunction_law()
     ensures high { (x : ℤ) (u v w u1 v1 h : Atom) (clause : List ℤ) (up down_u down_v last : Option Part)
         → clause_of (where_true x (conjunction u v w)) ≡ Some clause → IsConsistent (literals_of clause)
-        → IsUpPart (neg_ℤ x) w h up → IsDownPart (neg_ℤ x) u u1 down_u → IsDownPart (neg_ℤ x) v v1 down_v → Justifies (conjunction u1 v1 h) last
+        → IsUpPart (neg_ℤ x) w h up → IsDownPart (neg_ℤ x) u u1 down_u → IsDownPart (neg_ℤ x) v v1 down_v
+        → Justifies (conjunction u1 v1 h) last
         → PartsClose (literals_of clause) (up ∷ down_u ∷ down_v ∷ last ∷ []) }
     ensures low { (x : ℤ) (u v w u0 v0 l : Atom) (clause : List ℤ) (high : Part) (up down_u down_v last : Option Part)
         → IsTrue (is_nonzero x) → clause_of (where_true x (conjunction u v w)) ≡ Some high.clause
@@ -69,7 +72,8 @@ pub fn implication_law()
 
 /// The unit of a clause's top node.
 pub fn unit_law()
-    ensures { (live : Live) (path : List UnitPart) (node : ℤ) (nodes clause : List ℤ) (input : ℕ) → IsUnitPath live path (node ∷ nodes) clause
+    ensures { (live : Live) (path : List UnitPart) (node : ℤ) (nodes clause : List ℤ) (input : ℕ)
+        → IsUnitPath live path (node ∷ nodes) clause
         → clause_at live input ≡ Some clause → RefutesStrictly live (node ∷ []) (unit_list path input) }
 {}
 

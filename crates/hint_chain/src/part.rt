@@ -24,6 +24,13 @@ impl Part {
         }
     }
 
+    /// The same of a clause that is kept inline already.
+    pub fn of(id: Id, clause: ShortClause) -> Part
+        ensures { result ≡ record { id = id; clause = clause } }
+    {
+        Part { id, clause }
+    }
+
     /// The clause's number.
     pub fn id(&self) -> Id
         ensures { result ≡ self.now.id }

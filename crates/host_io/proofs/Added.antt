@@ -22,7 +22,9 @@ files_unnamed : (memory : Memory) → IsUnnamed memory → (file : List ℕ) →
 files_unnamed memory unnamed file =
     uncreated (channel_of memory Made) file _ (unnamed Made) ∙ uncreated (channel_of memory ProofOut) file _ (unnamed ProofOut)
 
-pub adds_file : (streams : List Channel) (files : List (List ℕ × List ℕ)) (name bytes : List ℕ) → IsUnnamed (record { streams = streams; files = files }) → AddsFile (record { streams = streams; files = files }) (record { streams = streams; files = (name, bytes) ∷ files }) name bytes
+pub adds_file : (streams : List Channel) (files : List (List ℕ × List ℕ)) (name bytes : List ℕ)
+    → IsUnnamed (record { streams = streams; files = files }) → AddsFile (record { streams = streams; files = files })
+    (record { streams = streams; files = (name, bytes) ∷ files }) name bytes
 adds_file streams files name bytes unnamed =
     let old : Memory = record { streams = streams; files = files } in
     let new : Memory = record { streams = streams; files = (name, bytes) ∷ files } in
@@ -34,7 +36,9 @@ adds_file streams files name bytes unnamed =
     }
 
 -- the same, of a host that is seen as its parts
-pub adds_front : (memory : Memory) (streams : List Channel) (files new_files : List (List ℕ × List ℕ)) (own own_bytes name bytes : List ℕ) → record { streams = streams; files = files } ≡ memory → new_files ≡ (own, own_bytes) ∷ files → own ≡ name → own_bytes ≡ bytes → IsUnnamed memory → AddsFile memory (record { streams = streams; files = new_files }) name bytes
+pub adds_front : (memory : Memory) (streams : List Channel) (files new_files : List (List ℕ × List ℕ)) (own own_bytes name bytes : List ℕ)
+    → record { streams = streams; files = files } ≡ memory → new_files ≡ (own, own_bytes) ∷ files → own ≡ name → own_bytes ≡ bytes
+    → IsUnnamed memory → AddsFile memory (record { streams = streams; files = new_files }) name bytes
 adds_front memory streams files new_files own own_bytes name bytes seen front name_is bytes_is unnamed =
     let unnamed_parts : IsUnnamed (record { streams = streams; files = files }) = subst IsUnnamed (sym seen) unnamed in
     subst (λ m. AddsFile m (record { streams = streams; files = new_files }) name bytes) seen (

@@ -31,7 +31,8 @@ cut_short {tells = true} {old} {new} {piece} {result} {answer} w err failed held
       gained = take front.0 piece;
       rest = drop front.0 piece ++ more;
       balance = whole
-          ∙ ap (λ (l : List ℕ). l ++ more) (sym (take-append-drop front.0 piece)) ∙ append_assoc (take front.0 piece) (drop front.0 piece) more;
+          ∙ ap (λ (l : List ℕ). l ++ more) (sym (take-append-drop front.0 piece))
+          ∙ append_assoc (take front.0 piece) (drop front.0 piece) more;
       done = λ ok. absurd (not_both answer ok failed);
       written = λ _. front.1;
       flushed = w.flushed;
@@ -177,7 +178,8 @@ written_out {a = a} {c = c} {bytes = bytes} {last = last} x is w =
             length x.gained + front.0,
             front.1
                 ∙ ap (λ (l : List ℕ). l ++ take front.0 last) (x.written t) ∙ append_assoc a.written x.gained (take front.0 last)
-                ∙ ap (λ (l : List ℕ). a.written ++ l) (sym (ap (take (length x.gained + front.0)) parts ∙ take-append-add x.gained last front.0)),
+                ∙ ap (λ (l : List ℕ). a.written ++ l) (sym (ap (take (length x.gained + front.0)) parts
+                ∙ take-append-add x.gained last front.0)),
           );
       flushed = w.flushed ∙ x.flushed;
       taken = w.taken ∙ x.taken;

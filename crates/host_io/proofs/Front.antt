@@ -13,12 +13,15 @@ empty [] h = refl
 empty (x ∷ xs) h = cc
 
 -- A read of some bytes that are left and fit, none only where none are left, whose front is that of what was left.
-pub reads_front : (channel : Channel) (input : List ℕ) (position count capacity : ℕ) (front rest : List ℕ) → count ≤ length (drop position input) → count ≤ capacity
-    → (count ≡ 0 → 0 < capacity → length (drop position input) ≡ 0) → front ≡ take count (drop position input) → Reads true (at_position channel input position) (at_position channel input (position + count)) capacity (front ++ rest) (Ok count)
+pub reads_front : (channel : Channel) (input : List ℕ) (position count capacity : ℕ) (front rest : List ℕ) → count
+    ≤ length (drop position input) → count ≤ capacity
+    → (count ≡ 0 → 0 < capacity → length (drop position input) ≡ 0) → front ≡ take count (drop position input)
+    → Reads true (at_position channel input position) (at_position channel input (position + count)) capacity (front ++ rest) (Ok count)
 reads_front channel input position count capacity front rest left fits ends front_is =
     let long : length front ≡ count = ap length front_is ∙ length-take count (drop position input) ∙ omega arith in
     let part : take count (front ++ rest) ≡ front = take_at front rest count long in
-    let whole : take count (drop position input) ++ drop count (drop position input) ≡ drop position input = take-append-drop count (drop position input) in
+    let whole : take count (drop position input) ++ drop count (drop position input)
+    ≡ drop position input = take-append-drop count (drop position input) in
     record {
       count = fits;
       taken = λ _. rw (part, front_is) (take-add position count input);

@@ -1,5 +1,6 @@
 -- How far the reading into a buffer has come.
-use Rattle.std.proofs.Common.{◌≡◌, ℕ, ◌+◌, ◌-◌, ◌≤◌, Bool, List, [], ◌++◌, length, take, drop, IsTrue, Ok, arith, append_assoc, refl, sym, ◌∙◌, ap, length-append, length-drop}
+use Rattle.std.proofs.Common.{◌≡◌, ℕ, ◌+◌, ◌-◌, ◌≤◌, Bool, List, [], ◌++◌, length, take, drop, IsTrue, Ok, arith, append_assoc, refl, sym}
+use Rattle.std.proofs.Common.{◌∙◌, ap, length-append, length-drop}
 use Rattle.std.proofs.Math.Seq.{take-append-add}
 use Rattle.std.proofs.lemmas.List.{length-take-le, drop_all, append-nil}
 use borrow.Rule.Slice.PartMut.{put_mid}
@@ -16,7 +17,8 @@ pub record HasRead (tells : Bool) (old new : Channel) (buffer : List ℕ) (done 
   pub faults : new.faults ≡ old.faults
 
 -- one read more, into the rest of the buffer
-pub more_read : (tells : Bool) (old mid new : Channel) (buffer rest : List ℕ) (done capacity n : ℕ) → HasRead tells old mid buffer done → capacity ≡ length rest → Reads tells mid new capacity rest (Ok n) → HasRead tells old new (take done buffer ++ rest) (done + n)
+pub more_read : (tells : Bool) (old mid new : Channel) (buffer rest : List ℕ) (done capacity n : ℕ) → HasRead tells old mid buffer done
+    → capacity ≡ length rest → Reads tells mid new capacity rest (Ok n) → HasRead tells old new (take done buffer ++ rest) (done + n)
 more_read tells old mid new buffer rest done capacity n so_far long step =
     let front_long : length (take done buffer) ≡ done = length-take-le done buffer so_far.within in
     let parts : take (done + n) (take done buffer ++ rest) ≡ take done buffer ++ take n rest =

@@ -60,7 +60,9 @@ files_same own old new kept = λ i file. at file i
         ] refl
 
 -- A call that kept the rest and the name left what is beside the role.
-pub rest_kept : (lender : ℕ) (role : Role) (own own' : Option (List ℕ)) (old new : Role → Channel) (old_files new_files : Files) → Kept role own old new old_files new_files → (new role).name ≡ (old role).name → own' ≡ own → beside_role lender role own' new new_files ≡ beside_role lender role own old old_files
+pub rest_kept : (lender : ℕ) (role : Role) (own own' : Option (List ℕ)) (old new : Role → Channel) (old_files new_files : Files)
+    → Kept role own old new old_files new_files → (new role).name ≡ (old role).name → own' ≡ own
+    → beside_role lender role own' new new_files ≡ beside_role lender role own old old_files
 rest_kept lender role own own' old new old_files new_files kept name same =
     let others : others_of role new ≡ others_of role old = others_same role old new kept.others in
     let files : files_but own' new_files ≡ files_but own old_files =
@@ -71,10 +73,13 @@ rest_kept lender role own own' old new old_files new_files kept name same =
     }
 
 -- What is beside the role is the same, so the host kept the rest.
-pub kept_of_rest : (last lent : ℕ) (role end_role : Role) (own end_own : Option (List ℕ)) (old new : Role → Channel) (old_files new_files : Files) → beside_role last end_role end_own new new_files ≡ beside_role lent role own old old_files → Kept role own old new old_files new_files
+pub kept_of_rest : (last lent : ℕ) (role end_role : Role) (own end_own : Option (List ℕ)) (old new : Role
+    → Channel) (old_files new_files : Files) → beside_role last end_role end_own new new_files ≡ beside_role lent role own old old_files
+    → Kept role own old new old_files new_files
 kept_of_rest last lent role end_role own end_own old new old_files new_files same = record {
   others = λ other h. left_in (same_role other end_role) (same_role other role) (new other) (old other) (others_at other) h;
-  files = λ file h. left_in (is_named end_own file) (is_named own file) (new_files file) (old_files file) (files_at file) (unnamed own file h);
+  files = λ file h. left_in (is_named end_own file) (is_named own file) (new_files file) (old_files file) (files_at file)
+      (unnamed own file h);
 }
   where
     others_at : (other : Role) → others_of end_role new other ≡ others_of role old other
@@ -92,12 +97,19 @@ lender_in [] = 0
 lender_in (lender ∷ lenders) = lender
 
 -- The host that comes back from a view is the view's own at its end, and it kept the rest.
-kept_back : {H : Type 0} (channel : H → Role → Channel) (files : H → Files) (old new start end : H) (role start_role end_role : Role) (lender lent last : ℕ) (own start_own end_own : Option (List ℕ)) → lent ≡ lender → start ≡ old → start_role ≡ role → start_own ≡ own → beside_role last end_role end_own (channel end) (files end) ≡ beside_role lent start_role start_own (channel start) (files start) → (lender ≡ last → new ≡ end) → IsBack channel files role own old new (channel end end_role)
-kept_back channel files old new start end role start_role end_role lender lent last own start_own end_own lent_is start_is role_is own_is same tie =
+kept_back : {H : Type 0} (channel : H → Role → Channel) (files : H
+    → Files) (old new start end : H) (role start_role end_role : Role) (lender lent last : ℕ) (own start_own end_own : Option (List ℕ))
+    → lent ≡ lender → start ≡ old → start_role ≡ role → start_own ≡ own → beside_role last end_role end_own (channel end) (files end)
+    ≡ beside_role lent start_role start_own (channel start) (files start) → (lender ≡ last → new ≡ end)
+    → IsBack channel files role own old new (channel end end_role)
+kept_back channel files old new start end role start_role end_role lender lent last own start_own end_own lent_is start_is role_is own_is
+    same tie =
     let last_is : last ≡ lent = ap (λ b. lender_in b.lenders) same in
     let end_role_is : end_role ≡ start_role = ap (λ b. role_in start_role b.rest) same in
     let new_is : new ≡ end = tie (sym (last_is ∙ lent_is)) in
-    let kept : Kept start_role start_own (channel start) (channel end) (files start) (files end) = kept_of_rest last lent start_role end_role start_own end_own (channel start) (channel end) (files start) (files end) same in
+    let kept : Kept start_role start_own (channel start) (channel end) (files start)
+    (files end) = kept_of_rest last lent start_role end_role start_own end_own (channel start) (channel end) (files start)
+    (files end) same in
     record {
       same = cc;
       kept = subst (λ h. Kept role own (channel old) (channel h) (files old) (files h)) (sym new_is) (
@@ -111,6 +123,9 @@ kept_back channel files old new start end role start_role end_role lender lent l
 
 pub keeps_beside : {H : Type 0} (channel : H → Role → Channel) (files : H → Files) → KeepsBeside channel files
 keeps_beside channel files = record {
-  source = λ {old} {new} {start} {end} {role} {start_role} {end_role} {lender} {lent} {last} lent_is start_is role_is same tie. kept_back channel files old new start end role start_role end_role lender lent last None None None lent_is start_is role_is refl same tie;
-  sink = λ {old} {new} {start} {end} {role} {start_role} {end_role} {lender} {lent} {last} lent_is start_is role_is same tie. kept_back channel files old new start end role start_role end_role lender lent last _ _ _ lent_is start_is role_is (cc) same tie;
+  source = λ {old} {new} {start} {end} {role} {start_role} {end_role} {lender} {lent} {last} lent_is start_is role_is same tie.
+      kept_back channel files old new start end role start_role end_role lender lent last None None None lent_is start_is role_is refl same
+      tie;
+  sink = λ {old} {new} {start} {end} {role} {start_role} {end_role} {lender} {lent} {last} lent_is start_is role_is same tie.
+      kept_back channel files old new start end role start_role end_role lender lent last _ _ _ lent_is start_is role_is (cc) same tie;
 }

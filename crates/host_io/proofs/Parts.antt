@@ -4,7 +4,9 @@ use Rattle.std.proofs.lemmas.List.{take-append-le, length-take-le, take-take}
 use Rattle.host_io.specs.declared.source.Failed.{Failed}
 use Rattle.host_io.specs.Channel.{Channel, Reads, Writes}
 
-pub reads_front_part : (tells : Bool) (old new : Channel) (count capacity : ℕ) (front rest : List ℕ) (result : Result ℕ Failed) → length front ≡ count → count ≤ capacity → (0 < capacity → 0 < count) → Reads tells old new count front result → Reads tells old new capacity (front ++ rest) result
+pub reads_front_part : (tells : Bool) (old new : Channel) (count capacity : ℕ) (front rest : List ℕ) (result : Result ℕ Failed)
+    → length front ≡ count → count ≤ capacity → (0 < capacity → 0 < count) → Reads tells old new count front result
+    → Reads tells old new capacity (front ++ rest) result
 reads_front_part tells old new count capacity front rest (Ok n) long fits some reads =
     let within : n ≤ length front = omega (arith, reads.count) in
     let same : take n (front ++ rest) ≡ take n front = take-append-le n front rest within in
@@ -29,7 +31,8 @@ reads_front_part tells old new count capacity front rest (Err e) long fits some 
   faults = reads.faults;
 }
 
-pub writes_front_part : (tells : Bool) (old new : Channel) (count : ℕ) (piece : List ℕ) (result : Result ℕ Failed) → count ≤ length piece → (0 < length piece → 0 < count) → Writes tells old new (take count piece) result → Writes tells old new piece result
+pub writes_front_part : (tells : Bool) (old new : Channel) (count : ℕ) (piece : List ℕ) (result : Result ℕ Failed) → count ≤ length piece
+    → (0 < length piece → 0 < count) → Writes tells old new (take count piece) result → Writes tells old new piece result
 writes_front_part tells old new count piece (Ok n) fits some writes =
     let long : length (take count piece) ≡ count = length-take-le count piece fits in
     let within : n ≤ count = omega (arith, writes.count) in

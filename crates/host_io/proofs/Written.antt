@@ -1,5 +1,6 @@
 -- How far the writing of a piece has come.
-use Rattle.std.proofs.Common.{◌≡◌, ℕ, ◌+◌, ◌-◌, ◌≤◌, Bool, List, ◌++◌, length, take, drop, IsTrue, Result, Ok, arith, append_assoc, refl, sym, ◌∙◌, ap, subst, length-drop}
+use Rattle.std.proofs.Common.{◌≡◌, ℕ, ◌+◌, ◌-◌, ◌≤◌, Bool, List, ◌++◌, length, take, drop, IsTrue, Result, Ok, arith, append_assoc, refl}
+use Rattle.std.proofs.Common.{sym, ◌∙◌, ap, subst, length-drop}
 use Rattle.std.proofs.Math.Seq.{take-add, take-length}
 use Rattle.host_io.specs.declared.source.Failed.{Failed}
 use Rattle.host_io.specs.Channel.{Channel, Writes, WritesAll, Flushes, Puts}
@@ -15,7 +16,8 @@ pub record HasWritten (tells : Bool) (old new : Channel) (piece : List ℕ) (don
   pub faults : new.faults ≡ old.faults
 
 -- one write more
-pub more_written : (tells : Bool) (old mid new : Channel) (piece rest : List ℕ) (done n : ℕ) → rest ≡ drop done piece → HasWritten tells old mid piece done → Writes tells mid new rest (Ok n) → HasWritten tells old new piece (done + n)
+pub more_written : (tells : Bool) (old mid new : Channel) (piece rest : List ℕ) (done n : ℕ) → rest ≡ drop done piece
+    → HasWritten tells old mid piece done → Writes tells mid new rest (Ok n) → HasWritten tells old new piece (done + n)
 more_written tells old mid new piece rest done n e so_far step =
     let short : length rest ≡ length piece - done = ap length e ∙ length-drop done piece in
     let parts : take (done + n) piece ≡ take done piece ++ take n (drop done piece) = take-add done n piece in
@@ -23,7 +25,8 @@ more_written tells old mid new piece rest done n e so_far step =
     let count : n ≤ length rest = step.count in
     record {
       within = omega arith;
-      written = λ t. step.written t ∙ rw (so_far.written t, e, parts) (append_assoc old.written (take done piece) (take n (drop done piece)));
+      written = λ t. step.written t ∙ rw (so_far.written t, e, parts)
+          (append_assoc old.written (take done piece) (take n (drop done piece)));
       flushed = step.flushed ∙ so_far.flushed;
       taken = step.taken ∙ so_far.taken;
       left = step.left ∙ so_far.left;
@@ -32,7 +35,8 @@ more_written tells old mid new piece rest done n e so_far step =
     }
 
 -- a whole piece, and then a flush
-pub puts_whole : {T U : Type 0} (tells : Bool) (old mid new : Channel) (piece : List ℕ) (u : T) (result : Result U Failed) → WritesAll tells old mid piece (Ok u) → Flushes tells mid new result → Puts tells old new piece result
+pub puts_whole : {T U : Type 0} (tells : Bool) (old mid new : Channel) (piece : List ℕ) (u : T) (result : Result U Failed)
+    → WritesAll tells old mid piece (Ok u) → Flushes tells mid new result → Puts tells old new piece result
 puts_whole tells old mid new piece u result writes flushes = record {
   done = λ t _. flushes.written ∙ writes.done t refl;
   flushed = λ t ok. flushes.done t ok;

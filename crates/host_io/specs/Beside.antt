@@ -50,12 +50,18 @@ abbrev pub beside_lent : ℕ → Beside → Beside
 beside_lent lender inner = record { lenders = lender ∷ inner.lenders; rest = inner.rest }
 
 -- A host is back from a view of one role: this role is as the view saw it last, and the host kept the rest.
-pub record IsBack {H : Type 0} (channel : H → Role → Channel) (files : H → Files) (role : Role) (own : Option (List ℕ)) (old new : H) (seen : Channel) : Type 0 where
+pub record IsBack {H : Type 0} (channel : H → Role → Channel) (files : H
+    → Files) (role : Role) (own : Option (List ℕ)) (old new : H) (seen : Channel) : Type 0 where
   pub same : channel new role ≡ seen
   pub kept : Kept role own (channel old) (channel new) (files old) (files new)
 
 -- Where a host `old` was lent for a role by the reference `lender`, the view began with the reference `lent`, the
 -- host `start` and `start_role`, ended with `last`, `end` and `end_role`, and has the same beside, it is back.
 pub record KeepsBeside {H : Type 0} (channel : H → Role → Channel) (files : H → Files) : Type 0 where
-  pub source : {old new start end : H} {role start_role end_role : Role} {lender lent last : ℕ} → lent ≡ lender → start ≡ old → start_role ≡ role → beside_role last end_role None (channel end) (files end) ≡ beside_role lent start_role None (channel start) (files start) → (lender ≡ last → new ≡ end) → IsBack channel files role None old new (channel end end_role)
-  pub sink : {old new start end : H} {role start_role end_role : Role} {lender lent last : ℕ} → lent ≡ lender → start ≡ old → start_role ≡ role → beside_role last end_role (channel end end_role).name (channel end) (files end) ≡ beside_role lent start_role (channel start start_role).name (channel start) (files start) → (lender ≡ last → new ≡ end) → IsBack channel files role (channel old role).name old new (channel end end_role)
+  pub source : {old new start end : H} {role start_role end_role : Role} {lender lent last : ℕ} → lent ≡ lender → start ≡ old → start_role
+      ≡ role → beside_role last end_role None (channel end) (files end) ≡ beside_role lent start_role None (channel start) (files start)
+      → (lender ≡ last → new ≡ end) → IsBack channel files role None old new (channel end end_role)
+  pub sink : {old new start end : H} {role start_role end_role : Role} {lender lent last : ℕ} → lent ≡ lender → start ≡ old → start_role
+      ≡ role → beside_role last end_role (channel end end_role).name (channel end) (files end)
+      ≡ beside_role lent start_role (channel start start_role).name (channel start) (files start) → (lender ≡ last → new ≡ end)
+      → IsBack channel files role (channel old role).name old new (channel end end_role)

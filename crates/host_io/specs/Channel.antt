@@ -1,7 +1,8 @@
 -- What the outside tells of one role: a stream that is read, or one that is written.
 -- `read`, `write` and `flush` are described here once, for a source, a sink and a role of a host alike. (They are those
 -- of Rust's `std::io::Read` and `Write`.)
-use Rattle.std.specs.Prelude.{◌≡◌, ℕ, ◌+◌, ◌-◌, ◌^◌, ◌<◌, ◌≤◌, min, Bool, List, [], ◌++◌, length, take, drop, Option, Result, Ok, Err, IsTrue, IsOk, IsErr, IfOk}
+use Rattle.std.specs.Prelude.{◌≡◌, ℕ, ◌+◌, ◌-◌, ◌^◌, ◌<◌, ◌≤◌, min, Bool, List, [], ◌++◌, length, take, drop, Option, Result, Ok, Err}
+use Rattle.std.specs.Prelude.{IsTrue, IsOk, IsErr, IfOk}
 use Rattle.host_io.specs.declared.source.Failed.{Failed}
 
 -- The meanings of a role. The name is that of the file that it was opened or created under, none at first.

@@ -37,4 +37,5 @@ pub record GoesByPlan {T : Type 0} (old new : Failing) (role : Role) (result : R
   pub others : (other : Role) → IsFalse (same_role other role) → calls_of new other ≡ calls_of old other
   pub plan : new.fails ≡ old.fails
   pub piece : new.piece ≡ old.piece
-  pub failed : IsTrue (is_listed role (next_call old role) old.fails) → IsErr result × (channel_of new role ≡ memory.faulted (channel_of old role)) × ((name : List ℕ) → files_of new name ≡ files_of old name)
+  pub failed : IsTrue (is_listed role (next_call old role) old.fails) → IsErr result
+      × (channel_of new role ≡ memory.faulted (channel_of old role)) × ((name : List ℕ) → files_of new name ≡ files_of old name)

@@ -1,6 +1,7 @@
 -- What a host over the real system tells: what the device of each role reaches, how many bytes passed there, and counts
 -- of faults, and no byte.
-use Rattle.std.specs.Prelude.{◌≡◌, ℕ, ◌+◌, ◌-◌, ◌^◌, min, List, [], length, Option, None, Some, Result, IsFalse, IsOk, IsErr, IfOk, OnOk, OnErr, IfSome, slice_index_or}
+use Rattle.std.specs.Prelude.{◌≡◌, ℕ, ◌+◌, ◌-◌, ◌^◌, min, List, [], length, Option, None, Some, Result, IsFalse, IsOk, IsErr, IfOk, OnOk}
+use Rattle.std.specs.Prelude.{OnErr, IfSome, slice_index_or}
 use Rattle.host_io.specs.declared.source.Failed.{Failed}
 use Rattle.host_io.specs.declared.role.Role.{Role}
 use Rattle.host_io.specs.declared.role.Role.TheVariants.{Out, Err}

@@ -13,4 +13,11 @@ pub record Slice : Type 0 where
   pub reads : ℕ
 
 abbrev pub channel_of : Slice → Channel
-channel_of slice = record { name = None; faults = slice.faults; taken = take slice.position slice.bytes; left = drop slice.position slice.bytes; written = []; flushed = 0 }
+channel_of slice = record {
+  name = None;
+  faults = slice.faults;
+  taken = take slice.position slice.bytes;
+  left = drop slice.position slice.bytes;
+  written = [];
+  flushed = 0;
+}

@@ -15,7 +15,8 @@ use crate::whole::{fill, write_all};
 pub fn put<H: Host>(host: &mut H, role: Role, bytes: &[u8]) -> Result<(), Failed>
     requires { IsWritable role (H.channel host.old role).name }
     ensures puts { Puts H.tells (H.channel host.old role) (H.channel host.new role) bytes.now result }
-    ensures kept { Kept role (H.channel host.old role).name (H.channel host.old) (H.channel host.new) (H.files host.old) (H.files host.new) }
+    ensures kept { Kept role (H.channel host.old role).name (H.channel host.old) (H.channel host.new) (H.files host.old)
+        (H.files host.new) }
 {
     beside_kept::<H>();
     let mut sink = HostSink::new(host, role);

@@ -125,7 +125,8 @@ impl Host for FailingHost {
         requires created { IsCreated role }
         requires unnamed { (channel_of self.old role).name ≡ None }
         ensures opens { Opens (channel_of self.old role) (channel_of self.new role) name.now result }
-        ensures kept { Kept role (channel_of self.new role).name (channel_of self.old) (channel_of self.new) (files_of self.old) (files_of self.new) }
+        ensures kept { Kept role (channel_of self.new role).name (channel_of self.old) (channel_of self.new) (files_of self.old)
+            (files_of self.new) }
         ensures plan { GoesByPlan self.old self.new role result }
     {
         self.unnamed_law();
@@ -150,7 +151,8 @@ impl Host for FailingHost {
     fn write(&mut self, role: Role, bytes: &[u8]) -> Result<usize, Failed>
         requires { IsWritable role (channel_of self.old role).name }
         ensures writes { Writes true (channel_of self.old role) (channel_of self.new role) bytes.now result }
-        ensures kept { Kept role (channel_of self.old role).name (channel_of self.old) (channel_of self.new) (files_of self.old) (files_of self.new) }
+        ensures kept { Kept role (channel_of self.old role).name (channel_of self.old) (channel_of self.new) (files_of self.old)
+            (files_of self.new) }
         ensures plan { GoesByPlan self.old self.new role result }
         ensures piece { IfOk result (λ n. n ≤ self.old.piece) }
     {
@@ -162,7 +164,8 @@ impl Host for FailingHost {
     fn flush(&mut self, role: Role) -> Result<(), Failed>
         requires { IsWritable role (channel_of self.old role).name }
         ensures flushes { Flushes true (channel_of self.old role) (channel_of self.new role) result }
-        ensures kept { Kept role (channel_of self.old role).name (channel_of self.old) (channel_of self.new) (files_of self.old) (files_of self.new) }
+        ensures kept { Kept role (channel_of self.old role).name (channel_of self.old) (channel_of self.new) (files_of self.old)
+            (files_of self.new) }
         ensures plan { GoesByPlan self.old self.new role result }
         ensures planned { IsErr result → IsTrue (is_listed role (next_call self.old role) self.old.fails) }
     {

@@ -10,12 +10,12 @@ use itoa::{Buffer, Integer};
 
 /// What is held back of a text, at most 512 bytes. It begins empty; at the end of the text its bytes are still to be
 /// written.
-pub type Held = ArrayVec<u8, 512>;
+pub type HeldBytes = ArrayVec<u8, 512>;
 
 /// Puts bytes behind those that are held back; where they don't fit, writes what is held back first. Where a write
 /// fails, a front of what was held back and of the bytes was written, and what is held back then is of no use. Takes no
 /// memory and flushes nothing.
-pub fn emit<S: Sink>(sink: &mut S, held: &mut Held, piece: &[u8]) -> Result<(), Failed>
+pub fn emit<S: Sink>(sink: &mut S, held: &mut HeldBytes, piece: &[u8]) -> Result<(), Failed>
     ensures emits { Emits S.tells (S.channel sink.old) (S.channel sink.new) held.old.items held.new.items piece.now result }
     ensures beside { S.beside sink.new ≡ S.beside sink.old }
 {
@@ -30,7 +30,7 @@ pub fn emit<S: Sink>(sink: &mut S, held: &mut Held, piece: &[u8]) -> Result<(), 
 }
 
 // The same where nothing is held back; bytes that don't fit the whole buffer are written at once.
-fn emit_first<S: Sink>(sink: &mut S, held: &mut Held, piece: &[u8]) -> Result<(), Failed>
+fn emit_first<S: Sink>(sink: &mut S, held: &mut HeldBytes, piece: &[u8]) -> Result<(), Failed>
     requires { held.old.items ≡ [] }
     ensures emits { Emits S.tells (S.channel sink.old) (S.channel sink.new) held.old.items held.new.items piece.now result }
     ensures beside { S.beside sink.new ≡ S.beside sink.old }
@@ -45,11 +45,12 @@ fn emit_first<S: Sink>(sink: &mut S, held: &mut Held, piece: &[u8]) -> Result<()
 /// for both pieces in turn.
 pub fn emit_number<S: Sink, I: Integer>(
     sink: &mut S,
-    held: &mut Held,
+    held: &mut HeldBytes,
     lead: &[u8],
     number: I,
 ) -> Result<(), Failed>
-    ensures emits { Emits S.tells (S.channel sink.old) (S.channel sink.new) held.old.items held.new.items (lead.now ++ I.text number) result }
+    ensures emits { Emits S.tells (S.channel sink.old) (S.channel sink.new) held.old.items held.new.items (lead.now
+        ++ I.text number) result }
     ensures beside { S.beside sink.new ≡ S.beside sink.old }
 {
     emit(sink, held, lead)?;

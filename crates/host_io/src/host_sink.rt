@@ -31,7 +31,8 @@ impl<H: Host> Sink for HostSink<'_, H> {
 
     ghost channel = { λ s. H.channel s.host.now s.role };
 
-    ghost beside = { λ s. beside_role s.host.ghost_name s.role (H.channel s.host.now s.role).name (H.channel s.host.now) (H.files s.host.now) };
+    ghost beside = { λ s. beside_role s.host.ghost_name s.role (H.channel s.host.now s.role).name (H.channel s.host.now)
+        (H.files s.host.now) };
 
     fn write(&mut self, bytes: &[u8]) -> Result<usize, Failed> {
         self.host.write(self.role, bytes)

@@ -28,7 +28,7 @@ mod whole;
 
 pub use client::{load, put};
 pub use failing_host::FailingHost;
-pub use held::{Held, emit, emit_number};
+pub use held::{HeldBytes, emit, emit_number};
 pub use host::Host;
 pub use host_sink::HostSink;
 pub use host_source::HostSource;

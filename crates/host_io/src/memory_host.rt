@@ -114,7 +114,8 @@ impl MemoryHost {
 
         // a created file is what its role wrote
         ensures made { (channel_of self.now Made).name ≡ Some name.now → option_copied result ≡ Some (channel_of self.now Made).written }
-        ensures proof_out { (channel_of self.now ProofOut).name ≡ Some name.now → (channel_of self.now Made).name ≢ Some name.now → option_copied result ≡ Some (channel_of self.now ProofOut).written }
+        ensures proof_out { (channel_of self.now ProofOut).name ≡ Some name.now → (channel_of self.now Made).name ≢ Some name.now
+            → option_copied result ≡ Some (channel_of self.now ProofOut).written }
     {
         let made = &self.streams[place(Role::Made)];
         if made.is_named(name) {
@@ -209,7 +210,8 @@ impl Host for MemoryHost {
     fn flush(&mut self, role: Role) -> Result<(), Failed>
         requires { IsWritable role (channel_of self.old role).name }
         ensures flushes { Flushes true (channel_of self.old role) (channel_of self.new role) result }
-        ensures kept { Kept role (channel_of self.old role).name (channel_of self.old) (channel_of self.new) (files_of self.old) (files_of self.new) }
+        ensures kept { Kept role (channel_of self.old role).name (channel_of self.old) (channel_of self.new) (files_of self.old)
+            (files_of self.new) }
         ensures succeeds { IsOk result }
     {
         self.streams[place(role)].flush();

@@ -4,7 +4,8 @@ ghost use Rattle.std.specs.Prelude.{◌≡◌, ◌≢◌, false, None, length, I
 ghost use Rattle.host_io.specs.declared.role.Role.{Role};
 ghost use Rattle.host_io.specs.Channel.{Reads, Writes, Flushes, Counts};
 ghost use Rattle.host_io.specs.Files.{IsInput, IsCreated, IsNamedFirst, IsWritable, IsIdle, Kept, Opens};
-ghost use Rattle.host_io.specs.Real.{unmet, counted_of, quiet_channel, quiet_files, device_of, no_traffic, Opened, Created, MayReach, OthersCounted, Connects, Moves, FlushesDevice, name_of, took, wrote, traffic_of};
+ghost use Rattle.host_io.specs.Real.{unmet, counted_of, quiet_channel, quiet_files, device_of, no_traffic, Opened, Created, MayReach};
+ghost use Rattle.host_io.specs.Real.{OthersCounted, Connects, Moves, FlushesDevice, name_of, took, wrote, traffic_of};
 ghost use Rattle.host_io.specs.Port.{target_of};
 
 use crate::host::Host;
@@ -97,7 +98,8 @@ impl Host for RealHost {
 
     #[inline(always)]
     fn unnamed_law(&self)
-        ensures idle { (role : Role) → IsNamedFirst role → (quiet_channel self.now role).name ≡ None → IsIdle (quiet_channel self.now role) }
+        ensures idle { (role : Role) → IsNamedFirst role → (quiet_channel self.now role).name ≡ None
+            → IsIdle (quiet_channel self.now role) }
         ensures no_traffic { (role : Role) → (device_of self.now role).target ≡ None → traffic_of self.now role ≡ no_traffic }
     {
         let _ = &self.roles;
@@ -123,7 +125,8 @@ impl Host for RealHost {
         requires created { IsCreated role }
         requires unnamed { (quiet_channel self.old role).name ≡ None }
         ensures opens { Opens (quiet_channel self.old role) (quiet_channel self.new role) name.now result }
-        ensures kept { Kept role (quiet_channel self.new role).name (quiet_channel self.old) (quiet_channel self.new) (quiet_files self.old) (quiet_files self.new) }
+        ensures kept { Kept role (quiet_channel self.new role).name (quiet_channel self.old) (quiet_channel self.new) (quiet_files self.old)
+            (quiet_files self.new) }
         ensures connects { Connects role (Created name.now) self.old self.new result }
     {
         match self.system.create(name) {
@@ -148,7 +151,8 @@ impl Host for RealHost {
     fn write(&mut self, role: Role, bytes: &[u8]) -> Result<usize, Failed>
         requires { IsWritable role (quiet_channel self.old role).name }
         ensures writes { Writes false (quiet_channel self.old role) (quiet_channel self.new role) bytes.now result }
-        ensures kept { Kept role (quiet_channel self.old role).name (quiet_channel self.old) (quiet_channel self.new) (quiet_files self.old) (quiet_files self.new) }
+        ensures kept { Kept role (quiet_channel self.old role).name (quiet_channel self.old) (quiet_channel self.new) (quiet_files self.old)
+            (quiet_files self.new) }
         ensures moves { Moves role wrote self.old self.new result }
     {
         self.begin(role)?;
@@ -158,7 +162,8 @@ impl Host for RealHost {
     fn flush(&mut self, role: Role) -> Result<(), Failed>
         requires { IsWritable role (quiet_channel self.old role).name }
         ensures flushes { Flushes false (quiet_channel self.old role) (quiet_channel self.new role) result }
-        ensures kept { Kept role (quiet_channel self.old role).name (quiet_channel self.old) (quiet_channel self.new) (quiet_files self.old) (quiet_files self.new) }
+        ensures kept { Kept role (quiet_channel self.old role).name (quiet_channel self.old) (quiet_channel self.new) (quiet_files self.old)
+            (quiet_files self.new) }
         ensures flushes_device { FlushesDevice role self.old self.new result }
     {
         self.roles[place(role)].flush()

@@ -24,7 +24,14 @@ impl<'a> Model for SliceSource<'a> {
 
     ghost Value = { Slice };
 
-    ghost view = { λ s. record { bytes = s.bytes.now; position = s.position; piece = s.piece; fails_at = s.fails_at; faults = s.faults; reads = s.reads } };
+    ghost view = { λ s. record {
+      bytes = s.bytes.now;
+      position = s.position;
+      piece = s.piece;
+      fails_at = s.fails_at;
+      faults = s.faults;
+      reads = s.reads;
+    } };
 
     ghost invariant = { λ s. (s.position ≤ length s.bytes.now) × (0 < s.piece) };
 }

@@ -26,7 +26,14 @@ impl Model for Stream {
 
     ghost Value = { Channel };
 
-    ghost view = { λ s. record { name = option_map (λ name. name.items) s.name; faults = s.faults; taken = take s.position s.input.items; left = drop s.position s.input.items; written = s.output.items; flushed = s.flushed } };
+    ghost view = { λ s. record {
+      name = option_map (λ name. name.items) s.name;
+      faults = s.faults;
+      taken = take s.position s.input.items;
+      left = drop s.position s.input.items;
+      written = s.output.items;
+      flushed = s.flushed;
+    } };
 
     ghost invariant = { λ s. s.position ≤ vec_len s.input };
 }

@@ -40,7 +40,8 @@ pub none_no_answer : (just : Just) → ◌≡◌ {A = Answer} (Ok None) (Ok (Som
 none_no_answer just is = cc
 
 -- an error of the step is that of the call
-pub limit_came : (error : TableError) → ◌≡◌ {A = Answer} (Err error) (Err NodeLimit) → ◌≡◌ {A = Result Just TableError} (Err error) (Err NodeLimit)
+pub limit_came : (error : TableError) → ◌≡◌ {A = Answer} (Err error) (Err NodeLimit)
+    → ◌≡◌ {A = Result Just TableError} (Err error) (Err NodeLimit)
 limit_came error is = let same : error ≡ NodeLimit = cc in ap Err same
 
 pub none_failed : (error : TableError) → Some error ≡ None → ⊥
@@ -61,7 +62,8 @@ IsNoYes result = (just : Just) → result ≡ Ok (Some just) → ⊥
 
 module _ {S : Type 0} {tells : Bool} {channel : S → Channel} {lent : S → Beside} where
   -- a call that is refused for want of memory before anything changed
-  pub refused : StepByStep tells channel → Accounting S → Pricing S ℕ → (table : TableState S) (cache : ImplyCache) → IsSound table → Fits table (entries cache) → (u v : Node)
+  pub refused : StepByStep tells channel → Accounting S → Pricing S ℕ → (table : TableState S) (cache : ImplyCache) → IsSound table
+      → Fits table (entries cache) → (u v : Node)
       → Implies tells channel lent table cache u v table cache (Err OutOfMemory)
   refused law accounts pricing table cache sound fits u v = record {
     decided = tt;
@@ -77,16 +79,21 @@ module _ {S : Type 0} {tells : Bool} {channel : S → Channel} {lent : S → Bes
   }
 
   -- a call that is split
-  module _ (law : StepByStep tells channel) (splits : Splitting) (cofactors : Cofactors) (fitting : Fitting S) (accounts : Accounting S) (caches : Keeping Pair ℕ same_pair) (pricing : Pricing S ℕ) (budget : Budget tells channel)
-      (old : TableState S) (before : ImplyCache) (sound : IsSound old) (o : Operands) (split : AreSplit old.graph o) (unknown : IsUnknown before o.u o.v) where
-    decided_high : (one : TableState S) (cache_one : ImplyCache) (result : Answer) → Implies tells channel lent old before o.u_high o.v_high one cache_one result → IsNoYes result
+  module _ (law : StepByStep tells channel) (splits : Splitting) (cofactors : Cofactors) (fitting : Fitting S) (accounts : Accounting S)
+      (caches : Keeping Pair ℕ same_pair) (pricing : Pricing S ℕ) (budget : Budget tells channel)
+      (old : TableState S) (before : ImplyCache) (sound : IsSound old) (o : Operands) (split : AreSplit old.graph o)
+      (unknown : IsUnknown before o.u o.v) where
+    decided_high : (one : TableState S) (cache_one : ImplyCache) (result : Answer)
+        → Implies tells channel lent old before o.u_high o.v_high one cache_one result → IsNoYes result
         → IfOk result (λ answer. IsDecided one.graph one.book.state.live o.u o.v answer)
     decided_high one cache_one (Err came) by_high never = tt
     decided_high one cache_one (Ok None) by_high never =
-        refuted_high cofactors one.graph by_high.steps.leaves.sound.tied.reduced splits o (splits.kept old.graph one.graph by_high.steps.extends.nodes o split) by_high.decided
+        refuted_high cofactors one.graph by_high.steps.leaves.sound.tied.reduced splits o
+        (splits.kept old.graph one.graph by_high.steps.extends.nodes o split) by_high.decided
     decided_high one cache_one (Ok (Some just)) by_high never = absurd (never just refl)
 
-    pub high_only : (one : TableState S) (cache_one : ImplyCache) (result : Answer) → Implies tells channel lent old before o.u_high o.v_high one cache_one result → IsNoYes result
+    pub high_only : (one : TableState S) (cache_one : ImplyCache) (result : Answer)
+        → Implies tells channel lent old before o.u_high o.v_high one cache_one result → IsNoYes result
         → Implies tells channel lent old before o.u o.v one cache_one result
     high_only one cache_one result by_high never = record {
       decided = decided_high one cache_one result by_high never;
@@ -101,7 +108,8 @@ module _ {S : Type 0} {tells : Bool} {channel : S → Channel} {lent : S → Bes
       beside = by_high.beside;
     }
 
-    module _ (one : TableState S) (cache_one : ImplyCache) (high : Just) (by_high : Implies tells channel lent old before o.u_high o.v_high one cache_one (Ok (Some high))) where
+    module _ (one : TableState S) (cache_one : ImplyCache) (high : Just)
+        (by_high : Implies tells channel lent old before o.u_high o.v_high one cache_one (Ok (Some high))) where
       sound_one : IsSound one
       sound_one = by_high.steps.leaves.sound
 
@@ -109,21 +117,26 @@ module _ {S : Type 0} {tells : Bool} {channel : S → Channel} {lent : S → Bes
       split_high = splits.kept old.graph one.graph by_high.steps.extends.nodes o split
 
       -- what the low side adds to the high one, however it ends
-      module _ (two : TableState S) (cache_two : ImplyCache) (by : Answer) (by_low : Implies tells channel lent one cache_one o.u_low o.v_low two cache_two by) where
+      module _ (two : TableState S) (cache_two : ImplyCache) (by : Answer)
+          (by_low : Implies tells channel lent one cache_one o.u_low o.v_low two cache_two by) where
         accounts_both : AccountsFor old two (entries before) (entries cache_two) (error_of by)
-        accounts_both = accounts.further old one two (entries before) (entries cache_one) (entries cache_two) (error_of by) by_high.steps.extends by_low.steps.extends by_high.accounts by_low.accounts
+        accounts_both = accounts.further old one two (entries before) (entries cache_one) (entries cache_two)
+            (error_of by) by_high.steps.extends by_low.steps.extends by_high.accounts by_low.accounts
 
         remembers_both : Remembers entry_of before.results cache_two.results
         remembers_both = caches.further entry_of before.results cache_one.results cache_two.results by_high.remembers by_low.remembers
 
-      decided_low : (two : TableState S) (cache_two : ImplyCache) (result : Answer) → Implies tells channel lent one cache_one o.u_low o.v_low two cache_two result → IsNoYes result
+      decided_low : (two : TableState S) (cache_two : ImplyCache) (result : Answer)
+          → Implies tells channel lent one cache_one o.u_low o.v_low two cache_two result → IsNoYes result
           → IfOk result (λ answer. IsDecided two.graph two.book.state.live o.u o.v answer)
       decided_low two cache_two (Err came) by_low never = tt
       decided_low two cache_two (Ok None) by_low never =
-          refuted_low cofactors two.graph by_low.steps.leaves.sound.tied.reduced splits o (splits.kept one.graph two.graph by_low.steps.extends.nodes o split_high) by_low.decided
+          refuted_low cofactors two.graph by_low.steps.leaves.sound.tied.reduced splits o
+          (splits.kept one.graph two.graph by_low.steps.extends.nodes o split_high) by_low.decided
       decided_low two cache_two (Ok (Some just)) by_low never = absurd (never just refl)
 
-      pub low_last : (two : TableState S) (cache_two : ImplyCache) (result : Answer) → Implies tells channel lent one cache_one o.u_low o.v_low two cache_two result → IsNoYes result
+      pub low_last : (two : TableState S) (cache_two : ImplyCache) (result : Answer)
+          → Implies tells channel lent one cache_one o.u_low o.v_low two cache_two result → IsNoYes result
           → Implies tells channel lent old before o.u o.v two cache_two result
       low_last two cache_two result by_low never = record {
         decided = decided_low two cache_two result by_low never;
@@ -134,12 +147,14 @@ module _ {S : Type 0} {tells : Bool} {channel : S → Channel} {lent : S → Bes
         unretired = λ id is. absurd (never (Clause id) is);
         kept = λ differ first second just is. absurd (never just is);
         remembers = remembers_both two cache_two result by_low;
-        price = pricing.low_last old one two before.results cache_one.results cache_two.results o (error_of result) sound.tied.reduced sound_one.tied.reduced by_high.steps.extends.nodes split
+        price = pricing.low_last old one two before.results cache_one.results cache_two.results o
+            (error_of result) sound.tied.reduced sound_one.tied.reduced by_high.steps.extends.nodes split
             by_high.remembers.capacity by_high.price by_low.price;
         beside = by_low.beside ∙ by_high.beside;
       }
 
-      module _ (two : TableState S) (cache_two : ImplyCache) (low : Option Just) (by_low : Implies tells channel lent one cache_one o.u_low o.v_low two cache_two (Ok low)) where
+      module _ (two : TableState S) (cache_two : ImplyCache) (low : Option Just)
+          (by_low : Implies tells channel lent one cache_one o.u_low o.v_low two cache_two (Ok low)) where
         pub split_low : AreSplit two.graph o
         split_low = splits.kept one.graph two.graph by_low.steps.extends.nodes o split_high
 
@@ -148,22 +163,28 @@ module _ {S : Type 0} {tells : Bool} {channel : S → Channel} {lent : S → Bes
         high_still =
             let first = splits.u_high one.graph sound_one.tied.reduced o split_high in
             let second = splits.v_high one.graph sound_one.tied.reduced o split_high in
-            (fitting.one one two (Implication o.u_high o.v_high high) sound_one by_low.steps.extends (record { first = first.stands; second = second.stands }, by_high.decided)).1
+            (fitting.one one two (Implication o.u_high o.v_high high) sound_one by_low.steps.extends
+            (record { first = first.stands; second = second.stands }, by_high.decided)).1
 
-        pub closed : (three : TableState S) (cache_three : ImplyCache) (result : Answer) → IsClosed tells channel lent two cache_two o three cache_three result
+        pub closed : (three : TableState S) (cache_three : ImplyCache) (result : Answer)
+            → IsClosed tells channel lent two cache_two o three cache_three result
             → Implies tells channel lent old before o.u o.v three cache_three result
         closed three cache_three result closes = record {
           decided = closes.decided;
           steps = budget.both old one two three o (error_of result) sound split by_high.steps by_low.steps closes.steps;
           nodes = closes.nodes ∙ (by_low.nodes ∙ by_high.nodes);
           no_node_limit = closes.no_node_limit;
-          accounts = accounts.further old two three (entries before) (entries cache_two) (entries cache_three) (error_of result) (law.extend old one two by_high.steps.extends by_low.steps.extends) closes.steps.extends
+          accounts = accounts.further old two three (entries before) (entries cache_two) (entries cache_three) (error_of result)
+              (law.extend old one two by_high.steps.extends by_low.steps.extends) closes.steps.extends
               (accounts_both two cache_two (Ok low) by_low) closes.accounts;
           unretired = closes.unretired;
           kept = λ differ first second. closes.kept;
-          remembers = caches.makes_room entry_of before.results cache_two.results cache_three.results (o.u, o.v) (λ number. unknown.none (just_numbered number))
+          remembers = caches.makes_room entry_of before.results cache_two.results cache_three.results (o.u, o.v)
+              (λ number. unknown.none (just_numbered number))
               (remembers_both two cache_two (Ok low) by_low) closes.room;
-          price = pricing.closed old one two three before.results cache_one.results cache_two.results cache_three.results o (error_of result) sound.tied.reduced sound_one.tied.reduced by_high.steps.extends.nodes split
-              unknown.first unknown.second unknown.unused by_high.remembers.capacity by_low.remembers.capacity by_high.price by_low.price closes.steps.adds closes.used;
+          price = pricing.closed old one two three before.results cache_one.results cache_two.results cache_three.results o
+              (error_of result) sound.tied.reduced sound_one.tied.reduced by_high.steps.extends.nodes split
+              unknown.first unknown.second unknown.unused by_high.remembers.capacity by_low.remembers.capacity by_high.price by_low.price
+              closes.steps.adds closes.used;
           beside = closes.beside ∙ (by_low.beside ∙ by_high.beside);
         }

@@ -1,5 +1,6 @@
 -- The two additions of an implication: their clauses are of different variables, and each literal is a node's.
-use Rattle.std.proofs.Common.{◌≡◌, ◌≢◌, ◌∙◌, ◌<◌, ◌||◌, ◌&&◌, ℕ, zero, suc, ℤ, pos, neg_ℤ, nat_abs, int_eq, Bool, true, false, not, List, [], ◌∷◌, Some, refl, sym, ap, subst, arith, inl, inr, ne_eqb}
+use Rattle.std.proofs.Common.{◌≡◌, ◌≢◌, ◌∙◌, ◌<◌, ◌||◌, ◌&&◌, ℕ, zero, suc, ℤ, pos, neg_ℤ, nat_abs, int_eq, Bool, true, false, not, List}
+use Rattle.std.proofs.Common.{[], ◌∷◌, Some, refl, sym, ap, subst, arith, inl, inr, ne_eqb}
 use Rattle.std.specs.Prelude.{◌==◌}
 use Rattle.std.specs.Option.{option_map}
 use Rattle.std.proofs.Math.IntN.{neg_ℤ-neg_ℤ}
@@ -40,17 +41,21 @@ pair_apart : (x y : ℕ) → 0 < x → 0 < y → x ≢ y → are_apart (neg_ℤ 
 pair_apart x y first second differ =
     let other : (nat_abs (neg_ℤ (pos x)) == y) ≡ false = ne_eqb (nat_abs (neg_ℤ (pos x))) y (λ same. differ (sym (abs_neg x) ∙ same)) in
     let none : not ((nat_abs (neg_ℤ (pos x)) == y) || false) ≡ true = ap (λ b. not (b || false)) other in
-    let last : are_apart (pos y ∷ []) ≡ true = and_from (is_nonzero (pos y) && true) true (and_from (is_nonzero (pos y)) true (nonzero (pos y) second) refl) refl in
+    let last : are_apart (pos y ∷ []) ≡ true = and_from (is_nonzero (pos y)
+    && true) true (and_from (is_nonzero (pos y)) true (nonzero (pos y) second) refl) refl in
     and_from (is_nonzero (neg_ℤ (pos x)) && not ((nat_abs (neg_ℤ (pos x)) == y) || false)) (are_apart (pos y ∷ []))
-    (and_from (is_nonzero (neg_ℤ (pos x))) (not ((nat_abs (neg_ℤ (pos x)) == y) || false)) (nonzero (neg_ℤ (pos x)) (omega (arith, abs_neg x, first))) none) last
+    (and_from (is_nonzero (neg_ℤ (pos x))) (not ((nat_abs (neg_ℤ (pos x)) == y) || false))
+    (nonzero (neg_ℤ (pos x)) (omega (arith, abs_neg x, first))) none) last
 
 pair_open : (x y : ℕ) → x ≢ y → is_trivial (Of (neg_ℤ (pos x)) ∷ Of (pos y) ∷ []) ≡ false
 pair_open x y differ =
     let other : int_eq (neg_ℤ (neg_ℤ (pos x))) (pos y) ≡ false =
-    false_unless (int_eq (neg_ℤ (neg_ℤ (pos x))) (pos y)) (λ same. differ (ap nat_abs (sym (neg_ℤ-neg_ℤ (pos x)) ∙ same_int (neg_ℤ (neg_ℤ (pos x))) (pos y) same))) in
+    false_unless (int_eq (neg_ℤ (neg_ℤ (pos x))) (pos y)) (λ same. differ
+    (ap nat_abs (sym (neg_ℤ-neg_ℤ (pos x)) ∙ same_int (neg_ℤ (neg_ℤ (pos x))) (pos y) same))) in
     λ i. (other i || false) || false
 
-module _ (literals : Literals) (splits : Splitting) (graph : Graph) (reduced : IsReduced graph) (o : Operands) (split : AreSplit graph o) where
+module _ (literals : Literals) (splits : Splitting) (graph : Graph) (reduced : IsReduced graph) (o : Operands)
+    (split : AreSplit graph o) where
   pub both : AreLiterals graph o.u o.v
   both = literals.differ graph reduced o.u o.v split.first split.second split.differ
 
@@ -68,25 +73,29 @@ module _ (literals : Literals) (splits : Splitting) (graph : Graph) (reduced : I
     literals_are = let same : Some (neg_ℤ (pos both.first) ∷ pos both.second ∷ []) ≡ Some clause = sym clause_there ∙ is in cc
 
     pub low_apart : are_apart clause ≡ true
-    low_apart = subst (λ (c : List ℤ). are_apart c ≡ true) literals_are (pair_apart both.first both.second both.first_above both.second_above both.differ)
+    low_apart = subst (λ (c : List ℤ). are_apart c ≡ true) literals_are
+        (pair_apart both.first both.second both.first_above both.second_above both.differ)
 
     pub owned : AreOwned graph clause
-    owned = subst (λ (c : List ℤ). AreOwned graph c) literals_are (λ y there. elim (or_cases (int_eq y (neg_ℤ (pos both.first))) (int_eq y (pos both.second) || false) there) [
-      | inl is ↦ literals.negated graph o.u y (ap (λ (t : Atom). is_literal y (neg_atom t)) both.first_is ∙ is)
-      | inr more ↦ elim (or_cases (int_eq y (pos both.second)) false more) [
-        | inl is ↦ literals.own graph o.v y (ap (λ (t : Atom). is_literal y t) both.second_is ∙ is)
-        | inr never ↦ cc
-      ]
-    ])
+    owned = subst (λ (c : List ℤ). AreOwned graph c) literals_are
+        (λ y there. elim (or_cases (int_eq y (neg_ℤ (pos both.first))) (int_eq y (pos both.second) || false) there) [
+          | inl is ↦ literals.negated graph o.u y (ap (λ (t : Atom). is_literal y (neg_atom t)) both.first_is ∙ is)
+          | inr more ↦ elim (or_cases (int_eq y (pos both.second)) false more) [
+            | inl is ↦ literals.own graph o.v y (ap (λ (t : Atom). is_literal y t) both.second_is ∙ is)
+            | inr never ↦ cc
+          ]
+        ])
 
     pub low_over : IsOverNodes graph clause
     low_over y there above = owned y there
 
-    pub high_clause : clause_of (where_true (pos (variable_at graph o.level)) (implication_atoms graph o.u o.v)) ≡ Some (neg_ℤ (pos (variable_at graph o.level)) ∷ clause)
+    pub high_clause : clause_of (where_true (pos (variable_at graph o.level)) (implication_atoms graph o.u o.v))
+        ≡ Some (neg_ℤ (pos (variable_at graph o.level)) ∷ clause)
     high_clause = ap (λ c. option_map (λ literals. neg_ℤ (pos (variable_at graph o.level)) ∷ literals) c) is
 
     module _ (ordered : IsOrder graph.order) where
-      high_both : (are_apart (neg_ℤ (pos (variable_at graph o.level)) ∷ clause) ≡ true) × IsOverNodes graph (neg_ℤ (pos (variable_at graph o.level)) ∷ clause)
+      high_both : (are_apart (neg_ℤ (pos (variable_at graph o.level)) ∷ clause) ≡ true)
+          × IsOverNodes graph (neg_ℤ (pos (variable_at graph o.level)) ∷ clause)
       high_both = literals.behind graph reduced ordered o.level (splits.level graph reduced o split) clause owned low_apart
 
       pub high_apart : are_apart (neg_ℤ (pos (variable_at graph o.level)) ∷ clause) ≡ true

@@ -1,6 +1,7 @@
 -- A whole call of an implication, however it ends: as one relation, from which the calls around it go on. Beside it the last
 -- step of a call that was split, and the operation of both.
-use Rattle.std.specs.Prelude.{◌≡◌, ◌≢◌, ◌<◌, ◌∷◌, ℕ, Bool, List, Option, None, Some, Result, Ok, Err, Contains, IfOk, IsFalse, IsTrue, length, min}
+use Rattle.std.specs.Prelude.{◌≡◌, ◌≢◌, ◌<◌, ◌∷◌, ℕ, Bool, List, Option, None, Some, Result, Ok, Err, Contains, IfOk, IsFalse, IsTrue}
+use Rattle.std.specs.Prelude.{length, min}
 use Rattle.host_io.specs.Channel.{Channel}
 use Rattle.host_io.specs.Beside.{Beside}
 use Rattle.node_table.specs.declared.error.TableError.{TableError}
@@ -27,21 +28,25 @@ use Rattle.imply.specs.Implication.{IsDecided, IsPlain}
 
 -- The call for u and v began with this table and this cache, and ended with those and this result: what it found, kept and
 -- retired, and how many clauses it added.
-pub record Implies {S : Type 0} (tells : Bool) (channel : S → Channel) (lent : S → Beside) (old : TableState S) (before : ImplyCache) (u v : Node) (new : TableState S) (after : ImplyCache)
+pub record Implies {S : Type 0} (tells : Bool) (channel : S → Channel) (lent : S
+    → Beside) (old : TableState S) (before : ImplyCache) (u v : Node) (new : TableState S) (after : ImplyCache)
     (result : Result (Option Just) TableError) : Type 0 where
   pub decided : IfOk result (λ answer. IsDecided new.graph new.book.state.live u v answer)
-  pub steps : Steps tells (channel old.book.sink) (channel new.book.sink) old new (most_additions (levels_from old.graph u v)) (error_of result)
+  pub steps : Steps tells (channel old.book.sink) (channel new.book.sink) old new (most_additions (levels_from old.graph u v))
+      (error_of result)
   pub nodes : new.graph ≡ old.graph
   pub no_node_limit : result ≢ Err NodeLimit
   pub accounts : AccountsFor old new (entries before) (entries after) (error_of result)
   pub unretired : (id : ℕ) → result ≡ Ok (Some (Clause id)) → Contains new.retired id → ⊥
-  pub kept : u ≢ v → IsNoConstant u → IsNoConstant v → (just : Just) → result ≡ Ok (Some just) → Contains (entries after) (Implication u v just)
+  pub kept : u ≢ v → IsNoConstant u → IsNoConstant v → (just : Just) → result ≡ Ok (Some just)
+      → Contains (entries after) (Implication u v just)
   pub remembers : Remembers entry_of before.results after.results
   pub price : Prices old before.results u v new after.results (error_of result)
   pub beside : lent new.book.sink ≡ lent old.book.sink
 
 -- The step from the justifications of both sides to that of the operands, which is kept.
-pub record IsClosed {S : Type 0} (tells : Bool) (channel : S → Channel) (lent : S → Beside) (old : TableState S) (before : ImplyCache) (o : Operands) (new : TableState S) (after : ImplyCache)
+pub record IsClosed {S : Type 0} (tells : Bool) (channel : S → Channel) (lent : S
+    → Beside) (old : TableState S) (before : ImplyCache) (o : Operands) (new : TableState S) (after : ImplyCache)
     (result : Result (Option Just) TableError) : Type 0 where
   pub decided : IfOk result (λ answer. IsDecided new.graph new.book.state.live o.u o.v answer)
   pub steps : Steps tells (channel old.book.sink) (channel new.book.sink) old new 2 (error_of result)
@@ -51,11 +56,13 @@ pub record IsClosed {S : Type 0} (tells : Bool) (channel : S → Channel) (lent 
   pub unretired : (id : ℕ) → result ≡ Ok (Some (Clause id)) → Contains new.retired id → ⊥
   pub kept : (just : Just) → result ≡ Ok (Some just) → Contains (entries after) (Implication o.u o.v just)
   pub room : MakesRoom entry_of before.results after.results (o.u, o.v)
-  pub used : (used : List Pair) → StandInFront before used → IsFalse (is_one used (o.u, o.v)) → length used < most_entries before → error_of result ≡ None → StandInFront after ((o.u, o.v) ∷ used)
+  pub used : (used : List Pair) → StandInFront before used → IsFalse (is_one used (o.u, o.v)) → length used < most_entries before
+      → error_of result ≡ None → StandInFront after ((o.u, o.v) ∷ used)
   pub beside : lent new.book.sink ≡ lent old.book.sink
 
 -- Where the low side doesn't hold, neither does the whole, and nothing changes.
-abbrev pub Closes : {S : Type 0} → Bool → (S → Channel) → (S → Beside) → TableState S → ImplyCache → Operands → Option Just → TableState S → ImplyCache → Result (Option Just) TableError → Type 0
+abbrev pub Closes : {S : Type 0} → Bool → (S → Channel) → (S → Beside) → TableState S → ImplyCache → Operands → Option Just → TableState S
+    → ImplyCache → Result (Option Just) TableError → Type 0
 Closes tells channel lent old before o None new after result = (result ≡ Ok None) × (new ≡ old) × (after ≡ before)
 Closes tells channel lent old before o (Some low) new after result = IsClosed tells channel lent old before o new after result
 
@@ -85,10 +92,12 @@ pub record CanClose {S : Type 0} (table : TableState S) (cache : ImplyCache) (o 
   pub on_low : IsDecided table.graph table.book.state.live o.u_low o.v_low low
 
 -- A call, and what a plain pair and one that is kept are answered.
-pub record Answers {S : Type 0} (tells : Bool) (channel : S → Channel) (lent : S → Beside) (old : TableState S) (before : ImplyCache) (u v : Node) (new : TableState S) (after : ImplyCache)
+pub record Answers {S : Type 0} (tells : Bool) (channel : S → Channel) (lent : S
+    → Beside) (old : TableState S) (before : ImplyCache) (u v : Node) (new : TableState S) (after : ImplyCache)
     (result : Result (Option Just) TableError) : Type 0 where
   pub call : Implies tells channel lent old before u v new after result
-  pub known : (just : Just) → Contains (entries before) (Implication u v just) → (result ≡ Ok (Some just)) × (new ≡ old) × HaveSame (entries before) (entries after)
+  pub known : (just : Just) → Contains (entries before) (Implication u v just) → (result ≡ Ok (Some just)) × (new ≡ old)
+      × HaveSame (entries before) (entries after)
   pub plain : (answer : Option Just) → IsPlain u v answer → (result ≡ Ok answer) × (new ≡ old) × (after ≡ before)
 
 -- the low side is asked only where the high one holds

@@ -40,7 +40,8 @@ pub fn justify<S: Sink + Drop>(
     requires sound { IsSound table.old }
     requires split { AreSplit table.old.graph operands.now }
     requires sides { AreSides table.old.graph table.old.book.state.live operands.now high.now low.now }
-    ensures justified { IfOk result (λ just. IsJustified table.new.book.state.live (implication_atoms table.new.graph operands.now.u operands.now.v) just) }
+    ensures justified { IfOk result (λ just. IsJustified table.new.book.state.live
+        (implication_atoms table.new.graph operands.now.u operands.now.v) just) }
     ensures nodes { table.new.graph ≡ table.old.graph }
     ensures steps { Steps S.tells (S.channel table.old.book.sink) (S.channel table.new.book.sink) table.old table.new 2 (error_of result) }
     ensures retires { RetiresNew table.old table.new }
@@ -95,7 +96,8 @@ fn add_high<S: Sink + Drop>(
     requires split { AreSplit table.old.graph operands.now }
     requires side { IsSide table.old.graph table.old.book.state.live operands.now High high.now }
     requires clause { clause_of (implication_atoms table.old.graph operands.now.u operands.now.v) ≡ Some clause.now }
-    ensures clause { IfOk result (λ part. (part.clause ≡ neg_ℤ (pos (variable_at table.old.graph operands.now.level)) ∷ clause.now) × (clause_at table.new.book.state.live part.id ≡ Some part.clause)) }
+    ensures clause { IfOk result (λ part. (part.clause ≡ neg_ℤ (pos (variable_at table.old.graph operands.now.level)) ∷ clause.now)
+        × (clause_at table.new.book.state.live part.id ≡ Some part.clause)) }
     ensures added { IfOk result (λ part. IsAdded S.tells S.channel table.old table.new part.id) }
     ensures nodes { table.new.graph ≡ table.old.graph }
     ensures steps { Steps S.tells (S.channel table.old.book.sink) (S.channel table.new.book.sink) table.old table.new 1 (error_of result) }

@@ -1,6 +1,7 @@
 // The computed cache: implications that were found to hold, by their operands, with the number of the clause that justifies
 // each; 0 where none is needed. (Brace, Rudell, Bryant: Efficient Implementation of a BDD Package, DAC 1990.)
-ghost use Rattle.std.specs.Prelude.{◌≡◌, ◌≤◌, ◌<◌, ◌&&◌, ℕ, [], List, None, Some, Contains, IsFalse, IfOk, IfSome, MatchOption, OnErr, length};
+ghost use Rattle.std.specs.Prelude.{◌≡◌, ◌≤◌, ◌<◌, ◌&&◌, ℕ, [], List, None, Some, Contains, IsFalse, IfOk, IfSome, MatchOption, OnErr};
+ghost use Rattle.std.specs.Prelude.{length};
 ghost use Rattle.node_table.specs.Marks.{is_marked};
 ghost use Rattle.node_table.specs.Progress.{Steps};
 ghost use Rattle.node_table.specs.Table.{IsSound};
@@ -55,7 +56,8 @@ impl ImplyCache {
         ensures exact { (just : JustValue) → Contains (entries self.old) (Implication u v just) → result ≡ Some just }
         ensures looked { IsLooked self.old self.new }
         ensures missed { result ≡ None → self.new ≡ self.old }
-        ensures used { (pairs : List Pair) → StandInFront self.old pairs → MatchOption result (IsFalse (is_one pairs (u, v))) (λ just. StandInFront self.new (with_used pairs (u, v))) }
+        ensures used { (pairs : List Pair) → StandInFront self.old pairs
+            → MatchOption result (IsFalse (is_one pairs (u, v))) (λ just. StandInFront self.new (with_used pairs (u, v))) }
     {
         cache_law::<(Node, Node), u64>();
         let _ = self.results.len();
@@ -107,8 +109,10 @@ impl ImplyCache {
     fn turn<S: Sink + Drop>(&mut self, table: &mut Table<S>, marks: &Marks)
         requires sound { IsSound table.old }
         requires may { (last : Pair × ℕ) → last_of self.old.results.entries ≡ Some last → MayRetire table.old (entry_of last) }
-        ensures cache { (last : Pair × ℕ) → last_of self.old.results.entries ≡ Some last → HasTurn entry_of marks.now same_pair self.old.results self.new.results last }
-        ensures table { (last : Pair × ℕ) → last_of self.old.results.entries ≡ Some last → RetiresTurn entry_of marks.now S.tells S.channel table.old table.new last }
+        ensures cache { (last : Pair × ℕ) → last_of self.old.results.entries ≡ Some last
+            → HasTurn entry_of marks.now same_pair self.old.results self.new.results last }
+        ensures table { (last : Pair × ℕ) → last_of self.old.results.entries ≡ Some last
+            → RetiresTurn entry_of marks.now S.tells S.channel table.old table.new last }
         ensures beside { S.beside table.new.book.sink ≡ S.beside table.old.book.sink }
     {
         let Some((pair, number)) = self.results.last() else {

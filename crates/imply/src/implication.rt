@@ -1,7 +1,8 @@
 // Whether one node holds wherever another does, by their cofactors at the earlier of their variables. The first pair of
 // cofactors that doesn't ends the call. (Bryant, Heule: Generating Extended Resolution Proofs with a BDD-Based SAT Solver,
 // 2021, section 4.3.)
-ghost use Rattle.std.specs.Prelude.{◌≡◌, ◌≢◌, ◌⊎◌, ◌≤◌, ◌*◌, ◌++◌, ℕ, List, Option, Ok, Err, Contains, IsTrue, IfOk, IfSome, MatchOption, None, Some, length};
+ghost use Rattle.std.specs.Prelude.{◌≡◌, ◌≢◌, ◌⊎◌, ◌≤◌, ◌*◌, ◌++◌, ℕ, List, Option, Ok, Err, Contains, IsTrue, IfOk, IfSome, MatchOption};
+ghost use Rattle.std.specs.Prelude.{None, Some, length};
 ghost use Rattle.node_table.specs.declared.error.TableError.TheVariants.{NodeLimit};
 ghost use Rattle.node_table.specs.declared.node.Node.{Node as NodeValue};
 ghost use Rattle.node_table.specs.declared.node.Just.{Just as JustValue};
@@ -41,7 +42,8 @@ pub fn implies<S: Sink + Drop>(
     requires second { IsTrue (is_node table.old.graph v) }
     requires fits { Fits table.old (entries cache.old) }
     ensures decided { IfOk result (λ answer. IsDecided table.new.graph table.new.book.state.live u v answer) }
-    ensures steps { Steps S.tells (S.channel table.old.book.sink) (S.channel table.new.book.sink) table.old table.new (most_additions (levels_from table.old.graph u v)) (error_of result) }
+    ensures steps { Steps S.tells (S.channel table.old.book.sink) (S.channel table.new.book.sink) table.old table.new
+        (most_additions (levels_from table.old.graph u v)) (error_of result) }
     ensures nodes { table.new.graph ≡ table.old.graph }
     ensures no_node_limit { result ≢ Err NodeLimit }
     // The cache fits, and so does it together with others that did, of which none names a clause that it named.
@@ -54,18 +56,22 @@ pub fn implies<S: Sink + Drop>(
     ensures accounts { UnlessTorn result (Accounts table.old table.new (entries cache.old) (entries cache.new)) }
     ensures unretired { (id : ℕ) → result ≡ Ok (Some (Clause id)) → Contains table.new.retired id → ⊥ }
     // Where the cache is as large as the pairs of inner nodes that the operands reach, two clauses for each of these.
-    ensures price { (us vs : List NodeValue) → HoldsReached table.old.graph u us → HoldsReached table.old.graph v vs → length us * length vs ≤ most_entries cache.old
+    ensures price { (us vs : List NodeValue) → HoldsReached table.old.graph u us → HoldsReached table.old.graph v vs → length us * length vs
+        ≤ most_entries cache.old
         → AddsAtMost (2 * (length us * length vs)) table.old table.new }
     // An implication that is kept is found again without a clause more; a new one that holds is kept; one is forgotten only
     // where the cache was full.
     ensures known { (just : JustValue) → Contains (entries cache.old) (Implication u v just)
         → (result ≡ Ok (Some just)) × (table.new ≡ table.old) × HaveSame (entries cache.old) (entries cache.new) }
-    ensures kept { u ≢ v → IsNoConstant u → IsNoConstant v → (just : JustValue) → result ≡ Ok (Some just) → Contains (entries cache.new) (Implication u v just) }
-    ensures remembered { (entry : Entry) → Contains (entries cache.old) entry → Contains (entries cache.new) entry ⊎ (most_entries cache.old ≤ length (entries cache.new)) }
+    ensures kept { u ≢ v → IsNoConstant u → IsNoConstant v → (just : JustValue) → result ≡ Ok (Some just)
+        → Contains (entries cache.new) (Implication u v just) }
+    ensures remembered { (entry : Entry) → Contains (entries cache.old) entry → Contains (entries cache.new) entry
+        ⊎ (most_entries cache.old ≤ length (entries cache.new)) }
     ensures no_fewer { length (entries cache.old) ≤ length (entries cache.new) }
     ensures capacity { most_entries cache.new ≡ most_entries cache.old }
     // A constant, and a node with itself: nothing changes.
-    ensures plain { (answer : Option JustValue) → IsPlain u v answer → (result ≡ Ok answer) × (table.new ≡ table.old) × (cache.new ≡ cache.old) }
+    ensures plain { (answer : Option JustValue) → IsPlain u v answer → (result ≡ Ok answer) × (table.new ≡ table.old)
+        × (cache.new ≡ cache.old) }
     ensures beside { S.beside table.new.book.sink ≡ S.beside table.old.book.sink }
 {
     accounts_law::<S>();

@@ -1,5 +1,7 @@
 -- The counts bound how often literals stand in the live clauses, and how many candidates there are.
-use Rattle.std.proofs.Common.{◌≡◌, ℕ, zero, suc, ◌+◌, ◌-◌, ◌<◌, ◌≤◌, ◌≢◌, Bool, true, false, not, ◌||◌, ◌&&◌, cond, max, ℤ, neg_ℤ, List, [], ◌∷◌, Option, None, Some, count_by, length, get_or, nat_lt, add-one, refl, sym, ◌∙◌, ap, arith, int_eq, nat_cmp, eq-eqb, ne_eqb}
+use Rattle.std.proofs.Common.{◌≡◌, ℕ, zero, suc, ◌+◌, ◌-◌, ◌<◌, ◌≤◌, ◌≢◌, Bool, true, false, not, ◌||◌, ◌&&◌, cond, max, ℤ, neg_ℤ, List, []}
+use Rattle.std.proofs.Common.{◌∷◌, Option, None, Some, count_by, length, get_or, nat_lt, add-one, refl, sym, ◌∙◌, ap, arith, int_eq}
+use Rattle.std.proofs.Common.{nat_cmp, eq-eqb, ne_eqb}
 use Rattle.std.specs.Prelude.{if◌then◌else◌, ◌==◌}
 use Rattle.std.specs.FinMap as finmap
 use Rattle.std.specs.List.{list_any, list_all}
@@ -20,39 +22,67 @@ abbrev times_under : Live → ℤ → ℕ → ℕ
 times_under live literal id = times_at literal (clause_at live id)
 
 none_under : (literal : ℤ) (n : ℕ) → total (times_under finmap.empty literal) n ≤ 0
-none_under literal n = omega (arith, total_le (times_under finmap.empty literal) (λ _. 0) (λ i. omega (arith, ap (times_at literal) (finmap.get-empty nat_cmp i))) n, zeros n) where
+none_under literal n = omega (
+  arith,
+  total_le (times_under finmap.empty literal) (λ _. 0)
+      (λ i. omega (arith, ap (times_at literal) (finmap.get-empty nat_cmp i))) n,
+  zeros n,
+) where
   zeros : (n : ℕ) → total (λ _. 0) n ≡ 0
   zeros zero = refl
   zeros (suc n) = omega (arith, zeros n)
 
 pub counted_none : (counts : Counts) (live : Live) → live ≡ finmap.empty → AreCounted counts live
-counted_none counts live none = record { counted = λ literal n. omega (arith, ap (λ (l : Live). total (times_under l literal) n) none, none_under literal n) }
+counted_none counts live none = record {
+  counted = λ literal n. omega
+      (arith, ap (λ (l : Live). total (times_under l literal) n) none, none_under literal n);
+}
 
 -- greater counts
-pub counted_more : (old new : Counts) (live : Live) → AreCounted old live → ((x : ℤ) → count_of old x ≤ count_of new x) → AreCounted new live
+pub counted_more : (old new : Counts) (live : Live) → AreCounted old live → ((x : ℤ) → count_of old x ≤ count_of new x)
+    → AreCounted new live
 counted_more old new live counted more = record { counted = λ literal n. omega (arith, counted.counted literal n, more literal) }
 
-other_clause : (live : Live) (number : ℕ) (clause : List ℤ) (literal : ℤ) (i : ℕ) → i ≢ number → times_under (with_clause live number clause) literal i ≡ times_under live literal i
-other_clause live number clause literal i other = ap (times_at literal) (with_at live number clause i ∙ ap (λ b. if b then Some clause else clause_at live i) (ne_eqb i number other))
+other_clause : (live : Live) (number : ℕ) (clause : List ℤ) (literal : ℤ) (i : ℕ) → i ≢ number
+    → times_under (with_clause live number clause) literal i ≡ times_under live literal i
+other_clause live number clause literal i other = ap (times_at literal) (with_at live number clause i
+    ∙ ap (λ b. if b then Some clause else clause_at live i) (ne_eqb i number other))
 
-pub counted_insert : (old new : Counts) (live : Live) (number : ℕ) (clause : List ℤ) → AreCounted old live → ((x : ℤ) → count_of new x ≡ count_of old x + times_in x clause)
+pub counted_insert : (old new : Counts) (live : Live) (number : ℕ) (clause : List ℤ) → AreCounted old live
+    → ((x : ℤ) → count_of new x ≡ count_of old x + times_in x clause)
     → AreCounted new (with_clause live number clause)
 counted_insert old new live number clause counted entered = record {
   counted = λ literal n.
       let here : times_under (with_clause live number clause) literal number ≡ times_in literal clause =
-      ap (times_at literal) (with_at live number clause number ∙ ap (λ b. if b then Some clause else clause_at live number) (eq-eqb number number refl)) in
-      omega (arith, total_raised (times_under live literal) (times_under (with_clause live number clause) literal) number (other_clause live number clause literal) n, here, counted.counted literal n, entered literal);
+      ap (times_at literal) (with_at live number clause number ∙ ap (λ b. if b then Some clause else clause_at live number)
+      (eq-eqb number number refl)) in
+      omega (
+        arith,
+        total_raised (times_under live literal) (times_under (with_clause live number clause) literal) number
+            (other_clause live number clause literal) n,
+        here,
+        counted.counted literal n,
+        entered literal,
+      );
 }
 
-pub counted_remove : (old new : Counts) (live : Live) (number : ℕ) → AreCounted old live → ((x : ℤ) → count_of new x ≡ count_of old x - times_at x (clause_at live number))
+pub counted_remove : (old new : Counts) (live : Live) (number : ℕ) → AreCounted old live
+    → ((x : ℤ) → count_of new x ≡ count_of old x - times_at x (clause_at live number))
     → AreCounted new (finmap.remove live number)
 counted_remove old new live number counted left = record {
   counted = λ literal n.
       let other : (i : ℕ) → i ≢ number → times_under (finmap.remove live number) literal i ≡ times_under live literal i =
-      λ i differ. ap (times_at literal) (without_at live number i ∙ ap (λ b. if b then None else clause_at live i) (ne_eqb i number differ)) in
+      λ i differ. ap (times_at literal) (without_at live number i
+      ∙ ap (λ b. if b then None else clause_at live i) (ne_eqb i number differ)) in
       let none : times_under (finmap.remove live number) literal number ≡ 0 =
-      ap (times_at literal) (without_at live number number ∙ ap (λ b. if b then None else clause_at live number) (eq-eqb number number refl)) in
-      omega (arith, total_lowered (times_under live literal) (times_under (finmap.remove live number) literal) number other none (count_of old literal) (counted.counted literal) n, left literal);
+      ap (times_at literal) (without_at live number number ∙ ap (λ b. if b then None else clause_at live number)
+      (eq-eqb number number refl)) in
+      omega (
+        arith,
+        total_lowered (times_under live literal) (times_under (finmap.remove live number) literal) number other none
+            (count_of old literal) (counted.counted literal) n,
+        left literal,
+      );
 }
 
 -- a literal stands at least once in a clause that holds it
@@ -80,7 +110,8 @@ unnamed_less true false e f = omega arith
 unnamed_less false b e f = absurd (cc)
 
 -- where groups name as many candidates as there can be, they name each
-module _ (counts : Counts) (live : Live) (pivot : ℤ) (groups : List Group) (count : ℕ) (counted : AreCounted counts live) (named : IsCountOfNamed live pivot groups count)
+module _ (counts : Counts) (live : Live) (pivot : ℤ) (groups : List Group) (count : ℕ) (counted : AreCounted counts live)
+    (named : IsCountOfNamed live pivot groups count)
     (enough : count_of counts (neg_ℤ pivot) ≤ count) where
   all_named : (id : ℕ) → is_candidate live pivot id ≡ true → has_group groups id ≡ true
   all_named id candidate =
@@ -91,7 +122,8 @@ module _ (counts : Counts) (live : Live) (pivot : ℤ) (groups : List Group) (co
             let candidates = one_where (is_candidate live pivot) in
             let with_groups = one_where (λ k. is_candidate live pivot k && has_group groups k) in
             let less : total with_groups bound + 1 ≤ total candidates bound =
-            total_less with_groups candidates (λ i. named_less (is_candidate live pivot i) (has_group groups i)) id (unnamed_less (is_candidate live pivot id) (has_group groups id) candidate is) bound (omega arith) in
+            total_less with_groups candidates (λ i. named_less (is_candidate live pivot i) (has_group groups i)) id
+            (unnamed_less (is_candidate live pivot id) (has_group groups id) candidate is) bound (omega arith) in
             absurd (omega (
               arith,
               less,
@@ -105,7 +137,8 @@ module _ (counts : Counts) (live : Live) (pivot : ℤ) (groups : List Group) (co
 
   settled : (n : FalseSet) (id : ℕ) → is_settled live n pivot groups id ≡ true
   settled n id =
-      elim (is_candidate live pivot id) as (λ b. is_candidate live pivot id ≡ b → (not b || is_blocked live n pivot id || has_group groups id) ≡ true) [
+      elim (is_candidate live pivot id) as (λ b. is_candidate live pivot id ≡ b
+      → (not b || is_blocked live n pivot id || has_group groups id) ≡ true) [
         | true ↦ λ is. rw (all_named id is) (or_true (is_blocked live n pivot id))
         | false ↦ λ is. refl
       ] refl where
@@ -120,19 +153,25 @@ module _ (counts : Counts) (live : Live) (pivot : ℤ) (groups : List Group) (co
     each (id ∷ ids) = rw (settled n id) (each ids)
 
 -- one candidate more that a group names
-group_here : (groups : List Group) (place : ℕ) (group : Group) → place < length groups → group ≡ get_or groups place group → has_group groups group.id ≡ true
+group_here : (groups : List Group) (place : ℕ) (group : Group) → place < length groups → group ≡ get_or groups place group
+    → has_group groups group.id ≡ true
 group_here [] place group lt is = absurd (omega arith)
-group_here (first ∷ groups) zero group lt is = or_left (first.id == group.id) (has_group groups group.id) (eq-eqb first.id group.id (ap (λ (g : Group). g.id) (sym is)))
-group_here (first ∷ groups) (suc place) group lt is = or_right (first.id == group.id) (has_group groups group.id) (group_here groups place group (omega arith) is)
+group_here (first ∷ groups) zero group lt is = or_left (first.id == group.id) (has_group groups group.id)
+    (eq-eqb first.id group.id (ap (λ (g : Group). g.id) (sym is)))
+group_here (first ∷ groups) (suc place) group lt is = or_right (first.id == group.id) (has_group groups group.id)
+    (group_here groups place group (omega arith) is)
 
 module _ (live : Live) (pivot : ℤ) (groups : List Group) where
   abbrev pub named_where : ℕ → ℕ
   named_where = one_where (λ id. is_candidate live pivot id && has_group groups id)
 
-  pub named_next : (last named place : ℕ) (group : Group) → place < length groups → group ≡ get_or groups place group → (nat_lt last group.id && is_candidate live pivot group.id) ≡ true
+  pub named_next : (last named place : ℕ) (group : Group) → place < length groups → group ≡ get_or groups place group
+      → (nat_lt last group.id && is_candidate live pivot group.id) ≡ true
       → named ≤ total named_where (last + 1) → named + 1 ≤ total named_where (group.id + 1)
   named_next last named place group lt is next so_far =
       let parts = and_parts (nat_lt last group.id) (is_candidate live pivot group.id) next in
-      let one : named_where group.id ≡ 1 = ap (λ b. cond b 1 0) (and_from (is_candidate live pivot group.id) (has_group groups group.id) parts.1 (group_here groups place group lt is)) in
+      let one : named_where group.id
+      ≡ 1 = ap (λ b. cond b 1 0) (and_from (is_candidate live pivot group.id) (has_group groups group.id) parts.1
+      (group_here groups place group lt is)) in
       let more : total named_where (group.id + 1) ≡ total named_where group.id + named_where group.id = rw add-one refl in
       omega (arith, total_grows named_where (last + 1) group.id (omega (arith, ltb-true last group.id parts.0)), one, more, so_far)

@@ -1,5 +1,6 @@
 -- What the places of a chunk hold as slots are put in, cleared and made.
-use Rattle.std.proofs.Common.{◌≡◌, ℕ, zero, suc, ◌<◌, true, false, List, [], ◌∷◌, length, get_or, set, Option, None, Some, is_some, is_none, inl, inr, refl, sym, ◌∙◌, ap, arith, map, Bor, eq-eqb, ne_eqb}
+use Rattle.std.proofs.Common.{◌≡◌, ℕ, zero, suc, ◌<◌, true, false, List, [], ◌∷◌, length, get_or, set, Option, None, Some, is_some, is_none}
+use Rattle.std.proofs.Common.{inl, inr, refl, sym, ◌∙◌, ap, arith, map, Bor, eq-eqb, ne_eqb}
 use Rattle.std.specs.Prelude.{if◌then◌else◌, ◌==◌}
 use Rattle.std.specs.List.{list_all}
 use Rattle.std.specs.Option.{option_copied}
@@ -13,17 +14,23 @@ no_clause None e = refl
 no_clause (Some clause) e = cc
 
 -- free slots alone have no clause
-pub blank_slots : (slots : List Slot) → list_all (λ slot. is_none (clause_in slot)) slots ≡ true → (i : ℕ) → get_or (map clause_in slots) i None ≡ None
+pub blank_slots : (slots : List Slot) → list_all (λ slot. is_none (clause_in slot)) slots ≡ true → (i : ℕ)
+    → get_or (map clause_in slots) i None ≡ None
 blank_slots [] e i = get_or_past [] i None (omega arith)
-blank_slots (slot ∷ slots) e zero = no_clause (clause_in slot) (and_parts (is_none (clause_in slot)) (list_all (λ s. is_none (clause_in s)) slots) e).0
-blank_slots (slot ∷ slots) e (suc i) = blank_slots slots (and_parts (is_none (clause_in slot)) (list_all (λ s. is_none (clause_in s)) slots) e).1 i
+blank_slots (slot ∷ slots) e zero = no_clause (clause_in slot) (and_parts (is_none (clause_in slot))
+    (list_all (λ s. is_none (clause_in s)) slots) e).0
+blank_slots (slot ∷ slots) e (suc i) = blank_slots slots (and_parts (is_none (clause_in slot))
+    (list_all (λ s. is_none (clause_in s)) slots) e).1 i
 
 -- what a written place holds
-pub set_at : (places : Places) (i : ℕ) (place : Place) → i < length places → (k : ℕ) → get_or (set places i place) k None ≡ (if k == i then place else get_or places k None)
+pub set_at : (places : Places) (i : ℕ) (place : Place) → i < length places → (k : ℕ) → get_or (set places i place) k None
+    ≡ (if k == i then place else get_or places k None)
 set_at places i place lt k =
     elim (cases_eq k i) [
-      | inl same ↦ ap (λ n. get_or (set places i place) n None) same ∙ get_or-set_same places i place None lt ∙ ap (λ b. if b then place else get_or places k None) (sym (eq-eqb k i same))
-      | inr other ↦ get_or-set_other places i k place None other ∙ ap (λ b. if b then place else get_or places k None) (sym (ne_eqb k i other))
+      | inl same ↦ ap (λ n. get_or (set places i place) n None) same ∙ get_or-set_same places i place None lt
+          ∙ ap (λ b. if b then place else get_or places k None) (sym (eq-eqb k i same))
+      | inr other ↦ get_or-set_other places i k place None other
+          ∙ ap (λ b. if b then place else get_or places k None) (sym (ne_eqb k i other))
     ]
 
 -- a place with a clause is among the places
@@ -35,7 +42,8 @@ taken_within places i some =
     ]
 
 -- nothing is taken out of a place that has no clause
-pub unchanged : (places : Places) (i : ℕ) → get_or places i None ≡ None → (k : ℕ) → get_or places k None ≡ (if k == i then None else get_or places k None)
+pub unchanged : (places : Places) (i : ℕ) → get_or places i None ≡ None → (k : ℕ) → get_or places k None
+    ≡ (if k == i then None else get_or places k None)
 unchanged places i free k =
     elim (cases_eq k i) [
       | inl same ↦ ap (λ n. get_or places n None) same ∙ free ∙ ap (λ b. if b then None else get_or places k None) (sym (eq-eqb k i same))
@@ -43,6 +51,7 @@ unchanged places i free k =
     ]
 
 -- a look-up found a clause
-pub found : {T : Type 0} (looked : Option (Bor T)) (place : Option T) → is_some looked ≡ true → option_copied looked ≡ place → is_some place ≡ true
+pub found : {T : Type 0} (looked : Option (Bor T)) (place : Option T) → is_some looked ≡ true → option_copied looked ≡ place → is_some place
+    ≡ true
 found None place taken is = cc
 found (Some x) place taken is = ap is_some (sym is)

@@ -1,5 +1,6 @@
 -- Clauses that stand under numbers, in the chunks or in the map, as the finite map of the live ones.
-use Rattle.std.proofs.Common.{◌≡◌, ℕ, zero, suc, ◌+◌, ◌<◌, ◌≤◌, ◌≢◌, Bool, true, false, cond, ℤ, List, None, Some, is_some, nat_cmp, inl, inr, refl, sym, ◌∙◌, ap, arith, eq-eqb, ne_eqb, nat_eq}
+use Rattle.std.proofs.Common.{◌≡◌, ℕ, zero, suc, ◌+◌, ◌<◌, ◌≤◌, ◌≢◌, Bool, true, false, cond, ℤ, List, None, Some, is_some, nat_cmp, inl}
+use Rattle.std.proofs.Common.{inr, refl, sym, ◌∙◌, ap, arith, eq-eqb, ne_eqb, nat_eq}
 use Rattle.std.specs.Prelude.{if◌then◌else◌, ◌==◌}
 use Rattle.std.specs.Cmp.{unsigned_tied}
 use Rattle.std.specs.FinMap as finmap
@@ -12,20 +13,27 @@ use Rattle.lrat_checker.specs.Clauses.{Place, or_else, with_place, live_below, A
 pub same_live : (few more : Live) → ((id : ℕ) → clause_at few id ≡ clause_at more id) → few ≡ more
 same_live few more same = finmap.same_map nat_cmp_total finmap.nat_cmp-IsAntisymmetric few more same
 
-pub with_at : (live : Live) (number : ℕ) (clause : List ℤ) (id : ℕ) → clause_at (with_clause live number clause) id ≡ (if id == number then Some clause else clause_at live id)
-with_at live number clause id = finmap.get-insert nat_cmp_total live number clause id ∙ ap (λ b. cond b (Some clause) (clause_at live id)) (unsigned_tied id number)
+pub with_at : (live : Live) (number : ℕ) (clause : List ℤ) (id : ℕ) → clause_at (with_clause live number clause) id
+    ≡ (if id == number then Some clause else clause_at live id)
+with_at live number clause id = finmap.get-insert nat_cmp_total live number clause id
+    ∙ ap (λ b. cond b (Some clause) (clause_at live id)) (unsigned_tied id number)
 
-pub without_at : (live : Live) (number id : ℕ) → clause_at (finmap.remove live number) id ≡ (if id == number then None else clause_at live id)
-without_at live number id = finmap.get-remove nat_cmp_total live number id ∙ ap (λ b. cond b None (clause_at live id)) (unsigned_tied id number)
+pub without_at : (live : Live) (number id : ℕ) → clause_at (finmap.remove live number) id
+    ≡ (if id == number then None else clause_at live id)
+without_at live number id = finmap.get-remove nat_cmp_total live number id
+    ∙ ap (λ b. cond b None (clause_at live id)) (unsigned_tied id number)
 
 module _ (at : ℕ → Place) where
-  other_place : (n : ℕ) (place : Place) (id : ℕ) → id ≢ n → clause_at (with_place (live_below at n) n place) id ≡ clause_at (live_below at n) id
+  other_place : (n : ℕ) (place : Place) (id : ℕ) → id ≢ n → clause_at (with_place (live_below at n) n place) id
+      ≡ clause_at (live_below at n) id
   other_place n None id other = refl
-  other_place n (Some clause) id other = with_at (live_below at n) n clause id ∙ ap (λ b. if b then Some clause else clause_at (live_below at n) id) (ne_eqb id n other)
+  other_place n (Some clause) id other = with_at (live_below at n) n clause id
+      ∙ ap (λ b. if b then Some clause else clause_at (live_below at n) id) (ne_eqb id n other)
 
   last_place : (n : ℕ) (place : Place) → clause_at (live_below at n) n ≡ None → clause_at (with_place (live_below at n) n place) n ≡ place
   last_place n None none = none
-  last_place n (Some clause) none = with_at (live_below at n) n clause n ∙ ap (λ b. if b then Some clause else clause_at (live_below at n) n) (eq-eqb n n refl)
+  last_place n (Some clause) none = with_at (live_below at n) n clause n
+      ∙ ap (λ b. if b then Some clause else clause_at (live_below at n) n) (eq-eqb n n refl)
 
   below_none : (n id : ℕ) → n ≤ id → clause_at (live_below at n) id ≡ None
   below_none zero id le = finmap.get-empty nat_cmp id
@@ -35,7 +43,8 @@ module _ (at : ℕ → Place) where
   below_some zero id lt = absurd (omega arith)
   below_some (suc n) id lt =
       elim (cases_eq id n) [
-        | inl same ↦ ap (clause_at (with_place (live_below at n) n (at n))) same ∙ last_place n (at n) (below_none n n (omega arith)) ∙ ap at (sym same)
+        | inl same ↦ ap (clause_at (with_place (live_below at n) n (at n))) same ∙ last_place n (at n) (below_none n n (omega arith))
+            ∙ ap at (sym same)
         | inr other ↦ other_place n (at n) id other ∙ below_some n id (omega arith)
       ]
 
@@ -56,7 +65,8 @@ chosen false x y x' y' = refl
 
 -- one number's place is changed in the chunks and in the map
 module _ (near far near' far' : ℕ → Place) (number : ℕ) (a b : Place) (top top' : ℕ) (stored : AreStored near far top)
-    (near_is : (n : ℕ) → near' n ≡ (if n == number then a else near n)) (far_is : (n : ℕ) → far' n ≡ (if n == number then b else far n)) where
+    (near_is : (n : ℕ) → near' n ≡ (if n == number then a else near n)) (far_is : (n : ℕ) → far' n
+    ≡ (if n == number then b else far n)) where
   parts : (n : ℕ) → or_else (near' n) (far' n) ≡ (if n == number then or_else a b else or_else (near n) (far n))
   parts n = (λ i. or_else (near_is n i) (far_is n i)) ∙ chosen (n == number) a (near n) b (far n)
 
@@ -82,13 +92,16 @@ module _ (near far near' far' : ℕ → Place) (number : ℕ) (a b : Place) (top
         ∙ ap (λ o. if id == number then or_else a b else o) (sym (stands_live (λ n. or_else (near n) (far n)) top stored.beyond id))
 
     pub live_inserted : (clause : List ℤ) → or_else a b ≡ Some clause
-        → live_below (λ n. or_else (near' n) (far' n)) (top' + 1) ≡ with_clause (live_below (λ n. or_else (near n) (far n)) (top + 1)) number clause
+        → live_below (λ n. or_else (near' n) (far' n)) (top' + 1)
+        ≡ with_clause (live_below (λ n. or_else (near n) (far n)) (top + 1)) number clause
     live_inserted clause is =
         let before = live_below (λ n. or_else (near n) (far n)) (top + 1) in
-        same_live _ _ (λ id. stands id ∙ ap (λ o. if id == number then o else clause_at before id) is ∙ sym (with_at before number clause id))
+        same_live _ _ (λ id. stands id ∙ ap (λ o. if id == number then o else clause_at before id) is
+        ∙ sym (with_at before number clause id))
 
     pub live_removed : or_else a b ≡ None
-        → live_below (λ n. or_else (near' n) (far' n)) (top' + 1) ≡ finmap.remove (live_below (λ n. or_else (near n) (far n)) (top + 1)) number
+        → live_below (λ n. or_else (near' n) (far' n)) (top' + 1)
+        ≡ finmap.remove (live_below (λ n. or_else (near n) (far n)) (top + 1)) number
     live_removed is =
         let before = live_below (λ n. or_else (near n) (far n)) (top + 1) in
         same_live _ _ (λ id. stands id ∙ ap (λ o. if id == number then o else clause_at before id) is ∙ sym (without_at before number id))

@@ -22,7 +22,8 @@ or_true : (b : Bool) → (b || true) ≡ true
 or_true true = refl
 or_true false = refl
 
-module _ (state : State) (has_empty : Bool) (line : ℕ) (before after : Steps) (answer : Result (Option (Step × ℕ)) StepError) (gives : Gives answer line before after) where
+module _ (state : State) (has_empty : Bool) (line : ℕ) (before after : Steps) (answer : Result (Option (Step × ℕ)) StepError)
+    (gives : Gives answer line before after) where
   pub at_end : answer ≡ Ok None → steps_verdict state has_empty before ≡ Some (end_verdict has_empty line)
   at_end e =
       let both : (before ≡ no_more line) × (after ≡ no_more line) = subst (λ r. Gives r line before after) e gives in
@@ -38,7 +39,8 @@ module _ (state : State) (has_empty : Bool) (line : ℕ) (before after : Steps) 
       let both : (before ≡ overlong) × (after ≡ overlong) = subst (λ r. Gives r line before after) e gives in
       ap (steps_verdict state has_empty) both.0
 
-  pub at_good_step : (step : Step) (at : ℕ) (next : State) (behind : Bool) → answer ≡ Ok (Some (step, at)) → step_fault state step ≡ None → next ≡ after_step state step
+  pub at_good_step : (step : Step) (at : ℕ) (next : State) (behind : Bool) → answer ≡ Ok (Some (step, at)) → step_fault state step ≡ None
+      → next ≡ after_step state step
       → behind ≡ (has_empty || step_adds_empty step) → steps_verdict state has_empty before ≡ steps_verdict next behind after
   at_good_step step at next behind e good moved told =
       let given : before ≡ next_step step at after = subst (λ r. Gives r line before after) e gives in
@@ -61,24 +63,31 @@ module _ (state : State) (has_empty : Bool) (line : ℕ) (before after : Steps) 
       subst (λ r. Answers r text) (sym given_is) (subst (λ v. Answers (error_answer error) v) (sym told) answers)
 
 -- a good step leads on in the front of a longer text
-pub good_so_far : (state : State) (has_empty : Bool) (answer : Result (Option (Step × ℕ)) StepError) (old new : Reader) (bytes : List ℕ) → GivesSoFar answer old new bytes
-    → (step : Step) (at : ℕ) (next : State) (behind : Bool) → answer ≡ Ok (Some (step, at)) → step_fault state step ≡ None → next ≡ after_step state step
+pub good_so_far : (state : State) (has_empty : Bool) (answer : Result (Option (Step × ℕ)) StepError) (old new : Reader) (bytes : List ℕ)
+    → GivesSoFar answer old new bytes
+    → (step : Step) (at : ℕ) (next : State) (behind : Bool) → answer ≡ Ok (Some (step, at)) → step_fault state step ≡ None → next
+    ≡ after_step state step
     → behind ≡ (has_empty || step_adds_empty step) → is_scanning new.scan.status ≡ true
-    → (is_scanning old.scan.status ≡ true) × ((more : List ℕ) → steps_verdict state has_empty (so_far old (bytes ++ more)) ≡ steps_verdict next behind (so_far new more))
+    → (is_scanning old.scan.status ≡ true) × ((more : List ℕ) → steps_verdict state has_empty (so_far old (bytes ++ more))
+    ≡ steps_verdict next behind (so_far new more))
 good_so_far state has_empty answer old new bytes gives step at next behind e good moved told reading =
     let given : GivesSoFar (Ok (Some (step, at))) old new bytes = subst (λ r. GivesSoFar r old new bytes) e gives in
-    let both : (is_scanning old.scan.status ≡ true) × ((more : List ℕ) → so_far old (bytes ++ more) ≡ next_step step at (so_far new more)) = given reading in (
+    let both : (is_scanning old.scan.status ≡ true) × ((more : List ℕ) → so_far old (bytes ++ more)
+    ≡ next_step step at (so_far new more)) = given reading in (
       both.0,
-      λ more. at_good_step state has_empty at (so_far old (bytes ++ more)) (so_far new more) (Ok (Some (step, at))) (both.1 more) step at next behind refl good moved told,
+      λ more. at_good_step state has_empty at (so_far old (bytes ++ more)) (so_far new more) (Ok (Some (step, at)))
+          (both.1 more) step at next behind refl good moved told,
     )
 
 -- where a read failed, the bytes taken decide nothing
-pub fault_so_far : (answer : Result (Option (Step × ℕ)) StepError) (old new : Reader) (bytes : List ℕ) → GivesSoFar answer old new bytes → answer ≡ Err ReadFault
+pub fault_so_far : (answer : Result (Option (Step × ℕ)) StepError) (old new : Reader) (bytes : List ℕ) → GivesSoFar answer old new bytes
+    → answer ≡ Err ReadFault
     → (is_scanning old.scan.status ≡ true) × (so_far old bytes ≡ overlong)
 fault_so_far answer old new bytes gives e = subst (λ r. GivesSoFar r old new bytes) e gives
 
 -- where a later step may want memory, and this one is good, they may together
-pub later_wants : (state : State) (answer : Result (Option (Step × ℕ)) StepError) (line : ℕ) (before after : Steps) → Gives answer line before after
+pub later_wants : (state : State) (answer : Result (Option (Step × ℕ)) StepError) (line : ℕ) (before after : Steps)
+    → Gives answer line before after
     → (step : Step) (at : ℕ) (next : State) → answer ≡ Ok (Some (step, at)) → step_fault state step ≡ None → next ≡ after_step state step
     → IsTrue (steps_may_want_memory next after) → IsTrue (steps_may_want_memory state before)
 later_wants state answer line before after gives step at next e good moved wants =

@@ -10,7 +10,8 @@ use Rattle.lrat_checker.specs.declared.counts.Counts.{Counts}
 -- the count of this literal
 unfoldable pub count_of : Counts → ℤ → ℕ
 count_of counts literal =
-    if nat_lt (place_of literal) near_places then slice_index_or counts.near.items (place_of literal) 0 else unwrap_or (hash.get int_eq counts.far literal) 0
+    if nat_lt (place_of literal) near_places then slice_index_or counts.near.items (place_of literal) 0 else unwrap_or
+    (hash.get int_eq counts.far literal) 0
 
 -- how often the literal stands in a clause
 abbrev pub times_in : ℤ → List ℤ → ℕ

@@ -22,7 +22,8 @@ candidate_keeps live n pivot clause hints = has_other pivot clause || forces_lit
 
 -- only the group of a candidate that isn't blocked is opened
 abbrev pub opened_keeps : Live → FalseSet → ℤ → List ℕ → List ℤ → Bool
-opened_keeps live n pivot hints clause = holds_negated pivot clause && (not (is_blocked_by n pivot clause) && candidate_keeps live n pivot clause hints)
+opened_keeps live n pivot hints clause = holds_negated pivot clause
+    && (not (is_blocked_by n pivot clause) && candidate_keeps live n pivot clause hints)
 
 abbrev pub group_keeps : Live → FalseSet → ℤ → Group → Bool
 group_keeps live n pivot group = if_live (opened_keeps live n pivot group.hints) (clause_at live group.id)
@@ -30,7 +31,8 @@ group_keeps live n pivot group = if_live (opened_keeps live n pivot group.hints)
 -- some group keeps literals, and those before it have no fault
 abbrev pub groups_keep : Live → FalseSet → ℤ → List Group → Bool
 groups_keep live n pivot [] = false
-groups_keep live n pivot (group ∷ groups) = group_keeps live n pivot group || (is_none (group_fault live n pivot group) && groups_keep live n pivot groups)
+groups_keep live n pivot (group ∷ groups) = group_keeps live n pivot group
+    || (is_none (group_fault live n pivot group) && groups_keep live n pivot groups)
 
 -- after the addition's own hints: groups are looked at only behind hints without a conflict, where there is a pivot
 abbrev pub kept_after_hints : Live → List ℤ → List Group → Outcome → Bool

@@ -2,7 +2,8 @@
 -- the end, or to the limit. (Cruz-Filipe, Heule, Hunt, Kaufmann, Schneider-Kamp, CADE 2017.)
 use Rattle.std.specs.Prelude.{◌≡◌, ℕ, Bool, false, ◌||◌, ℤ, List, Option, None, Some, Result, Ok, Err, ⊤, if◌then◌else◌}
 use Rattle.lrat_text.specs.declared.error.StepError.{StepError}
-use Rattle.lrat_text.specs.declared.error.StepError.TheVariants.{Syntax as BadLine, ReadFault as FailedRead, TooLong as LongText, OutOfMemory as NoMemory}
+use Rattle.lrat_text.specs.declared.error.StepError.TheVariants.{Syntax as BadLine, ReadFault as FailedRead, TooLong as LongText}
+use Rattle.lrat_text.specs.declared.error.StepError.TheVariants.{OutOfMemory as NoMemory}
 use Rattle.lrat_text.specs.Steps.{Steps, no_more, overlong, no_step, next_step, steps, steps_so_far}
 use Rattle.lrat_rules.specs.declared.outcome.Reason.{Reason}
 use Rattle.lrat_rules.specs.declared.outcome.Reason.TheVariants.{Syntax, NoEmptyClause}

@@ -8,13 +8,13 @@ ghost use Rattle.lrat_checker.specs.Memory.{judging_keeps, kept_after_hints};
 
 use crate::groups::resolvents_fault;
 use crate::hints::{HintsEnd, run_hints};
-use crate::live::LiveClauses;
+use crate::live::IndexedClauses;
 use cnf_base::{Group, Id, Lit, OutOfMemory};
 use lrat_rules::{Chain, Reason};
 
 /// Why the addition of this clause under this number isn't good, if it isn't.
 pub fn addition_fault(
-    live: &mut LiveClauses,
+    live: &mut IndexedClauses,
     top: Id,
     chain: &mut Chain,
     id: Id,
@@ -37,7 +37,7 @@ pub fn addition_fault(
 
 // After the addition's own hints.
 fn fault_after_hints(
-    live: &mut LiveClauses,
+    live: &mut IndexedClauses,
     chain: &mut Chain,
     clause: &[Lit],
     groups: &[Group],

@@ -57,7 +57,8 @@ pub fn each_settled(
     numbers: &[u64],
 ) -> bool
     requires { before_of chain.now ≡ None }
-    ensures { result ≡ list_all (λ number. settles_at (set_of chain.now) pivot groups.now number (clause_at clauses.now number)) numbers.now }
+    ensures { result ≡ list_all (λ number. settles_at (set_of chain.now) pivot groups.now number
+        (clause_at clauses.now number)) numbers.now }
 {
     numbers.iter().all(|number| settles_number(clauses, chain, pivot, groups, *number))
 }

@@ -1,6 +1,7 @@
 // A chunk of slots for 128 consecutive clause numbers. It counts its clauses, only to see in time when the last one is gone:
 // then it gives its memory back.
-ghost use Rattle.std.specs.Prelude.{◌≡◌, ◌<◌, ◌≤◌, ℕ, [], OnOk, IfOk, None, map, length, set, is_some, is_none, slice_index_or, if◌then◌else◌, ◌==◌};
+ghost use Rattle.std.specs.Prelude.{◌≡◌, ◌<◌, ◌≤◌, ℕ, [], OnOk, IfOk, None, map, length, set, is_some, is_none, slice_index_or};
+ghost use Rattle.std.specs.Prelude.{if◌then◌else◌, ◌==◌};
 ghost use Rattle.std.specs.List.{list_all};
 ghost use Rattle.std.specs.Option.{option_copied};
 ghost use Rattle.lrat_checker.specs.Clauses.{clause_in};

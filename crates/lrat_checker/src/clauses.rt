@@ -1,7 +1,8 @@
 // The live clauses by their numbers. Proofs number their clauses almost one after the other, so short clauses stand in chunks of
 // 128 places, where number n has place n % 128 of chunk n / 128: they cost no allocation and no search, and a chunk whose
 // clauses are all gone gives its memory back. Longer clauses, and numbers far ahead of all others, stand in a hash map.
-ghost use Rattle.std.specs.Prelude.{◌≡◌, ◌+◌, ◌*◌, ◌<◌, ◌≤◌, ◌/◌, ◌%◌, ℕ, [], None, true, false, nat_eq, OnOk, OnErr, IsTrue, is_some, length, slice_index_or, if◌then◌else◌, ◌==◌};
+ghost use Rattle.std.specs.Prelude.{◌≡◌, ◌+◌, ◌*◌, ◌<◌, ◌≤◌, ◌/◌, ◌%◌, ℕ, [], None, true, false, nat_eq, OnOk, OnErr, IsTrue, is_some};
+ghost use Rattle.std.specs.Prelude.{length, slice_index_or, if◌then◌else◌, ◌==◌};
 ghost use Rattle.std.specs.HashMap.{get};
 ghost use Rattle.std.specs.List.{list_all};
 ghost use Rattle.std.specs.Option.{option_copied};

@@ -67,7 +67,8 @@ impl Counts {
 
     fn raise(&mut self, literal: Lit) -> Result<(), OutOfMemory>
         ensures kept { (x : ℤ) → count_of self.old x ≤ count_of self.new x }
-        ensures ok { OnOk result ((x : ℤ) → count_of self.new x ≡ (if int_eq x literal then count_of self.old x + 1 else count_of self.old x)) }
+        ensures ok { OnOk result ((x : ℤ) → count_of self.new x ≡ (if int_eq x literal then count_of self.old x
+            + 1 else count_of self.old x)) }
     {
         let place = place_of(literal);
         if place < NEAR_PLACES {
@@ -120,7 +121,8 @@ fn far_count(far: &HashMap<i32, u32>, literal: i32) -> u32
 fn raise_near(near: &mut Vec<u32>, place: usize) -> Result<(), OutOfMemory>
     requires { place < near_places }
     ensures kept { (i : ℕ) → slice_index_or near.old.items i 0 ≤ slice_index_or near.new.items i 0 }
-    ensures ok { OnOk result ((i : ℕ) → slice_index_or near.new.items i 0 ≡ (if i == place then slice_index_or near.old.items i 0 + 1 else slice_index_or near.old.items i 0)) }
+    ensures ok { OnOk result ((i : ℕ) → slice_index_or near.new.items i 0
+        ≡ (if i == place then slice_index_or near.old.items i 0 + 1 else slice_index_or near.old.items i 0)) }
 {
     reach(near, place)?;
     let Some(count) = near[place].checked_add(1) else {
@@ -143,7 +145,8 @@ fn reach(near: &mut Vec<u32>, place: usize) -> Result<(), OutOfMemory>
 
 fn raise_far(far: &mut HashMap<i32, u32>, literal: i32) -> Result<(), OutOfMemory>
     ensures kept { (x : ℤ) → unwrap_or (get int_eq far.old x) 0 ≤ unwrap_or (get int_eq far.new x) 0 }
-    ensures ok { OnOk result ((x : ℤ) → unwrap_or (get int_eq far.new x) 0 ≡ (if int_eq x literal then unwrap_or (get int_eq far.old x) 0 + 1 else unwrap_or (get int_eq far.old x) 0)) }
+    ensures ok { OnOk result ((x : ℤ) → unwrap_or (get int_eq far.new x) 0
+        ≡ (if int_eq x literal then unwrap_or (get int_eq far.old x) 0 + 1 else unwrap_or (get int_eq far.old x) 0)) }
 {
     let Some(count) = far_count(far, literal).checked_add(1) else {
         return Err(OutOfMemory);
@@ -153,7 +156,8 @@ fn raise_far(far: &mut HashMap<i32, u32>, literal: i32) -> Result<(), OutOfMemor
 }
 
 fn lower_near(near: &mut Vec<u32>, place: usize)
-    ensures { (i : ℕ) → slice_index_or near.new.items i 0 ≡ (if i == place then slice_index_or near.old.items i 0 - 1 else slice_index_or near.old.items i 0) }
+    ensures { (i : ℕ) → slice_index_or near.new.items i 0
+        ≡ (if i == place then slice_index_or near.old.items i 0 - 1 else slice_index_or near.old.items i 0) }
 {
     if let Some(count) = near.get_mut(place) {
         *count = count.saturating_sub(1);
@@ -161,7 +165,8 @@ fn lower_near(near: &mut Vec<u32>, place: usize)
 }
 
 fn lower_far(far: &mut HashMap<i32, u32>, literal: i32)
-    ensures { (x : ℤ) → unwrap_or (get int_eq far.new x) 0 ≡ (if int_eq x literal then unwrap_or (get int_eq far.old x) 0 - 1 else unwrap_or (get int_eq far.old x) 0) }
+    ensures { (x : ℤ) → unwrap_or (get int_eq far.new x) 0
+        ≡ (if int_eq x literal then unwrap_or (get int_eq far.old x) 0 - 1 else unwrap_or (get int_eq far.old x) 0) }
 {
     if let Some(count) = far.get_mut(&literal) {
         *count = count.saturating_sub(1);

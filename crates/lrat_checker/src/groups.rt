@@ -7,13 +7,13 @@ ghost use Rattle.lrat_rules.specs.FalseLiterals.{set_of, before_of};
 ghost use Rattle.lrat_checker.specs.Memory.{candidate_keeps, group_keeps, groups_keep};
 
 use crate::hints::{HintsEnd, run_hints};
-use crate::live::LiveClauses;
+use crate::live::IndexedClauses;
 use cnf_base::{Group, Id, Lit, OutOfMemory};
 use lrat_rules::{Chain, Reason};
 
 /// The first fault of the groups in turn, or else that a candidate is neither blocked nor named by a group.
 pub fn resolvents_fault(
-    live: &mut LiveClauses,
+    live: &mut IndexedClauses,
     chain: &mut Chain,
     pivot: Lit,
     groups: &[Group],
@@ -35,7 +35,7 @@ pub fn resolvents_fault(
 
 // The groups in turn, each under the false literals that the addition's hints left.
 fn groups_fault(
-    live: &LiveClauses,
+    live: &IndexedClauses,
     chain: &mut Chain,
     pivot: Lit,
     groups: &[Group],
@@ -56,7 +56,7 @@ fn groups_fault(
 
 // A group is of a candidate, which is blocked or refuted by its hints.
 fn group_fault(
-    live: &LiveClauses,
+    live: &IndexedClauses,
     chain: &mut Chain,
     pivot: Lit,
     group: &Group,
@@ -82,14 +82,15 @@ fn group_fault(
 
 // The hints of a group have to reach a conflict, under the candidate's literals too.
 fn candidate_fault(
-    live: &LiveClauses,
+    live: &IndexedClauses,
     chain: &mut Chain,
     pivot: Lit,
     clause: &[Lit],
     hints: &[Id],
 ) -> Result<Option<Reason>, OutOfMemory>
     requires { before_of chain.old ≡ None }
-    ensures fault { IfOk result (λ fault. fault ≡ outcome_fault (chain_of live.now (with_candidate (set_of chain.old) pivot clause.now) hints.now)) }
+    ensures fault { IfOk result (λ fault. fault
+        ≡ outcome_fault (chain_of live.now (with_candidate (set_of chain.old) pivot clause.now) hints.now)) }
     ensures same_set { OnOk result (set_of chain.new ≡ set_of chain.old) }
     ensures no_group { OnOk result (before_of chain.new ≡ None) }
     ensures memory { OnErr result (IsTrue (candidate_keeps live.now (set_of chain.old) pivot clause.now hints.now)) }

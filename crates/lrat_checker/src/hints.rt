@@ -6,7 +6,7 @@ ghost use Rattle.lrat_rules.specs.FalseLiterals.{set_of, before_of};
 ghost use Rattle.lrat_checker.specs.Ends.{outcome_at};
 ghost use Rattle.lrat_checker.specs.Memory.{forces_literal};
 
-use crate::live::LiveClauses;
+use crate::live::IndexedClauses;
 use cnf_base::{Id, OutOfMemory};
 use lrat_rules::{Chain, Effect, Reason};
 
@@ -23,7 +23,7 @@ pub enum HintsEnd {
 
 /// Takes the hints in turn, up to the first conflict or bad hint.
 pub fn run_hints(
-    live: &LiveClauses,
+    live: &IndexedClauses,
     chain: &mut Chain,
     hints: &[Id],
 ) -> Result<HintsEnd, OutOfMemory>

@@ -9,7 +9,7 @@ ghost use Rattle.lrat_rules.specs.Run.{step_fault, after_step};
 ghost use Rattle.lrat_checker.specs.Memory.{may_want_memory};
 
 use crate::addition::addition_fault;
-use crate::live::LiveClauses;
+use crate::live::IndexedClauses;
 use cnf_base::{Cnf, Group, Id, Lit, OutOfMemory, Step};
 use lrat_rules::{Chain, Reason};
 use std::alloc::Global;
@@ -18,7 +18,7 @@ use std::marker::Model;
 /// Judges the steps of a proof in turn, from a formula's clauses on.
 #[derive(Debug, Drop)]
 pub struct Judge {
-    live: LiveClauses,
+    live: IndexedClauses,
     top: Id,
     chain: Chain,
 }
@@ -83,7 +83,8 @@ impl Judge {
         groups: &[Group],
     ) -> Result<Option<Reason>, OutOfMemory>
         ensures fault { IfOk result (λ answer. answer ≡ fault self.old id clause.now hints.now groups.now) }
-        ensures good { IfOk result (λ answer. IfNone answer (self.new ≡ record { live = with_clause self.old.live id clause.now; top = id })) }
+        ensures good { IfOk result (λ answer. IfNone answer (self.new
+            ≡ record { live = with_clause self.old.live id clause.now; top = id })) }
         ensures bad { IfOk result (λ answer. OnSome answer (self.new ≡ self.old)) }
         ensures err { OnErr result (self.new ≡ self.old) }
         ensures memory { OnErr result (IsTrue (may_want_memory self.old (Add id clause.now hints.now groups.now))) }
@@ -107,10 +108,10 @@ impl Judge {
 }
 
 // The clauses of a formula under 1, 2, ..
-fn numbered(alloc: Global, formula: &Cnf) -> Result<LiveClauses, OutOfMemory>
+fn numbered(alloc: Global, formula: &Cnf) -> Result<IndexedClauses, OutOfMemory>
     ensures { IfOk result (λ live. live ≡ map.from_entries (numbered_from 1 formula.now.clauses)) }
 {
-    let mut live = LiveClauses::new(alloc);
+    let mut live = IndexedClauses::new(alloc);
     lrat_rules::start_law();
     for i in 0..formula.len() {
         live.insert(Id(i as u64 + 1), formula.clause(i + 1))?;

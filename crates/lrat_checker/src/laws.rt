@@ -13,11 +13,13 @@ use lrat_text::{long_text_law, whole_text_law};
 /// lines that end under the limit, and else it is too long; so it is never verified, and refused only as the rules
 /// refuse it.
 pub fn check_law()
-    ensures same { (clauses : List (List ℤ)) (bytes : List ℕ) → length bytes ≤ max_bytes → text_verdict clauses bytes ≡ Some (verdict_as (verdict clauses bytes)) }
+    ensures same { (clauses : List (List ℤ)) (bytes : List ℕ) → length bytes ≤ max_bytes → text_verdict clauses bytes
+        ≡ Some (verdict_as (verdict clauses bytes)) }
     ensures long { (clauses : List (List ℤ)) (bytes : List ℕ) → max_bytes < length bytes
         → text_verdict clauses bytes ≡ verdict_within (run (start clauses) (lines_within max_bytes bytes)) }
     ensures verified { (clauses : List (List ℤ)) (bytes : List ℕ) → text_verdict clauses bytes ≡ Some Verified → Refutes clauses bytes }
-    ensures refutes { (clauses : List (List ℤ)) (bytes : List ℕ) → length bytes ≤ max_bytes → Refutes clauses bytes → text_verdict clauses bytes ≡ Some Verified }
+    ensures refutes { (clauses : List (List ℤ)) (bytes : List ℕ) → length bytes ≤ max_bytes → Refutes clauses bytes
+        → text_verdict clauses bytes ≡ Some Verified }
     ensures refused { (clauses : List (List ℤ)) (bytes : List ℕ) (line : ℕ) (reason : Reason)
         → text_verdict clauses bytes ≡ Some (Refused line reason) → verdict clauses bytes ≡ Some (line, reason) }
     ensures overlong { (clauses : List (List ℤ)) (bytes : List ℕ) → text_verdict clauses bytes ≡ None → max_bytes < length bytes }

@@ -23,7 +23,7 @@ use std::marker::Model;
 
 /// The live clauses.
 #[derive(Debug, Drop)]
-pub struct LiveClauses {
+pub struct IndexedClauses {
     alloc: Global,
     clauses: Clauses,
     counts: Counts,
@@ -31,7 +31,7 @@ pub struct LiveClauses {
     indexed: bool,
 }
 
-impl Model for LiveClauses {
+impl Model for IndexedClauses {
     ghost use Rattle.std.specs.Prelude.{ℤ, List};
     ghost use Rattle.std.specs.Ordering.{nat_cmp};
     ghost use Rattle.std.specs.Coded.{coded_ℕ, coded_ℤ, coded_list};
@@ -47,12 +47,12 @@ impl Model for LiveClauses {
     ghost invariant = { λ live. AreFound live.counts live.holders live.indexed live.clauses };
 }
 
-impl LiveClauses {
+impl IndexedClauses {
     /// No clause.
     pub fn new(alloc: Global) -> Self
         ensures { result ≡ map.empty }
     {
-        LiveClauses {
+        IndexedClauses {
             alloc,
             clauses: Clauses::new(alloc),
             counts: Counts::new(alloc),

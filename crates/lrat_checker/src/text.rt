@@ -57,7 +57,8 @@ fn judge_steps<S: Source>(
         (λ bytes more. Answers result (steps_verdict judge.old false (steps_ahead reader.old bytes))) }
     // unless the reader wanted memory, a step did
     ensures memory { IsTrue S.tells → result ≡ Err OutOfMemory → reader.new.status ≡ Reading →
-        Decides (S.channel source.old) (S.channel source.new) (λ bytes more. IsTrue (steps_may_want_memory judge.old (steps_ahead reader.old bytes))) }
+        Decides (S.channel source.old) (S.channel source.new)
+        (λ bytes more. IsTrue (steps_may_want_memory judge.old (steps_ahead reader.old bytes))) }
     ensures undecided { IsTrue S.tells → result ≡ Err ReadFault →
         steps_verdict judge.old false (so_far reader.old (gained (S.channel source.old) (S.channel source.new))) ≡ None }
     ensures fault { result ≡ Err ReadFault → Rose (S.channel source.old).faults (S.channel source.new).faults }

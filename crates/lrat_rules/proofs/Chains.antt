@@ -1,12 +1,14 @@
 -- Chains of hints are sound: under an assignment that satisfies the live clauses and makes the given literals
 -- false, no chain closes, and the literals that it adds are false too.
-use Rattle.std.proofs.Common.{◌≡◌, ℕ, zero, suc, true, false, cond, not, ℤ, pos, negsuc, neg_ℤ, List, [], ◌∷◌, None, Some, if◌then◌else◌, int_eq, refl, sym, ap, ◌∙◌, subst, inl, inr}
+use Rattle.std.proofs.Common.{◌≡◌, ℕ, zero, suc, true, false, cond, not, ℤ, pos, negsuc, neg_ℤ, List, [], ◌∷◌, None, Some, if◌then◌else◌}
+use Rattle.std.proofs.Common.{int_eq, refl, sym, ap, ◌∙◌, subst, inl, inr}
 use Rattle.std.specs.List.{list_all}
 use Rattle.std.proofs.lemmas.Bool.{and_parts, or_cases, or_parts, or_from, both_ways}
 use Rattle.cnf_base.specs.Truth.{Assignment, literal_holds, clause_holds}
 use Rattle.lrat_rules.specs.declared.outcome.Effect.TheVariants.{Unit as Forced, NotUnit}
 use Rattle.lrat_rules.specs.State.{Live, clause_at, SatisfiesLive}
-use Rattle.lrat_rules.specs.Chain.{FalseSet, literals_of, with_literal, outside, effect_of_outside, Outcome, Open, Closed, Bad, after_effect, after_hint, chain}
+use Rattle.lrat_rules.specs.Chain.{FalseSet, literals_of, with_literal, outside, effect_of_outside, Outcome, Open, Closed, Bad}
+use Rattle.lrat_rules.specs.Chain.{after_effect, after_hint, chain}
 use Rattle.lrat_rules.specs.Soundness.{is_nonzero, has_no_zero, LiveHasNoZero}
 use Rattle.lrat_rules.proofs.Tests.{int_eq-true, or_rest, or_weaken, not_not}
 
@@ -29,7 +31,8 @@ Falsifies-literals_of a clause h = record { falsified = each clause h } where
     | inr later ↦ each ys (or_parts (literal_holds a y) _ h).1 x later
   ]
 
-Falsifies-with_literal : (a : Assignment) (n : FalseSet) (y : ℤ) → Falsifies a n → literal_holds a y ≡ false → Falsifies a (with_literal y n)
+Falsifies-with_literal : (a : Assignment) (n : FalseSet) (y : ℤ) → Falsifies a n → literal_holds a y ≡ false
+    → Falsifies a (with_literal y n)
 Falsifies-with_literal a n y f h = record {
   falsified = λ x m. elim (or_cases (int_eq x y) (n x) m) [
     | inl here ↦ ap (literal_holds a) (int_eq-true x y here) ∙ h
@@ -37,7 +40,8 @@ Falsifies-with_literal a n y f h = record {
   ];
 }
 
-clause_holds-outside : (a : Assignment) (n : FalseSet) → Falsifies a n → (clause : List ℤ) → clause_holds a clause ≡ true → clause_holds a (outside n clause) ≡ true
+clause_holds-outside : (a : Assignment) (n : FalseSet) → Falsifies a n → (clause : List ℤ) → clause_holds a clause ≡ true
+    → clause_holds a (outside n clause) ≡ true
 clause_holds-outside a n f [] h = h
 clause_holds-outside a n f (x ∷ xs) h =
     elim (n x) as (λ b. n x ≡ b → clause_holds a (cond (not b) (x ∷ outside n xs) (outside n xs)) ≡ true) [
@@ -55,12 +59,15 @@ has_no_zero-outside n (x ∷ xs) h =
     ]
 
 -- copies of a false literal don't make a clause hold
-all_same_false : (a : Assignment) (x : ℤ) (xs : List ℤ) → list_all (int_eq x) xs ≡ true → literal_holds a x ≡ false → clause_holds a xs ≡ false
+all_same_false : (a : Assignment) (x : ℤ) (xs : List ℤ) → list_all (int_eq x) xs ≡ true → literal_holds a x ≡ false → clause_holds a xs
+    ≡ false
 all_same_false a x [] same h = refl
 all_same_false a x (y ∷ ys) same h =
-    or_from _ _ (ap (literal_holds a) (sym (int_eq-true x y (and_parts (int_eq x y) _ same).0)) ∙ h) (all_same_false a x ys (and_parts (int_eq x y) _ same).1 h)
+    or_from _ _ (ap (literal_holds a) (sym (int_eq-true x y (and_parts (int_eq x y) _ same).0))
+    ∙ h) (all_same_false a x ys (and_parts (int_eq x y) _ same).1 h)
 
-forced_holds : (a : Assignment) (x : ℤ) (xs : List ℤ) → list_all (int_eq x) xs ≡ true → clause_holds a (x ∷ xs) ≡ true → literal_holds a x ≡ true
+forced_holds : (a : Assignment) (x : ℤ) (xs : List ℤ) → list_all (int_eq x) xs ≡ true → clause_holds a (x ∷ xs) ≡ true → literal_holds a x
+    ≡ true
 forced_holds a x xs same h =
     elim (literal_holds a x) as (λ b. literal_holds a x ≡ b → b ≡ true) [
       | true ↦ λ e. refl
@@ -73,7 +80,8 @@ IsSound a (Open n) = Falsifies a n
 IsSound a Closed = ⊥
 IsSound a (Bad reason) = Unit {0}
 
-after_effect-sound : (a : Assignment) (n : FalseSet) (more : FalseSet → Outcome) → Falsifies a n → ((m : FalseSet) → Falsifies a m → IsSound a (more m))
+after_effect-sound : (a : Assignment) (n : FalseSet) (more : FalseSet → Outcome) → Falsifies a n
+    → ((m : FalseSet) → Falsifies a m → IsSound a (more m))
     → (xs : List ℤ) → clause_holds a xs ≡ true → has_no_zero xs ≡ true → IsSound a (after_effect n more (effect_of_outside xs))
 after_effect-sound a n more f sound [] h z = cc
 after_effect-sound a n more f sound (x ∷ xs) h z =
@@ -83,7 +91,8 @@ after_effect-sound a n more f sound (x ∷ xs) h z =
       | false ↦ λ e. tt
     ] refl
 
-pub chain-sound : (a : Assignment) (live : Live) → LiveHasNoZero live → SatisfiesLive a live → (n : FalseSet) (hints : List ℕ) → Falsifies a n → IsSound a (chain live n hints)
+pub chain-sound : (a : Assignment) (live : Live) → LiveHasNoZero live → SatisfiesLive a live → (n : FalseSet) (hints : List ℕ)
+    → Falsifies a n → IsSound a (chain live n hints)
 chain-sound a live z s n [] f = f
 chain-sound a live z s n (hint ∷ hints) f =
     elim (clause_at live hint) as (λ o. clause_at live hint ≡ o → IsSound a (after_hint n (λ m. chain live m hints) o)) [
@@ -98,5 +107,6 @@ pub clause_holds-Closes : (a : Assignment) (live : Live) (clause : List ℤ) (hi
 clause_holds-Closes a live clause hints z s closed =
     elim (clause_holds a clause) as (λ b. clause_holds a clause ≡ b → b ≡ true) [
       | true ↦ λ e. refl
-      | false ↦ λ e. absurd (subst (IsSound a) closed (chain-sound a live z s (literals_of clause) hints (Falsifies-literals_of a clause e)))
+      | false ↦ λ e. absurd (subst (IsSound a) closed (chain-sound a live z s (literals_of clause) hints
+          (Falsifies-literals_of a clause e)))
     ] refl

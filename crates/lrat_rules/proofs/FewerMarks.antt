@@ -1,5 +1,6 @@
 -- Fewer live clauses have no more extension variables.
-use Rattle.std.proofs.Common.{◌≡◌, ℕ, ◌+◌, ◌-◌, ◌<◌, ◌≤◌, Bool, true, false, not, ◌||◌, ◌&&◌, cond, ℤ, List, [], ◌∷◌, None, Some, nat_cmp, refl, sym, ap, ◌∙◌, subst, inl, inr, arith, eq-eqb, eqb-true}
+use Rattle.std.proofs.Common.{◌≡◌, ℕ, ◌+◌, ◌-◌, ◌<◌, ◌≤◌, Bool, true, false, not, ◌||◌, ◌&&◌, cond, ℤ, List, [], ◌∷◌, None, Some, nat_cmp}
+use Rattle.std.proofs.Common.{refl, sym, ap, ◌∙◌, subst, inl, inr, arith, eq-eqb, eqb-true}
 use Rattle.std.specs.Prelude.{nat_lt, is_some}
 use Rattle.std.specs.List.{filter, flat_map, list_any}
 use Rattle.std.specs.Ordering.{eq_by_cmp}
@@ -19,19 +20,23 @@ Numbers = finset.FinSet nat_cmp
 not_empty : (t : Numbers) (k : ℕ) → finset.contains t k ≡ true → 0 < finset.len t
 not_empty t k holds = elim (cases_lt 0 (finset.len t)) [
   | inl positive ↦ positive
-  | inr small ↦ absurd (both_ways (finset.contains t k) (ap (λ (s : Numbers). finset.contains s k) (finset.empty_of_len t (omega arith)) ∙ finset.contains-empty nat_cmp k) holds)
+  | inr small ↦ absurd (both_ways (finset.contains t k) (ap (λ (s : Numbers). finset.contains s k) (finset.empty_of_len t (omega arith))
+      ∙ finset.contains-empty nat_cmp k) holds)
 ]
 
 -- a number that is in a list is none that isn't
-other : (ks : List ℕ) (k q : ℕ) → finset.contains (finset.from_list {R = nat_cmp} ks) k ≡ false → list_any (eq_by_cmp nat_cmp q) ks ≡ true → eq_by_cmp nat_cmp q k ≡ false
+other : (ks : List ℕ) (k q : ℕ) → finset.contains (finset.from_list {R = nat_cmp} ks) k ≡ false → list_any (eq_by_cmp nat_cmp q) ks ≡ true
+    → eq_by_cmp nat_cmp q k ≡ false
 other ks k q new h =
     elim (cases_Bool (eq_by_cmp nat_cmp q k)) [
       | inl same ↦ absurd (both_ways (finset.contains (finset.from_list {R = nat_cmp} ks) k) new
-          (finset.contains-from_list nat_cmp_total ks k ∙ subst (λ n. list_any (eq_by_cmp nat_cmp n) ks ≡ true) (eqb-true q k (sym (unsigned_tied q k) ∙ same)) h))
+          (finset.contains-from_list nat_cmp_total ks k ∙ subst (λ n. list_any (eq_by_cmp nat_cmp n) ks
+          ≡ true) (eqb-true q k (sym (unsigned_tied q k) ∙ same)) h))
       | inr differ ↦ differ
     ]
 
-len-within : (xs : List ℕ) (t : Numbers) → ((q : ℕ) → list_any (eq_by_cmp nat_cmp q) xs ≡ true → finset.contains t q ≡ true) → finset.len (finset.from_list {R = nat_cmp} xs) ≤ finset.len t
+len-within : (xs : List ℕ) (t : Numbers) → ((q : ℕ) → list_any (eq_by_cmp nat_cmp q) xs ≡ true → finset.contains t q ≡ true)
+    → finset.len (finset.from_list {R = nat_cmp} xs) ≤ finset.len t
 len-within [] t within = let none = finset.len-empty nat_cmp in omega arith
 len-within (k ∷ ks) t within =
     let s : Numbers = finset.from_list ks in
@@ -44,9 +49,11 @@ len-within (k ∷ ks) t within =
       | inr new ↦
           let there : finset.contains t k ≡ true = within k (or_left _ _ (unsigned_tied k k ∙ eq-eqb k k refl)) in
           let some = not_empty t k there in
-          let rest = len-within ks (finset.remove t k) (λ q h. finset.contains-remove nat_cmp_total t k q ∙ and_from _ _ (ap not (other ks k q new h)) (within q (or_right _ _ h))) in
+          let rest = len-within ks (finset.remove t k) (λ q h. finset.contains-remove nat_cmp_total t k q
+          ∙ and_from _ _ (ap not (other ks k q new h)) (within q (or_right _ _ h))) in
           let longer : finset.len (finset.insert s k) ≡ finset.len s + 1 = more ∙ ap (λ b. cond b (finset.len s) (finset.len s + 1)) new in
-          let fewer : finset.len (finset.remove t k) ≡ finset.len t - 1 = finset.len-remove nat_cmp_total t k ∙ ap (λ b. cond b (finset.len t - 1) (finset.len t)) there in
+          let fewer : finset.len (finset.remove t k) ≡ finset.len t - 1 = finset.len-remove nat_cmp_total t k
+          ∙ ap (λ b. cond b (finset.len t - 1) (finset.len t)) there in
           omega arith
     ]
 
@@ -59,9 +66,11 @@ any-filter test p (x ∷ xs) =
       | false ↦ any-filter test p xs
     ]
 
-any-flat_map : (test : ℕ → Bool) (f : ℕ → List ℕ) (ids : List ℕ) → list_any test (flat_map f ids) ≡ list_any (λ id. list_any test (f id)) ids
+any-flat_map : (test : ℕ → Bool) (f : ℕ → List ℕ) (ids : List ℕ) → list_any test (flat_map f ids)
+    ≡ list_any (λ id. list_any test (f id)) ids
 any-flat_map test f [] = refl
-any-flat_map test f (id ∷ ids) = list_any-append test (f id) (flat_map f ids) ∙ ap (λ b. list_any test (f id) || b) (any-flat_map test f ids)
+any-flat_map test f (id ∷ ids) = list_any-append test (f id) (flat_map f ids)
+    ∙ ap (λ b. list_any test (f id) || b) (any-flat_map test f ids)
 
 -- one of the list that passes a test
 some_of : (test : ℕ → Bool) (ids : List ℕ) → list_any test ids ≡ true → (id : ℕ) × (test id ≡ true)
@@ -80,10 +89,13 @@ any_key test (x ∷ xs) id any passes =
 abbrev has_variable : (ℕ → Bool) → Live → ℕ → Bool
 has_variable test live id = list_any test (variables_of (clause_at live id))
 
-has_variable-fewer : (test : ℕ → Bool) (few more : Live) → ((id : ℕ) (clause : List ℤ) → clause_at few id ≡ Some clause → clause_at more id ≡ Some clause)
-    → (id : ℕ) → has_variable test few id ≡ true → (has_variable test more id ≡ true) × (list_any (eq_by_cmp nat_cmp id) (finmap.keys more) ≡ true)
+has_variable-fewer : (test : ℕ → Bool) (few more : Live) → ((id : ℕ) (clause : List ℤ) → clause_at few id ≡ Some clause → clause_at more id
+    ≡ Some clause)
+    → (id : ℕ) → has_variable test few id ≡ true → (has_variable test more id ≡ true)
+    × (list_any (eq_by_cmp nat_cmp id) (finmap.keys more) ≡ true)
 has_variable-fewer test few more keeps id h =
-    elim (clause_at few id) as (λ o. clause_at few id ≡ o → list_any test (variables_of o) ≡ true → (has_variable test more id ≡ true) × (list_any (eq_by_cmp nat_cmp id) (finmap.keys more) ≡ true)) [
+    elim (clause_at few id) as (λ o. clause_at few id ≡ o → list_any test (variables_of o) ≡ true → (has_variable test more id ≡ true)
+    × (list_any (eq_by_cmp nat_cmp id) (finmap.keys more) ≡ true)) [
       | None ↦ λ _ none. cc
       | Some clause ↦ λ is has. let at = keeps id clause is in
           (ap (λ o. list_any test (variables_of o)) at ∙ has, sym (finmap.contains_key-keys more id) ∙ ap is_some at)
@@ -91,12 +103,14 @@ has_variable-fewer test few more keeps id h =
 
 -- a number is an extension variable of the live clauses where some clause has it
 holds-extension : (vars : ℕ) (live : Live) (q : ℕ)
-    → list_any (eq_by_cmp nat_cmp q) (filter (nat_lt vars) (live_variables live)) ≡ list_any (has_variable (λ x. nat_lt vars x && eq_by_cmp nat_cmp q x) live) (finmap.keys live)
+    → list_any (eq_by_cmp nat_cmp q) (filter (nat_lt vars) (live_variables live))
+    ≡ list_any (has_variable (λ x. nat_lt vars x && eq_by_cmp nat_cmp q x) live) (finmap.keys live)
 holds-extension vars live q =
     any-filter (eq_by_cmp nat_cmp q) (nat_lt vars) (live_variables live)
     ∙ any-flat_map (λ x. nat_lt vars x && eq_by_cmp nat_cmp q x) (λ id. variables_of (clause_at live id)) (finmap.keys live)
 
-pub in_use-fewer : (vars : ℕ) (few more : State) → ((id : ℕ) (clause : List ℤ) → clause_at few.live id ≡ Some clause → clause_at more.live id ≡ Some clause)
+pub in_use-fewer : (vars : ℕ) (few more : State) → ((id : ℕ) (clause : List ℤ) → clause_at few.live id ≡ Some clause
+    → clause_at more.live id ≡ Some clause)
     → in_use vars few ≤ in_use vars more
 in_use-fewer vars few more keeps =
     len-within (filter (nat_lt vars) (live_variables few.live)) (extension_variables vars more.live) (λ q h.

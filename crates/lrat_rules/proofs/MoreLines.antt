@@ -11,7 +11,8 @@ judge_line-goes_on : (state reached : State) (number : ℕ) (later more : State 
     → (o : Option Step) → judge_line state number later o ≡ Reached reached → judge_line state number more o ≡ result
 judge_line-goes_on state reached number later more result goes_on None h = cc
 judge_line-goes_on state reached number later more result goes_on (Some step) h =
-    elim (step_fault state step) as (λ f. judge_step state number later step f ≡ Reached reached → judge_step state number more step f ≡ result) [
+    elim (step_fault state step) as (λ f. judge_step state number later step f ≡ Reached reached → judge_step state number more step f
+    ≡ result) [
       | None ↦ λ e. goes_on (after_step state step) e
       | Some reason ↦ λ e. cc
     ] h
@@ -27,7 +28,8 @@ run-append state reached (line ∷ lines) ys h =
 pub run_on : (state reached : State) (number : ℕ) (step : Step) (lines : List Line)
     → run state (record { line = number; step = Some step } ∷ lines) ≡ Reached reached → run (after_step state step) lines ≡ Reached reached
 run_on state reached number step lines h =
-    elim (step_fault state step) as (λ f. judge_step state number (λ next. run next lines) step f ≡ Reached reached → run (after_step state step) lines ≡ Reached reached) [
+    elim (step_fault state step) as (λ f. judge_step state number (λ next. run next lines) step f ≡ Reached reached
+    → run (after_step state step) lines ≡ Reached reached) [
       | None ↦ λ e. e
       | Some reason ↦ λ e. cc
     ] h

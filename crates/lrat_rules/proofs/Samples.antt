@@ -1,5 +1,6 @@
 -- Two proofs that the rules accept.
-use Rattle.std.proofs.Common.{◌≡◌, ℕ, true, false, ℤ, pos, negsuc, List, [], ◌∷◌, None, Some, codes, refl, sym, ap, ◌∙◌, arith, cond, not, nat_cmp, eq-eqb, ne_eqb, inl, inr}
+use Rattle.std.proofs.Common.{◌≡◌, ℕ, true, false, ℤ, pos, negsuc, List, [], ◌∷◌, None, Some, codes, refl, sym, ap, ◌∙◌, arith, cond, not}
+use Rattle.std.proofs.Common.{nat_cmp, eq-eqb, ne_eqb, inl, inr}
 use Rattle.std.specs.Ordering.{eq_by_cmp}
 use Rattle.std.specs.Cmp.{unsigned_tied}
 use Rattle.std.specs.FinMap as finmap
@@ -26,7 +27,8 @@ other_is_no_candidate : (id : ℕ) → (id ≡ 2 → ⊥) → is_candidate (star
 other_is_no_candidate id other =
     ap (if_live (holds_negated (pos 1))) (clause_at-start two id)
     ∙ (elim (eq_by_cmp nat_cmp id 1)
-    as (λ b. if_live (holds_negated (pos 1)) (cond b (Some (pos 1 ∷ pos 2 ∷ [])) (cond (eq_by_cmp nat_cmp id 2) (Some (negsuc 0 ∷ pos 2 ∷ pos 3 ∷ [])) None)) ≡ false) [
+    as (λ b. if_live (holds_negated (pos 1)) (cond b (Some (pos 1 ∷ pos 2 ∷ []))
+    (cond (eq_by_cmp nat_cmp id 2) (Some (negsuc 0 ∷ pos 2 ∷ pos 3 ∷ [])) None)) ≡ false) [
       | true ↦ refl
       | false ↦ rw (unsigned_tied id 2, ne_eqb id 2 other)
     ])
@@ -44,7 +46,8 @@ group_good = rw (clause_at-start-within two 1 (omega arith), clause_at-start-wit
 pub resolvent_good : fault (start two) 3 (pos 1 ∷ []) [] (group ∷ []) ≡ None
 resolvent_good =
     resolvents_fault-none (start two).live (literals_of (pos 1 ∷ [])) (pos 1) (group ∷ []) group_good
-    (list_all_each (is_settled (start two).live (literals_of (pos 1 ∷ [])) (pos 1) (group ∷ [])) (finmap.keys (start two).live) each_settled)
+    (list_all_each (is_settled (start two).live (literals_of (pos 1 ∷ [])) (pos 1) (group ∷ []))
+    (finmap.keys (start two).live) each_settled)
 
 -- x1, and its negation
 abbrev opposite : List (List ℤ)
@@ -55,5 +58,6 @@ opposite_closes = rw (clause_at-start-within opposite 0 (omega arith), clause_at
 
 pub opposite_refuted : Refutes opposite (codes "3 0 1 2 0\n")
 opposite_refuted =
-    let good : fault (start opposite) 3 [] (1 ∷ 2 ∷ []) [] ≡ None = fault-closes (start opposite) 3 [] (1 ∷ 2 ∷ []) (omega arith) record { closed = opposite_closes } in
+    let good : fault (start opposite) 3 [] (1 ∷ 2 ∷ []) [] ≡ None = fault-closes (start opposite) 3 [] (1 ∷ 2
+    ∷ []) (omega arith) record { closed = opposite_closes } in
     record { verified = rw good }

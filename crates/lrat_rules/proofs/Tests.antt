@@ -1,5 +1,6 @@
 -- What tests of numbers and lists tell.
-use Rattle.std.proofs.Common.{◌≡◌, ℕ, Bool, true, false, not, ◌||◌, List, [], ◌∷◌, ℤ, int_eq, nat_cmp, refl, sym, ◌∙◌, subst, eqb-true, inl, inr}
+use Rattle.std.proofs.Common.{◌≡◌, ℕ, Bool, true, false, not, ◌||◌, List, [], ◌∷◌, ℤ, int_eq, nat_cmp, refl, sym, ◌∙◌, subst, eqb-true, inl}
+use Rattle.std.proofs.Common.{inr}
 use Rattle.std.specs.List.{list_any, list_all}
 use Rattle.std.specs.Ordering.{eq_by_cmp}
 use Rattle.std.specs.Cmp.{unsigned_tied}
@@ -43,6 +44,8 @@ pub list_all_each : {X : Type 0} (p : X → Bool) (xs : List X) → ((x : X) →
 list_all_each p [] each = refl
 list_all_each p (x ∷ xs) each = rw (each x) (list_all_each p xs each)
 
-pub list_all_weaken : {X : Type 0} (p q : X → Bool) (xs : List X) → ((x : X) → p x ≡ true → q x ≡ true) → list_all p xs ≡ true → list_all q xs ≡ true
+pub list_all_weaken : {X : Type 0} (p q : X → Bool) (xs : List X) → ((x : X) → p x ≡ true → q x ≡ true) → list_all p xs ≡ true
+    → list_all q xs ≡ true
 list_all_weaken p q [] weaken h = refl
-list_all_weaken p q (x ∷ xs) weaken h = and_from _ _ (weaken x (and_parts (p x) _ h).0) (list_all_weaken p q xs weaken (and_parts (p x) _ h).1)
+list_all_weaken p q (x ∷ xs) weaken h = and_from _ _ (weaken x (and_parts (p x) _ h).0)
+    (list_all_weaken p q xs weaken (and_parts (p x) _ h).1)

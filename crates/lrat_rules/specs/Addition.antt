@@ -76,7 +76,8 @@ is_settled live n pivot groups id =
 
 abbrev pub resolvents_fault : Live → FalseSet → ℤ → List Group → Option Reason
 resolvents_fault live n pivot groups =
-    first_of_faults (groups_fault live n pivot groups) (if list_all (is_settled live n pivot groups) (map.keys live) then None else Some CandidateOpen)
+    first_of_faults (groups_fault live n pivot groups) (if list_all (is_settled live n pivot groups)
+    (map.keys live) then None else Some CandidateOpen)
 
 -- after the positive hints; the pivot is the clause's first literal
 abbrev pub fault_after_hints : Live → List ℤ → List Group → Outcome → Option Reason
@@ -88,4 +89,5 @@ fault_after_hints live (pivot ∷ clause) groups (Open n) = resolvents_fault liv
 -- why the addition of this clause under this number, with these hints and groups, is not good; nothing where it is
 abbrev pub fault : State → ℕ → List ℤ → List ℕ → List Group → Option Reason
 fault state id clause hints groups =
-    if nat_le id state.top then Some IdNotGreater else fault_after_hints state.live clause groups (chain state.live (literals_of clause) hints)
+    if nat_le id state.top then Some IdNotGreater else fault_after_hints state.live clause groups
+    (chain state.live (literals_of clause) hints)

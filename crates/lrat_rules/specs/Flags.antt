@@ -17,9 +17,11 @@ near_places = 8388608
 -- the flag of this literal, where it has one
 unfoldable pub is_set : Flags → ℤ → Bool
 is_set flags literal =
-    if nat_lt (place_of literal) near_places then slice_index_or flags.near.items (place_of literal) false else unwrap_or (hash.get int_eq flags.far literal) false
+    if nat_lt (place_of literal) near_places then slice_index_or flags.near.items (place_of literal) false else unwrap_or
+    (hash.get int_eq flags.far literal) false
 
 -- the literal has a flag
 unfoldable pub has_flag : Flags → ℤ → Bool
 has_flag flags literal =
-    if nat_lt (place_of literal) near_places then nat_lt (place_of literal) (length flags.near.items) else is_some (hash.get int_eq flags.far literal)
+    if nat_lt (place_of literal) near_places then nat_lt (place_of literal) (length flags.near.items) else is_some
+    (hash.get int_eq flags.far literal)

@@ -1,6 +1,7 @@
 -- The words of the soundness law: what a good step does to an assignment that satisfies the live clauses. (Järvisalo,
 -- Heule, Biere: Inprocessing Rules, IJCAR 2012: a RAT clause keeps satisfiability.)
-use Rattle.std.specs.Prelude.{◌≡◌, ◌⊎◌, ℕ, suc, Bool, true, false, ℤ, pos, negsuc, nat_abs, List, [], ◌∷◌, Option, None, Some, IsTrue, nat_lt, ◌==◌, if◌then◌else◌}
+use Rattle.std.specs.Prelude.{◌≡◌, ◌⊎◌, ℕ, suc, Bool, true, false, ℤ, pos, negsuc, nat_abs, List, [], ◌∷◌, Option, None, Some, IsTrue}
+use Rattle.std.specs.Prelude.{nat_lt, ◌==◌, if◌then◌else◌}
 use Rattle.std.specs.List.{list_all}
 use Rattle.cnf_base.specs.declared.step.Step.{Step}
 use Rattle.cnf_base.specs.declared.step.Step.TheVariants.{Add, Delete}

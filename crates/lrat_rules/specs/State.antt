@@ -41,4 +41,5 @@ SatisfiesLive a live = (id : ℕ) (clause : List ℤ) → clause_at live id ≡ 
 -- a state can be a model's value: it is stored as the pair of its fields
 abbrev pub state_code : Coded State
 state_code =
-    code_by (Live × ℕ) (coded× (map.code coded_ℕ (coded_list coded_ℤ)) coded_ℕ) (λ s. (s.live, s.top)) (λ p. record { live = p.0; top = p.1 }) (λ _. refl)
+    code_by (Live × ℕ) (coded× (map.code coded_ℕ (coded_list coded_ℤ)) coded_ℕ) (λ s. (s.live, s.top))
+    (λ p. record { live = p.0; top = p.1 }) (λ _. refl)

@@ -14,7 +14,7 @@ pub fn effect_on(literals: &[Lit], clause: &[Lit]) -> Effect
 {
     let mut forced = None;
     for literal in clause {
-        if literals.contains(literal) {
+        if is_among(literals, *literal) {
             continue;
         }
         if !force(&mut forced, *literal) {
@@ -40,7 +40,21 @@ pub fn effect_under(trail: &Trail, clause: &[Lit]) -> Effect
     effect_of_forced(forced)
 }
 
+/// Whether a literal is one of these few. (`contains` would be a call of its own, dearer than the tests.)
+#[inline(always)]
+pub fn is_among(literals: &[Lit], literal: Lit) -> bool
+    ensures { result ≡ literals_of literals.now literal }
+{
+    for own in literals {
+        if literal == *own {
+            return true;
+        }
+    }
+    false
+}
+
 // Forces a literal that isn't false. The answer is whether no other one was forced before.
+#[inline(always)]
 fn force(forced: &mut Option<Lit>, literal: Lit) -> bool
     ensures forced { forced.new ≡ forced_with forced.old literal }
     ensures alone { result ≡ agrees forced.old literal }
@@ -54,6 +68,7 @@ fn force(forced: &mut Option<Lit>, literal: Lit) -> bool
     }
 }
 
+#[inline(always)]
 fn effect_of_forced(forced: Option<Lit>) -> Effect
     ensures { result ≡ effect_of_forced forced }
 {

@@ -1,6 +1,7 @@
 // A flag for each literal, found at once by the literal: a byte in a list for a literal of a usual variable, and an entry of a
 // hash map for one beyond, so that a great variable costs no long list. A flag takes memory when it is reserved, and keeps it.
-ghost use Rattle.std.specs.Prelude.{◌≡◌, ◌<◌, ◌&&◌, ◌||◌, ℕ, ℤ, false, not, Some, OnOk, IsTrue, length, is_some, slice_index_or, if◌then◌else◌, ◌==◌};
+ghost use Rattle.std.specs.Prelude.{◌≡◌, ◌<◌, ◌&&◌, ◌||◌, ℕ, ℤ, false, not, Some, OnOk, IsTrue, length, is_some, slice_index_or};
+ghost use Rattle.std.specs.Prelude.{if◌then◌else◌, ◌==◌};
 ghost use Rattle.std.specs.Option.{unwrap_or};
 ghost use Rattle.std.specs.Ordering.{int_eq};
 ghost use Rattle.std.specs.HashMap.{get};
@@ -32,6 +33,7 @@ impl Flags {
         }
     }
 
+    #[inline(always)]
     pub fn is_set(&self, literal: Lit) -> bool
         ensures { result ≡ is_set self.now literal }
     {
@@ -44,6 +46,7 @@ impl Flags {
     }
 
     /// Reserves the flag of a literal.
+    #[inline(always)]
     pub fn reserve(&mut self, literal: Lit) -> Result<(), OutOfMemory>
         ensures same { (x : ℤ) → is_set self.new x ≡ is_set self.old x }
         ensures kept { (x : ℤ) → IsTrue (has_flag self.old x) → IsTrue (has_flag self.new x) }
@@ -58,6 +61,7 @@ impl Flags {
     }
 
     /// Sets the flag of a literal.
+    #[inline(always)]
     pub fn set(&mut self, literal: Lit)
         requires { IsTrue (has_flag self.old literal) }
         ensures set { (x : ℤ) → is_set self.new x ≡ (int_eq x literal || is_set self.old x) }
@@ -67,6 +71,7 @@ impl Flags {
     }
 
     /// The flag of a literal is set no more.
+    #[inline(always)]
     pub fn clear(&mut self, literal: Lit)
         ensures cleared { (x : ℤ) → is_set self.new x ≡ (not (int_eq x literal) && is_set self.old x) }
         ensures kept { (x : ℤ) → has_flag self.new x ≡ has_flag self.old x }
@@ -75,6 +80,7 @@ impl Flags {
     }
 
     // Changes the flag of a literal that has one.
+    #[inline(always)]
     fn put(&mut self, literal: Lit, flag: bool)
         ensures changed { (x : ℤ) → is_set self.new x ≡ (if int_eq x literal && has_flag self.old x then flag else is_set self.old x) }
         ensures kept { (x : ℤ) → has_flag self.new x ≡ has_flag self.old x }
@@ -89,6 +95,7 @@ impl Flags {
 }
 
 /// The place of a literal in a list with a place for each literal.
+#[inline(always)]
 pub fn place_of(literal: Lit) -> usize
     ensures { result ≡ place_of literal }
 {
@@ -100,6 +107,7 @@ pub fn place_of(literal: Lit) -> usize
     }
 }
 
+#[inline(always)]
 fn near_flag(near: &[bool], place: usize) -> bool
     ensures { result ≡ slice_index_or near.now place false }
 {
@@ -119,6 +127,7 @@ fn far_flag(far: &HashMap<i32, bool>, literal: i32) -> bool
 }
 
 // Lets the list reach to a place, and to the end of its block of 1024.
+#[inline(always)]
 fn reach(near: &mut Vec<bool>, place: usize) -> Result<(), OutOfMemory>
     requires { place < near_places }
     ensures same { (i : ℕ) → slice_index_or near.new.items i false ≡ slice_index_or near.old.items i false }
@@ -142,8 +151,10 @@ fn enter(far: &mut HashMap<i32, bool>, literal: i32) -> Result<(), OutOfMemory>
     Ok(())
 }
 
+#[inline(always)]
 fn put_near(near: &mut Vec<bool>, place: usize, flag: bool)
-    ensures changed { (i : ℕ) → i < length near.old.items → slice_index_or near.new.items i false ≡ (if i == place then flag else slice_index_or near.old.items i false) }
+    ensures changed { (i : ℕ) → i < length near.old.items → slice_index_or near.new.items i false
+        ≡ (if i == place then flag else slice_index_or near.old.items i false) }
     ensures len { length near.new.items ≡ length near.old.items }
 {
     if let Some(kept) = near.get_mut(place) {
@@ -152,7 +163,8 @@ fn put_near(near: &mut Vec<bool>, place: usize, flag: bool)
 }
 
 fn put_far(far: &mut HashMap<i32, bool>, literal: i32, flag: bool)
-    ensures changed { (x : ℤ) → get int_eq far.new x ≡ (if int_eq x literal && is_some (get int_eq far.old x) then Some flag else get int_eq far.old x) }
+    ensures changed { (x : ℤ) → get int_eq far.new x ≡ (if int_eq x literal
+        && is_some (get int_eq far.old x) then Some flag else get int_eq far.old x) }
 {
     if let Some(kept) = far.get_mut(&literal) {
         *kept = flag;

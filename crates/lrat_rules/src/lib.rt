@@ -13,7 +13,7 @@ mod soundness;
 mod trail;
 
 pub use chain::Chain;
-pub use effect::effect_on;
+pub use effect::{effect_on, is_among};
 pub use examples::{refutation_example, resolvent_example};
 pub use flags::{NEAR_PLACES, place_of};
 pub use laws::{

@@ -15,18 +15,23 @@ ghost use Rattle.lrat_rules.specs.Soundness.{LiveHasNoZero, step_has_no_zero, li
 /// literals. No literal is 0, whose negation would be itself.
 pub fn soundness_law()
     // Hints that close: each assignment that satisfies the live clauses satisfies the added one too.
-    ensures addition_by_hints { (a : Assignment) (live : Live) (id : ℕ) (clause : List ℤ) (hints : List ℕ) → LiveHasNoZero live → SatisfiesLive a live
+    ensures addition_by_hints { (a : Assignment) (live : Live) (id : ℕ) (clause : List ℤ) (hints : List ℕ) → LiveHasNoZero live
+        → SatisfiesLive a live
         → Closes live (literals_of clause) hints → SatisfiesLive a (with_clause live id clause) }
-    ensures addition { (a : Assignment) (state : State) (id : ℕ) (clause : List ℤ) (hints : List ℕ) (groups : List Group) → LiveHasNoZero state.live
-        → SatisfiesLive a state.live → fault state id clause hints groups ≡ None → SatisfiesUpToPivot a clause (with_clause state.live id clause) }
+    ensures addition { (a : Assignment) (state : State) (id : ℕ) (clause : List ℤ) (hints : List ℕ) (groups : List Group)
+        → LiveHasNoZero state.live
+        → SatisfiesLive a state.live → fault state id clause hints groups ≡ None
+        → SatisfiesUpToPivot a clause (with_clause state.live id clause) }
     ensures deletion { (a : Assignment) (live : Live) (ids : List ℕ) → SatisfiesLive a live → SatisfiesLive a (without_clauses live ids) }
     // After a run some assignment still satisfies the live clauses.
-    ensures steps { (a : Assignment) (state reached : State) (lines : List Line) → run state lines ≡ Reached reached → LiveHasNoZero state.live
+    ensures steps { (a : Assignment) (state reached : State) (lines : List Line) → run state lines ≡ Reached reached
+        → LiveHasNoZero state.live
         → IsTrue (lines_have_no_zero lines) → SatisfiesLive a state.live → (b : Assignment) × SatisfiesLive b reached.live }
     // The premises hold at the start, and at each step and line of a text.
     ensures start { (a : Assignment) (clauses : List (List ℤ)) → Satisfies a clauses → SatisfiesLive a (start clauses).live }
     ensures nonzero_start { (vars : ℕ) (clauses : List (List ℤ)) → AreClausesOf vars clauses → LiveHasNoZero (start clauses).live }
-    ensures nonzero_step { (state : State) (step : Step) → LiveHasNoZero state.live → IsTrue (step_has_no_zero step) → LiveHasNoZero (after_step state step).live }
+    ensures nonzero_step { (state : State) (step : Step) → LiveHasNoZero state.live → IsTrue (step_has_no_zero step)
+        → LiveHasNoZero (after_step state step).live }
     ensures nonzero_steps { (state reached : State) (lines : List Line) → run state lines ≡ Reached reached → LiveHasNoZero state.live
         → IsTrue (lines_have_no_zero lines) → LiveHasNoZero reached.live }
     ensures nonzero_text { (bytes : List ℕ) → IsTrue (lines_have_no_zero (proof_lines bytes)) }
@@ -34,6 +39,7 @@ pub fn soundness_law()
     ensures refuted { (vars : ℕ) (clauses : List (List ℤ)) (bytes : List ℕ) → AreClausesOf vars clauses → Refutes clauses bytes
         → (a : Assignment) → Satisfies a clauses → ⊥ }
     // A derivation of a live clause without literals, however it is written: nothing satisfies the formula.
-    ensures derived { (vars : ℕ) (clauses : List (List ℤ)) (steps : List Step) (state : State) (id : ℕ) → AreClausesOf vars clauses → IsDerivation clauses steps state
+    ensures derived { (vars : ℕ) (clauses : List (List ℤ)) (steps : List Step) (state : State) (id : ℕ) → AreClausesOf vars clauses
+        → IsDerivation clauses steps state
         → clause_at state.live id ≡ Some [] → (a : Assignment) → Satisfies a clauses → ⊥ }
 {}

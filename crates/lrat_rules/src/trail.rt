@@ -45,6 +45,7 @@ impl Trail {
         self.literals.len()
     }
 
+    #[inline(always)]
     pub fn contains(&self, literal: Lit) -> bool
         ensures { result ≡ literals_of self.now literal }
     {
@@ -52,6 +53,7 @@ impl Trail {
     }
 
     /// Puts a literal at the end, unless it is there. A refusal changes nothing.
+    #[inline(always)]
     pub fn push(&mut self, literal: Lit) -> Result<(), OutOfMemory>
         ensures ok { OnOk result (self.new ≡ with_last literal self.old) }
         ensures err { OnErr result (self.new ≡ self.old) }
@@ -95,6 +97,7 @@ impl fmt::Debug for Trail {
 }
 
 // Puts a literal at the end, unless it is there. The room was reserved.
+#[inline(always)]
 fn add(literals: &mut Vec<Lit>, flags: &mut Flags, literal: Lit)
     requires trail { IsTrail flags.old literals.old.items }
     requires room { vec_len literals.old < vec_capacity literals.old }

@@ -1,5 +1,6 @@
 -- Numbers that are taken from the scanner at once say what their tokens say.
-use Rattle.std.proofs.Common.{◌≡◌, ℕ, zero, suc, ◌≤◌, Bool, true, false, ℤ, pos, negsuc, w64, to_z, of_z, List, [], ◌∷◌, ◌++◌, Option, Some, None, ◌==◌, if◌then◌else◌, refl, sym, ◌∙◌, ap, subst, arith}
+use Rattle.std.proofs.Common.{◌≡◌, ℕ, zero, suc, ◌≤◌, Bool, true, false, ℤ, pos, negsuc, w64, to_z, of_z, List, [], ◌∷◌, ◌++◌, Option, Some}
+use Rattle.std.proofs.Common.{None, ◌==◌, if◌then◌else◌, refl, sym, ◌∙◌, ap, subst, arith}
 use Rattle.lrat_text.specs.declared.reader.Status.TheVariants.{Reading}
 use Rattle.std.specs.Prelude.{Result, ◌+◌, IsTrue, nat_abs, min}
 use Rattle.std.specs.Option.{option_map, option_and_then}
@@ -17,7 +18,8 @@ use Rattle.lrat_text.specs.declared.draft.Kind.{Kind}
 use Rattle.lrat_text.specs.declared.draft.Kind.TheVariants.{Empty, Begun, Adds, Deletes}
 use Rattle.lrat_text.specs.Numbers.{positive, signed_word, plain_word}
 use Rattle.lrat_text.specs.Steps.{broken_off}
-use Rattle.lrat_text.specs.Draft.{DraftLine, draft_with_in, draft_with_number, draft_with_number_in, draft_from, draft_of_number, draft_of_word, first_number, unsigned, is_open, is_open_kind, drafted}
+use Rattle.lrat_text.specs.Draft.{DraftLine, draft_with_in, draft_with_number, draft_with_number_in, draft_from, draft_of_number}
+use Rattle.lrat_text.specs.Draft.{draft_of_word, first_number, unsigned, is_open, is_open_kind, drafted}
 use Rattle.lrat_text.specs.Reader.{Reader, BeginsLine, GoesOn, Gives, GivesSoFar, Settles, steps_ahead, open_count, so_far}
 use Rattle.lrat_text.proofs.Settled.{token_goes, before_gives}
 use Rattle.lrat_text.proofs.SoFar.{before_so_far}
@@ -56,40 +58,51 @@ minus_numeral bytes = refl
 
 plain_value : (bytes : List ℕ) (number : ℤ) → signed_value bytes ≡ Some number → option_map pos (numeral_value bytes) ≡ unsigned number
 plain_value [] number is = cc
-plain_value (byte ∷ bytes) (pos n) is = elim (byte == 45) as (λ b. (byte == 45) ≡ b → (if b then option_and_then negative (numeral_value bytes) else option_map pos (numeral_value (byte ∷ bytes))) ≡ Some (pos n) → option_map pos (numeral_value (byte ∷ bytes)) ≡ Some (pos n)) [
-  | true ↦ λ minus h. absurd (negative_pos (numeral_value bytes) n h)
-  | false ↦ λ other h. h
-] refl is
-plain_value (byte ∷ bytes) (negsuc n) is = elim (byte == 45) as (λ b. (byte == 45) ≡ b → (if b then option_and_then negative (numeral_value bytes) else option_map pos (numeral_value (byte ∷ bytes))) ≡ Some (negsuc n) → option_map pos (numeral_value (byte ∷ bytes)) ≡ None) [
-  | true ↦ λ minus h. let e : byte ≡ 45 = grind (arith, nat_tests) in rw e refl
-  | false ↦ λ other h. absurd (pos_negative (numeral_value (byte ∷ bytes)) n h)
-] refl is
+plain_value (byte ∷ bytes) (pos n) is = elim (byte == 45) as (λ b. (byte == 45) ≡ b
+    → (if b then option_and_then negative (numeral_value bytes) else option_map pos (numeral_value (byte ∷ bytes))) ≡ Some (pos n)
+    → option_map pos (numeral_value (byte ∷ bytes)) ≡ Some (pos n)) [
+      | true ↦ λ minus h. absurd (negative_pos (numeral_value bytes) n h)
+      | false ↦ λ other h. h
+    ] refl is
+plain_value (byte ∷ bytes) (negsuc n) is = elim (byte == 45) as (λ b. (byte == 45) ≡ b
+    → (if b then option_and_then negative (numeral_value bytes) else option_map pos (numeral_value (byte ∷ bytes))) ≡ Some (negsuc n)
+    → option_map pos (numeral_value (byte ∷ bytes)) ≡ None) [
+      | true ↦ λ minus h. let e : byte ≡ 45 = grind (arith, nat_tests) in rw e refl
+      | false ↦ λ other h. absurd (pos_negative (numeral_value (byte ∷ bytes)) n h)
+    ] refl is
 
-unsigned_small : (value : Option ℕ) (number : ℤ) → option_map pos value ≡ unsigned number → nat_abs number ≤ cap → option_map positive value ≡ unsigned number
+unsigned_small : (value : Option ℕ) (number : ℤ) → option_map pos value ≡ unsigned number → nat_abs number ≤ cap → option_map positive value
+    ≡ unsigned number
 unsigned_small None number is small = is
 unsigned_small (Some v) (pos n) is small = let e : v ≡ n = cc in let f : min n cap ≡ n = omega (arith, small) in rw (e, f) refl
 unsigned_small (Some v) (negsuc n) is small = cc
 
-plain_word_is : (bytes : List ℕ) (number : ℤ) → signed_number bytes ≡ Some number → nat_abs number ≤ cap → plain_word bytes ≡ unsigned number
-plain_word_is bytes number is small = elim (is_short bytes) as (λ b. is_short bytes ≡ b → (if b then signed_value bytes else None) ≡ Some number → option_map positive (if b then numeral_value bytes else None) ≡ unsigned number) [
-  | true ↦ λ short h. unsigned_small (numeral_value bytes) number (plain_value bytes number h) small
-  | false ↦ λ long h. cc
-] refl is
+plain_word_is : (bytes : List ℕ) (number : ℤ) → signed_number bytes ≡ Some number → nat_abs number ≤ cap → plain_word bytes
+    ≡ unsigned number
+plain_word_is bytes number is small = elim (is_short bytes) as (λ b. is_short bytes ≡ b → (if b then signed_value bytes else None)
+    ≡ Some number → option_map positive (if b then numeral_value bytes else None) ≡ unsigned number) [
+      | true ↦ λ short h. unsigned_small (numeral_value bytes) number (plain_value bytes number h) small
+      | false ↦ λ long h. cc
+    ] refl is
 
 -- the same at the front of a line
-first_small : (value : Option ℕ) (number : ℤ) → option_map pos value ≡ unsigned number → nat_abs number ≤ cap → option_map capped value ≡ first_number number
+first_small : (value : Option ℕ) (number : ℤ) → option_map pos value ≡ unsigned number → nat_abs number ≤ cap → option_map capped value
+    ≡ first_number number
 first_small None (pos n) is small = cc
 first_small None (negsuc n) is small = refl
 first_small (Some v) (pos n) is small = let e : v ≡ n = cc in let f : min n cap ≡ n = omega (arith, small) in rw (e, f) refl
 first_small (Some v) (negsuc n) is small = cc
 
-first_word_is : (bytes : List ℕ) (number : ℤ) → signed_number bytes ≡ Some number → nat_abs number ≤ cap → option_map capped (plain_number bytes) ≡ first_number number
-first_word_is bytes number is small = elim (is_short bytes) as (λ b. is_short bytes ≡ b → (if b then signed_value bytes else None) ≡ Some number → option_map capped (if b then numeral_value bytes else None) ≡ first_number number) [
-  | true ↦ λ short h. first_small (numeral_value bytes) number (plain_value bytes number h) small
-  | false ↦ λ long h. cc
-] refl is
+first_word_is : (bytes : List ℕ) (number : ℤ) → signed_number bytes ≡ Some number → nat_abs number ≤ cap
+    → option_map capped (plain_number bytes) ≡ first_number number
+first_word_is bytes number is small = elim (is_short bytes) as (λ b. is_short bytes ≡ b → (if b then signed_value bytes else None)
+    ≡ Some number → option_map capped (if b then numeral_value bytes else None) ≡ first_number number) [
+      | true ↦ λ short h. first_small (numeral_value bytes) number (plain_value bytes number h) small
+      | false ↦ λ long h. cc
+    ] refl is
 
-pub number_begins : (word : Word) (number : ℤ) → signed_number word.bytes ≡ Some number → nat_abs number ≤ cap → draft_of_word word ≡ draft_of_number word.line number
+pub number_begins : (word : Word) (number : ℤ) → signed_number word.bytes ≡ Some number → nat_abs number ≤ cap → draft_of_word word
+    ≡ draft_of_number word.line number
 number_begins word number is small = ap (draft_from word.line) (first_word_is word.bytes number is small)
 
 -- it is no `d`
@@ -101,13 +114,15 @@ no_deletion (byte ∷ []) number is = elim (byte == 100) as (λ b. (byte == 100)
 ] refl
 no_deletion (byte ∷ more ∷ bytes) number is = refl
 
-number_taken : (draft : DraftLine) (kind : Kind) (word : Word) (number : ℤ) → signed_number word.bytes ≡ Some number → nat_abs number ≤ cap → draft_with_in kind draft word ≡ draft_with_number_in kind draft number
+number_taken : (draft : DraftLine) (kind : Kind) (word : Word) (number : ℤ) → signed_number word.bytes ≡ Some number → nat_abs number ≤ cap
+    → draft_with_in kind draft word ≡ draft_with_number_in kind draft number
 number_taken draft Empty word number is small = refl
 number_taken draft Begun word number is small = rw (no_deletion word.bytes number is, signed_word_is word.bytes number is small) refl
 number_taken draft Adds word number is small = rw (signed_word_is word.bytes number is small) refl
 number_taken draft Deletes word number is small = rw (plain_word_is word.bytes number is small) refl
 
-still_open : (draft : DraftLine) (kind : Kind) (number : ℤ) → is_open_kind kind ≡ true → is_open_kind (draft_with_number_in kind draft number).kind ≡ true
+still_open : (draft : DraftLine) (kind : Kind) (number : ℤ) → is_open_kind kind ≡ true
+    → is_open_kind (draft_with_number_in kind draft number).kind ≡ true
 still_open draft Empty number begun = cc
 still_open draft Begun number begun = refl
 still_open draft Adds number begun = refl
@@ -117,7 +132,8 @@ same_line : (n : ℕ) → (n == n) ≡ true
 same_line n = grind (arith, nat_tests)
 
 -- one number
-pub GoesOn-number : (number : ℤ) (old new : Reader) → TookNumber number old.draft.line old.scan new.scan → is_open old.draft ≡ true → new.draft ≡ draft_with_number old.draft number → new.status ≡ old.status → new.line ≡ old.line → GoesOn old new
+pub GoesOn-number : (number : ℤ) (old new : Reader) → TookNumber number old.draft.line old.scan new.scan → is_open old.draft ≡ true
+    → new.draft ≡ draft_with_number old.draft number → new.status ≡ old.status → new.line ≡ old.line → GoesOn old new
 GoesOn-number number old new took begun draft status line =
     let goes : (items : Items) → drafted (next_word took.word items) old.draft ≡ drafted items new.draft =
     λ items. token_goes old.draft took.word items (λ _. rw took.line (same_line old.draft.line))
@@ -134,7 +150,16 @@ GoesOn-number number old new took begun draft status line =
     }
 
 pub GoesOn-same : (reader : Reader) → GoesOn reader reader
-GoesOn-same reader = record { steps = λ more. refl; so_far = λ more. refl; scanning = refl; faulted = refl; begun = refl; status = refl; line = refl; less = omega arith }
+GoesOn-same reader = record {
+  steps = λ more. refl;
+  so_far = λ more. refl;
+  scanning = refl;
+  faulted = refl;
+  begun = refl;
+  status = refl;
+  line = refl;
+  less = omega arith;
+}
 
 pub GoesOn-then : {a b c : Reader} → GoesOn a b → GoesOn b c → GoesOn a c
 GoesOn-then p q = record {
@@ -150,7 +175,8 @@ GoesOn-then p q = record {
 
 -- Within a call: the steps from here on are those from the start on.
 pub record Stands (tells : Bool) (from to : Channel) (first now : Reader) : Type 0 where
-  pub same : IsTrue tells → Decides from to (λ bytes more. drafted (ahead first.scan bytes) first.draft ≡ drafted (ahead now.scan more) now.draft)
+  pub same : IsTrue tells → Decides from to (λ bytes more. drafted (ahead first.scan bytes) first.draft
+      ≡ drafted (ahead now.scan more) now.draft)
   pub scanning : is_scanning now.scan.status ≡ true → is_scanning first.scan.status ≡ true
   pub so_far : IsTrue tells → is_scanning now.scan.status ≡ true → (more : List ℕ) → so_far first (gained from to ++ more) ≡ so_far now more
   pub status : now.status ≡ Reading
@@ -160,11 +186,13 @@ pub record Stands (tells : Bool) (from to : Channel) (first now : Reader) : Type
 same_count : (old new : DraftLine) → is_open new ≡ is_open old → open_count new ≡ open_count old
 same_count old new begun = ap (λ (b : Bool). if b then 1 else 0) begun
 
-pub Stands-on : {tells : Bool} {from to : Channel} {first old new : Reader} → Stands tells from to first old → GoesOn old new → Stands tells from to first new
+pub Stands-on : {tells : Bool} {from to : Channel} {first old new : Reader} → Stands tells from to first old → GoesOn old new
+    → Stands tells from to first new
 Stands-on {tells} {from} {to} {first} {old} {new} stands goes =
     let count : open_count new.draft ≡ open_count old.draft = same_count old.draft new.draft goes.begun in
     record {
-      same = λ told. Decides-map (λ bytes more. drafted (ahead first.scan bytes) first.draft ≡ drafted (ahead new.scan more) new.draft) (stands.same told) (λ bytes more p. p ∙ goes.steps more);
+      same = λ told. Decides-map (λ bytes more. drafted (ahead first.scan bytes) first.draft
+          ≡ drafted (ahead new.scan more) new.draft) (stands.same told) (λ bytes more p. p ∙ goes.steps more);
       scanning = λ reading. stands.scanning (sym goes.scanning ∙ reading);
       so_far = λ told reading more. stands.so_far told (sym goes.scanning ∙ reading) more ∙ goes.so_far more;
       status = goes.status ∙ stands.status;
@@ -173,11 +201,13 @@ Stands-on {tells} {from} {to} {first} {old} {new} stands goes =
     }
 
 -- nothing happened
-pub Stands-same : {tells : Bool} {from to : Channel} {first old new : Reader} → new ≡ old → Stands tells from to first old → Stands tells from to first new
+pub Stands-same : {tells : Bool} {from to : Channel} {first old new : Reader} → new ≡ old → Stands tells from to first old
+    → Stands tells from to first new
 Stands-same {tells} {from} {to} {first} same stands = subst (Stands tells from to first) (sym same) stands
 
 -- a token of another line, of which the number alone was taken
-module _ (number : ℤ) (old mid new : Reader) (begins : BeginsLine number old mid) (r : Result (Option (Step × ℕ)) StepError) (settles : Settles r (draft_of_number mid.scan.line number) mid new) where
+module _ (number : ℤ) (old mid new : Reader) (begins : BeginsLine number old mid) (r : Result (Option (Step × ℕ)) StepError)
+    (settles : Settles r (draft_of_number mid.scan.line number) mid new) where
   mid_draft : mid.draft ≡ old.draft
   mid_draft = ap (λ (reader : Reader). reader.draft) begins.rest
 
@@ -191,15 +221,21 @@ module _ (number : ℤ) (old mid new : Reader) (begins : BeginsLine number old m
       ap (λ (draft : DraftLine). draft.line == begins.took.word.line) mid_draft ∙ ap (λ n. old.draft.line == n) begins.took.line ∙ apart
 
   settles_word : Settles r (draft_of_word begins.took.word) mid new
-  settles_word = subst (λ draft. Settles r draft mid new) (sym (number_begins begins.took.word number begins.took.number_is begins.took.small ∙ ap (λ n. draft_of_number n number) begins.took.line)) settles
+  settles_word = subst (λ draft. Settles r draft mid new)
+      (sym (number_begins begins.took.word number begins.took.number_is begins.took.small
+      ∙ ap (λ n. draft_of_number n number) begins.took.line)) settles
 
   pub number_gives : (more : List ℕ) → Gives r new.line (drafted (ahead old.scan more) old.draft) (steps_ahead new more)
-  number_gives more = subst (λ s. Gives r new.line s (steps_ahead new more)) (ap (drafted (next_word begins.took.word (ahead mid.scan more))) mid_draft ∙ sym (ap (λ is. drafted is old.draft) (begins.took.gives more)))
+  number_gives more = subst (λ s. Gives r new.line s (steps_ahead new more))
+      (ap (drafted (next_word begins.took.word (ahead mid.scan more))) mid_draft
+      ∙ sym (ap (λ is. drafted is old.draft) (begins.took.gives more)))
       (before_gives r begins.took.word mid new settles_word begun differs more)
 
   pub number_so_far : (first : Reader) (bytes : List ℕ) → (is_scanning old.scan.status ≡ true → is_scanning first.scan.status ≡ true)
-      → (is_scanning old.scan.status ≡ true → (more : List ℕ) → so_far first (bytes ++ more) ≡ so_far old more) → GivesSoFar r first new bytes
+      → (is_scanning old.scan.status ≡ true → (more : List ℕ) → so_far first (bytes ++ more) ≡ so_far old more)
+      → GivesSoFar r first new bytes
   number_so_far first bytes scanning front =
       let old_scanning : is_scanning old.scan.status ≡ true = ap is_scanning begins.took.reading in
       before_so_far r begins.took.word first mid new bytes settles_word begun differs (λ _. scanning old_scanning)
-      (λ _ more. front old_scanning more ∙ ap (λ is. drafted (broken_off is) old.draft) (begins.took.so_far more) ∙ ap (drafted (next_word begins.took.word (broken_off (scan_so_far mid.scan more)))) (sym mid_draft))
+      (λ _ more. front old_scanning more ∙ ap (λ is. drafted (broken_off is) old.draft) (begins.took.so_far more)
+      ∙ ap (drafted (next_word begins.took.word (broken_off (scan_so_far mid.scan more)))) (sym mid_draft))

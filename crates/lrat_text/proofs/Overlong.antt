@@ -1,5 +1,6 @@
 -- A text beyond the limit gives the first of its lines: those that end under the limit.
-use Rattle.std.proofs.Common.{◌≡◌, ℕ, suc, ◌+◌, ◌<◌, ◌≤◌, Bool, true, false, cond, ◌||◌, List, [], ◌∷◌, ◌++◌, length, map, take, drop, refl, sym, ap, ◌∙◌, inl, inr, arith, append_assoc, append-nil, ◌==◌}
+use Rattle.std.proofs.Common.{◌≡◌, ℕ, suc, ◌+◌, ◌<◌, ◌≤◌, Bool, true, false, cond, ◌||◌, List, [], ◌∷◌, ◌++◌, length, map, take, drop, refl}
+use Rattle.std.proofs.Common.{sym, ap, ◌∙◌, inl, inr, arith, append_assoc, append-nil, ◌==◌}
 use Rattle.std.specs.Prelude.{nat_le, nat_lt, if◌then◌else◌}
 use Rattle.std.specs.List.{list_any, flat_map, filter}
 use Rattle.std.proofs.lemmas.Bool.{cond-true, cond-false, cases_Bool, or_parts, or_left, or_right, lt-ltb}
@@ -7,7 +8,8 @@ use Rattle.std.proofs.lemmas.Bool.Decides.{nat_tests}
 use Rattle.std.proofs.lemmas.List.{take-append-drop}
 use Rattle.std.proofs.lemmas.List.Elements.{filter-append}
 use Rattle.std.proofs.lemmas.List.Sums.{sum_by-cons}
-use Rattle.cnf_base.specs.Text.{is_line_end, is_blank, begin_with, begins_with, pieces, Row, rows_from, row_of, words_of, words_of_row, line_ends, end_line, tokens}
+use Rattle.cnf_base.specs.Text.{is_line_end, is_blank, begin_with, begins_with, pieces, Row, rows_from, row_of, words_of, words_of_row}
+use Rattle.cnf_base.specs.Text.{line_ends, end_line, tokens}
 use Rattle.cnf_base.specs.ProofText.{Line, line_of_row, proof_lines}
 use Rattle.text_scan.specs.Items.{the_end, too_long, words_then, kept, ended_part}
 use Rattle.lrat_text.specs.Steps.{overlong, lines_then, lines_within, steps_of, steps, AreFront}
@@ -42,7 +44,8 @@ no_line_ends (byte ∷ bytes) e =
     let parts = or_parts (is_blank byte) _ e in
     no_more byte bytes (no_end byte parts.0) ∙ no_line_ends bytes parts.1
 
-ended_part-more : (byte : ℕ) (bytes : List ℕ) → list_any is_blank (byte ∷ bytes) ≡ true → ended_part (byte ∷ bytes) ≡ byte ∷ ended_part bytes
+ended_part-more : (byte : ℕ) (bytes : List ℕ) → list_any is_blank (byte ∷ bytes) ≡ true → ended_part (byte ∷ bytes) ≡ byte
+    ∷ ended_part bytes
 ended_part-more byte bytes e = cond-true (list_any is_blank (byte ∷ bytes)) _ _ e
 
 ended_part-none : (byte : ℕ) (bytes : List ℕ) → list_any is_blank (byte ∷ bytes) ≡ false → ended_part (byte ∷ bytes) ≡ []
@@ -51,7 +54,8 @@ ended_part-none byte bytes e = cond-false (list_any is_blank (byte ∷ bytes)) _
 pieces-end : (byte : ℕ) (bytes : List ℕ) → is_line_end byte ≡ true → pieces is_line_end (byte ∷ bytes) ≡ [] ∷ pieces is_line_end bytes
 pieces-end byte bytes e = cond-true (is_line_end byte) _ _ e
 
-pieces-other : (byte : ℕ) (bytes : List ℕ) → is_line_end byte ≡ false → pieces is_line_end (byte ∷ bytes) ≡ begin_with byte (pieces is_line_end bytes)
+pieces-other : (byte : ℕ) (bytes : List ℕ) → is_line_end byte ≡ false → pieces is_line_end (byte ∷ bytes)
+    ≡ begin_with byte (pieces is_line_end bytes)
 pieces-other byte bytes e = cond-false (is_line_end byte) _ _ e
 
 -- a line end before a text
@@ -60,13 +64,16 @@ after_end byte bytes e c = record {
   texts = [] ∷ c.texts;
   tail = c.tail;
   count = omega (arith, c.count, one_more byte bytes e);
-  ended = ap (pieces is_line_end) (ended_part-more byte bytes (or_left (is_blank byte) _ (blank_end byte e))) ∙ pieces-end byte (ended_part bytes) e ∙ ap (λ (l : List (List ℕ)). [] ∷ l) c.ended;
+  ended = ap (pieces is_line_end) (ended_part-more byte bytes (or_left (is_blank byte) _ (blank_end byte e)))
+      ∙ pieces-end byte (ended_part bytes) e ∙ ap (λ (l : List (List ℕ)). [] ∷ l) c.ended;
   longer = λ more. let later = c.longer more in (later.0, pieces-end byte (bytes ++ more) e ∙ ap (λ (l : List (List ℕ)). [] ∷ l) later.1);
 }
 
 -- another byte before it, with a blank behind it or at it
-before_blank : (byte : ℕ) (bytes : List ℕ) → is_line_end byte ≡ false → list_any is_blank (byte ∷ bytes) ≡ true → (texts : List (List ℕ)) (tail : List ℕ) → length texts ≡ line_ends bytes
-    → pieces is_line_end (ended_part bytes) ≡ texts ++ tail ∷ [] → ((more : List ℕ) → (rest : List (List ℕ)) × (pieces is_line_end (bytes ++ more) ≡ texts ++ rest)) → IsCut (byte ∷ bytes)
+before_blank : (byte : ℕ) (bytes : List ℕ) → is_line_end byte ≡ false → list_any is_blank (byte ∷ bytes) ≡ true
+    → (texts : List (List ℕ)) (tail : List ℕ) → length texts ≡ line_ends bytes
+    → pieces is_line_end (ended_part bytes) ≡ texts ++ tail ∷ []
+    → ((more : List ℕ) → (rest : List (List ℕ)) × (pieces is_line_end (bytes ++ more) ≡ texts ++ rest)) → IsCut (byte ∷ bytes)
 before_blank byte bytes e blank [] tail count ended longer = record {
   texts = [];
   tail = byte ∷ tail;
@@ -83,7 +90,8 @@ before_blank byte bytes e blank (text ∷ texts) tail count ended longer = recor
 }
 
 -- the begin of a token that the text doesn't end
-in_token : (byte : ℕ) (bytes : List ℕ) → is_line_end byte ≡ false → list_any is_blank (byte ∷ bytes) ≡ false → (texts : List (List ℕ)) → length texts ≡ line_ends bytes
+in_token : (byte : ℕ) (bytes : List ℕ) → is_line_end byte ≡ false → list_any is_blank (byte ∷ bytes) ≡ false → (texts : List (List ℕ))
+    → length texts ≡ line_ends bytes
     → ((more : List ℕ) → (rest : List (List ℕ)) × (pieces is_line_end (bytes ++ more) ≡ texts ++ rest)) → IsCut (byte ∷ bytes)
 in_token byte bytes e unblank [] count longer = record {
   texts = [];
@@ -114,7 +122,8 @@ map-append : {X Y : Type 0} (f : X → Y) (xs ys : List X) → map f (xs ++ ys) 
 map-append f [] ys = refl
 map-append f (x ∷ xs) ys = ap (λ (l : List _). f x ∷ l) (map-append f xs ys)
 
-rows_append : (line : ℕ) (texts more : List (List ℕ)) → rows_from 99 line (texts ++ more) ≡ rows_from 99 line texts ++ rows_from 99 (line + length texts) more
+rows_append : (line : ℕ) (texts more : List (List ℕ)) → rows_from 99 line (texts ++ more) ≡ rows_from 99 line texts
+    ++ rows_from 99 (line + length texts) more
 rows_append line [] more = ap (λ (n : ℕ). rows_from 99 n more) (omega arith)
 rows_append line (text ∷ texts) more =
     ap (λ (l : List _). row_of 99 line (words_of text) ++ l) (rows_append (line + 1) texts more)
@@ -135,21 +144,27 @@ module _ (e : ℕ) where
   not_before : (n : ℕ) → e ≤ n → nat_lt n e ≡ false
   not_before n at = grind (arith, nat_tests)
 
-  all_before : (n : ℕ) (texts : List (List ℕ)) → n + length texts ≤ e → filter is_before (map line_of_row (rows_from 99 n texts)) ≡ map line_of_row (rows_from 99 n texts)
+  all_before : (n : ℕ) (texts : List (List ℕ)) → n + length texts ≤ e → filter is_before (map line_of_row (rows_from 99 n texts))
+      ≡ map line_of_row (rows_from 99 n texts)
   all_before n [] at = refl
   all_before n (text ∷ texts) at =
-      elim (words_of text) as (λ (words : List (List ℕ)). filter is_before (map line_of_row (row_of 99 n words ++ rows_from 99 (n + 1) texts)) ≡ map line_of_row (row_of 99 n words ++ rows_from 99 (n + 1) texts)) [
+      elim (words_of text) as (λ (words : List (List ℕ)). filter is_before
+      (map line_of_row (row_of 99 n words ++ rows_from 99 (n + 1) texts))
+      ≡ map line_of_row (row_of 99 n words ++ rows_from 99 (n + 1) texts)) [
         | [] ↦ all_before (n + 1) texts (omega (arith, at))
-        | word ∷ words ↦ elim (begins_with 99 word) as (λ b. filter is_before (lines_behind n b (word ∷ words) texts) ≡ lines_behind n b (word ∷ words) texts) [
-          | true ↦ all_before (n + 1) texts (omega (arith, at))
-          | false ↦ rw (lt-ltb n e (omega (arith, at))) (ap (λ (l : List Line). line_of_row (row_at n (word ∷ words)) ∷ l) (all_before (n + 1) texts (omega (arith, at))))
-        ]
+        | word ∷ words ↦ elim (begins_with 99 word) as (λ b. filter is_before (lines_behind n b (word ∷ words) texts)
+            ≡ lines_behind n b (word ∷ words) texts) [
+              | true ↦ all_before (n + 1) texts (omega (arith, at))
+              | false ↦ rw (lt-ltb n e (omega (arith, at))) (ap (λ (l : List Line). line_of_row (row_at n (word ∷ words))
+                  ∷ l) (all_before (n + 1) texts (omega (arith, at))))
+            ]
       ]
 
   none_before : (n : ℕ) (texts : List (List ℕ)) → e ≤ n → filter is_before (map line_of_row (rows_from 99 n texts)) ≡ []
   none_before n [] at = refl
   none_before n (text ∷ texts) at =
-      elim (words_of text) as (λ (words : List (List ℕ)). filter is_before (map line_of_row (row_of 99 n words ++ rows_from 99 (n + 1) texts)) ≡ []) [
+      elim (words_of text) as (λ (words : List (List ℕ)). filter is_before
+      (map line_of_row (row_of 99 n words ++ rows_from 99 (n + 1) texts)) ≡ []) [
         | [] ↦ none_before (n + 1) texts (omega (arith, at))
         | word ∷ words ↦ elim (begins_with 99 word) as (λ b. filter is_before (lines_behind n b (word ∷ words) texts) ≡ []) [
           | true ↦ none_before (n + 1) texts (omega (arith, at))
@@ -191,10 +206,12 @@ module _ (keeps : IsKept) (limit : ℕ) (bytes : List ℕ) (long : limit < lengt
 
   given : steps limit bytes ≡ lines_then before overlong
   given =
-      ap (λ (b : Bool). steps_of (if b then words_then (map kept (tokens 99 bytes)) (the_end (end_line bytes)) else words_then (map kept (tokens 99 (ended_part text))) (too_long e))) beyond
+      ap (λ (b : Bool). steps_of (if b then words_then (map kept (tokens 99 bytes)) (the_end (end_line bytes)) else words_then
+      (map kept (tokens 99 (ended_part text))) (too_long e))) beyond
       ∙ ap (λ (texts : List (List ℕ)). steps_of (words_then (map kept (flat_map words_of_row (rows_from 99 1 texts))) (too_long e))) c.ended
       ∙ ap steps_of (joined keeps e c.texts (c.tail ∷ []) 1 (too_long e) at)
-      ∙ lines_closed keeps e (words_then (map kept (flat_map words_of_row (rows_from 99 e (c.tail ∷ [])))) (too_long e)) overlong (at_limit keeps e c.tail) c.texts 1 at
+      ∙ lines_closed keeps e (words_then (map kept (flat_map words_of_row (rows_from 99 e (c.tail ∷ [])))) (too_long e)) overlong
+      (at_limit keeps e c.tail) c.texts 1 at
 
   pub front : AreFront (steps limit bytes) (proof_lines bytes)
   front = record { front = before; rest = behind; parts = parts; steps = given }

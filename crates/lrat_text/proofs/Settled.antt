@@ -1,5 +1,6 @@
 -- What a call gives once a line is judged: the first of the steps ahead.
-use Rattle.std.proofs.Common.{◌≡◌, ◌≤◌, arith, ℕ, Bool, true, false, List, Option, Some, None, Result, Ok, Err, ◌==◌, ◌&&◌, if◌then◌else◌, refl, sym, ◌∙◌, ap, subst}
+use Rattle.std.proofs.Common.{◌≡◌, ◌≤◌, arith, ℕ, Bool, true, false, List, Option, Some, None, Result, Ok, Err, ◌==◌, ◌&&◌, if◌then◌else◌}
+use Rattle.std.proofs.Common.{refl, sym, ◌∙◌, ap, subst}
 use Rattle.std.specs.Prelude.{nat_lt}
 use Rattle.std.proofs.lemmas.Bool.{and_parts}
 use Rattle.host_io.specs.Channel.{Channel}
@@ -19,7 +20,8 @@ abbrev Answer : Type 0
 Answer = Result (Option (Step × ℕ)) StepError
 
 -- at a token of another line
-pub before_gives : (r : Answer) (word : Word) (old new : Reader) → Settles r (draft_of_word word) old new → is_open old.draft ≡ true → (old.draft.line == word.line) ≡ false
+pub before_gives : (r : Answer) (word : Word) (old new : Reader) → Settles r (draft_of_word word) old new → is_open old.draft ≡ true
+    → (old.draft.line == word.line) ≡ false
     → (more : List ℕ) → Gives r new.line (drafted (next_word word (ahead old.scan more)) old.draft) (steps_ahead new more)
 before_gives (Ok None) word old new s begun differs more = absurd s
 before_gives (Ok (Some (step, at))) word old new s begun differs more = rw (begun, differs, s.0, s.1, s.2) refl
@@ -30,7 +32,8 @@ before_gives (Err OutOfMemory) word old new s begun differs more = tt
 
 -- at the end
 end_open : (r : Answer) (old new : Reader) → Settles r no_draft old new → is_open old.draft ≡ true
-    → (more : List ℕ) → ahead old.scan more ≡ the_end old.scan.line → Gives r new.line (drafted (the_end old.scan.line) old.draft) (steps_ahead new more)
+    → (more : List ℕ) → ahead old.scan more ≡ the_end old.scan.line
+    → Gives r new.line (drafted (the_end old.scan.line) old.draft) (steps_ahead new more)
 end_open (Ok None) old new s begun more ended = absurd s
 end_open (Ok (Some (step, at))) old new s begun more ended = rw (begun, s.0, s.1, s.2, ended) refl
 end_open (Err (Syntax at)) old new s begun more ended = (rw (begun, s.0, s.1) refl, rw s.2 refl)
@@ -38,11 +41,14 @@ end_open (Err TooLong) old new s begun more ended = absurd s
 end_open (Err ReadFault) old new s begun more ended = absurd s
 end_open (Err OutOfMemory) old new s begun more ended = tt
 
-pub end_gives : (r : Answer) (old new : Reader) → (is_open old.draft ≡ true → Settles r no_draft old new) → (is_open old.draft ≡ false → r ≡ Ok None)
+pub end_gives : (r : Answer) (old new : Reader) → (is_open old.draft ≡ true → Settles r no_draft old new)
+    → (is_open old.draft ≡ false → r ≡ Ok None)
     → (is_open old.draft ≡ false → new ≡ record old { status = Ended; line = old.scan.line })
-    → (more : List ℕ) → ahead old.scan more ≡ the_end old.scan.line → Gives r new.line (drafted (the_end old.scan.line) old.draft) (steps_ahead new more)
+    → (more : List ℕ) → ahead old.scan more ≡ the_end old.scan.line
+    → Gives r new.line (drafted (the_end old.scan.line) old.draft) (steps_ahead new more)
 end_gives r old new last none stopped more ended =
-    elim (is_open old.draft) as (λ b. is_open old.draft ≡ b → Gives r new.line (drafted (the_end old.scan.line) old.draft) (steps_ahead new more)) [
+    elim (is_open old.draft) as (λ b. is_open old.draft ≡ b → Gives r new.line (drafted (the_end old.scan.line) old.draft)
+    (steps_ahead new more)) [
       | true ↦ λ h. end_open r old new (last h) h more ended
       | false ↦ λ h. rw (none h, stopped h, h) (refl, refl)
     ] refl
@@ -58,24 +64,33 @@ not_both true false steps h = refl
 not_both false true steps h = refl
 not_both false false steps h = refl
 
-limit_open : (r : Answer) (old new : Reader) → Settles r no_draft old new → is_open old.draft ≡ true → nat_lt old.draft.line old.scan.line ≡ true
-    → (more : List ℕ) → ahead old.scan more ≡ too_long old.scan.line → Gives r new.line (drafted (too_long old.scan.line) old.draft) (steps_ahead new more)
+limit_open : (r : Answer) (old new : Reader) → Settles r no_draft old new → is_open old.draft ≡ true → nat_lt old.draft.line old.scan.line
+    ≡ true
+    → (more : List ℕ) → ahead old.scan more ≡ too_long old.scan.line
+    → Gives r new.line (drafted (too_long old.scan.line) old.draft) (steps_ahead new more)
 limit_open (Ok None) old new s begun under more ended = absurd s
-limit_open (Ok (Some (step, at))) old new s begun under more ended = rw (begun, under, s.0, s.1, s.2, ended) (ap (next_step step old.draft.line) (sym (same_choice (nat_lt 0 old.scan.line))))
+limit_open (Ok (Some (step, at))) old new s begun under more ended = rw (begun, under, s.0, s.1, s.2, ended)
+    (ap (next_step step old.draft.line) (sym (same_choice (nat_lt 0 old.scan.line))))
 limit_open (Err (Syntax at)) old new s begun under more ended = (rw (begun, under, s.0, s.1) refl, rw s.2 refl)
 limit_open (Err TooLong) old new s begun under more ended = absurd s
 limit_open (Err ReadFault) old new s begun under more ended = absurd s
 limit_open (Err OutOfMemory) old new s begun under more ended = tt
 
-pub limit_gives : (r : Answer) (old new : Reader) → (is_under old ≡ true → Settles r no_draft old new) → (is_under old ≡ false → r ≡ Err TooLong)
+pub limit_gives : (r : Answer) (old new : Reader) → (is_under old ≡ true → Settles r no_draft old new)
+    → (is_under old ≡ false → r ≡ Err TooLong)
     → (is_under old ≡ false → new ≡ record old { status = Failed TooLong })
-    → (more : List ℕ) → ahead old.scan more ≡ too_long old.scan.line → Gives r new.line (drafted (too_long old.scan.line) old.draft) (steps_ahead new more)
+    → (more : List ℕ) → ahead old.scan more ≡ too_long old.scan.line
+    → Gives r new.line (drafted (too_long old.scan.line) old.draft) (steps_ahead new more)
 limit_gives r old new last over stopped more ended =
     elim (is_under old) as (λ b. is_under old ≡ b → Gives r new.line (drafted (too_long old.scan.line) old.draft) (steps_ahead new more)) [
       | true ↦ λ h.
           let both : (is_open old.draft ≡ true) × (nat_lt old.draft.line old.scan.line ≡ true) = and_parts _ _ h in
           limit_open r old new (last h) both.0 both.1 more ended
-      | false ↦ λ h. rw (over h, stopped h) (not_both (is_open old.draft) (nat_lt old.draft.line old.scan.line) (step_then (judged old.draft) old.draft.line overlong) h, refl)
+      | false ↦ λ h. rw (over h, stopped h) (
+        not_both (is_open old.draft) (nat_lt old.draft.line old.scan.line)
+            (step_then (judged old.draft) old.draft.line overlong) h,
+        refl,
+      )
     ] refl
 
 -- what both calls say together: of all bytes and those that follow the first, and of those and what follows the second

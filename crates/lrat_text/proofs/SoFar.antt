@@ -24,7 +24,8 @@ given_err step (Ok (Some at)) error h = cc
 given_err step (Err other) error h = cc
 
 -- a scanner that reads now did so before
-pub scanned : (old new : Scan) → (is_scanning old.status ≡ false → new ≡ old) → is_scanning new.status ≡ true → is_scanning old.status ≡ true
+pub scanned : (old new : Scan) → (is_scanning old.status ≡ false → new ≡ old) → is_scanning new.status ≡ true → is_scanning old.status
+    ≡ true
 scanned old new stopped reading =
     elim (is_scanning old.status) as (λ b. is_scanning old.status ≡ b → b ≡ true) [
       | true ↦ λ h. refl
@@ -32,7 +33,8 @@ scanned old new stopped reading =
     ] refl
 
 -- so did one whose read failed now
-pub scanned_fault : (scan : Scan) → is_faulted scan.status ≡ false → (is_scanning scan.status ≡ false → last_scanned scan.status ≡ Err ScanFault) → is_scanning scan.status ≡ true
+pub scanned_fault : (scan : Scan) → is_faulted scan.status ≡ false
+    → (is_scanning scan.status ≡ false → last_scanned scan.status ≡ Err ScanFault) → is_scanning scan.status ≡ true
 scanned_fault scan sound stopped =
     elim scan.status as (λ s. is_faulted s ≡ false → (is_scanning s ≡ false → last_scanned s ≡ Err ScanFault) → is_scanning s ≡ true) [
       | Scanning ↦ λ f h. refl
@@ -46,9 +48,11 @@ pub off_overlong : (draft : DraftLine) (line : ℕ) → drafted (broken_off (too
 off_overlong draft line = let e : nat_lt draft.line 0 ≡ false = grind (arith, nat_tests) in rw e refl
 
 -- at a token of another line
-pub before_so_far : (r : Answer) (word : Word) (first old new : Reader) (bytes : List ℕ) → Settles r (draft_of_word word) old new → is_open old.draft ≡ true → (old.draft.line == word.line) ≡ false
+pub before_so_far : (r : Answer) (word : Word) (first old new : Reader) (bytes : List ℕ) → Settles r (draft_of_word word) old new
+    → is_open old.draft ≡ true → (old.draft.line == word.line) ≡ false
     → (is_scanning old.scan.status ≡ true → is_scanning first.scan.status ≡ true)
-    → (is_scanning old.scan.status ≡ true → (more : List ℕ) → so_far first (bytes ++ more) ≡ drafted (next_word word (broken_off (scan_so_far old.scan more))) old.draft)
+    → (is_scanning old.scan.status ≡ true → (more : List ℕ) → so_far first (bytes ++ more)
+    ≡ drafted (next_word word (broken_off (scan_so_far old.scan more))) old.draft)
     → GivesSoFar r first new bytes
 before_so_far (Ok None) word first old new bytes s begun differs scanned front = tt
 before_so_far (Ok (Some (step, at))) word first old new bytes s begun differs scanned front = λ reading.
@@ -60,7 +64,8 @@ before_so_far (Err ReadFault) word first old new bytes s begun differs scanned f
 before_so_far (Err OutOfMemory) word first old new bytes s begun differs scanned front = tt
 
 -- at the end and at the limit
-pub stopped_so_far : (r : Answer) (first new : Reader) (bytes : List ℕ) → is_scanning new.scan.status ≡ false → (r ≢ Err ReadFault) → GivesSoFar r first new bytes
+pub stopped_so_far : (r : Answer) (first new : Reader) (bytes : List ℕ) → is_scanning new.scan.status ≡ false → (r ≢ Err ReadFault)
+    → GivesSoFar r first new bytes
 stopped_so_far (Ok None) first new bytes stopped unfailed = tt
 stopped_so_far (Ok (Some (step, at))) first new bytes stopped unfailed = λ reading. cc
 stopped_so_far (Err (Syntax at)) first new bytes stopped unfailed = tt

@@ -1,6 +1,7 @@
 -- A line as it is read: which kind of step it is, its first number, and the numbers behind, nothing where a token or
 -- the first one is none.
-use Rattle.std.specs.Prelude.{ℕ, Bool, true, false, ℤ, pos, negsuc, List, [], ◌∷◌, ◌++◌, Option, None, Some, is_some, nat_lt, ◌==◌, if◌then◌else◌}
+use Rattle.std.specs.Prelude.{ℕ, Bool, true, false, ℤ, pos, negsuc, List, [], ◌∷◌, ◌++◌, Option, None, Some, is_some, nat_lt, ◌==◌}
+use Rattle.std.specs.Prelude.{if◌then◌else◌}
 use Rattle.std.specs.Option.{option_map, option_and_then}
 use Rattle.cnf_base.specs.declared.step.Step.{Step}
 use Rattle.cnf_base.specs.Number.{plain_number}
@@ -54,7 +55,8 @@ draft_as draft kind numbers = record { line = draft.line; kind = kind; id = draf
 abbrev pub draft_with_in : Kind → DraftLine → Word → DraftLine
 draft_with_in Empty draft word = draft
 draft_with_in Begun draft word =
-    if is_delete_word word.bytes then draft_as draft Deletes draft.numbers else draft_as draft Adds (with_given draft.numbers (signed_word word.bytes))
+    if is_delete_word word.bytes then draft_as draft Deletes draft.numbers else draft_as draft Adds
+    (with_given draft.numbers (signed_word word.bytes))
 draft_with_in Adds draft word = draft_as draft Adds (with_given draft.numbers (signed_word word.bytes))
 draft_with_in Deletes draft word = draft_as draft Deletes (with_given draft.numbers (plain_word word.bytes))
 
@@ -111,5 +113,6 @@ drafted (the_end line) draft = draft_then draft (no_more line)
 drafted (too_long line) draft = if nat_lt draft.line line then draft_then draft overlong else overlong
 drafted (next_word word items) draft =
     if is_open draft
-    then if draft.line == word.line then drafted items (draft_with draft word) else step_then (judged draft) draft.line (drafted items (draft_of_word word))
+    then if draft.line == word.line then drafted items (draft_with draft word) else step_then (judged draft) draft.line
+    (drafted items (draft_of_word word))
     else drafted items (draft_of_word word)

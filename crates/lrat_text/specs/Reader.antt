@@ -1,5 +1,6 @@
 -- A reader of steps as its callers see it, and what a call gives.
-use Rattle.std.specs.Prelude.{◌≡◌, ◌≢◌, ℕ, ℤ, ◌+◌, ◌<◌, ◌≤◌, Bool, true, false, List, ◌++◌, Option, None, Some, is_some, Result, Ok, Err, IsTrue, ⊤, ◌&&◌, nat_lt, if◌then◌else◌}
+use Rattle.std.specs.Prelude.{◌≡◌, ◌≢◌, ℕ, ℤ, ◌+◌, ◌<◌, ◌≤◌, Bool, true, false, List, ◌++◌, Option, None, Some, is_some, Result, Ok, Err}
+use Rattle.std.specs.Prelude.{IsTrue, ⊤, ◌&&◌, nat_lt, if◌then◌else◌}
 use Rattle.cnf_base.specs.declared.step.Step.{Step}
 use Rattle.text_scan.specs.Scan.{Scan, TookNumber, ahead, so_far as scan_so_far, is_reading as is_scanning, is_faulted, fuel as scan_fuel}
 use Rattle.lrat_text.specs.declared.error.StepError.{StepError}
@@ -69,7 +70,8 @@ Gives (Err OutOfMemory) line before after = ⊤
 -- text ended its line. Where a read failed, they decided none: no line that was ended is left.
 abbrev pub GivesSoFar : Result (Option (Step × ℕ)) StepError → Reader → Reader → List ℕ → Type 0
 GivesSoFar (Ok (Some (step, at))) old new bytes =
-    is_scanning new.scan.status ≡ true → (is_scanning old.scan.status ≡ true) × ((more : List ℕ) → so_far old (bytes ++ more) ≡ next_step step at (so_far new more))
+    is_scanning new.scan.status ≡ true → (is_scanning old.scan.status ≡ true)
+    × ((more : List ℕ) → so_far old (bytes ++ more) ≡ next_step step at (so_far new more))
 GivesSoFar (Ok None) old new bytes = ⊤
 GivesSoFar (Err (Syntax at)) old new bytes = ⊤
 GivesSoFar (Err TooLong) old new bytes = ⊤
@@ -101,7 +103,8 @@ is_under reader = is_open reader.draft && nat_lt reader.draft.line reader.scan.l
 -- the line that is begun was judged, and this step stands in the caller's place; memory is wanted only where it spells a step
 abbrev pub Judges : Result ℕ StepError → Step → Reader → Reader → Type 0
 Judges (Ok at) step old new = (judged old.draft ≡ Some step) × (at ≡ old.draft.line) × (new ≡ record old { line = at })
-Judges (Err (Syntax at)) step old new = (judged old.draft ≡ None) × (at ≡ old.draft.line) × (new ≡ record old { status = Failed (Syntax at) })
+Judges (Err (Syntax at)) step old new = (judged old.draft ≡ None) × (at ≡ old.draft.line)
+    × (new ≡ record old { status = Failed (Syntax at) })
 Judges (Err TooLong) step old new = ⊥
 Judges (Err ReadFault) step old new = ⊥
 Judges (Err OutOfMemory) step old new = IsTrue (is_some (judged old.draft)) × (new ≡ record old { status = Failed OutOfMemory })
@@ -126,9 +129,11 @@ pub record BeginsLine (number : ℤ) (old new : Reader) : Type 0 where
 
 -- it was judged and is given, and this line is begun now
 abbrev pub Settles : Result (Option (Step × ℕ)) StepError → DraftLine → Reader → Reader → Type 0
-Settles (Ok (Some (step, at))) next old new = (judged old.draft ≡ Some step) × (at ≡ old.draft.line) × (new ≡ record { scan = old.scan; draft = next; status = Reading; line = at })
+Settles (Ok (Some (step, at))) next old new = (judged old.draft ≡ Some step) × (at ≡ old.draft.line)
+    × (new ≡ record { scan = old.scan; draft = next; status = Reading; line = at })
 Settles (Ok None) next old new = ⊥
-Settles (Err (Syntax at)) next old new = (judged old.draft ≡ None) × (at ≡ old.draft.line) × (new ≡ record old { status = Failed (Syntax at) })
+Settles (Err (Syntax at)) next old new = (judged old.draft ≡ None) × (at ≡ old.draft.line)
+    × (new ≡ record old { status = Failed (Syntax at) })
 Settles (Err TooLong) next old new = ⊥
 Settles (Err ReadFault) next old new = ⊥
 Settles (Err OutOfMemory) next old new = IsTrue (is_some (judged old.draft)) × (new ≡ record old { status = Failed OutOfMemory })

@@ -51,7 +51,8 @@ steps_after (the_end line) row = row_then row (no_more line)
 steps_after (too_long line) row = if nat_lt row.line line then row_then row overlong else overlong
 steps_after (next_word word items) row =
     if is_begun row.words
-    then if row.line == word.line then steps_after items (row_with row word) else line_then (line_of_row row) (steps_after items (row_of_word word))
+    then if row.line == word.line then steps_after items (row_with row word) else line_then (line_of_row row)
+    (steps_after items (row_of_word word))
     else steps_after items (row_of_word word)
 
 abbrev pub steps_of : Items → Steps

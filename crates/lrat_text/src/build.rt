@@ -1,9 +1,11 @@
 // From the numbers of a line to its step.
-ghost use Rattle.std.specs.Prelude.{◌≡◌, true, pos, slice_index_or, [], ◌∷◌, ◌++◌, ◌+◌, ◌<◌, ◌≤◌, ◌^◌, ℤ, nat_abs, List, map, take, drop, length, Option, None, Some, Ok, OnOk, OnErr, IfOk, IsTrue, IfSome, is_some};
+ghost use Rattle.std.specs.Prelude.{◌≡◌, true, pos, slice_index_or, [], ◌∷◌, ◌++◌, ◌+◌, ◌<◌, ◌≤◌, ◌^◌, ℤ, nat_abs, List, map, take, drop};
+ghost use Rattle.std.specs.Prelude.{length, Option, None, Some, Ok, OnOk, OnErr, IfOk, IsTrue, IfSome, is_some};
 ghost use Rattle.std.specs.List.{list_all};
 ghost use Rattle.std.specs.Option.{option_map};
 ghost use Rattle.cnf_base.specs.Truth.{is_literal_of};
-ghost use Rattle.cnf_base.specs.ProofText.{max_id, max_literal, is_id, is_hint, is_zero, split_at, given_if, hints_before_group, groups_of, addition_of};
+ghost use Rattle.cnf_base.specs.ProofText.{max_id, max_literal, is_id, is_hint, is_zero, split_at, given_if, hints_before_group, groups_of};
+ghost use Rattle.cnf_base.specs.ProofText.{addition_of};
 ghost use Rattle.lrat_text.specs.Numbers.{addition_by, deletion_from, deletion_with};
 
 use crate::lists::Lists;

@@ -3,7 +3,8 @@ ghost use Rattle.std.specs.Prelude.{◌≡◌, ◌≤◌, [], None, Some, Ok, On
 ghost use Rattle.std.specs.Option.{option_map};
 ghost use Rattle.cnf_base.specs.ProofText.{is_delete_word, given_if};
 ghost use Rattle.lrat_text.specs.declared.draft.Kind.TheVariants.{Empty};
-ghost use Rattle.lrat_text.specs.Draft.{no_draft, draft_of_word, draft_with, draft_with_number, draft_of_number, first_number, unsigned, with_given, draft_as, has_numbers, judged, is_open};
+ghost use Rattle.lrat_text.specs.Draft.{no_draft, draft_of_word, draft_with, draft_with_number, draft_of_number, first_number, unsigned};
+ghost use Rattle.lrat_text.specs.Draft.{with_given, draft_as, has_numbers, judged, is_open};
 
 use crate::build::{put_addition, put_deletion};
 use crate::lists::Lists;

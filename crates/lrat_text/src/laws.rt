@@ -8,7 +8,8 @@ use text_scan::kept_word_law;
 
 /// A text within the limit gives the steps of its lines, up to the first that spells none, and then its end.
 pub fn whole_text_law()
-    ensures { (limit : ℕ) (bytes : List ℕ) → length bytes ≤ limit → steps limit bytes ≡ lines_then (proof_lines bytes) (no_more (end_line bytes)) }
+    ensures { (limit : ℕ) (bytes : List ℕ) → length bytes ≤ limit → steps limit bytes
+        ≡ lines_then (proof_lines bytes) (no_more (end_line bytes)) }
 {
     kept_word_law();
 }
@@ -16,7 +17,8 @@ pub fn whole_text_law()
 /// A text beyond the limit gives the steps of the lines whose ends stand under it, up to the first that spells none, and
 /// then that it is too long. These are the first of its lines.
 pub fn long_text_law()
-    ensures within { (limit : ℕ) (bytes : List ℕ) → limit < length bytes → steps limit bytes ≡ lines_then (lines_within limit bytes) overlong }
+    ensures within { (limit : ℕ) (bytes : List ℕ) → limit < length bytes → steps limit bytes
+        ≡ lines_then (lines_within limit bytes) overlong }
     ensures front { (limit : ℕ) (bytes : List ℕ) → limit < length bytes → AreFront (steps limit bytes) (proof_lines bytes) }
 {
     kept_word_law();

@@ -6,7 +6,8 @@ ghost use Rattle.lrat_text.specs.declared.error.StepError.TheVariants.{ReadFault
 ghost use Rattle.lrat_text.specs.declared.reader.Status.TheVariants.{Reading, Ended, Failed};
 ghost use Rattle.lrat_text.specs.Steps.{steps, steps_so_far};
 ghost use Rattle.lrat_text.specs.Draft.{no_draft, draft_of_number, draft_of_word, has_numbers, is_open, with_token};
-ghost use Rattle.lrat_text.specs.Reader.{given, Gives, GivesSoFar, Moves, steps_ahead, so_far, is_reading, last_answer, is_under, BeginsLine, GoesOn, Judges, Settles};
+ghost use Rattle.lrat_text.specs.Reader.{given, Gives, GivesSoFar, Moves, steps_ahead, so_far, is_reading, last_answer, is_under};
+ghost use Rattle.lrat_text.specs.Reader.{BeginsLine, GoesOn, Judges, Settles};
 
 use crate::draft::Draft;
 use crate::error::StepError;
@@ -149,7 +150,8 @@ impl StepReader {
         requires { self.old.status ≡ Reading }
         ensures gives { IsTrue S.tells → Decides (S.channel source.old) (S.channel source.new)
             (λ bytes more. Gives (given step.new result) self.new.line (steps_ahead self.old bytes) (steps_ahead self.new more)) }
-        ensures so_far { IsTrue S.tells → GivesSoFar (given step.new result) self.old self.new (gained (S.channel source.old) (S.channel source.new)) }
+        ensures so_far { IsTrue S.tells → GivesSoFar (given step.new result) self.old self.new
+            (gained (S.channel source.old) (S.channel source.new)) }
         ensures moves { Moves (given step.new result) self.old self.new }
         ensures fault { result ≡ Err ReadFault → Rose (S.channel source.old).faults (S.channel source.new).faults }
         ensures unfailed { result ≢ Err ReadFault → (S.channel source.new).faults ≡ (S.channel source.old).faults }

@@ -24,8 +24,10 @@ flat_map-map f g [] = refl
 flat_map-map f g (x ∷ xs) = ap (λ (l : List ℕ). f (g x) ++ l) (flat_map-map f g xs)
 
 -- numbers behind a space are the words of a line
-line_text-words : (id : ℕ) (clause : List ℤ) (lead ids : List ℕ) (numbers : List ℤ) → flat_map spaced (map signed_decimal numbers) ≡ ids_text lead ids
-    → line_text id clause lead ids ≡ join_with_byte 32 (decimal id ∷ map signed_decimal clause ++ (48 ∷ []) ∷ map signed_decimal numbers ++ (48 ∷ []) ∷ []) ++ 10 ∷ []
+line_text-words : (id : ℕ) (clause : List ℤ) (lead ids : List ℕ) (numbers : List ℤ) → flat_map spaced (map signed_decimal numbers)
+    ≡ ids_text lead ids
+    → line_text id clause lead ids ≡ join_with_byte 32 (decimal id ∷ map signed_decimal clause ++ (48 ∷ []) ∷ map signed_decimal numbers
+    ++ (48 ∷ []) ∷ []) ++ 10 ∷ []
 line_text-words id clause lead ids numbers is =
     let zero_word : List (List ℕ) = (48 ∷ []) ∷ [] in
     let clause_text : flat_map spaced (map signed_decimal clause) ≡ literals_text clause = flat_map-map spaced signed_decimal clause in
@@ -35,11 +37,13 @@ line_text-words id clause lead ids numbers is =
     ∙ ap (λ (l : List ℕ). l ++ (32 ∷ 48 ∷ [])) (
     flat_map-append spaced (map signed_decimal clause) ((48 ∷ []) ∷ map signed_decimal numbers)
     ∙ (λ i. clause_text i ++ (32 ∷ 48 ∷ is i))) in
-    let left : line_text id clause lead ids ≡ decimal id ++ (literals_text clause ++ (32 ∷ 48 ∷ (ids_text lead ids ++ (32 ∷ 48 ∷ 10 ∷ [])))) =
+    let left : line_text id clause lead ids ≡ decimal id ++ (literals_text clause
+    ++ (32 ∷ 48 ∷ (ids_text lead ids ++ (32 ∷ 48 ∷ 10 ∷ [])))) =
     from_second (decimal id) (literals_text clause) (32 ∷ 48 ∷ []) (ids_text lead ids) (32 ∷ 48 ∷ 10 ∷ []) in
     let right : join_with_byte 32 (decimal id ∷ map signed_decimal clause ++ (48 ∷ []) ∷ map signed_decimal numbers ++ zero_word) ++ 10 ∷ []
     ≡ decimal id ++ (literals_text clause ++ (32 ∷ 48 ∷ (ids_text lead ids ++ (32 ∷ 48 ∷ 10 ∷ [])))) =
-    ap (λ (l : List ℕ). l ++ 10 ∷ []) (join-spaced (decimal id) ((map signed_decimal clause ++ (48 ∷ []) ∷ map signed_decimal numbers) ++ zero_word) ∙ ap (λ (l : List ℕ). decimal id ++ l) words)
+    ap (λ (l : List ℕ). l ++ 10 ∷ []) (join-spaced (decimal id) ((map signed_decimal clause ++ (48 ∷ []) ∷ map signed_decimal numbers)
+    ++ zero_word) ∙ ap (λ (l : List ℕ). decimal id ++ l) words)
     ∙ append_assoc (decimal id) ((literals_text clause ++ (32 ∷ 48 ∷ ids_text lead ids)) ++ (32 ∷ 48 ∷ [])) (10 ∷ [])
     ∙ ap (λ (l : List ℕ). decimal id ++ l) (append_assoc (literals_text clause ++ (32 ∷ 48 ∷ ids_text lead ids)) (32 ∷ 48 ∷ []) (10 ∷ [])
     ∙ append_assoc (literals_text clause) (32 ∷ 48 ∷ ids_text lead ids) (32 ∷ 48 ∷ 10 ∷ [])) in
@@ -47,10 +51,12 @@ line_text-words id clause lead ids numbers is =
 
 hints_text : (hints : List ℕ) → flat_map spaced (map signed_decimal (map pos hints ++ [])) ≡ ids_text (32 ∷ []) hints
 hints_text hints =
-    ap (λ (l : List ℤ). flat_map spaced (map signed_decimal l)) (append-nil (map pos hints)) ∙ flat_map-map spaced signed_decimal (map pos hints)
+    ap (λ (l : List ℤ). flat_map spaced (map signed_decimal l)) (append-nil (map pos hints))
+    ∙ flat_map-map spaced signed_decimal (map pos hints)
     ∙ flat_map-map (λ (z : ℤ). spaced (signed_decimal z)) pos hints
 
-pub line_text-add : (id : ℕ) (clause : List ℤ) (hints : List ℕ) → line_text id clause (32 ∷ []) hints ≡ line_of_step (Add id clause hints [])
+pub line_text-add : (id : ℕ) (clause : List ℤ) (hints : List ℕ) → line_text id clause (32 ∷ []) hints
+    ≡ line_of_step (Add id clause hints [])
 line_text-add id clause hints = line_text-words id clause (32 ∷ []) hints (map pos hints ++ []) (hints_text hints)
 
 -- the negation of a number that isn't 0 is written with a minus sign
@@ -58,7 +64,8 @@ signed_decimal-neg : (n : ℕ) → is_id n ≡ true → signed_decimal (neg_ℤ 
 signed_decimal-neg zero h = cc
 signed_decimal-neg (suc n) h = refl
 
-candidates_text : (candidates : List ℕ) → list_all is_id candidates ≡ true → flat_map spaced (map signed_decimal (flat_map group_numbers (bare_groups candidates))) ≡ ids_text (32 ∷ 45 ∷ []) candidates
+candidates_text : (candidates : List ℕ) → list_all is_id candidates ≡ true
+    → flat_map spaced (map signed_decimal (flat_map group_numbers (bare_groups candidates))) ≡ ids_text (32 ∷ 45 ∷ []) candidates
 candidates_text [] h = refl
 candidates_text (candidate ∷ candidates) h =
     let parts = and_parts (is_id candidate) (list_all is_id candidates) h in
@@ -76,7 +83,8 @@ deletion_text-line id ids =
     let words : flat_map spaced (map decimal ids ++ zero_word) ≡ numbers ++ (32 ∷ 48 ∷ []) =
     flat_map-append spaced (map decimal ids) zero_word ∙ ap (λ (l : List ℕ). l ++ (32 ∷ 48 ∷ [])) (flat_map-map spaced decimal ids) in
     let line : line_of_step (Delete id ids) ≡ decimal id ++ (32 ∷ 100 ∷ (numbers ++ (32 ∷ 48 ∷ 10 ∷ []))) =
-    ap (λ (l : List ℕ). l ++ 10 ∷ []) (join-spaced (decimal id) ((100 ∷ []) ∷ (map decimal ids ++ zero_word)) ∙ ap (λ (l : List ℕ). decimal id ++ (32 ∷ 100 ∷ l)) words)
+    ap (λ (l : List ℕ). l ++ 10 ∷ []) (join-spaced (decimal id) ((100 ∷ []) ∷ (map decimal ids ++ zero_word))
+    ∙ ap (λ (l : List ℕ). decimal id ++ (32 ∷ 100 ∷ l)) words)
     ∙ append_assoc (decimal id) (32 ∷ 100 ∷ (numbers ++ (32 ∷ 48 ∷ []))) (10 ∷ [])
     ∙ ap (λ (l : List ℕ). decimal id ++ (32 ∷ 100 ∷ l)) (append_assoc numbers (32 ∷ 48 ∷ []) (10 ∷ [])) in
     from_second-4 (decimal id) (32 ∷ 100 ∷ []) numbers (32 ∷ 48 ∷ 10 ∷ []) ∙ sym line

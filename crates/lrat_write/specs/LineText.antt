@@ -1,8 +1,15 @@
 -- The text of a line by its parts.
-use Rattle.std.specs.Prelude.{ℕ, ℤ, List, [], ◌∷◌, ◌++◌, map, decimal}
+use Rattle.std.specs.Prelude.{ℕ, ℤ, Bool, if◌then◌else◌, List, [], ◌∷◌, ◌++◌, map, decimal}
 use Rattle.std.specs.Fmt.{signed_decimal}
 use Rattle.std.specs.List.{flat_map}
 use Rattle.cnf_base.specs.declared.list.Group.{Group}
+
+-- what is before a number behind the clause: a space, and a minus sign where it is negative
+abbrev pub lead : Bool → List ℕ
+lead minus = if minus then 32 ∷ 45 ∷ [] else 32 ∷ []
+
+abbrev pub led_number : Bool → ℕ → List ℕ
+led_number minus number = lead minus ++ decimal number
 
 -- literals, each behind a space
 abbrev pub spaced_literal : ℤ → List ℕ

@@ -1,8 +1,8 @@
 //! The lines of a proof, written one at a time: exactly the bytes of `line_of_step`, or a front of them where a
-//! write fails. Digits are made by `itoa`; a line is collected on the stack, so that it costs no memory and mostly
-//! one write.
+//! write fails. Digits are made by `itoa`; a line is made on the stack, so that it costs no memory and mostly one write.
 #![tactic(auto)]
 
+mod backward;
 mod line;
 mod numbers;
 

@@ -1,34 +1,64 @@
-// The numbers of a line: literals, and the numbers of clauses.
+// The numbers of a long line: literals, and the numbers of clauses.
 ghost use Rattle.std.specs.Prelude.{◌≡◌};
 ghost use Rattle.host_io.specs.Emitted.{Emits};
-ghost use Rattle.lrat_write.specs.LineText.{literals_text, ids_text};
+ghost use Rattle.lrat_write.specs.LineText.{lead, led_number, literals_text, ids_text};
 
+use crate::backward::{BUFFER, put_number};
 use cnf_base::{Id, Lit};
-use host_io::{Failed, Held, Sink, emit_number};
+use host_io::{Failed, HeldBytes, Sink, emit};
 
 /// Puts the literals of a clause, each behind a space.
-pub fn emit_literals<S: Sink>(sink: &mut S, held: &mut Held, literals: &[Lit]) -> Result<(), Failed>
-    ensures emits { Emits S.tells (S.channel sink.old) (S.channel sink.new) held.old.items held.new.items (literals_text literals.now) result }
+pub fn emit_literals<S: Sink>(
+    sink: &mut S,
+    held: &mut HeldBytes,
+    literals: &[Lit],
+) -> Result<(), Failed>
+    ensures emits { Emits S.tells (S.channel sink.old) (S.channel sink.new) held.old.items held.new.items
+        (literals_text literals.now) result }
     ensures beside { S.beside sink.new ≡ S.beside sink.old }
 {
+    let mut buffer = [0; BUFFER];
     for literal in literals {
-        emit_number(sink, held, b" ", literal.get())?;
+        emit_led(
+            sink,
+            held,
+            &mut buffer,
+            literal.is_negative(),
+            u64::from(literal.var()),
+        )?;
     }
     Ok(())
 }
 
-/// Puts clause numbers, each behind the same lead: a space, or a space and a minus sign.
+/// Puts clause numbers, each behind a space, and negative or not.
 pub fn emit_ids<S: Sink>(
     sink: &mut S,
-    held: &mut Held,
-    lead: &[u8],
+    held: &mut HeldBytes,
+    minus: bool,
     ids: &[Id],
 ) -> Result<(), Failed>
-    ensures emits { Emits S.tells (S.channel sink.old) (S.channel sink.new) held.old.items held.new.items (ids_text lead.now ids.now) result }
+    ensures emits { Emits S.tells (S.channel sink.old) (S.channel sink.new) held.old.items held.new.items
+        (ids_text (lead minus) ids.now) result }
     ensures beside { S.beside sink.new ≡ S.beside sink.old }
 {
+    let mut buffer = [0; BUFFER];
     for id in ids {
-        emit_number(sink, held, lead, id.get())?;
+        emit_led(sink, held, &mut buffer, minus, id.get())?;
     }
     Ok(())
+}
+
+// Puts one number behind a space, made in a buffer whose bytes are of no use.
+fn emit_led<S: Sink>(
+    sink: &mut S,
+    held: &mut HeldBytes,
+    buffer: &mut [u8; BUFFER],
+    minus: bool,
+    number: u64,
+) -> Result<(), Failed>
+    ensures emits { Emits S.tells (S.channel sink.old) (S.channel sink.new) held.old.items held.new.items (led_number minus number) result }
+    ensures beside { S.beside sink.new ≡ S.beside sink.old }
+{
+    let start = put_number(buffer, BUFFER, minus, number);
+    emit(sink, held, &buffer[start..])
 }

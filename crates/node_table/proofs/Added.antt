@@ -1,5 +1,6 @@
 -- Clauses that were added beside the definitions of nodes stay so as the table grows, and no others come with a node.
-use Rattle.std.proofs.Common.{◌≡◌, ℕ, zero, suc, ◌+◌, ◌<◌, ◌≤◌, Bool, true, false, ◌||◌, ℤ, pos, List, [], ◌∷◌, length, Option, None, Some, is_some, refl, sym, ap, ◌∙◌, subst, arith, inl, inr, eq-eqb}
+use Rattle.std.proofs.Common.{◌≡◌, ℕ, zero, suc, ◌+◌, ◌<◌, ◌≤◌, Bool, true, false, ◌||◌, ℤ, pos, List, [], ◌∷◌, length, Option, None, Some}
+use Rattle.std.proofs.Common.{is_some, refl, sym, ap, ◌∙◌, subst, arith, inl, inr, eq-eqb}
 use Rattle.std.specs.Prelude.{◌==◌, nat_abs, neg_ℤ, not}
 use Rattle.std.specs.Option.{option_map}
 use Rattle.std.specs.List.{list_any}
@@ -15,7 +16,8 @@ use Rattle.hint_chain.specs.Atoms.{neg_atom, clause_of}
 use Rattle.node_table.specs.declared.node.Node.{Node}
 use Rattle.node_table.specs.declared.node.Branch.{Branch}
 use Rattle.node_table.specs.Diagram.{Graph, IsNew, KeepsNodes, branch_at, is_node, levels, variable_at}
-use Rattle.node_table.specs.Defined.{IsDefined, atom_of, clause_named, defs_of, definition_count, hd_first, is_defined_by, is_false_node, is_given, is_true_node, ld_first, lu_first, one_if}
+use Rattle.node_table.specs.Defined.{IsDefined, atom_of, clause_named, defs_of, definition_count, hd_first, is_defined_by, is_false_node}
+use Rattle.node_table.specs.Defined.{is_given, is_true_node, ld_first, lu_first, one_if}
 use Rattle.node_table.specs.Tied.{IsTied, IsAdded, GivesNumbers, KeepsClauses}
 use Rattle.node_table.specs.Table.{new_branch}
 use Rattle.node_table.proofs.Fresh.{KeepsNodes-new}
@@ -48,7 +50,8 @@ abs_neg : (n : ℕ) → nat_abs (neg_ℤ (pos n)) ≡ n
 abs_neg zero = refl
 abs_neg (suc n) = refl
 
-defined_holds : (graph : Graph) (live : Live) (b : Branch) → is_node graph b.high ≡ true → is_node graph b.low ≡ true → IsDefined live graph b → (id : ℕ)
+defined_holds : (graph : Graph) (live : Live) (b : Branch) → is_node graph b.high ≡ true → is_node graph b.low ≡ true
+    → IsDefined live graph b → (id : ℕ)
     → is_defined_by (defs_of b) id ≡ true → HoldsNode live b.variable id
 defined_holds graph live b high low defined id by =
     let u = pos b.variable in
@@ -64,12 +67,32 @@ defined_holds graph live b high low defined id by =
     elim (or_cases ((one || two) || three) four by) [
       | inl first ↦ elim (or_cases (one || two) three first) [
         | inl up ↦ elim (or_cases one two up) [
-          | inl here ↦ (u, refl, holds_given live u (neg_ℤ y) (neg_atom (atom_of graph b.high)) hu _ id (some_up graph u (neg_ℤ y) b.high high) defined.hu here)
-          | inr here ↦ (u, refl, holds_given live u y (neg_atom (atom_of graph b.low)) lu _ id (some_up graph u y b.low low) defined.lu here)
+          | inl here ↦ (
+            u,
+            refl,
+            holds_given live u (neg_ℤ y) (neg_atom (atom_of graph b.high)) hu _ id
+                (some_up graph u (neg_ℤ y) b.high high) defined.hu here,
+          )
+          | inr here ↦ (
+            u,
+            refl,
+            holds_given live u y (neg_atom (atom_of graph b.low)) lu _ id
+                (some_up graph u y b.low low) defined.lu here,
+          )
         ]
-        | inr here ↦ (neg_ℤ u, abs_neg b.variable, holds_given live (neg_ℤ u) (neg_ℤ y) (atom_of graph b.high) hd _ id (some_down graph (neg_ℤ u) (neg_ℤ y) b.high high) defined.hd here)
+        | inr here ↦ (
+          neg_ℤ u,
+          abs_neg b.variable,
+          holds_given live (neg_ℤ u) (neg_ℤ y) (atom_of graph b.high) hd _ id
+              (some_down graph (neg_ℤ u) (neg_ℤ y) b.high high) defined.hd here,
+        )
       ]
-      | inr here ↦ (neg_ℤ u, abs_neg b.variable, holds_given live (neg_ℤ u) y (atom_of graph b.low) ld _ id (some_down graph (neg_ℤ u) y b.low low) defined.ld here)
+      | inr here ↦ (
+        neg_ℤ u,
+        abs_neg b.variable,
+        holds_given live (neg_ℤ u) y (atom_of graph b.low) ld _ id
+            (some_down graph (neg_ℤ u) y b.low low) defined.ld here,
+      )
     ]
 
 some_clause : (o : Option (List ℤ)) → is_some o ≡ true → (clause : List ℤ) × (o ≡ Some clause)
@@ -77,16 +100,20 @@ some_clause None is = absurd (let e : false ≡ true = is in cc)
 some_clause (Some clause) is = (clause, refl)
 
 -- what was added defines none of the nodes that came since
-module _ (graph later : Graph) (old new : State) (tied : IsTied graph old) (still : IsTied later new) (nodes : KeepsNodes graph later) (clauses : KeepsClauses old.live new.live) where
-  not_new : (id : ℕ) → is_some (clause_at old.live id) ≡ true → (key : ℕ) (b : Branch) → branch_at later key ≡ Some b → branch_at graph key ≡ None → is_defined_by (defs_of b) id ≡ true → ⊥
+module _ (graph later : Graph) (old new : State) (tied : IsTied graph old) (still : IsTied later new) (nodes : KeepsNodes graph later)
+    (clauses : KeepsClauses old.live new.live) where
+  not_new : (id : ℕ) → is_some (clause_at old.live id) ≡ true → (key : ℕ) (b : Branch) → branch_at later key ≡ Some b → branch_at graph key
+      ≡ None → is_defined_by (defs_of b) id ≡ true → ⊥
   not_new id live key b at none by =
-      let holds = defined_holds later new.live b (still.reduced.high key b at).stands (still.reduced.low key b at).stands (still.defined key b at) id by in
+      let holds = defined_holds later new.live b (still.reduced.high key b at).stands (still.reduced.low key b at).stands
+      (still.defined key b at) id by in
       let clause = some_clause (clause_at old.live id) live in
       let same : clause.0 ≡ holds.2.0 = (let e : Some clause.0 ≡ Some holds.2.0 = sym (clauses id clause.0 clause.1) ∙ holds.2.1 in cc) in
       let among : list_any (int_eq holds.0) clause.0 ≡ true = ap (list_any (int_eq holds.0)) same ∙ holds.2.2 in
       let order : levels later ≡ levels graph = ap length nodes.order in
       let owned = tied.over_nodes id clause.0 clause.1 holds.0 among (omega (arith, order, holds.1, still.reduced.above key b at)) in
-      let here : key ≡ owned.key = still.reduced.apart key owned.key b owned.branch at (nodes.nodes owned.key owned.branch owned.stands) (sym (owned.own ∙ holds.1)) in
+      let here : key ≡ owned.key = still.reduced.apart key owned.key b owned.branch at (nodes.nodes owned.key owned.branch owned.stands)
+      (sym (owned.own ∙ holds.1)) in
       let gone : None ≡ Some owned.branch = sym none ∙ ap (branch_at graph) here ∙ owned.stands in
       cc
 
@@ -110,7 +137,8 @@ module _ (graph later : Graph) (old new : State) (tied : IsTied graph old) (stil
       }
 
 -- each number of a node's clauses is given: they are consecutive
-next_given : (d : Bool) (own id : ℕ) (rest : Bool) → own ≤ id → (own + one_if d ≤ id → rest ≡ true) → (is_given (given_if d own) id || rest) ≡ true
+next_given : (d : Bool) (own id : ℕ) (rest : Bool) → own ≤ id → (own + one_if d ≤ id → rest ≡ true) → (is_given (given_if d own) id || rest)
+    ≡ true
 next_given false own id rest within later = later (omega (arith, within))
 next_given true own id rest within later =
     elim (cases_eq own id) [
@@ -129,16 +157,20 @@ to_the_left false false c d is = is
 
 numbers_define : (b : Branch) (id : ℕ) → b.first ≤ id → id < b.first + definition_count b.high b.low → is_defined_by (defs_of b) id ≡ true
 numbers_define b id within below =
-    to_the_left (is_given (given_if (not (is_false_node b.high)) b.first) id) (is_given (given_if (not (is_false_node b.low)) (lu_first b.high b.first)) id)
-    (is_given (given_if (not (is_true_node b.high)) (hd_first b.high b.low b.first)) id) (is_given (given_if (not (is_true_node b.low)) (ld_first b.high b.low b.first)) id)
+    to_the_left (is_given (given_if (not (is_false_node b.high)) b.first) id)
+    (is_given (given_if (not (is_false_node b.low)) (lu_first b.high b.first)) id)
+    (is_given (given_if (not (is_true_node b.high)) (hd_first b.high b.low b.first)) id)
+    (is_given (given_if (not (is_true_node b.low)) (ld_first b.high b.low b.first)) id)
     (next_given (not (is_false_node b.high)) b.first id _ within (λ one.
     next_given (not (is_false_node b.low)) (lu_first b.high b.first) id _ one (λ two.
     next_given (not (is_true_node b.high)) (hd_first b.high b.low b.first) id _ two (λ three.
     last_given (not (is_true_node b.low)) (ld_first b.high b.low b.first) id three (omega (arith, below))))))
 
 -- what is added once a node came was added before
-pub added_before : (graph later : Graph) (key level variable : ℕ) (high low : Node) (old new : State) → IsNew graph later key (new_branch old level high low variable)
-    → GivesNumbers old new → ((id : ℕ) (clause : List ℤ) → clause_at new.live id ≡ Some clause → (0 < id) × (id ≤ new.top)) → new.top ≡ old.top + definition_count high low
+pub added_before : (graph later : Graph) (key level variable : ℕ) (high low : Node) (old new : State)
+    → IsNew graph later key (new_branch old level high low variable)
+    → GivesNumbers old new → ((id : ℕ) (clause : List ℤ) → clause_at new.live id ≡ Some clause → (0 < id) × (id ≤ new.top)) → new.top
+    ≡ old.top + definition_count high low
     → (inputs id : ℕ) → IsAdded later new.live inputs id → IsAdded graph old.live inputs id
 added_before graph later key level variable high low old new joined gives numbers top inputs id added =
     let b = new_branch old level high low variable in
@@ -149,7 +181,8 @@ added_before graph later key level variable high low old new joined gives number
       stands = elim (gives.next id added.stands) [
         | inl there ↦ there
         | inr above ↦
-            let by : is_defined_by (defs_of b) id ≡ true = numbers_define b id (omega (arith, above)) (omega (arith, (numbers id clause.0 clause.1).1, top)) in
+            let by : is_defined_by (defs_of b) id ≡ true = numbers_define b id (omega (arith, above))
+            (omega (arith, (numbers id clause.0 clause.1).1, top)) in
             let none : is_defined_by (defs_of b) id ≡ false = added.defines_none key b at in
             absurd (let e : false ≡ true = sym none ∙ by in cc)
       ];
@@ -160,10 +193,12 @@ added_before graph later key level variable high low old new joined gives number
 -- the number of a new clause is that of none that was live
 module _ (graph : Graph) (state : State) (tied : IsTied graph state) where
   pub not_next : is_some (clause_at state.live (state.top + 1)) ≡ true → ⊥
-  not_next live = let clause = some_clause (clause_at state.live (state.top + 1)) live in omega (arith, (tied.numbers (state.top + 1) clause.0 clause.1).1)
+  not_next live = let clause = some_clause (clause_at state.live (state.top + 1)) live in
+      omega (arith, (tied.numbers (state.top + 1) clause.0 clause.1).1)
 
   -- so a new clause is one that was added
-  pub added_next : (inputs : ℕ) → inputs ≤ state.top → (clause : List ℤ) → IsAdded graph (with_next state clause).live inputs (state.top + 1)
+  pub added_next : (inputs : ℕ) → inputs ≤ state.top → (clause : List ℤ)
+      → IsAdded graph (with_next state clause).live inputs (state.top + 1)
   added_next inputs few clause = record {
     stands = ap is_some (at_next state clause);
     above = omega (arith, few);
@@ -171,7 +206,8 @@ module _ (graph : Graph) (state : State) (tied : IsTied graph state) where
         elim (is_defined_by (defs_of b) (state.top + 1)) as (λ t. is_defined_by (defs_of b) (state.top + 1) ≡ t → t ≡ false) [
           | false ↦ λ _. refl
           | true ↦ λ by.
-              let holds = defined_holds graph state.live b (tied.reduced.high key b at).stands (tied.reduced.low key b at).stands (tied.defined key b at) (state.top + 1) by in
+              let holds = defined_holds graph state.live b (tied.reduced.high key b at).stands (tied.reduced.low key b at).stands
+              (tied.defined key b at) (state.top + 1) by in
               absurd (not_next (ap is_some holds.2.1))
         ] refl;
   }

@@ -1,5 +1,6 @@
 -- The steps of one call of a table: nothing but room, one clause more, or one node more, whole or cut short.
-use Rattle.std.proofs.Common.{◌≡◌, ◌+◌, ◌*◌, ◌≤◌, ◌<◌, ℕ, ℤ, Bool, false, List, [], Option, None, Some, refl, sym, ap, subst, arith, inl, inr, take, append-nil}
+use Rattle.std.proofs.Common.{◌≡◌, ◌+◌, ◌*◌, ◌≤◌, ◌<◌, ℕ, ℤ, Bool, false, List, [], Option, None, Some, refl, sym, ap, subst, arith, inl}
+use Rattle.std.proofs.Common.{inr, take, append-nil}
 use Rattle.std.specs.Prelude.{IsTrue, max}
 use Rattle.host_io.specs.Channel.{Channel, Rose}
 use Rattle.lrat_rules.specs.State.{State, clause_at}
@@ -30,7 +31,9 @@ module _ {S : Type 0} (tells : Bool) (channel : S → Channel) where
   abbrev StepsFrom : TableState S → TableState S → ℕ → Option TableError → Type 0
   StepsFrom old new = Steps tells (channel old.book.sink) (channel new.book.sink) old new
 
-  refused : (table : TableState S) → IsSound table → (spare : ℕ) → Continues tells (channel table.book.sink) (channel table.book.sink) table (record table { book = record table.book { spare = spare } })
+  refused : (table : TableState S) → IsSound table → (spare : ℕ)
+      → Continues tells (channel table.book.sink) (channel table.book.sink) table
+      (record table { book = record table.book { spare = spare } })
       × Extends table (record table { book = record table.book { spare = spare } })
   refused table sound spare =
       let same = Continues-none tells (channel table.book.sink) table sound in
@@ -48,27 +51,39 @@ module _ {S : Type 0} (tells : Bool) (channel : S → Channel) where
           unfailed = refl;
           writes = same.writes;
         },
-        record { inputs = refl; nodes = extends.nodes; clauses = extends.clauses; numbers = extends.numbers; more = extends.more; retired = extends.retired },
+        record {
+          inputs = refl;
+          nodes = extends.nodes;
+          clauses = extends.clauses;
+          numbers = extends.numbers;
+          more = extends.more;
+          retired = extends.retired;
+        },
       )
 
   pub no_room : (old new : TableState S) → IsSound old → IsSame old new → StepsFrom old new 0 (Some OutOfMemory)
   no_room old new sound same =
       let both = refused old sound new.book.spare in
-      subst (λ (t : TableState S). StepsFrom old t 0 (Some OutOfMemory)) (sym same) (record { leaves = both.0; extends = both.1; adds = omega arith })
+      subst (λ (t : TableState S). StepsFrom old t 0 (Some OutOfMemory)) (sym same)
+      (record { leaves = both.0; extends = both.1; adds = omega arith })
 
-  pub no_ids_left : (old new : TableState S) → IsSound old → IsSame old new → old.book.limit < old.book.state.top + 4 → StepsFrom old new 0 (Some IdLimit)
+  pub no_ids_left : (old new : TableState S) → IsSound old → IsSame old new → old.book.limit < old.book.state.top + 4
+      → StepsFrom old new 0 (Some IdLimit)
   no_ids_left old new sound same met =
       let both = refused old sound new.book.spare in
-      subst (λ (t : TableState S). StepsFrom old t 0 (Some IdLimit)) (sym same) (record { leaves = (both.0, met); extends = both.1; adds = omega arith })
+      subst (λ (t : TableState S). StepsFrom old t 0 (Some IdLimit)) (sym same)
+      (record { leaves = (both.0, met); extends = both.1; adds = omega arith })
 
 -- a clause that was added stays so in a table that has more
-pub IsAddedTo-kept : {S : Type 0} (old new : TableState S) → IsSound old → IsSound new → Extends old new → (id : ℕ) → IsAddedTo old id → IsAddedTo new id
+pub IsAddedTo-kept : {S : Type 0} (old new : TableState S) → IsSound old → IsSound new → Extends old new → (id : ℕ) → IsAddedTo old id
+    → IsAddedTo new id
 IsAddedTo-kept old new sound still extends id own =
     subst (λ (inputs : ℕ). IsAdded new.graph new.book.state.live inputs id) (sym extends.inputs)
     (added_kept old.graph new.graph old.book.state new.book.state sound.tied still.tied extends.nodes extends.clauses old.inputs id own)
 
 -- and one that has an old number was added before
-pub IsAddedTo-before : {S : Type 0} (old new : TableState S) → Extends old new → (id : ℕ) → id ≤ old.book.state.top → IsAddedTo new id → IsAddedTo old id
+pub IsAddedTo-before : {S : Type 0} (old new : TableState S) → Extends old new → (id : ℕ) → id ≤ old.book.state.top → IsAddedTo new id
+    → IsAddedTo old id
 IsAddedTo-before old new extends id within own = record {
   stands = elim (extends.numbers.next id own.stands) [
     | inl there ↦ there
@@ -88,14 +103,16 @@ pub record Wrote {S : Type 0} (tells : Bool) (before after : Channel) (old new :
 
 pub record Tore {S : Type 0} (tells : Bool) (before after : Channel) (old new : Book S) : Type 0 where
   pub rose : Rose before.faults after.faults
-  pub cut : (clauses : List (List ℤ)) → IsProofOf clauses tells before old.state → IsTrue tells → IsCutBefore clauses after.written old.state new.state
+  pub cut : (clauses : List (List ℤ)) → IsProofOf clauses tells before old.state → IsTrue tells
+      → IsCutBefore clauses after.written old.state new.state
   pub out_of_step : new.in_step ≡ false
   pub limit : new.limit ≡ old.limit
   pub writes : OnlyWrites before after
 
 -- no fewer extension variables are in use where there are more live clauses
 abbrev pub FewerInUse : Type 0
-FewerInUse = (vars : ℕ) (few more : State) → ((id : ℕ) (clause : List ℤ) → clause_at few.live id ≡ Some clause → clause_at more.live id ≡ Some clause) → in_use vars few ≤ in_use vars more
+FewerInUse = (vars : ℕ) (few more : State) → ((id : ℕ) (clause : List ℤ) → clause_at few.live id ≡ Some clause → clause_at more.live id
+    ≡ Some clause) → in_use vars few ≤ in_use vars more
 
 ≤-then : (a b c : ℕ) → a ≤ b → b ≤ c → a ≤ c
 ≤-then a b c first second = omega (arith, first, second)
@@ -107,7 +124,13 @@ pub record Aside : Type 0 where
   pub retired : List ℕ
 
 abbrev pub table_of : {S : Type 0} → Aside → Graph → Book S → TableState S
-table_of aside graph book = record { graph = graph; book = book; max_nodes = aside.max_nodes; inputs = aside.inputs; retired = aside.retired }
+table_of aside graph book = record {
+  graph = graph;
+  book = book;
+  max_nodes = aside.max_nodes;
+  inputs = aside.inputs;
+  retired = aside.retired;
+}
 
 -- More nodes and clauses, within the limits.
 pub record Grew {S : Type 0} (justified : ℕ) (graph later : Graph) (old new : Book S) : Type 0 where
@@ -116,9 +139,17 @@ pub record Grew {S : Type 0} (justified : ℕ) (graph later : Graph) (old new : 
   pub within : new.state.top ≤ max old.state.top old.limit
   pub adds : new.state.top + 4 * live_nodes graph ≤ old.state.top + 4 * live_nodes later + justified
 
-module _ {S : Type 0} (tells : Bool) (aside : Aside) (before after : Channel) (graph later : Graph) (old new : Book S) (justified : ℕ) (grew : Grew justified graph later old new) where
+module _ {S : Type 0} (tells : Bool) (aside : Aside) (before after : Channel) (graph later : Graph) (old new : Book S) (justified : ℕ)
+    (grew : Grew justified graph later old new) where
   extends : Extends (table_of aside graph old) (table_of aside later new)
-  extends = record { inputs = refl; nodes = grew.nodes; clauses = grew.grows.clauses; numbers = grew.grows.gives; more = []; retired = sym (append-nil aside.retired) }
+  extends = record {
+    inputs = refl;
+    nodes = grew.nodes;
+    clauses = grew.grows.clauses;
+    numbers = grew.grows.gives;
+    more = [];
+    retired = sym (append-nil aside.retired);
+  }
 
   pub went_on : IsSound (table_of aside graph old) → Wrote tells before after old new → IsTied later new.state
       → Steps tells before after (table_of aside graph old) (table_of aside later new) justified None
@@ -128,7 +159,8 @@ module _ {S : Type 0} (tells : Bool) (aside : Aside) (before after : Channel) (g
         in_step = wrote.in_step;
         tied = tied;
         inputs = ≤-then aside.inputs old.state.top new.state.top sound.inputs grew.grows.gives.no_less;
-        retired = AreRetired-kept graph later old.state new.state sound.tied tied grew.nodes grew.grows.clauses aside.inputs aside.retired sound.retired;
+        retired = AreRetired-kept graph later old.state new.state sound.tied tied grew.nodes grew.grows.clauses aside.inputs aside.retired
+            sound.retired;
       };
       order = grew.nodes.order;
       inputs = refl;
@@ -145,7 +177,8 @@ module _ {S : Type 0} (tells : Bool) (aside : Aside) (before after : Channel) (g
     adds = grew.adds;
   }
 
-  pub broke_off : IsReduced later → Tore tells before after old new → FewerInUse → in_use (levels graph) new.state ≤ live_nodes later → live_nodes later ≤ aside.max_nodes
+  pub broke_off : IsReduced later → Tore tells before after old new → FewerInUse → in_use (levels graph) new.state ≤ live_nodes later
+      → live_nodes later ≤ aside.max_nodes
       → Steps tells before after (table_of aside graph old) (table_of aside later new) justified (Some WriteFault)
   broke_off reduced tore fewer used few = record {
     leaves = record {
@@ -160,7 +193,8 @@ module _ {S : Type 0} (tells : Bool) (aside : Aside) (before after : Channel) (g
             since = cut.5;
             within_before = record {
               numbers = ≤-then cut.0.top new.state.top (max old.state.top old.limit) cut.3 grew.within;
-              nodes = ≤-then (in_use (levels graph) cut.0) (in_use (levels graph) new.state) (live_nodes later) (fewer (levels graph) cut.0 new.state cut.2) used;
+              nodes = ≤-then (in_use (levels graph) cut.0) (in_use (levels graph) new.state) (live_nodes later)
+                  (fewer (levels graph) cut.0 new.state cut.2) used;
             };
             within_after = record { numbers = grew.within; nodes = used };
           };
@@ -180,7 +214,8 @@ module _ {S : Type 0} (tells : Bool) (aside : Aside) (before after : Channel) (g
   }
 
 -- A clause more over the variables of nodes.
-module _ {S : Type 0} (tells : Bool) (aside : Aside) (before after : Channel) (graph : Graph) (old new : Book S) (clause : List ℤ) (sound : IsSound (table_of aside graph old))
+module _ {S : Type 0} (tells : Bool) (aside : Aside) (before after : Channel) (graph : Graph) (old new : Book S) (clause : List ℤ)
+    (sound : IsSound (table_of aside graph old))
     (over : IsOverNodes graph clause) (room : old.state.top < old.limit) (added : new.state ≡ with_next old.state clause) where
   one_more : Grew 1 graph graph old new
   one_more =
@@ -195,7 +230,8 @@ module _ {S : Type 0} (tells : Bool) (aside : Aside) (before after : Channel) (g
   tied_still : IsTied graph new.state
   tied_still = subst (IsTied graph) (sym added) (justified_tied graph old.state clause sound.tied over)
 
-  pub justified_on : Wrote tells before after old new → Steps tells before after (table_of aside graph old) (table_of aside graph new) 1 None
+  pub justified_on : Wrote tells before after old new → Steps tells before after (table_of aside graph old)
+      (table_of aside graph new) 1 None
   justified_on wrote = went_on tells aside before after graph graph old new 1 one_more sound wrote tied_still
 
   pub justified_torn : Tore tells before after old new → FewerInUse → live_nodes graph ≤ aside.max_nodes
@@ -215,8 +251,10 @@ pub record IsAsked (graph : Graph) (state : State) (level : ℕ) (high low : Nod
   pub own : IsNobodys graph variable
 
 -- A node more, by its definitions or a front of them.
-module _ {S : Type 0} (tells : Bool) (aside : Aside) (before after : Channel) (graph later : Graph) (old new : Book S) (level : ℕ) (high low : Node) (variable : ℕ)
-    (sound : IsSound (table_of aside graph old)) (asked : IsAsked graph old.state level high low variable) (key : ℕ) (joined : IsNew graph later key (new_branch old.state level high low variable))
+module _ {S : Type 0} (tells : Bool) (aside : Aside) (before after : Channel) (graph later : Graph) (old new : Book S) (level : ℕ)
+    (high low : Node) (variable : ℕ)
+    (sound : IsSound (table_of aside graph old)) (asked : IsAsked graph old.state level high low variable) (key : ℕ)
+    (joined : IsNew graph later key (new_branch old.state level high low variable))
     (room : old.state.top + definition_count high low ≤ old.limit) where
   abbrev whole : State
   whole = with_definitions old.state (node_definitions graph old.state level high low variable)
@@ -224,7 +262,8 @@ module _ {S : Type 0} (tells : Bool) (aside : Aside) (before after : Channel) (g
   tied_whole : IsTied later whole
   tied_whole =
       subst (λ (g : Graph). IsTied g whole) (sym joined.joined)
-      (made_is_tied graph old.state asked.tied level high low asked.small asked.high_below asked.low_below asked.wanted variable asked.above asked.own key joined.unused)
+      (made_is_tied graph old.state asked.tied level high low asked.small asked.high_below asked.low_below asked.wanted variable asked.above
+      asked.own key joined.unused)
 
   whole_top : whole.top ≡ old.state.top + definition_count high low
   whole_top = definitions_top graph old.state level high low variable asked.high_below.stands asked.low_below.stands
@@ -241,21 +280,27 @@ module _ {S : Type 0} (tells : Bool) (aside : Aside) (before after : Channel) (g
         adds = omega (arith, few, whole_top, four, nodes);
       }
 
-  pub made_on : new.state ≡ whole → Wrote tells before after old new → Steps tells before after (table_of aside graph old) (table_of aside later new) 0 None
+  pub made_on : new.state ≡ whole → Wrote tells before after old new
+      → Steps tells before after (table_of aside graph old) (table_of aside later new) 0 None
   made_on is wrote =
       went_on tells aside before after graph later old new 0
-      (made_more (subst (Grows old.state) (sym is) (Grows-definitions old.state (node_definitions graph old.state level high low variable) asked.tied.numbers))
+      (made_more (subst (Grows old.state) (sym is) (Grows-definitions old.state
+      (node_definitions graph old.state level high low variable) asked.tied.numbers))
       (let top = ap (λ (s : State). s.top) is in omega (arith, top)))
       sound wrote (subst (IsTied later) (sym is) tied_whole)
 
-  pub made_torn : (n : ℕ) → new.state ≡ with_definitions old.state (take n (node_definitions graph old.state level high low variable)) → Tore tells before after old new → FewerInUse
-      → live_nodes graph < aside.max_nodes → Steps tells before after (table_of aside graph old) (table_of aside later new) 0 (Some WriteFault)
+  pub made_torn : (n : ℕ) → new.state ≡ with_definitions old.state (take n (node_definitions graph old.state level high low variable))
+      → Tore tells before after old new → FewerInUse
+      → live_nodes graph < aside.max_nodes → Steps tells before after (table_of aside graph old) (table_of aside later new) 0
+      (Some WriteFault)
   made_torn n is tore fewer few =
       let all = node_definitions graph old.state level high low variable in
       let grows : Grows old.state new.state = subst (Grows old.state) (sym is) (Grows-front old.state n all asked.tied.numbers) in
       let rest : Grows new.state whole = subst (λ (s : State). Grows s whole) (sym is) (Grows-rest old.state n all asked.tied.numbers) in
       let same : levels later ≡ levels graph = ap levels joined.joined in
-      let used : in_use (levels graph) whole ≡ live_nodes later = subst (λ (vars : ℕ). in_use vars whole ≡ live_nodes later) same (in_use_nodes later whole tied_whole) in
+      let used : in_use (levels graph) whole ≡ live_nodes later = subst (λ (vars : ℕ). in_use vars whole
+      ≡ live_nodes later) same (in_use_nodes later whole tied_whole) in
       let less = fewer (levels graph) new.state whole rest.clauses in
       let nodes = live_more graph later key joined in
-      broke_off tells aside before after graph later old new 0 (made_more grows rest.gives.no_less) tied_whole.reduced tore fewer (omega (arith, less, used)) (omega (arith, nodes, few))
+      broke_off tells aside before after graph later old new 0 (made_more grows rest.gives.no_less) tied_whole.reduced tore fewer
+      (omega (arith, less, used)) (omega (arith, nodes, few))

@@ -1,5 +1,6 @@
 -- What a clause over atoms holds, and when there is one.
-use Rattle.std.proofs.Common.{◌≡◌, ℕ, ◌≤◌, true, false, not, ◌||◌, ℤ, pos, negsuc, neg_ℤ, nat_abs, zero, suc, ◌<◌, ◌≢◌, List, [], ◌∷◌, length, Option, None, Some, is_some, refl, sym, ap, ◌∙◌, arith}
+use Rattle.std.proofs.Common.{◌≡◌, ℕ, ◌≤◌, true, false, not, ◌||◌, ℤ, pos, negsuc, neg_ℤ, nat_abs, zero, suc, ◌<◌, ◌≢◌, List, [], ◌∷◌}
+use Rattle.std.proofs.Common.{length, Option, None, Some, is_some, refl, sym, ap, ◌∙◌, arith}
 use Rattle.std.specs.List.{list_any}
 use Rattle.std.specs.Option.{option_map}
 use Rattle.std.specs.Ordering.{int_eq}
@@ -18,7 +19,8 @@ literal_in_front literal None clause is = cc
 literal_in_front literal (Some others) clause is = (others, refl, cc)
 
 -- it holds the literals of its atoms
-pub holds-clause_of : (y : ℤ) (atoms : List Atom) (clause : List ℤ) → clause_of atoms ≡ Some clause → list_any (int_eq y) clause ≡ list_any (is_literal y) atoms
+pub holds-clause_of : (y : ℤ) (atoms : List Atom) (clause : List ℤ) → clause_of atoms ≡ Some clause → list_any (int_eq y) clause
+    ≡ list_any (is_literal y) atoms
 holds-clause_of y [] clause is = let e : clause ≡ [] = cc in ap (list_any (int_eq y)) e
 holds-clause_of y (Always ∷ atoms) clause is = cc
 holds-clause_of y (Never ∷ atoms) clause is = holds-clause_of y atoms clause is

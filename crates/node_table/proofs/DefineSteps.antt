@@ -15,15 +15,19 @@ pub record AreWritten (tells : Bool) (before after : Channel) (state later : Sta
   pub lines : IsTrue tells → after.written ≡ before.written ++ definition_lines state written
   pub faults : before.faults ≤ after.faults
 
-pub with_definitions-append : (state : State) (some more : List Definition) → with_definitions state (some ++ more) ≡ with_definitions (with_definitions state some) more
+pub with_definitions-append : (state : State) (some more : List Definition) → with_definitions state (some ++ more)
+    ≡ with_definitions (with_definitions state some) more
 with_definitions-append state [] more = refl
 with_definitions-append state (definition ∷ some) more = with_definitions-append (with_some state definition.clause) some more
 
-pub lines-append : (state : State) (some more : List Definition) → definition_lines state (some ++ more) ≡ definition_lines state some ++ definition_lines (with_definitions state some) more
+pub lines-append : (state : State) (some more : List Definition) → definition_lines state (some ++ more) ≡ definition_lines state some
+    ++ definition_lines (with_definitions state some) more
 lines-append state [] more = refl
 lines-append state (definition ∷ some) more =
-    ap (λ bytes. line_of_some state definition.clause definition.candidates ++ bytes) (lines-append (with_some state definition.clause) some more)
-    ∙ sym (append_assoc (line_of_some state definition.clause definition.candidates) (definition_lines (with_some state definition.clause) some)
+    ap (λ bytes. line_of_some state definition.clause definition.candidates
+    ++ bytes) (lines-append (with_some state definition.clause) some more)
+    ∙ sym (append_assoc (line_of_some state definition.clause definition.candidates)
+    (definition_lines (with_some state definition.clause) some)
     (definition_lines (with_definitions (with_some state definition.clause) some) more))
 
 -- nothing yet
@@ -36,7 +40,8 @@ pub record IsCallOf (o : Option (List ℤ)) (ids : List ℕ) (definition : Defin
   pub candidates : ids ≡ definition.candidates
 
 -- one more
-pub AreWritten-more : {tells : Bool} {before between after : Channel} {state later last : State} {written : List Definition} {o : Option (List ℤ)} {ids : List ℕ} {definition : Definition}
+pub AreWritten-more : {tells : Bool} {before between after : Channel} {state later last : State} {written : List Definition} {o : Option
+    (List ℤ)} {ids : List ℕ} {definition : Definition}
     → AreWritten tells before between state later written → IsCallOf o ids definition → last ≡ with_some later o
     → (IsTrue tells → after.written ≡ between.written ++ line_of_some later o ids) → OnlyWrites between after
     → AreWritten tells before after state last (written ++ definition ∷ [])
@@ -63,8 +68,10 @@ take_behind [] line more n = take_before line more n
 take_behind (byte ∷ front) line more n = let rest = take_behind front line more n in (suc rest.0, ap (λ bytes. byte ∷ bytes) rest.1)
 
 -- the next one is cut short
-pub IsTorn-next : {tells : Bool} {before between after : Channel} {state later : State} {written : List Definition} {o : Option (List ℤ)} {ids : List ℕ} {definition : Definition}
-    → AreWritten tells before between state later written → IsCallOf o ids definition → (more : List Definition) → IsTorn tells between after (line_of_some later o ids)
+pub IsTorn-next : {tells : Bool} {before between after : Channel} {state later : State} {written : List Definition} {o : Option
+    (List ℤ)} {ids : List ℕ} {definition : Definition}
+    → AreWritten tells before between state later written → IsCallOf o ids definition → (more : List Definition)
+    → IsTorn tells between after (line_of_some later o ids)
     → IsTorn tells before after (definition_lines state (written ++ definition ∷ more))
 IsTorn-next {before = before} {state = state} {written = written} {definition = definition} so_far call more torn = record {
   rose = omega (arith, so_far.faults, torn.rose);

@@ -14,11 +14,13 @@ use Rattle.node_table.proofs.Made.{over_input, over_neg, over_node, over_own}
 use Rattle.node_table.proofs.Stands.{IsOverAtom, over_clause}
 
 -- the clause of a given number
-clause_given : (live : Live) (given : Bool) (n id : ℕ) (o : Option (List ℤ)) → is_given (given_if given n) id ≡ true → clause_named live (given_if given n) ≡ o → clause_at live id ≡ o
+clause_given : (live : Live) (given : Bool) (n id : ℕ) (o : Option (List ℤ)) → is_given (given_if given n) id ≡ true
+    → clause_named live (given_if given n) ≡ o → clause_at live id ≡ o
 clause_given live false n id o is named = absurd (let e : false ≡ true = is in cc)
 clause_given live true n id o is named = ap (clause_at live) (sym (eqb-true n id is)) ∙ named
 
-module _ (graph : Graph) (live : Live) (ordered : IsOrder graph.order) (reduced : IsReduced graph) (key : ℕ) (b : Branch) (at : branch_at graph key ≡ Some b) (defined : IsDefined live graph b)
+module _ (graph : Graph) (live : Live) (ordered : IsOrder graph.order) (reduced : IsReduced graph) (key : ℕ) (b : Branch)
+    (at : branch_at graph key ≡ Some b) (defined : IsDefined live graph b)
     (id : ℕ) (clause : List ℤ) (is : clause_at live id ≡ Some clause) where
   abbrev u : ℤ
   u = pos b.variable
@@ -45,16 +47,21 @@ module _ (graph : Graph) (live : Live) (ordered : IsOrder graph.order) (reduced 
   over_low = over_node graph b.low (reduced.low key b at).stands
 
   over_hu : is_given (defs_of b).hu id ≡ true → IsOverNodes graph clause
-  over_hu own = over_clause graph (high_up u x (atom_of graph b.high)) (over_u, (over_not_x, (over_neg graph (atom_of graph b.high) over_high, tt))) clause (sym (clause_given live _ _ id _ own defined.hu) ∙ is)
+  over_hu own = over_clause graph (high_up u x (atom_of graph b.high))
+      (over_u, (over_not_x, (over_neg graph (atom_of graph b.high) over_high, tt))) clause (sym (clause_given live _ _ id _ own defined.hu)
+      ∙ is)
 
   over_lu : is_given (defs_of b).lu id ≡ true → IsOverNodes graph clause
-  over_lu own = over_clause graph (low_up u x (atom_of graph b.low)) (over_u, (over_x, (over_neg graph (atom_of graph b.low) over_low, tt))) clause (sym (clause_given live _ _ id _ own defined.lu) ∙ is)
+  over_lu own = over_clause graph (low_up u x (atom_of graph b.low))
+      (over_u, (over_x, (over_neg graph (atom_of graph b.low) over_low, tt))) clause (sym (clause_given live _ _ id _ own defined.lu) ∙ is)
 
   over_hd : is_given (defs_of b).hd id ≡ true → IsOverNodes graph clause
-  over_hd own = over_clause graph (high_down u x (atom_of graph b.high)) (over_not_u, (over_not_x, (over_high, tt))) clause (sym (clause_given live _ _ id _ own defined.hd) ∙ is)
+  over_hd own = over_clause graph (high_down u x (atom_of graph b.high)) (over_not_u, (over_not_x, (over_high, tt))) clause
+      (sym (clause_given live _ _ id _ own defined.hd) ∙ is)
 
   over_ld : is_given (defs_of b).ld id ≡ true → IsOverNodes graph clause
-  over_ld own = over_clause graph (low_down u x (atom_of graph b.low)) (over_not_u, (over_x, (over_low, tt))) clause (sym (clause_given live _ _ id _ own defined.ld) ∙ is)
+  over_ld own = over_clause graph (low_down u x (atom_of graph b.low)) (over_not_u, (over_x, (over_low, tt))) clause
+      (sym (clause_given live _ _ id _ own defined.ld) ∙ is)
 
   pub definition_over : is_defined_by (defs_of b) id ≡ true → IsOverNodes graph clause
   definition_over own =

@@ -1,5 +1,6 @@
 -- Deleting clauses line by line: what the lines of a walk over the keys leave is what one line would.
-use Rattle.std.proofs.Common.{◌≡◌, ◌<◌, ◌+◌, ◌&&◌, ◌∙◌, ℕ, Bool, true, false, List, [], ◌∷◌, ◌++◌, length, Option, None, Some, Result, Ok, Err, is_some, refl, sym, ap, subst, append_assoc, add-one}
+use Rattle.std.proofs.Common.{◌≡◌, ◌<◌, ◌+◌, ◌&&◌, ◌∙◌, ℕ, Bool, true, false, List, [], ◌∷◌, ◌++◌, length, Option, None, Some, Result, Ok}
+use Rattle.std.proofs.Common.{Err, is_some, refl, sym, ap, subst, append_assoc, add-one}
 use Rattle.std.specs.Prelude.{IsTrue, OnErr, nat_eq, nat_lt}
 use Rattle.std.specs.FinMap as map
 use Rattle.std.specs.Set.{is_member}
@@ -11,7 +12,8 @@ use Rattle.clause_ledger.specs.Book.{Book}
 use Rattle.node_table.specs.declared.node.Branch.{Branch}
 use Rattle.node_table.specs.declared.node.Defs.{Defs}
 use Rattle.node_table.specs.Diagram.{Graph, branch_at}
-use Rattle.node_table.specs.Deleted.{DefinesUnmarked, Deletes, DeletesTorn, unmarked_below, unmarked_defs, with_defs, with_given, with_some_defs}
+use Rattle.node_table.specs.Deleted.{DefinesUnmarked, Deletes, DeletesTorn, unmarked_below, unmarked_defs, with_defs, with_given}
+use Rattle.node_table.specs.Deleted.{with_some_defs}
 use Rattle.node_table.specs.Made.{inner}
 use Rattle.node_table.specs.Marks.{is_marked}
 use Rattle.node_table.specs.Tied.{KeepsClauses}
@@ -28,18 +30,23 @@ and_assoc : (p q r : Bool) → (p && (q && r)) ≡ ((p && q) && r)
 and_assoc true q r = refl
 and_assoc false q r = refl
 
-pub are_added-append : (count : ℕ) (live : Live) (ids more : List ℕ) → are_added count live (ids ++ more) ≡ (are_added count live ids && are_added count (without_clauses live ids) more)
+pub are_added-append : (count : ℕ) (live : Live) (ids more : List ℕ) → are_added count live (ids ++ more)
+    ≡ (are_added count live ids && are_added count (without_clauses live ids) more)
 are_added-append count live [] more = refl
 are_added-append count live (id ∷ ids) more =
     ap (λ b. (nat_lt count id && is_some (clause_at live id)) && b) (are_added-append count (map.remove live id) ids more)
-    ∙ and_assoc (nat_lt count id && is_some (clause_at live id)) (are_added count (map.remove live id) ids) (are_added count (without_clauses (map.remove live id) ids) more)
+    ∙ and_assoc (nat_lt count id && is_some (clause_at live id)) (are_added count (map.remove live id) ids)
+    (are_added count (without_clauses (map.remove live id) ids) more)
 
-pub without-append : (live : Live) (ids more : List ℕ) → without_clauses live (ids ++ more) ≡ without_clauses (without_clauses live ids) more
+pub without-append : (live : Live) (ids more : List ℕ) → without_clauses live (ids ++ more)
+    ≡ without_clauses (without_clauses live ids) more
 without-append live [] more = refl
 without-append live (id ∷ ids) more = without-append (map.remove live id) ids more
 
-pub added_parts : (count : ℕ) (live : Live) (ids more : List ℕ) → are_added count live (ids ++ more) ≡ true → (are_added count live ids ≡ true) × (are_added count (without_clauses live ids) more ≡ true)
-added_parts count live ids more is = and_parts (are_added count live ids) (are_added count (without_clauses live ids) more) (sym (are_added-append count live ids more) ∙ is)
+pub added_parts : (count : ℕ) (live : Live) (ids more : List ℕ) → are_added count live (ids ++ more) ≡ true
+    → (are_added count live ids ≡ true) × (are_added count (without_clauses live ids) more ≡ true)
+added_parts count live ids more is = and_parts (are_added count live ids) (are_added count (without_clauses live ids) more)
+    (sym (are_added-append count live ids more) ∙ is)
 
 -- what is still live was live
 pub was_without : (live : Live) (ids : List ℕ) → KeepsClauses (without_clauses live ids) live
@@ -78,19 +85,22 @@ module _ {S : Type 0} (tells : Bool) (channel : S → Channel) where
     live_is : mid.state.live ≡ without_clauses old.state.live ids
     live_is = ap (λ (s : State). s.live) one.state
 
-    state_further : new.state ≡ record { live = without_clauses mid.state.live more; top = mid.state.top } → new.state ≡ record { live = without_clauses old.state.live (ids ++ more); top = old.state.top }
+    state_further : new.state ≡ record { live = without_clauses mid.state.live more; top = mid.state.top } → new.state
+        ≡ record { live = without_clauses old.state.live (ids ++ more); top = old.state.top }
     state_further is =
         is ∙ ap (λ (s : State). record { live = without_clauses s.live more; top = s.top }) one.state
         ∙ ap (λ (live : Live). record { live = live; top = old.state.top }) (sym (without-append old.state.live ids more))
 
     added_further : (count : ℕ) → are_added count old.state.live (ids ++ more) ≡ true → are_added count mid.state.live more ≡ true
-    added_further count added = subst (λ (live : Live). are_added count live more ≡ true) (sym live_is) (added_parts count old.state.live ids more added).1
+    added_further count added = subst (λ (live : Live). are_added count live more
+        ≡ true) (sym live_is) (added_parts count old.state.live ids more added).1
 
     pub Deletes-further : Deletes tells channel mid new more → Deletes tells channel old new (ids ++ more)
     Deletes-further two = record {
       state = state_further two.state;
       kept = λ clauses proof added.
-          two.kept clauses (one.kept clauses proof (added_parts (length clauses) old.state.live ids more added).0) (added_further (length clauses) added);
+          two.kept clauses (one.kept clauses proof (added_parts (length clauses) old.state.live ids more added).0)
+          (added_further (length clauses) added);
       in_step = two.in_step;
       limit = two.limit ∙ one.limit;
       spare = two.spare ∙ one.spare;
@@ -102,11 +112,13 @@ module _ {S : Type 0} (tells : Bool) (channel : S → Channel) where
     DeletesTorn-further two = record {
       state = state_further two.state;
       cut = λ clauses proof added told.
-          let c = two.cut clauses (one.kept clauses proof (added_parts (length clauses) old.state.live ids more added).0) (added_further (length clauses) added) told in
+          let c = two.cut clauses (one.kept clauses proof (added_parts (length clauses) old.state.live ids more added).0)
+          (added_further (length clauses) added) told in
           record {
             before = c.before;
             cut = c.cut;
-            among = λ id clause is. was_without old.state.live ids id clause (sym (ap (λ (live : Live). clause_at live id) live_is) ∙ c.among id clause is);
+            among = λ id clause is. was_without old.state.live ids id clause (sym (ap (λ (live : Live). clause_at live id) live_is)
+                ∙ c.among id clause is);
             top = c.top ∙ ap (λ (s : State). s.top) one.state;
           };
       out_of_step = two.out_of_step;
@@ -122,26 +134,34 @@ module _ {S : Type 0} (tells : Bool) (channel : S → Channel) where
     pub parts : done ++ ids ≡ unmarked_below graph marks key
     pub deletes : Deletes tells channel old now done
 
-  pub IsDeleting-start : (old : Book S) (graph : Graph) (marks : List Bool) (ids : List ℕ) → IsTrue old.in_step → ids ≡ [] → IsDeleting old old graph marks ids 0
+  pub IsDeleting-start : (old : Book S) (graph : Graph) (marks : List Bool) (ids : List ℕ) → IsTrue old.in_step → ids ≡ []
+      → IsDeleting old old graph marks ids 0
   unfolding unmarked_below
   IsDeleting-start old graph marks ids in_step empty = record { done = []; parts = empty; deletes = Deletes-none old in_step }
 
-  module _ (old now : Book S) (graph : Graph) (marks : List Bool) (ids : List ℕ) (key : ℕ) (is : IsDeleting old now graph marks ids key) where
+  module _ (old now : Book S) (graph : Graph) (marks : List Bool) (ids : List ℕ) (key : ℕ)
+      (is : IsDeleting old now graph marks ids key) where
     -- the collected numbers may be deleted
-    pub pending : (count : ℕ) → are_added count old.state.live (unmarked_below graph marks key) ≡ true → are_added count now.state.live ids ≡ true
-    pending count added = added_further old now now is.done ids is.deletes count (subst (λ (all : List ℕ). are_added count old.state.live all ≡ true) (sym is.parts) added)
+    pub pending : (count : ℕ) → are_added count old.state.live (unmarked_below graph marks key) ≡ true → are_added count now.state.live ids
+        ≡ true
+    pending count added = added_further old now now is.done ids is.deletes count
+        (subst (λ (all : List ℕ). are_added count old.state.live all ≡ true) (sym is.parts) added)
 
-    next_is : (defs : Option Defs) → defs ≡ unmarked_defs (is_marked marks (inner key)) (branch_at graph key) → unmarked_below graph marks (key + 1) ≡ with_some_defs (unmarked_below graph marks key) defs
+    next_is : (defs : Option Defs) → defs ≡ unmarked_defs (is_marked marks (inner key)) (branch_at graph key)
+        → unmarked_below graph marks (key + 1) ≡ with_some_defs (unmarked_below graph marks key) defs
     unfolding unmarked_below
     next_is defs same = ap (unmarked_below graph marks) (add-one key) ∙ ap (with_some_defs (unmarked_below graph marks key)) (sym same)
 
     -- a key of no unmarked node
-    pub IsDeleting-pass : None ≡ unmarked_defs (is_marked marks (inner key)) (branch_at graph key) → IsDeleting old now graph marks ids (key + 1)
+    pub IsDeleting-pass : None ≡ unmarked_defs (is_marked marks (inner key)) (branch_at graph key)
+        → IsDeleting old now graph marks ids (key + 1)
     IsDeleting-pass none = record { done = is.done; parts = is.parts ∙ sym (next_is None none); deletes = is.deletes }
 
     -- some were deleted, and a node's were collected
-    pub IsDeleting-more : (later : Book S) (deleted left after : List ℕ) (defs : Defs) → Some defs ≡ unmarked_defs (is_marked marks (inner key)) (branch_at graph key)
-        → deleted ++ left ≡ ids → Deletes tells channel now later deleted → after ≡ with_defs left defs → IsDeleting old later graph marks after (key + 1)
+    pub IsDeleting-more : (later : Book S) (deleted left after : List ℕ) (defs : Defs) → Some defs
+        ≡ unmarked_defs (is_marked marks (inner key)) (branch_at graph key)
+        → deleted ++ left ≡ ids → Deletes tells channel now later deleted → after ≡ with_defs left defs
+        → IsDeleting old later graph marks after (key + 1)
     IsDeleting-more later deleted left after defs some parts deletes pushed = record {
       done = is.done ++ deleted;
       parts =
@@ -152,24 +172,32 @@ module _ {S : Type 0} (tells : Bool) (channel : S → Channel) where
     }
 
     -- the last line
-    pub IsDeleting-done : (later : Book S) → Deletes tells channel now later ids → Deletes tells channel old later (unmarked_below graph marks key)
-    IsDeleting-done later deletes = subst (λ (all : List ℕ). Deletes tells channel old later all) is.parts (Deletes-further old now later is.done ids is.deletes deletes)
+    pub IsDeleting-done : (later : Book S) → Deletes tells channel now later ids
+        → Deletes tells channel old later (unmarked_below graph marks key)
+    IsDeleting-done later deletes = subst (λ (all : List ℕ). Deletes tells channel old later all) is.parts
+        (Deletes-further old now later is.done ids is.deletes deletes)
 
-    pub IsDeleting-torn : (later : Book S) → DeletesTorn tells channel now later ids → DeletesTorn tells channel old later (unmarked_below graph marks key)
-    IsDeleting-torn later torn = subst (λ (all : List ℕ). DeletesTorn tells channel old later all) is.parts (DeletesTorn-further old now later is.done ids is.deletes torn)
+    pub IsDeleting-torn : (later : Book S) → DeletesTorn tells channel now later ids
+        → DeletesTorn tells channel old later (unmarked_below graph marks key)
+    IsDeleting-torn later torn = subst (λ (all : List ℕ). DeletesTorn tells channel old later all) is.parts
+        (DeletesTorn-further old now later is.done ids is.deletes torn)
 
 -- What is left once those below a key are deleted.
-module _ (graph : Graph) (marks : List Bool) (old new : State) (key : ℕ) (state : new ≡ record { live = without_clauses old.live (unmarked_below graph marks key); top = old.top }) where
+module _ (graph : Graph) (marks : List Bool) (old new : State) (key : ℕ) (state : new
+    ≡ record { live = without_clauses old.live (unmarked_below graph marks key); top = old.top }) where
   rest_is : (id : ℕ) → clause_at new.live id ≡ clause_at (without_clauses old.live (unmarked_below graph marks key)) id
   rest_is id = ap (λ (s : State). clause_at s.live id) state
 
-  pub deleted_gone : ((k : ℕ) (branch : Branch) → branch_at graph k ≡ Some branch → k < key) → (id : ℕ) → DefinesUnmarked graph marks id → clause_at new.live id ≡ None
-  deleted_gone below id d = rest_is id ∙ gone_without old.live (unmarked_below graph marks key) id (defines_below graph marks key id d (below d.key d.branch d.stands))
+  pub deleted_gone : ((k : ℕ) (branch : Branch) → branch_at graph k ≡ Some branch → k < key) → (id : ℕ) → DefinesUnmarked graph marks id
+      → clause_at new.live id ≡ None
+  deleted_gone below id d = rest_is id ∙ gone_without old.live (unmarked_below graph marks key) id
+      (defines_below graph marks key id d (below d.key d.branch d.stands))
 
   pub deleted_stay : (id : ℕ) → (DefinesUnmarked graph marks id → ⊥) → clause_at new.live id ≡ clause_at old.live id
   deleted_stay id other =
       rest_is id ∙ stays_without old.live (unmarked_below graph marks key) id
-      (false_from_ne_true (is_member nat_eq (unmarked_below graph marks key) id) (λ is. other (below_defines graph marks key id is).defines))
+      (false_from_ne_true (is_member nat_eq (unmarked_below graph marks key) id)
+      (λ is. other (below_defines graph marks key id is).defines))
 
   pub deleted_among : KeepsClauses new.live old.live
   deleted_among id clause is = was_without old.live (unmarked_below graph marks key) id clause (sym (rest_is id) ∙ is)

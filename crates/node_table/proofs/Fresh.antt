@@ -19,12 +19,14 @@ use Rattle.node_table.proofs.Grown.{KeepsNodes-joined}
 abbrev pub IsNobodys : Graph → ℕ → Type 0
 IsNobodys graph next = (key : ℕ) (branch : Branch) → branch_at graph key ≡ Some branch → branch.variable ≢ next
 
-pub unused : (graph : Graph) (state : State) → IsTied graph state → (next : ℕ) → levels graph < next → IsNobodys graph next → IsUnused state.live next
+pub unused : (graph : Graph) (state : State) → IsTied graph state → (next : ℕ) → levels graph < next → IsNobodys graph next
+    → IsUnused state.live next
 unused graph state tied next above all id clause at literal among same =
     let owned = tied.over_nodes id clause at literal among (omega (arith, above, same)) in
     all owned.key owned.branch owned.stands (owned.own ∙ same)
 
-apart_atom : (graph : Graph) (next : ℕ) → IsNobodys graph next → (node : Node) → is_node graph node ≡ true → is_apart_from next (atom_of graph node) ≡ true
+apart_atom : (graph : Graph) (next : ℕ) → IsNobodys graph next → (node : Node) → is_node graph node ≡ true
+    → is_apart_from next (atom_of graph node) ≡ true
 apart_atom graph next all False is = refl
 apart_atom graph next all True is = refl
 apart_atom graph next all (Inner key) is =
@@ -32,8 +34,10 @@ apart_atom graph next all (Inner key) is =
     ap (λ o. is_apart_from next (atom_in o)) branch.1
     ∙ ap not (ne_eqb branch.0.variable next (all key.index branch.0 branch.1))
 
-pub new_variable : (graph : Graph) (state : State) → IsTied graph state → (next x : ℕ) → levels graph < next → IsNobodys graph next → x ≤ levels graph → (high low : Node)
-    → is_node graph high ≡ true → is_node graph low ≡ true → (u y : ℤ) (high_atom low_atom : Atom) → u ≡ pos next → y ≡ pos x → high_atom ≡ atom_of graph high → low_atom ≡ atom_of graph low
+pub new_variable : (graph : Graph) (state : State) → IsTied graph state → (next x : ℕ) → levels graph < next → IsNobodys graph next → x
+    ≤ levels graph → (high low : Node)
+    → is_node graph high ≡ true → is_node graph low ≡ true → (u y : ℤ) (high_atom low_atom : Atom) → u ≡ pos next → y ≡ pos x → high_atom
+    ≡ atom_of graph high → low_atom ≡ atom_of graph low
     → IsNewVariable state.live u y high_atom low_atom
 new_variable graph state tied next x above all small high low high_stands low_stands u y high_atom low_atom u_is y_is high_is low_is =
     let size : nat_abs u ≡ next = ap nat_abs u_is in

@@ -19,7 +19,8 @@ use Rattle.node_table.proofs.DefineSteps.{with_definitions-append}
 -- come since.
 abbrev pub IsCutBefore : List (List ℤ) → List ℕ → State → State → Type 0
 IsCutBefore clauses bytes old after =
-    (before : State) × IsCutProof clauses bytes before after × KeepsClauses before.live after.live × (before.top ≤ after.top) × (old.top ≤ before.top) × ComesSince old before
+    (before : State) × IsCutProof clauses bytes before after × KeepsClauses before.live after.live × (before.top ≤ after.top)
+    × (old.top ≤ before.top) × ComesSince old before
 
 pub Grows-definitions : (state : State) (all : List Definition) → AreNumbers state → Grows state (with_definitions state all)
 Grows-definitions state [] numbers = Grows-none state numbers
@@ -31,7 +32,8 @@ Grows-definitions state (definition ∷ all) numbers =
 pub Grows-front : (state : State) (n : ℕ) (all : List Definition) → AreNumbers state → Grows state (with_definitions state (take n all))
 Grows-front state n all numbers = Grows-definitions state (take n all) numbers
 
-pub Grows-rest : (state : State) (n : ℕ) (all : List Definition) → AreNumbers state → Grows (with_definitions state (take n all)) (with_definitions state all)
+pub Grows-rest : (state : State) (n : ℕ) (all : List Definition) → AreNumbers state
+    → Grows (with_definitions state (take n all)) (with_definitions state all)
 Grows-rest state n all numbers =
     let front = with_definitions state (take n all) in
     let whole : with_definitions front (drop n all) ≡ with_definitions state all =
@@ -39,20 +41,23 @@ Grows-rest state n all numbers =
     subst (Grows front) whole (Grows-definitions front (drop n all) (Grows-front state n all numbers).numbers)
 
 -- what a call is handed for a node
-pub record IsHanded (graph : Graph) (state now : State) (level : ℕ) (high low : Node) (variable : ℕ) (u x : ℤ) (high_atom low_atom : Atom) : Type 0 where
+pub record IsHanded (graph : Graph) (state now : State) (level : ℕ) (high low : Node) (variable : ℕ) (u x : ℤ)
+    (high_atom low_atom : Atom) : Type 0 where
   pub still : now ≡ state
   pub own : u ≡ pos variable
   pub input : x ≡ pos (variable_at graph level)
   pub high_is : high_atom ≡ atom_of graph high
   pub low_is : low_atom ≡ atom_of graph low
 
-pub definitions_handed : {graph : Graph} {state now : State} {level : ℕ} {high low : Node} {variable : ℕ} {u x : ℤ} {high_atom low_atom : Atom}
+pub definitions_handed : {graph : Graph} {state now : State} {level : ℕ} {high low : Node} {variable : ℕ} {u x : ℤ}
+    {high_atom low_atom : Atom}
     → IsHanded graph state now level high low variable u x high_atom low_atom
     → definitions u x high_atom low_atom (now.top + 1) ≡ node_definitions graph state level high low variable
 definitions_handed handed i = definitions (handed.own i) (handed.input i) (handed.high_is i) (handed.low_is i) ((handed.still i).top + 1)
 
 -- the line of one clause more was cut short
-pub cut_next : {clauses : List (List ℤ)} {bytes : List ℕ} {state later last : State} (o : Option (List ℤ)) → Grows state later → IsCutProof clauses bytes later last → last ≡ with_some later o
+pub cut_next : {clauses : List (List ℤ)} {bytes : List ℕ} {state later last : State} (o : Option (List ℤ)) → Grows state later
+    → IsCutProof clauses bytes later last → last ≡ with_some later o
     → IsCutBefore clauses bytes state last
 cut_next {state = state} {later = later} {last = last} o so_far cut is =
     let grows : Grows later last = Grows-reached later later last o (Grows-none later so_far.numbers) is in

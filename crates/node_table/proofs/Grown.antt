@@ -1,5 +1,6 @@
 -- What stays of a graph that grows, and that a node that fits in leaves it reduced.
-use Rattle.std.proofs.Common.{◌≡◌, ◌≢◌, ℕ, ◌<◌, true, length, None, Some, is_some, cond, refl, sym, ap, ◌∙◌, subst, arith, inl, inr, ◌⊎◌, eq-eqb, ne_eqb}
+use Rattle.std.proofs.Common.{◌≡◌, ◌≢◌, ℕ, ◌<◌, true, length, None, Some, is_some, cond, refl, sym, ap, ◌∙◌, subst, arith, inl, inr, ◌⊎◌}
+use Rattle.std.proofs.Common.{eq-eqb, ne_eqb}
 use Rattle.std.proofs.lemmas.Bool.{cases_eq}
 use Rattle.node_table.specs.declared.node.Node.{Node}
 use Rattle.node_table.specs.declared.node.Node.TheVariants.{False, True, Inner}
@@ -42,27 +43,34 @@ IsBelow-kept old new keeps level node below = record {
 
 -- one node more: it is there, and so are the others
 pub joined_at : (graph : Graph) (key : ℕ) (branch : Branch) → branch_at (with_branch graph key branch) key ≡ Some branch
-joined_at graph key branch = branch_at-with_branch graph key key branch ∙ ap (λ b. cond b (Some branch) (branch_at graph key)) (eq-eqb key key refl)
+joined_at graph key branch = branch_at-with_branch graph key key branch
+    ∙ ap (λ b. cond b (Some branch) (branch_at graph key)) (eq-eqb key key refl)
 
-pub joined_cases : (graph : Graph) (key : ℕ) (branch : Branch) (other : ℕ) (b : Branch) → branch_at (with_branch graph key branch) other ≡ Some b
+pub joined_cases : (graph : Graph) (key : ℕ) (branch : Branch) (other : ℕ) (b : Branch) → branch_at (with_branch graph key branch) other
+    ≡ Some b
     → ((other ≡ key) × (b ≡ branch)) ⊎ (branch_at graph other ≡ Some b)
 joined_cases graph key branch other b is =
     elim (cases_eq other key) [
-      | inl same ↦ let here : Some branch ≡ Some b = sym (joined_at graph key branch) ∙ ap (branch_at (with_branch graph key branch)) (sym same) ∙ is in inl (same, cc)
-      | inr differ ↦ inr (sym (branch_at-with_branch graph key other branch ∙ ap (λ c. cond c (Some branch) (branch_at graph other)) (ne_eqb other key differ)) ∙ is)
+      | inl same ↦ let here : Some branch ≡ Some b = sym (joined_at graph key branch)
+          ∙ ap (branch_at (with_branch graph key branch)) (sym same) ∙ is in inl (same, cc)
+      | inr differ ↦ inr (sym (branch_at-with_branch graph key other branch
+          ∙ ap (λ c. cond c (Some branch) (branch_at graph other)) (ne_eqb other key differ)) ∙ is)
     ]
 
-pub KeepsNodes-joined : (graph : Graph) (key : ℕ) (branch : Branch) → branch_at graph key ≡ None → KeepsNodes graph (with_branch graph key branch)
+pub KeepsNodes-joined : (graph : Graph) (key : ℕ) (branch : Branch) → branch_at graph key ≡ None
+    → KeepsNodes graph (with_branch graph key branch)
 KeepsNodes-joined graph key branch unused = record {
   order = refl;
   nodes = λ other b is. elim (cases_eq other key) [
     | inl same ↦ absurd (let none : branch_at graph other ≡ None = ap (branch_at graph) same ∙ unused in cc)
-    | inr differ ↦ branch_at-with_branch graph key other branch ∙ ap (λ c. cond c (Some branch) (branch_at graph other)) (ne_eqb other key differ) ∙ is
+    | inr differ ↦ branch_at-with_branch graph key other branch ∙ ap (λ c. cond c (Some branch) (branch_at graph other))
+        (ne_eqb other key differ) ∙ is
   ];
 }
 
 -- what holds of the old nodes and of the new one holds of all
-each_joined : (graph : Graph) (key : ℕ) (branch : Branch) (P : Branch → Type 0) → P branch → ((other : ℕ) (b : Branch) → branch_at graph other ≡ Some b → P b)
+each_joined : (graph : Graph) (key : ℕ) (branch : Branch) (P : Branch → Type 0) → P branch
+    → ((other : ℕ) (b : Branch) → branch_at graph other ≡ Some b → P b)
     → (other : ℕ) (b : Branch) → branch_at (with_branch graph key branch) other ≡ Some b → P b
 each_joined graph key branch P new old other b is =
     elim (joined_cases graph key branch other b is) [
@@ -70,15 +78,20 @@ each_joined graph key branch P new old other b is =
       | inr there ↦ old other b there
     ]
 
-pub IsReduced-joined : (graph : Graph) → IsReduced graph → (key : ℕ) (branch : Branch) → branch_at graph key ≡ None → FitsIn graph branch → levels graph < branch.variable
-    → ((other : ℕ) (b : Branch) → branch_at graph other ≡ Some b → b.variable ≡ branch.variable → ⊥) → IsReduced (with_branch graph key branch)
+pub IsReduced-joined : (graph : Graph) → IsReduced graph → (key : ℕ) (branch : Branch) → branch_at graph key ≡ None → FitsIn graph branch
+    → levels graph < branch.variable
+    → ((other : ℕ) (b : Branch) → branch_at graph other ≡ Some b → b.variable ≡ branch.variable → ⊥)
+    → IsReduced (with_branch graph key branch)
 IsReduced-joined graph reduced key branch unused fits above own =
     let new = with_branch graph key branch in
     let keeps = KeepsNodes-joined graph key branch unused in
     record {
       level = each_joined graph key branch (λ b. b.level < levels graph) fits.level reduced.level;
-      high = each_joined graph key branch (λ b. IsBelow new b.level b.high) (IsBelow-kept graph new keeps branch.level branch.high fits.high) (λ other b is. IsBelow-kept graph new keeps b.level b.high (reduced.high other b is));
-      low = each_joined graph key branch (λ b. IsBelow new b.level b.low) (IsBelow-kept graph new keeps branch.level branch.low fits.low) (λ other b is. IsBelow-kept graph new keeps b.level b.low (reduced.low other b is));
+      high = each_joined graph key branch (λ b. IsBelow new b.level b.high)
+          (IsBelow-kept graph new keeps branch.level branch.high fits.high)
+          (λ other b is. IsBelow-kept graph new keeps b.level b.high (reduced.high other b is));
+      low = each_joined graph key branch (λ b. IsBelow new b.level b.low) (IsBelow-kept graph new keeps branch.level branch.low fits.low)
+          (λ other b is. IsBelow-kept graph new keeps b.level b.low (reduced.low other b is));
       differ = each_joined graph key branch (λ b. b.high ≢ b.low) fits.differ reduced.differ;
       unique = λ one other a b is also alike. elim (joined_cases graph key branch one a is) [
         | inl here ↦ elim (joined_cases graph key branch other b also) [

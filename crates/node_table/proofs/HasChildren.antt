@@ -10,14 +10,17 @@ use Rattle.node_table.specs.Table.{HasChildren}
 use Rattle.node_table.proofs.Values.{branch_of_node, level_of-inner}
 
 -- a node of the level has its own children
-pub children_of : (graph : Graph) (level : ℕ) (high low : Node) (key : NodeKey) (b : Branch) → branch_at graph key.index ≡ Some b → b.level ≡ level → b.high ≡ high → b.low ≡ low
+pub children_of : (graph : Graph) (level : ℕ) (high low : Node) (key : NodeKey) (b : Branch) → branch_at graph key.index ≡ Some b → b.level
+    ≡ level → b.high ≡ high → b.low ≡ low
     → HasChildren graph level high low (Inner key)
 children_of graph level high low key b at here is_high is_low =
     record {
       stands = ap is_some at;
       not_above = omega (arith, level_of-inner graph key b at, here);
-      high_child = ap (child_in (λ x. x.high) level (Inner key)) at ∙ ap (λ t. if t then b.high else Inner key) (eq-eqb b.level level here) ∙ is_high;
-      low_child = ap (child_in (λ x. x.low) level (Inner key)) at ∙ ap (λ t. if t then b.low else Inner key) (eq-eqb b.level level here) ∙ is_low;
+      high_child = ap (child_in (λ x. x.high) level (Inner key)) at ∙ ap (λ t. if t then b.high else Inner key) (eq-eqb b.level level here)
+          ∙ is_high;
+      low_child = ap (child_in (λ x. x.low) level (Inner key)) at ∙ ap (λ t. if t then b.low else Inner key) (eq-eqb b.level level here)
+          ∙ is_low;
     }
 
 -- a node below the level is its own cofactor
@@ -30,6 +33,8 @@ child_below graph level (Inner key) below =
     record {
       stands = below.stands;
       not_above = omega (arith, below.below);
-      high_child = ap (child_in (λ x. x.high) level (Inner key)) branch.1 ∙ ap (λ t. if t then branch.0.high else Inner key) (ne_eqb branch.0.level level other);
-      low_child = ap (child_in (λ x. x.low) level (Inner key)) branch.1 ∙ ap (λ t. if t then branch.0.low else Inner key) (ne_eqb branch.0.level level other);
+      high_child = ap (child_in (λ x. x.high) level (Inner key)) branch.1
+          ∙ ap (λ t. if t then branch.0.high else Inner key) (ne_eqb branch.0.level level other);
+      low_child = ap (child_in (λ x. x.low) level (Inner key)) branch.1
+          ∙ ap (λ t. if t then branch.0.low else Inner key) (ne_eqb branch.0.level level other);
     }

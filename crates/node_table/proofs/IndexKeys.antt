@@ -1,5 +1,6 @@
 -- What an index finds, before and after the key of a node took a place.
-use Rattle.std.proofs.Common.{◌≡◌, ◌⊎◌, ℕ, ◌+◌, ◌^◌, ◌<◌, ◌≤◌, List, [], ◌∷◌, length, get_or, None, Some, Contains, refl, sym, subst, ap, ◌∙◌, inl, inr, arith}
+use Rattle.std.proofs.Common.{◌≡◌, ◌⊎◌, ℕ, ◌+◌, ◌^◌, ◌<◌, ◌≤◌, List, [], ◌∷◌, length, get_or, None, Some, Contains, refl, sym, subst, ap}
+use Rattle.std.proofs.Common.{◌∙◌, inl, inr, arith}
 use Rattle.std.proofs.lemmas.Bool.{cases_eq, cases_lt}
 use Rattle.std.proofs.lemmas.List.{length-set}
 use Rattle.slab.specs.Slab.{Slab, get, entries, slab_len, Updates}
@@ -23,7 +24,8 @@ same_nodes_indexed index old new same is =
 -- no node of the triple stands at a place that was passed
 abbrev pub IsPassed : Index → Slab StoredNode → ℕ → Child → Child → ℕ → ℕ → Type 0
 IsPassed index nodes level high low home steps =
-    (before key : ℕ) (node : StoredNode) → before < steps → get_or index.places.items (place_at (length index.places.items) home before) 0 ≡ key + 1 → get nodes key ≡ Some node → IsTriple node level high low → ⊥
+    (before key : ℕ) (node : StoredNode) → before < steps → get_or index.places.items (place_at (length index.places.items) home before) 0
+    ≡ key + 1 → get nodes key ≡ Some node → IsTriple node level high low → ⊥
 
 -- where the places are passed up to a free one, or all of them, no node of the triple is stored
 pub none_stored : (index : Index) (nodes : Slab StoredNode) (level : ℕ) (high low : Child) (home steps : ℕ)
@@ -45,7 +47,8 @@ none_stored index nodes level high low home steps is from passed free key node s
       | inl lt ↦ passed met.steps key node lt met.there stored triple
       | inr le ↦
           elim (cases_eq steps met.steps) [
-            | inl at ↦ let here : get_or places (place_at (length places) home steps) 0 ≡ key + 1 = ap (λ (n : ℕ). get_or places (place_at (length places) home n) 0) at ∙ met.there in
+            | inl at ↦ let here : get_or places (place_at (length places) home steps) 0 ≡ key
+                + 1 = ap (λ (n : ℕ). get_or places (place_at (length places) home n) 0) at ∙ met.there in
                 omega (arith, here, free (omega (arith, met.few_steps, at)))
             | inr differs ↦
                 let positive : 0 < get_or places (place_at (length places) home steps) 0 = met.before steps (omega arith) in
@@ -57,27 +60,37 @@ module _ (old new : Index) (key : ℕ) (node : StoredNode) (enters : Enters old 
   as_many : length new.places.items ≡ length old.places.items
   as_many = ap length enters.written ∙ length-set old.places.items enters.place (key + 1)
 
-  homes : (other : StoredNode) → home_of new.hasher (length new.places.items) other.level other.high.word other.low.word ≡ home_of old.hasher (length old.places.items) other.level other.high.word other.low.word
+  homes : (other : StoredNode) → home_of new.hasher (length new.places.items) other.level other.high.word other.low.word
+      ≡ home_of old.hasher (length old.places.items) other.level other.high.word other.low.word
   homes other =
       ap (λ h. home_of h (length new.places.items) other.level other.high.word other.low.word) enters.hasher
       ∙ ap (λ (size : ℕ). home_of old.hasher size other.level other.high.word other.low.word) as_many
 
   pub still_found : (other_key : ℕ) (other : StoredNode) → IsFound old other_key other → IsFound new other_key other
   still_found other_key other found =
-      subst (λ (n : ℕ). IsMet new.places.items n other_key) (sym (homes other)) (still_met old.places.items new.places.items enters.place (key + 1) enters.written _ other_key enters.first.free found)
+      subst (λ (n : ℕ). IsMet new.places.items n other_key) (sym (homes other))
+      (still_met old.places.items new.places.items enters.place (key + 1) enters.written _ other_key enters.first.free found)
 
   pub newly_found : IsFound new key node
-  newly_found = subst (λ (n : ℕ). IsMet new.places.items n key) (sym (homes node)) (newly_met old.places.items new.places.items _ enters.place key enters.written enters.first)
+  newly_found = subst (λ (n : ℕ). IsMet new.places.items n key) (sym (homes node))
+      (newly_met old.places.items new.places.items _ enters.place key enters.written enters.first)
 
   pub still_counted : IsCounted old → IsCounted new
   still_counted counted =
       record {
-        taken = omega (arith, enters.taken, counted.taken, one_more_taken old.places.items new.places.items _ enters.place key enters.written enters.first);
+        taken = omega (
+          arith,
+          enters.taken,
+          counted.taken,
+          one_more_taken old.places.items new.places.items _ enters.place key
+              enters.written enters.first,
+        );
         few = omega (arith, as_many, counted.few);
       }
 
   -- the node joins the stored ones
-  pub joined : (before after : Slab StoredNode) → key + 1 < 2 ^ 32 → IsIndexOf old before → Updates before after key (Some node) → IsIndexOf new after
+  pub joined : (before after : Slab StoredNode) → key + 1 < 2 ^ 32 → IsIndexOf old before → Updates before after key (Some node)
+      → IsIndexOf new after
   joined before after small is updates =
       record {
         counted = still_counted is.counted;
@@ -103,7 +116,8 @@ pub record IsPartOf (size : ℕ) (index : Index) (nodes : Slab StoredNode) (left
   pub stored : (key : ℕ) (node : StoredNode) → Contains left (key, node) → get nodes key ≡ Some node
   pub found : (key : ℕ) (node : StoredNode) → get nodes key ≡ Some node → Contains left (key, node) ⊎ IsFound index key node
 
-pub one_fewer_left : (size : ℕ) (old new : Index) (nodes : Slab StoredNode) (key : ℕ) (node : StoredNode) (left : List (ℕ × StoredNode)) → Enters old new key node → IsPartOf size old nodes ((key, node) ∷ left) → IsPartOf size new nodes left
+pub one_fewer_left : (size : ℕ) (old new : Index) (nodes : Slab StoredNode) (key : ℕ) (node : StoredNode) (left : List (ℕ × StoredNode))
+    → Enters old new key node → IsPartOf size old nodes ((key, node) ∷ left) → IsPartOf size new nodes left
 one_fewer_left size old new nodes key node left enters part =
     record {
       counted = still_counted old new key node enters part.counted;
@@ -120,27 +134,38 @@ one_fewer_left size old new nodes key node left enters part =
       ];
     }
 
-pub all_left : (index : Index) (nodes : Slab StoredNode) (left : List (ℕ × StoredNode)) → left ≡ entries nodes → IsCounted index → index.taken ≡ 0 → slab_len nodes ≤ length index.places.items → IsPartOf (length index.places.items) index nodes left
+pub all_left : (index : Index) (nodes : Slab StoredNode) (left : List (ℕ × StoredNode)) → left ≡ entries nodes → IsCounted index
+    → index.taken ≡ 0 → slab_len nodes ≤ length index.places.items → IsPartOf (length index.places.items) index nodes left
 all_left index nodes left all counted none room =
     record {
       counted = counted;
       places = refl;
       all = omega (arith, none, ap length all, length-entries nodes);
       room = room;
-      stored = λ key node there. (Contains-entries nodes key node).0 (subst (λ (es : List (ℕ × StoredNode)). Contains es (key, node)) all there);
-      found = λ key node stored. inl (subst (λ (es : List (ℕ × StoredNode)). Contains es (key, node)) (sym all) ((Contains-entries nodes key node).1 stored));
+      stored = λ key node there. (Contains-entries nodes key node).0
+          (subst (λ (es : List (ℕ × StoredNode)). Contains es (key, node)) all there);
+      found = λ key node stored. inl (subst (λ (es : List (ℕ × StoredNode)). Contains es (key, node)) (sym all)
+          ((Contains-entries nodes key node).1 stored));
     }
 
-pub next_stored : (size : ℕ) (index : Index) (nodes : Slab StoredNode) (key : ℕ) (node : StoredNode) (left : List (ℕ × StoredNode)) → IsPartOf size index nodes ((key, node) ∷ left) → get nodes key ≡ Some node
+pub next_stored : (size : ℕ) (index : Index) (nodes : Slab StoredNode) (key : ℕ) (node : StoredNode) (left : List (ℕ × StoredNode))
+    → IsPartOf size index nodes ((key, node) ∷ left) → get nodes key ≡ Some node
 next_stored size index nodes key node left part = part.stored key node (0, omega arith, refl)
 
-pub room_for_next : (size : ℕ) (index : Index) (nodes : Slab StoredNode) (key : ℕ) (node : StoredNode) (left : List (ℕ × StoredNode)) → IsPartOf size index nodes ((key, node) ∷ left) → HasRoom index
-room_for_next size index nodes key node left part = record { counted = part.counted; room = omega (arith, part.places, part.all, part.room) }
+pub room_for_next : (size : ℕ) (index : Index) (nodes : Slab StoredNode) (key : ℕ) (node : StoredNode) (left : List (ℕ × StoredNode))
+    → IsPartOf size index nodes ((key, node) ∷ left) → HasRoom index
+room_for_next size index nodes key node left part = record {
+  counted = part.counted;
+  room = omega (arith, part.places, part.all, part.room);
+}
 
-pub room_at_end : (size : ℕ) (index : Index) (nodes : Slab StoredNode) (left : List (ℕ × StoredNode)) → IsPartOf size index nodes left → slab_len nodes < size → HasRoom index
+pub room_at_end : (size : ℕ) (index : Index) (nodes : Slab StoredNode) (left : List (ℕ × StoredNode)) → IsPartOf size index nodes left
+    → slab_len nodes < size → HasRoom index
 room_at_end size index nodes left part more = record { counted = part.counted; room = omega (arith, part.places, part.all, more) }
 
-pub none_left : (size : ℕ) (index : Index) (nodes : Slab StoredNode) (left : List (ℕ × StoredNode)) → ((key : ℕ) (node : StoredNode) → get nodes key ≡ Some node → key + 1 < 2 ^ 32) → left ≡ [] → IsPartOf size index nodes left → IsIndexOf index nodes
+pub none_left : (size : ℕ) (index : Index) (nodes : Slab StoredNode) (left : List (ℕ × StoredNode))
+    → ((key : ℕ) (node : StoredNode) → get nodes key ≡ Some node → key + 1 < 2 ^ 32) → left ≡ [] → IsPartOf size index nodes left
+    → IsIndexOf index nodes
 none_left size index nodes left keys none part =
     record {
       counted = part.counted;

@@ -1,6 +1,7 @@
 -- The live clauses above the formula's are in one list: those that were added, those that define the nodes whose extension
 -- variables are in use, and those that came since. So they are no more than these.
-use Rattle.std.proofs.Common.{◌≡◌, ◌⊎◌, ℕ, zero, suc, ◌+◌, ◌-◌, ◌*◌, ◌<◌, ◌≤◌, Bool, true, false, ◌||◌, ℤ, List, [], ◌∷◌, ◌++◌, map, length, Option, None, Some, is_some, nat_cmp, cond, T, refl, sym, ap, ◌∙◌, subst, arith, inl, inr, eq-eqb, ne_eqb}
+use Rattle.std.proofs.Common.{◌≡◌, ◌⊎◌, ℕ, zero, suc, ◌+◌, ◌-◌, ◌*◌, ◌<◌, ◌≤◌, Bool, true, false, ◌||◌, ℤ, List, [], ◌∷◌, ◌++◌, map, length}
+use Rattle.std.proofs.Common.{Option, None, Some, is_some, nat_cmp, cond, T, refl, sym, ap, ◌∙◌, subst, arith, inl, inr, eq-eqb, ne_eqb}
 use Rattle.std.specs.Prelude.{◌==◌, nat_abs, nat_eq, nat_lt}
 use Rattle.std.specs.Cmp.{unsigned_tied, nat_eq_equiv}
 use Rattle.std.specs.List.{list_any, filter, range_with_len, AllByRecursion, IsDistinct}
@@ -32,7 +33,8 @@ use Rattle.node_table.proofs.InUseSame.{any-flat_map, any_at}
 
 -- Keys that pass a test are distinct.
 module _ {X : Type 0} (p : ℕ → Bool) where
-  later_differ : (k : ℕ) (es : List (ℕ × X)) → T (below_all nat_cmp k es) → AllByRecursion (λ y. nat_eq k y ≡ false) (filter p (map (λ e. e.0) es))
+  later_differ : (k : ℕ) (es : List (ℕ × X)) → T (below_all nat_cmp k es)
+      → AllByRecursion (λ y. nat_eq k y ≡ false) (filter p (map (λ e. e.0) es))
   later_differ k [] below = tt
   later_differ k (e ∷ es) below =
       let parts = both_parts (is_lt (nat_cmp k e.0)) (below_all nat_cmp k es) below in
@@ -82,7 +84,8 @@ few_numbers (e ∷ es) v =
       | false ↦ rest
     ]
 
-found_as : (k q : ℕ) (b c : Branch) (es : List (ℕ × Branch)) → find nat_cmp k ((q, c) ∷ es) ≡ Some b → ((k ≡ q) × (b ≡ c)) ⊎ ((k ≡ q → ⊥) × (find nat_cmp k es ≡ Some b))
+found_as : (k q : ℕ) (b c : Branch) (es : List (ℕ × Branch)) → find nat_cmp k ((q, c) ∷ es) ≡ Some b → ((k ≡ q) × (b ≡ c))
+    ⊎ ((k ≡ q → ⊥) × (find nat_cmp k es ≡ Some b))
 found_as k q b c es is = elim (cases_eq k q) [
   | inl same ↦
       let e : Some c ≡ Some b = sym (ap (λ t. cond t (Some c) (find nat_cmp k es)) (unsigned_tied k q ∙ eq-eqb k q same)) ∙ is in
@@ -92,28 +95,33 @@ found_as k q b c es is = elim (cases_eq k q) [
 
 -- entries have variables of their own
 abbrev AreApart : List (ℕ × Branch) → Type 0
-AreApart es = (one other : ℕ) (a c : Branch) → find nat_cmp one es ≡ Some a → find nat_cmp other es ≡ Some c → a.variable ≡ c.variable → one ≡ other
+AreApart es = (one other : ℕ) (a c : Branch) → find nat_cmp one es ≡ Some a → find nat_cmp other es ≡ Some c → a.variable ≡ c.variable → one
+    ≡ other
 
-numbers_has : (es : List (ℕ × Branch)) → T (is_sorted nat_cmp es) → AreApart es → (k : ℕ) (b : Branch) → find nat_cmp k es ≡ Some b → (id : ℕ) → is_defined_by (defs_of b) id ≡ true
+numbers_has : (es : List (ℕ × Branch)) → T (is_sorted nat_cmp es) → AreApart es → (k : ℕ) (b : Branch) → find nat_cmp k es ≡ Some b
+    → (id : ℕ) → is_defined_by (defs_of b) id ≡ true
     → is_member nat_eq (numbers_of es b.variable) id ≡ true
 numbers_has [] sorted apart k b is id own = absurd (let e : None ≡ Some b = is in cc)
 numbers_has ((q, c) ∷ es) sorted apart k b is id own =
     let parts = both_parts (below_all nat_cmp q es) (is_sorted nat_cmp es) sorted in
     elim (found_as k q b c es is) [
       | inl here ↦
-          ap (λ t. is_member nat_eq (cond t (with_defs [] (defs_of c)) (numbers_of es b.variable)) id) (eq-eqb b.variable c.variable (ap (λ (x : Branch). x.variable) here.1))
+          ap (λ t. is_member nat_eq (cond t (with_defs [] (defs_of c)) (numbers_of es b.variable)) id)
+          (eq-eqb b.variable c.variable (ap (λ (x : Branch). x.variable) here.1))
           ∙ member_defs [] (defs_of c) id ∙ ap (λ (x : Branch). is_defined_by (defs_of x) id) (sym here.1) ∙ own
       | inr there ↦
           ap (λ t. is_member nat_eq (cond t (with_defs [] (defs_of c)) (numbers_of es b.variable)) id)
           (ne_eqb b.variable c.variable (λ same. there.0 (apart k q b c is (found_here q c es) same)))
-          ∙ numbers_has es parts.1 (λ one other a d at also. apart one other a d (found_there q c es parts.0 one a at) (found_there q c es parts.0 other d also)) k b there.1 id own
+          ∙ numbers_has es parts.1 (λ one other a d at also. apart one other a d (found_there q c es parts.0 one a at)
+          (found_there q c es parts.0 other d also)) k b there.1 id own
     ]
 
 -- a clause defines a node, or none
 abbrev DefinesOne : List (ℕ × Branch) → ℕ → Type 0
 DefinesOne es id = (k : ℕ) × (b : Branch) × (find nat_cmp k es ≡ Some b) × (is_defined_by (defs_of b) id ≡ true)
 
-defines_or_not : (es : List (ℕ × Branch)) → T (is_sorted nat_cmp es) → (id : ℕ) → DefinesOne es id ⊎ ((k : ℕ) (b : Branch) → find nat_cmp k es ≡ Some b → is_defined_by (defs_of b) id ≡ false)
+defines_or_not : (es : List (ℕ × Branch)) → T (is_sorted nat_cmp es) → (id : ℕ) → DefinesOne es id
+    ⊎ ((k : ℕ) (b : Branch) → find nat_cmp k es ≡ Some b → is_defined_by (defs_of b) id ≡ false)
 defines_or_not [] sorted id = inr (λ k b is. absurd (let e : None ≡ Some b = is in cc))
 defines_or_not ((q, c) ∷ es) sorted id =
     let parts = both_parts (below_all nat_cmp q es) (is_sorted nat_cmp es) sorted in
@@ -144,8 +152,10 @@ all_listed f four (k ∷ vs) =
     let more = finset.len-insert nat_cmp_total set k in
     elim (finset.contains set k) as (λ t. finset.contains set k ≡ t → AreListed f (k ∷ vs)) [
       | true ↦ λ again.
-          let same : finset.len (finset.insert set k) ≡ finset.len set = more ∙ ap (λ t. cond t (finset.len set) (finset.len set + 1)) again in
-          let known : list_any (λ x. k == x) vs ≡ true = sym (finset.contains-from_list nat_cmp_total vs k ∙ (λ i. list_any (λ x. unsigned_tied k x i) vs)) ∙ again in
+          let same : finset.len (finset.insert set k) ≡ finset.len set = more
+          ∙ ap (λ t. cond t (finset.len set) (finset.len set + 1)) again in
+          let known : list_any (λ x. k == x) vs ≡ true = sym (finset.contains-from_list nat_cmp_total vs k
+          ∙ (λ i. list_any (λ x. unsigned_tied k x i) vs)) ∙ again in
           record {
             ids = rest.ids;
             few = omega (arith, same, rest.few);
@@ -155,12 +165,14 @@ all_listed f four (k ∷ vs) =
             ];
           }
       | false ↦ λ new.
-          let longer : finset.len (finset.insert set k) ≡ finset.len set + 1 = more ∙ ap (λ t. cond t (finset.len set) (finset.len set + 1)) new in
+          let longer : finset.len (finset.insert set k) ≡ finset.len set + 1 = more
+          ∙ ap (λ t. cond t (finset.len set) (finset.len set + 1)) new in
           record {
             ids = f k ++ rest.ids;
             few = omega (arith, longer, rest.few, four k, length-append (f k) rest.ids);
             has = λ v id among is. list_any-append (nat_eq id) (f k) rest.ids ∙ elim (or_cases (v == k) (list_any (λ x. v == x) vs) among) [
-              | inl here ↦ or_left (is_member nat_eq (f k) id) (is_member nat_eq rest.ids id) (subst (λ (n : ℕ). is_member nat_eq (f n) id ≡ true) (eqb-true v k here) is)
+              | inl here ↦ or_left (is_member nat_eq (f k) id) (is_member nat_eq rest.ids id)
+                  (subst (λ (n : ℕ). is_member nat_eq (f n) id ≡ true) (eqb-true v k here) is)
               | inr there ↦ or_right (is_member nat_eq (f k) id) (is_member nat_eq rest.ids id) (rest.has v id there is)
             ];
           }
@@ -171,15 +183,18 @@ in_row : (a n id : ℕ) → a ≤ id → id < a + n → is_member nat_eq (range_
 in_row a zero id low high = absurd (omega (arith, low, high))
 in_row a (suc n) id low high = elim (cases_eq id a) [
   | inl same ↦ or_left (nat_eq id a) (is_member nat_eq (range_with_len (a + 1) n) id) (eq-eqb id a same)
-  | inr differ ↦ or_right (nat_eq id a) (is_member nat_eq (range_with_len (a + 1) n) id) (in_row (a + 1) n id (omega (arith, low, differ)) (omega (arith, high)))
+  | inr differ ↦ or_right (nat_eq id a) (is_member nat_eq (range_with_len (a + 1) n) id)
+      (in_row (a + 1) n id (omega (arith, low, differ)) (omega (arith, high)))
 ]
 
 -- the variable of a clause's first literal is in use
 first_among : (v : ℕ) (clause : List ℤ) → 0 < v → head_variable (Some clause) ≡ v → list_any (λ x. v == x) (map nat_abs clause) ≡ true
 first_among v [] positive is = absurd (omega (arith, positive, is))
-first_among v (literal ∷ clause) positive is = or_left (v == nat_abs literal) (list_any (λ x. v == x) (map nat_abs clause)) (eq-eqb v (nat_abs literal) (sym is))
+first_among v (literal ∷ clause) positive is = or_left (v == nat_abs literal) (list_any (λ x. v == x) (map nat_abs clause))
+    (eq-eqb v (nat_abs literal) (sym is))
 
-used : (vars : ℕ) (live : Live) (v id : ℕ) (clause : List ℤ) → clause_at live id ≡ Some clause → vars < v → list_any (λ x. v == x) (map nat_abs clause) ≡ true
+used : (vars : ℕ) (live : Live) (v id : ℕ) (clause : List ℤ) → clause_at live id ≡ Some clause → vars < v
+    → list_any (λ x. v == x) (map nat_abs clause) ≡ true
     → list_any (λ x. v == x) (filter (nat_lt vars) (live_variables live)) ≡ true
 used vars live v id clause at above among =
     let lists : ℕ → List ℕ = λ k. variables_of (clause_at live k) in
@@ -194,19 +209,23 @@ some_clause None is = absurd (let e : false ≡ true = is in cc)
 some_clause (Some clause) is = (clause, refl)
 
 -- where a list has all live numbers above one, there are no more of them
-module _ (inputs : ℕ) (live : Live) (ids : List ℕ) (listed : (id : ℕ) → inputs < id → is_some (clause_at live id) ≡ true → is_member nat_eq ids id ≡ true) where
+module _ (inputs : ℕ) (live : Live) (ids : List ℕ) (listed : (id : ℕ) → inputs < id → is_some (clause_at live id) ≡ true
+    → is_member nat_eq ids id ≡ true) where
   key_listed : (id : ℕ) → is_member nat_eq (filter (nat_lt inputs) (finmap.keys live)) id ≡ true → is_member nat_eq ids id ≡ true
   key_listed id is =
       let parts = and_parts (nat_lt inputs id) (is_member nat_eq (finmap.keys live) id)
-      (sym (any-filter_same (nat_eq id) (nat_lt inputs) (nat_lt inputs id) (λ k same. ap (nat_lt inputs) (sym (eqb-true id k same))) (finmap.keys live)) ∙ is) in
+      (sym (any-filter_same (nat_eq id) (nat_lt inputs) (nat_lt inputs id) (λ k same. ap (nat_lt inputs) (sym (eqb-true id k same)))
+      (finmap.keys live)) ∙ is) in
       listed id (ltb-true inputs id parts.0)
       (finmap.contains_key-keys live id ∙ (λ i. list_any (λ x. unsigned_tied id x i) (finmap.keys live)) ∙ parts.1)
 
   pub few_above : live_above inputs live ≤ length ids
   few_above =
-      length-le_from_is_member nat_eq_equiv (filter (nat_lt inputs) (finmap.keys live)) ids (distinct_keys (nat_lt inputs) (finmap.entries live) (finmap.entries_sorted live)) key_listed
+      length-le_from_is_member nat_eq_equiv (filter (nat_lt inputs) (finmap.keys live)) ids
+      (distinct_keys (nat_lt inputs) (finmap.entries live) (finmap.entries_sorted live)) key_listed
 
-module _ {S : Type 0} (old : TableState S) (number : ℕ) (state : State) (sound : IsSound old) (added : HasAdded old number) (since : ComesSince old.book.state state) where
+module _ {S : Type 0} (old : TableState S) (number : ℕ) (state : State) (sound : IsSound old) (added : HasAdded old number)
+    (since : ComesSince old.book.state state) where
   abbrev entries : List (ℕ × Branch)
   entries = finmap.entries old.graph.nodes
 
@@ -228,7 +247,8 @@ module _ {S : Type 0} (old : TableState S) (number : ℕ) (state : State) (sound
   abbrev listed : List ℕ
   listed = added.ids ++ (definitions.ids ++ later)
 
-  among_definitions : (id : ℕ) (clause : List ℤ) → clause_at state.live id ≡ Some clause → clause_at old.book.state.live id ≡ Some clause → DefinesOne entries id → is_member nat_eq definitions.ids id ≡ true
+  among_definitions : (id : ℕ) (clause : List ℤ) → clause_at state.live id ≡ Some clause → clause_at old.book.state.live id ≡ Some clause
+      → DefinesOne entries id → is_member nat_eq definitions.ids id ≡ true
   among_definitions id clause at was d =
       let tied = sound.tied in
       let stands = branch_is d.0 d.1 d.2 in
@@ -236,23 +256,27 @@ module _ {S : Type 0} (old : TableState S) (number : ℕ) (state : State) (sound
       let above = tied.reduced.above d.0 d.1 stands in
       let first = first_among d.1.variable clause (omega (arith, above)) (ap head_variable (sym was) ∙ own.variable) in
       definitions.has d.1.variable id (used (levels old.graph) state.live d.1.variable id clause at above first)
-      (numbers_has entries sorted (λ one other a c is also. tied.reduced.apart one other a c (branch_is one a is) (branch_is other c also)) d.0 d.1 d.2 id d.3)
+      (numbers_has entries sorted (λ one other a c is also. tied.reduced.apart one other a c (branch_is one a is)
+      (branch_is other c also)) d.0 d.1 d.2 id d.3)
 
   is_listed : (id : ℕ) → old.inputs < id → is_some (clause_at state.live id) ≡ true → is_member nat_eq listed id ≡ true
   is_listed id above is =
       let clause = some_clause (clause_at state.live id) is in
-      let behind : is_member nat_eq (definitions.ids ++ later) id ≡ (is_member nat_eq definitions.ids id || is_member nat_eq later id) = list_any-append (nat_eq id) definitions.ids later in
+      let behind : is_member nat_eq (definitions.ids ++ later) id
+      ≡ (is_member nat_eq definitions.ids id || is_member nat_eq later id) = list_any-append (nat_eq id) definitions.ids later in
       list_any-append (nat_eq id) added.ids (definitions.ids ++ later) ∙ elim (since id clause.0 clause.1) [
         | inl was ↦ elim (defines_or_not entries sorted id) [
           | inl d ↦ or_right (is_member nat_eq added.ids id) (is_member nat_eq (definitions.ids ++ later) id)
-              (behind ∙ or_left (is_member nat_eq definitions.ids id) (is_member nat_eq later id) (among_definitions id clause.0 clause.1 was d))
+              (behind ∙ or_left (is_member nat_eq definitions.ids id) (is_member nat_eq later id)
+              (among_definitions id clause.0 clause.1 was d))
           | inr none ↦
               let own = added.all id (record {
                 stands = ap is_some was;
                 above = above;
                 defines_none = λ key branch at. none key branch (sym (finmap.get-entries old.graph.nodes key) ∙ at);
               }) in
-              or_left (is_member nat_eq added.ids id) (is_member nat_eq (definitions.ids ++ later) id) (list_any-from_Contains nat_eq_equiv id added.ids own)
+              or_left (is_member nat_eq added.ids id) (is_member nat_eq (definitions.ids ++ later) id)
+              (list_any-from_Contains nat_eq_equiv id added.ids own)
         ]
         | inr came ↦ or_right (is_member nat_eq added.ids id) (is_member nat_eq (definitions.ids ++ later) id)
             (behind ∙ or_right (is_member nat_eq definitions.ids id) (is_member nat_eq later id)

@@ -1,5 +1,6 @@
 -- A call that makes a node, as its parts leave it: the node joined, and its definitions were handed to the ledger.
-use Rattle.std.proofs.Common.{◌≡◌, ◌∙◌, ◌⊎◌, ◌+◌, ◌-◌, ◌≤◌, ◌<◌, ◌++◌, ℕ, ℤ, Bool, List, Result, Ok, Err, Some, None, refl, sym, ap, subst, arith, take}
+use Rattle.std.proofs.Common.{◌≡◌, ◌∙◌, ◌⊎◌, ◌+◌, ◌-◌, ◌≤◌, ◌<◌, ◌++◌, ℕ, ℤ, Bool, List, Result, Ok, Err, Some, None, refl, sym, ap, subst}
+use Rattle.std.proofs.Common.{arith, take}
 use Rattle.std.specs.Prelude.{IsTrue, IsErrAnd}
 use Rattle.host_io.specs.Channel.{Channel}
 use Rattle.lrat_rules.specs.State.{State}
@@ -29,8 +30,10 @@ use Rattle.node_table.proofs.Outcome.{new_only}
 use Rattle.node_table.proofs.CallSteps.{IsAsked, FewerInUse, Tore, Wrote, made_on, made_torn, Aside, table_of}
 
 -- what was required of the table holds of its parts
-pub asked_at : {S : Type 0} {table inside : TableState S} {level : ℕ} {high low : Node} (variable : ℕ) → inside ≡ table → IsTied table.graph table.book.state → level < levels table.graph
-    → IsBelow table.graph level high → IsBelow table.graph level low → IsWanted table.graph level high low → levels inside.graph < variable → IsNobodys inside.graph variable
+pub asked_at : {S : Type 0} {table inside : TableState S} {level : ℕ} {high low : Node} (variable : ℕ) → inside ≡ table
+    → IsTied table.graph table.book.state → level < levels table.graph
+    → IsBelow table.graph level high → IsBelow table.graph level low → IsWanted table.graph level high low → levels inside.graph < variable
+    → IsNobodys inside.graph variable
     → IsAsked inside.graph inside.book.state level high low variable
 asked_at {S} {table} {inside} {level} {high} {low} variable same tied small high_below low_below wanted above own = record {
   tied = subst (λ (t : TableState S). IsTied t.graph t.book.state) (sym same) tied;
@@ -44,9 +47,11 @@ asked_at {S} {table} {inside} {level} {high} {low} variable same tied small high
 
 -- the branch that joined
 pub joined_as : {graph later : Graph} {key : ℕ} (state : State) {level variable first : ℕ} {high low : Node} → first ≡ state.top
-    → IsNew graph later key (record { level = level; variable = variable; high = high; low = low; first = first + 1 }) → IsNew graph later key (new_branch state level high low variable)
+    → IsNew graph later key (record { level = level; variable = variable; high = high; low = low; first = first + 1 })
+    → IsNew graph later key (new_branch state level high low variable)
 joined_as {graph} {later} {key} state {level} {variable} {first} {high} {low} same joined =
-    subst (λ (n : ℕ). IsNew graph later key (record { level = level; variable = variable; high = high; low = low; first = n + 1 })) same joined
+    subst (λ (n : ℕ). IsNew graph later key (record { level = level; variable = variable; high = high; low = low; first = n + 1 })) same
+    joined
 
 -- there is at least one definition, so that the numbers left are those below the limit
 pub enough : (high low : Node) (top limit : ℕ) → definition_count high low ≤ limit - top → top + definition_count high low ≤ limit
@@ -61,11 +66,13 @@ enough (Inner key) True top limit left = omega (arith, left)
 enough (Inner key) (Inner other) top limit left = omega (arith, left)
 
 -- a failed write is told as one
-pub told_torn : {T : Type 0} (r : Result T TableError) (e : LedgerError) → IsErrAnd r (λ t. t ≡ table_error e) → e ≡ LedgerWriteFault → Some WriteFault ≡ error_of r
+pub told_torn : {T : Type 0} (r : Result T TableError) (e : LedgerError) → IsErrAnd r (λ t. t ≡ table_error e) → e ≡ LedgerWriteFault
+    → Some WriteFault ≡ error_of r
 told_torn (Ok x) e is because = absurd is
 told_torn (Err t) e is because = ap Some (sym (is ∙ ap table_error because))
 
-pub record Making {S : Type 0} (graph later : Graph) (book ready : Book S) (aside : Aside) (level : ℕ) (high low : Node) (key : NodeKey) (variable : ℕ) (u x : ℤ) (high_atom low_atom : Atom) : Type 0 where
+pub record Making {S : Type 0} (graph later : Graph) (book ready : Book S) (aside : Aside) (level : ℕ) (high low : Node) (key : NodeKey)
+    (variable : ℕ) (u x : ℤ) (high_atom low_atom : Atom) : Type 0 where
   pub sound : IsSound (table_of aside graph book)
   pub asked : IsAsked graph book.state level high low variable
   pub least : (other : ℕ) → levels graph < other → other < variable → IsOwned graph other
@@ -75,8 +82,10 @@ pub record Making {S : Type 0} (graph later : Graph) (book ready : Book S) (asid
   pub reserved : ready ≡ record book { spare = ready.spare }
   pub handed : IsHanded graph book.state ready.state level high low variable u x high_atom low_atom
 
-module _ {S : Type 0} (tells : Bool) (channel : S → Channel) {graph later : Graph} {book ready : Book S} {aside : Aside} {level : ℕ} {high low : Node} {key : NodeKey} {variable : ℕ} {u x : ℤ}
-    {high_atom low_atom : Atom} (making : Making graph later book ready aside level high low key variable u x high_atom low_atom) (new : Book S) where
+module _ {S : Type 0} (tells : Bool) (channel : S → Channel) {graph later : Graph} {book ready : Book S} {aside : Aside} {level : ℕ}
+    {high low : Node} {key : NodeKey} {variable : ℕ} {u x : ℤ}
+    {high_atom low_atom : Atom} (making : Making graph later book ready aside level high low key variable u x high_atom low_atom)
+    (new : Book S) where
   abbrev handed_over : List Definition
   handed_over = definitions u x high_atom low_atom (ready.state.top + 1)
 
@@ -107,7 +116,11 @@ module _ {S : Type 0} (tells : Bool) (channel : S → Channel) {graph later : Gr
   same_sink = ap (λ (b : Book S). channel b.sink) making.reserved
 
   free : IsFree graph book.state.live variable
-  free = record { above = making.asked.above; unused = unused graph book.state making.asked.tied variable making.asked.above making.asked.own }
+  free = record {
+    above = making.asked.above;
+    unused = unused graph book.state making.asked.tied variable making.asked.above
+        making.asked.own;
+  }
 
   written : new.state ≡ with_definitions ready.state handed_over → new.state ≡ with_definitions book.state asked_for
   written is = is ∙ (λ i. with_definitions (making.handed.still i) (definitions_handed making.handed i))
@@ -115,30 +128,49 @@ module _ {S : Type 0} (tells : Bool) (channel : S → Channel) {graph later : Gr
   pub making_on : new.state ≡ with_definitions ready.state handed_over → Wrote tells (channel ready.sink) (channel new.sink) ready new
       → Steps tells (channel book.sink) (channel new.sink) old_table new_table 0 None
   making_on is wrote =
-      made_on tells aside (channel book.sink) (channel new.sink) graph later book new level high low variable making.sound making.asked key.index making.joined making.room (written is) (wrote_from wrote)
+      made_on tells aside (channel book.sink) (channel new.sink) graph later book new level high low variable making.sound making.asked
+      key.index making.joined making.room (written is) (wrote_from wrote)
 
-  pub making_torn : (n : ℕ) × (new.state ≡ with_definitions ready.state (take n handed_over)) → Tore tells (channel ready.sink) (channel new.sink) ready new → FewerInUse
+  pub making_torn : (n : ℕ) × (new.state ≡ with_definitions ready.state (take n handed_over))
+      → Tore tells (channel ready.sink) (channel new.sink) ready new → FewerInUse
       → Steps tells (channel book.sink) (channel new.sink) old_table new_table 0 (Some WriteFault)
   making_torn front tore fewer =
-      made_torn tells aside (channel book.sink) (channel new.sink) graph later book new level high low variable making.sound making.asked key.index making.joined making.room front.0
-      (front.1 ∙ (λ i. with_definitions (making.handed.still i) (take front.0 (definitions_handed making.handed i)))) (tore_from tore) fewer making.few
+      made_torn tells aside (channel book.sink) (channel new.sink) graph later book new level high low variable making.sound making.asked
+      key.index making.joined making.room front.0
+      (front.1 ∙ (λ i. with_definitions (making.handed.still i) (take front.0 (definitions_handed making.handed i))))
+      (tore_from tore) fewer making.few
 
   -- no clause beside the definitions was added
-  pub making_before : new.state ≡ with_definitions ready.state handed_over → (inputs id : ℕ) → IsAdded later new.state.live inputs id → IsAdded graph book.state.live inputs id
+  pub making_before : new.state ≡ with_definitions ready.state handed_over → (inputs id : ℕ) → IsAdded later new.state.live inputs id
+      → IsAdded graph book.state.live inputs id
   making_before is =
       let now = written is in
-      let grows : Grows book.state new.state = subst (Grows book.state) (sym now) (Grows-definitions book.state asked_for making.asked.tied.numbers) in
+      let grows : Grows book.state new.state = subst (Grows book.state) (sym now)
+      (Grows-definitions book.state asked_for making.asked.tied.numbers) in
       let top : new.state.top ≡ book.state.top + definition_count high low =
-      ap (λ (s : State). s.top) now ∙ definitions_top graph book.state level high low variable making.asked.high_below.stands making.asked.low_below.stands in
+      ap (λ (s : State). s.top) now
+      ∙ definitions_top graph book.state level high low variable making.asked.high_below.stands making.asked.low_below.stands in
       added_before graph later key.index level variable high low book.state new.state making.joined grows.gives grows.numbers top
 
-  pub making_only : (other : ℕ) (b : Branch) → branch_at later other ≡ Some b → (branch_at graph other ≡ Some b) ⊎ HasChildren later level high low (inner other)
+  pub making_only : (other : ℕ) (b : Branch) → branch_at later other ≡ Some b → (branch_at graph other ≡ Some b)
+      ⊎ HasChildren later level high low (inner other)
   making_only = new_only graph later key.index (new_branch book.state level high low variable) making.joined
 
   pub making_made : new.state ≡ with_definitions ready.state handed_over
       → (IsTrue tells → (channel new.sink).written ≡ (channel ready.sink).written ++ definition_lines ready.state handed_over)
-      → IsMade old_table new_table level high low variable (Inner key) × (IsTrue tells → (channel new.sink).written ≡ (channel book.sink).written ++ definition_lines book.state asked_for)
-  making_made is lines = (record { free = free; least = making.least; key = key; named = refl; joined = making.joined; defined = written is }, λ told. lines told ∙ (λ i. (same_sink i).written ++ same_lines i))
+      → IsMade old_table new_table level high low variable (Inner key)
+      × (IsTrue tells → (channel new.sink).written ≡ (channel book.sink).written ++ definition_lines book.state asked_for)
+  making_made is lines = (
+    record {
+      free = free;
+      least = making.least;
+      key = key;
+      named = refl;
+      joined = making.joined;
+      defined = written is;
+    },
+    λ told. lines told ∙ (λ i. (same_sink i).written ++ same_lines i),
+  )
 
   pub making_cut : IsTorn tells (channel ready.sink) (channel new.sink) (definition_lines ready.state handed_over)
       → IsFree graph book.state.live variable × IsTorn tells (channel book.sink) (channel new.sink) (definition_lines book.state asked_for)

@@ -1,5 +1,6 @@
 -- Marking node by node: what is marked was reached, and in the end the marks are closed under children.
-use Rattle.std.proofs.Common.{◌≡◌, ◌<◌, ◌+◌, ◌++◌, ◌⊎◌, ℕ, zero, suc, Bool, true, false, not, List, [], ◌∷◌, length, get_or, set, replicate, cond, Option, None, Some, Contains, count_by, refl, sym, ap, ◌∙◌, subst, inl, inr, arith}
+use Rattle.std.proofs.Common.{◌≡◌, ◌<◌, ◌+◌, ◌++◌, ◌⊎◌, ℕ, zero, suc, Bool, true, false, not, List, [], ◌∷◌, length, get_or, set, replicate}
+use Rattle.std.proofs.Common.{cond, Option, None, Some, Contains, count_by, refl, sym, ap, ◌∙◌, subst, inl, inr, arith}
 use Rattle.std.specs.Prelude.{is_some, if◌then◌else◌}
 use Rattle.std.proofs.lemmas.Bool.{cases_eq}
 use Rattle.std.proofs.lemmas.List.{get_or-set_same, get_or-set_other, length-replicate, length-set, length_push}
@@ -55,7 +56,8 @@ marked_before marks key other is =
       | inr differ ↦ inl (sym (get_or-set_other marks key other true false differ) ∙ is)
     ]
 
-module _ (graph : Graph) (roots : List Node) (current : Option ℕ) (marks : List Bool) (waits : List ℕ) (known : IsMarking graph roots current (marking marks waits)) where
+module _ (graph : Graph) (roots : List Node) (current : Option ℕ) (marks : List Bool) (waits : List ℕ)
+    (known : IsMarking graph roots current (marking marks waits)) where
   -- a node that is reached is marked
   IsMarking-marked : (key : ℕ) (branch : Branch) → branch_at graph key ≡ Some branch → IsReached graph roots (inner key)
       → IsMarking graph roots current (with_mark key (marking marks waits))
@@ -88,7 +90,8 @@ module _ (graph : Graph) (roots : List Node) (current : Option ℕ) (marks : Lis
   IsMarking-key : (key : ℕ) (branch : Branch) → branch_at graph key ≡ Some branch → IsReached graph roots (inner key)
       → IsMarking graph roots current (with_key key (marking marks waits))
   IsMarking-key key branch at reached =
-      elim (get_or marks key false) as (λ b. IsMarking graph roots current (cond b (marking marks waits) (with_mark key (marking marks waits)))) [
+      elim (get_or marks key false) as (λ b. IsMarking graph roots current
+      (cond b (marking marks waits) (with_mark key (marking marks waits)))) [
         | true ↦ known
         | false ↦ IsMarking-marked key branch at reached
       ]
@@ -126,7 +129,8 @@ with_node-stays (Inner key) now has other is = with_key-stays key.index now has 
 
 with_key-marks : (key : ℕ) (now : Marking) → key < length now.marks → get_or (with_key key now).marks key false ≡ true
 with_key-marks key now small =
-    elim (get_or now.marks key false) as (λ b. get_or now.marks key false ≡ b → get_or (cond b now (with_mark key now)).marks key false ≡ true) [
+    elim (get_or now.marks key false) as (λ b. get_or now.marks key false ≡ b → get_or (cond b now (with_mark key now)).marks key false
+    ≡ true) [
       | true ↦ λ is. is
       | false ↦ λ is. get_or-set_same now.marks key true false small
     ] refl
@@ -182,7 +186,8 @@ pub with_children-stays : (o : Option Branch) (now : Marking) → HaveMarks (len
 with_children-stays None now has node is = is
 with_children-stays (Some b) now has node is =
     let first = with_node b.high now in
-    with_node-stays b.low first (HasMark-same _ _ (sym (length-with_node b.high now)) b.low has.1) node (with_node-stays b.high now has.0 node is)
+    with_node-stays b.low first (HasMark-same _ _ (sym (length-with_node b.high now)) b.low has.1) node
+    (with_node-stays b.high now has.0 node is)
 
 -- nothing is marked at first
 unmarked : (count key : ℕ) → get_or (replicate count false) key false ≡ false
@@ -194,7 +199,8 @@ pub IsMarking-start : (graph : Graph) (roots : List Node) (count : ℕ)
     → ((key : ℕ) (branch : Branch) → branch_at graph key ≡ Some branch → key < count)
     → IsMarking graph roots None (marking (replicate count false) [])
 IsMarking-start graph roots count within =
-    let none : (key : ℕ) → is_marked (replicate count false) (inner key) ≡ true → ⊥ = λ key is. let not_so : is_marked (replicate count false) (inner key) ≡ false = unmarked count key in cc in
+    let none : (key : ℕ) → is_marked (replicate count false) (inner key) ≡ true
+    → ⊥ = λ key is. let not_so : is_marked (replicate count false) (inner key) ≡ false = unmarked count key in cc in
     record {
       within = λ key branch at. subst (λ (n : ℕ). key < n) (sym (length-replicate count false)) (within key branch at);
       stand = λ key is. absurd (none key is);
@@ -212,7 +218,8 @@ child_is_reached : (graph : Graph) (roots : List Node) (to_high : Bool) (node : 
 child_is_reached graph roots to_high node b at reached = record {
   root = reached.root;
   is_root = reached.is_root;
-  reaches = Reaches-further graph reached.root node (child_of to_high node (Some b)) reached.reaches (Reaches-child graph to_high node b at);
+  reaches = Reaches-further graph reached.root node (child_of to_high node (Some b)) reached.reaches
+      (Reaches-child graph to_high node b at);
 }
 
 pub AreMarked-more : (marks : List Bool) (nodes : List Node) (node : Node) → AreMarked marks nodes → is_marked marks node ≡ true
@@ -233,7 +240,11 @@ popped graph roots marks waits key known = record {
   closed = λ other b is at. elim (known.closed other b is at) [
     | inr both ↦ inr both
     | inl (inr here) ↦ absurd (let none : None ≡ Some other = here in cc)
-    | inl (inl among) ↦ elim (Contains-push_cases waits key other among) [ inl before ↦ inl (inl before) | inr same ↦ inl (inr (ap Some same)) ]
+    | inl (inl among) ↦ elim (Contains-push_cases waits key other among) [
+      | inl before ↦ inl (inl before)
+      | inr same ↦ inl
+          (inr (ap Some same))
+    ]
   ];
 }
 
@@ -257,7 +268,8 @@ finished graph roots key now known both = record {
 children_marked : (graph : Graph) (roots : List Node) → IsReduced graph → (key : ℕ) (now : Marking)
     → IsMarking graph roots (Some key) now → IsReached graph roots (inner key)
     → (o : Option Branch) → branch_at graph key ≡ o → IsMarking graph roots None (with_children o now)
-children_marked graph roots reduced key now known reached None at = finished graph roots key now known (λ b is. absurd (let none : None ≡ Some b = sym at ∙ is in cc))
+children_marked graph roots reduced key now known reached None at = finished graph roots key now known
+    (λ b is. absurd (let none : None ≡ Some b = sym at ∙ is in cc))
 children_marked graph roots reduced key now known reached (Some b) at =
     let high = (reduced.high key b at).stands in
     let low = (reduced.low key b at).stands in
@@ -285,7 +297,10 @@ pub have_marks : (graph : Graph) (roots : List Node) → IsReduced graph → (cu
 have_marks graph roots reduced current now known key =
     elim (branch_at graph key) as (λ o. branch_at graph key ≡ o → HaveMarks (length now.marks) o) [
       | None ↦ λ at. tt
-      | Some b ↦ λ at. (has_mark graph roots current now known b.high (reduced.high key b at).stands, has_mark graph roots current now known b.low (reduced.low key b at).stands)
+      | Some b ↦ λ at. (
+        has_mark graph roots current now known b.high (reduced.high key b at).stands,
+        has_mark graph roots current now known b.low (reduced.low key b at).stands,
+      )
     ] refl
 
 -- the marks when no key waits

@@ -1,5 +1,6 @@
 -- Calls one after another: what both kept is kept, and what they added adds up.
-use Rattle.std.proofs.Common.{◌≡◌, ◌+◌, ◌≤◌, ℕ, Bool, true, is_some, refl, sym, ap, ◌∙◌, subst, arith, inl, inr, List, [], ◌∷◌, ◌++◌, length, Option, None, Some}
+use Rattle.std.proofs.Common.{◌≡◌, ◌+◌, ◌≤◌, ℕ, Bool, true, is_some, refl, sym, ap, ◌∙◌, subst, arith, inl, inr, List, [], ◌∷◌, ◌++◌}
+use Rattle.std.proofs.Common.{length, Option, None, Some}
 use Rattle.std.proofs.lemmas.Bool.{cases_lt}
 use Rattle.std.proofs.lemmas.List.{append_assoc, append-nil}
 use Rattle.host_io.specs.Channel.{Channel}
@@ -35,7 +36,8 @@ some_of (Some x) is = (x, refl)
 still_live : (old new : Live) → KeepsClauses old new → (id : ℕ) → is_some (clause_at old id) ≡ true → is_some (clause_at new id) ≡ true
 still_live old new keeps id is = let clause = some_of (clause_at old id) is in ap is_some (keeps id clause.0 clause.1)
 
-GivesNumbers-further : (one two three : State) → KeepsClauses two.live three.live → GivesNumbers one two → GivesNumbers two three → GivesNumbers one three
+GivesNumbers-further : (one two three : State) → KeepsClauses two.live three.live → GivesNumbers one two → GivesNumbers two three
+    → GivesNumbers one three
 GivesNumbers-further one two three keeps first second = record {
   no_less = omega (arith, first.no_less, second.no_less);
   next = λ id is. elim (second.next id is) [
@@ -74,7 +76,8 @@ module _ {S : Type 0} where
         retired = sym (append-nil table.retired);
       }
 
-  IsWithin-further : (old mid : TableState S) → mid.graph.order ≡ old.graph.order → (nodes : ℕ) → number_limit mid ≤ number_limit old → (state : State)
+  IsWithin-further : (old mid : TableState S) → mid.graph.order ≡ old.graph.order → (nodes : ℕ) → number_limit mid ≤ number_limit old
+      → (state : State)
       → IsWithin (levels mid.graph) (number_limit mid) nodes state → IsWithin (levels old.graph) (number_limit old) nodes state
   IsWithin-further old mid order nodes less state within = record {
     numbers = ≤-further state.top (number_limit mid) (number_limit old) within.numbers less;
@@ -82,7 +85,8 @@ module _ {S : Type 0} where
   }
 
   -- so far within the limit: the limit is as far as before
-  limit_further : (old mid : TableState S) → mid.book.limit ≡ old.book.limit → mid.book.state.top ≤ number_limit old → number_limit mid ≤ number_limit old
+  limit_further : (old mid : TableState S) → mid.book.limit ≡ old.book.limit → mid.book.state.top ≤ number_limit old → number_limit mid
+      ≤ number_limit old
   limit_further old mid same within = omega (arith, same, within)
 
   still_inputs : (old mid : TableState S) → mid.inputs ≡ old.inputs → (count : ℕ) → count ≤ old.inputs → count ≤ mid.inputs
@@ -112,7 +116,8 @@ module _ {S : Type 0} where
           sound = after.sound;
           order = after.order ∙ before.order;
           inputs = after.inputs ∙ before.inputs;
-          kept = λ clauses few is. after.kept clauses (still_inputs old mid before.inputs (length clauses) few) (before.kept clauses few is);
+          kept = λ clauses few is. after.kept clauses (still_inputs old mid before.inputs (length clauses) few)
+              (before.kept clauses few is);
           max_nodes = after.max_nodes ∙ before.max_nodes;
           limit = after.limit ∙ before.limit;
           no_less = omega (arith, before.no_less, after.no_less);
@@ -151,15 +156,21 @@ module _ {S : Type 0} where
           writes = OnlyWrites-further first second third before.writes after.writes;
         }
 
-    pub leaves_further : (first second third : Channel) (old mid new : TableState S) (error : Option TableError) → Continues tells first second old mid
+    pub leaves_further : (first second third : Channel) (old mid new : TableState S) (error : Option TableError)
+        → Continues tells first second old mid
         → Leaves tells second third mid new error → Leaves tells first third old new error
     leaves_further first second third old mid new None before after = Continues-further first second third old mid new before after
-    leaves_further first second third old mid new (Some NodeLimit) before after = (Continues-further first second third old mid new before after.0, after.1)
-    leaves_further first second third old mid new (Some IdLimit) before after = (Continues-further first second third old mid new before after.0, after.1)
-    leaves_further first second third old mid new (Some OutOfMemory) before after = Continues-further first second third old mid new before after
-    leaves_further first second third old mid new (Some WriteFault) before after = BreaksOff-after first second third old mid new before after
+    leaves_further first second third old mid new (Some NodeLimit) before after =
+        (Continues-further first second third old mid new before after.0, after.1)
+    leaves_further first second third old mid new (Some IdLimit) before after =
+        (Continues-further first second third old mid new before after.0, after.1)
+    leaves_further first second third old mid new (Some OutOfMemory) before after =
+        Continues-further first second third old mid new before after
+    leaves_further first second third old mid new (Some WriteFault) before after =
+        BreaksOff-after first second third old mid new before after
 
-    pub Steps-further : (first second third : Channel) (old mid new : TableState S) (few more : ℕ) (error : Option TableError) → Steps tells first second old mid few None
+    pub Steps-further : (first second third : Channel) (old mid new : TableState S) (few more : ℕ) (error : Option TableError)
+        → Steps tells first second old mid few None
         → Steps tells second third mid new more error → Steps tells first third old new (few + more) error
     Steps-further first second third old mid new few more error before after = record {
       leaves = leaves_further first second third old mid new error before.leaves after.leaves;
@@ -169,17 +180,31 @@ module _ {S : Type 0} where
 
     pub Steps-at_most : (before after : Channel) (old new : TableState S) (few more : ℕ) (error : Option TableError) → few ≤ more
         → Steps tells before after old new few error → Steps tells before after old new more error
-    Steps-at_most before after old new few more error less steps = record { leaves = steps.leaves; extends = steps.extends; adds = omega (arith, less, steps.adds) }
+    Steps-at_most before after old new few more error less steps = record {
+      leaves = steps.leaves;
+      extends = steps.extends;
+      adds = omega (arith, less, steps.adds);
+    }
 
     -- nothing was changed
     pub Steps-none : (channel : Channel) (table : TableState S) → IsSound table → Steps tells channel channel table table 0 None
-    Steps-none channel table sound = record { leaves = Continues-none channel table sound; extends = Extends-none table sound; adds = omega arith }
+    Steps-none channel table sound = record {
+      leaves = Continues-none channel table sound;
+      extends = Extends-none table sound;
+      adds = omega arith;
+    }
 
-    pub Steps-no_memory : (channel : Channel) (table : TableState S) → IsSound table → Steps tells channel channel table table 0 (Some OutOfMemory)
-    Steps-no_memory channel table sound = record { leaves = Continues-none channel table sound; extends = Extends-none table sound; adds = omega arith }
+    pub Steps-no_memory : (channel : Channel) (table : TableState S) → IsSound table
+        → Steps tells channel channel table table 0 (Some OutOfMemory)
+    Steps-no_memory channel table sound = record {
+      leaves = Continues-none channel table sound;
+      extends = Extends-none table sound;
+      adds = omega arith;
+    }
 
     -- a clause more is retired
-    Continues-retired : (channel : Channel) (table : TableState S) (id : ℕ) → IsSound table → IsSound (record table { retired = table.retired ++ id ∷ [] })
+    Continues-retired : (channel : Channel) (table : TableState S) (id : ℕ) → IsSound table
+        → IsSound (record table { retired = table.retired ++ id ∷ [] })
         → Continues tells channel channel table (record table { retired = table.retired ++ id ∷ [] })
     Continues-retired channel table id sound still =
         let none = Continues-none channel table sound in
@@ -197,12 +222,21 @@ module _ {S : Type 0} where
           writes = none.writes;
         }
 
-    pub Steps-retired : (channel : Channel) (table : TableState S) (id : ℕ) → IsSound table → IsSound (record table { retired = table.retired ++ id ∷ [] })
+    pub Steps-retired : (channel : Channel) (table : TableState S) (id : ℕ) → IsSound table
+        → IsSound (record table { retired = table.retired ++ id ∷ [] })
         → Steps tells channel channel table (record table { retired = table.retired ++ id ∷ [] }) 0 None
     Steps-retired channel table id sound still =
         let none = Extends-none table sound in
         record {
           leaves = Continues-retired channel table id sound still;
-          extends = record { inputs = none.inputs; nodes = none.nodes; clauses = none.clauses; numbers = none.numbers; more = id ∷ []; retired = refl };
+          extends = record {
+            inputs = none.inputs;
+            nodes = none.nodes;
+            clauses = none.clauses;
+            numbers = none.numbers;
+            more = id
+                ∷ [];
+            retired = refl;
+          };
           adds = omega arith;
         }

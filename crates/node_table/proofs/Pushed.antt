@@ -1,5 +1,6 @@
 -- A node more among the stored ones.
-use Rattle.std.proofs.Common.{◌≡◌, ◌≢◌, ℕ, ◌+◌, ◌<◌, ◌≤◌, true, List, length, get_or, Option, None, Some, refl, sym, ap, ◌∙◌, subst, arith, inl, inr}
+use Rattle.std.proofs.Common.{◌≡◌, ◌≢◌, ℕ, ◌+◌, ◌<◌, ◌≤◌, true, List, length, get_or, Option, None, Some, refl, sym, ap, ◌∙◌, subst, arith}
+use Rattle.std.proofs.Common.{inl, inr}
 use Rattle.std.specs.FinMap as map
 use Rattle.std.specs.Option.{option_map}
 use Rattle.std.proofs.lemmas.Bool.{cases_eq}
@@ -23,31 +24,38 @@ pub record HasStored (slots : List (Option StoredNode)) (key : ℕ) (branch : Br
   pub stands : get_or slots key None ≡ Some node
   pub branch_is : branch ≡ branch_in node
 
-has_stored : (slot : Option StoredNode) (branch : Branch) → option_map branch_in slot ≡ Some branch → (node : StoredNode) × (slot ≡ Some node) × (branch ≡ branch_in node)
+has_stored : (slot : Option StoredNode) (branch : Branch) → option_map branch_in slot ≡ Some branch → (node : StoredNode)
+    × (slot ≡ Some node) × (branch ≡ branch_in node)
 has_stored None branch is = absurd (let none : None ≡ Some branch = is in cc)
 has_stored (Some node) branch is = let same : Some (branch_in node) ≡ Some branch = is in (node, refl, cc)
 
-pub stored_from_branch : (order : List ℕ) (slots : List (Option StoredNode)) (key : ℕ) (branch : Branch) → branch_at (graph_of order slots) key ≡ Some branch → HasStored slots key branch
+pub stored_from_branch : (order : List ℕ) (slots : List (Option StoredNode)) (key : ℕ) (branch : Branch)
+    → branch_at (graph_of order slots) key ≡ Some branch → HasStored slots key branch
 stored_from_branch order slots key branch is =
     let found = has_stored (get_or slots key None) branch (sym (branch_at-graph_of order slots key) ∙ is) in
     record { node = found.0; stands = found.1; branch_is = found.2 }
 
-pub branch_from_stored : (order : List ℕ) (slots : List (Option StoredNode)) (key : ℕ) (node : StoredNode) → get_or slots key None ≡ Some node → branch_at (graph_of order slots) key ≡ Some (branch_in node)
+pub branch_from_stored : (order : List ℕ) (slots : List (Option StoredNode)) (key : ℕ) (node : StoredNode) → get_or slots key None
+    ≡ Some node → branch_at (graph_of order slots) key ≡ Some (branch_in node)
 branch_from_stored order slots key node is = branch_at-graph_of order slots key ∙ ap (option_map branch_in) is
 
-pub unused_key : (order : List ℕ) (slots : List (Option StoredNode)) (key : ℕ) → get_or slots key None ≡ None → branch_at (graph_of order slots) key ≡ None
+pub unused_key : (order : List ℕ) (slots : List (Option StoredNode)) (key : ℕ) → get_or slots key None ≡ None
+    → branch_at (graph_of order slots) key ≡ None
 unused_key order slots key none = branch_at-graph_of order slots key ∙ ap (option_map branch_in) none
 
 -- an extension variable that no stored node has is no node's
-pub own_variable : (order : List ℕ) (slots : List (Option StoredNode)) (variable : ℕ) → ((key : ℕ) (node : StoredNode) → get_or slots key None ≡ Some node → node.variable ≢ variable)
+pub own_variable : (order : List ℕ) (slots : List (Option StoredNode)) (variable : ℕ)
+    → ((key : ℕ) (node : StoredNode) → get_or slots key None ≡ Some node → node.variable ≢ variable)
     → (key : ℕ) (branch : Branch) → branch_at (graph_of order slots) key ≡ Some branch → branch.variable ≢ variable
 own_variable order slots variable own key branch is same =
     let found = stored_from_branch order slots key branch is in
     own key found.node found.stands (sym (ap (λ (b : Branch). b.variable) found.branch_is) ∙ same)
 
 -- what holds of each stored node, and of the new one, holds of each stored node after
-pub each_stored : (old new : Slab StoredNode) (key : ℕ) (node : StoredNode) → Updates old new key (Some node) → (P : ℕ → StoredNode → Type 0) → P key node
-    → ((other : ℕ) (one : StoredNode) → get old other ≡ Some one → P other one) → (other : ℕ) (one : StoredNode) → get new other ≡ Some one → P other one
+pub each_stored : (old new : Slab StoredNode) (key : ℕ) (node : StoredNode) → Updates old new key (Some node)
+    → (P : ℕ → StoredNode → Type 0) → P key node
+    → ((other : ℕ) (one : StoredNode) → get old other ≡ Some one → P other one) → (other : ℕ) (one : StoredNode) → get new other ≡ Some one
+    → P other one
 each_stored old new key node updates P here there other one is =
     elim (cases_eq other key) [
       | inl same ↦
@@ -73,7 +81,8 @@ pub joined_graph : (order : List ℕ) (old new : Slab StoredNode) (key : ℕ) (n
     → graph_of order new.slots ≡ with_branch (graph_of order old.slots) key (branch_in node)
 joined_graph order old new key node joins = graph_of-joined order old.slots new.slots key node joins.updates.changed joins.updates.others
 
-pub IsStored-joined : (order places : List ℕ) (before after : Index) (old new : Slab StoredNode) (key : ℕ) (node : StoredNode) → IsStored order places before old → Joins order old new key node
+pub IsStored-joined : (order places : List ℕ) (before after : Index) (old new : Slab StoredNode) (key : ℕ) (node : StoredNode)
+    → IsStored order places before old → Joins order old new key node
     → IsIndexOf after new → IsStored order places after new
 IsStored-joined order places before after old new key node stored joins indexed =
     let branch = branch_in node in
@@ -92,7 +101,8 @@ IsStored-joined order places before after old new key node stored joins indexed 
     }
 
 -- the nodes that stand have keys that fit a child's word
-pub small_from_stands : (order places : List ℕ) (index : Index) (nodes : Slab StoredNode) → IsStored order places index nodes → (node : Node) → is_node (graph_of order nodes.slots) node ≡ true → HasSmallKey node
+pub small_from_stands : (order places : List ℕ) (index : Index) (nodes : Slab StoredNode) → IsStored order places index nodes
+    → (node : Node) → is_node (graph_of order nodes.slots) node ≡ true → HasSmallKey node
 small_from_stands order places index nodes stored False is = tt
 small_from_stands order places index nodes stored True is = tt
 small_from_stands order places index nodes stored (Inner key) is =
@@ -101,7 +111,8 @@ small_from_stands order places index nodes stored (Inner key) is =
     stored.small_keys key.index found.node found.stands
 
 -- the slab has room for more, and the index too
-pub IsStored-room : (order places : List ℕ) (before after : Index) (old room : Slab StoredNode) → room ≡ record old { capacity = room.capacity } → IsStored order places before old → IsIndexOf after room
+pub IsStored-room : (order places : List ℕ) (before after : Index) (old room : Slab StoredNode) → room
+    ≡ record old { capacity = room.capacity } → IsStored order places before old → IsIndexOf after room
     → IsStored order places after room
 IsStored-room order places before after old room kept stored indexed =
     subst (IsStored order places after) (sym kept) (record {
@@ -116,13 +127,17 @@ IsStored-room order places before after old room kept stored indexed =
     })
 
 -- the node entered under the vacant key, once the slab had room
-pub Joins-entered : (order : List ℕ) (old room new : Slab StoredNode) (key : ℕ) (node : StoredNode) → room ≡ record old { capacity = room.capacity } → map.len (graph_of order old.slots).nodes < 100000000
+pub Joins-entered : (order : List ℕ) (old room new : Slab StoredNode) (key : ℕ) (node : StoredNode) → room
+    ≡ record old { capacity = room.capacity } → map.len (graph_of order old.slots).nodes < 100000000
     → key < 100000000 → get room key ≡ None → Updates room new key (Some node) → slab_len new ≡ slab_len room + 1
     → length order < node.variable → ((other : ℕ) (one : StoredNode) → get old other ≡ Some one → one.variable ≢ node.variable)
-    → (level variable : ℕ) (high low : Node) (first : ℕ) → branch_in node ≡ record { level = level; variable = variable; high = high; low = low; first = first }
-    → level < levels (graph_of order old.slots) → IsBelow (graph_of order old.slots) level high → IsBelow (graph_of order old.slots) level low → IsWanted (graph_of order old.slots) level high low → first ≤ max_id + 1
+    → (level variable : ℕ) (high low : Node) (first : ℕ) → branch_in node
+    ≡ record { level = level; variable = variable; high = high; low = low; first = first }
+    → level < levels (graph_of order old.slots) → IsBelow (graph_of order old.slots) level high
+    → IsBelow (graph_of order old.slots) level low → IsWanted (graph_of order old.slots) level high low → first ≤ max_id + 1
     → Joins order old new key node
-Joins-entered order old room new key node kept few small vacant updates more above own level variable high low first node_is few_level below_high below_low wanted few_first =
+Joins-entered order old room new key node kept few small vacant updates more above own level variable high low first node_is few_level
+    below_high below_low wanted few_first =
     let graph = graph_of order old.slots in
     let count = len-keyed 0 old.slots in
     let same : slab_len room ≡ slab_len old = ap slab_len kept in

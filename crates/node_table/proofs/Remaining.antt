@@ -20,11 +20,13 @@ KeepsMarked marks old new = (key : ℕ) → get new key ≡ (if get_or marks key
 
 -- no two nodes have one variable
 abbrev pub AreApart : Slab StoredNode → Type 0
-AreApart nodes = (key other : ℕ) (one two : StoredNode) → get nodes key ≡ Some one → get nodes other ≡ Some two → one.variable ≡ two.variable → key ≡ other
+AreApart nodes = (key other : ℕ) (one two : StoredNode) → get nodes key ≡ Some one → get nodes other ≡ Some two → one.variable
+    ≡ two.variable → key ≡ other
 
 pub apart_reduced : (order : List ℕ) (nodes : Slab StoredNode) → IsReduced (graph_of order nodes.slots) → AreApart nodes
 apart_reduced order nodes reduced key other one two is also same =
-    reduced.apart key other (branch_in one) (branch_in two) (branch_from_stored order nodes.slots key one is) (branch_from_stored order nodes.slots other two also) same
+    reduced.apart key other (branch_in one) (branch_in two) (branch_from_stored order nodes.slots key one is)
+    (branch_from_stored order nodes.slots other two also) same
 
 module _ (marks : List Bool) (old new : Slab StoredNode) (kept : KeepsMarked marks old new) where
   pub kept_marked : (key : ℕ) → get_or marks key false ≡ true → get new key ≡ get old key
@@ -41,14 +43,17 @@ module _ (marks : List Bool) (old new : Slab StoredNode) (kept : KeepsMarked mar
   pub IsSwept-stored : (order : List ℕ) → IsSwept (graph_of order old.slots) (graph_of order new.slots) marks
   IsSwept-stored order = record {
     order = refl;
-    nodes = λ key. branch_at-graph_of order new.slots key ∙ ap (λ (slot : Option StoredNode). option_map branch_in slot) (kept key) ∙ either key (get_or marks key false);
+    nodes = λ key. branch_at-graph_of order new.slots key ∙ ap (λ (slot : Option StoredNode). option_map branch_in slot) (kept key)
+        ∙ either key (get_or marks key false);
   }
     where
-      either : (key : ℕ) (b : Bool) → option_map branch_in (if b then get old key else None) ≡ (if b then branch_at (graph_of order old.slots) key else None)
+      either : (key : ℕ) (b : Bool) → option_map branch_in (if b then get old key else None)
+          ≡ (if b then branch_at (graph_of order old.slots) key else None)
       either key true = sym (branch_at-graph_of order old.slots key)
       either key false = refl
 
-  pub IsStored-swept : (order places : List ℕ) (before after : Index) → IsStored order places before old → AreMarks (graph_of order old.slots) marks → slab_len new ≤ slab_len old → IsIndexOf after new
+  pub IsStored-swept : (order places : List ℕ) (before after : Index) → IsStored order places before old
+      → AreMarks (graph_of order old.slots) marks → slab_len new ≤ slab_len old → IsIndexOf after new
       → IsStored order places after new
   IsStored-swept order places before after stored are fewer indexed = record {
     ordered = stored.ordered;

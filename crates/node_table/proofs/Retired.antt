@@ -19,7 +19,8 @@ pub AreRetired-none : (graph : Graph) (live : Live) (inputs : ℕ) → AreRetire
 unfolding IsDistinct
 AreRetired-none graph live inputs = record { each = λ id among. absurd (in_none id among); once = tt }
 
-pub AreRetired-kept : (graph later : Graph) (old new : State) → IsTied graph old → IsTied later new → KeepsNodes graph later → KeepsClauses old.live new.live → (inputs : ℕ) (retired : List ℕ)
+pub AreRetired-kept : (graph later : Graph) (old new : State) → IsTied graph old → IsTied later new → KeepsNodes graph later
+    → KeepsClauses old.live new.live → (inputs : ℕ) (retired : List ℕ)
     → AreRetired graph old.live inputs retired → AreRetired later new.live inputs retired
 AreRetired-kept graph later old new tied still nodes clauses inputs retired are = record {
   each = λ id among. added_kept graph later old new tied still nodes clauses inputs id (are.each id among);
@@ -38,7 +39,8 @@ in_one : (id other : ℕ) → Contains (id ∷ []) other → other ≡ id
 in_one id other (zero, small, is) = sym is
 in_one id other (suc k, small, is) = absurd (omega (arith, small))
 
-pub AreRetired-push : (graph : Graph) (live : Live) (inputs : ℕ) (retired : List ℕ) (id : ℕ) → AreRetired graph live inputs retired → IsAdded graph live inputs id → (Contains retired id → ⊥)
+pub AreRetired-push : (graph : Graph) (live : Live) (inputs : ℕ) (retired : List ℕ) (id : ℕ) → AreRetired graph live inputs retired
+    → IsAdded graph live inputs id → (Contains retired id → ⊥)
     → AreRetired graph live inputs (retired ++ id ∷ [])
 AreRetired-push graph live inputs retired id are own unretired = record {
   each = λ other among. elim (Contains-append_cases retired (id ∷ []) other among) [

@@ -1,6 +1,7 @@
 -- What deleting the retired clauses leaves: the nodes are tied to the live clauses that are left, and the bytes are a proof
 -- of these.
-use Rattle.std.proofs.Common.{◌≡◌, ◌≢◌, ◌<◌, ◌≤◌, ◌&&◌, ◌||◌, ◌∙◌, ℕ, Bool, ℤ, List, [], ◌∷◌, None, Some, Contains, is_some, true, false, cond, refl, sym, ap, arith, inl, inr, eq-eqb, ne_eqb}
+use Rattle.std.proofs.Common.{◌≡◌, ◌≢◌, ◌<◌, ◌≤◌, ◌&&◌, ◌||◌, ◌∙◌, ℕ, Bool, ℤ, List, [], ◌∷◌, None, Some, Contains, is_some, true, false}
+use Rattle.std.proofs.Common.{cond, refl, sym, ap, arith, inl, inr, eq-eqb, ne_eqb}
 use Rattle.std.specs.Prelude.{nat_eq, nat_lt, not}
 use Rattle.std.specs.Cmp.{unsigned_tied, nat_eq_equiv}
 use Rattle.std.specs.List.{IsDistinct, AllByRecursion}
@@ -14,12 +15,14 @@ use Rattle.lrat_rules.specs.State.{State, Live, clause_at, without_clauses}
 use Rattle.lrat_rules.specs.Derivation.{are_added}
 use Rattle.node_table.specs.declared.node.Branch.{Branch}
 use Rattle.node_table.specs.Diagram.{Graph, branch_at}
-use Rattle.node_table.specs.Defined.{IsDefined, clause_named, defs_of, hd_first, is_defined_by, is_false_node, is_given, is_true_node, ld_first, lu_first}
+use Rattle.node_table.specs.Defined.{IsDefined, clause_named, defs_of, hd_first, is_defined_by, is_false_node, is_given, is_true_node}
+use Rattle.node_table.specs.Defined.{ld_first, lu_first}
 use Rattle.node_table.specs.Tied.{IsTied, AreRetired}
 use Rattle.node_table.proofs.Retired.{not_member}
 
 removed_at : (live : Live) (id other : ℕ) → clause_at (map.remove live id) other ≡ cond (nat_eq other id) None (clause_at live other)
-removed_at live id other = map.get-remove nat_cmp_total live id other ∙ ap (λ b. cond b None (clause_at live other)) (unsigned_tied other id)
+removed_at live id other = map.get-remove nat_cmp_total live id other
+    ∙ ap (λ b. cond b None (clause_at live other)) (unsigned_tied other id)
 
 removed_other : (live : Live) (id other : ℕ) → other ≢ id → clause_at (map.remove live id) other ≡ clause_at live other
 removed_other live id other differ = removed_at live id other ∙ ap (λ b. cond b None (clause_at live other)) (ne_eqb other id differ)
@@ -28,12 +31,15 @@ removed_here : (live : Live) (id other : ℕ) → other ≡ id → clause_at (ma
 removed_here live id other same = removed_at live id other ∙ ap (λ b. cond b None (clause_at live other)) (eq-eqb other id same)
 
 -- what isn't among the numbers stays
-pub stays_without : (live : Live) (ids : List ℕ) (other : ℕ) → is_member nat_eq ids other ≡ false → clause_at (without_clauses live ids) other ≡ clause_at live other
+pub stays_without : (live : Live) (ids : List ℕ) (other : ℕ) → is_member nat_eq ids other ≡ false
+    → clause_at (without_clauses live ids) other ≡ clause_at live other
 stays_without live [] other none = refl
 stays_without live (id ∷ ids) other none =
     elim (cases_eq other id) [
-      | inl same ↦ absurd (let e : true ≡ false = sym (or_left (nat_eq other id) (is_member nat_eq ids other) (eq-eqb other id same)) ∙ none in cc)
-      | inr differ ↦ stays_without (map.remove live id) ids other (sym (ap (λ b. b || is_member nat_eq ids other) (ne_eqb other id differ)) ∙ none) ∙ removed_other live id other differ
+      | inl same ↦ absurd (let e : true ≡ false = sym (or_left (nat_eq other id) (is_member nat_eq ids other) (eq-eqb other id same))
+          ∙ none in cc)
+      | inr differ ↦ stays_without (map.remove live id) ids other (sym (ap (λ b. b || is_member nat_eq ids other) (ne_eqb other id differ))
+          ∙ none) ∙ removed_other live id other differ
     ]
 
 -- what isn't live doesn't come back
@@ -45,12 +51,14 @@ none_without live (id ∷ ids) other none =
       | inr differ ↦ removed_other live id other differ ∙ none
     ])
 
-pub gone_without : (live : Live) (ids : List ℕ) (other : ℕ) → is_member nat_eq ids other ≡ true → clause_at (without_clauses live ids) other ≡ None
+pub gone_without : (live : Live) (ids : List ℕ) (other : ℕ) → is_member nat_eq ids other ≡ true → clause_at (without_clauses live ids) other
+    ≡ None
 gone_without live [] other is = absurd (let e : false ≡ true = is in cc)
 gone_without live (id ∷ ids) other is =
     elim (cases_eq other id) [
       | inl same ↦ none_without (map.remove live id) ids other (removed_here live id other same)
-      | inr differ ↦ gone_without (map.remove live id) ids other (sym (ap (λ b. b || is_member nat_eq ids other) (ne_eqb other id differ)) ∙ is)
+      | inr differ ↦ gone_without (map.remove live id) ids other (sym (ap (λ b. b || is_member nat_eq ids other) (ne_eqb other id differ))
+          ∙ is)
     ]
 
 none_equal : (id : ℕ) (ids : List ℕ) → AllByRecursion (λ other. nat_eq id other ≡ false) ids → is_member nat_eq ids id ≡ false
@@ -58,7 +66,8 @@ none_equal id [] all = refl
 none_equal id (other ∷ ids) all = ap (λ b. b || is_member nat_eq ids id) all.0 ∙ none_equal id ids all.1
 
 -- distinct numbers of live clauses above this one may be deleted
-pub may_delete : (count : ℕ) (live : Live) (ids : List ℕ) → IsDistinct nat_eq ids → ((id : ℕ) → is_member nat_eq ids id ≡ true → (count < id) × (is_some (clause_at live id) ≡ true))
+pub may_delete : (count : ℕ) (live : Live) (ids : List ℕ) → IsDistinct nat_eq ids
+    → ((id : ℕ) → is_member nat_eq ids id ≡ true → (count < id) × (is_some (clause_at live id) ≡ true))
     → are_added count live ids ≡ true
 unfolding IsDistinct
 may_delete count live [] once each = refl
@@ -83,8 +92,10 @@ pub settled_gone : (live : Live) (retired : List ℕ) (id : ℕ) → Contains re
 settled_gone live retired id among = gone_without live retired id (list_any-from_Contains nat_eq_equiv id retired among)
 
 -- A node whose clauses stay under their numbers is still defined.
-module _ (graph : Graph) (old new : Live) (b : Branch) (stay : (id : ℕ) → is_defined_by (defs_of b) id ≡ true → clause_at new id ≡ clause_at old id) where
-  stays_given : (given : Bool) (own : ℕ) → (is_given (given_if given own) own ≡ true → is_defined_by (defs_of b) own ≡ true) → clause_named new (given_if given own) ≡ clause_named old (given_if given own)
+module _ (graph : Graph) (old new : Live) (b : Branch) (stay : (id : ℕ) → is_defined_by (defs_of b) id ≡ true → clause_at new id
+    ≡ clause_at old id) where
+  stays_given : (given : Bool) (own : ℕ) → (is_given (given_if given own) own ≡ true → is_defined_by (defs_of b) own ≡ true)
+      → clause_named new (given_if given own) ≡ clause_named old (given_if given own)
   stays_given true own by = stay own (by (eq-eqb own own refl))
   stays_given false own by = refl
 
@@ -95,16 +106,21 @@ module _ (graph : Graph) (old new : Live) (b : Branch) (stay : (id : ℕ) → is
       let three : ℕ → Bool = λ id. is_given (defs_of b).hd id in
       let four : ℕ → Bool = λ id. is_given (defs_of b).ld id in
       record {
-        hu = stays_given (not (is_false_node b.high)) b.first (λ is. or_left ((one b.first || two b.first) || three b.first) (four b.first) (or_left (one b.first || two b.first) (three b.first) (or_left (one b.first) (two b.first) is))) ∙ defined.hu;
+        hu = stays_given (not (is_false_node b.high)) b.first (λ is. or_left ((one b.first || two b.first)
+            || three b.first) (four b.first) (or_left (one b.first
+            || two b.first) (three b.first) (or_left (one b.first) (two b.first) is))) ∙ defined.hu;
         lu = (let n = lu_first b.high b.first in
-            stays_given (not (is_false_node b.low)) n (λ is. or_left ((one n || two n) || three n) (four n) (or_left (one n || two n) (three n) (or_right (one n) (two n) is)))) ∙ defined.lu;
+            stays_given (not (is_false_node b.low)) n (λ is. or_left ((one n || two n)
+            || three n) (four n) (or_left (one n || two n) (three n) (or_right (one n) (two n) is)))) ∙ defined.lu;
         hd = (let n = hd_first b.high b.low b.first in
-            stays_given (not (is_true_node b.high)) n (λ is. or_left ((one n || two n) || three n) (four n) (or_right (one n || two n) (three n) is))) ∙ defined.hd;
+            stays_given (not (is_true_node b.high)) n (λ is. or_left ((one n || two n)
+            || three n) (four n) (or_right (one n || two n) (three n) is))) ∙ defined.hd;
         ld = (let n = ld_first b.high b.low b.first in
             stays_given (not (is_true_node b.low)) n (λ is. or_right ((one n || two n) || three n) (four n) is)) ∙ defined.ld;
       }
 
-module _ (graph : Graph) (state : State) (inputs : ℕ) (retired : List ℕ) (tied : IsTied graph state) (are : AreRetired graph state.live inputs retired) where
+module _ (graph : Graph) (state : State) (inputs : ℕ) (retired : List ℕ) (tied : IsTied graph state)
+    (are : AreRetired graph state.live inputs retired) where
   abbrev pub settled : State
   settled = record { live = without_clauses state.live retired; top = state.top }
 
@@ -121,7 +137,8 @@ module _ (graph : Graph) (state : State) (inputs : ℕ) (retired : List ℕ) (ti
 
   settled_defined : (key : ℕ) (b : Branch) → branch_at graph key ≡ Some b → IsDefined settled.live graph b
   settled_defined key b at = IsDefined-stays graph state.live settled.live b
-      (λ id own. settled_stays id (λ among. (let e : false ≡ true = sym ((are.each id among).defines_none key b at) ∙ own in cc))) (tied.defined key b at)
+      (λ id own. settled_stays id (λ among. (let e : false ≡ true = sym ((are.each id among).defines_none key b at) ∙ own in cc)))
+      (tied.defined key b at)
 
   pub settled_tied : IsTied graph settled
   settled_tied = record {

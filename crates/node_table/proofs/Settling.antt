@@ -15,8 +15,10 @@ use Rattle.node_table.proofs.Retired.{AreRetired-none}
 use Rattle.node_table.proofs.Since.{ComesSince-fewer}
 use Rattle.node_table.proofs.Settled.{retired_added, settled_tied, settled_was}
 
-module _ {S : Type 0} (tells : Bool) (channel : S → Channel) (aside : Aside) (graph : Graph) (old new : Book S) (sound : IsSound (table_of aside graph old))
-    (state : new.state ≡ without_retired (table_of aside graph old)) (limit : new.limit ≡ old.limit) (writes : OnlyWrites (channel old.sink) (channel new.sink)) where
+module _ {S : Type 0} (tells : Bool) (channel : S → Channel) (aside : Aside) (graph : Graph) (old new : Book S)
+    (sound : IsSound (table_of aside graph old))
+    (state : new.state ≡ without_retired (table_of aside graph old)) (limit : new.limit
+    ≡ old.limit) (writes : OnlyWrites (channel old.sink) (channel new.sink)) where
   -- the table once the retired clauses are deleted
   abbrev rest : Aside
   rest = record { max_nodes = aside.max_nodes; inputs = aside.inputs; retired = [] }
@@ -26,10 +28,12 @@ module _ {S : Type 0} (tells : Bool) (channel : S → Channel) (aside : Aside) (
 
   -- what is still live was live
   was : KeepsClauses new.state.live old.state.live
-  was id clause is = settled_was graph old.state aside.inputs aside.retired sound.tied sound.retired id clause (sym (ap (λ (s : State). clause_at s.live id) state) ∙ is)
+  was id clause is = settled_was graph old.state aside.inputs aside.retired sound.tied sound.retired id clause
+      (sym (ap (λ (s : State). clause_at s.live id) state) ∙ is)
 
   pub settled_on : IsTrue new.in_step
-      → ((clauses : List (List ℤ)) → IsProofOf clauses tells (channel old.sink) old.state → are_added (length clauses) old.state.live aside.retired ≡ true → IsProofOf clauses tells (channel new.sink) new.state)
+      → ((clauses : List (List ℤ)) → IsProofOf clauses tells (channel old.sink) old.state
+      → are_added (length clauses) old.state.live aside.retired ≡ true → IsProofOf clauses tells (channel new.sink) new.state)
       → (channel new.sink).faults ≡ (channel old.sink).faults
       → Continues tells (channel old.sink) (channel new.sink) (table_of aside graph old) (table_of rest graph new)
   settled_on in_step kept unfailed = record {
@@ -41,7 +45,8 @@ module _ {S : Type 0} (tells : Bool) (channel : S → Channel) (aside : Aside) (
     };
     order = refl;
     inputs = refl;
-    kept = λ clauses few proof. kept clauses proof (retired_added graph old.state.live aside.inputs aside.retired sound.retired (length clauses) few);
+    kept = λ clauses few proof. kept clauses proof (retired_added graph old.state.live aside.inputs aside.retired sound.retired
+        (length clauses) few);
     max_nodes = refl;
     limit = limit;
     no_less = omega (arith, top);
@@ -52,7 +57,8 @@ module _ {S : Type 0} (tells : Bool) (channel : S → Channel) (aside : Aside) (
   }
 
   pub settled_torn : IsTorn tells (channel old.sink) (channel new.sink) (deletion_line old.state aside.retired)
-      → ((clauses : List (List ℤ)) → IsProofOf clauses tells (channel old.sink) old.state → are_added (length clauses) old.state.live aside.retired ≡ true → IsTrue tells
+      → ((clauses : List (List ℤ)) → IsProofOf clauses tells (channel old.sink) old.state
+      → are_added (length clauses) old.state.live aside.retired ≡ true → IsTrue tells
       → IsCutProof clauses (channel new.sink).written old.state new.state)
       → new.in_step ≡ false → FewerInUse → live_nodes graph ≤ aside.max_nodes
       → BreaksOff tells (channel old.sink) (channel new.sink) (table_of aside graph old) (table_of aside graph new)
@@ -63,7 +69,8 @@ module _ {S : Type 0} (tells : Bool) (channel : S → Channel) (aside : Aside) (
         rose = torn.rose;
         cut = λ clauses few_clauses proof told. record {
           before = old.state;
-          cut = cut clauses proof (retired_added graph old.state.live aside.inputs aside.retired sound.retired (length clauses) few_clauses) told;
+          cut = cut clauses proof (retired_added graph old.state.live aside.inputs aside.retired sound.retired
+              (length clauses) few_clauses) told;
           no_less = omega (arith, top);
           from = omega arith;
           since = ComesSince-fewer old.state old.state (λ id clause is. is);

@@ -20,7 +20,8 @@ ComesSince-grown old new grows id clause is = elim (grows.gives.next id (let e :
 pub ComesSince-fewer : (old new : State) → KeepsClauses new.live old.live → ComesSince old new
 ComesSince-fewer old new among id clause is = inl (among id clause is)
 
-pub ComesSince-further : (old mid new : State) → old.top ≤ mid.top → mid.top ≤ new.top → ComesSince old mid → ComesSince mid new → ComesSince old new
+pub ComesSince-further : (old mid new : State) → old.top ≤ mid.top → mid.top ≤ new.top → ComesSince old mid → ComesSince mid new
+    → ComesSince old new
 ComesSince-further old mid new less more before after id clause is = elim (after id clause is) [
   | inl there ↦
       elim (before id clause there) [

@@ -1,6 +1,7 @@
 -- What is live once the clauses that define a new node were written: what was live before, and each of them under its
 -- number.
-use Rattle.std.proofs.Common.{◌≡◌, ℕ, ◌+◌, ◌<◌, ◌≤◌, true, false, ◌||◌, ℤ, List, [], ◌∷◌, Option, None, Some, is_some, cond, refl, sym, ap, ◌∙◌, subst, arith, inl, inr, ◌⊎◌, eq-eqb, ne_eqb}
+use Rattle.std.proofs.Common.{◌≡◌, ℕ, ◌+◌, ◌<◌, ◌≤◌, true, false, ◌||◌, ℤ, List, [], ◌∷◌, Option, None, Some, is_some, cond, refl, sym, ap}
+use Rattle.std.proofs.Common.{◌∙◌, subst, arith, inl, inr, ◌⊎◌, eq-eqb, ne_eqb}
 use Rattle.std.specs.Prelude.{◌==◌, nat_abs}
 use Rattle.std.specs.Option.{option_map}
 use Rattle.std.specs.List.{list_any}
@@ -29,21 +30,27 @@ pub record Grows (old new : State) : Type 0 where
   pub gives : GivesNumbers old new
   pub numbers : AreNumbers new
 
-clause_at-next : (state : State) (clause : List ℤ) (id : ℕ) → clause_at (with_next state clause).live id ≡ cond (id == state.top + 1) (Some clause) (clause_at state.live id)
-clause_at-next state clause id = map.get-insert nat_cmp_total state.live (state.top + 1) clause id ∙ ap (λ b. cond b (Some clause) (clause_at state.live id)) (unsigned_tied id (state.top + 1))
+clause_at-next : (state : State) (clause : List ℤ) (id : ℕ) → clause_at (with_next state clause).live id
+    ≡ cond (id == state.top + 1) (Some clause) (clause_at state.live id)
+clause_at-next state clause id = map.get-insert nat_cmp_total state.live (state.top + 1) clause id
+    ∙ ap (λ b. cond b (Some clause) (clause_at state.live id)) (unsigned_tied id (state.top + 1))
 
 pub at_next : (state : State) (clause : List ℤ) → clause_at (with_next state clause).live (state.top + 1) ≡ Some clause
-at_next state clause = clause_at-next state clause (state.top + 1) ∙ ap (λ b. cond b (Some clause) (clause_at state.live (state.top + 1))) (eq-eqb (state.top + 1) (state.top + 1) refl)
+at_next state clause = clause_at-next state clause (state.top + 1)
+    ∙ ap (λ b. cond b (Some clause) (clause_at state.live (state.top + 1))) (eq-eqb (state.top + 1) (state.top + 1) refl)
 
-at_other : (state : State) (clause : List ℤ) (id : ℕ) → (id ≡ state.top + 1 → ⊥) → clause_at (with_next state clause).live id ≡ clause_at state.live id
-at_other state clause id differ = clause_at-next state clause id ∙ ap (λ b. cond b (Some clause) (clause_at state.live id)) (ne_eqb id (state.top + 1) differ)
+at_other : (state : State) (clause : List ℤ) (id : ℕ) → (id ≡ state.top + 1 → ⊥) → clause_at (with_next state clause).live id
+    ≡ clause_at state.live id
+at_other state clause id differ = clause_at-next state clause id
+    ∙ ap (λ b. cond b (Some clause) (clause_at state.live id)) (ne_eqb id (state.top + 1) differ)
 
 -- a live clause is the new one, or was live before
 pub next_cases : (state : State) (clause : List ℤ) (id : ℕ) (found : List ℤ) → clause_at (with_next state clause).live id ≡ Some found
     → ((id ≡ state.top + 1) × (found ≡ clause)) ⊎ (clause_at state.live id ≡ Some found)
 next_cases state clause id found is =
     elim (cases_eq id (state.top + 1)) [
-      | inl same ↦ let here : Some clause ≡ Some found = sym (at_next state clause) ∙ ap (clause_at (with_next state clause).live) (sym same) ∙ is in inl (same, cc)
+      | inl same ↦ let here : Some clause ≡ Some found = sym (at_next state clause)
+          ∙ ap (clause_at (with_next state clause).live) (sym same) ∙ is in inl (same, cc)
       | inr differ ↦ inr (sym (at_other state clause id differ) ∙ is)
     ]
 
@@ -89,7 +96,8 @@ Grows-then a b c one two = record {
       | inr above ↦ inr (omega (arith, above, one.gives.no_less))
     ];
     each = λ id above within. elim (cases_lt b.top id) [
-      | inr early ↦ let found = is_some-of (clause_at b.live id) (one.gives.each id above early) in ap is_some (two.clauses id found.0 found.1)
+      | inr early ↦ let found = is_some-of (clause_at b.live id) (one.gives.each id above early) in
+          ap is_some (two.clauses id found.0 found.1)
       | inl late ↦ two.gives.each id late within
     ];
   };
@@ -102,14 +110,16 @@ Grows-some state (Some clause) numbers = Grows-next state clause numbers
 
 -- one clause more behind others, if there is one
 pub Grows-reached : (state later last : State) (o : Option (List ℤ)) → Grows state later → last ≡ with_some later o → Grows state last
-Grows-reached state later last o so_far is = subst (Grows state) (sym is) (Grows-then state later (with_some later o) so_far (Grows-some later o so_far.numbers))
+Grows-reached state later last o so_far is = subst (Grows state) (sym is)
+    (Grows-then state later (with_some later o) so_far (Grows-some later o so_far.numbers))
 
 -- the clause stands under the next number
 named_some : (state : State) (o : Option (List ℤ)) → clause_named (with_some state o).live (given_if (is_some o) (state.top + 1)) ≡ o
 named_some state None = refl
 named_some state (Some clause) = at_next state clause
 
-named_kept : (old new : Live) → KeepsClauses old new → (o : Option (List ℤ)) (id : ℕ) → clause_named old (given_if (is_some o) id) ≡ o → clause_named new (given_if (is_some o) id) ≡ o
+named_kept : (old new : Live) → KeepsClauses old new → (o : Option (List ℤ)) (id : ℕ) → clause_named old (given_if (is_some o) id) ≡ o
+    → clause_named new (given_if (is_some o) id) ≡ o
 named_kept old new keeps None id is = refl
 named_kept old new keeps (Some clause) id is = keeps id clause is
 
@@ -125,7 +135,8 @@ pub record FourStand (state : State) (a b c d : Option (List ℤ)) (new : State)
   pub three : clause_named new.live (given_if (is_some c) (state.top + 1 + one_if (is_some a) + one_if (is_some b))) ≡ c
   pub four : clause_named new.live (given_if (is_some d) (state.top + 1 + one_if (is_some a) + one_if (is_some b) + one_if (is_some c))) ≡ d
 
-pub four_stand : (state : State) → AreNumbers state → (a b c d : Option (List ℤ)) → FourStand state a b c d (with_some (with_some (with_some (with_some state a) b) c) d)
+pub four_stand : (state : State) → AreNumbers state → (a b c d : Option (List ℤ))
+    → FourStand state a b c d (with_some (with_some (with_some (with_some state a) b) c) d)
 four_stand state numbers a b c d =
     let s1 = with_some state a in
     let s2 = with_some s1 b in
@@ -139,17 +150,21 @@ four_stand state numbers a b c d =
     let g234 = Grows-then s1 s2 s4 g2 g34 in
     let t1 : s1.top + 1 ≡ state.top + 1 + one_if (is_some a) = omega (arith, top_some state a) in
     let t2 : s2.top + 1 ≡ state.top + 1 + one_if (is_some a) + one_if (is_some b) = omega (arith, top_some state a, top_some s1 b) in
-    let t3 : s3.top + 1 ≡ state.top + 1 + one_if (is_some a) + one_if (is_some b) + one_if (is_some c) = omega (arith, top_some state a, top_some s1 b, top_some s2 c) in
+    let t3 : s3.top + 1 ≡ state.top + 1 + one_if (is_some a) + one_if (is_some b)
+    + one_if (is_some c) = omega (arith, top_some state a, top_some s1 b, top_some s2 c) in
     record {
       grows = Grows-then state s1 s4 g1 g234;
       one = named_kept s1.live s4.live g234.clauses a (state.top + 1) (named_some state a);
-      two = subst (λ (n : ℕ). clause_named s4.live (given_if (is_some b) n) ≡ b) t1 (named_kept s2.live s4.live g34.clauses b (s1.top + 1) (named_some s1 b));
-      three = subst (λ (n : ℕ). clause_named s4.live (given_if (is_some c) n) ≡ c) t2 (named_kept s3.live s4.live g4.clauses c (s2.top + 1) (named_some s2 c));
+      two = subst (λ (n : ℕ). clause_named s4.live (given_if (is_some b) n)
+          ≡ b) t1 (named_kept s2.live s4.live g34.clauses b (s1.top + 1) (named_some s1 b));
+      three = subst (λ (n : ℕ). clause_named s4.live (given_if (is_some c) n)
+          ≡ c) t2 (named_kept s3.live s4.live g4.clauses c (s2.top + 1) (named_some s2 c));
       four = subst (λ (n : ℕ). clause_named s4.live (given_if (is_some d) n) ≡ d) t3 (named_some s3 d);
     }
 
 -- what holds of the clauses before and of each one written holds of all
-pub each_some : (P : List ℤ → Type 0) (state : State) (o : Option (List ℤ)) → ((clause : List ℤ) → o ≡ Some clause → P clause) → ((id : ℕ) (clause : List ℤ) → clause_at state.live id ≡ Some clause → P clause)
+pub each_some : (P : List ℤ → Type 0) (state : State) (o : Option (List ℤ)) → ((clause : List ℤ) → o ≡ Some clause → P clause)
+    → ((id : ℕ) (clause : List ℤ) → clause_at state.live id ≡ Some clause → P clause)
     → (id : ℕ) (clause : List ℤ) → clause_at (with_some state o).live id ≡ Some clause → P clause
 each_some P state None new old id clause is = old id clause is
 each_some P state (Some made) new old id clause is =
@@ -166,11 +181,13 @@ abbrev pub AreOver : Graph → List Atom → Type 0
 AreOver graph [] = Unit {0}
 AreOver graph (atom ∷ atoms) = IsOverAtom graph atom × AreOver graph atoms
 
-rest_of : (o : Option (List ℤ)) (literal : ℤ) (clause : List ℤ) → option_map (λ literals. literal ∷ literals) o ≡ Some clause → (rest : List ℤ) × (o ≡ Some rest) × (clause ≡ literal ∷ rest)
+rest_of : (o : Option (List ℤ)) (literal : ℤ) (clause : List ℤ) → option_map (λ literals. literal ∷ literals) o ≡ Some clause
+    → (rest : List ℤ) × (o ≡ Some rest) × (clause ≡ literal ∷ rest)
 rest_of None literal clause is = absurd (let e : None ≡ Some clause = is in cc)
 rest_of (Some rest) literal clause is = (rest, refl, (let e : Some (literal ∷ rest) ≡ Some clause = is in cc))
 
-pub over_clause : (graph : Graph) (atoms : List Atom) → AreOver graph atoms → (clause : List ℤ) → clause_of atoms ≡ Some clause → IsOverNodes graph clause
+pub over_clause : (graph : Graph) (atoms : List Atom) → AreOver graph atoms → (clause : List ℤ) → clause_of atoms ≡ Some clause
+    → IsOverNodes graph clause
 over_clause graph [] over clause is = λ literal among above.
     let empty : clause ≡ [] = (let e : Some [] ≡ Some clause = is in cc) in
     absurd (let e : false ≡ true = ap (λ (xs : List ℤ). list_any (int_eq literal) xs) (sym empty) ∙ among in cc)
@@ -178,8 +195,10 @@ over_clause graph (Always ∷ atoms) over clause is = absurd (let e : None ≡ S
 over_clause graph (Never ∷ atoms) over clause is = over_clause graph atoms over.1 clause is
 over_clause graph (Of own ∷ atoms) over clause is = λ literal among above.
     let rest = rest_of (clause_of atoms) own clause is in
-    let parts : (int_eq literal own || list_any (int_eq literal) rest.0) ≡ true = ap (λ (xs : List ℤ). list_any (int_eq literal) xs) (sym rest.2) ∙ among in
+    let parts : (int_eq literal own || list_any (int_eq literal) rest.0)
+    ≡ true = ap (λ (xs : List ℤ). list_any (int_eq literal) xs) (sym rest.2) ∙ among in
     elim (or_cases (int_eq literal own) (list_any (int_eq literal) rest.0) parts) [
-      | inl here ↦ let same : literal ≡ own = (Decides-int_eq literal own).0 here in subst (λ (n : ℤ). IsOwned graph (nat_abs n)) (sym same) (over.0 own refl (subst (λ (n : ℤ). levels graph < nat_abs n) same above))
+      | inl here ↦ let same : literal ≡ own = (Decides-int_eq literal own).0 here in
+          subst (λ (n : ℤ). IsOwned graph (nat_abs n)) (sym same) (over.0 own refl (subst (λ (n : ℤ). levels graph < nat_abs n) same above))
       | inr there ↦ over_clause graph atoms over.1 rest.0 rest.1 literal there above
     ]

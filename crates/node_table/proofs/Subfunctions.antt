@@ -49,21 +49,28 @@ deeper : (level : ℕ) (choice : Bool) (a : Levels) (i : ℕ) → level + 1 ≤ 
 deeper level choice a i below = grind (arith, nat_tests, below)
 
 module _ (graph : Graph) (reduced : IsReduced graph) (level : ℕ) where
-  unseen : (choice : Bool) (a : Levels) (node : Node) → IsBelow graph level node → value_of graph a node ≡ value_of graph (down_to level choice a) node
-  unseen choice a node below = value-agree graph reduced a (down_to level choice a) node below.stands (λ i further. deeper level choice a i (omega (arith, below.below, further)))
+  unseen : (choice : Bool) (a : Levels) (node : Node) → IsBelow graph level node → value_of graph a node
+      ≡ value_of graph (down_to level choice a) node
+  unseen choice a node below = value-agree graph reduced a (down_to level choice a) node below.stands
+      (λ i further. deeper level choice a i (omega (arith, below.below, further)))
 
   module _ (node : Node) (is : is_node graph node ≡ true) (not_above : level ≤ level_of graph node) (small : level < levels graph) where
-    pub value-high_at : (a : Levels) → value_of graph a (high_at graph level node) ≡ value_of graph (fixed_to (level + 1) (λ i. true) a) node
+    pub value-high_at : (a : Levels) → value_of graph a (high_at graph level node)
+        ≡ value_of graph (fixed_to (level + 1) (λ i. true) a) node
     value-high_at a =
         let fixed = down_to level true a in
         unseen true a (high_at graph level node) (cofactors-below graph reduced level node is not_above small).0
-        ∙ sym (value-split graph reduced fixed level node is ∙ ap (λ t. if t then value_of graph fixed (high_at graph level node) else value_of graph fixed (low_at graph level node)) (here level true a))
+        ∙ sym (value-split graph reduced fixed level node is ∙ ap
+        (λ t. if t then value_of graph fixed (high_at graph level node) else value_of graph fixed (low_at graph level node))
+        (here level true a))
 
     pub value-low_at : (a : Levels) → value_of graph a (low_at graph level node) ≡ value_of graph (fixed_to (level + 1) (λ i. false) a) node
     value-low_at a =
         let fixed = down_to level false a in
         unseen false a (low_at graph level node) (cofactors-below graph reduced level node is not_above small).1
-        ∙ sym (value-split graph reduced fixed level node is ∙ ap (λ t. if t then value_of graph fixed (high_at graph level node) else value_of graph fixed (low_at graph level node)) (here level false a))
+        ∙ sym (value-split graph reduced fixed level node is ∙ ap
+        (λ t. if t then value_of graph fixed (high_at graph level node) else value_of graph fixed (low_at graph level node))
+        (here level false a))
 
     pub Subfunction-high_at : IsSubfunction (λ a. value_of graph a node) (λ a. value_of graph a (high_at graph level node))
     Subfunction-high_at = record { level = level + 1; fixed = λ i. true; same = value-high_at }
@@ -76,7 +83,8 @@ pub MakesOnly-same : (graph : Graph) (f : Levels → Bool) → MakesOnly graph g
 MakesOnly-same graph f = record { each = λ key b at. inl at }
 
 -- one call after another
-pub MakesOnly-further : (old mid new : Graph) → IsReduced mid → KeepsNodes mid new → (f : Levels → Bool) → MakesOnly old mid f → MakesOnly mid new f → MakesOnly old new f
+pub MakesOnly-further : (old mid new : Graph) → IsReduced mid → KeepsNodes mid new → (f : Levels → Bool) → MakesOnly old mid f
+    → MakesOnly mid new f → MakesOnly old new f
 MakesOnly-further old mid new reduced keeps f first second = record {
   each = λ key b at. elim (second.each key b at) [
     | inr own ↦ inr own

@@ -1,6 +1,7 @@
 -- What a sweep leaves: the nodes that stay were the old graph's, so this one keeps those of the new one, and all that a
 -- graph that grows says holds from the new one to the old one.
-use Rattle.std.proofs.Common.{◌≡◌, ◌↔◌, ℕ, Bool, true, false, List, [], ◌∷◌, length, Option, None, Some, is_some, refl, sym, ap, ◌∙◌, subst, arith}
+use Rattle.std.proofs.Common.{◌≡◌, ◌↔◌, ℕ, Bool, true, false, List, [], ◌∷◌, length, Option, None, Some, is_some, refl, sym, ap, ◌∙◌, subst}
+use Rattle.std.proofs.Common.{arith}
 use Rattle.std.specs.Prelude.{if◌then◌else◌}
 use Rattle.node_table.specs.declared.node.Node.{Node}
 use Rattle.node_table.specs.declared.node.Node.TheVariants.{False, True, Inner}
@@ -21,11 +22,14 @@ module _ (old new : Graph) (marks : List Bool) (are : AreMarks old marks) (swept
   branch_at_marked key is = swept.nodes key ∙ ap (λ b. if b then branch_at old key else None) is
 
   -- a node that is left is marked, and was there
-  pub left_marked : (key : ℕ) (branch : Branch) → branch_at new key ≡ Some branch → (is_marked marks (inner key) ≡ true) × (branch_at old key ≡ Some branch)
+  pub left_marked : (key : ℕ) (branch : Branch) → branch_at new key ≡ Some branch → (is_marked marks (inner key) ≡ true)
+      × (branch_at old key ≡ Some branch)
   left_marked key branch at =
-      elim (is_marked marks (inner key)) as (λ b. is_marked marks (inner key) ≡ b → (is_marked marks (inner key) ≡ true) × (branch_at old key ≡ Some branch)) [
+      elim (is_marked marks (inner key)) as (λ b. is_marked marks (inner key) ≡ b → (is_marked marks (inner key) ≡ true)
+      × (branch_at old key ≡ Some branch)) [
         | true ↦ λ is. (is, sym (branch_at_marked key is) ∙ at)
-        | false ↦ λ is. absurd (let none : branch_at new key ≡ None = swept.nodes key ∙ ap (λ b. if b then branch_at old key else None) is in cc)
+        | false ↦ λ is. absurd (let none : branch_at new key ≡ None = swept.nodes key
+            ∙ ap (λ b. if b then branch_at old key else None) is in cc)
       ] refl
 
   pub KeepsNodes-swept : KeepsNodes new old
@@ -48,7 +52,8 @@ module _ (old new : Graph) (marks : List Bool) (are : AreMarks old marks) (swept
   atom_of_swept node is = sym (atom_of-from new old node (KeepsFrom-all new old KeepsNodes-swept node) (stands_swept node is))
 
   pub node_swept : (node : Node) → is_marked marks node ≡ true
-      → (is_node new node ≡ true) × (branch_of new node ≡ branch_of old node) × (level_of new node ≡ level_of old node) × (atom_of new node ≡ atom_of old node)
+      → (is_node new node ≡ true) × (branch_of new node ≡ branch_of old node) × (level_of new node ≡ level_of old node)
+      × (atom_of new node ≡ atom_of old node)
   node_swept node is = (stands_swept node is, branch_of_swept node is, level_of_swept node is, atom_of_swept node is)
 
   below_swept : (level : ℕ) (node : Node) → is_marked marks node ≡ true → IsBelow old level node → IsBelow new level node
@@ -80,7 +85,8 @@ module _ (old new : Graph) (marks : List Bool) (are : AreMarks old marks) (swept
   value_swept reduced a node is = sym (value-kept new old (reduced_swept reduced) KeepsNodes-swept a node (stands_swept node is))
 
   -- the children of a marked node are marked, and so is all that it reaches
-  child_marked : (to_high : Bool) (node : Node) → is_marked marks node ≡ true → is_marked marks (child_of to_high node (branch_of old node)) ≡ true
+  child_marked : (to_high : Bool) (node : Node) → is_marked marks node ≡ true → is_marked marks (child_of to_high node (branch_of old node))
+      ≡ true
   child_marked to_high False is = refl
   child_marked to_high True is = refl
   child_marked to_high (Inner key) is =
@@ -89,7 +95,8 @@ module _ (old new : Graph) (marks : List Bool) (are : AreMarks old marks) (swept
         | Some b ↦ λ at. one_marked to_high b.high b.low (are.high key.index b is at) (are.low key.index b is at)
       ] refl
     where
-      one_marked : (to_high : Bool) (high low : Node) → is_marked marks high ≡ true → is_marked marks low ≡ true → is_marked marks (if to_high then high else low) ≡ true
+      one_marked : (to_high : Bool) (high low : Node) → is_marked marks high ≡ true → is_marked marks low ≡ true
+          → is_marked marks (if to_high then high else low) ≡ true
       one_marked true high low first second = first
       one_marked false high low first second = second
 

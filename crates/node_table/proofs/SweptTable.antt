@@ -1,6 +1,7 @@
 -- What a table is once the nodes that aren't marked went with the clauses that define them: those that stay are tied to the
 -- live clauses that are left.
-use Rattle.std.proofs.Common.{◌≡◌, ◌<◌, ◌≤◌, ◌∙◌, ℕ, Bool, true, false, ℤ, pos, List, length, Option, None, Some, is_some, refl, sym, ap, subst, arith}
+use Rattle.std.proofs.Common.{◌≡◌, ◌<◌, ◌≤◌, ◌∙◌, ℕ, Bool, true, false, ℤ, pos, List, length, Option, None, Some, is_some, refl, sym, ap}
+use Rattle.std.proofs.Common.{subst, arith}
 use Rattle.std.specs.Prelude.{IsTrue, nat_abs, slice_index_or}
 use Rattle.std.specs.List.{list_any}
 use Rattle.std.specs.Ordering.{int_eq}
@@ -44,13 +45,15 @@ pub record AreLeft (graph : Graph) (marks : List Bool) (old new : State) : Type 
   pub among : KeepsClauses new.live old.live
   pub top : new.top ≡ old.top
 
-module _ (graph later : Graph) (marks : List Bool) (are : AreMarks graph marks) (swept : IsSwept graph later marks) (old new : State) (tied : IsTied graph old) (left : AreLeft graph marks old new) where
+module _ (graph later : Graph) (marks : List Bool) (are : AreMarks graph marks) (swept : IsSwept graph later marks) (old new : State)
+    (tied : IsTied graph old) (left : AreLeft graph marks old new) where
   -- a node that stays was there
   was_there : (key : ℕ) (b : Branch) → branch_at later key ≡ Some b → branch_at graph key ≡ Some b
   was_there key b at = (left_marked graph later marks are swept key b at).1
 
   -- no clause of a marked node is one of an unmarked one
-  own_stays : (key : ℕ) (b : Branch) → branch_at graph key ≡ Some b → is_marked marks (inner key) ≡ true → (id : ℕ) → is_defined_by (defs_of b) id ≡ true → clause_at new.live id ≡ clause_at old.live id
+  own_stays : (key : ℕ) (b : Branch) → branch_at graph key ≡ Some b → is_marked marks (inner key) ≡ true → (id : ℕ)
+      → is_defined_by (defs_of b) id ≡ true → clause_at new.live id ≡ clause_at old.live id
   own_stays key b at marked id own =
       left.stay id (λ d.
       let same = same_owner graph marks old.live tied.reduced tied.defined d.key key id d.branch b d.stands at d.defines own in
@@ -60,9 +63,12 @@ module _ (graph later : Graph) (marks : List Bool) (are : AreMarks graph marks) 
   swept_defined key b at =
       let was = left_marked graph later marks are swept key b at in
       let d = IsDefined-stays graph old.live new.live b (own_stays key b was.1 was.0) (tied.defined key b was.1) in
-      let x : variable_at graph b.level ≡ variable_at later b.level = ap (λ (order : List ℕ). slice_index_or order b.level 0) (sym swept.order) in
-      let high : atom_of graph b.high ≡ atom_of later b.high = sym (atom_of_swept graph later marks are swept b.high (are.high key b was.0 was.1)) in
-      let low : atom_of graph b.low ≡ atom_of later b.low = sym (atom_of_swept graph later marks are swept b.low (are.low key b was.0 was.1)) in
+      let x : variable_at graph b.level ≡ variable_at later b.level = ap (λ (order : List ℕ). slice_index_or order b.level 0)
+      (sym swept.order) in
+      let high : atom_of graph b.high ≡ atom_of later b.high = sym
+      (atom_of_swept graph later marks are swept b.high (are.high key b was.0 was.1)) in
+      let low : atom_of graph b.low
+      ≡ atom_of later b.low = sym (atom_of_swept graph later marks are swept b.low (are.low key b was.0 was.1)) in
       let u = pos b.variable in
       record {
         hu = d.hu ∙ (λ i. clause_of (high_up u (pos (x i)) (high i)));
@@ -76,32 +82,50 @@ module _ (graph later : Graph) (marks : List Bool) (are : AreMarks graph marks) 
   defines_none id clause is d = let none : None ≡ Some clause = sym (left.gone id d) ∙ is in cc
 
   -- a clause that defines a node which stays is over the nodes that stay
-  marked_over : (id : ℕ) (clause : List ℤ) → clause_at new.live id ≡ Some clause → (key : ℕ) (b : Branch) → branch_at graph key ≡ Some b → is_marked marks (inner key) ≡ true
+  marked_over : (id : ℕ) (clause : List ℤ) → clause_at new.live id ≡ Some clause → (key : ℕ) (b : Branch) → branch_at graph key ≡ Some b
+      → is_marked marks (inner key) ≡ true
       → is_defined_by (defs_of b) id ≡ true → IsOverNodes later clause
   marked_over id clause is key b at marked own =
       let there : branch_at later key ≡ Some b = branch_at_marked graph later marks are swept key marked ∙ at in
-      definition_over later new.live (subst IsOrder (sym swept.order) tied.ordered) (reduced_swept graph later marks are swept tied.reduced) key b there (swept_defined key b there) id clause is own
+      definition_over later new.live (subst IsOrder (sym swept.order) tied.ordered)
+      (reduced_swept graph later marks are swept tied.reduced) key b there (swept_defined key b there) id clause is own
 
   -- a live clause that holds an unmarked node's extension variable defines no node
-  defines_other : (id : ℕ) (clause : List ℤ) → clause_at new.live id ≡ Some clause → (literal : ℤ) → list_any (int_eq literal) clause ≡ true → levels later < nat_abs literal
+  defines_other : (id : ℕ) (clause : List ℤ) → clause_at new.live id ≡ Some clause → (literal : ℤ) → list_any (int_eq literal) clause ≡ true
+      → levels later < nat_abs literal
       → (owned : IsOwned graph (nat_abs literal)) → is_marked marks (inner owned.key) ≡ false → Defines graph id → ⊥
   defines_other id clause is literal holds above owned unmarked d =
       elim (is_marked marks (inner d.key)) as (λ m. is_marked marks (inner d.key) ≡ m → ⊥) [
         | true ↦ λ marked.
             let other = marked_over id clause is d.key d.branch d.stands marked d.defines literal holds above in
             let there = left_marked graph later marks are swept other.key other.branch other.stands in
-            let same : other.key ≡ owned.key = tied.reduced.apart other.key owned.key other.branch owned.branch there.1 owned.stands (other.own ∙ sym owned.own) in
+            let same : other.key ≡ owned.key = tied.reduced.apart other.key owned.key other.branch owned.branch there.1 owned.stands
+            (other.own ∙ sym owned.own) in
             let e : true ≡ false = sym there.0 ∙ ap (λ k. is_marked marks (inner k)) same ∙ unmarked in cc
-        | false ↦ λ gone. defines_none id clause is (record { key = d.key; branch = d.branch; stands = d.stands; unmarked = gone; defines = d.defines })
+        | false ↦ λ gone. defines_none id clause is (record {
+          key = d.key;
+          branch = d.branch;
+          stands = d.stands;
+          unmarked = gone;
+          defines = d.defines;
+        })
       ] refl
 
   swept_over : AreClear graph marks old.live → (id : ℕ) (clause : List ℤ) → clause_at new.live id ≡ Some clause → IsOverNodes later clause
   swept_over clear id clause is literal holds above =
       let was = left.among id clause is in
-      let owned = tied.over_nodes id clause was literal holds (subst (λ (order : List ℕ). length order < nat_abs literal) swept.order above) in
+      let owned = tied.over_nodes id clause was literal holds (subst (λ (order : List ℕ). length order
+      < nat_abs literal) swept.order above) in
       elim (is_marked marks (inner owned.key)) as (λ b. is_marked marks (inner owned.key) ≡ b → IsOwned later (nat_abs literal)) [
-        | true ↦ λ marked. record { key = owned.key; branch = owned.branch; stands = branch_at_marked graph later marks are swept owned.key marked ∙ owned.stands; own = owned.own }
-        | false ↦ λ unmarked. absurd (clear id clause was (defines_other id clause is literal holds above owned unmarked) literal holds owned.key owned.branch owned.stands unmarked (sym owned.own))
+        | true ↦ λ marked. record {
+          key = owned.key;
+          branch = owned.branch;
+          stands = branch_at_marked graph later marks are swept owned.key marked ∙ owned.stands;
+          own = owned.own;
+        }
+        | false ↦ λ unmarked. absurd
+            (clear id clause was (defines_other id clause is literal holds above owned unmarked) literal holds owned.key owned.branch
+            owned.stands unmarked (sym owned.own))
       ] refl
 
   pub swept_tied : AreClear graph marks old.live → IsTied later new
@@ -117,8 +141,13 @@ module _ (graph later : Graph) (marks : List Bool) (are : AreMarks graph marks) 
   swept_retired inputs retired r = record {
     each = λ id listed.
         let own = r.each id listed in
-        let other : DefinesUnmarked graph marks id → ⊥ = λ d. (let e : true ≡ false = sym d.defines ∙ own.defines_none d.key d.branch d.stands in cc) in
-        record { stands = ap is_some (left.stay id other) ∙ own.stands; above = own.above; defines_none = λ key b at. own.defines_none key b (was_there key b at) };
+        let other : DefinesUnmarked graph marks id → ⊥ = λ d. (let e : true ≡ false = sym d.defines
+        ∙ own.defines_none d.key d.branch d.stands in cc) in
+        record {
+          stands = ap is_some (left.stay id other) ∙ own.stands;
+          above = own.above;
+          defines_none = λ key b at. own.defines_none key b (was_there key b at);
+        };
     once = r.once;
   }
 
@@ -129,23 +158,28 @@ module _ (graph later : Graph) (marks : List Bool) (are : AreMarks graph marks) 
       record {
         stands = ap is_some (left.among id found.0 found.1);
         above = own.above;
-        defines_none = λ key b at. elim (is_marked marks (inner key)) as (λ m. is_marked marks (inner key) ≡ m → is_defined_by (defs_of b) id ≡ false) [
-          | true ↦ λ marked. own.defines_none key b (branch_at_marked graph later marks are swept key marked ∙ at)
-          | false ↦ λ unmarked. false_from_ne_true (is_defined_by (defs_of b) id)
-              (λ d. defines_none id found.0 found.1 (record { key = key; branch = b; stands = at; unmarked = unmarked; defines = d }))
-        ] refl;
+        defines_none = λ key b at. elim (is_marked marks (inner key)) as (λ m. is_marked marks (inner key) ≡ m
+            → is_defined_by (defs_of b) id ≡ false) [
+              | true ↦ λ marked. own.defines_none key b (branch_at_marked graph later marks are swept key marked ∙ at)
+              | false ↦ λ unmarked. false_from_ne_true (is_defined_by (defs_of b) id)
+                  (λ d. defines_none id found.0 found.1 (record { key = key; branch = b; stands = at; unmarked = unmarked; defines = d }))
+            ] refl;
       }
 
-  pub swept_places : (inputs places capacity : ℕ) → HavePlaces graph old.live inputs places capacity → HavePlaces later new.live inputs places capacity
+  pub swept_places : (inputs places capacity : ℕ) → HavePlaces graph old.live inputs places capacity
+      → HavePlaces later new.live inputs places capacity
   swept_places inputs places capacity have = HavePlaces-same graph later old.live new.live inputs places capacity (was_added inputs) have
 
   pub swept_numbered : (inputs : ℕ) → AreNumberedAbove inputs graph → AreNumberedAbove inputs later
   swept_numbered inputs above key b at = above key b (was_there key b at)
 
-module _ {S : Type 0} (tells : Bool) (channel : S → Channel) (aside : Aside) (graph : Graph) (old new : Book S) (sound : IsSound (table_of aside graph old)) (above : AreNumberedAbove aside.inputs graph)
+module _ {S : Type 0} (tells : Bool) (channel : S → Channel) (aside : Aside) (graph : Graph) (old new : Book S)
+    (sound : IsSound (table_of aside graph old)) (above : AreNumberedAbove aside.inputs graph)
     (top : new.state.top ≡ old.state.top) (limit : new.limit ≡ old.limit) (writes : OnlyWrites (channel old.sink) (channel new.sink)) where
-  pub sweep_on : (later : Graph) (marks : List Bool) → AreMarks graph marks → IsSwept graph later marks → AreClear graph marks old.state.live → AreLeft graph marks old.state new.state → IsTrue new.in_step
-      → ((clauses : List (List ℤ)) → AreNumberedAbove (length clauses) graph → IsProofOf clauses tells (channel old.sink) old.state → IsProofOf clauses tells (channel new.sink) new.state)
+  pub sweep_on : (later : Graph) (marks : List Bool) → AreMarks graph marks → IsSwept graph later marks
+      → AreClear graph marks old.state.live → AreLeft graph marks old.state new.state → IsTrue new.in_step
+      → ((clauses : List (List ℤ)) → AreNumberedAbove (length clauses) graph → IsProofOf clauses tells (channel old.sink) old.state
+      → IsProofOf clauses tells (channel new.sink) new.state)
       → (channel new.sink).faults ≡ (channel old.sink).faults
       → Continues tells (channel old.sink) (channel new.sink) (table_of aside graph old) (table_of aside later new)
   sweep_on later marks are swept clear left in_step kept unfailed = record {
@@ -168,7 +202,8 @@ module _ {S : Type 0} (tells : Bool) (channel : S → Channel) (aside : Aside) (
   }
 
   pub sweep_torn : KeepsClauses new.state.live old.state.live → Rose (channel old.sink).faults (channel new.sink).faults
-      → ((clauses : List (List ℤ)) → AreNumberedAbove (length clauses) graph → IsProofOf clauses tells (channel old.sink) old.state → IsTrue tells → IsCutAmong clauses (channel new.sink).written old.state new.state)
+      → ((clauses : List (List ℤ)) → AreNumberedAbove (length clauses) graph → IsProofOf clauses tells (channel old.sink) old.state
+      → IsTrue tells → IsCutAmong clauses (channel new.sink).written old.state new.state)
       → new.in_step ≡ false → FewerInUse → live_nodes graph ≤ aside.max_nodes
       → BreaksOff tells (channel old.sink) (channel new.sink) (table_of aside graph old) (table_of aside graph new)
   sweep_torn among rose cut out_of_step fewer few =

@@ -1,5 +1,6 @@
 -- Extension variables: the least that no stored node has is taken, and it is then the new node's.
-use Rattle.std.proofs.Common.{◌≡◌, ◌≢◌, ℕ, ◌+◌, ◌-◌, ◌<◌, ◌≤◌, List, [], ◌∷◌, ◌++◌, length, get_or, Some, None, Contains, sym, ap, ◌∙◌, subst, arith, inl, inr}
+use Rattle.std.proofs.Common.{◌≡◌, ◌≢◌, ℕ, ◌+◌, ◌-◌, ◌<◌, ◌≤◌, List, [], ◌∷◌, ◌++◌, length, get_or, Some, None, Contains, sym, ap, ◌∙◌}
+use Rattle.std.proofs.Common.{subst, arith, inl, inr}
 use Rattle.std.proofs.lemmas.Bool.{cases_eq}
 use Rattle.std.proofs.lemmas.List.{get_or-append-add, get_or_append_left, get_or_default, length-append}
 use Rattle.std.proofs.lemmas.List.Elements.{Contains-append_left, Contains-get_or, Contains-push, Contains-push_cases}
@@ -10,7 +11,8 @@ use Rattle.node_table.proofs.Falling.{falls_by, falling_left}
 use Rattle.node_table.proofs.Pushed.{each_stored}
 
 last_at : (left : List ℕ) (last : ℕ) → get_or (left ++ last ∷ []) (length left) 0 ≡ last
-last_at left last = let same : length left + 0 ≡ length left = omega arith in ap (λ n. get_or (left ++ last ∷ []) n 0) (sym same) ∙ get_or-append-add left (last ∷ []) 0 0
+last_at left last = let same : length left + 0 ≡ length left = omega arith in ap (λ n. get_or (left ++ last ∷ []) n 0) (sym same)
+    ∙ get_or-append-add left (last ∷ []) 0 0
 
 -- the last one is the least
 last_least : (left : List ℕ) (last : ℕ) → IsFalling (left ++ last ∷ []) → (number : ℕ) → Contains left number → last < number
@@ -18,12 +20,15 @@ last_least left last falling number among =
     let k = among.0 in
     let there : k + (length left - k) ≡ length left = omega (arith, among.1) in
     let falls = falls_by (left ++ last ∷ []) falling k (length left - k) (omega (arith, there, length-append left (last ∷ []))) in
-    let end : get_or (left ++ last ∷ []) (k + (length left - k)) 0 ≡ last = ap (λ n. get_or (left ++ last ∷ []) n 0) there ∙ last_at left last in
-    let at : get_or (left ++ last ∷ []) k 0 ≡ number = get_or_append_left left (last ∷ []) 0 k among.1 ∙ get_or_default left k 0 number among.1 ∙ among.2 in
+    let end : get_or (left ++ last ∷ []) (k + (length left - k)) 0 ≡ last = ap (λ n. get_or (left ++ last ∷ []) n 0) there
+    ∙ last_at left last in
+    let at : get_or (left ++ last ∷ []) k 0 ≡ number = get_or_append_left left (last ∷ []) 0 k among.1
+    ∙ get_or_default left k 0 number among.1 ∙ among.2 in
     omega (arith, falls, end, at, among.1)
 
 -- so many numbers that fall need as many below a bound
-few_above_last : (left : List ℕ) (last bound : ℕ) → IsFalling (left ++ last ∷ []) → ((number : ℕ) → Contains (left ++ last ∷ []) number → number < bound) → last + length left < bound
+few_above_last : (left : List ℕ) (last bound : ℕ) → IsFalling (left ++ last ∷ [])
+    → ((number : ℕ) → Contains (left ++ last ∷ []) number → number < bound) → last + length left < bound
 few_above_last left last bound falling below =
     let long = length-append left (last ∷ []) in
     let same : 0 + length left ≡ length left = omega arith in
@@ -34,7 +39,8 @@ few_above_last left last bound falling below =
 none_among : (number : ℕ) → Contains [] number → ⊥
 none_among number among = omega (arith, among.1)
 
-module _ {levels next : ℕ} {free : List ℕ} {capacity : ℕ} {nodes : Slab StoredNode} (have : HasVariables levels next free capacity nodes) {left : List ℕ} {after variable : ℕ}
+module _ {levels next : ℕ} {free : List ℕ} {capacity : ℕ} {nodes : Slab StoredNode}
+    (have : HasVariables levels next free capacity nodes) {left : List ℕ} {after variable : ℕ}
     (takes : Takes free next left after variable) where
   pub taken_above : levels < variable
   taken_above = elim takes [
@@ -45,7 +51,8 @@ module _ {levels next : ℕ} {free : List ℕ} {capacity : ℕ} {nodes : Slab St
   pub taken_few : variable ≤ levels + slab_len nodes + 1
   taken_few = elim takes [
     | inl last ↦
-        let few = few_above_last left variable next (subst IsFalling last.0 have.falling) (λ number among. (have.within number (subst (λ list. Contains list number) (sym last.0) among)).1) in
+        let few = few_above_last left variable next (subst IsFalling last.0 have.falling)
+        (λ number among. (have.within number (subst (λ list. Contains list number) (sym last.0) among)).1) in
         omega (arith, few, have.counted, ap length last.0, length-append left (variable ∷ []))
     | inr new ↦ omega (arith, new.2, have.counted, ap length new.0)
   ]
@@ -53,13 +60,18 @@ module _ {levels next : ℕ} {free : List ℕ} {capacity : ℕ} {nodes : Slab St
   -- no stored node has it
   pub taken_own : (key : ℕ) (node : StoredNode) → get nodes key ≡ Some node → node.variable ≢ variable
   taken_own key node is same = elim takes [
-    | inl last ↦ have.unowned key node is (subst (λ list. Contains list node.variable) (sym last.0) (subst (Contains (left ++ variable ∷ [])) (sym same) (Contains-push left variable)))
+    | inl last ↦ have.unowned key node is (subst (λ list. Contains list node.variable) (sym last.0)
+        (subst (Contains (left ++ variable ∷ [])) (sym same) (Contains-push left variable)))
     | inr new ↦ omega (arith, same, new.2, (have.stored key node is).1)
   ]
 
   taken_below : (other : ℕ) → other < variable → other < next
   taken_below other less = elim takes [
-    | inl last ↦ omega (arith, less, (have.within variable (subst (λ list. Contains list variable) (sym last.0) (Contains-push left variable))).1)
+    | inl last ↦ omega (
+      arith,
+      less,
+      (have.within variable (subst (λ list. Contains list variable) (sym last.0) (Contains-push left variable))).1,
+    )
     | inr new ↦ omega (arith, less, new.2)
   ]
 
@@ -126,14 +138,18 @@ module _ {levels next : ℕ} {free : List ℕ} {capacity : ℕ} {nodes : Slab St
   ]
 
   -- the variables are those of the stored nodes, once the new one has joined them
-  pub HasVariables-taken : (new : Slab StoredNode) (key : ℕ) (node : StoredNode) → node.variable ≡ variable → get nodes key ≡ None → Updates nodes new key (Some node) → slab_len new ≡ slab_len nodes + 1
+  pub HasVariables-taken : (new : Slab StoredNode) (key : ℕ) (node : StoredNode) → node.variable ≡ variable → get nodes key ≡ None
+      → Updates nodes new key (Some node) → slab_len new ≡ slab_len nodes + 1
       → slab_len nodes < 100000000 → (wider : ℕ) → length free + (slab_len nodes + 1) ≤ wider → HasVariables levels after left wider new
   HasVariables-taken new key node own vacant updates more few wider room = record {
-    stored = each_stored nodes new key node updates (λ k one. (levels < one.variable) × (one.variable < after)) (omega (arith, own, taken_above), omega (arith, own, next_after.0))
+    stored = each_stored nodes new key node updates (λ k one. (levels < one.variable)
+        × (one.variable < after)) (omega (arith, own, taken_above), omega (arith, own, next_after.0))
         (λ k one is. ((have.stored k one is).0, omega (arith, (have.stored k one is).1, next_after.1)));
     falling = still_falling;
-    within = λ number among. let before = have.within number (still_free number among).0 in (before.0, omega (arith, before.1, next_after.1));
-    unowned = each_stored nodes new key node updates (λ k one. Contains left one.variable → ⊥) (λ among. omega (arith, own, (still_free node.variable among).1))
+    within = λ number among. let before = have.within number (still_free number among).0 in
+        (before.0, omega (arith, before.1, next_after.1));
+    unowned = each_stored nodes new key node updates (λ k one. Contains left one.variable
+        → ⊥) (λ among. omega (arith, own, (still_free node.variable among).1))
         (λ k one is among. have.unowned k one is (still_free one.variable among).0);
     covered = λ other above less. elim (cases_eq other variable) [
       | inl same ↦ inr (record { key = key; node = node; stands = updates.changed; own = own ∙ sym same })
@@ -142,7 +158,8 @@ module _ {levels next : ℕ} {free : List ℕ} {capacity : ℕ} {nodes : Slab St
         | inr is ↦ inr (record {
           key = is.key;
           node = is.node;
-          stands = updates.others is.key (λ same. let none : None ≡ Some is.node = sym vacant ∙ ap (get nodes) (sym same) ∙ is.stands in cc) ∙ is.stands;
+          stands = updates.others is.key (λ same. let none : None ≡ Some is.node = sym vacant ∙ ap (get nodes) (sym same) ∙ is.stands in cc)
+              ∙ is.stands;
           own = is.own;
         })
       ]
@@ -153,7 +170,8 @@ module _ {levels next : ℕ} {free : List ℕ} {capacity : ℕ} {nodes : Slab St
   }
 
 -- there is room for more
-pub HasVariables-room : (levels next : ℕ) (free more : List ℕ) (capacity wider : ℕ) (old room : Slab StoredNode) → more ≡ free → capacity ≤ wider → room ≡ record old { capacity = room.capacity }
+pub HasVariables-room : (levels next : ℕ) (free more : List ℕ) (capacity wider : ℕ) (old room : Slab StoredNode) → more ≡ free → capacity
+    ≤ wider → room ≡ record old { capacity = room.capacity }
     → HasVariables levels next free capacity old → HasVariables levels next more wider room
 HasVariables-room levels next free more capacity wider old room same no_less kept have =
     subst (HasVariables levels next more wider) (sym kept)

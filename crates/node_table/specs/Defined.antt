@@ -1,6 +1,7 @@
 -- The defining clauses of a node in the proof: its extension variable holds where the child that its variable chooses
 -- does. (Bryant, Heule: Generating Extended Resolution Proofs with a BDD-Based SAT Solver, 2021, section 4.)
-use Rattle.std.specs.Prelude.{◌≡◌, ◌≢◌, ◌<◌, ◌==◌, IsTrue, nat_abs, ℕ, ◌+◌, Bool, true, false, not, ◌||◌, ℤ, pos, List, [], ◌∷◌, ◌++◌, Option, None, Some, if◌then◌else◌}
+use Rattle.std.specs.Prelude.{◌≡◌, ◌≢◌, ◌<◌, ◌==◌, IsTrue, nat_abs, ℕ, ◌+◌, Bool, true, false, not, ◌||◌, ℤ, pos, List, [], ◌∷◌, ◌++◌}
+use Rattle.std.specs.Prelude.{Option, None, Some, if◌then◌else◌}
 use Rattle.std.specs.Option.{option_to_list}
 use Rattle.std.specs.List.{list_any}
 use Rattle.std.specs.Ordering.{int_eq}
@@ -75,7 +76,8 @@ is_defined_by defs id = is_given defs.hu id || is_given defs.lu id || is_given d
 
 -- how many there are
 abbrev pub definition_count : Node → Node → ℕ
-definition_count high low = one_if (not (is_false_node high)) + one_if (not (is_false_node low)) + one_if (not (is_true_node high)) + one_if (not (is_true_node low))
+definition_count high low = one_if (not (is_false_node high)) + one_if (not (is_false_node low)) + one_if (not (is_true_node high))
+    + one_if (not (is_true_node low))
 
 -- the live clause of a number, where one is given
 abbrev pub clause_named : Live → Option ℕ → Option (List ℤ)
@@ -84,10 +86,14 @@ clause_named live (Some id) = clause_at live id
 
 -- the node's clauses are live under its numbers
 pub record IsDefined (live : Live) (graph : Graph) (branch : Branch) : Type 0 where
-  pub hu : clause_named live (defs_of branch).hu ≡ clause_of (high_up (pos branch.variable) (pos (variable_at graph branch.level)) (atom_of graph branch.high))
-  pub lu : clause_named live (defs_of branch).lu ≡ clause_of (low_up (pos branch.variable) (pos (variable_at graph branch.level)) (atom_of graph branch.low))
-  pub hd : clause_named live (defs_of branch).hd ≡ clause_of (high_down (pos branch.variable) (pos (variable_at graph branch.level)) (atom_of graph branch.high))
-  pub ld : clause_named live (defs_of branch).ld ≡ clause_of (low_down (pos branch.variable) (pos (variable_at graph branch.level)) (atom_of graph branch.low))
+  pub hu : clause_named live (defs_of branch).hu
+      ≡ clause_of (high_up (pos branch.variable) (pos (variable_at graph branch.level)) (atom_of graph branch.high))
+  pub lu : clause_named live (defs_of branch).lu
+      ≡ clause_of (low_up (pos branch.variable) (pos (variable_at graph branch.level)) (atom_of graph branch.low))
+  pub hd : clause_named live (defs_of branch).hd
+      ≡ clause_of (high_down (pos branch.variable) (pos (variable_at graph branch.level)) (atom_of graph branch.high))
+  pub ld : clause_named live (defs_of branch).ld
+      ≡ clause_of (low_down (pos branch.variable) (pos (variable_at graph branch.level)) (atom_of graph branch.low))
 
 -- A clause to be written, if there is one, and its candidates.
 pub record Definition : Type 0 where
@@ -109,7 +115,8 @@ is_always (Of literal) = false
 -- those from the node down are those that lead up to it.
 abbrev pub ups_from : Atom → Atom → ℕ → List ℕ
 ups_from high low first =
-    option_to_list (given_if (not (is_never high)) first) ++ option_to_list (given_if (not (is_never low)) (first + one_if (not (is_never high))))
+    option_to_list (given_if (not (is_never high)) first) ++ option_to_list
+    (given_if (not (is_never low)) (first + one_if (not (is_never high))))
 
 abbrev pub definitions : ℤ → ℤ → Atom → Atom → ℕ → List Definition
 definitions u x high low first =
@@ -121,7 +128,8 @@ definitions u x high low first =
 
 -- how many of them there are
 abbrev pub count_atoms : Atom → Atom → ℕ
-count_atoms high low = one_if (not (is_never high)) + one_if (not (is_never low)) + one_if (not (is_always high)) + one_if (not (is_always low))
+count_atoms high low = one_if (not (is_never high)) + one_if (not (is_never low)) + one_if (not (is_always high))
+    + one_if (not (is_always low))
 
 -- a clause more, if there is one
 abbrev pub with_some : State → Option (List ℤ) → State
@@ -139,11 +147,13 @@ with_definitions state (definition ∷ more) = with_definitions (with_some state
 
 abbrev pub definition_lines : State → List Definition → List ℕ
 definition_lines state [] = []
-definition_lines state (definition ∷ more) = line_of_some state definition.clause definition.candidates ++ definition_lines (with_some state definition.clause) more
+definition_lines state (definition ∷ more) = line_of_some state definition.clause definition.candidates
+    ++ definition_lines (with_some state definition.clause) more
 
 -- no live clause holds the variable
 abbrev pub IsUnused : Live → ℕ → Type 0
-IsUnused live variable = (id : ℕ) (clause : List ℤ) → clause_at live id ≡ Some clause → (literal : ℤ) → IsTrue (list_any (int_eq literal) clause) → nat_abs literal ≢ variable
+IsUnused live variable = (id : ℕ) (clause : List ℤ) → clause_at live id ≡ Some clause → (literal : ℤ)
+    → IsTrue (list_any (int_eq literal) clause) → nat_abs literal ≢ variable
 
 -- the atom isn't of this variable
 abbrev pub is_apart_from : ℕ → Atom → Bool

@@ -33,11 +33,13 @@ pub record DefinesUnmarked (graph : Graph) (marks : List Bool) (id : ℕ) : Type
 -- no literal is of an unmarked node's extension variable
 abbrev pub IsClear : Graph → List Bool → List ℤ → Type 0
 IsClear graph marks clause =
-    (literal : ℤ) → IsTrue (list_any (int_eq literal) clause) → (key : ℕ) (branch : Branch) → branch_at graph key ≡ Some branch → is_marked marks (inner key) ≡ false → nat_abs literal ≢ branch.variable
+    (literal : ℤ) → IsTrue (list_any (int_eq literal) clause) → (key : ℕ) (branch : Branch) → branch_at graph key ≡ Some branch
+    → is_marked marks (inner key) ≡ false → nat_abs literal ≢ branch.variable
 
 -- all live clauses beside the definitions of nodes are clear of these
 abbrev pub AreClear : Graph → List Bool → Live → Type 0
-AreClear graph marks live = (id : ℕ) (clause : List ℤ) → clause_at live id ≡ Some clause → (Defines graph id → ⊥) → IsClear graph marks clause
+AreClear graph marks live = (id : ℕ) (clause : List ℤ) → clause_at live id ≡ Some clause → (Defines graph id → ⊥)
+    → IsClear graph marks clause
 
 -- the numbers of a node's clauses, unless it is marked or there is none
 abbrev pub unmarked_defs : Bool → Option Branch → Option Defs
@@ -59,12 +61,14 @@ with_some_defs ids (Some defs) = with_defs ids defs
 -- those of the nodes below a key that aren't marked
 unfoldable pub unmarked_below : Graph → List Bool → ℕ → List ℕ
 unmarked_below graph marks zero = []
-unmarked_below graph marks (suc key) = with_some_defs (unmarked_below graph marks key) (unmarked_defs (is_marked marks (inner key)) (branch_at graph key))
+unmarked_below graph marks (suc key) = with_some_defs (unmarked_below graph marks key)
+    (unmarked_defs (is_marked marks (inner key)) (branch_at graph key))
 
 -- Clauses of these numbers were deleted, in step with the proof. Those that were added may be.
 pub record Deletes {S : Type 0} (tells : Bool) (channel : S → Channel) (old new : Book S) (ids : List ℕ) : Type 0 where
   pub state : new.state ≡ record { live = without_clauses old.state.live ids; top = old.state.top }
-  pub kept : (clauses : List (List ℤ)) → IsProofOf clauses tells (channel old.sink) old.state → IsTrue (are_added (length clauses) old.state.live ids)
+  pub kept : (clauses : List (List ℤ)) → IsProofOf clauses tells (channel old.sink) old.state
+      → IsTrue (are_added (length clauses) old.state.live ids)
       → IsProofOf clauses tells (channel new.sink) new.state
   pub in_step : IsTrue new.in_step
   pub limit : new.limit ≡ old.limit
@@ -82,7 +86,8 @@ pub record IsCutAmong (clauses : List (List ℤ)) (bytes : List ℕ) (old after 
 -- Clauses of these numbers were deleted, and the write of the last line of this failed.
 pub record DeletesTorn {S : Type 0} (tells : Bool) (channel : S → Channel) (old new : Book S) (ids : List ℕ) : Type 0 where
   pub state : new.state ≡ record { live = without_clauses old.state.live ids; top = old.state.top }
-  pub cut : (clauses : List (List ℤ)) → IsProofOf clauses tells (channel old.sink) old.state → IsTrue (are_added (length clauses) old.state.live ids) → IsTrue tells
+  pub cut : (clauses : List (List ℤ)) → IsProofOf clauses tells (channel old.sink) old.state
+      → IsTrue (are_added (length clauses) old.state.live ids) → IsTrue tells
       → IsCutAmong clauses (channel new.sink).written old.state new.state
   pub out_of_step : new.in_step ≡ false
   pub limit : new.limit ≡ old.limit

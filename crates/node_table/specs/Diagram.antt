@@ -1,6 +1,7 @@
 -- Reduced ordered binary decision diagrams: a set of nodes over an order of the variables. (Bryant: Graph-Based
 -- Algorithms for Boolean Function Manipulation, 1986.)
-use Rattle.std.specs.Prelude.{◌≡◌, ◌≢◌, ◌<◌, ℕ, zero, suc, Bool, true, List, length, Option, None, Some, IsTrue, is_some, refl, slice_index_or, if◌then◌else◌, ◌==◌}
+use Rattle.std.specs.Prelude.{◌≡◌, ◌≢◌, ◌<◌, ℕ, zero, suc, Bool, true, List, length, Option, None, Some, IsTrue, is_some, refl}
+use Rattle.std.specs.Prelude.{slice_index_or, if◌then◌else◌, ◌==◌}
 use Rattle.std.specs.Coded.{Coded, code_by, coded×, coded_ℕ, coded_list}
 use Rattle.std.specs.Ordering.{nat_cmp}
 use Rattle.std.specs.FinMap as map
@@ -74,9 +75,11 @@ pub record IsReduced (graph : Graph) : Type 0 where
   pub high : (key : ℕ) (branch : Branch) → branch_at graph key ≡ Some branch → IsBelow graph branch.level branch.high
   pub low : (key : ℕ) (branch : Branch) → branch_at graph key ≡ Some branch → IsBelow graph branch.level branch.low
   pub differ : (key : ℕ) (branch : Branch) → branch_at graph key ≡ Some branch → branch.high ≢ branch.low
-  pub unique : (key other : ℕ) (one two : Branch) → branch_at graph key ≡ Some one → branch_at graph other ≡ Some two → IsAlike one two → key ≡ other
+  pub unique : (key other : ℕ) (one two : Branch) → branch_at graph key ≡ Some one → branch_at graph other ≡ Some two → IsAlike one two
+      → key ≡ other
   pub above : (key : ℕ) (branch : Branch) → branch_at graph key ≡ Some branch → levels graph < branch.variable
-  pub apart : (key other : ℕ) (one two : Branch) → branch_at graph key ≡ Some one → branch_at graph other ≡ Some two → one.variable ≡ two.variable → key ≡ other
+  pub apart : (key other : ℕ) (one two : Branch) → branch_at graph key ≡ Some one → branch_at graph other ≡ Some two → one.variable
+      ≡ two.variable → key ≡ other
 
 -- one node more
 abbrev pub with_branch : Graph → ℕ → Branch → Graph
@@ -84,7 +87,8 @@ with_branch graph key branch = record { order = graph.order; nodes = map.insert 
 
 -- no node of this level has these children
 abbrev pub IsMissing : Graph → ℕ → Node → Node → Type 0
-IsMissing graph level high low = (key : ℕ) (branch : Branch) → branch_at graph key ≡ Some branch → branch.level ≡ level → branch.high ≡ high → branch.low ≡ low → ⊥
+IsMissing graph level high low = (key : ℕ) (branch : Branch) → branch_at graph key ≡ Some branch → branch.level ≡ level → branch.high ≡ high
+    → branch.low ≡ low → ⊥
 
 -- a node that has to be made: its children differ, and none is alike
 pub record IsWanted (graph : Graph) (level : ℕ) (high low : Node) : Type 0 where
@@ -135,4 +139,5 @@ branch_code =
     (λ p. record { level = p.0; variable = p.1.0; high = p.1.1.0; low = p.1.1.1.0; first = p.1.1.1.1 }) (λ _. refl)
 
 abbrev pub graph_code : Coded Graph
-graph_code = code_by (List ℕ × map.FinMap nat_cmp Branch) (coded× (coded_list coded_ℕ) (map.code coded_ℕ branch_code)) (λ g. (g.order, g.nodes)) (λ p. record { order = p.0; nodes = p.1 }) (λ _. refl)
+graph_code = code_by (List ℕ × map.FinMap nat_cmp Branch) (coded× (coded_list coded_ℕ) (map.code coded_ℕ branch_code))
+    (λ g. (g.order, g.nodes)) (λ p. record { order = p.0; nodes = p.1 }) (λ _. refl)

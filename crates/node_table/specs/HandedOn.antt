@@ -20,7 +20,8 @@ came_from (Ok x) came cause is because = absurd is
 came_from (Err e) came cause is because = sym is ∙ same_error because
 
 -- so it has another cause where the result has, and the result is no answer
-pub other_cause : {T U E : Type 0} (r : Result T E) (came cause : E) → IsErrAnd r (λ e. e ≡ came) → (r ≡ Err cause → ⊥) → ◌≡◌ {A = Result U E} (Err came) (Err cause) → ⊥
+pub other_cause : {T U E : Type 0} (r : Result T E) (came cause : E) → IsErrAnd r (λ e. e ≡ came) → (r ≡ Err cause → ⊥)
+    → ◌≡◌ {A = Result U E} (Err came) (Err cause) → ⊥
 other_cause r came cause given other is = other (handed_on r came cause given (same_error is))
 
 pub no_answer : {T E : Type 0} (r : Result T E) (came : E) (P : T → Type 0) → IsErrAnd r (λ e. e ≡ came) → IfOk r P

@@ -1,5 +1,6 @@
 -- What an index finds: the keys of stored nodes, by their level and children.
-use Rattle.std.specs.Prelude.{◌≡◌, ℕ, ◌+◌, ◌-◌, ◌*◌, ◌/◌, ◌%◌, ◌^◌, ◌<◌, ◌≤◌, ◌++◌, Bool, List, Some, nat_lt, length, set, count_by, slice_index_or, if◌then◌else◌}
+use Rattle.std.specs.Prelude.{◌≡◌, ℕ, ◌+◌, ◌-◌, ◌*◌, ◌/◌, ◌%◌, ◌^◌, ◌<◌, ◌≤◌, ◌++◌, Bool, List, Some, nat_lt, length, set, count_by}
+use Rattle.std.specs.Prelude.{slice_index_or, if◌then◌else◌}
 use Rattle.std.specs.List.{fold}
 use Rattle.std.specs.Hash.{u32}
 use Rattle.std.specs.Hash.FoldHasher as folding
@@ -19,7 +20,8 @@ pub record IsTriple (node : StoredNode) (depth : ℕ) (where_true where_false : 
 
 -- where the search for a triple begins, among so many places: its hash's lower half, brought below the size
 unfoldable pub home_of : BuildHasherDefault FoldHasher → ℕ → ℕ → ℕ → ℕ → ℕ
-home_of hasher size level high low = folding.finish (fold folding.write (initial_hasher hasher) (u32 level ++ u32 high ++ u32 low)) % 2 ^ 32 * size / 2 ^ 32
+home_of hasher size level high low = folding.finish (fold folding.write (initial_hasher hasher) (u32 level ++ u32 high ++ u32 low)) % 2 ^ 32
+    * size / 2 ^ 32
 
 -- the place so many steps on from the home; behind the last place comes the first one
 abbrev pub place_at : ℕ → ℕ → ℕ → ℕ
@@ -51,7 +53,8 @@ pub record IsMet (places : List ℕ) (home key : ℕ) : Type 0 where
 
 -- the key is met from the node's home on
 abbrev pub IsFound : Index → ℕ → StoredNode → Type 0
-IsFound index key node = IsMet index.places.items (home_of index.hasher (length index.places.items) node.level node.high.word node.low.word) key
+IsFound index key node = IsMet index.places.items (home_of index.hasher
+    (length index.places.items) node.level node.high.word node.low.word) key
 
 -- its taken places are counted, and it has no more places than a hash tells apart
 pub record IsCounted (index : Index) : Type 0 where

@@ -23,7 +23,8 @@ Canonical = (graph : Graph) → IsReduced graph → (u v : Node) → IsTrue (is_
 
 -- a node that is missing has the function of no other one (Bryant 1986, theorem 1)
 abbrev pub Missing : Type 0
-Missing = (graph : Graph) → IsReduced graph → (level : ℕ) (high low : Node) → level < levels graph → IsBelow graph level high → IsBelow graph level low
+Missing = (graph : Graph) → IsReduced graph → (level : ℕ) (high low : Node) → level < levels graph → IsBelow graph level high
+    → IsBelow graph level low
     → IsWanted graph level high low → (node : Node) → IsTrue (is_node graph node)
     → ((a : Levels) → value_of graph a node ≡ (if a level then value_of graph a high else value_of graph a low)) → ⊥
 
@@ -31,45 +32,60 @@ Missing = (graph : Graph) → IsReduced graph → (level : ℕ) (high low : Node
 pub record Growth : Type 0 where
   pub stands : (old new : Graph) → KeepsNodes old new → (node : Node) → IsTrue (is_node old node) → IsTrue (is_node new node)
   pub level : (old new : Graph) → KeepsNodes old new → (node : Node) → IsTrue (is_node old node) → level_of new node ≡ level_of old node
-  pub high : (old new : Graph) → KeepsNodes old new → (level : ℕ) (node : Node) → IsTrue (is_node old node) → high_at new level node ≡ high_at old level node
-  pub low : (old new : Graph) → KeepsNodes old new → (level : ℕ) (node : Node) → IsTrue (is_node old node) → low_at new level node ≡ low_at old level node
-  pub value : (old new : Graph) → IsReduced old → KeepsNodes old new → (a : Levels) (node : Node) → IsTrue (is_node old node) → value_of new a node ≡ value_of old a node
+  pub high : (old new : Graph) → KeepsNodes old new → (level : ℕ) (node : Node) → IsTrue (is_node old node) → high_at new level node
+      ≡ high_at old level node
+  pub low : (old new : Graph) → KeepsNodes old new → (level : ℕ) (node : Node) → IsTrue (is_node old node) → low_at new level node
+      ≡ low_at old level node
+  pub value : (old new : Graph) → IsReduced old → KeepsNodes old new → (a : Levels) (node : Node) → IsTrue (is_node old node)
+      → value_of new a node ≡ value_of old a node
   pub atom : (old new : Graph) → KeepsNodes old new → (node : Node) → IsTrue (is_node old node) → atom_of new node ≡ atom_of old node
-  pub justified : (old new : Live) → KeepsClauses old new → (atoms : List Atom) (just : Just) → IsJustified old atoms just → IsJustified new atoms just
+  pub justified : (old new : Live) → KeepsClauses old new → (atoms : List Atom) (just : Just) → IsJustified old atoms just
+      → IsJustified new atoms just
   pub further : (old mid new : Graph) → KeepsNodes old mid → KeepsNodes mid new → KeepsNodes old new
 
 -- What a graph that keeps what is reachable from a node says of this node. A graph that keeps all keeps that.
 pub record Kept : Type 0 where
   pub all : (old new : Graph) → KeepsNodes old new → (node : Node) → KeepsFrom old new node
-  pub further : (old mid new : Graph) (node : Node) → IsReduced old → IsTrue (is_node old node) → KeepsFrom old mid node → KeepsFrom mid new node → KeepsFrom old new node
+  pub further : (old mid new : Graph) (node : Node) → IsReduced old → IsTrue (is_node old node) → KeepsFrom old mid node
+      → KeepsFrom mid new node → KeepsFrom old new node
   pub stands : (old new : Graph) (node : Node) → KeepsFrom old new node → IsTrue (is_node old node) → IsTrue (is_node new node)
   pub level : (old new : Graph) (node : Node) → KeepsFrom old new node → IsTrue (is_node old node) → level_of new node ≡ level_of old node
-  pub value : (old new : Graph) (node : Node) → IsReduced old → KeepsFrom old new node → (a : Levels) → IsTrue (is_node old node) → value_of new a node ≡ value_of old a node
+  pub value : (old new : Graph) (node : Node) → IsReduced old → KeepsFrom old new node → (a : Levels) → IsTrue (is_node old node)
+      → value_of new a node ≡ value_of old a node
   pub atom : (old new : Graph) (node : Node) → KeepsFrom old new node → IsTrue (is_node old node) → atom_of new node ≡ atom_of old node
 
 -- A node by its cofactors at a level, whether or not it is of it. Its value doesn't depend on the levels above it.
 pub record Cofactors : Type 0 where
   pub value : (graph : Graph) → IsReduced graph → (a : Levels) (level : ℕ) (node : Node) → IsTrue (is_node graph node)
-      → value_of graph a node ≡ (if a level then value_of graph a (high_at graph level node) else value_of graph a (low_at graph level node))
-  pub high : (graph : Graph) → IsReduced graph → (level : ℕ) (node : Node) → IsTrue (is_node graph node) → level ≤ level_of graph node → level < levels graph → IsBelow graph level (high_at graph level node)
-  pub low : (graph : Graph) → IsReduced graph → (level : ℕ) (node : Node) → IsTrue (is_node graph node) → level ≤ level_of graph node → level < levels graph → IsBelow graph level (low_at graph level node)
-  pub below : (graph : Graph) → IsReduced graph → (a b : Levels) (node : Node) → IsTrue (is_node graph node) → ((i : ℕ) → level_of graph node ≤ i → a i ≡ b i) → value_of graph a node ≡ value_of graph b node
+      → value_of graph a node
+      ≡ (if a level then value_of graph a (high_at graph level node) else value_of graph a (low_at graph level node))
+  pub high : (graph : Graph) → IsReduced graph → (level : ℕ) (node : Node) → IsTrue (is_node graph node) → level ≤ level_of graph node
+      → level < levels graph → IsBelow graph level (high_at graph level node)
+  pub low : (graph : Graph) → IsReduced graph → (level : ℕ) (node : Node) → IsTrue (is_node graph node) → level ≤ level_of graph node
+      → level < levels graph → IsBelow graph level (low_at graph level node)
+  pub below : (graph : Graph) → IsReduced graph → (a b : Levels) (node : Node) → IsTrue (is_node graph node)
+      → ((i : ℕ) → level_of graph node ≤ i → a i ≡ b i) → value_of graph a node ≡ value_of graph b node
 
 -- A function with its first levels fixed, and the nodes that calls make for it: none, those of one call after another,
 -- and those for a part of the function. A node's cofactor is the node with the levels down to this one fixed.
 pub record Subfunctions : Type 0 where
   pub same : (f : Levels → Bool) → IsSubfunction f f
   pub further : (f g h : Levels → Bool) → IsSubfunction f g → IsSubfunction g h → IsSubfunction f h
-  pub high_value : (graph : Graph) → IsReduced graph → (level : ℕ) (node : Node) → IsTrue (is_node graph node) → level ≤ level_of graph node → level < levels graph
+  pub high_value : (graph : Graph) → IsReduced graph → (level : ℕ) (node : Node) → IsTrue (is_node graph node) → level ≤ level_of graph node
+      → level < levels graph
       → (a : Levels) → value_of graph a (high_at graph level node) ≡ value_of graph (fixed_to (level + 1) (λ i. true) a) node
-  pub low_value : (graph : Graph) → IsReduced graph → (level : ℕ) (node : Node) → IsTrue (is_node graph node) → level ≤ level_of graph node → level < levels graph
+  pub low_value : (graph : Graph) → IsReduced graph → (level : ℕ) (node : Node) → IsTrue (is_node graph node) → level ≤ level_of graph node
+      → level < levels graph
       → (a : Levels) → value_of graph a (low_at graph level node) ≡ value_of graph (fixed_to (level + 1) (λ i. false) a) node
-  pub high : (graph : Graph) → IsReduced graph → (level : ℕ) (node : Node) → IsTrue (is_node graph node) → level ≤ level_of graph node → level < levels graph
+  pub high : (graph : Graph) → IsReduced graph → (level : ℕ) (node : Node) → IsTrue (is_node graph node) → level ≤ level_of graph node
+      → level < levels graph
       → IsSubfunction (λ a. value_of graph a node) (λ a. value_of graph a (high_at graph level node))
-  pub low : (graph : Graph) → IsReduced graph → (level : ℕ) (node : Node) → IsTrue (is_node graph node) → level ≤ level_of graph node → level < levels graph
+  pub low : (graph : Graph) → IsReduced graph → (level : ℕ) (node : Node) → IsTrue (is_node graph node) → level ≤ level_of graph node
+      → level < levels graph
       → IsSubfunction (λ a. value_of graph a node) (λ a. value_of graph a (low_at graph level node))
   pub none_made : (graph : Graph) (f : Levels → Bool) → MakesOnly graph graph f
-  pub made_further : (old mid new : Graph) → IsReduced mid → KeepsNodes mid new → (f : Levels → Bool) → MakesOnly old mid f → MakesOnly mid new f → MakesOnly old new f
+  pub made_further : (old mid new : Graph) → IsReduced mid → KeepsNodes mid new → (f : Levels → Bool) → MakesOnly old mid f
+      → MakesOnly mid new f → MakesOnly old new f
   pub made_for_part : (old new : Graph) (f g : Levels → Bool) → IsSubfunction f g → MakesOnly old new g → MakesOnly old new f
 
 -- Reachable nodes, and those that calls make: two calls, and a third one whose result reaches those of both.
@@ -78,8 +94,10 @@ pub record Reachability : Type 0 where
   pub further : (graph : Graph) (u v w : Node) → Reaches graph u v → Reaches graph v w → Reaches graph u w
   pub high : (graph : Graph) (level : ℕ) (node : Node) → Reaches graph node (high_at graph level node)
   pub low : (graph : Graph) (level : ℕ) (node : Node) → Reaches graph node (low_at graph level node)
-  pub kept : (old new : Graph) → IsReduced old → KeepsNodes old new → (node other : Node) → IsTrue (is_node old node) → Reaches old node other → Reaches new node other
-  pub kept_back : (old new : Graph) → IsReduced old → KeepsNodes old new → (node other : Node) → IsTrue (is_node old node) → Reaches new node other → Reaches old node other
+  pub kept : (old new : Graph) → IsReduced old → KeepsNodes old new → (node other : Node) → IsTrue (is_node old node)
+      → Reaches old node other → Reaches new node other
+  pub kept_back : (old new : Graph) → IsReduced old → KeepsNodes old new → (node other : Node) → IsTrue (is_node old node)
+      → Reaches new node other → Reaches old node other
   pub none_made : (graph : Graph) (root : Node) → ReachesNew graph graph root
   pub joined : (old one two new : Graph) → IsReduced one → IsReduced two → KeepsNodes one two → KeepsNodes two new → (high low root : Node)
       → IsTrue (is_node one high) → IsTrue (is_node two low) → ReachesNew old one high → ReachesNew one two low → ReachesNew two new root
@@ -89,12 +107,15 @@ pub record Reachability : Type 0 where
 -- that were added beside definitions stay so, and those that come to be so are new.
 pub record StepByStep {S : Type 0} (tells : Bool) (channel : S → Channel) : Type 0 where
   pub none : (table : TableState S) → IsSound table → Steps tells (channel table.book.sink) (channel table.book.sink) table table 0 None
-  pub no_memory : (table : TableState S) → IsSound table → Steps tells (channel table.book.sink) (channel table.book.sink) table table 0 (Some OutOfMemory)
-  pub further : (first second third : Channel) (old mid new : TableState S) (few more : ℕ) (error : Option TableError) → Steps tells first second old mid few None
+  pub no_memory : (table : TableState S) → IsSound table → Steps tells (channel table.book.sink) (channel table.book.sink) table table 0
+      (Some OutOfMemory)
+  pub further : (first second third : Channel) (old mid new : TableState S) (few more : ℕ) (error : Option TableError)
+      → Steps tells first second old mid few None
       → Steps tells second third mid new more error → Steps tells first third old new (few + more) error
   pub at_most : (before after : Channel) (old new : TableState S) (few more : ℕ) (error : Option TableError) → few ≤ more
       → Steps tells before after old new few error → Steps tells before after old new more error
-  pub go_on : (first second third : Channel) (old mid new : TableState S) → Continues tells first second old mid → Continues tells second third mid new
+  pub go_on : (first second third : Channel) (old mid new : TableState S) → Continues tells first second old mid
+      → Continues tells second third mid new
       → Continues tells first third old new
   pub leave : (first second third : Channel) (old mid new : TableState S) (error : Option TableError) → Continues tells first second old mid
       → Leaves tells second third mid new error → Leaves tells first third old new error

@@ -13,7 +13,8 @@ inner key = Inner (record { index = key })
 
 -- each node is as it was in the old graph, or its function is a subfunction of this one
 pub record MakesOnly (old new : Graph) (function : Levels → Bool) : Type 0 where
-  pub each : (key : ℕ) (branch : Branch) → branch_at new key ≡ Some branch → (branch_at old key ≡ Some branch) ⊎ IsSubfunction function (λ a. value_of new a (inner key))
+  pub each : (key : ℕ) (branch : Branch) → branch_at new key ≡ Some branch → (branch_at old key ≡ Some branch)
+      ⊎ IsSubfunction function (λ a. value_of new a (inner key))
 
 -- the high or the low child of a node; a constant is its own
 abbrev pub child_of : Bool → Node → Option Branch → Node
@@ -32,7 +33,8 @@ pub record Reaches (graph : Graph) (node other : Node) : Type 0 where
 
 -- each node is as it was in the old graph, or reachable from this one
 pub record ReachesNew (old new : Graph) (root : Node) : Type 0 where
-  pub each : (key : ℕ) (branch : Branch) → branch_at new key ≡ Some branch → (branch_at old key ≡ Some branch) ⊎ Reaches new root (inner key)
+  pub each : (key : ℕ) (branch : Branch) → branch_at new key ≡ Some branch → (branch_at old key ≡ Some branch)
+      ⊎ Reaches new root (inner key)
 
 -- what is reachable from a node is as it was
 pub record KeepsFrom (old new : Graph) (node : Node) : Type 0 where

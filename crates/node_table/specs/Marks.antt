@@ -20,10 +20,13 @@ pub record IsReached (graph : Graph) (roots : List Node) (node : Node) : Type 0 
 
 -- Exactly the inner nodes of the graph are marked that some root reaches.
 abbrev pub AreReached : Graph → List Node → List Bool → Type 0
-AreReached graph roots marks = (key : ℕ) → (IsTrue (is_marked marks (inner key))) ↔ (IsTrue (is_node graph (inner key)) × IsReached graph roots (inner key))
+AreReached graph roots marks = (key : ℕ) → (IsTrue (is_marked marks (inner key)))
+    ↔ (IsTrue (is_node graph (inner key)) × IsReached graph roots (inner key))
 
 -- Marked nodes are the graph's, and so are their children marked.
 pub record AreMarks (graph : Graph) (marks : List Bool) : Type 0 where
   pub stand : (key : ℕ) → IsTrue (is_marked marks (inner key)) → IsTrue (is_node graph (inner key))
-  pub high : (key : ℕ) (branch : Branch) → IsTrue (is_marked marks (inner key)) → branch_at graph key ≡ Some branch → IsTrue (is_marked marks branch.high)
-  pub low : (key : ℕ) (branch : Branch) → IsTrue (is_marked marks (inner key)) → branch_at graph key ≡ Some branch → IsTrue (is_marked marks branch.low)
+  pub high : (key : ℕ) (branch : Branch) → IsTrue (is_marked marks (inner key)) → branch_at graph key ≡ Some branch
+      → IsTrue (is_marked marks branch.high)
+  pub low : (key : ℕ) (branch : Branch) → IsTrue (is_marked marks (inner key)) → branch_at graph key ≡ Some branch
+      → IsTrue (is_marked marks branch.low)

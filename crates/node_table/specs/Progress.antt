@@ -16,7 +16,8 @@ number_limit table = max table.book.state.top table.book.limit
 
 -- What is live then was live before, with the same literals, or came since.
 abbrev pub ComesSince : State → State → Type 0
-ComesSince old new = (id : ℕ) (clause : List ℤ) → clause_at new.live id ≡ Some clause → (clause_at old.live id ≡ Some clause) ⊎ ((old.top < id) × (id ≤ new.top))
+ComesSince old new = (id : ℕ) (clause : List ℤ) → clause_at new.live id ≡ Some clause → (clause_at old.live id ≡ Some clause)
+    ⊎ ((old.top < id) × (id ≤ new.top))
 
 -- The table is sound, over the same variables and formula and within the same limits; the sink's bytes are still a proof of
 -- what is live, from the formula's clauses, and no write failed.
@@ -24,7 +25,8 @@ pub record Continues {S : Type 0} (tells : Bool) (before after : Channel) (old n
   pub sound : IsSound new
   pub order : new.graph.order ≡ old.graph.order
   pub inputs : new.inputs ≡ old.inputs
-  pub kept : (clauses : List (List ℤ)) → length clauses ≤ old.inputs → IsProofOf clauses tells before old.book.state → IsProofOf clauses tells after new.book.state
+  pub kept : (clauses : List (List ℤ)) → length clauses ≤ old.inputs → IsProofOf clauses tells before old.book.state
+      → IsProofOf clauses tells after new.book.state
   pub max_nodes : new.max_nodes ≡ old.max_nodes
   pub limit : new.book.limit ≡ old.book.limit
   pub no_less : old.book.state.top ≤ new.book.state.top
@@ -77,7 +79,8 @@ Leaves tells before after old new (Some WriteFault) = BreaksOff tells before aft
 
 -- The steps of an operation, however it ends: nodes and clauses that were there stay, and beside those that define new
 -- nodes at most so many clauses were added.
-pub record Steps {S : Type 0} (tells : Bool) (before after : Channel) (old new : TableState S) (justified : ℕ) (error : Option TableError) : Type 0 where
+pub record Steps {S : Type 0} (tells : Bool) (before after : Channel) (old new : TableState S) (justified : ℕ)
+    (error : Option TableError) : Type 0 where
   pub leaves : Leaves tells before after old new error
   pub extends : Extends old new
   pub adds : AddsAtMost justified old new

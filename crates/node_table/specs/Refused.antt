@@ -28,7 +28,9 @@ module _ {T : Type 0} (result : Result T TableError) (memory : IsErrAnd result (
   pub memory_not_fault : result ≡ Err WriteFault → ⊥
   memory_not_fault is = no_memory_no_fault (came_from result OutOfMemory WriteFault memory is)
 
-pub same_nodes : {S : Type 0} (old new : TableState S) {T : Type 0} (result : Result T TableError) → IfErr result (λ e. e ≢ WriteFault → IsSame old new) → result ≡ Err NodeLimit
+pub same_nodes : {S : Type 0} (old new : TableState S) {T : Type 0} (result : Result T TableError)
+    → IfErr result (λ e. e ≢ WriteFault → IsSame old new) → result ≡ Err NodeLimit
     → new.graph ≡ old.graph
 same_nodes {S} old new {T} result refused is =
-    ap (λ (t : TableState S). t.graph) (subst (λ (r : Result T TableError). IfErr r (λ e. e ≢ WriteFault → IsSame old new)) is refused no_nodes_left)
+    ap (λ (t : TableState S). t.graph) (subst (λ (r : Result T TableError). IfErr r (λ e. e ≢ WriteFault
+    → IsSame old new)) is refused no_nodes_left)

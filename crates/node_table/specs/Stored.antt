@@ -1,6 +1,7 @@
 -- How the nodes of a table are stored: in six words each, under their keys in a slab, beside an index of their levels and
 -- children. Extension variables that were given and are no node's are free, and the least free one is given next.
-use Rattle.std.specs.Prelude.{◌≡◌, ◌<◌, ◌≤◌, ◌+◌, ◌-◌, ◌*◌, ◌^◌, ◌⊎◌, ℕ, zero, suc, List, [], ◌∷◌, ◌++◌, Contains, length, slice_index_or, Option, None, Some}
+use Rattle.std.specs.Prelude.{◌≡◌, ◌<◌, ◌≤◌, ◌+◌, ◌-◌, ◌*◌, ◌^◌, ◌⊎◌, ℕ, zero, suc, List, [], ◌∷◌, ◌++◌, Contains, length, slice_index_or}
+use Rattle.std.specs.Prelude.{Option, None, Some}
 use Rattle.std.specs.FinMap as map
 use Rattle.slab.specs.Slab.{Slab, get, slab_len}
 use Rattle.cnf_base.specs.ProofText.{max_id}
@@ -99,4 +100,5 @@ pub record HasVariables (levels next : ℕ) (free : List ℕ) (capacity : ℕ) (
 
 -- The last free variable was taken, or where none is free the next one, the one after which comes next then.
 abbrev pub Takes : List ℕ → ℕ → List ℕ → ℕ → ℕ → Type 0
-Takes free next left after variable = ((free ≡ left ++ variable ∷ []) × (after ≡ next)) ⊎ ((free ≡ []) × (left ≡ []) × (variable ≡ next) × (after ≡ next + 1))
+Takes free next left after variable = ((free ≡ left ++ variable ∷ []) × (after ≡ next))
+    ⊎ ((free ≡ []) × (left ≡ []) × (variable ≡ next) × (after ≡ next + 1))

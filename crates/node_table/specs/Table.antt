@@ -30,8 +30,10 @@ pub record TableState (S : Type 0) : Type 0 where
 
 abbrev pub table_code : {S : Type 0} → Coded S → Coded (TableState S)
 table_code {S} code =
-    code_by (Graph × (Book S × (ℕ × (ℕ × List ℕ)))) (coded× graph_code (coded× (book_code code) (coded× coded_ℕ (coded× coded_ℕ (coded_list coded_ℕ)))))
-    (λ t. (t.graph, (t.book, (t.max_nodes, (t.inputs, t.retired))))) (λ p. record { graph = p.0; book = p.1.0; max_nodes = p.1.1.0; inputs = p.1.1.1.0; retired = p.1.1.1.1 }) (λ _. refl)
+    code_by (Graph × (Book S × (ℕ × (ℕ × List ℕ)))) (coded× graph_code
+    (coded× (book_code code) (coded× coded_ℕ (coded× coded_ℕ (coded_list coded_ℕ)))))
+    (λ t. (t.graph, (t.book, (t.max_nodes, (t.inputs, t.retired)))))
+    (λ p. record { graph = p.0; book = p.1.0; max_nodes = p.1.1.0; inputs = p.1.1.1.0; retired = p.1.1.1.1 }) (λ _. refl)
 
 -- a clause of a table that was added beside the formula's and the definitions of nodes
 abbrev pub IsAddedTo : {S : Type 0} → TableState S → ℕ → Type 0

@@ -17,7 +17,8 @@ pub record IsOwned (graph : Graph) (variable : ℕ) : Type 0 where
 
 -- each extension variable of a clause is that of a node
 abbrev pub IsOverNodes : Graph → List ℤ → Type 0
-IsOverNodes graph clause = (literal : ℤ) → IsTrue (list_any (int_eq literal) clause) → levels graph < nat_abs literal → IsOwned graph (nat_abs literal)
+IsOverNodes graph clause = (literal : ℤ) → IsTrue (list_any (int_eq literal) clause) → levels graph < nat_abs literal
+    → IsOwned graph (nat_abs literal)
 
 -- The nodes are reduced and ordered, the clauses that define each are live, and no live clause holds an extension
 -- variable that isn't a node's. Live clauses are numbered from 1 to the greatest number.

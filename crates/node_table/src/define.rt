@@ -1,7 +1,8 @@
 // The defining clauses of a new node on the proof: those from the children up to the node, then those from the node
 // down, whose candidates are the first ones. (Bryant, Heule: Generating Extended Resolution Proofs with a BDD-Based
 // SAT Solver, 2021, section 4.)
-ghost use Rattle.std.specs.Prelude.{◌≡◌, ◌≤◌, ◌<◌, ◌+◌, ◌++◌, ℕ, ℤ, List, Some, IsTrue, IsErr, OnOk, IfOk, IfErr, false, is_some, length, take};
+ghost use Rattle.std.specs.Prelude.{◌≡◌, ◌≤◌, ◌<◌, ◌+◌, ◌++◌, ℕ, ℤ, List, Some, IsTrue, IsErr, OnOk, IfOk, IfErr, false, is_some, length};
+ghost use Rattle.std.specs.Prelude.{take};
 ghost use Rattle.std.specs.Option.{option_to_list};
 ghost use Rattle.cnf_base.specs.ProofText.{given_if};
 ghost use Rattle.lrat_rules.specs.State.{State};
@@ -10,7 +11,8 @@ ghost use Rattle.lrat_rules.specs.Strict.{IsDefinition};
 ghost use Rattle.hint_chain.specs.Atoms.{clause_of};
 ghost use Rattle.clause_ledger.specs.Book.{IsProofOf, IsTorn, OnlyWrites};
 ghost use Rattle.clause_ledger.specs.declared.error.LedgerError.TheVariants.{WriteFault};
-ghost use Rattle.node_table.specs.Defined.{IsNewVariable, definitions, count_atoms, one_if, with_some, line_of_some, with_definitions, definition_lines};
+ghost use Rattle.node_table.specs.Defined.{IsNewVariable, definitions, count_atoms, one_if, with_some, line_of_some, with_definitions};
+ghost use Rattle.node_table.specs.Defined.{definition_lines};
 ghost use Rattle.node_table.specs.Tied.{KeepsClauses};
 ghost use Rattle.node_table.specs.Progress.{ComesSince};
 
@@ -32,15 +34,18 @@ pub fn write_definitions<S: Sink + Drop>(
     requires new_variable { IsNewVariable ledger.old.state.live u x high.now low.now }
     requires room { ledger.old.state.top + count_atoms high.now low.now ≤ ledger.old.limit }
     requires spare { 4 ≤ ledger.old.spare }
-    ensures written { OnOk result (ledger.new.state ≡ with_definitions ledger.old.state (definitions u x high.now low.now (ledger.old.state.top + 1))) }
+    ensures written { OnOk result (ledger.new.state ≡ with_definitions ledger.old.state
+        (definitions u x high.now low.now (ledger.old.state.top + 1))) }
     ensures lines { IsTrue S.tells → OnOk result ((S.channel ledger.new.sink).written
-        ≡ (S.channel ledger.old.sink).written ++ definition_lines ledger.old.state (definitions u x high.now low.now (ledger.old.state.top + 1))) }
+        ≡ (S.channel ledger.old.sink).written ++ definition_lines ledger.old.state
+        (definitions u x high.now low.now (ledger.old.state.top + 1))) }
     ensures kept { (clauses : List (List ℤ)) → IsProofOf clauses S.tells (S.channel ledger.old.sink) ledger.old.state
         → OnOk result (IsProofOf clauses S.tells (S.channel ledger.new.sink) ledger.new.state) }
     ensures in_step { OnOk result (IsTrue ledger.new.in_step) }
     ensures limit { ledger.new.limit ≡ ledger.old.limit }
     // However the call ends, a front of the definitions stands.
-    ensures front { (n : ℕ) × (ledger.new.state ≡ with_definitions ledger.old.state (take n (definitions u x high.now low.now (ledger.old.state.top + 1)))) }
+    ensures front { (n : ℕ)
+        × (ledger.new.state ≡ with_definitions ledger.old.state (take n (definitions u x high.now low.now (ledger.old.state.top + 1)))) }
 
     ensures error { IfErr result (λ e. e ≡ WriteFault) }
     ensures write_fault { IsErr result → IsTorn S.tells (S.channel ledger.old.sink) (S.channel ledger.new.sink)

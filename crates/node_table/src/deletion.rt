@@ -39,22 +39,26 @@ pub fn delete_definitions<S: Sink + Drop>(
 ) -> Result<(), LedgerError>
     requires in_step { IsTrue ledger.old.in_step }
     requires reduced { IsReduced diagram.now }
-    requires defined { (key : ℕ) (branch : BranchValue) → branch_at diagram.now key ≡ Some branch → IsDefined ledger.old.state.live diagram.now branch }
+    requires defined { (key : ℕ) (branch : BranchValue) → branch_at diagram.now key ≡ Some branch
+        → IsDefined ledger.old.state.live diagram.now branch }
     requires numbered { AreNumberedAbove 0 diagram.now }
     ensures gone { OnOk result ((id : ℕ) → DefinesUnmarked diagram.now marks.now id → clause_at ledger.new.state.live id ≡ None) }
     // However it ends, the others stay, and all else is as it was.
-    ensures stay { (id : ℕ) → (DefinesUnmarked diagram.now marks.now id → ⊥) → clause_at ledger.new.state.live id ≡ clause_at ledger.old.state.live id }
+    ensures stay { (id : ℕ) → (DefinesUnmarked diagram.now marks.now id → ⊥) → clause_at ledger.new.state.live id
+        ≡ clause_at ledger.old.state.live id }
     ensures among { KeepsClauses ledger.new.state.live ledger.old.state.live }
     ensures top { ledger.new.state.top ≡ ledger.old.state.top }
     ensures limit { ledger.new.limit ≡ ledger.old.limit }
     ensures spare { ledger.new.spare ≡ ledger.old.spare }
     ensures in_step { ledger.new.in_step ≡ is_ok result }
     // No clause of the formula may be among them.
-    ensures kept { (clauses : List (List ℤ)) → AreNumberedAbove (length clauses) diagram.now → IsProofOf clauses S.tells (S.channel ledger.old.sink) ledger.old.state
+    ensures kept { (clauses : List (List ℤ)) → AreNumberedAbove (length clauses) diagram.now
+        → IsProofOf clauses S.tells (S.channel ledger.old.sink) ledger.old.state
         → OnOk result (IsProofOf clauses S.tells (S.channel ledger.new.sink) ledger.new.state) }
     ensures error { IfErr result (λ e. e ≡ WriteFault) }
     ensures rose { OnErr result (Rose (S.channel ledger.old.sink).faults (S.channel ledger.new.sink).faults) }
-    ensures cut { (clauses : List (List ℤ)) → AreNumberedAbove (length clauses) diagram.now → IsProofOf clauses S.tells (S.channel ledger.old.sink) ledger.old.state → IsTrue S.tells
+    ensures cut { (clauses : List (List ℤ)) → AreNumberedAbove (length clauses) diagram.now
+        → IsProofOf clauses S.tells (S.channel ledger.old.sink) ledger.old.state → IsTrue S.tells
         → OnErr result (IsCutAmong clauses (S.channel ledger.new.sink).written ledger.old.state ledger.new.state) }
     ensures unfailed { OnOk result ((S.channel ledger.new.sink).faults ≡ (S.channel ledger.old.sink).faults) }
     ensures only_writes { OnlyWrites (S.channel ledger.old.sink) (S.channel ledger.new.sink) }
@@ -91,7 +95,8 @@ fn make_room<S: Sink + Drop>(ledger: &mut Ledger<S>, ids: &mut Ids) -> Result<()
     requires in_step { IsTrue ledger.old.in_step }
     requires live { IsTrue (are_added 0 ledger.old.state.live ids.old.items) }
     ensures room { OnOk result (array_vec_len ids.new ≤ 508) }
-    ensures deleted { OnOk result ((deleted : List ℕ) × (deleted ++ ids.new.items ≡ ids.old.items) × Deletes S.tells S.channel ledger.old ledger.new deleted) }
+    ensures deleted { OnOk result ((deleted : List ℕ) × (deleted ++ ids.new.items ≡ ids.old.items)
+        × Deletes S.tells S.channel ledger.old ledger.new deleted) }
     ensures error { IfErr result (λ e. e ≡ WriteFault) }
     ensures torn { OnErr result (DeletesTorn S.tells S.channel ledger.old ledger.new ids.old.items) }
     ensures beside { S.beside ledger.new.sink ≡ S.beside ledger.old.sink }

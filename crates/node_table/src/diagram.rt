@@ -1,10 +1,12 @@
 // The nodes of a table, each under a key of its own in a slab; an index finds a node by its level and children. A new
 // node's extension variable is the least that no node has: those of nodes that went are kept, the greatest first.
-ghost use Rattle.std.specs.Prelude.{◌≡◌, ◌≢◌, ◌↔◌, ◌+◌, ◌<◌, ◌≤◌, ◌^◌, ℕ, pos, [], None, Some, IfOk, IfSome, OnErr, MatchOption, length, vec_capacity, IsTrue};
+ghost use Rattle.std.specs.Prelude.{◌≡◌, ◌≢◌, ◌↔◌, ◌+◌, ◌<◌, ◌≤◌, ◌^◌, ℕ, pos, [], None, Some, IfOk, IfSome, OnErr, MatchOption, length};
+ghost use Rattle.std.specs.Prelude.{vec_capacity, IsTrue};
 ghost use Rattle.std.specs.FinMap as map;
 ghost use Rattle.cnf_base.specs.Truth.{assignment_of};
 ghost use Rattle.cnf_base.specs.ProofText.{max_id};
-ghost use Rattle.node_table.specs.Diagram.{Graph, IsOrder, IsReduced, IsBelow, IsNew, IsWanted, branch_at, branch_of, is_node, levels, variable_at};
+ghost use Rattle.node_table.specs.Diagram.{Graph, IsOrder, IsReduced, IsBelow, IsNew, IsWanted, branch_at, branch_of, is_node, levels};
+ghost use Rattle.node_table.specs.Diagram.{variable_at};
 ghost use Rattle.node_table.specs.Value.{value_of, by_level, IsChosen};
 ghost use Rattle.node_table.specs.Stored.{ArePlaces, Takes};
 ghost use Rattle.node_table.specs.Marks.{AreMarks};
@@ -182,8 +184,10 @@ impl Diagram {
         requires high { IsTrue (is_node self.now high) }
         requires low { IsTrue (is_node self.now low) }
         ensures { MatchOption result
-            ((key : ℕ) (branch : BranchValue) → branch_at self.now key ≡ Some branch → branch.level ≡ level → branch.high ≡ high → branch.low ≡ low → ⊥)
-            (λ key. (branch : BranchValue) × (branch_at self.now key.index ≡ Some branch) × (branch.level ≡ level) × (branch.high ≡ high) × (branch.low ≡ low)) }
+            ((key : ℕ) (branch : BranchValue) → branch_at self.now key ≡ Some branch → branch.level ≡ level → branch.high ≡ high
+            → branch.low ≡ low → ⊥)
+            (λ key. (branch : BranchValue) × (branch_at self.now key.index ≡ Some branch) × (branch.level ≡ level) × (branch.high ≡ high)
+            × (branch.low ≡ low)) }
     {
         let nodes = &self.nodes;
         let high = Child::of(high);
@@ -209,9 +213,11 @@ impl Diagram {
         requires wanted { IsWanted self.old level high low }
         requires few { map.len self.old.nodes < 100000000 }
         requires first { first ≤ max_id + 1 }
-        ensures ok { IfOk result (λ made. IsNew self.old self.new made.0.index (record { level = level; variable = made.1; high = high; low = low; first = first })) }
+        ensures ok { IfOk result (λ made. IsNew self.old self.new made.0.index
+            (record { level = level; variable = made.1; high = high; low = low; first = first })) }
         ensures range { IfOk result (λ made. (levels self.old < made.1) × (made.1 ≤ levels self.old + map.len self.old.nodes + 1)) }
-        ensures own { IfOk result (λ made. (key : ℕ) (branch : BranchValue) → branch_at self.old key ≡ Some branch → branch.variable ≢ made.1) }
+        ensures own { IfOk result (λ made. (key : ℕ) (branch : BranchValue) → branch_at self.old key ≡ Some branch → branch.variable
+            ≢ made.1) }
         ensures least { IfOk result (λ made. (variable : ℕ) → levels self.old < variable → variable < made.1
             → (key : ℕ) × (branch : BranchValue) × (branch_at self.old key ≡ Some branch) × (branch.variable ≡ variable)) }
         ensures err { OnErr result (self.new ≡ self.old) }
@@ -261,7 +267,8 @@ impl Diagram {
     // The child of an inner node that its variable chooses.
     fn chosen(&self, node: Node, values: &[bool]) -> Option<Node>
         requires { IsTrue (is_node self.now node) }
-        ensures { MatchOption result (branch_of self.now node ≡ None) (λ child. IsChosen self.now (by_level self.now.order (assignment_of values.now)) node child) }
+        ensures { MatchOption result (branch_of self.now node ≡ None)
+            (λ child. IsChosen self.now (by_level self.now.order (assignment_of values.now)) node child) }
     {
         let branch = self.branch(node)?;
         let variable = self.order.as_slice()[branch.level as usize];

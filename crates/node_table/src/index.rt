@@ -1,6 +1,7 @@
 // Finds stored nodes by their level and children: open addressing over their keys, by the kit's default hash. A node that
 // is looked up is met at the first place in most cases, since at most half of the places are taken.
-ghost use Rattle.std.specs.Prelude.{◌≡◌, ◌<◌, ◌≤◌, ◌+◌, ◌*◌, ◌^◌, ℕ, [], None, Some, OnOk, IfNone, IfSome, MatchOption, IsTrue, IsFalse, length, max, count_by, slice_index_or};
+ghost use Rattle.std.specs.Prelude.{◌≡◌, ◌<◌, ◌≤◌, ◌+◌, ◌*◌, ◌^◌, ℕ, [], None, Some, OnOk, IfNone, IfSome, MatchOption, IsTrue, IsFalse};
+ghost use Rattle.std.specs.Prelude.{length, max, count_by, slice_index_or};
 ghost use Rattle.slab.specs.Slab.{Slab as Slots, get, slab_len, Updates};
 ghost use Rattle.node_table.specs.Index.{IsIndexOf, HasRoom, IsTriple, IsCounted, IsFirstFree, Enters, home_of, is_taken, place_at};
 ghost use Rattle.node_table.specs.declared.stored.StoredNode.{StoredNode as Stored};
@@ -87,7 +88,8 @@ impl Index {
     pub fn insert(&mut self, key: u32, node: &StoredNode)
         requires room { HasRoom self.old }
         requires key { key + 1 < 2 ^ 32 }
-        ensures { (old new : Slots Stored) → IsIndexOf self.old old → get old key ≡ None → Updates old new key (Some node.now) → IsIndexOf self.new new }
+        ensures { (old new : Slots Stored) → IsIndexOf self.old old → get old key ≡ None → Updates old new key (Some node.now)
+            → IsIndexOf self.new new }
     {
         self.enter(key, node);
     }

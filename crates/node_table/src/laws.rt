@@ -62,7 +62,8 @@ pub fn reach_law()
 pub fn opening_law()
     ensures tied { (order : List ℕ) (clauses : List (List ℤ)) → IsOrder order → AreClausesOf (length order) clauses
         → IsTied (record { order = order; nodes = map.empty }) (start clauses) }
-    ensures retired { (order : List ℕ) (clauses : List (List ℤ)) (inputs : ℕ) → AreRetired (record { order = order; nodes = map.empty }) (start clauses).live inputs [] }
+    ensures retired { (order : List ℕ) (clauses : List (List ℤ)) (inputs : ℕ)
+        → AreRetired (record { order = order; nodes = map.empty }) (start clauses).live inputs [] }
 {
     start_law();
 }
@@ -75,7 +76,8 @@ pub fn in_use_law()
 /// Of the clauses above the formula's no more are live than four for each extension variable in use, those that were added
 /// beside the definitions of nodes, and those that came since. Where a list has all that are live, there are no more of them.
 pub fn lean_law<S: Sink + Drop>()
-    ensures few { (inputs : ℕ) (live : Live) (ids : List ℕ) → ((id : ℕ) → inputs < id → IsTrue (is_some (clause_at live id)) → Contains ids id) → live_above inputs live ≤ length ids }
+    ensures few { (inputs : ℕ) (live : Live) (ids : List ℕ) → ((id : ℕ) → inputs < id → IsTrue (is_some (clause_at live id))
+        → Contains ids id) → live_above inputs live ≤ length ids }
     ensures lean { (old : TableState S) (number : ℕ) (state : State) → IsSound old → HasAdded old number → ComesSince old.book.state state
         → IsLean (levels old.graph) old.inputs (number + (state.top - old.book.state.top)) state }
 {}

@@ -83,7 +83,8 @@ fn mark_children(
     waiting: &mut Vec<u32>,
 ) -> Result<(), OutOfMemory>
     requires { HaveMarks (length marked.old.items) (branch_at diagram.now key) }
-    ensures { OnOk result (marking marked.new.items waiting.new.items ≡ with_children (branch_at diagram.now key) (marking marked.old.items waiting.old.items)) }
+    ensures { OnOk result (marking marked.new.items waiting.new.items
+        ≡ with_children (branch_at diagram.now key) (marking marked.old.items waiting.old.items)) }
 {
     match diagram.branch(Node::Inner(NodeKey { index: key })) {
         None => Ok(()),

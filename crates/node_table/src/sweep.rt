@@ -1,6 +1,7 @@
 // Nodes that aren't marked are given back: they leave the slab, which can give out their keys again, and what is left of
 // them are their extension variables.
-ghost use Rattle.std.specs.Prelude.{◌≡◌, ◌≢◌, ◌+◌, ◌≤◌, ◌++◌, ℕ, false, None, MatchOption, map, nat_eq, slice_index_or, vec_len, vec_capacity, if◌then◌else◌, IsPermutation};
+ghost use Rattle.std.specs.Prelude.{◌≡◌, ◌≢◌, ◌+◌, ◌≤◌, ◌++◌, ℕ, false, None, MatchOption, map, nat_eq, slice_index_or, vec_len};
+ghost use Rattle.std.specs.Prelude.{vec_capacity, if◌then◌else◌, IsPermutation};
 ghost use Rattle.std.specs.List.{IsDistinct};
 ghost use Rattle.slab.specs.Slab.{get, slab_len};
 ghost use Rattle.node_table.specs.Stored.{IsFalling};

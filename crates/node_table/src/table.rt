@@ -1,6 +1,8 @@
 // The unique table: nodes with their extension variables and defining clauses on the proof. (Bryant, 1986; Bryant,
 // Heule: Generating Extended Resolution Proofs with a BDD-Based SAT Solver, 2021.)
-ghost use Rattle.std.specs.Prelude.{◌≡◌, ◌≢◌, ◌↔◌, ◌⊎◌, ◌≤◌, ◌<◌, ◌+◌, ◌-◌, ◌++◌, ℕ, ℤ, pos, List, [], ◌∷◌, Contains, None, Some, Ok, Err, IsTrue, IsFalse, IsOk, IsErr, OnOk, OnErr, IfOk, IfErr, IsErrOf, MatchOption, true, false, is_some, length, vec_capacity};
+ghost use Rattle.std.specs.Prelude.{◌≡◌, ◌≢◌, ◌↔◌, ◌⊎◌, ◌≤◌, ◌<◌, ◌+◌, ◌-◌, ◌++◌, ℕ, ℤ, pos, List, [], ◌∷◌, Contains, None, Some, Ok, Err};
+ghost use Rattle.std.specs.Prelude.{IsTrue, IsFalse, IsOk, IsErr, OnOk, OnErr, IfOk, IfErr, IsErrOf, MatchOption, true, false, is_some};
+ghost use Rattle.std.specs.Prelude.{length, vec_capacity};
 ghost use Rattle.std.specs.Option.{option_copied, option_map};
 ghost use Rattle.std.specs.FinMap as map;
 ghost use Rattle.cnf_base.specs.Truth.{assignment_of, AreClausesOf};
@@ -9,11 +11,13 @@ ghost use Rattle.lrat_rules.specs.Strict.{RefutesStrictly};
 ghost use Rattle.clause_ledger.specs.Book.{IsTorn, deletion_line, next_line, with_next};
 ghost use Rattle.node_table.specs.declared.node.Branch.{Branch as BranchValue};
 ghost use Rattle.node_table.specs.declared.error.TableError.TheVariants.{NodeLimit, IdLimit, WriteFault};
-ghost use Rattle.node_table.specs.Diagram.{Graph, IsOrder, IsReduced, IsBelow, branch_at, branch_of, is_node, levels, level_of, high_at, low_at, variable_at};
+ghost use Rattle.node_table.specs.Diagram.{Graph, IsOrder, IsReduced, IsBelow, branch_at, branch_of, is_node, levels, level_of, high_at};
+ghost use Rattle.node_table.specs.Diagram.{low_at, variable_at};
 ghost use Rattle.node_table.specs.Value.{value_of, by_level};
 ghost use Rattle.node_table.specs.Defined.{IsDefined, atom_of, defs_of, definition_count, definition_lines, literal_of_branch};
 ghost use Rattle.node_table.specs.Tied.{IsOverNodes};
-ghost use Rattle.node_table.specs.Table.{TableState, IsSound, IsAddedTo, AddsNone, HasChildren, IsMissing, IsWanted, IsFree, IsMade, IsSame, UnlessTorn, live_nodes, node_definitions, without_retired};
+ghost use Rattle.node_table.specs.Table.{TableState, IsSound, IsAddedTo, AddsNone, HasChildren, IsMissing, IsWanted, IsFree, IsMade};
+ghost use Rattle.node_table.specs.Table.{IsSame, UnlessTorn, live_nodes, node_definitions, without_retired};
 ghost use Rattle.node_table.specs.Progress.{Leaves, Steps, error_of};
 ghost use Rattle.node_table.specs.Made.{inner};
 ghost use Rattle.node_table.specs.declared.node.Node.{Node as NodeValue};
@@ -58,7 +62,13 @@ impl<S: Sink + Drop> Model for Table<S> {
 
     ghost coded = { table_code S.code };
 
-    ghost view = { λ t. record { graph = t.diagram; book = t.ledger; max_nodes = t.max_nodes; inputs = t.inputs; retired = t.retired.items } };
+    ghost view = { λ t. record {
+      graph = t.diagram;
+      book = t.ledger;
+      max_nodes = t.max_nodes;
+      inputs = t.inputs;
+      retired = t.retired.items;
+    } };
 
     ghost invariant = { λ t. (t.max_nodes ≤ 100000000) × (live_nodes t.diagram ≤ t.max_nodes)
         × (IsTrue t.ledger.in_step → HavePlaces t.diagram t.ledger.state.live t.inputs t.places (vec_capacity t.retired))
@@ -77,7 +87,13 @@ impl<S: Sink + Drop> Table<S> {
         requires order { IsOrder order.now }
         requires few_levels { length order.now ≤ 1000000 }
         requires few_nodes { max_nodes ≤ 100000000 }
-        ensures opened { IfOk result (λ table. table ≡ record { graph = record { order = order.now; nodes = map.empty }; book = ledger; max_nodes = max_nodes; inputs = ledger.state.top; retired = [] }) }
+        ensures opened { IfOk result (λ table. table ≡ record {
+          graph = record { order = order.now; nodes = map.empty };
+          book = ledger;
+          max_nodes = max_nodes;
+          inputs = ledger.state.top;
+          retired = [];
+        }) }
         ensures refused { IfErr result (λ back. back.0 ≡ ledger) }
     {
         match Diagram::new(alloc, order) {
@@ -140,18 +156,23 @@ impl<S: Sink + Drop> Table<S> {
             → (branch_at self.old.graph key ≡ Some branch) ⊎ (result ≡ Ok (inner key))) }
         // Equal children give the child and a known node itself, and nothing is written.
         ensures equal { high ≡ low → (result ≡ Ok high) × (self.new ≡ self.old) }
-        ensures known { (key : ℕ) (branch : BranchValue) → branch_at self.old.graph key ≡ Some branch → branch.level ≡ level → branch.high ≡ high → branch.low ≡ low
+        ensures known { (key : ℕ) (branch : BranchValue) → branch_at self.old.graph key ≡ Some branch → branch.level ≡ level → branch.high
+            ≡ high → branch.low ≡ low
             → (result ≡ Ok (inner key)) × (self.new ≡ self.old) }
         // A node that is wanted is made by its definitions.
-        ensures made { IsWanted self.old.graph level high low → IfOk result (λ node. (variable : ℕ) × IsMade self.old self.new level high low variable node
+        ensures made { IsWanted self.old.graph level high low → IfOk result (λ node. (variable : ℕ)
+            × IsMade self.old self.new level high low variable node
             × (IsTrue S.tells → (S.channel self.new.book.sink).written
-            ≡ (S.channel self.old.book.sink).written ++ definition_lines self.old.book.state (node_definitions self.old.graph self.old.book.state level high low variable))) }
+            ≡ (S.channel self.old.book.sink).written ++ definition_lines self.old.book.state
+            (node_definitions self.old.graph self.old.book.state level high low variable))) }
         ensures torn { result ≡ Err WriteFault → (variable : ℕ) × IsFree self.old.graph self.old.book.state.live variable
             × IsTorn S.tells (S.channel self.old.book.sink) (S.channel self.new.book.sink)
             (definition_lines self.old.book.state (node_definitions self.old.graph self.old.book.state level high low variable)) }
         // The limits, tried in this order.
-        ensures node_limit { (result ≡ Err NodeLimit) ↔ (IsWanted self.old.graph level high low × (self.old.max_nodes ≤ live_nodes self.old.graph)) }
-        ensures id_limit { (result ≡ Err IdLimit) ↔ (IsWanted self.old.graph level high low × (live_nodes self.old.graph < self.old.max_nodes)
+        ensures node_limit { (result ≡ Err NodeLimit) ↔ (IsWanted self.old.graph level high low
+            × (self.old.max_nodes ≤ live_nodes self.old.graph)) }
+        ensures id_limit { (result ≡ Err IdLimit) ↔ (IsWanted self.old.graph level high low
+            × (live_nodes self.old.graph < self.old.max_nodes)
             × (self.old.book.limit < self.old.book.state.top + definition_count high low)) }
         ensures refused { IfErr result (λ e. e ≢ WriteFault → IsSame self.old self.new) }
         ensures beside { S.beside self.new.book.sink ≡ S.beside self.old.book.sink }
@@ -171,13 +192,15 @@ impl<S: Sink + Drop> Table<S> {
         requires sound { IsSound self.old }
         requires strict { RefutesStrictly self.old.book.state.live clause.now hints.now }
         requires over_nodes { IsOverNodes self.old.graph clause.now }
-        ensures added { IfOk result (λ id. (id ≡ self.old.book.state.top + 1) × (self.new.book.state ≡ with_next self.old.book.state clause.now)) }
+        ensures added { IfOk result (λ id. (id ≡ self.old.book.state.top + 1)
+            × (self.new.book.state ≡ with_next self.old.book.state clause.now)) }
         ensures own { IfOk result (λ id. IsAddedTo self.new id) }
         ensures unretired { IfOk result (λ id. Contains self.new.retired id → ⊥) }
         ensures steps { Steps S.tells (S.channel self.old.book.sink) (S.channel self.new.book.sink) self.old self.new 1 (error_of result) }
         ensures nodes { self.new.graph ≡ self.old.graph }
         ensures retired { self.new.retired ≡ self.old.retired }
-        ensures line { IsTrue S.tells → OnOk result ((S.channel self.new.book.sink).written ≡ (S.channel self.old.book.sink).written ++ next_line self.old.book.state clause.now hints.now) }
+        ensures line { IsTrue S.tells → OnOk result ((S.channel self.new.book.sink).written ≡ (S.channel self.old.book.sink).written
+            ++ next_line self.old.book.state clause.now hints.now) }
         ensures torn { result ≡ Err WriteFault → IsTorn S.tells (S.channel self.old.book.sink) (S.channel self.new.book.sink)
             (next_line self.old.book.state clause.now hints.now) }
         ensures id_limit { (result ≡ Err IdLimit) ↔ (self.old.book.limit ≤ self.old.book.state.top) }
@@ -214,15 +237,22 @@ impl<S: Sink + Drop> Table<S> {
     /// Deletes the retired clauses by one line. Only `WriteFault` may come.
     pub fn settle(&mut self) -> Result<(), TableError>
         requires sound { IsSound self.old }
-        ensures settled { OnOk result (self.new ≡ record self.old { book = record self.old.book { sink = self.new.book.sink; state = without_retired self.old }; retired = [] }) }
+        ensures settled { OnOk result (self.new
+            ≡ record self.old {
+              book = record self.old.book { sink = self.new.book.sink; state = without_retired self.old };
+              retired = [];
+            }) }
         // However it ends, they are live no more, and all else is as it was.
         ensures gone { (id : ℕ) → Contains self.old.retired id → clause_at self.new.book.state.live id ≡ None }
-        ensures stay { (id : ℕ) → (Contains self.old.retired id → ⊥) → clause_at self.new.book.state.live id ≡ clause_at self.old.book.state.live id }
+        ensures stay { (id : ℕ) → (Contains self.old.retired id → ⊥) → clause_at self.new.book.state.live id
+            ≡ clause_at self.old.book.state.live id }
         ensures nodes { self.new.graph ≡ self.old.graph }
         ensures top { self.new.book.state.top ≡ self.old.book.state.top }
         ensures leaves { Leaves S.tells (S.channel self.old.book.sink) (S.channel self.new.book.sink) self.old self.new (error_of result) }
-        ensures line { IsTrue S.tells → OnOk result ((S.channel self.new.book.sink).written ≡ (S.channel self.old.book.sink).written ++ deletion_line self.old.book.state self.old.retired) }
-        ensures torn { IsErr result → IsTorn S.tells (S.channel self.old.book.sink) (S.channel self.new.book.sink) (deletion_line self.old.book.state self.old.retired) }
+        ensures line { IsTrue S.tells → OnOk result ((S.channel self.new.book.sink).written ≡ (S.channel self.old.book.sink).written
+            ++ deletion_line self.old.book.state self.old.retired) }
+        ensures torn { IsErr result → IsTorn S.tells (S.channel self.old.book.sink) (S.channel self.new.book.sink)
+            (deletion_line self.old.book.state self.old.retired) }
         ensures error { IfErr result (λ e. e ≡ WriteFault) }
         ensures beside { S.beside self.new.book.sink ≡ S.beside self.old.book.sink }
     {
@@ -246,7 +276,8 @@ impl<S: Sink + Drop> Table<S> {
         requires clear { AreClear self.old.graph marks.now self.old.book.state.live }
         ensures swept { OnOk result (IsSwept self.old.graph self.new.graph marks.now) }
         ensures gone { OnOk result ((id : ℕ) → DefinesUnmarked self.old.graph marks.now id → clause_at self.new.book.state.live id ≡ None) }
-        ensures stay { (id : ℕ) → (DefinesUnmarked self.old.graph marks.now id → ⊥) → clause_at self.new.book.state.live id ≡ clause_at self.old.book.state.live id }
+        ensures stay { (id : ℕ) → (DefinesUnmarked self.old.graph marks.now id → ⊥) → clause_at self.new.book.state.live id
+            ≡ clause_at self.old.book.state.live id }
         ensures formula { (id : ℕ) → id ≤ self.old.inputs → clause_at self.new.book.state.live id ≡ clause_at self.old.book.state.live id }
         ensures none_added { OnOk result (AddsNone self.old self.new) }
         ensures top { self.new.book.state.top ≡ self.old.book.state.top }
@@ -267,7 +298,8 @@ impl<S: Sink + Drop> Table<S> {
     /// The level of an inner node and its children; None for a constant.
     pub fn parts(&self, node: Node) -> Option<(u32, Node, Node)>
         ensures { MatchOption result (branch_of self.now.graph node ≡ None)
-            (λ parts. (branch : BranchValue) × (branch_of self.now.graph node ≡ Some branch) × (parts.0 ≡ branch.level) × (parts.1 ≡ branch.high) × (parts.2 ≡ branch.low)) }
+            (λ parts. (branch : BranchValue) × (branch_of self.now.graph node ≡ Some branch) × (parts.0 ≡ branch.level)
+            × (parts.1 ≡ branch.high) × (parts.2 ≡ branch.low)) }
     {
         match self.diagram.branch(node) {
             None => None,
@@ -399,12 +431,14 @@ impl<S: Sink + Drop> Table<S> {
             → (branch_at self.old.graph key ≡ Some branch) ⊎ HasChildren self.new.graph level high low (inner key) }
         ensures made { IfOk result (λ node. (variable : ℕ) × IsMade self.old self.new level high low variable node
             × (IsTrue S.tells → (S.channel self.new.book.sink).written
-            ≡ (S.channel self.old.book.sink).written ++ definition_lines self.old.book.state (node_definitions self.old.graph self.old.book.state level high low variable))) }
+            ≡ (S.channel self.old.book.sink).written ++ definition_lines self.old.book.state
+            (node_definitions self.old.graph self.old.book.state level high low variable))) }
         ensures torn { result ≡ Err WriteFault → (variable : ℕ) × IsFree self.old.graph self.old.book.state.live variable
             × IsTorn S.tells (S.channel self.old.book.sink) (S.channel self.new.book.sink)
             (definition_lines self.old.book.state (node_definitions self.old.graph self.old.book.state level high low variable)) }
         ensures node_limit { (result ≡ Err NodeLimit) ↔ (self.old.max_nodes ≤ live_nodes self.old.graph) }
-        ensures id_limit { (result ≡ Err IdLimit) ↔ ((live_nodes self.old.graph < self.old.max_nodes) × (self.old.book.limit < self.old.book.state.top + definition_count high low)) }
+        ensures id_limit { (result ≡ Err IdLimit) ↔ ((live_nodes self.old.graph < self.old.max_nodes)
+            × (self.old.book.limit < self.old.book.state.top + definition_count high low)) }
         ensures refused { IfErr result (λ e. e ≢ WriteFault → IsSame self.old self.new) }
         ensures beside { S.beside self.new.book.sink ≡ S.beside self.old.book.sink }
     {

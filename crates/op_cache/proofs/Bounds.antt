@@ -1,12 +1,14 @@
 -- Each call keeps the keys different and the entries few.
-use Rattle.std.proofs.Common.{◌≡◌, ℕ, ◌-◌, ◌<◌, ◌≤◌, Bool, true, false, List, ◌∷◌, length, take, slice_get, option_map, Option, Some, None, Result, Ok, Err, OnOk, OnErr, refl, sym, ap, ◌∙◌, arith, nat_lt}
+use Rattle.std.proofs.Common.{◌≡◌, ℕ, ◌-◌, ◌<◌, ◌≤◌, Bool, true, false, List, ◌∷◌, length, take, slice_get, option_map, Option, Some, None}
+use Rattle.std.proofs.Common.{Result, Ok, Err, OnOk, OnErr, refl, sym, ap, ◌∙◌, arith, nat_lt}
 use Rattle.std.proofs.lemmas.List.{length-take, length-take-le, take_all}
 use Rattle.std.proofs.lemmas.Option.{slice_get_past}
 use Rattle.std.specs.Cmp.{IsEquivalence}
 use Rattle.std.specs.Map.{keys_of, lookup_entry, remove_entry}
 use Rattle.std.specs.Option.{option_map_or}
 use Rattle.op_cache.specs.Cache.{IsBounded, cache_of, looked, with_pair, kept, without_last}
-use Rattle.op_cache.proofs.Entries.{keys_take, distinct_take, distinct_removed, distinct_more, found_apart, length_removed, none_found, none_in_front, value_of_entry, pair_by, kept_by}
+use Rattle.op_cache.proofs.Entries.{keys_take, distinct_take, distinct_removed, distinct_more, found_apart, length_removed, none_found}
+use Rattle.op_cache.proofs.Entries.{none_in_front, value_of_entry, pair_by, kept_by}
 use Rattle.lru.specs.LruCache.{LruCache, lru_cache, put_entries, displaced}
 use borrow.Author.Tests.{ltb-true, ltb-false}
 

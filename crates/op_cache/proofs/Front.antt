@@ -1,5 +1,6 @@
 -- The keys that were used stand in front.
-use Rattle.std.proofs.Common.{◌≡◌, ℕ, zero, suc, ◌+◌, ◌-◌, ◌≤◌, Bool, true, false, ◌||◌, cond, List, [], ◌∷◌, option_map, length, take, slice_get, nat_lt, Some, None, IsSome, IfSome, refl, sym, ap, ◌∙◌, subst, arith}
+use Rattle.std.proofs.Common.{◌≡◌, ℕ, zero, suc, ◌+◌, ◌-◌, ◌≤◌, Bool, true, false, ◌||◌, cond, List, [], ◌∷◌, option_map, length, take}
+use Rattle.std.proofs.Common.{slice_get, nat_lt, Some, None, IsSome, IfSome, refl, sym, ap, ◌∙◌, subst, arith}
 use Rattle.std.specs.Prelude.{IsTrue, IsFalse}
 use Rattle.std.specs.Cmp.{IsEquivalence}
 use Rattle.std.specs.List.{IsDistinct, AllByRecursion, list_any}
@@ -7,7 +8,8 @@ use Rattle.std.specs.Map.{keys_of, lookup, lookup_entry, remove_entry}
 use Rattle.std.proofs.lemmas.Option.{slice_get-map}
 use Rattle.op_cache.specs.Cache.{IsBounded, cache_of, looked, with_pair, kept, without_last, last_of}
 use Rattle.op_cache.specs.Laws.{is_among, AreInFront}
-use Rattle.op_cache.proofs.Entries.{keys_take, distinct_more, none_in_front, none_found, one_found, value_of_entry, neither, pair_by, kept_by}
+use Rattle.op_cache.proofs.Entries.{keys_take, distinct_more, none_in_front, none_found, one_found, value_of_entry, neither, pair_by}
+use Rattle.op_cache.proofs.Entries.{kept_by}
 use borrow.Author.Tests.{ltb-false}
 
 or_swap : (a b x : Bool) → (a || (b || x)) ≡ (b || (a || x))

@@ -1,6 +1,7 @@
 -- The laws of entries: those that were used last stand in front and are not pushed out, which entries there are, what `keep`
 -- hands back, and what a full turn of them leaves.
-use Rattle.std.specs.Prelude.{◌≡◌, ◌+◌, ◌-◌, ◌<◌, ◌≤◌, ◌⊎◌, ◌↔◌, ℕ, Bool, true, false, List, [], ◌∷◌, ◌++◌, Some, None, IsSome, IfSome, IsTrue, IsFalse, Contains, length, take, drop}
+use Rattle.std.specs.Prelude.{◌≡◌, ◌+◌, ◌-◌, ◌<◌, ◌≤◌, ◌⊎◌, ◌↔◌, ℕ, Bool, true, false, List, [], ◌∷◌, ◌++◌, Some, None, IsSome, IfSome}
+use Rattle.std.specs.Prelude.{IsTrue, IsFalse, Contains, length, take, drop}
 use Rattle.std.specs.List.{IsDistinct, filter, list_any, slice_get}
 use Rattle.std.specs.Map.{keys_of, lookup}
 use Rattle.op_cache.specs.Cache.{IsBounded, cache_of, looked, kept, without_last, last_of}

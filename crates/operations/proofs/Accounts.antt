@@ -1,5 +1,6 @@
 -- The entries of a cache, and the clauses that are named or retired, through one call after another, and as a call ends.
-use Rattle.std.proofs.Common.{◌≡◌, ◌∙◌, ◌≤◌, ◌<◌, ◌⊎◌, ◌++◌, ◌∷◌, ℕ, zero, suc, ℤ, Bool, true, List, [], Option, None, Some, Contains, is_some, refl, sym, ap, subst, arith, inl, inr}
+use Rattle.std.proofs.Common.{◌≡◌, ◌∙◌, ◌≤◌, ◌<◌, ◌⊎◌, ◌++◌, ◌∷◌, ℕ, zero, suc, ℤ, Bool, true, List, [], Option, None, Some, Contains}
+use Rattle.std.proofs.Common.{is_some, refl, sym, ap, subst, arith, inl, inr}
 use Rattle.std.proofs.lemmas.Bool.{cases_lt}
 use Rattle.std.proofs.lemmas.List.Elements.{Contains-append_cases, Contains-append_left, Contains-append_right}
 use Rattle.host_io.specs.Channel.{Channel}
@@ -12,7 +13,8 @@ use Rattle.node_table.specs.Table.{TableState, IsSound, IsAddedTo, AddsNone, Ext
 use Rattle.operations.specs.Accounts.{Accounting, AccountsFor, GivesOne, HasFound, HasKept, IsWhole, RetiresNew, RetiresOne, none_whole}
 use Rattle.operations.specs.Caches.{IsOneKept}
 use Rattle.operations.specs.Ended.{sound_left}
-use Rattle.operations.specs.Entries.{Entry, Accounts, FitsEntry, Fits, Fitting, HaveSame, IsClauseOf, IsNamed, IsNewJust, Names, NamesOnly, RetiresOwn, just_of}
+use Rattle.operations.specs.Entries.{Entry, Accounts, FitsEntry, Fits, Fitting, HaveSame, IsClauseOf, IsNamed, IsNewJust, Names, NamesOnly}
+use Rattle.operations.specs.Entries.{RetiresOwn, just_of}
 
 no_clause : (id : ℕ) → Trivial ≡ Clause id → ⊥
 no_clause id is = cc
@@ -32,8 +34,10 @@ pub given_of : (just : Just) (given : Option ℕ) → IsClauseOf just given → 
 given_of just None names id is = absurd (no_clause id (sym names ∙ is))
 given_of just (Some own) names id is = ap Some (same_clause own id (sym names ∙ is))
 
-IsNewJust-within : (old mid late new : State) → old.top ≤ mid.top → late.top ≤ new.top → (just : Just) → IsNewJust mid late just → IsNewJust old new just
-IsNewJust-within old mid late new first second just own id is = let both = own id is in (omega (arith, first, both.0), omega (arith, second, both.1))
+IsNewJust-within : (old mid late new : State) → old.top ≤ mid.top → late.top ≤ new.top → (just : Just) → IsNewJust mid late just
+    → IsNewJust old new just
+IsNewJust-within old mid late new first second just own id is = let both = own id is in
+    (omega (arith, first, both.0), omega (arith, second, both.1))
 
 -- the same entries, in whatever order
 NamesOnly-same : (before after : List Entry) (old new : State) → HaveSame before after → NamesOnly before after old new
@@ -42,7 +46,8 @@ NamesOnly-same before after old new same = record { each = λ entry there. inl (
 HaveSame-itself : (list : List Entry) → HaveSame list list
 HaveSame-itself list = record { there = λ entry has. has; back = λ entry has. has }
 
-NamesOnly-further : (first second third : List Entry) (old mid new : State) → old.top ≤ mid.top → mid.top ≤ new.top → NamesOnly first second old mid → NamesOnly second third mid new → NamesOnly first third old new
+NamesOnly-further : (first second third : List Entry) (old mid new : State) → old.top ≤ mid.top → mid.top ≤ new.top
+    → NamesOnly first second old mid → NamesOnly second third mid new → NamesOnly first third old new
 NamesOnly-further first second third old mid new one two before after = record {
   each = λ entry there. elim (after.each entry there) [
     | inr own ↦ inr (IsNewJust-within old mid new new one (omega arith) (just_of entry) own)
@@ -82,9 +87,13 @@ module _ {S : Type 0} where
   RetiresOwn-none old new before same = record { each = λ id there. inl (subst (λ (list : List ℕ). Contains list id) same there) }
 
   RetiresOwn-new : (old new : TableState S) (before : List Entry) → RetiresNew old new → RetiresOwn old new before
-  RetiresOwn-new old new before retires = record { each = λ id gone. elim (retires id gone) [ inl was ↦ inl was | inr above ↦ inr (inl above) ] }
+  RetiresOwn-new old new before retires = record {
+    each = λ id gone. elim
+        (retires id gone) [ inl was ↦ inl was | inr above ↦ inr (inl above) ];
+  }
 
-  RetiresOwn-further : (old mid new : TableState S) (before between : List Entry) → old.book.state.top ≤ mid.book.state.top → RetiresOwn old mid before
+  RetiresOwn-further : (old mid new : TableState S) (before between : List Entry) → old.book.state.top ≤ mid.book.state.top
+      → RetiresOwn old mid before
       → NamesOnly before between old.book.state mid.book.state → RetiresOwn mid new between → RetiresOwn old new before
   RetiresOwn-further old mid new before between more first named second = record {
     each = λ id there. elim (second.each id there) [
@@ -110,7 +119,8 @@ module _ {S : Type 0} where
       some_clause (Some clause) is = (clause, refl)
 
   -- what is named or retired: as it was, and through one call after another
-  Accounts-same : (table : TableState S) → IsSound table → (before after : List Entry) → HaveSame before after → Accounts table table before after
+  Accounts-same : (table : TableState S) → IsSound table → (before after : List Entry) → HaveSame before after
+      → Accounts table table before after
   Accounts-same table sound before after same = record {
     still = λ id accounted. elim accounted [
       | inl gone ↦ inl gone
@@ -119,7 +129,8 @@ module _ {S : Type 0} where
     added = λ id above own. absurd (let within = not_above table sound id own in omega (arith, within, above));
   }
 
-  Accounts-further : (old mid new : TableState S) → ((id : ℕ) → id ≤ mid.book.state.top → IsAddedTo new id → IsAddedTo mid id) → (before between after : List Entry) → Accounts old mid before between
+  Accounts-further : (old mid new : TableState S) → ((id : ℕ) → id ≤ mid.book.state.top → IsAddedTo new id → IsAddedTo mid id)
+      → (before between after : List Entry) → Accounts old mid before between
       → Accounts mid new between after → Accounts old new before after
   Accounts-further old mid new was before between after first second = record {
     still = λ id accounted. second.still id (first.still id accounted);
@@ -150,7 +161,8 @@ module _ {S : Type 0} where
     ];
   }
 
-  retires_further : (old mid new : TableState S) → mid.retired ≡ old.retired → old.book.state.top ≤ mid.book.state.top → RetiresNew mid new → RetiresNew old new
+  retires_further : (old mid new : TableState S) → mid.retired ≡ old.retired → old.book.state.top ≤ mid.book.state.top → RetiresNew mid new
+      → RetiresNew old new
   retires_further old mid new same more retires id gone = elim (retires id gone) [
     | inl was ↦ inl (subst (λ (list : List ℕ). Contains list id) same was)
     | inr above ↦ inr (omega (arith, more, above))
@@ -158,10 +170,12 @@ module _ {S : Type 0} where
 
   -- the list of the retired grows
   still_retired : (old new : TableState S) → Extends old new → (id : ℕ) → Contains old.retired id → Contains new.retired id
-  still_retired old new extends id there = subst (λ (list : List ℕ). Contains list id) (sym extends.retired) (Contains-append_left old.retired extends.more id there)
+  still_retired old new extends id there = subst (λ (list : List ℕ). Contains list id) (sym extends.retired)
+      (Contains-append_left old.retired extends.more id there)
 
 module _ {S : Type 0} {tells : Bool} {channel : S → Channel} (law : StepByStep tells channel) (fitting : Fitting S) where
-  accounts_same : (table : TableState S) (before after : List Entry) (error : Option TableError) → IsSound table → HaveSame before after → Fits table before → AccountsFor table table before after error
+  accounts_same : (table : TableState S) (before after : List Entry) (error : Option TableError) → IsSound table → HaveSame before after
+      → Fits table before → AccountsFor table table before after error
   accounts_same table before after error sound same fits = record {
     fits = λ whole. fitting.fewer table after before same.back fits;
     named = λ whole. NamesOnly-same before after table.book.state table.book.state same;
@@ -169,19 +183,23 @@ module _ {S : Type 0} {tells : Bool} {channel : S → Channel} (law : StepByStep
     accounts = λ whole. Accounts-same table sound before after same;
   }
 
-  accounts_further : (old mid new : TableState S) (first second third : List Entry) (error : Option TableError) → Extends old mid → Extends mid new
+  accounts_further : (old mid new : TableState S) (first second third : List Entry) (error : Option TableError) → Extends old mid
+      → Extends mid new
       → AccountsFor old mid first second None → AccountsFor mid new second third error → AccountsFor old new first third error
   accounts_further old mid new first second third error one two before after =
       let named = before.named none_whole in
       record {
         fits = after.fits;
-        named = λ whole. NamesOnly-further first second third old.book.state mid.book.state new.book.state one.numbers.no_less two.numbers.no_less named (after.named whole);
+        named = λ whole. NamesOnly-further first second third old.book.state mid.book.state new.book.state one.numbers.no_less
+            two.numbers.no_less named (after.named whole);
         retires = RetiresOwn-further old mid new first second one.numbers.no_less before.retires named after.retires;
-        accounts = λ whole. Accounts-further old mid new (law.was_added mid new two) first second third (before.accounts none_whole) (after.accounts whole);
+        accounts = λ whole. Accounts-further old mid new (law.was_added mid new two) first second third (before.accounts none_whole)
+            (after.accounts whole);
       }
 
   -- only later clauses were retired
-  module _ (old mid : TableState S) (before : List Entry) (sound : IsSound old) (fits : Fits old before) (extends : Extends old mid) (retires : RetiresNew old mid) where
+  module _ (old mid : TableState S) (before : List Entry) (sound : IsSound old) (fits : Fits old before) (extends : Extends old mid)
+      (retires : RetiresNew old mid) where
     fits_still : IsSound mid → Fits mid before
     fits_still still = fitting.kept old mid before sound still extends fits
         (λ id named gone. elim (retires id gone) [
@@ -190,7 +208,8 @@ module _ {S : Type 0} {tells : Bool} {channel : S → Channel} (law : StepByStep
         ])
 
     -- the call gives none
-    accounts_failed : (error : Option TableError) → (IsWhole error → IsSound mid) → (IsWhole error → GivesOne old mid Trivial) → AccountsFor old mid before before error
+    accounts_failed : (error : Option TableError) → (IsWhole error → IsSound mid) → (IsWhole error → GivesOne old mid Trivial)
+        → AccountsFor old mid before before error
     accounts_failed error still gives = record {
       fits = λ whole. fits_still (still whole);
       named = λ whole. NamesOnly-same before before old.book.state mid.book.state (HaveSame-itself before);
@@ -268,8 +287,10 @@ module _ {S : Type 0} {tells : Bool} {channel : S → Channel} (law : StepByStep
     }
 
   -- it is kept
-  module _ (old mid new : TableState S) (before after : List Entry) (found : Entry) (given : Option ℕ) (has : HasFound old mid before (just_of found)) (fits : FitsEntry mid.graph mid.book.state.live found)
-      (kept : IsOneKept before after found given) {tells_one : Bool} {channel_one : S → Channel} (one : RetiresOne tells_one channel_one mid new given) where
+  module _ (old mid new : TableState S) (before after : List Entry) (found : Entry) (given : Option ℕ)
+      (has : HasFound old mid before (just_of found)) (fits : FitsEntry mid.graph mid.book.state.live found)
+      (kept : IsOneKept before after found given) {tells_one : Bool} {channel_one : S
+      → Channel} (one : RetiresOne tells_one channel_one mid new given) where
     mid_fits : Fits mid before
     mid_fits = fits_mid old mid new before (just_of found) has given one
 
@@ -290,16 +311,23 @@ module _ {S : Type 0} {tells : Bool} {channel : S → Channel} (law : StepByStep
       ]
       | inr handed ↦ elim (kept.only by.0 by.1) [
         | inl is ↦ found_unnamed id (names_own by.0 id is by.2) (kept.named id handed)
-        | inr had ↦ found_unnamed id (names_own by.0 id (kept.given_up mid_fits.apart by.0 id handed by.2 had by.1) by.2) (kept.named id handed)
+        | inr had ↦ found_unnamed id (names_own by.0 id (kept.given_up mid_fits.apart by.0 id handed by.2 had by.1) by.2)
+            (kept.named id handed)
       ]
     ]
 
     accounts_kept : AccountsFor old new before after None
     accounts_kept = record {
       fits = λ whole. fitting.more mid new before after found has.still one.steps.leaves.sound one.steps.extends mid_fits
-          (record { right = right_new; own = λ id is. law.added mid new has.still one.steps.leaves.sound one.steps.extends id (has.gives.own id is); unnamed = found_unnamed })
+          (record {
+            right = right_new;
+            own = λ id is. law.added mid new has.still one.steps.leaves.sound one.steps.extends id
+                (has.gives.own id is);
+            unnamed = found_unnamed;
+          })
           kept.only kept_unretired;
-      named = λ whole. NamesOnly-kept before after old.book.state new.book.state found (new_just old mid new before (just_of found) has given one) kept.only;
+      named = λ whole. NamesOnly-kept before after old.book.state new.book.state found
+          (new_just old mid new before (just_of found) has given one) kept.only;
       retires = record {
         each = λ id gone. elim (one.only id gone) [
           | inl was ↦ (RetiresOwn-new old mid before has.retires).each id was
@@ -330,13 +358,18 @@ accounting law fitting = record {
   same = accounts_same law fitting;
   further = accounts_further law fitting;
   beside = λ tells one other old new before after others count error sound steps accounts fits apart whole.
-      fitting.beside old new before after others sound (sound_left tells one other old new error steps.leaves whole) steps.extends accounts.retires (accounts.named whole) fits apart (accounts.fits whole);
+      fitting.beside old new before after others sound (sound_left tells one other old new error steps.leaves whole) steps.extends
+      accounts.retires (accounts.named whole) fits apart (accounts.fits whole);
   gives_none = gives_none;
-  gives_further = λ old mid new just sound none first second. gives_further old mid new just sound none first.numbers.no_less (law.was_added mid new second);
+  gives_further = λ old mid new just sound none first second. gives_further old mid new just sound none first.numbers.no_less
+      (law.was_added mid new second);
   retires_further = retires_further;
   failed = λ tells one other old new before count error sound fits steps retires.
-      accounts_failed law fitting old new before sound fits steps.extends retires error (sound_left tells one other old new error steps.leaves);
+      accounts_failed law fitting old new before sound fits steps.extends retires error
+      (sound_left tells one other old new error steps.leaves);
   found = λ old new before just has. fits_still law fitting old new before has.sound has.fits has.extends has.retires has.still;
-  kept = λ tells channel old mid new before after own given has fits kept one. has_kept law fitting old mid new before after own given has fits kept one;
-  refused = λ tells channel old mid new before just given error has own one. accounts_refused law fitting old mid new before just has given one error own;
+  kept = λ tells channel old mid new before after own given has fits kept one.
+      has_kept law fitting old mid new before after own given has fits kept one;
+  refused = λ tells channel old mid new before just given error has own one.
+      accounts_refused law fitting old mid new before just has given one error own;
 }

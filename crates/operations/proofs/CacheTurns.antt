@@ -1,5 +1,6 @@
 -- A bounded cache is purged by turns of its last entry.
-use Rattle.std.proofs.Common.{◌≡◌, ◌+◌, ◌-◌, ◌<◌, ℕ, zero, suc, Bool, true, false, cond, List, [], ◌∷◌, length, map, drop, slice_get, Contains, None, Some, arith, refl, sym, ap, ◌∙◌, subst, inl, inr}
+use Rattle.std.proofs.Common.{◌≡◌, ◌+◌, ◌-◌, ◌<◌, ℕ, zero, suc, Bool, true, false, cond, List, [], ◌∷◌, length, map, drop, slice_get}
+use Rattle.std.proofs.Common.{Contains, None, Some, arith, refl, sym, ap, ◌∙◌, subst, inl, inr}
 use Rattle.std.specs.Cmp.{IsEquivalence}
 use Rattle.std.specs.List.{IsDistinct, filter}
 use Rattle.std.specs.Map.{keys_of}
@@ -62,17 +63,22 @@ module _ {K V : Type 0} (eq : K → K → Bool) (law : TakesTurns K V eq) (entry
       ]
 
   begins : (cache : Cache K V) → HadTurns entry_of marks cache cache 0
-  begins cache = record { cache = ap (λ (es : List (K × V)). record cache { entries = es }) (sym (law.begins (is_kept entry_of marks) cache.entries)) }
+  begins cache = record {
+    cache = ap (λ (es : List (K × V)). record cache { entries = es })
+        (sym (law.begins (is_kept entry_of marks) cache.entries));
+  }
 
   ends : (before after : Cache K V) → HadTurns entry_of marks before after (length before.entries)
       → (listed entry_of after ≡ filter (are_marked marks) (listed entry_of before)) × (after.capacity ≡ before.capacity)
   ends before after had = (
-    ap (λ (c : Cache K V). map entry_of c.entries) had.cache ∙ ap (map entry_of) (law.ends (is_kept entry_of marks) before.entries) ∙ kept_listed before.entries,
+    ap (λ (c : Cache K V). map entry_of c.entries) had.cache ∙ ap (map entry_of) (law.ends (is_kept entry_of marks) before.entries)
+        ∙ kept_listed before.entries,
     ap (λ (c : Cache K V). c.capacity) had.cache,
   )
 
   -- so many turns, and one more to come
-  module _ (before middle : Cache K V) (turns : ℕ) (within : turns < length before.entries) (had : HadTurns entry_of marks before middle turns) where
+  module _ (before middle : Cache K V) (turns : ℕ) (within : turns
+      < length before.entries) (had : HadTurns entry_of marks before middle turns) where
     abbrev place : ℕ
     place = length before.entries - turns - 1
 
@@ -83,7 +89,8 @@ module _ {K V : Type 0} (eq : K → K → Bool) (law : TakesTurns K V eq) (entry
     there_last = let there = there_is place before.entries (omega (arith, within)) in (there.0, last_is ∙ there.1)
 
     turn : (after : Cache K V) → IsBounded eq before
-        → ((last : K × V) → last_of middle.entries ≡ Some last → HasTurn entry_of marks eq middle after last) → HadTurns entry_of marks before after (turns + 1)
+        → ((last : K × V) → last_of middle.entries ≡ Some last → HasTurn entry_of marks eq middle after last)
+        → HadTurns entry_of marks before after (turns + 1)
     turn after bounded each =
         let last = there_last.0 in
         let one = each last there_last.1 in
@@ -93,16 +100,19 @@ module _ {K V : Type 0} (eq : K → K → Bool) (law : TakesTurns K V eq) (entry
             | inl stays ↦
                 one.stays stays
                 ∙ ap (λ (c : Cache K V). record c { entries = looked eq c.entries last.0 }) had.cache
-                ∙ ap (λ (es : List (K × V)). record before { entries = es }) (law.kept (is_kept entry_of marks) before.entries turns last bounded.distinct within at stays)
+                ∙ ap (λ (es : List (K × V)). record before { entries = es })
+                (law.kept (is_kept entry_of marks) before.entries turns last bounded.distinct within at stays)
             | inr goes ↦
                 one.goes goes
                 ∙ ap (λ (c : Cache K V). record c { entries = without_last c.entries }) had.cache
-                ∙ ap (λ (es : List (K × V)). record before { entries = es }) (law.gone (is_kept entry_of marks) before.entries turns last within at goes)
+                ∙ ap (λ (es : List (K × V)). record before { entries = es })
+                (law.gone (is_kept entry_of marks) before.entries turns last within at goes)
           ];
         }
 
     -- the entry whose turn it is stands before those that had theirs
-    behind_more : (last : K × V) → last_of middle.entries ≡ Some last → map entry_of (drop (length before.entries - (turns + 1)) before.entries)
+    behind_more : (last : K × V) → last_of middle.entries ≡ Some last
+        → map entry_of (drop (length before.entries - (turns + 1)) before.entries)
         ≡ entry_of last ∷ map entry_of (drop (length before.entries - turns) before.entries)
     behind_more last is =
         let next : length before.entries - (turns + 1) ≡ place = omega (arith, within) in
@@ -115,41 +125,52 @@ module _ {K V : Type 0} (eq : K → K → Bool) (law : TakesTurns K V eq) (entry
         → Contains (map entry_of (drop (length before.entries - turns) before.entries)) (entry_of last) → ⊥
     alone equal tells_keys bounded last is there =
         let here : length before.entries - turns ≡ suc place = omega (arith, within) in
-        let by = to_map entry_of (drop (suc place) before.entries) (entry_of last) (subst (λ k. Contains (map entry_of (drop k before.entries)) (entry_of last)) here there) in
+        let by = to_map entry_of (drop (suc place) before.entries) (entry_of last)
+        (subst (λ k. Contains (map entry_of (drop k before.entries)) (entry_of last)) here there) in
         behind_apart eq equal place before.entries last by.0 bounded.distinct (sym last_is ∙ is) by.1 (tells_keys.own by.0 last by.2)
 
 -- The table beside it.
-module _ {S : Type 0} {K V : Type 0} (eq : K → K → Bool) (equal : IsEquivalence eq) (law : TakesTurns K V eq) (tells : Bool) (channel : S → Channel) (fitting : Fitting S) (purging : Purging S)
+module _ {S : Type 0} {K V : Type 0} (eq : K → K → Bool) (equal : IsEquivalence eq) (law : TakesTurns K V eq) (tells : Bool) (channel : S
+    → Channel) (fitting : Fitting S) (purging : Purging S)
     (one_by_one : PurgingTurns tells channel) (step_by_step : StepByStep tells channel) (entry_of : K × V → Entry) (marks : List Bool) where
   table_begins : (old : TableState S) (cache : Cache K V) → IsSound old → HaveRetired entry_of marks tells channel old old cache 0
   table_begins old cache sound = record {
     rest = [];
-    purged = subst (λ (es : List (K × V)). IsPurged old old marks (map entry_of es) []) (sym (drop_all (length cache.entries - 0) cache.entries (omega arith))) (purging.plain old marks [] (λ entry there. absurd (omega (arith, there.1))));
+    purged = subst (λ (es : List (K × V)). IsPurged old old marks (map entry_of es) [])
+        (sym (drop_all (length cache.entries - 0) cache.entries (omega arith)))
+        (purging.plain old marks [] (λ entry there. absurd (omega (arith, there.1))));
     steps = step_by_step.none old sound;
   }
 
   table_ends : (old new : TableState S) (before after : Cache K V) → HadTurns entry_of marks before after (length before.entries)
-      → HaveRetired entry_of marks tells channel old new before (length before.entries) → IsPurged old new marks (listed entry_of before) (listed entry_of after)
+      → HaveRetired entry_of marks tells channel old new before (length before.entries)
+      → IsPurged old new marks (listed entry_of before) (listed entry_of after)
   table_ends old new before after had have =
       let none : length before.entries - length before.entries ≡ 0 = omega arith in
-      let purged : IsPurged old new marks (listed entry_of before) have.rest = subst (λ k. IsPurged old new marks (map entry_of (drop k before.entries)) have.rest) none have.purged in
+      let purged : IsPurged old new marks (listed entry_of before) have.rest = subst
+      (λ k. IsPurged old new marks (map entry_of (drop k before.entries)) have.rest) none have.purged in
       subst (IsPurged old new marks (listed entry_of before)) (purged.stays ∙ sym (ends eq law entry_of marks before after had).0) purged
 
-  module _ (old now : TableState S) (before middle : Cache K V) (turns : ℕ) (tells_keys : TellsKeys eq entry_of) (bounded : IsBounded eq before) (within : turns < length before.entries)
-      (fits : Fits old (listed entry_of before)) (had : HadTurns entry_of marks before middle turns) (have : HaveRetired entry_of marks tells channel old now before turns) where
+  module _ (old now : TableState S) (before middle : Cache K V) (turns : ℕ) (tells_keys : TellsKeys eq entry_of)
+      (bounded : IsBounded eq before) (within : turns < length before.entries)
+      (fits : Fits old (listed entry_of before)) (had : HadTurns entry_of marks before middle turns)
+      (have : HaveRetired entry_of marks tells channel old now before turns) where
     abbrev behind : List Entry
     behind = map entry_of (drop (length before.entries - turns) before.entries)
 
     fits_behind : (n : ℕ) → Fits old (map entry_of (drop n before.entries))
     fits_behind n = fitting.fewer old (map entry_of (drop n before.entries)) (listed entry_of before)
-        (λ entry there. from_drop n (map entry_of before.entries) entry (subst (λ (l : List Entry). Contains l entry) (sym (drop-map entry_of n before.entries)) there)) fits
+        (λ entry there. from_drop n (map entry_of before.entries) entry
+        (subst (λ (l : List Entry). Contains l entry) (sym (drop-map entry_of n before.entries)) there)) fits
 
     may : (last : K × V) → last_of middle.entries ≡ Some last → MayRetire now (entry_of last)
     may last is = one_by_one.may old now marks behind have.rest (entry_of last)
-        (subst (Fits old) (behind_more eq law entry_of marks before middle turns within had last is) (fits_behind (length before.entries - (turns + 1))))
+        (subst (Fits old) (behind_more eq law entry_of marks before middle turns within had last is)
+        (fits_behind (length before.entries - (turns + 1))))
         (alone eq law entry_of marks before middle turns within had equal tells_keys bounded last is) have.purged
 
-    table_turn : (new : TableState S) → ((last : K × V) → last_of middle.entries ≡ Some last → RetiresTurn entry_of marks tells channel now new last)
+    table_turn : (new : TableState S) → ((last : K × V) → last_of middle.entries ≡ Some last
+        → RetiresTurn entry_of marks tells channel now new last)
         → HaveRetired entry_of marks tells channel old new before (turns + 1)
     table_turn new each =
         let there = there_last eq law entry_of marks before middle turns within had in
@@ -157,36 +178,43 @@ module _ {S : Type 0} {K V : Type 0} (eq : K → K → Bool) (equal : IsEquivale
         let one = each last there.1 in
         let more = behind_more eq law entry_of marks before middle turns within had last there.1 in
         elim (cases_Bool (is_kept entry_of marks last)) [
-          | inl stays ↦ subst (λ (t : TableState S). HaveRetired entry_of marks tells channel old t before (turns + 1)) (sym (one.stays stays)) (record {
-            rest = entry_of last ∷ have.rest;
-            purged = subst (λ (l : List Entry). IsPurged old now marks l (entry_of last ∷ have.rest)) (sym more)
-                (one_by_one.stays old now marks behind have.rest (entry_of last) have.purged stays);
-            steps = have.steps;
-          })
+          | inl stays ↦ subst (λ (t : TableState S). HaveRetired entry_of marks tells channel old t before (turns + 1))
+              (sym (one.stays stays)) (record {
+                rest = entry_of last ∷ have.rest;
+                purged = subst (λ (l : List Entry). IsPurged old now marks l (entry_of last ∷ have.rest)) (sym more)
+                    (one_by_one.stays old now marks behind have.rest (entry_of last) have.purged stays);
+                steps = have.steps;
+              })
           | inr goes ↦
               let gone = one.goes goes in
               record {
                 rest = have.rest;
                 purged = subst (λ (l : List Entry). IsPurged old new marks l have.rest) (sym more)
-                    (one_by_one.goes old now new marks behind have.rest (entry_of last) gone.0 have.purged goes gone.1 (may last there.1) gone.2);
-                steps = step_by_step.further (channel old.book.sink) (channel now.book.sink) (channel new.book.sink) old now new 0 0 None have.steps gone.2.steps;
+                    (one_by_one.goes old now new marks behind have.rest (entry_of last) gone.0 have.purged goes gone.1
+                    (may last there.1) gone.2);
+                steps = step_by_step.further (channel old.book.sink) (channel now.book.sink)
+                    (channel new.book.sink) old now new 0 0 None have.steps gone.2.steps;
               }
         ]
 
 pub cache_turns : {K V : Type 0} (eq : K → K → Bool) → TakesTurns K V eq → CacheTurns K V eq
 cache_turns eq law = record {
   begins = λ entry_of marks cache. begins eq law entry_of marks cache;
-  turn = λ entry_of marks before middle after turns bounded within had each. turn eq law entry_of marks before middle turns within had after bounded each;
+  turn = λ entry_of marks before middle after turns bounded within had each.
+      turn eq law entry_of marks before middle turns within had after bounded each;
   ends = λ entry_of marks before after had. ends eq law entry_of marks before after had;
 }
 
-pub table_turns : {S : Type 0} {K V : Type 0} (eq : K → K → Bool) → IsEquivalence eq → TakesTurns K V eq → (tells : Bool) (channel : S → Channel) → Fitting S → Purging S
+pub table_turns : {S : Type 0} {K V : Type 0} (eq : K → K → Bool) → IsEquivalence eq → TakesTurns K V eq
+    → (tells : Bool) (channel : S → Channel) → Fitting S → Purging S
     → PurgingTurns tells channel → StepByStep tells channel → TableTurns K V eq tells channel
 table_turns eq equal law tells channel fitting purging one_by_one step_by_step = record {
   begins = table_begins eq equal law tells channel fitting purging one_by_one step_by_step;
   may = λ entry_of marks old now before middle turns last tells_keys bounded within fits had have is.
-      may eq equal law tells channel fitting purging one_by_one step_by_step entry_of marks old now before middle turns tells_keys bounded within fits had have last is;
+      may eq equal law tells channel fitting purging one_by_one step_by_step entry_of marks old now before middle turns tells_keys bounded
+      within fits had have last is;
   turn = λ entry_of marks old now new before middle turns tells_keys bounded within fits had have each.
-      table_turn eq equal law tells channel fitting purging one_by_one step_by_step entry_of marks old now before middle turns tells_keys bounded within fits had have new each;
+      table_turn eq equal law tells channel fitting purging one_by_one step_by_step entry_of marks old now before middle turns tells_keys
+      bounded within fits had have new each;
   ends = table_ends eq equal law tells channel fitting purging one_by_one step_by_step;
 }

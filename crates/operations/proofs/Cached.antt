@@ -1,5 +1,6 @@
 -- Entries of a bounded cache, as they are looked up and kept.
-use Rattle.std.proofs.Common.{◌≡◌, ◌⊎◌, ◌≤◌, ◌-◌, ◌∷◌, ℕ, zero, suc, Bool, true, false, List, [], Option, length, map, take, nat_lt, slice_get, Contains, Some, None, arith, refl, sym, ap, ◌∙◌, subst, inl, inr}
+use Rattle.std.proofs.Common.{◌≡◌, ◌⊎◌, ◌≤◌, ◌-◌, ◌∷◌, ℕ, zero, suc, Bool, true, false, List, [], Option, length, map, take, nat_lt}
+use Rattle.std.proofs.Common.{slice_get, Contains, Some, None, arith, refl, sym, ap, ◌∙◌, subst, inl, inr}
 use Rattle.std.specs.Prelude.{IsSome, IsFalse, if◌then◌else◌}
 use Rattle.std.specs.Cmp.{IsEquivalence}
 use Rattle.std.specs.List.{IsDistinct}
@@ -12,7 +13,8 @@ use Rattle.node_table.specs.declared.node.Just.TheVariants.{Trivial, Clause}
 use Rattle.op_cache.specs.Cache.{Cache, IsBounded, looked, kept, without_last, last_of}
 use Rattle.op_cache.specs.Laws.{AreInFront, HandsBack, OnlyKept, UsedInFront, is_among}
 use Rattle.operations.specs.Entries.{Entry, IsNamed, Names, just_of}
-use Rattle.operations.specs.Caches.{AreNamedOnce, IsGiven, IsOfKey, KeepsEntry, Keeping, LeavesEntries, MakesRoom, Remembers, TellsKeys, with_key}
+use Rattle.operations.specs.Caches.{AreNamedOnce, IsGiven, IsOfKey, KeepsEntry, Keeping, LeavesEntries, MakesRoom, Remembers, TellsKeys}
+use Rattle.operations.specs.Caches.{with_key}
 use Rattle.operations.proofs.Elements.{there_none, there_first, there_more, first_or_more}
 use borrow.Author.Tests.{ltb-true, ltb-false}
 
@@ -90,22 +92,25 @@ module _ {K V : Type 0} (eq : K → K → Bool) (equal : IsEquivalence eq) where
 
     -- and one that is found was used
     found_used : IsSome (lookup (eq key) es) → AreInFront eq (looked eq es key) (with_key eq keys key)
-    found_used some = (elim (is_among eq keys key) as (λ b. is_among eq keys key ≡ b → AreInFront eq (looked eq es key) (if b then keys else key ∷ keys)) [
-      | true ↦ λ is. front.looked_again es keys key used is
-      | false ↦ λ is. front.looked_more es keys key used is some
-    ]) refl
+    found_used some = (elim (is_among eq keys key) as (λ b. is_among eq keys key ≡ b
+        → AreInFront eq (looked eq es key) (if b then keys else key ∷ keys)) [
+          | true ↦ λ is. front.looked_again es keys key used is
+          | false ↦ λ is. front.looked_more es keys key used is some
+        ]) refl
 
   module _ (only : OnlyKept K V eq) where
     finds_own : (es : List (K × V)) (e : K × V) → IsDistinct eq (keys_of es) → Contains es e → lookup (eq e.0) es ≡ Some e.1
     finds_own es e distinct there = only.finds es e.0 e.0 e.1 distinct there (equal.refl e.0)
 
     -- what is listed is what a look-up finds
-    listed_found : (entry_of : K × V → Entry) (es : List (K × V)) → IsDistinct eq (keys_of es) → (entry : Entry) → Contains (map entry_of es) entry
+    listed_found : (entry_of : K × V → Entry) (es : List (K × V)) → IsDistinct eq (keys_of es) → (entry : Entry)
+        → Contains (map entry_of es) entry
         → (pair : K × V) × (lookup (eq pair.0) es ≡ Some pair.1) × (entry_of pair ≡ entry)
     listed_found entry_of es distinct entry there = let on = to_map entry_of es entry there in (on.0, finds_own es on.0 distinct on.1, on.2)
 
     -- a look-up leaves the entries
-    is_looked : (entry_of : K × V → Entry) (before after : Cache K V) (key : K) → after ≡ record before { entries = looked eq before.entries key } → LeavesEntries entry_of before after
+    is_looked : (entry_of : K × V → Entry) (before after : Cache K V) (key : K) → after
+        ≡ record before { entries = looked eq before.entries key } → LeavesEntries entry_of before after
     is_looked entry_of before after key is =
         let es = before.entries in let fs = looked eq es key in
         subst (LeavesEntries entry_of before) (sym is) (record {
@@ -118,7 +123,8 @@ module _ {K V : Type 0} (eq : K → K → Bool) (equal : IsEquivalence eq) where
         })
 
     -- One entry is kept in a cache.
-    module _ (back : HandsBack K V eq) (entry_of : K × V → Entry) (tells : TellsKeys eq entry_of) (before : Cache K V) (bounded : IsBounded eq before) (key : K) (value : V) where
+    module _ (back : HandsBack K V eq) (entry_of : K × V → Entry) (tells : TellsKeys eq entry_of) (before : Cache K V)
+        (bounded : IsBounded eq before) (key : K) (value : V) where
       abbrev es : List (K × V)
       es = before.entries
 
@@ -143,7 +149,8 @@ module _ {K V : Type 0} (eq : K → K → Bool) (equal : IsEquivalence eq) where
       of_new none pair is = (elim (nat_lt (length es) capacity) as (λ t. nat_lt (length es) capacity ≡ t → IsHanded pair) [
         | true ↦ λ t. let all = back.added es capacity key value none (ltb-true (length es) capacity t) in
             let nothing : None ≡ Some pair = sym (ap (λ p. p.1) all) ∙ is in cc
-        | false ↦ λ t. let full : capacity ≤ length es = ltb-false (length es) capacity t in let all = back.pushed_out es capacity key value none full in
+        | false ↦ λ t. let full : capacity ≤ length es = ltb-false (length es) capacity t in
+            let all = back.pushed_out es capacity key value none full in
             inr (full, sym (ap (λ p. p.1) all) ∙ is, ap (λ p. p.0) all)
       ]) refl
 
@@ -219,7 +226,8 @@ module _ {K V : Type 0} (eq : K → K → Bool) (equal : IsEquivalence eq) where
           ]
 
       module _ (given : Option ℕ) (is : IsGiven entry_of handed given) where
-        gone_listed : (entry : Entry) (id : ℕ) → Contains (map entry_of es) entry → Names entry id → IsNamed (map entry_of after) id ⊎ (given ≡ Some id)
+        gone_listed : (entry : Entry) (id : ℕ) → Contains (map entry_of es) entry → Names entry id → IsNamed (map entry_of after) id
+            ⊎ (given ≡ Some id)
         gone_listed entry id there names = let on = to_map entry_of es entry there in
             let names_on : Names (entry_of on.0) id = subst (λ e. Names e id) (sym on.2) names in
             elim (left on.0 on.1) [
@@ -232,7 +240,8 @@ module _ {K V : Type 0} (eq : K → K → Bool) (equal : IsEquivalence eq) where
             (entry_of pair.0, from_map entry_of es pair.0 (handed_there pair.0 pair.1), pair.2)
 
         given_up_listed : IsDistinct eq (keys_of after) → lookup (eq key) after ≡ Some value → AreNamedOnce (map entry_of es)
-            → (entry : Entry) (id : ℕ) → given ≡ Some id → Names entry id → Contains (map entry_of es) entry → Contains (map entry_of after) entry → entry ≡ new
+            → (entry : Entry) (id : ℕ) → given ≡ Some id → Names entry id → Contains (map entry_of es) entry
+            → Contains (map entry_of after) entry → entry ≡ new
         given_up_listed distinct_now found once entry id names its there still =
             let pair = given_named entry_of handed given id is names in
             let was = from_map entry_of es pair.0 (handed_there pair.0 pair.1) in
@@ -244,8 +253,10 @@ module _ {K V : Type 0} (eq : K → K → Bool) (equal : IsEquivalence eq) where
         is_kept : UsedInFront K V eq → (now : Cache K V) → now ≡ record before { entries = after }
             → IsBounded eq now → lookup (eq key) now.entries ≡ Some value → KeepsEntry entry_of eq before now key new given
         is_kept front now same bounded_now found =
-            let distinct_now : IsDistinct eq (keys_of after) = subst (λ (c : Cache K V). IsDistinct eq (keys_of c.entries)) same bounded_now.distinct in
-            let found_now : lookup (eq key) after ≡ Some value = subst (λ (c : Cache K V). lookup (eq key) c.entries ≡ Some value) same found in
+            let distinct_now : IsDistinct eq (keys_of after) = subst
+            (λ (c : Cache K V). IsDistinct eq (keys_of c.entries)) same bounded_now.distinct in
+            let found_now : lookup (eq key) after ≡ Some value = subst (λ (c : Cache K V). lookup (eq key) c.entries
+            ≡ Some value) same found in
             subst (λ (c : Cache K V). KeepsEntry entry_of eq before c key new given) (sym same) (record {
               one = record {
                 kept = from_map entry_of after (key, value) (Contains-from_lookup tells.same key value after found_now);
@@ -277,7 +288,8 @@ module _ {K V : Type 0} (entry_of : K × V → Entry) where
     capacity = second.capacity ∙ first.capacity;
   }
 
-  makes_room : (before mid after : Cache K V) (key : K) → ((value : V) → Contains (map entry_of before.entries) (entry_of (key, value)) → ⊥) → Remembers entry_of before mid → MakesRoom entry_of mid after key
+  makes_room : (before mid after : Cache K V) (key : K) → ((value : V) → Contains (map entry_of before.entries) (entry_of (key, value)) → ⊥)
+      → Remembers entry_of before mid → MakesRoom entry_of mid after key
       → Remembers entry_of before after
   makes_room before mid after key none first room = record {
     entries = λ entry had. elim (first.entries entry had) [
@@ -294,9 +306,11 @@ module _ {K V : Type 0} (entry_of : K × V → Entry) where
     capacity = room.capacity ∙ first.capacity;
   }
 
-pub keeping : {K V : Type 0} (eq : K → K → Bool) → IsEquivalence eq → OnlyKept K V eq → UsedInFront K V eq → HandsBack K V eq → Keeping K V eq
+pub keeping : {K V : Type 0} (eq : K → K → Bool) → IsEquivalence eq → OnlyKept K V eq → UsedInFront K V eq → HandsBack K V eq
+    → Keeping K V eq
 keeping eq equal only front back = record {
-  found = λ entry_of tells cache key value is. from_map entry_of cache.entries (key, value) (Contains-from_lookup tells.same key value cache.entries is);
+  found = λ entry_of tells cache key value is. from_map entry_of cache.entries (key, value)
+      (Contains-from_lookup tells.same key value cache.entries is);
   finds = λ entry_of cache bounded. listed_found eq equal only entry_of cache.entries bounded.distinct;
   looked = is_looked eq equal only;
   unchanged = λ before after key same none. same ∙ (λ i. record before { entries = front.looked_none before.entries key none i });

@@ -1,5 +1,6 @@
 -- The clause of an entry over marked nodes holds no extension variable of another node.
-use Rattle.std.proofs.Common.{◌≡◌, ◌||◌, ◌&&◌, ◌∙◌, ℕ, ℤ, neg_ℤ, nat_abs, int_eq, Bool, true, false, List, [], ◌∷◌, Some, refl, sym, ap, subst, inl, inr}
+use Rattle.std.proofs.Common.{◌≡◌, ◌||◌, ◌&&◌, ◌∙◌, ℕ, ℤ, neg_ℤ, nat_abs, int_eq, Bool, true, false, List, [], ◌∷◌, Some, refl, sym, ap}
+use Rattle.std.proofs.Common.{subst, inl, inr}
 use Rattle.std.specs.List.{list_all, list_any}
 use Rattle.std.proofs.lemmas.Bool.{and_parts, or_cases}
 use Rattle.lrat_rules.specs.State.{Live, clause_at}
@@ -23,7 +24,8 @@ use Rattle.operations.proofs.Literals.{IsAt, abs_neg, literal_at, same_int}
 
 -- no unmarked node's extension variable
 abbrev IsClearOf : Graph → List Bool → ℤ → Type 0
-IsClearOf graph marks y = (key : ℕ) (branch : Branch) → branch_at graph key ≡ Some branch → is_marked marks (inner key) ≡ false → nat_abs y ≡ branch.variable → ⊥
+IsClearOf graph marks y = (key : ℕ) (branch : Branch) → branch_at graph key ≡ Some branch → is_marked marks (inner key) ≡ false → nat_abs y
+    ≡ branch.variable → ⊥
 
 module _ (graph : Graph) (marks : List Bool) (reduced : IsReduced graph) where
   module _ (node : Node) (marked : is_marked marks node ≡ true) (y : ℤ) where
@@ -89,18 +91,23 @@ passed_by test y (x ∷ xs) all any =
 abbrev pub AreAmong : Type 0
 AreAmong = (atoms : List Atom) (clause : List ℤ) → clause_of atoms ≡ Some clause → are_among atoms clause ≡ true
 
-pub entry_clear : AreAmong → (graph : Graph) (live : Live) (marks : List Bool) (entry : Entry) (id : ℕ) (clause : List ℤ) → IsReduced graph → FitsEntry graph live entry → Names entry id → are_marked marks entry ≡ true
+pub entry_clear : AreAmong → (graph : Graph) (live : Live) (marks : List Bool) (entry : Entry) (id : ℕ) (clause : List ℤ) → IsReduced graph
+    → FitsEntry graph live entry → Names entry id → are_marked marks entry ≡ true
     → clause_at live id ≡ Some clause → IsClear graph marks clause
 entry_clear law graph live marks (Conjunction u v w just) id clause reduced fits names marked is literal holds =
     let atoms = conjunction_atoms graph u v w in
     let justified : IsJustified live atoms (Clause id) = subst (IsJustified live atoms) names fits.1.justified in
     let rest = and_parts (is_marked marks u && is_marked marks v) (is_marked marks w) marked in
     let both = and_parts (is_marked marks u) (is_marked marks v) rest.0 in
-    conjunction_clear graph marks reduced u v w literal both.0 both.1 rest.1 (passed_by (λ x. list_any (is_literal x) atoms) literal clause (law atoms clause (sym justified.1 ∙ is)) holds)
+    conjunction_clear graph marks reduced u v w literal both.0 both.1 rest.1
+    (passed_by (λ x. list_any (is_literal x) atoms) literal clause (law atoms clause (sym justified.1 ∙ is)) holds)
 entry_clear law graph live marks (Implication u v just) id clause reduced fits names marked is literal holds =
     let atoms = implication_atoms graph u v in
     let justified : IsJustified live atoms (Clause id) = subst (IsJustified live atoms) names fits.1.justified in
     let both = and_parts (is_marked marks u) (is_marked marks v) marked in
-    implication_clear graph marks reduced u v literal both.0 both.1 (passed_by (λ x. list_any (is_literal x) atoms) literal clause (law atoms clause (sym justified.1 ∙ is)) holds)
-entry_clear law graph live marks (Disjunction u v w) id clause reduced fits names marked is literal holds = absurd (let e : Trivial ≡ Clause id = names in cc)
-entry_clear law graph live marks (Quantification u level w) id clause reduced fits names marked is literal holds = absurd (let e : Trivial ≡ Clause id = names in cc)
+    implication_clear graph marks reduced u v literal both.0 both.1
+    (passed_by (λ x. list_any (is_literal x) atoms) literal clause (law atoms clause (sym justified.1 ∙ is)) holds)
+entry_clear law graph live marks (Disjunction u v w) id clause reduced fits names marked is literal holds = absurd (let e : Trivial
+    ≡ Clause id = names in cc)
+entry_clear law graph live marks (Quantification u level w) id clause reduced fits names marked is literal holds = absurd (let e : Trivial
+    ≡ Clause id = names in cc)

@@ -1,6 +1,7 @@
 -- Elements of a list that begins with x, and of what a test keeps.
 use Rattle.std.proofs.Common.{◌≡◌, ◌⊎◌, ◌∷◌, Bool, true, false, cond, List, [], Contains, filter, arith, refl, sym, subst, inl, inr}
-use Rattle.std.proofs.lemmas.List.Elements.{All-contains, All-contains_itself, All-filter, Contains-append_cases, Contains-append_right, Contains-push_cases, filter_passes}
+use Rattle.std.proofs.lemmas.List.Elements.{All-contains, All-contains_itself, All-filter, Contains-append_cases, Contains-append_right}
+use Rattle.std.proofs.lemmas.List.Elements.{Contains-push_cases, filter_passes}
 
 module _ {X : Type 0} where
   pub there_none : (y : X) → Contains [] y → ⊥
@@ -24,7 +25,8 @@ module _ {X : Type 0} where
   module _ (test : X → Bool) where
     -- what is kept was there and passes
     pub filter_there : (xs : List X) (y : X) → Contains (filter test xs) y → Contains xs y
-    filter_there xs y there = All-contains (Contains xs) (filter test xs) y (All-filter test (Contains xs) xs (All-contains_itself xs)) there
+    filter_there xs y there = All-contains (Contains xs) (filter test xs) y
+        (All-filter test (Contains xs) xs (All-contains_itself xs)) there
 
     pub filter_passed : (xs : List X) (y : X) → Contains (filter test xs) y → test y ≡ true
     filter_passed xs y there = All-contains (λ x. test x ≡ true) (filter test xs) y (filter_passes test xs) there
@@ -37,6 +39,7 @@ module _ {X : Type 0} where
     pub filter_kept : (xs : List X) (y : X) → Contains xs y → test y ≡ true → Contains (filter test xs) y
     filter_kept [] y there passes = there
     filter_kept (x ∷ xs) y there passes = elim (first_or_more x xs y there) [
-      | inl same ↦ subst (λ z. Contains (filter test (z ∷ xs)) y) (sym same) (subst (λ b. Contains (cond b (y ∷ filter test xs) (filter test xs)) y) (sym passes) (there_first y (filter test xs)))
+      | inl same ↦ subst (λ z. Contains (filter test (z ∷ xs)) y) (sym same)
+          (subst (λ b. Contains (cond b (y ∷ filter test xs) (filter test xs)) y) (sym passes) (there_first y (filter test xs)))
       | inr more ↦ kept_behind (test x) x (filter test xs) y (filter_kept xs y more passes)
     ]

@@ -1,5 +1,6 @@
 -- The high clause is retired, behind the low one or where that was refused: what the additions retire, and what they give.
-use Rattle.std.proofs.Common.{◌≡◌, ◌≢◌, ◌+◌, ◌<◌, ◌≤◌, ℕ, ℤ, Bool, true, List, [], ◌∷◌, ◌++◌, None, Some, cond, is_some, Contains, slice_index_or, zero, suc, refl, sym, ap, ◌∙◌, subst, arith, inl, inr, eq-eqb}
+use Rattle.std.proofs.Common.{◌≡◌, ◌≢◌, ◌+◌, ◌<◌, ◌≤◌, ℕ, ℤ, Bool, true, List, [], ◌∷◌, ◌++◌, None, Some, cond, is_some, Contains}
+use Rattle.std.proofs.Common.{slice_index_or, zero, suc, refl, sym, ap, ◌∙◌, subst, arith, inl, inr, eq-eqb}
 use Rattle.std.proofs.lemmas.Bool.{cases_eq}
 use Rattle.std.proofs.lemmas.List.Elements.{Contains-append_cases, Contains-append_right}
 use Rattle.std.specs.FinMap as finmap
@@ -23,7 +24,8 @@ trivial id is = cc
 -- what was added has a number that was given
 within : {S : Type 0} (table : TableState S) → IsSound table → (id : ℕ) → IsAddedTo table id → id ≤ table.book.state.top
 within table sound id own =
-    elim (clause_at table.book.state.live id) as (λ o. clause_at table.book.state.live id ≡ o → is_some o ≡ true → id ≤ table.book.state.top) [
+    elim (clause_at table.book.state.live id) as (λ o. clause_at table.book.state.live id ≡ o → is_some o ≡ true → id
+    ≤ table.book.state.top) [
       | None ↦ λ is some. cc
       | Some clause ↦ λ is some. (sound.tied.numbers id clause is).1
     ] refl own.stands
@@ -57,7 +59,8 @@ only x y is = at_first is.0 is.1 is.2
     at_first (suc k) small there = absurd (omega (arith, small))
 
 -- Of three tables: the first one is that before, the second that with the high clause, and the third that behind the low addition.
-module _ {S : Type 0} (old one two : TableState S) (high : ℕ) (number : high ≡ old.book.state.top + 1) (unchanged : one.retired ≡ old.retired) (still : two.retired ≡ one.retired) where
+module _ {S : Type 0} (old one two : TableState S) (high : ℕ) (number : high ≡ old.book.state.top + 1) (unchanged : one.retired
+    ≡ old.retired) (still : two.retired ≡ one.retired) where
   retires_high : (new : TableState S) → new ≡ with_retired two high → new.retired ≡ old.retired ++ high ∷ []
   retires_high new is = ap (λ (t : TableState S). t.retired) is ∙ ap (λ (ids : List ℕ). ids ++ high ∷ []) (still ∙ unchanged)
 
@@ -73,7 +76,8 @@ module _ {S : Type 0} (old one two : TableState S) (high : ℕ) (number : high �
 
   module _ (top : one.book.state.top ≡ high) where
     -- the low clause is given
-    gives_low : (id : ℕ) → id ≡ one.book.state.top + 1 → two.book.state.top ≡ id → IsSound two → IsAddedTo two id → (Contains two.retired id → ⊥)
+    gives_low : (id : ℕ) → id ≡ one.book.state.top + 1 → two.book.state.top ≡ id → IsSound two → IsAddedTo two id
+        → (Contains two.retired id → ⊥)
         → (new : TableState S) → new ≡ with_retired two high → GivesOne old new (Clause id)
     gives_low id next last_number sound own free new is =
         subst (λ (t : TableState S). GivesOne old t (Clause id)) (sym is) (record {
@@ -85,7 +89,8 @@ module _ {S : Type 0} (old one two : TableState S) (high : ℕ) (number : high �
           ];
           others = λ other above added. elim (cases_eq other id) [
             | inl same ↦ inr (ap Clause (sym same))
-            | inr differ ↦ inl (subst (λ (i : ℕ). Contains (two.retired ++ high ∷ []) i) (omega (arith, above, differ, next, top, number, last_number, within two sound other added)) last)
+            | inr differ ↦ inl (subst (λ (i : ℕ). Contains (two.retired ++ high ∷ []) i)
+                (omega (arith, above, differ, next, top, number, last_number, within two sound other added)) last)
           ];
         })
 
@@ -98,21 +103,31 @@ module _ {S : Type 0} (old one two : TableState S) (high : ℕ) (number : high �
           unretired = λ other no there. trivial other no;
           others = λ other above added. inl (
               let had : IsAddedTo one other = subst (λ (t : TableState S). IsAddedTo t other) same added in
-              subst (λ (i : ℕ). Contains (two.retired ++ high ∷ []) i) (omega (arith, above, top, number, within one sound other had)) last);
+              subst (λ (i : ℕ). Contains (two.retired ++ high ∷ []) i)
+              (omega (arith, above, top, number, within one sound other had)) last);
         })
 
 -- a refused call whose table retires a clause then
-module _ {S : Type 0} {tells : Bool} {channel : S → Channel} (law : StepByStep tells channel) (one two new : TableState S) (high : ℕ) (is : new ≡ with_retired two high)
+module _ {S : Type 0} {tells : Bool} {channel : S → Channel} (law : StepByStep tells channel) (one two new : TableState S) (high : ℕ)
+    (is : new ≡ with_retired two high)
     (retiring : Steps tells (channel two.book.sink) (channel new.book.sink) two new 0 None) where
-  leaves_retired : (error : TableError) → error ≢ WriteFault → Leaves tells (channel one.book.sink) (channel two.book.sink) one two (Some error)
+  leaves_retired : (error : TableError) → error ≢ WriteFault → Leaves tells (channel one.book.sink) (channel two.book.sink) one two
+      (Some error)
       → Leaves tells (channel one.book.sink) (channel new.book.sink) one new (Some error)
-  leaves_retired NodeLimit other leaves = (law.go_on _ _ _ one two new leaves.0 retiring.leaves, subst (λ (t : TableState S). t.max_nodes ≤ live_nodes t.graph) (sym is) leaves.1)
-  leaves_retired IdLimit other leaves =
-      (law.go_on _ _ _ one two new leaves.0 retiring.leaves, subst (λ (t : TableState S). t.book.limit < t.book.state.top + 4) (sym is) leaves.1)
+  leaves_retired NodeLimit other leaves = (
+    law.go_on _ _ _ one two new leaves.0 retiring.leaves,
+    subst (λ (t : TableState S). t.max_nodes ≤ live_nodes t.graph) (sym is) leaves.1,
+  )
+  leaves_retired IdLimit other leaves = (
+    law.go_on _ _ _ one two new leaves.0 retiring.leaves,
+    subst (λ (t : TableState S). t.book.limit < t.book.state.top
+        + 4) (sym is) leaves.1,
+  )
   leaves_retired OutOfMemory other leaves = law.go_on _ _ _ one two new leaves retiring.leaves
   leaves_retired WriteFault other leaves = absurd (other refl)
 
-  steps_retired : (few : ℕ) (error : TableError) → error ≢ WriteFault → Steps tells (channel one.book.sink) (channel two.book.sink) one two few (Some error)
+  steps_retired : (few : ℕ) (error : TableError) → error ≢ WriteFault
+      → Steps tells (channel one.book.sink) (channel two.book.sink) one two few (Some error)
       → Steps tells (channel one.book.sink) (channel new.book.sink) one new few (Some error)
   steps_retired few error other steps = record {
     leaves = leaves_retired error other steps.leaves;
@@ -121,11 +136,13 @@ module _ {S : Type 0} {tells : Bool} {channel : S → Channel} (law : StepByStep
   }
 
 -- the clause that an addition made is live
-added_at : (old new : State) (id : ℕ) (clause : List ℤ) → (id ≡ old.top + 1) × (new ≡ with_next old clause) → clause_at new.live id ≡ Some clause
+added_at : (old new : State) (id : ℕ) (clause : List ℤ) → (id ≡ old.top + 1) × (new ≡ with_next old clause) → clause_at new.live id
+    ≡ Some clause
 added_at old new id clause is =
     (λ i. clause_at (is.1 i).live (is.0 i))
     ∙ finmap.get-insert nat_cmp_total old.live (old.top + 1) clause (old.top + 1)
-    ∙ ap (λ t. cond t (Some clause) (clause_at old.live (old.top + 1))) (unsigned_tied (old.top + 1) (old.top + 1) ∙ eq-eqb (old.top + 1) (old.top + 1) refl)
+    ∙ ap (λ t. cond t (Some clause) (clause_at old.live (old.top + 1))) (unsigned_tied (old.top + 1) (old.top + 1)
+    ∙ eq-eqb (old.top + 1) (old.top + 1) refl)
 
 same_list : {S : Type 0} (one two : TableState S) → IsSame one two → two.retired ≡ one.retired
 same_list one two same = ap (λ t. t.retired) same
@@ -138,11 +155,14 @@ high_clauses tells channel law = record {
   served = λ old one two new high low first second gone. (
     law.further _ _ _ old one new 1 1 None first.steps (law.further _ _ _ one two new 1 0 None second.steps gone.steps),
     retires_new old one two high first.number first.retired second.retired new gone.is,
-    gives_low old one two high first.number first.retired second.retired first.top low second.number second.top second.steps.leaves.sound second.own second.unretired new gone.is,
+    gives_low old one two high first.number first.retired second.retired first.top low second.number second.top second.steps.leaves.sound
+        second.own second.unretired new gone.is,
   );
   left = λ old one two new high error first second gone. (
-    law.further _ _ _ old one new 1 1 (Some error) first.steps (steps_retired law one two new high gone.is gone.steps 1 error second.whole second.steps),
+    law.further _ _ _ old one new 1 1 (Some error) first.steps
+        (steps_retired law one two new high gone.is gone.steps 1 error second.whole second.steps),
     retires_new old one two high first.number first.retired (same_list one two second.same) new gone.is,
-    gives_none old one two high first.number first.retired (same_list one two second.same) first.top first.steps.leaves.sound second.same new gone.is,
+    gives_none old one two high first.number first.retired (same_list one two second.same) first.top first.steps.leaves.sound second.same
+        new gone.is,
   );
 }

@@ -1,5 +1,6 @@
 -- What operations found stays right as nodes and clauses are added, and so do the entries of their caches.
-use Rattle.std.proofs.Common.{◌≡◌, ◌<◌, ◌++◌, ◌⊎◌, ℕ, Bool, true, List, [], Option, Some, Contains, None, ℤ, is_some, sym, ap, ◌∙◌, subst, arith, inl, inr, refl}
+use Rattle.std.proofs.Common.{◌≡◌, ◌<◌, ◌++◌, ◌⊎◌, ℕ, Bool, true, List, [], Option, Some, Contains, None, ℤ, is_some, sym, ap, ◌∙◌, subst}
+use Rattle.std.proofs.Common.{arith, inl, inr, refl}
 use Rattle.std.specs.Prelude.{IsTrue, IsFalse}
 use Rattle.std.proofs.lemmas.List.Elements.{Contains-append_right, Contains-append_cases}
 use Rattle.host_io.specs.Channel.{Channel}
@@ -15,7 +16,8 @@ use Rattle.node_table.specs.Just.{IsJustified}
 use Rattle.node_table.specs.Table.{TableState, IsSound, Extends}
 use Rattle.node_table.specs.Laws.{Growth, StepByStep}
 use Rattle.operations.specs.Results.{conjunction_atoms, implication_atoms}
-use Rattle.operations.specs.Entries.{Entry, Conjunction, Implication, Disjunction, Quantification, FitsEntry, Fits, Fitting, AreApart, IsOneMore, IsNamed, Names, NamesOnly, RetiresOwn, just_of}
+use Rattle.operations.specs.Entries.{Entry, Conjunction, Implication, Disjunction, Quantification, FitsEntry, Fits, Fitting, AreApart}
+use Rattle.operations.specs.Entries.{IsOneMore, IsNamed, Names, NamesOnly, RetiresOwn, just_of}
 use Rattle.operations.proofs.SameNodes.{IsSameNode, AreSameNodes, entry_same, entry_justified, entry_settled}
 
 module _ (laws : Growth) (old new : Graph) (keeps : KeepsNodes old new) (reduced : IsReduced old) where
@@ -35,7 +37,8 @@ module _ (laws : Growth) (old new : Graph) (keeps : KeepsNodes old new) (reduced
 
   entry_kept : (before after : Live) → KeepsClauses before after → (entry : Entry) → FitsEntry old before entry → FitsEntry new after entry
   entry_kept before after keeps_clauses entry fits =
-      entry_same old new after entry (nodes_kept before entry fits) (entry_justified old before after entry (λ atoms. laws.justified before after keeps_clauses atoms (just_of entry)) fits)
+      entry_same old new after entry (nodes_kept before entry fits)
+      (entry_justified old before after entry (λ atoms. laws.justified before after keeps_clauses atoms (just_of entry)) fits)
 
 -- a clause that is named is live
 some_along : {X : Type 0} (one other : Option X) → one ≡ other → is_some other ≡ true → is_some one ≡ true
@@ -45,19 +48,23 @@ not_named : (id : ℕ) → Trivial ≡ Clause id → ⊥
 not_named id is = cc
 
 module _ (given : (atoms : List Atom) → IsFalse (is_trivial atoms) → IsTrue (is_some (clause_of atoms))) where
-  justified_live : (live : Live) (atoms : List Atom) (just : Just) (id : ℕ) → IsJustified live atoms just → just ≡ Clause id → is_some (clause_at live id) ≡ true
+  justified_live : (live : Live) (atoms : List Atom) (just : Just) (id : ℕ) → IsJustified live atoms just → just ≡ Clause id
+      → is_some (clause_at live id) ≡ true
   justified_live live atoms just id holds is =
       let own : IsJustified live atoms (Clause id) = subst (λ (j : Just). IsJustified live atoms j) is holds in
       some_along (clause_at live id) (clause_of atoms) own.1 (given atoms own.0)
 
-  named_live : (graph : Graph) (live : Live) (entry : Entry) → FitsEntry graph live entry → (id : ℕ) → Names entry id → is_some (clause_at live id) ≡ true
-  named_live graph live (Conjunction u v w just) fits id is = justified_live live (conjunction_atoms graph u v w) just id fits.1.justified is
+  named_live : (graph : Graph) (live : Live) (entry : Entry) → FitsEntry graph live entry → (id : ℕ) → Names entry id
+      → is_some (clause_at live id) ≡ true
+  named_live graph live (Conjunction u v w just) fits id is = justified_live live
+      (conjunction_atoms graph u v w) just id fits.1.justified is
   named_live graph live (Implication u v just) fits id is = justified_live live (implication_atoms graph u v) just id fits.1.justified is
   named_live graph live (Disjunction u v w) fits id is = absurd (not_named id is)
   named_live graph live (Quantification u level w) fits id is = absurd (not_named id is)
 
   -- no clause that was live before is a later one
-  not_live : {S : Type 0} (old : TableState S) → IsSound old → (id : ℕ) → old.book.state.top < id → is_some (clause_at old.book.state.live id) ≡ true → ⊥
+  not_live : {S : Type 0} (old : TableState S) → IsSound old → (id : ℕ) → old.book.state.top < id
+      → is_some (clause_at old.book.state.live id) ≡ true → ⊥
   not_live old sound id above live =
       let clause = some_clause (clause_at old.book.state.live id) live in
       absurd (omega (arith, (sound.tied.numbers id clause.0 clause.1).1, above))
@@ -66,11 +73,13 @@ module _ (given : (atoms : List Atom) → IsFalse (is_trivial atoms) → IsTrue 
       some_clause None is = cc
       some_clause (Some clause) is = (clause, refl)
 
-  named_before : {S : Type 0} (old : TableState S) (list : List Entry) → Fits old list → (entry : Entry) → Contains list entry → (id : ℕ) → Names entry id → is_some (clause_at old.book.state.live id) ≡ true
+  named_before : {S : Type 0} (old : TableState S) (list : List Entry) → Fits old list → (entry : Entry) → Contains list entry → (id : ℕ)
+      → Names entry id → is_some (clause_at old.book.state.live id) ≡ true
   named_before old list fits entry there id names = named_live old.graph old.book.state.live entry (fits.each entry there) id names
 
   -- The entries of a table that grew.
-  module _ {S : Type 0} {tells : Bool} {channel : S → Channel} (law : StepByStep tells channel) (laws : Growth) (old new : TableState S) (sound : IsSound old) (still : IsSound new) (extends : Extends old new) where
+  module _ {S : Type 0} {tells : Bool} {channel : S → Channel} (law : StepByStep tells channel) (laws : Growth) (old new : TableState S)
+      (sound : IsSound old) (still : IsSound new) (extends : Extends old new) where
     one_kept : (entry : Entry) → FitsEntry old.graph old.book.state.live entry → FitsEntry new.graph new.book.state.live entry
     one_kept = entry_kept laws old.graph new.graph extends.nodes sound.tied.reduced old.book.state.live new.book.state.live extends.clauses
 
@@ -83,7 +92,8 @@ module _ (given : (atoms : List Atom) → IsFalse (is_trivial atoms) → IsTrue 
     }
 
     -- one entry more
-    module _ (before after : List Entry) (found : Entry) (fits : Fits old before) (more : IsOneMore new before found) (only : (entry : Entry) → Contains after entry → (entry ≡ found) ⊎ Contains before entry)
+    module _ (before after : List Entry) (found : Entry) (fits : Fits old before) (more : IsOneMore new before found)
+        (only : (entry : Entry) → Contains after entry → (entry ≡ found) ⊎ Contains before entry)
         (unretired : (id : ℕ) → IsNamed after id → Contains new.retired id → ⊥) where
       names_along : (entry : Entry) (id : ℕ) → entry ≡ found → Names entry id → Names found id
       names_along entry id is names = subst (λ (e : Entry). Names e id) is names
@@ -115,7 +125,8 @@ module _ (given : (atoms : List Atom) → IsFalse (is_trivial atoms) → IsTrue 
       }
 
     -- the entries of other caches, beside those of one whose clauses were retired
-    module _ (before after others : List Entry) (retires : RetiresOwn old new before) (named : NamesOnly before after old.book.state new.book.state) (fits : Fits old (before ++ others)) (apart : AreApart before others)
+    module _ (before after others : List Entry) (retires : RetiresOwn old new before)
+        (named : NamesOnly before after old.book.state new.book.state) (fits : Fits old (before ++ others)) (apart : AreApart before others)
         (own : Fits new after) where
       other_there : (entry : Entry) → Contains others entry → Contains (before ++ others) entry
       other_there entry there = Contains-append_right before others entry there
@@ -175,7 +186,8 @@ module _ (given : (atoms : List Atom) → IsFalse (is_trivial atoms) → IsTrue 
       in_none : (entry : Entry) → Contains [] entry → ⊥
       in_none entry there = absurd (omega (arith, there.1))
 
-  fits_fewer : {S : Type 0} (table : TableState S) (few more : List Entry) → ((entry : Entry) → Contains few entry → Contains more entry) → Fits table more → Fits table few
+  fits_fewer : {S : Type 0} (table : TableState S) (few more : List Entry) → ((entry : Entry) → Contains few entry → Contains more entry)
+      → Fits table more → Fits table few
   fits_fewer table few more within fits = record {
     each = λ entry there. fits.each entry (within entry there);
     own = λ id by. fits.own id (by.0, within by.0 by.1, by.2);
@@ -184,12 +196,15 @@ module _ (given : (atoms : List Atom) → IsFalse (is_trivial atoms) → IsTrue 
   }
 
 -- Clauses were deleted, but for those that entries name.
-fits_settled : {S : Type 0} (old new : TableState S) (entries : List Entry) → new.graph ≡ old.graph → new.inputs ≡ old.inputs → new.retired ≡ []
-    → ((id : ℕ) → (Contains old.retired id → ⊥) → clause_at new.book.state.live id ≡ clause_at old.book.state.live id) → Fits old entries → Fits new entries
+fits_settled : {S : Type 0} (old new : TableState S) (entries : List Entry) → new.graph ≡ old.graph → new.inputs ≡ old.inputs → new.retired
+    ≡ []
+    → ((id : ℕ) → (Contains old.retired id → ⊥) → clause_at new.book.state.live id ≡ clause_at old.book.state.live id) → Fits old entries
+    → Fits new entries
 fits_settled old new entries nodes inputs none stay fits = record {
   each = λ entry there.
       subst (λ (g : Graph). FitsEntry g new.book.state.live entry) (sym nodes)
-      (entry_settled old.graph old.book.state.live new.book.state.live entry (λ id names. stay id (fits.unretired id (entry, there, names))) (fits.each entry there));
+      (entry_settled old.graph old.book.state.live new.book.state.live entry (λ id names. stay id (fits.unretired id (entry, there, names)))
+      (fits.each entry there));
   own = λ id by.
       let was = fits.own id by in
       record {
@@ -204,14 +219,19 @@ fits_settled old new entries nodes inputs none stay fits = record {
     in_none : (id : ℕ) → Contains [] id → ⊥
     in_none id there = absurd (omega (arith, there.1))
 
-pub fitting : {S : Type 0} {tells : Bool} {channel : S → Channel} → StepByStep tells channel → Growth → ((atoms : List Atom) → IsFalse (is_trivial atoms) → IsTrue (is_some (clause_of atoms))) → Fitting S
+pub fitting : {S : Type 0} {tells : Bool} {channel : S → Channel} → StepByStep tells channel → Growth
+    → ((atoms : List Atom) → IsFalse (is_trivial atoms) → IsTrue (is_some (clause_of atoms))) → Fitting S
 fitting law laws given = record {
   none = λ table. fits_none given table;
   kept = λ old new entries sound still extends fits unretired. fits_kept given law laws old new sound still extends entries fits unretired;
   fewer = λ table. fits_fewer given table;
-  one = λ old new entry sound extends. entry_kept laws old.graph new.graph extends.nodes sound.tied.reduced old.book.state.live new.book.state.live extends.clauses entry;
-  more = λ old new before after found sound still extends fits one only unretired. fits_more given law laws old new sound still extends before after found fits one only unretired;
-  beside = λ old new before after others sound still extends retires named fits apart own.
-      (fits_both given law laws old new sound still extends before after others retires named fits apart own, apart_after given law laws old new sound still extends before after others retires named fits apart own);
+  one = λ old new entry sound extends. entry_kept laws old.graph new.graph extends.nodes sound.tied.reduced old.book.state.live
+      new.book.state.live extends.clauses entry;
+  more = λ old new before after found sound still extends fits one only unretired.
+      fits_more given law laws old new sound still extends before after found fits one only unretired;
+  beside = λ old new before after others sound still extends retires named fits apart own. (
+    fits_both given law laws old new sound still extends before after others retires named fits apart own,
+    apart_after given law laws old new sound still extends before after others retires named fits apart own,
+  );
   settled = fits_settled;
 }

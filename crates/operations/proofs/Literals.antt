@@ -1,5 +1,6 @@
 -- The literals of clauses over nodes: of which node each is, and one of the formula's before them.
-use Rattle.std.proofs.Common.{◌≡◌, ◌≢◌, ◌<◌, ◌≤◌, ◌||◌, ◌&&◌, ℕ, zero, suc, ℤ, pos, neg_ℤ, nat_abs, int_eq, Bool, true, false, not, List, [], ◌∷◌, Option, None, Some, refl, sym, ap, ◌∙◌, arith, inl, inr, ne_eqb}
+use Rattle.std.proofs.Common.{◌≡◌, ◌≢◌, ◌<◌, ◌≤◌, ◌||◌, ◌&&◌, ℕ, zero, suc, ℤ, pos, neg_ℤ, nat_abs, int_eq, Bool, true, false, not, List}
+use Rattle.std.proofs.Common.{[], ◌∷◌, Option, None, Some, refl, sym, ap, ◌∙◌, arith, inl, inr, ne_eqb}
 use Rattle.std.specs.Prelude.{◌==◌}
 use Rattle.std.specs.List.{list_any}
 use Rattle.std.proofs.lemmas.Bool.{and_from, or_cases}
@@ -28,17 +29,20 @@ pub same_int : (x y : ℤ) → int_eq x y ≡ true → x ≡ y
 same_int x y is = (Decides-int_eq x y).0 is
 
 -- a list of literals that are of different variables
-apart_first : (x : ℤ) (xs : List ℤ) → 0 < nat_abs x → list_any (λ y. nat_abs x == nat_abs y) xs ≡ false → are_apart xs ≡ true → are_apart (x ∷ xs) ≡ true
+apart_first : (x : ℤ) (xs : List ℤ) → 0 < nat_abs x → list_any (λ y. nat_abs x == nat_abs y) xs ≡ false → are_apart xs ≡ true
+    → are_apart (x ∷ xs) ≡ true
 apart_first x xs positive none rest =
     let nonzero : is_nonzero x ≡ true = grind (arith, positive) in
     and_from (is_nonzero x && not (list_any (λ y. nat_abs x == nat_abs y) xs)) (are_apart xs)
     (and_from (is_nonzero x) (not (list_any (λ y. nat_abs x == nat_abs y) xs)) nonzero (ap not none)) rest
 
-none_alike : (n : ℕ) (xs : List ℤ) → ((y : ℤ) → list_any (int_eq y) xs ≡ true → n ≡ nat_abs y → ⊥) → list_any (λ y. n == nat_abs y) xs ≡ false
+none_alike : (n : ℕ) (xs : List ℤ) → ((y : ℤ) → list_any (int_eq y) xs ≡ true → n ≡ nat_abs y → ⊥) → list_any (λ y. n == nat_abs y) xs
+    ≡ false
 none_alike n [] h = refl
 none_alike n (x ∷ xs) h =
     let here : (n == nat_abs x) ≡ false = ne_eqb n (nat_abs x) (h x (or_first (int_eq x x) (list_any (int_eq x) xs) (int_itself x))) in
-    let rest : list_any (λ y. n == nat_abs y) xs ≡ false = none_alike n xs (λ y is. h y (or_second (int_eq y x) (list_any (int_eq y) xs) is)) in
+    let rest : list_any (λ y. n == nat_abs y) xs ≡ false = none_alike n xs
+    (λ y is. h y (or_second (int_eq y x) (list_any (int_eq y) xs) is)) in
     ap (λ b. b || list_any (λ y. n == nat_abs y) xs) here ∙ rest
   where
     or_first : (a b : Bool) → a ≡ true → (a || b) ≡ true
@@ -70,7 +74,8 @@ literal_at graph False l is = cc
 literal_at graph True l is = cc
 literal_at graph (Inner key) l is = literal_in graph key l (branch_at graph key.index) refl is
   where
-    literal_in : (graph : Graph) (key : NodeKey) (l : ℤ) (o : Option Branch) → branch_at graph key.index ≡ o → atom_in o ≡ Of l → (at : IsAt graph (Inner key)) × (l ≡ pos at.branch.variable)
+    literal_in : (graph : Graph) (key : NodeKey) (l : ℤ) (o : Option Branch) → branch_at graph key.index ≡ o → atom_in o ≡ Of l
+        → (at : IsAt graph (Inner key)) × (l ≡ pos at.branch.variable)
     literal_in graph key l None at is = cc
     literal_in graph key l (Some branch) at is = (record { key = key; branch = branch; named = refl; at = at }, cc)
 
@@ -78,7 +83,8 @@ literal_at graph (Inner key) l is = literal_in graph key l (branch_at graph key.
 owned_atom : (graph : Graph) (node : Node) (y : ℤ) → is_literal y (atom_of graph node) ≡ true → IsOwned graph (nat_abs y)
 owned_atom graph node y is = owned_by graph node y (atom_of graph node) refl is
   where
-    owned_by : (graph : Graph) (node : Node) (y : ℤ) (atom : Atom) → atom_of graph node ≡ atom → is_literal y atom ≡ true → IsOwned graph (nat_abs y)
+    owned_by : (graph : Graph) (node : Node) (y : ℤ) (atom : Atom) → atom_of graph node ≡ atom → is_literal y atom ≡ true
+        → IsOwned graph (nat_abs y)
     owned_by graph node y Always at is = cc
     owned_by graph node y Never at is = cc
     owned_by graph node y (Of l) at is =
@@ -88,12 +94,18 @@ owned_atom graph node y is = owned_by graph node y (atom_of graph node) refl is
 owned_negated : (graph : Graph) (node : Node) (y : ℤ) → is_literal y (neg_atom (atom_of graph node)) ≡ true → IsOwned graph (nat_abs y)
 owned_negated graph node y is = owned_by graph node y (atom_of graph node) refl is
   where
-    owned_by : (graph : Graph) (node : Node) (y : ℤ) (atom : Atom) → atom_of graph node ≡ atom → is_literal y (neg_atom atom) ≡ true → IsOwned graph (nat_abs y)
+    owned_by : (graph : Graph) (node : Node) (y : ℤ) (atom : Atom) → atom_of graph node ≡ atom → is_literal y (neg_atom atom) ≡ true
+        → IsOwned graph (nat_abs y)
     owned_by graph node y Always at is = cc
     owned_by graph node y Never at is = cc
     owned_by graph node y (Of l) at is =
         let own = literal_at graph node l at in
-        record { key = own.0.key.index; branch = own.0.branch; stands = own.0.at; own = sym (ap nat_abs (same_int y (neg_ℤ l) is ∙ ap neg_ℤ own.1) ∙ abs_neg own.0.branch.variable) }
+        record {
+          key = own.0.key.index;
+          branch = own.0.branch;
+          stands = own.0.at;
+          own = sym (ap nat_abs (same_int y (neg_ℤ l) is ∙ ap neg_ℤ own.1) ∙ abs_neg own.0.branch.variable);
+        }
 
 -- a variable of the formula before it
 behind_apart : (graph : Graph) → IsReduced graph → (x : ℤ) (clause : List ℤ) → 0 < nat_abs x → nat_abs x ≤ levels graph
@@ -103,7 +115,8 @@ behind_apart graph reduced x clause positive small owned apart =
     let own = owned y is in
     omega (arith, reduced.above own.key own.branch own.stands, own.own, same, small))) apart
 
-behind_owned : (graph : Graph) (x : ℤ) (clause : List ℤ) → nat_abs x ≤ levels graph → ((y : ℤ) → list_any (int_eq y) clause ≡ true → IsOwned graph (nat_abs y))
+behind_owned : (graph : Graph) (x : ℤ) (clause : List ℤ) → nat_abs x ≤ levels graph
+    → ((y : ℤ) → list_any (int_eq y) clause ≡ true → IsOwned graph (nat_abs y))
     → (y : ℤ) → list_any (int_eq y) (x ∷ clause) ≡ true → levels graph < nat_abs y → IsOwned graph (nat_abs y)
 behind_owned graph x clause small owned y is above =
     elim (or_cases (int_eq y x) (list_any (int_eq y) clause) is) [
@@ -114,9 +127,11 @@ behind_owned graph x clause small owned y is above =
 atom_at : (graph : Graph) (node : Node) (at : IsAt graph node) → atom_of graph node ≡ Of (pos at.branch.variable)
 atom_at graph node at = ap (atom_of graph) at.named ∙ ap atom_in at.at
 
-same_key : (graph : Graph) → IsReduced graph → (one two : Node) (first : IsAt graph one) (second : IsAt graph two) → first.branch.variable ≡ second.branch.variable → one ≡ two
+same_key : (graph : Graph) → IsReduced graph → (one two : Node) (first : IsAt graph one) (second : IsAt graph two) → first.branch.variable
+    ≡ second.branch.variable → one ≡ two
 same_key graph reduced one two first second same =
-    let index : first.key.index ≡ second.key.index = reduced.apart first.key.index second.key.index first.branch second.branch first.at second.at same in
+    let index : first.key.index
+    ≡ second.key.index = reduced.apart first.key.index second.key.index first.branch second.branch first.at second.at same in
     first.named ∙ ap (λ i. Inner (record { index = i })) index ∙ sym second.named
 
 differing : (graph : Graph) → IsReduced graph → (u v : Node) → IsInner graph u → IsInner graph v → u ≢ v → AreLiterals graph u v

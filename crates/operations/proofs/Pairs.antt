@@ -1,5 +1,6 @@
 -- Pairs of operands: when they are the same, how many of them there are, and those of two lists of nodes.
-use Rattle.std.proofs.Common.{◌≡◌, ◌∙◌, ◌≤◌, ◌<◌, ◌*◌, ◌++◌, ◌||◌, zero, suc, Bool, true, false, List, [], ◌∷◌, length, map, Contains, refl, sym, ap, eq-eqb, subst, arith, inl, inr}
+use Rattle.std.proofs.Common.{◌≡◌, ◌∙◌, ◌≤◌, ◌<◌, ◌*◌, ◌++◌, ◌||◌, zero, suc, Bool, true, false, List, [], ◌∷◌, length, map, Contains, refl}
+use Rattle.std.proofs.Common.{sym, ap, eq-eqb, subst, arith, inl, inr}
 use Rattle.std.proofs.Math.Nat.{suc-mul}
 use Rattle.std.specs.Cmp.{IsEquivalence}
 use Rattle.std.specs.List.{AllByRecursion, IsDistinct}
@@ -33,12 +34,16 @@ pairs_equal = record {
 }
 
 -- so different pairs that are all among others are no more than those
-pub no_longer : (few more : List Pair) → IsDistinct same_pair few → ((pair : Pair) → is_one few pair ≡ true → is_one more pair ≡ true) → length few ≤ length more
+pub no_longer : (few more : List Pair) → IsDistinct same_pair few → ((pair : Pair) → is_one few pair ≡ true → is_one more pair ≡ true)
+    → length few ≤ length more
 no_longer few more distinct among = length-le_from_is_member pairs_equal few more distinct among
 
 none_same : (few : List Pair) (own : Pair) → is_one few own ≡ false → AllByRecursion (λ pair. same_pair own pair ≡ false) few
 none_same [] own none = tt
-none_same (pair ∷ few) own none = (or_none_left (same_pair own pair) (is_one few own) none, none_same few own (or_none_right (same_pair own pair) (is_one few own) none))
+none_same (pair ∷ few) own none = (
+  or_none_left (same_pair own pair) (is_one few own) none,
+  none_same few own (or_none_right (same_pair own pair) (is_one few own) none),
+)
   where
     or_none_left : (a b : Bool) → (a || b) ≡ false → a ≡ false
     or_none_left true b is = cc
@@ -48,7 +53,8 @@ none_same (pair ∷ few) own none = (or_none_left (same_pair own pair) (is_one f
     or_none_right true b is = cc
     or_none_right false b is = is
 
-pub one_more : (few more : List Pair) (own : Pair) → IsDistinct same_pair few → ((pair : Pair) → is_one few pair ≡ true → is_one more pair ≡ true) → is_one few own ≡ false → is_one more own ≡ true
+pub one_more : (few more : List Pair) (own : Pair) → IsDistinct same_pair few
+    → ((pair : Pair) → is_one few pair ≡ true → is_one more pair ≡ true) → is_one few own ≡ false → is_one more own ≡ true
     → length few < length more
 unfolding IsDistinct
 one_more few more own distinct among apart there =
@@ -59,7 +65,8 @@ one_more few more own distinct among apart there =
     ]) in
     omega (arith, all)
 
-pub among_more : (few more : List Pair) (own : Pair) → ((pair : Pair) → is_one few pair ≡ true → is_one more pair ≡ true) → is_one more own ≡ true → (pair : Pair) → is_one (own ∷ few) pair ≡ true → is_one more pair ≡ true
+pub among_more : (few more : List Pair) (own : Pair) → ((pair : Pair) → is_one few pair ≡ true → is_one more pair ≡ true) → is_one more own
+    ≡ true → (pair : Pair) → is_one (own ∷ few) pair ≡ true → is_one more pair ≡ true
 among_more few more own among there pair is = elim (or_cases (same_pair pair own) (is_one few pair) is) [
   | inl same ↦ subst (λ (p : Pair). is_one more p ≡ true) (sym (equal_pairs pair own same)) there
   | inr other ↦ among pair other
@@ -100,11 +107,15 @@ one_of_right (own ∷ one) two pair is = or_right (same_pair pair own) (is_one (
 
 row_has : (u : Node) (vs : List Node) (v : Node) → Contains vs v → is_one (map (λ w. (u, w)) vs) (u, v) ≡ true
 row_has u [] v there = absurd (omega (arith, there.1))
-row_has u (w ∷ vs) v (zero, small, is) = or_left (same_pair (u, v) (u, w)) (is_one (map (λ n. (u, n)) vs) (u, v)) (subst (λ (n : Node). same_pair (u, v) (u, n) ≡ true) (sym is) (same_pair-itself (u, v)))
-row_has u (w ∷ vs) v (suc k, small, is) = or_right (same_pair (u, v) (u, w)) (is_one (map (λ n. (u, n)) vs) (u, v)) (row_has u vs v (k, omega (arith, small), is))
+row_has u (w ∷ vs) v (zero, small, is) = or_left (same_pair (u, v) (u, w)) (is_one (map (λ n. (u, n)) vs) (u, v))
+    (subst (λ (n : Node). same_pair (u, v) (u, n) ≡ true) (sym is) (same_pair-itself (u, v)))
+row_has u (w ∷ vs) v (suc k, small, is) = or_right (same_pair (u, v) (u, w)) (is_one (map (λ n. (u, n)) vs) (u, v))
+    (row_has u vs v (k, omega (arith, small), is))
 
 pub pairs_of-has : (us vs : List Node) (u v : Node) → Contains us u → Contains vs v → is_one (pairs_of us vs) (u, v) ≡ true
 pairs_of-has [] vs u v there and = absurd (omega (arith, there.1))
 pairs_of-has (w ∷ us) vs u v (zero, small, is) and =
-    one_of_left (map (λ n. (w, n)) vs) (pairs_of us vs) (u, v) (subst (λ (n : Node). is_one (map (λ m. (n, m)) vs) (u, v) ≡ true) (sym is) (row_has u vs v and))
-pairs_of-has (w ∷ us) vs u v (suc k, small, is) and = one_of_right (map (λ n. (w, n)) vs) (pairs_of us vs) (u, v) (pairs_of-has us vs u v (k, omega (arith, small), is) and)
+    one_of_left (map (λ n. (w, n)) vs) (pairs_of us vs) (u, v) (subst (λ (n : Node). is_one (map (λ m. (n, m)) vs) (u, v)
+    ≡ true) (sym is) (row_has u vs v and))
+pairs_of-has (w ∷ us) vs u v (suc k, small, is) and = one_of_right (map (λ n. (w, n)) vs) (pairs_of us vs) (u, v)
+    (pairs_of-has us vs u v (k, omega (arith, small), is) and)

@@ -1,5 +1,6 @@
 -- Purging caches: what is left of their entries and of the table, and that entries over marked nodes fit a swept table.
-use Rattle.std.proofs.Common.{◌≡◌, ◌≤◌, ◌++◌, ◌⊎◌, ◌&&◌, ℕ, Bool, true, false, List, [], ◌∷◌, None, Some, Contains, is_some, refl, sym, ap, ◌∙◌, subst, arith, inl, inr}
+use Rattle.std.proofs.Common.{◌≡◌, ◌≤◌, ◌++◌, ◌⊎◌, ◌&&◌, ℕ, Bool, true, false, List, [], ◌∷◌, None, Some, Contains, is_some, refl, sym, ap}
+use Rattle.std.proofs.Common.{◌∙◌, subst, arith, inl, inr}
 use Rattle.std.specs.Prelude.{IsTrue, if◌then◌else◌}
 use Rattle.std.specs.List.{filter}
 use Rattle.std.proofs.lemmas.Bool.{and_parts, cases_Bool}
@@ -17,22 +18,27 @@ use Rattle.node_table.specs.Marks.{AreMarks, is_marked}
 use Rattle.node_table.specs.Swept.{IsSwept}
 use Rattle.node_table.specs.Table.{TableState, Extends, IsAddedTo, IsSound}
 use Rattle.node_table.specs.Tied.{IsTied}
-use Rattle.operations.specs.Entries.{Entry, Conjunction, Implication, Disjunction, Quantification, AreApart, FitsEntry, Fits, Fitting, IsAccounted, IsNamed, NamesOnly, RetiresOwn, just_of}
+use Rattle.operations.specs.Entries.{Entry, Conjunction, Implication, Disjunction, Quantification, AreApart, FitsEntry, Fits, Fitting}
+use Rattle.operations.specs.Entries.{IsAccounted, IsNamed, NamesOnly, RetiresOwn, just_of}
 use Rattle.operations.specs.Purged.{IsPurged, Purging, are_marked}
 use Rattle.operations.proofs.Cleared.{AreAmong, entry_clear}
 use Rattle.operations.proofs.Elements.{there_none, filter_there, filter_passed, filter_kept}
 use Rattle.operations.proofs.SameNodes.{IsSameNode, AreSameNodes, entry_same, entry_settled}
 
 -- One cache, or several as one list.
-module _ {S : Type 0} (old new : TableState S) (marks : List Bool) (before after : List Entry) (purged : IsPurged old new marks before after) where
+module _ {S : Type 0} (old new : TableState S) (marks : List Bool) (before after : List Entry)
+    (purged : IsPurged old new marks before after) where
   was_there : (entry : Entry) → Contains after entry → Contains before entry
-  was_there entry there = filter_there (are_marked marks) before entry (subst (λ (list : List Entry). Contains list entry) purged.stays there)
+  was_there entry there = filter_there (are_marked marks) before entry
+      (subst (λ (list : List Entry). Contains list entry) purged.stays there)
 
   marked_after : (entry : Entry) → Contains after entry → are_marked marks entry ≡ true
-  marked_after entry there = filter_passed (are_marked marks) before entry (subst (λ (list : List Entry). Contains list entry) purged.stays there)
+  marked_after entry there = filter_passed (are_marked marks) before entry
+      (subst (λ (list : List Entry). Contains list entry) purged.stays there)
 
   still_there : (entry : Entry) → Contains before entry → are_marked marks entry ≡ true → Contains after entry
-  still_there entry there marked = subst (λ (list : List Entry). Contains list entry) (sym purged.stays) (filter_kept (are_marked marks) before entry there marked)
+  still_there entry there marked = subst (λ (list : List Entry). Contains list entry) (sym purged.stays)
+      (filter_kept (are_marked marks) before entry there marked)
 
   retired_now : new.retired ≡ old.retired ++ purged.more
   retired_now = ap (λ (t : TableState S). t.retired) purged.table
@@ -44,11 +50,13 @@ module _ {S : Type 0} (old new : TableState S) (marks : List Bool) (before after
   named_before id there = let by = purged.named id there in (by.0, by.1, by.3)
 
   accounted : (id : ℕ) → IsAccounted old before id → IsAccounted new after id
-  accounted id (inl was) = inl (subst (λ (list : List ℕ). Contains list id) (sym retired_now) (Contains-append_left old.retired purged.more id was))
+  accounted id (inl was) = inl (subst (λ (list : List ℕ). Contains list id) (sym retired_now)
+      (Contains-append_left old.retired purged.more id was))
   accounted id (inr by) = elim (cases_Bool (are_marked marks by.0)) [
     | inl marked ↦ inr (by.0, still_there by.0 by.1 marked, by.2)
     | inr unmarked ↦
-        inl (subst (λ (list : List ℕ). Contains list id) (sym retired_now) (Contains-append_right old.retired purged.more id (purged.each by.0 id by.1 unmarked by.2)))
+        inl (subst (λ (list : List ℕ). Contains list id) (sym retired_now)
+        (Contains-append_right old.retired purged.more id (purged.each by.0 id by.1 unmarked by.2)))
   ]
 
   extends : Extends old new
@@ -56,7 +64,11 @@ module _ {S : Type 0} (old new : TableState S) (marks : List Bool) (before after
     inputs = refl;
     nodes = record { order = refl; nodes = λ key branch at. at };
     clauses = λ id clause at. at;
-    numbers = record { no_less = omega arith; next = λ id stands. inl stands; each = λ id above within. absurd (omega (arith, above, within)) };
+    numbers = record {
+      no_less = omega arith;
+      next = λ id stands. inl stands;
+      each = λ id above within. absurd (omega (arith, above, within));
+    };
     more = purged.more;
     retired = refl;
   })
@@ -96,12 +108,14 @@ module _ {S : Type 0} (old new : TableState S) (marks : List Bool) (before after
     still_fits : Fitting S → Fits new after
     still_fits law = law.kept old new after sound still_sound extends (law.fewer old after before was_there fits) unretired
 
-  beside : Fitting S → (others : List Entry) → IsSound old → Fits old (before ++ others) → AreApart before others → Fits new (after ++ others) × AreApart after others
+  beside : Fitting S → (others : List Entry) → IsSound old → Fits old (before ++ others) → AreApart before others
+      → Fits new (after ++ others) × AreApart after others
   beside law others sound all apart =
       let fits : Fits old before = law.fewer old before (before ++ others) (Contains-append_left before others) all in
       law.beside old new before after others sound (still_sound sound fits) extends retires names all apart (still_fits sound fits law)
 
-joined : {S : Type 0} (old middle new : TableState S) (marks : List Bool) (one one_after other other_after : List Entry) → IsPurged old middle marks one one_after
+joined : {S : Type 0} (old middle new : TableState S) (marks : List Bool) (one one_after other other_after : List Entry)
+    → IsPurged old middle marks one one_after
     → IsPurged middle new marks other other_after → IsPurged old new marks (one ++ other) (one_after ++ other_after)
 joined {S} old middle new marks one one_after other other_after first second = record {
   stays = (λ i. first.stays i ++ second.stays i) ∙ sym (filter-append (are_marked marks) one other);
@@ -120,7 +134,8 @@ joined {S} old middle new marks one one_after other other_after first second = r
   once = λ distinct. second.once (first.once distinct);
 }
 
-plain : {S : Type 0} (table : TableState S) (marks : List Bool) (entries : List Entry) → ((entry : Entry) → Contains entries entry → just_of entry ≡ Trivial)
+plain : {S : Type 0} (table : TableState S) (marks : List Bool) (entries : List Entry)
+    → ((entry : Entry) → Contains entries entry → just_of entry ≡ Trivial)
     → IsPurged table table marks entries (filter (are_marked marks) entries)
 plain table marks entries none = record {
   stays = refl;
@@ -137,15 +152,18 @@ three_marked marks u v w all = grind arith
 
 -- What marked nodes reach is marked, and stays.
 module _ (old new : Graph) (marks : List Bool) (are : AreMarks old marks) (swept : IsSwept old new marks) where
-  child_marked : (to_high : Bool) (node : Node) → is_marked marks node ≡ true → is_marked marks (child_of to_high node (branch_of old node)) ≡ true
+  child_marked : (to_high : Bool) (node : Node) → is_marked marks node ≡ true → is_marked marks (child_of to_high node (branch_of old node))
+      ≡ true
   child_marked to_high False is = refl
   child_marked to_high True is = refl
-  child_marked to_high (Inner key) is = elim (branch_at old key.index) as (λ o. branch_at old key.index ≡ o → is_marked marks (child_of to_high (Inner key) o) ≡ true) [
-    | None ↦ λ _. is
-    | Some b ↦ λ at. either to_high b.high b.low (are.high key.index b is at) (are.low key.index b is at)
-  ] refl
+  child_marked to_high (Inner key) is = elim (branch_at old key.index) as (λ o. branch_at old key.index ≡ o
+      → is_marked marks (child_of to_high (Inner key) o) ≡ true) [
+        | None ↦ λ _. is
+        | Some b ↦ λ at. either to_high b.high b.low (are.high key.index b is at) (are.low key.index b is at)
+      ] refl
     where
-      either : (to_high : Bool) (high low : Node) → is_marked marks high ≡ true → is_marked marks low ≡ true → is_marked marks (if to_high then high else low) ≡ true
+      either : (to_high : Bool) (high low : Node) → is_marked marks high ≡ true → is_marked marks low ≡ true
+          → is_marked marks (if to_high then high else low) ≡ true
       either true high low first second = first
       either false high low first second = second
 
@@ -157,7 +175,8 @@ module _ (old new : Graph) (marks : List Bool) (are : AreMarks old marks) (swept
   keeps_reached root is = record {
     order = swept.order;
     nodes = λ key b reached at.
-        let marked : is_marked marks (inner key) ≡ true = subst (λ n. is_marked marks n ≡ true) reached.ends (end_marked root reached.path is) in
+        let marked : is_marked marks (inner key) ≡ true = subst (λ n. is_marked marks n
+        ≡ true) reached.ends (end_marked root reached.path is) in
         swept.nodes key ∙ ap (λ t. if t then branch_at old key else None) marked ∙ at;
   }
 
@@ -180,18 +199,30 @@ module _ (old new : Graph) (marks : List Bool) (are : AreMarks old marks) (swept
 
     same_nodes : (live : Live) (entry : Entry) → are_marked marks entry ≡ true → FitsEntry old live entry → AreSameNodes old new entry
     same_nodes live (Conjunction u v w just) marked fits =
-        let parts = three_marked marks u v w marked in (same_node u parts.0 fits.0.first, same_node v parts.1 fits.0.second, same_node w parts.2 fits.1.stands)
+        let parts = three_marked marks u v w marked in (
+          same_node u parts.0 fits.0.first,
+          same_node v parts.1 fits.0.second,
+          same_node w parts.2 fits.1.stands,
+        )
     same_nodes live (Implication u v just) marked fits =
-        let parts = and_parts (is_marked marks u) (is_marked marks v) marked in (same_node u parts.0 fits.0.first, same_node v parts.1 fits.0.second)
+        let parts = and_parts (is_marked marks u) (is_marked marks v) marked in
+        (same_node u parts.0 fits.0.first, same_node v parts.1 fits.0.second)
     same_nodes live (Disjunction u v w) marked fits =
-        let parts = three_marked marks u v w marked in (same_node u parts.0 fits.0.first, same_node v parts.1 fits.0.second, same_node w parts.2 fits.1.stands)
+        let parts = three_marked marks u v w marked in (
+          same_node u parts.0 fits.0.first,
+          same_node v parts.1 fits.0.second,
+          same_node w parts.2 fits.1.stands,
+        )
     same_nodes live (Quantification u level w) marked fits =
-        let parts = and_parts (is_marked marks u) (is_marked marks w) marked in (same_node u parts.0 fits.0, same_node w parts.1 fits.1.stands)
+        let parts = and_parts (is_marked marks u) (is_marked marks w) marked in
+        (same_node u parts.0 fits.0, same_node w parts.1 fits.1.stands)
 
 -- Entries over marked nodes, where the clauses that they name are live still.
-fits_swept : Kept → {S : Type 0} (old new : TableState S) (marks : List Bool) (entries : List Entry) → IsSound old → AreMarks old.graph marks → IsSwept old.graph new.graph marks
+fits_swept : Kept → {S : Type 0} (old new : TableState S) (marks : List Bool) (entries : List Entry) → IsSound old
+    → AreMarks old.graph marks → IsSwept old.graph new.graph marks
     → ((entry : Entry) → Contains entries entry → are_marked marks entry ≡ true) → Fits old entries
-    → ((id : ℕ) → IsNamed entries id → clause_at new.book.state.live id ≡ clause_at old.book.state.live id) → new.inputs ≡ old.inputs → new.retired ≡ old.retired → Fits new entries
+    → ((id : ℕ) → IsNamed entries id → clause_at new.book.state.live id ≡ clause_at old.book.state.live id) → new.inputs ≡ old.inputs
+    → new.retired ≡ old.retired → Fits new entries
 fits_swept law old new marks entries sound are swept marked fits live inputs retired = record {
   each = λ entry there.
       let right : FitsEntry old.graph old.book.state.live entry = fits.each entry there in
@@ -215,7 +246,8 @@ purging law kept among = record {
   plain = plain;
   sound = λ old new marks before after sound fits purged. still_sound old new marks before after purged sound fits;
   fits = λ old new marks before after sound fits purged. still_fits old new marks before after purged sound fits law;
-  beside = λ old new marks before after others sound fits apart purged. beside old new marks before after purged law others sound fits apart;
+  beside = λ old new marks before after others sound fits apart purged.
+      beside old new marks before after purged law others sound fits apart;
   fewer = λ old new marks before after entry purged. was_there old new marks before after purged entry;
   marked = λ old new marks before after entry purged. marked_after old new marks before after purged entry;
   clear = entry_clear among;

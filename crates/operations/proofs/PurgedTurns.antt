@@ -1,5 +1,6 @@
 -- Purging entry by entry, the last one first.
-use Rattle.std.proofs.Common.{◌≡◌, ◌+◌, ◌++◌, ◌∷◌, ℕ, Bool, true, false, cond, List, length, Option, Contains, filter, get_or, sym, ap, ◌∙◌, subst, arith, inl, inr, eq-eqb}
+use Rattle.std.proofs.Common.{◌≡◌, ◌+◌, ◌++◌, ◌∷◌, ℕ, Bool, true, false, cond, List, length, Option, Contains, filter, get_or, sym, ap, ◌∙◌}
+use Rattle.std.proofs.Common.{subst, arith, inl, inr, eq-eqb}
 use Rattle.std.specs.Prelude.{nat_eq}
 use Rattle.std.specs.List.{IsDistinct}
 use Rattle.std.proofs.lemmas.List.{append_assoc, get_or_append_left, get_or-append-add, length-append}
@@ -20,14 +21,17 @@ parts_apart xs ys id distinct first second =
     let one : get_or (xs ++ ys) first.0 id ≡ id = get_or_append_left xs ys id first.0 first.1 ∙ first.2 in
     let other : get_or (xs ++ ys) (length xs + second.0) id ≡ id = get_or-append-add xs ys second.0 id ∙ second.2 in
     let differ : nat_eq (get_or (xs ++ ys) first.0 id) (get_or (xs ++ ys) (length xs + second.0) id) ≡ false =
-    apart_from_distinct nat_eq (xs ++ ys) first.0 (length xs + second.0) id distinct (omega (arith, first.1)) (omega (arith, second.1, length-append xs ys)) in
+    apart_from_distinct nat_eq (xs ++ ys) first.0 (length xs + second.0) id distinct (omega (arith, first.1))
+    (omega (arith, second.1, length-append xs ys)) in
     let both : true ≡ false = sym (eq-eqb _ _ (one ∙ sym other)) ∙ differ in
     cc
 
-module _ {S : Type 0} (old middle : TableState S) (marks : List Bool) (before after : List Entry) (entry : Entry) (purged : IsPurged old middle marks before after) where
+module _ {S : Type 0} (old middle : TableState S) (marks : List Bool) (before after : List Entry) (entry : Entry)
+    (purged : IsPurged old middle marks before after) where
   stays : are_marked marks entry ≡ true → IsPurged old middle marks (entry ∷ before) (entry ∷ after)
   stays marked = record {
-    stays = (λ i. entry ∷ purged.stays i) ∙ ap (λ b. cond b (entry ∷ filter (are_marked marks) before) (filter (are_marked marks) before)) (sym marked);
+    stays = (λ i. entry ∷ purged.stays i) ∙ ap (λ b. cond b (entry ∷ filter (are_marked marks) before) (filter (are_marked marks) before))
+        (sym marked);
     more = purged.more;
     table = purged.table;
     named = λ id there. let by = purged.named id there in (by.0, there_more entry before by.0 by.1, by.2, by.3);
@@ -40,7 +44,8 @@ module _ {S : Type 0} (old middle : TableState S) (marks : List Bool) (before af
 
   may : Fits old (entry ∷ before) → (Contains before entry → ⊥) → MayRetire middle entry
   may fits alone = record {
-    own = λ id names. subst (λ (t : TableState S). IsAddedTo t id) (sym purged.table) (fits.own id (entry, there_first entry before, names));
+    own = λ id names. subst (λ (t : TableState S). IsAddedTo t id) (sym purged.table)
+        (fits.own id (entry, there_first entry before, names));
     unretired = λ id names gone. elim (retired_cases old middle marks before after purged id gone) [
       | inl was ↦ fits.unretired id (entry, there_first entry before, names) was
       | inr now ↦
@@ -50,7 +55,8 @@ module _ {S : Type 0} (old middle : TableState S) (marks : List Bool) (before af
     ];
   }
 
-  module _ {tells : Bool} {channel : S → Channel} (new : TableState S) (given : Option ℕ) (unmarked : are_marked marks entry ≡ false) (is : IsClauseOf (just_of entry) given) (free : MayRetire middle entry)
+  module _ {tells : Bool} {channel : S → Channel} (new : TableState S) (given : Option ℕ) (unmarked : are_marked marks entry
+      ≡ false) (is : IsClauseOf (just_of entry) given) (free : MayRetire middle entry)
       (one : RetiresOne tells channel middle new given) where
     abbrev more : List ℕ
     more = one.steps.extends.more
@@ -63,10 +69,11 @@ module _ {S : Type 0} (old middle : TableState S) (marks : List Bool) (before af
 
     -- what is retired since is the clause of the entry
     of_entry : (id : ℕ) → Contains more id → Names entry id
-    of_entry id there = elim (one.only id (subst (λ (list : List ℕ). Contains list id) (sym retired_new) (Contains-append_right middle.retired more id there))) [
-      | inl was ↦ absurd (parts_apart middle.retired more id (subst (IsDistinct nat_eq) retired_new distinct_new) was there)
-      | inr own ↦ just_given (just_of entry) given is id own
-    ]
+    of_entry id there = elim (one.only id (subst (λ (list : List ℕ). Contains list id) (sym retired_new)
+        (Contains-append_right middle.retired more id there))) [
+          | inl was ↦ absurd (parts_apart middle.retired more id (subst (IsDistinct nat_eq) retired_new distinct_new) was there)
+          | inr own ↦ just_given (just_of entry) given is id own
+        ]
 
     entry_retired : (id : ℕ) → Names entry id → Contains more id
     entry_retired id names =
@@ -98,6 +105,7 @@ module _ {S : Type 0} (old middle : TableState S) (marks : List Bool) (before af
 pub purging_turns : {S : Type 0} (tells : Bool) (channel : S → Channel) → PurgingTurns tells channel
 purging_turns tells channel = record {
   stays = λ old new marks before after entry purged. stays old new marks before after entry purged;
-  goes = λ old middle new marks before after entry given purged unmarked is free one. goes old middle marks before after entry purged new given unmarked is free one;
+  goes = λ old middle new marks before after entry given purged unmarked is free one.
+      goes old middle marks before after entry purged new given unmarked is free one;
   may = λ old middle marks before after entry fits alone purged. may old middle marks before after entry purged fits alone;
 }

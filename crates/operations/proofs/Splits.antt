@@ -27,23 +27,28 @@ split_level graph reduced o split = omega (arith, split.first_below, inner_level
 -- the cofactors of both operands stand below the level of the step
 module _ (laws : Cofactors) (graph : Graph) (reduced : IsReduced graph) (o : Operands) (split : AreSplit graph o) where
   u_high_below : IsBelow graph o.level o.u_high
-  u_high_below = subst (IsBelow graph o.level) (sym split.first_high) (laws.high graph reduced o.level o.u (inner_stands graph o.u split.first) split.first_below (split_level graph reduced o split))
+  u_high_below = subst (IsBelow graph o.level) (sym split.first_high)
+      (laws.high graph reduced o.level o.u (inner_stands graph o.u split.first) split.first_below (split_level graph reduced o split))
 
   v_high_below : IsBelow graph o.level o.v_high
-  v_high_below = subst (IsBelow graph o.level) (sym split.second_high) (laws.high graph reduced o.level o.v (inner_stands graph o.v split.second) split.second_below (split_level graph reduced o split))
+  v_high_below = subst (IsBelow graph o.level) (sym split.second_high)
+      (laws.high graph reduced o.level o.v (inner_stands graph o.v split.second) split.second_below (split_level graph reduced o split))
 
   u_low_below : IsBelow graph o.level o.u_low
-  u_low_below = subst (IsBelow graph o.level) (sym split.first_low) (laws.low graph reduced o.level o.u (inner_stands graph o.u split.first) split.first_below (split_level graph reduced o split))
+  u_low_below = subst (IsBelow graph o.level) (sym split.first_low)
+      (laws.low graph reduced o.level o.u (inner_stands graph o.u split.first) split.first_below (split_level graph reduced o split))
 
   v_low_below : IsBelow graph o.level o.v_low
-  v_low_below = subst (IsBelow graph o.level) (sym split.second_low) (laws.low graph reduced o.level o.v (inner_stands graph o.v split.second) split.second_below (split_level graph reduced o split))
+  v_low_below = subst (IsBelow graph o.level) (sym split.second_low)
+      (laws.low graph reduced o.level o.v (inner_stands graph o.v split.second) split.second_below (split_level graph reduced o split))
 
 -- the earlier of two nodes below comes after the earlier of the operands
 measure_falls : (n u v one two l : ℕ) → l < n → l ≤ u → l ≤ v → (u ≡ l) ⊎ (v ≡ l) → l < one → l < two → n - min one two < n - min u v
 measure_falls n u v one two l small first second (inl is) above_one above_two = omega arith
 measure_falls n u v one two l small first second (inr is) above_one above_two = omega arith
 
-fewer_levels : (graph : Graph) → IsReduced graph → (o : Operands) → AreSplit graph o → (u v : Node) → IsBelow graph o.level u → IsBelow graph o.level v → levels_from graph u v < levels_from graph o.u o.v
+fewer_levels : (graph : Graph) → IsReduced graph → (o : Operands) → AreSplit graph o → (u v : Node) → IsBelow graph o.level u
+    → IsBelow graph o.level v → levels_from graph u v < levels_from graph o.u o.v
 fewer_levels graph reduced o split u v first second =
     measure_falls (levels graph) (level_of graph o.u) (level_of graph o.v) (level_of graph u) (level_of graph v) o.level
     (split_level graph reduced o split) split.first_below split.second_below split.earlier first.below second.below

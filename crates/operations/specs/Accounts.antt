@@ -10,7 +10,8 @@ use Rattle.node_table.specs.HandedOn.{same_error}
 use Rattle.node_table.specs.Table.{TableState, AddsNone, Extends, IsAddedTo, IsSound}
 use Rattle.node_table.specs.Progress.{Steps, error_of}
 use Rattle.operations.specs.Caches.{IsOneKept}
-use Rattle.operations.specs.Entries.{Entry, Accounts, AreApart, FitsEntry, Fits, HaveSame, IsClauseOf, Names, NamesOnly, RetiresOwn, just_of}
+use Rattle.operations.specs.Entries.{Entry, Accounts, AreApart, FitsEntry, Fits, HaveSame, IsClauseOf, Names, NamesOnly, RetiresOwn}
+use Rattle.operations.specs.Entries.{just_of}
 
 -- Of the clauses that were added since, one at most is given, which isn't retired; all others are.
 pub record GivesOne {S : Type 0} (old new : TableState S) (just : Just) : Type 0 where
@@ -81,29 +82,41 @@ pub record HasKept {S : Type 0} (old new : TableState S) (before after : List En
 -- or ends with what it found, which is kept, or is refused.
 pub record Accounting (S : Type 0) : Type 0 where
   -- nothing changes
-  pub none : (table : TableState S) (entries : List Entry) (error : Option TableError) → IsSound table → Fits table entries → AccountsFor table table entries entries error
+  pub none : (table : TableState S) (entries : List Entry) (error : Option TableError) → IsSound table → Fits table entries
+      → AccountsFor table table entries entries error
   -- the table stays, and the entries in whatever order
-  pub same : (table : TableState S) (before after : List Entry) (error : Option TableError) → IsSound table → HaveSame before after → Fits table before
+  pub same : (table : TableState S) (before after : List Entry) (error : Option TableError) → IsSound table → HaveSame before after
+      → Fits table before
       → AccountsFor table table before after error
   -- one call after another
-  pub further : (old mid new : TableState S) (first second third : List Entry) (error : Option TableError) → Extends old mid → Extends mid new
+  pub further : (old mid new : TableState S) (first second third : List Entry) (error : Option TableError) → Extends old mid
+      → Extends mid new
       → AccountsFor old mid first second None → AccountsFor mid new second third error → AccountsFor old new first third error
   -- and the entries of other caches stand beside
-  pub beside : (tells : Bool) (one other : Channel) (old new : TableState S) (before after others : List Entry) (count : ℕ) (error : Option TableError) → IsSound old
+  pub beside : (tells : Bool) (one other : Channel) (old new : TableState S) (before after others : List Entry) (count : ℕ)
+      (error : Option TableError) → IsSound old
       → Steps tells one other old new count error → AccountsFor old new before after error
       → Fits old (before ++ others) → AreApart before others → IsWhole error → Fits new (after ++ others) × AreApart after others
   -- where no clause was added beside definitions, none is given, and what later additions give is given by both
   pub gives_none : (old new : TableState S) → IsSound old → AddsNone old new → GivesOne old new Trivial
-  pub gives_further : (old mid new : TableState S) (just : Just) → IsSound old → AddsNone old mid → Extends old mid → Extends mid new → GivesOne mid new just → GivesOne old new just
-  pub retires_further : (old mid new : TableState S) → mid.retired ≡ old.retired → old.book.state.top ≤ mid.book.state.top → RetiresNew mid new → RetiresNew old new
+  pub gives_further : (old mid new : TableState S) (just : Just) → IsSound old → AddsNone old mid → Extends old mid → Extends mid new
+      → GivesOne mid new just → GivesOne old new just
+  pub retires_further : (old mid new : TableState S) → mid.retired ≡ old.retired → old.book.state.top ≤ mid.book.state.top
+      → RetiresNew mid new → RetiresNew old new
   -- nothing was found
-  pub failed : (tells : Bool) (one other : Channel) (old new : TableState S) (before : List Entry) (count : ℕ) (error : Option TableError) → IsSound old → Fits old before
-      → Steps tells one other old new count error → RetiresNew old new → (IsWhole error → GivesOne old new Trivial) → AccountsFor old new before before error
+  pub failed : (tells : Bool) (one other : Channel) (old new : TableState S) (before : List Entry) (count : ℕ) (error : Option TableError)
+      → IsSound old → Fits old before
+      → Steps tells one other old new count error → RetiresNew old new → (IsWhole error → GivesOne old new Trivial)
+      → AccountsFor old new before before error
   -- it was found: what was kept before still fits
   pub found : (old new : TableState S) (before : List Entry) (just : Just) → HasFound old new before just → Fits new before
   -- and it is kept, and the clause that is handed back is retired
-  pub kept : (tells : Bool) (channel : S → Channel) (old mid new : TableState S) (before after : List Entry) (own : Entry) (given : Option ℕ) → HasFound old mid before (just_of own)
-      → FitsEntry mid.graph mid.book.state.live own → IsOneKept before after own given → RetiresOne tells channel mid new given → HasKept old new before after own
+  pub kept : (tells : Bool) (channel : S → Channel) (old mid new : TableState S) (before after : List Entry) (own : Entry)
+      (given : Option ℕ) → HasFound old mid before (just_of own)
+      → FitsEntry mid.graph mid.book.state.live own → IsOneKept before after own given → RetiresOne tells channel mid new given
+      → HasKept old new before after own
   -- or it is refused memory, and its own clause is retired
-  pub refused : (tells : Bool) (channel : S → Channel) (old mid new : TableState S) (before : List Entry) (just : Just) (given : Option ℕ) (error : Option TableError)
-      → HasFound old mid before just → IsClauseOf just given → RetiresOne tells channel mid new given → AccountsFor old new before before error
+  pub refused : (tells : Bool) (channel : S → Channel) (old mid new : TableState S) (before : List Entry) (just : Just) (given : Option ℕ)
+      (error : Option TableError)
+      → HasFound old mid before just → IsClauseOf just given → RetiresOne tells channel mid new given
+      → AccountsFor old new before before error

@@ -45,11 +45,14 @@ pub record IsRefused {S : Type 0} (tells : Bool) (channel : S → Channel) (old 
 -- What the two additions leave, once the high clause is retired: of the clauses that were added, only the low one is given.
 pub record HighClauses {S : Type 0} (tells : Bool) (channel : S → Channel) : Type 0 where
   pub none : (table : TableState S) → IsSound table → GivesOne table table Trivial
-  pub added : (old new : State) (id : ℕ) (clause : List ℤ) → (id ≡ old.top + 1) × (new ≡ with_next old clause) → clause_at new.live id ≡ Some clause
+  pub added : (old new : State) (id : ℕ) (clause : List ℤ) → (id ≡ old.top + 1) × (new ≡ with_next old clause) → clause_at new.live id
+      ≡ Some clause
   pub refused : (old new : TableState S) → IsSound old → IsSame old new → GivesOne old new Trivial
-  pub served : (old one two new : TableState S) (high low : ℕ) → IsAdded tells channel old one high → IsAdded tells channel one two low → RetiresHigh tells channel two new high
+  pub served : (old one two new : TableState S) (high low : ℕ) → IsAdded tells channel old one high → IsAdded tells channel one two low
+      → RetiresHigh tells channel two new high
       → Steps tells (channel old.book.sink) (channel new.book.sink) old new 2 None × RetiresNew old new × GivesOne old new (Clause low)
-  pub left : (old one two new : TableState S) (high : ℕ) (error : TableError) → IsAdded tells channel old one high → IsRefused tells channel one two error → RetiresHigh tells channel two new high
+  pub left : (old one two new : TableState S) (high : ℕ) (error : TableError) → IsAdded tells channel old one high
+      → IsRefused tells channel one two error → RetiresHigh tells channel two new high
       → Steps tells (channel old.book.sink) (channel new.book.sink) old new 2 (Some error) × RetiresNew old new × GivesOne old new Trivial
 
 -- each literal of the clause is that of a node, or its negation
@@ -71,5 +74,7 @@ pub record Literals : Type 0 where
   pub own : (graph : Graph) (node : Node) (y : ℤ) → IsTrue (is_literal y (atom_of graph node)) → IsOwned graph (nat_abs y)
   pub negated : (graph : Graph) (node : Node) (y : ℤ) → IsTrue (is_literal y (neg_atom (atom_of graph node))) → IsOwned graph (nat_abs y)
   pub differ : (graph : Graph) → IsReduced graph → (u v : Node) → IsInner graph u → IsInner graph v → u ≢ v → AreLiterals graph u v
-  pub behind : (graph : Graph) → IsReduced graph → IsOrder graph.order → (level : ℕ) → level < levels graph → (clause : List ℤ) → AreOwned graph clause → IsTrue (are_apart clause)
-      → IsTrue (are_apart (neg_ℤ (pos (variable_at graph level)) ∷ clause)) × IsOverNodes graph (neg_ℤ (pos (variable_at graph level)) ∷ clause)
+  pub behind : (graph : Graph) → IsReduced graph → IsOrder graph.order → (level : ℕ) → level < levels graph → (clause : List ℤ)
+      → AreOwned graph clause → IsTrue (are_apart clause)
+      → IsTrue (are_apart (neg_ℤ (pos (variable_at graph level)) ∷ clause))
+      × IsOverNodes graph (neg_ℤ (pos (variable_at graph level)) ∷ clause)

@@ -1,6 +1,7 @@
 -- The computed cache of one operation as a list of entries, for any keys and values: what a look-up leaves, what is kept,
 -- and which keys stand in front. (Brace, Rudell, Bryant: Efficient Implementation of a BDD Package, DAC 1990.)
-use Rattle.std.specs.Prelude.{◌≡◌, ◌∷◌, ◌≤◌, ◌<◌, ◌⊎◌, ℕ, Bool, true, List, Option, None, Some, IsSome, IsFalse, Contains, length, map, if◌then◌else◌}
+use Rattle.std.specs.Prelude.{◌≡◌, ◌∷◌, ◌≤◌, ◌<◌, ◌⊎◌, ℕ, Bool, true, List, Option, None, Some, IsSome, IsFalse, Contains, length, map}
+use Rattle.std.specs.Prelude.{if◌then◌else◌}
 use Rattle.std.specs.Map.{lookup}
 use Rattle.op_cache.specs.Cache.{Cache, IsBounded, looked as after_look, kept as after_keep}
 use Rattle.op_cache.specs.Laws.{AreInFront, is_among}
@@ -8,7 +9,8 @@ use Rattle.operations.specs.Entries.{Entry, HaveSame, IsClauseOf, IsNamed, Names
 
 -- no two of these entries name one clause
 abbrev pub AreNamedOnce : List Entry → Type 0
-AreNamedOnce listed = (one other : Entry) (id : ℕ) → Contains listed one → Contains listed other → Names one id → Names other id → one ≡ other
+AreNamedOnce listed = (one other : Entry) (id : ℕ) → Contains listed one → Contains listed other → Names one id → Names other id → one
+    ≡ other
 
 -- One entry is kept among others, some of which make room. The clause of an entry that isn't there any more is handed back.
 pub record IsOneKept (before after : List Entry) (new : Entry) (given : Option ℕ) : Type 0 where
@@ -17,7 +19,8 @@ pub record IsOneKept (before after : List Entry) (new : Entry) (given : Option �
   pub gone : (entry : Entry) (id : ℕ) → Contains before entry → Names entry id → IsNamed after id ⊎ (given ≡ Some id)
   pub named : (id : ℕ) → given ≡ Some id → IsNamed before id
   -- it is named no more, but by the new entry
-  pub given_up : AreNamedOnce before → (entry : Entry) (id : ℕ) → given ≡ Some id → Names entry id → Contains before entry → Contains after entry → entry ≡ new
+  pub given_up : AreNamedOnce before → (entry : Entry) (id : ℕ) → given ≡ Some id → Names entry id → Contains before entry
+      → Contains after entry → entry ≡ new
 
 -- these keys, and one more, which may be among them
 abbrev pub with_key : {K : Type 0} → (K → K → Bool) → List K → K → List K
@@ -44,7 +47,8 @@ module _ {K V : Type 0} (entry_of : K × V → Entry) where
 
   -- All entries stay but that of the key, and those of a cache that was full.
   pub record MakesRoom (before after : Cache K V) (key : K) : Type 0 where
-    pub others : (entry : Entry) → Contains (listed before) entry → Contains (listed after) entry ⊎ (IsOfKey key entry ⊎ (before.capacity ≤ length (listed before)))
+    pub others : (entry : Entry) → Contains (listed before) entry → Contains (listed after) entry
+        ⊎ (IsOfKey key entry ⊎ (before.capacity ≤ length (listed before)))
     pub no_fewer : length (listed before) ≤ length (listed after)
     pub capacity : after.capacity ≡ before.capacity
 
@@ -53,11 +57,13 @@ module _ {K V : Type 0} (entry_of : K × V → Entry) where
     pub one : IsOneKept (listed before) (listed after) new given
     pub room : MakesRoom before after key
     -- while the keys that were used are no more than the capacity, none of them is pushed out
-    pub used : (keys : List K) → AreInFront eq before.entries keys → IsFalse (is_among eq keys key) → length keys < before.capacity → AreInFront eq after.entries (key ∷ keys)
+    pub used : (keys : List K) → AreInFront eq before.entries keys → IsFalse (is_among eq keys key) → length keys < before.capacity
+        → AreInFront eq after.entries (key ∷ keys)
 
   -- Through whatever calls, entries are forgotten only where the cache is full.
   pub record Remembers (before after : Cache K V) : Type 0 where
-    pub entries : (entry : Entry) → Contains (listed before) entry → Contains (listed after) entry ⊎ (before.capacity ≤ length (listed after))
+    pub entries : (entry : Entry) → Contains (listed before) entry → Contains (listed after) entry
+        ⊎ (before.capacity ≤ length (listed after))
     pub no_fewer : length (listed before) ≤ length (listed after)
     pub capacity : after.capacity ≡ before.capacity
 
@@ -70,20 +76,29 @@ pub record TellsKeys {K V : Type 0} (eq : K → K → Bool) (entry_of : K × V �
 -- that finds nothing changes nothing. A key that was used is found, and one that is found comes to stand in front. What is
 -- remembered through several calls is what each of them remembers.
 pub record Keeping (K V : Type 0) (eq : K → K → Bool) : Type 0 where
-  pub found : (entry_of : K × V → Entry) → TellsKeys eq entry_of → (cache : Cache K V) (key : K) (value : V) → lookup (eq key) cache.entries ≡ Some value
+  pub found : (entry_of : K × V → Entry) → TellsKeys eq entry_of → (cache : Cache K V) (key : K) (value : V) → lookup (eq key) cache.entries
+      ≡ Some value
       → Contains (listed entry_of cache) (entry_of (key, value))
   pub finds : (entry_of : K × V → Entry) (cache : Cache K V) → IsBounded eq cache → (entry : Entry) → Contains (listed entry_of cache) entry
       → (pair : K × V) × (lookup (eq pair.0) cache.entries ≡ Some pair.1) × (entry_of pair ≡ entry)
-  pub looked : (entry_of : K × V → Entry) (before after : Cache K V) (key : K) → after ≡ record before { entries = after_look eq before.entries key }
+  pub looked : (entry_of : K × V → Entry) (before after : Cache K V) (key : K) → after
+      ≡ record before { entries = after_look eq before.entries key }
       → LeavesEntries entry_of before after
-  pub unchanged : (before after : Cache K V) (key : K) → after ≡ record before { entries = after_look eq before.entries key } → lookup (eq key) before.entries ≡ None → after ≡ before
-  pub missed : (cache : Cache K V) (keys : List K) (key : K) → AreInFront eq cache.entries keys → lookup (eq key) cache.entries ≡ None → IsFalse (is_among eq keys key)
+  pub unchanged : (before after : Cache K V) (key : K) → after ≡ record before { entries = after_look eq before.entries key }
+      → lookup (eq key) before.entries ≡ None → after ≡ before
+  pub missed : (cache : Cache K V) (keys : List K) (key : K) → AreInFront eq cache.entries keys → lookup (eq key) cache.entries ≡ None
+      → IsFalse (is_among eq keys key)
   pub used : (cache : Cache K V) (keys : List K) (key : K) → AreInFront eq cache.entries keys → IsSome (lookup (eq key) cache.entries)
       → AreInFront eq (after_look eq cache.entries key) (with_key eq keys key)
-  pub kept : (entry_of : K × V → Entry) → TellsKeys eq entry_of → (before after : Cache K V) → IsBounded eq before → IsBounded eq after → (key : K) (value : V)
-      → after ≡ record before { entries = (after_keep eq before.capacity before.entries key value).0 } → lookup (eq key) after.entries ≡ Some value
-      → (given : Option ℕ) → IsGiven entry_of (after_keep eq before.capacity before.entries key value).1 given → KeepsEntry entry_of eq before after key (entry_of (key, value)) given
-  pub further : (entry_of : K × V → Entry) (before mid after : Cache K V) → Remembers entry_of before mid → Remembers entry_of mid after → Remembers entry_of before after
+  pub kept : (entry_of : K × V → Entry) → TellsKeys eq entry_of → (before after : Cache K V) → IsBounded eq before → IsBounded eq after
+      → (key : K) (value : V)
+      → after ≡ record before { entries = (after_keep eq before.capacity before.entries key value).0 } → lookup (eq key) after.entries
+      ≡ Some value
+      → (given : Option ℕ) → IsGiven entry_of (after_keep eq before.capacity before.entries key value).1 given
+      → KeepsEntry entry_of eq before after key (entry_of (key, value)) given
+  pub further : (entry_of : K × V → Entry) (before mid after : Cache K V) → Remembers entry_of before mid → Remembers entry_of mid after
+      → Remembers entry_of before after
   -- an entry is kept that was not there
-  pub makes_room : (entry_of : K × V → Entry) (before mid after : Cache K V) (key : K) → ((value : V) → Contains (listed entry_of before) (entry_of (key, value)) → ⊥)
+  pub makes_room : (entry_of : K × V → Entry) (before mid after : Cache K V) (key : K)
+      → ((value : V) → Contains (listed entry_of before) (entry_of (key, value)) → ⊥)
       → Remembers entry_of before mid → MakesRoom entry_of mid after key → Remembers entry_of before after

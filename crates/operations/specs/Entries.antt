@@ -96,11 +96,18 @@ pub record Fitting (S : Type 0) : Type 0 where
   pub none : (table : TableState S) → Fits table []
   pub kept : (old new : TableState S) (entries : List Entry) → IsSound old → IsSound new → Extends old new → Fits old entries
       → ((id : ℕ) → IsNamed entries id → Contains new.retired id → ⊥) → Fits new entries
-  pub fewer : (table : TableState S) (few more : List Entry) → ((entry : Entry) → Contains few entry → Contains more entry) → Fits table more → Fits table few
-  pub one : (old new : TableState S) (entry : Entry) → IsSound old → Extends old new → FitsEntry old.graph old.book.state.live entry → FitsEntry new.graph new.book.state.live entry
-  pub more : (old new : TableState S) (before after : List Entry) (found : Entry) → IsSound old → IsSound new → Extends old new → Fits old before → IsOneMore new before found
-      → ((entry : Entry) → Contains after entry → (entry ≡ found) ⊎ Contains before entry) → ((id : ℕ) → IsNamed after id → Contains new.retired id → ⊥) → Fits new after
-  pub beside : (old new : TableState S) (before after others : List Entry) → IsSound old → IsSound new → Extends old new → RetiresOwn old new before
-      → NamesOnly before after old.book.state new.book.state → Fits old (before ++ others) → AreApart before others → Fits new after → Fits new (after ++ others) × AreApart after others
+  pub fewer : (table : TableState S) (few more : List Entry) → ((entry : Entry) → Contains few entry → Contains more entry)
+      → Fits table more → Fits table few
+  pub one : (old new : TableState S) (entry : Entry) → IsSound old → Extends old new → FitsEntry old.graph old.book.state.live entry
+      → FitsEntry new.graph new.book.state.live entry
+  pub more : (old new : TableState S) (before after : List Entry) (found : Entry) → IsSound old → IsSound new → Extends old new
+      → Fits old before → IsOneMore new before found
+      → ((entry : Entry) → Contains after entry → (entry ≡ found) ⊎ Contains before entry)
+      → ((id : ℕ) → IsNamed after id → Contains new.retired id → ⊥) → Fits new after
+  pub beside : (old new : TableState S) (before after others : List Entry) → IsSound old → IsSound new → Extends old new
+      → RetiresOwn old new before
+      → NamesOnly before after old.book.state new.book.state → Fits old (before ++ others) → AreApart before others → Fits new after
+      → Fits new (after ++ others) × AreApart after others
   pub settled : (old new : TableState S) (entries : List Entry) → new.graph ≡ old.graph → new.inputs ≡ old.inputs → new.retired ≡ []
-      → ((id : ℕ) → (Contains old.retired id → ⊥) → clause_at new.book.state.live id ≡ clause_at old.book.state.live id) → Fits old entries → Fits new entries
+      → ((id : ℕ) → (Contains old.retired id → ⊥) → clause_at new.book.state.live id ≡ clause_at old.book.state.live id) → Fits old entries
+      → Fits new entries

@@ -39,7 +39,8 @@ pub record Splitting : Type 0 where
   pub u_low : (graph : Graph) → IsReduced graph → (o : Operands) → AreSplit graph o → IsBelow graph o.level o.u_low
   pub v_high : (graph : Graph) → IsReduced graph → (o : Operands) → AreSplit graph o → IsBelow graph o.level o.v_high
   pub v_low : (graph : Graph) → IsReduced graph → (o : Operands) → AreSplit graph o → IsBelow graph o.level o.v_low
-  pub fewer : (graph : Graph) → IsReduced graph → (o : Operands) → AreSplit graph o → (u v : Node) → IsBelow graph o.level u → IsBelow graph o.level v → levels_from graph u v < levels_from graph o.u o.v
+  pub fewer : (graph : Graph) → IsReduced graph → (o : Operands) → AreSplit graph o → (u v : Node) → IsBelow graph o.level u
+      → IsBelow graph o.level v → levels_from graph u v < levels_from graph o.u o.v
   pub kept : (old new : Graph) → KeepsNodes old new → (o : Operands) → AreSplit old o → AreSplit new o
 
 -- the earlier of two levels below one is below it

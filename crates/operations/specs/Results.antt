@@ -45,4 +45,5 @@ with_level a level value i = if i == level then value else a i
 pub record Quantified (graph : Graph) (u : Node) (level : ℕ) (w : Node) : Type 0 where
   pub stands : IsTrue (is_node graph w)
   pub not_above : level_of graph u ≤ level_of graph w
-  pub value : (a : Levels) → value_of graph a w ≡ (value_of graph (with_level a level true) u || value_of graph (with_level a level false) u)
+  pub value : (a : Levels) → value_of graph a w ≡ (value_of graph (with_level a level true) u
+      || value_of graph (with_level a level false) u)

@@ -1,5 +1,7 @@
 -- The two sides of a variable: where it is true, and where it is false.
-use Rattle.std.specs.Prelude.{ℕ, ℤ, neg_ℤ, pos, Option}
+use Rattle.std.specs.Prelude.{ℕ, ℤ, neg_ℤ, pos, List, Option, None, Some}
+use Rattle.std.specs.Option.{option_map}
+use Rattle.hint_chain.specs.declared.part.Part.{Part}
 use Rattle.node_table.specs.declared.node.Node.{Node}
 use Rattle.node_table.specs.declared.node.Defs.{Defs}
 use Rattle.node_table.specs.Diagram.{Graph, high_at, low_at, variable_at}
@@ -23,3 +25,8 @@ up_of Low defs = defs.lu
 abbrev pub down_of : Side → Defs → Option ℕ
 down_of High defs = defs.hd
 down_of Low defs = defs.ld
+
+-- a clause under its number, where both are given
+abbrev pub named_part : Option ℕ → Option (List ℤ) → Option Part
+named_part None clause = None
+named_part (Some id) clause = option_map (λ own. record { id = id; clause = own }) clause

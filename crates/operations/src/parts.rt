@@ -1,18 +1,19 @@
-// The clauses that may serve as hints: the defining clauses of a node at a level, and the justification of a
-// conjunction of the children.
-ghost use Rattle.std.specs.Prelude.{◌≡◌, ◌≤◌, ℤ, List, Some, IsTrue, MatchOption, length};
+// The clauses that may serve as hints: the defining clauses of a node at a level, and the justification of what was found
+// for the children.
+ghost use Rattle.std.specs.Prelude.{◌≡◌, ◌≤◌, ◌<◌, ℤ, List, Some, IsTrue, MatchOption, length};
 ghost use Rattle.hint_chain.specs.Greedy.{IsLivePart};
 ghost use Rattle.hint_chain.specs.Additions.{IsUpPart, IsDownPart, Justifies, part_clause};
 ghost use Rattle.node_table.specs.declared.node.Branch.{Branch};
-ghost use Rattle.hint_chain.specs.declared.atom.Atom.{Atom};
-ghost use Rattle.node_table.specs.Diagram.{branch_of, is_node, high_at, low_at};
+ghost use Rattle.hint_chain.specs.declared.atom.Atom.{Atom as AtomValue};
+ghost use Rattle.hint_chain.specs.Atoms.{clause_of};
+ghost use Rattle.node_table.specs.Diagram.{branch_of, is_node, high_at, levels, low_at};
 ghost use Rattle.node_table.specs.Defined.{atom_of, clause_named, defs_of};
 ghost use Rattle.node_table.specs.Tied.{IsTied};
 ghost use Rattle.node_table.specs.Just.{IsJustified};
-ghost use Rattle.operations.specs.Sides.{false_literal, cofactor_at, up_of, down_of};
+ghost use Rattle.operations.specs.Sides.{false_literal, cofactor_at, up_of, down_of, named_part};
 
-use cnf_base::Id;
-use hint_chain::{Part, clause_law};
+use cnf_base::{Id, Lit};
+use hint_chain::{Atom, Part, clause_law, clause_of};
 use host_io::Sink;
 use node_table::{Defs, Just, Node, Table};
 
@@ -27,13 +28,18 @@ pub enum Side {
 pub fn up_part<S: Sink + Drop>(table: &Table<S>, level: u32, side: Side, node: Node) -> Option<Part>
     requires tied { IsTied table.now.graph table.now.book.state }
     requires stands { IsTrue (is_node table.now.graph node) }
-    ensures up { IsUpPart (false_literal side table.now.graph level) (atom_of table.now.graph node) (atom_of table.now.graph (cofactor_at side table.now.graph level node)) result }
+    ensures up { IsUpPart (false_literal side table.now.graph level) (atom_of table.now.graph node)
+        (atom_of table.now.graph (cofactor_at side table.now.graph level node)) result }
     ensures live { IsLivePart table.now.book.state.live result }
 {
-    clause_law();
     match definitions_at(table, level, node) {
         None => None,
-        Some(defs) => part_of(table, up_id(side, &defs)),
+        Some(defs) => {
+            let own = table.atom(node);
+            let side_literal = Atom::Of(false_literal(table, level, side));
+            let child = table.atom(cofactor(table, level, side, node));
+            part_of(up_id(side, &defs), &[own, side_literal, child.negated()])
+        }
     }
 }
 
@@ -46,20 +52,25 @@ pub fn down_part<S: Sink + Drop>(
 ) -> Option<Part>
     requires tied { IsTied table.now.graph table.now.book.state }
     requires stands { IsTrue (is_node table.now.graph node) }
-    ensures down { IsDownPart (false_literal side table.now.graph level) (atom_of table.now.graph node) (atom_of table.now.graph (cofactor_at side table.now.graph level node)) result }
+    ensures down { IsDownPart (false_literal side table.now.graph level) (atom_of table.now.graph node)
+        (atom_of table.now.graph (cofactor_at side table.now.graph level node)) result }
     ensures live { IsLivePart table.now.book.state.live result }
 {
-    clause_law();
     match definitions_at(table, level, node) {
         None => None,
-        Some(defs) => part_of(table, down_id(side, &defs)),
+        Some(defs) => {
+            let own = table.atom(node);
+            let side_literal = Atom::Of(false_literal(table, level, side));
+            let child = table.atom(cofactor(table, level, side, node));
+            part_of(down_id(side, &defs), &[own.negated(), side_literal, child])
+        }
     }
 }
 
 /// The clause that a justification names, where there is one.
 pub fn just_part<S: Sink + Drop>(table: &Table<S>, just: &Just) -> Option<Part>
-    requires { (atoms : List Atom) × (length atoms ≤ 4) × IsJustified table.now.book.state.live atoms just.now }
-    ensures justifies { (atoms : List Atom) → IsJustified table.now.book.state.live atoms just.now → Justifies atoms result }
+    requires { (atoms : List AtomValue) × (length atoms ≤ 4) × IsJustified table.now.book.state.live atoms just.now }
+    ensures justifies { (atoms : List AtomValue) → IsJustified table.now.book.state.live atoms just.now → Justifies atoms result }
     ensures live { IsLivePart table.now.book.state.live result }
 {
     clause_law();
@@ -99,15 +110,39 @@ fn down_id(side: Side, defs: &Defs) -> Option<Id>
     }
 }
 
-// The live clause of a number, where one is given.
-fn part_of<S: Sink + Drop>(table: &Table<S>, id: Option<Id>) -> Option<Part>
-    requires { (clause : List ℤ) → clause_named table.now.book.state.live id ≡ Some clause → length clause ≤ 4 }
-    ensures clause { part_clause result ≡ clause_named table.now.book.state.live id }
-    ensures live { IsLivePart table.now.book.state.live result }
+// The literal of a level's variable that is false on this side.
+fn false_literal<S: Sink + Drop>(table: &Table<S>, level: u32, side: Side) -> Lit
+    requires { level < levels table.now.graph }
+    ensures { result ≡ false_literal side table.now.graph level }
 {
-    match id {
+    let variable = table.variable(level);
+    match side {
+        Side::High => variable.negated(),
+        Side::Low => variable,
+    }
+}
+
+fn cofactor<S: Sink + Drop>(table: &Table<S>, level: u32, side: Side, node: Node) -> Node
+    ensures { result ≡ cofactor_at side table.now.graph level node }
+{
+    let (high, low) = table.cofactors(level, node);
+    match side {
+        Side::High => high,
+        Side::Low => low,
+    }
+}
+
+// The clause of these atoms under its number. A definition stands as it was made, so that the ledger need not be asked.
+fn part_of(id: Option<Id>, atoms: &[Atom]) -> Option<Part>
+    requires { length atoms.now ≤ 4 }
+    ensures { result ≡ named_part id (clause_of atoms.now) }
+{
+    let Some(id) = id else {
+        return None;
+    };
+    match clause_of(atoms) {
         None => None,
-        Some(id) => live_part(table, id),
+        Some(clause) => Some(Part::of(id, clause)),
     }
 }
 

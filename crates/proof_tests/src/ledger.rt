@@ -1,5 +1,6 @@
 // What no clause of the ledger shows: that calls succeed where there is memory, the bytes of a proof, and its errors.
-ghost use Rattle.std.specs.Prelude.{◌≡◌, ◌≢◌, ◌<◌, ◌≤◌, ◌+◌, pos, negsuc, [], ◌∷◌, length, true, None, Some, IfOk, IfErr, OnOk, IsTrue, is_some};
+ghost use Rattle.std.specs.Prelude.{◌≡◌, ◌≢◌, ◌<◌, ◌≤◌, ◌+◌, pos, negsuc, [], ◌∷◌, length, true, None, Some, IfOk, IfErr, OnOk, IsTrue};
+ghost use Rattle.std.specs.Prelude.{is_some};
 ghost use Rattle.cnf_base.specs.ProofText.{max_id};
 ghost use Rattle.lrat_rules.specs.State.{start, clause_at};
 
@@ -96,7 +97,13 @@ fn open<S: Sink + Drop>(
 ) -> Result<Ledger<S>, OutOfMemory>
     requires limit { max_ids ≤ max_id }
     requires fresh { IsTrue S.tells → (S.channel sink).written ≡ [] }
-    ensures { IfOk result (λ ledger. ledger ≡ record { sink = sink; state = start formula.now.clauses; limit = max_ids; in_step = true; spare = ledger.spare }) }
+    ensures { IfOk result (λ ledger. ledger ≡ record {
+      sink = sink;
+      state = start formula.now.clauses;
+      limit = max_ids;
+      in_step = true;
+      spare = ledger.spare;
+    }) }
 {
     match Ledger::open(alloc, formula, sink, max_ids) {
         Ok(ledger) => Ok(ledger),

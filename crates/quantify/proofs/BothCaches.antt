@@ -22,29 +22,38 @@ pub disjunctions_unnamed : (ors : OrCache) → AreUnnamed (disjunctions ors)
 disjunctions_unnamed ors = unnamed disjunction (λ x. refl) ors.results.entries
 
 pub caches_unnamed : (cache : ExistsCache) (ors : OrCache) → AreUnnamed (both_caches cache ors)
-caches_unnamed cache ors = both_unnamed (quantifications cache) (disjunctions ors) (quantifications_unnamed cache) (disjunctions_unnamed ors)
+caches_unnamed cache ors = both_unnamed (quantifications cache) (disjunctions ors) (quantifications_unnamed cache)
+    (disjunctions_unnamed ors)
 
-module _ {S : Type 0} (fitting : Fitting S) (table : TableState S) (cache : ExistsCache) (ors : OrCache) (fits : Fits table (both_caches cache ors)) where
+module _ {S : Type 0} (fitting : Fitting S) (table : TableState S) (cache : ExistsCache) (ors : OrCache)
+    (fits : Fits table (both_caches cache ors)) where
   pub exists_part : Fits table (quantifications cache)
-  exists_part = fitting.fewer table (quantifications cache) (both_caches cache ors) (λ entry there. Contains-append_left (quantifications cache) (disjunctions ors) entry there) fits
+  exists_part = fitting.fewer table (quantifications cache) (both_caches cache ors)
+      (λ entry there. Contains-append_left (quantifications cache) (disjunctions ors) entry there) fits
 
   pub ors_part : Fits table (disjunctions ors)
-  ors_part = fitting.fewer table (disjunctions ors) (both_caches cache ors) (λ entry there. Contains-append_right (quantifications cache) (disjunctions ors) entry there) fits
+  ors_part = fitting.fewer table (disjunctions ors) (both_caches cache ors)
+      (λ entry there. Contains-append_right (quantifications cache) (disjunctions ors) entry there) fits
 
   -- one quantification more
-  pub kept_part : (after : ExistsCache) (u w : Node) (level : ℕ) → FitsEntry table.graph table.book.state.live (Quantification u level w) → IsKept cache after u level w → Fits table (both_caches after ors)
+  pub kept_part : (after : ExistsCache) (u w : Node) (level : ℕ) → FitsEntry table.graph table.book.state.live (Quantification u level w)
+      → IsKept cache after u level w → Fits table (both_caches after ors)
   kept_part after u w level right kept =
       fits_beside table (quantifications after) (disjunctions ors) (quantifications_unnamed after)
-      (fits_more table (quantifications cache) (quantifications after) (Quantification u level w) (quantifications_unnamed after) exists_part right kept.one.only) ors_part
+      (fits_more table (quantifications cache) (quantifications after) (Quantification u level w)
+      (quantifications_unnamed after) exists_part right kept.one.only) ors_part
 
   -- a look-up for a quantification
   pub looked_part : (after : ExistsCache) → HaveSame (quantifications cache) (quantifications after) → Fits table (both_caches after ors)
   looked_part after same =
-      fits_beside table (quantifications after) (disjunctions ors) (quantifications_unnamed after) (fitting.fewer table (quantifications after) (quantifications cache) same.back exists_part) ors_part
+      fits_beside table (quantifications after) (disjunctions ors) (quantifications_unnamed after)
+      (fitting.fewer table (quantifications after) (quantifications cache) same.back exists_part) ors_part
 
 -- a call of a disjunction, with the entries of quantifications beside those of its own
-pub runs_beside : {S : Type 0} {tells : Bool} {channel : S → Channel} {lent : S → Beside} → Fitting S → (old : TableState S) → IsSound old → (cache : ExistsCache) (ors : OrCache) → Fits old (both_caches cache ors)
-    → (function : Levels → Bool) (new : TableState S) (ors_after : OrCache) (result : Answer) → Runs tells channel lent old (disjunctions ors) function new (disjunctions ors_after) result
+pub runs_beside : {S : Type 0} {tells : Bool} {channel : S → Channel} {lent : S → Beside} → Fitting S → (old : TableState S) → IsSound old
+    → (cache : ExistsCache) (ors : OrCache) → Fits old (both_caches cache ors)
+    → (function : Levels → Bool) (new : TableState S) (ors_after : OrCache) (result : Answer)
+    → Runs tells channel lent old (disjunctions ors) function new (disjunctions ors_after) result
     → Runs tells channel lent old (both_caches cache ors) function new (both_caches cache ors_after) result
 runs_beside fitting old sound cache ors fits function new ors_after result runs = record {
   steps = runs.steps;
@@ -52,7 +61,8 @@ runs_beside fitting old sound cache ors fits function new ors_after result runs 
   none_added = runs.none_added;
   fits = λ whole.
       fits_beside new (quantifications cache) (disjunctions ors_after) (quantifications_unnamed cache)
-      (fits_still fitting old new sound (sound_after _ _ _ old new result runs.steps.leaves whole) runs.steps.extends runs.retired (quantifications cache) (exists_part fitting old cache ors fits)) (runs.fits whole);
+      (fits_still fitting old new sound (sound_after _ _ _ old new result runs.steps.leaves whole) runs.steps.extends runs.retired
+      (quantifications cache) (exists_part fitting old cache ors fits)) (runs.fits whole);
   made = runs.made;
   lacks = runs.lacks;
   beside = runs.beside;

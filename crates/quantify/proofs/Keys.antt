@@ -30,7 +30,8 @@ pub none_given : (gave_way : Option (Pair × Node)) → IsGiven disjunction gave
 none_given None = refl
 none_given (Some pair) = refl
 
-pub tells_question : (e : Question × Node) (u : Node) (level : ℕ) (w : Node) → quantification e ≡ Quantification u level w → (e.0 ≡ (u, level)) × (e.1 ≡ w)
+pub tells_question : (e : Question × Node) (u : Node) (level : ℕ) (w : Node) → quantification e ≡ Quantification u level w
+    → (e.0 ≡ (u, level)) × (e.1 ≡ w)
 tells_question e u level w is =
     let first : e.0.0 ≡ u = cc in
     let second : e.0.1 ≡ level = cc in

@@ -29,10 +29,14 @@ use Rattle.quantify.proofs.Disjunctions.{disjoined_kept, disjunction_of-kept, hi
 use Rattle.quantify.proofs.Lists.{remembers_all}
 use Rattle.quantify.proofs.Running.{Answer, runs_further, runs_part, runs_refused}
 
-module _ {S : Type 0} {tells : Bool} {channel : S → Channel} {lent : S → Beside} (law : StepByStep tells channel) (keeping : Keeping Pair Node same_pair) (splits : Splitting) (growth : Growth) (fitting : Fitting S) (parts : Subfunctions) (paths : Reachability)
-    (old : TableState S) (before : OrCache) (sound : IsSound old) (fits : Fits old (disjunctions before)) (o : Operands) (split : AreSplit old.graph o) (unknown : IsUnknown old.graph before o.u o.v) where
+module _ {S : Type 0} {tells : Bool} {channel : S → Channel} {lent : S
+    → Beside} (law : StepByStep tells channel) (keeping : Keeping Pair Node same_pair) (splits : Splitting) (growth : Growth)
+    (fitting : Fitting S) (parts : Subfunctions) (paths : Reachability)
+    (old : TableState S) (before : OrCache) (sound : IsSound old) (fits : Fits old (disjunctions before)) (o : Operands)
+    (split : AreSplit old.graph o) (unknown : IsUnknown old.graph before o.u o.v) where
   -- the call failed
-  failed : (new : TableState S) (after : OrCache) (came : TableError) → Runs tells channel lent old (disjunctions before) (disjunction_of old.graph o.u o.v) new (disjunctions after) (Err came)
+  failed : (new : TableState S) (after : OrCache) (came : TableError)
+      → Runs tells channel lent old (disjunctions before) (disjunction_of old.graph o.u o.v) new (disjunctions after) (Err came)
       → RemembersDisjunctions before after → Disjoins tells channel lent old before o.u o.v new after (Err came)
   failed new after came runs remembers = record {
     runs = runs;
@@ -44,7 +48,8 @@ module _ {S : Type 0} {tells : Bool} {channel : S → Channel} {lent : S → Bes
     plain = λ w plain. absurd (not_plain old.graph o.u o.v w unknown.differ unknown.first unknown.second plain);
   }
 
-  module _ (one : TableState S) (cache_one : OrCache) (high : Node) (by_high : Disjoins tells channel lent old before o.u_high o.v_high one cache_one (Ok high)) where
+  module _ (one : TableState S) (cache_one : OrCache) (high : Node)
+      (by_high : Disjoins tells channel lent old before o.u_high o.v_high one cache_one (Ok high)) where
     sound_one : IsSound one
     sound_one = by_high.runs.steps.leaves.sound
 
@@ -53,53 +58,74 @@ module _ {S : Type 0} {tells : Bool} {channel : S → Channel} {lent : S → Bes
 
     runs_one : Runs tells channel lent old (disjunctions before) (disjunction_of old.graph o.u o.v) one (disjunctions cache_one) (Ok high)
     runs_one =
-        runs_part law parts old (disjunctions before) (disjunction_of old.graph o.u o.v) one (disjunctions cache_one) (Ok high) (disjunction_of old.graph o.u_high o.v_high) (high_part splits old.graph sound.tied.reduced o split parts) by_high.runs
+        runs_part law parts old (disjunctions before) (disjunction_of old.graph o.u o.v) one (disjunctions cache_one) (Ok high)
+        (disjunction_of old.graph o.u_high o.v_high) (high_part splits old.graph sound.tied.reduced o split parts) by_high.runs
 
     low_is_part : IsSubfunction (disjunction_of old.graph o.u o.v) (disjunction_of one.graph o.u_low o.v_low)
     low_is_part =
         subst (λ (f : Levels → Bool). IsSubfunction f (disjunction_of one.graph o.u_low o.v_low))
-        (disjunction_of-kept growth old.graph one.graph sound.tied.reduced by_high.runs.steps.extends.nodes o.u o.v (splits.first old.graph o split) (splits.second old.graph o split))
+        (disjunction_of-kept growth old.graph one.graph sound.tied.reduced by_high.runs.steps.extends.nodes o.u o.v
+        (splits.first old.graph o split) (splits.second old.graph o split))
         (low_part splits one.graph sound_one.tied.reduced o split_one parts)
 
     -- what the low side adds to the high one, however it ends
-    runs_low : (two : TableState S) (listed : List Entry) (by : Answer) → Runs tells channel lent one (disjunctions cache_one) (disjunction_of one.graph o.u_low o.v_low) two listed by
+    runs_low : (two : TableState S) (listed : List Entry) (by : Answer)
+        → Runs tells channel lent one (disjunctions cache_one) (disjunction_of one.graph o.u_low o.v_low) two listed by
         → Runs tells channel lent old (disjunctions before) (disjunction_of old.graph o.u o.v) two listed by
     runs_low two listed by runs =
-        runs_further law parts old (disjunctions before) (disjunction_of old.graph o.u o.v) two listed by one (disjunctions cache_one) high runs_one
-        (runs_part law parts one (disjunctions cache_one) (disjunction_of old.graph o.u o.v) two listed by (disjunction_of one.graph o.u_low o.v_low) low_is_part runs)
+        runs_further law parts old (disjunctions before) (disjunction_of old.graph o.u o.v) two listed by one
+        (disjunctions cache_one) high runs_one
+        (runs_part law parts one (disjunctions cache_one) (disjunction_of old.graph o.u o.v) two listed by
+        (disjunction_of one.graph o.u_low o.v_low) low_is_part runs)
 
     remembers_low : (cache_two : OrCache) → RemembersDisjunctions cache_one cache_two
         → RemembersDisjunctions before cache_two
     remembers_low cache_two next =
         keeping.further disjunction before.results cache_one.results cache_two.results by_high.remembers next
 
-    low_failed : (two : TableState S) (cache_two : OrCache) (came : TableError) → Runs tells channel lent one (disjunctions cache_one) (disjunction_of one.graph o.u_low o.v_low) two (disjunctions cache_two) (Err came)
+    low_failed : (two : TableState S) (cache_two : OrCache) (came : TableError)
+        → Runs tells channel lent one (disjunctions cache_one) (disjunction_of one.graph o.u_low o.v_low) two (disjunctions cache_two)
+        (Err came)
         → RemembersDisjunctions cache_one cache_two → Disjoins tells channel lent old before o.u o.v two cache_two (Err came)
-    low_failed two cache_two came runs remembers = failed two cache_two came (runs_low two (disjunctions cache_two) (Err came) runs) (remembers_low cache_two remembers)
+    low_failed two cache_two came runs remembers = failed two cache_two came (runs_low two (disjunctions cache_two) (Err came) runs)
+        (remembers_low cache_two remembers)
 
-    module _ (two : TableState S) (cache_two : OrCache) (low : Node) (by_low : Disjoins tells channel lent one cache_one o.u_low o.v_low two cache_two (Ok low)) where
+    module _ (two : TableState S) (cache_two : OrCache) (low : Node)
+        (by_low : Disjoins tells channel lent one cache_one o.u_low o.v_low two cache_two (Ok low)) where
       on_high : Disjoined two.graph o.u_high o.v_high high
       on_high =
-          disjoined_kept fitting one two sound_one by_low.runs.steps.extends o.u_high o.v_high high (splits.u_high one.graph sound_one.tied.reduced o split_one).stands (splits.v_high one.graph sound_one.tied.reduced o split_one).stands
+          disjoined_kept fitting one two sound_one by_low.runs.steps.extends o.u_high o.v_high high
+          (splits.u_high one.graph sound_one.tied.reduced o split_one).stands
+          (splits.v_high one.graph sound_one.tied.reduced o split_one).stands
           by_high.disjoined
 
       asked_two : disjunction_of two.graph o.u o.v ≡ (disjunction_of old.graph o.u o.v)
       asked_two =
-          disjunction_of-kept growth one.graph two.graph sound_one.tied.reduced by_low.runs.steps.extends.nodes o.u o.v (splits.first one.graph o split_one) (splits.second one.graph o split_one)
-          ∙ disjunction_of-kept growth old.graph one.graph sound.tied.reduced by_high.runs.steps.extends.nodes o.u o.v (splits.first old.graph o split) (splits.second old.graph o split)
+          disjunction_of-kept growth one.graph two.graph sound_one.tied.reduced by_low.runs.steps.extends.nodes o.u o.v
+          (splits.first one.graph o split_one) (splits.second one.graph o split_one)
+          ∙ disjunction_of-kept growth old.graph one.graph sound.tied.reduced by_high.runs.steps.extends.nodes o.u o.v
+          (splits.first old.graph o split) (splits.second old.graph o split)
 
-      reached : (three : TableState S) (cache_three : OrCache) (result : Answer) → Closes tells channel lent two cache_two o high low three cache_three result → IfOk result (λ w. ReachesNew old.graph three.graph w)
+      reached : (three : TableState S) (cache_three : OrCache) (result : Answer)
+          → Closes tells channel lent two cache_two o high low three cache_three result
+          → IfOk result (λ w. ReachesNew old.graph three.graph w)
       reached three cache_three (Err came) closes = tt
       reached three cache_three (Ok w) closes =
-          reached_all paths old.graph one.graph two.graph three.graph sound_one.tied.reduced by_low.runs.steps.leaves.sound.tied.reduced by_low.runs.steps.extends.nodes closes.runs.steps.extends.nodes
-          o.level high low w by_high.disjoined.stands by_low.disjoined.stands by_high.reachable by_low.reachable closes.reachable closes.children
+          reached_all paths old.graph one.graph two.graph three.graph sound_one.tied.reduced by_low.runs.steps.leaves.sound.tied.reduced
+          by_low.runs.steps.extends.nodes closes.runs.steps.extends.nodes
+          o.level high low w by_high.disjoined.stands by_low.disjoined.stands by_high.reachable by_low.reachable closes.reachable
+          closes.children
 
-      closed : (three : TableState S) (cache_three : OrCache) (result : Answer) → Closes tells channel lent two cache_two o high low three cache_three result
+      closed : (three : TableState S) (cache_three : OrCache) (result : Answer)
+          → Closes tells channel lent two cache_two o high low three cache_three result
           → Disjoins tells channel lent old before o.u o.v three cache_three result
       closed three cache_three result closes = record {
-        runs = runs_further law parts old (disjunctions before) (disjunction_of old.graph o.u o.v) three (disjunctions cache_three) result two (disjunctions cache_two) low (runs_low two (disjunctions cache_two) (Ok low) by_low.runs)
-            (subst (λ (f : Levels → Bool). Runs tells channel lent two (disjunctions cache_two) f three (disjunctions cache_three) result) asked_two closes.runs);
-        remembers = keeping.makes_room disjunction before.results cache_two.results cache_three.results (o.u, o.v) unknown.none (remembers_low cache_two by_low.remembers) closes.room;
+        runs = runs_further law parts old (disjunctions before) (disjunction_of old.graph o.u o.v) three
+            (disjunctions cache_three) result two (disjunctions cache_two) low (runs_low two (disjunctions cache_two) (Ok low) by_low.runs)
+            (subst (λ (f : Levels → Bool). Runs tells channel lent two (disjunctions cache_two) f three
+            (disjunctions cache_three) result) asked_two closes.runs);
+        remembers = keeping.makes_room disjunction before.results cache_two.results cache_three.results (o.u, o.v) unknown.none
+            (remembers_low cache_two by_low.remembers) closes.room;
         disjoined = closes.disjoined;
         reachable = reached three cache_three result closes;
         kept = λ differ first second. closes.kept;
@@ -107,7 +133,8 @@ module _ {S : Type 0} {tells : Bool} {channel : S → Channel} {lent : S → Bes
         plain = λ w plain. absurd (not_plain old.graph o.u o.v w unknown.differ unknown.first unknown.second plain);
       }
 
-    low_came : (two : TableState S) (cache_two : OrCache) (result : Answer) → Disjoins tells channel lent one cache_one o.u_low o.v_low two cache_two result
+    low_came : (two : TableState S) (cache_two : OrCache) (result : Answer)
+        → Disjoins tells channel lent one cache_one o.u_low o.v_low two cache_two result
         → LowCame (disjoining tells channel lent) (Disjoins tells channel lent old before o.u o.v) o high two cache_two result
     low_came two cache_two (Err came) by_low = low_failed two cache_two came by_low.runs by_low.remembers
     low_came two cache_two (Ok low) by_low = record {
@@ -121,22 +148,26 @@ module _ {S : Type 0} {tells : Bool} {channel : S → Channel} {lent : S → Bes
       closes = closed two cache_two low by_low;
     }
 
-    awaits_low : AwaitsLow (disjoining tells channel lent) (Disjoins tells channel lent old before o.u o.v) one cache_one o high (o.u_low, o.v_low)
+    awaits_low : AwaitsLow (disjoining tells channel lent) (Disjoins tells channel lent old before o.u o.v) one cache_one o high
+        (o.u_low, o.v_low)
     awaits_low =
         let first = splits.u_low one.graph sound_one.tied.reduced o split_one in
         let second = splits.v_low one.graph sound_one.tied.reduced o split_one in record {
-          refused = low_failed one cache_one OutOfMemory (runs_refused law parts one (disjunctions cache_one) (disjunction_of one.graph o.u_low o.v_low) sound_one (disjunctions cache_one) (by_high.runs.fits no_error))
+          refused = low_failed one cache_one OutOfMemory (runs_refused law parts one (disjunctions cache_one)
+              (disjunction_of one.graph o.u_low o.v_low) sound_one (disjunctions cache_one) (by_high.runs.fits no_error))
               (remembers_all disjunction cache_one.results);
           ready = record { sound = sound_one; first = first.stands; second = second.stands; fits = by_high.runs.fits no_error };
           later = both_later o.level (level_of one.graph o.u_low) (level_of one.graph o.v_low) first.below second.below;
           low = low_came;
         }
 
-  high_came : (one : TableState S) (cache_one : OrCache) (result : Answer) → Disjoins tells channel lent old before o.u_high o.v_high one cache_one result
+  high_came : (one : TableState S) (cache_one : OrCache) (result : Answer)
+      → Disjoins tells channel lent old before o.u_high o.v_high one cache_one result
       → HighCame (disjoining tells channel lent) (Disjoins tells channel lent old before o.u o.v) o one cache_one result
   high_came one cache_one (Err came) by_high =
       failed one cache_one came
-      (runs_part law parts old (disjunctions before) (disjunction_of old.graph o.u o.v) one (disjunctions cache_one) (Err came) (disjunction_of old.graph o.u_high o.v_high) (high_part splits old.graph sound.tied.reduced o split parts) by_high.runs)
+      (runs_part law parts old (disjunctions before) (disjunction_of old.graph o.u o.v) one (disjunctions cache_one) (Err came)
+      (disjunction_of old.graph o.u_high o.v_high) (high_part splits old.graph sound.tied.reduced o split parts) by_high.runs)
       by_high.remembers
   high_came one cache_one (Ok high) by_high = awaits_low one cache_one high by_high
 
@@ -144,7 +175,8 @@ module _ {S : Type 0} {tells : Bool} {channel : S → Channel} {lent : S → Bes
   opened =
       let first = splits.u_high old.graph sound.tied.reduced o split in
       let second = splits.v_high old.graph sound.tied.reduced o split in record {
-        refused = failed old before OutOfMemory (runs_refused law parts old (disjunctions before) (disjunction_of old.graph o.u o.v) sound (disjunctions before) fits) (remembers_all disjunction before.results);
+        refused = failed old before OutOfMemory (runs_refused law parts old (disjunctions before) (disjunction_of old.graph o.u o.v) sound
+            (disjunctions before) fits) (remembers_all disjunction before.results);
         level = splits.level old.graph sound.tied.reduced o split;
         ready = record { sound = sound; first = first.stands; second = second.stands; fits = fits };
         later = both_later o.level (level_of old.graph o.u_high) (level_of old.graph o.v_high) first.below second.below;
@@ -152,10 +184,13 @@ module _ {S : Type 0} {tells : Bool} {channel : S → Channel} {lent : S → Bes
       }
 
 module _ {S : Type 0} {tells : Bool} {channel : S → Channel} {lent : S → Beside} where
-  pub split_answered : StepByStep tells channel → Keeping Pair Node same_pair → Splitting → Growth → Fitting S → Subfunctions → Reachability → (old : TableState S) (before after : OrCache) (u v : Node) → CanDisjoin old before u v
-      → (o : Operands) → AreSplit old.graph o → (o.u ≡ u) × (o.v ≡ v) → (after ≡ before) × IsUnknown old.graph before u v → IsAnswer (disjoining tells channel lent) old before (u, v) old after (Ok (Open o))
+  pub split_answered : StepByStep tells channel → Keeping Pair Node same_pair → Splitting → Growth → Fitting S → Subfunctions → Reachability
+      → (old : TableState S) (before after : OrCache) (u v : Node) → CanDisjoin old before u v
+      → (o : Operands) → AreSplit old.graph o → (o.u ≡ u) × (o.v ≡ v) → (after ≡ before) × IsUnknown old.graph before u v
+      → IsAnswer (disjoining tells channel lent) old before (u, v) old after (Ok (Open o))
   split_answered law keeping splits growth fitting parts paths old before after u v can o split same missed =
-      let unknown : IsUnknown old.graph before o.u o.v = subst (λ (x : Node). IsUnknown old.graph before x o.v) (sym same.0) (subst (λ (y : Node). IsUnknown old.graph before u y) (sym same.1) missed.1) in
+      let unknown : IsUnknown old.graph before o.u o.v = subst (λ (x : Node). IsUnknown old.graph before x o.v) (sym same.0)
+      (subst (λ (y : Node). IsUnknown old.graph before u y) (sym same.1) missed.1) in
       let own : IsAnswer (disjoining tells channel lent) old before (o.u, o.v) old before (Ok (Open o)) =
       (no_later old.graph o split, opened law keeping splits growth fitting parts paths old before can.sound can.fits o split unknown) in
       subst (λ (c : OrCache). IsAnswer (disjoining tells channel lent) old before (u, v) old c (Ok (Open o))) (sym missed.0)

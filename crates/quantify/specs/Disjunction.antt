@@ -43,14 +43,16 @@ pub record IsUnknown (graph : Graph) (cache : OrCache) (u v : Node) : Type 0 whe
   pub none : (w : Node) → Contains (disjunctions cache) (Disjunction u v w) → ⊥
 
 -- The call for u and v began with this table and this cache, and ended with those and this result.
-pub record Disjoins {S : Type 0} (tells : Bool) (channel : S → Channel) (lent : S → Beside) (old : TableState S) (before : OrCache) (u v : Node) (new : TableState S) (after : OrCache)
+pub record Disjoins {S : Type 0} (tells : Bool) (channel : S → Channel) (lent : S
+    → Beside) (old : TableState S) (before : OrCache) (u v : Node) (new : TableState S) (after : OrCache)
     (result : Result Node TableError) : Type 0 where
   pub runs : Runs tells channel lent old (disjunctions before) (disjunction_of old.graph u v) new (disjunctions after) result
   pub remembers : RemembersDisjunctions before after
   pub disjoined : IfOk result (λ w. Disjoined new.graph u v w)
   pub reachable : IfOk result (λ w. ReachesNew old.graph new.graph w)
   pub kept : u ≢ v → IsInner old.graph u → IsInner old.graph v → IfOk result (λ w. Contains (disjunctions after) (Disjunction u v w))
-  pub known : (w : Node) → Contains (disjunctions before) (Disjunction u v w) → (result ≡ Ok w) × (new ≡ old) × HaveSame (disjunctions before) (disjunctions after)
+  pub known : (w : Node) → Contains (disjunctions before) (Disjunction u v w) → (result ≡ Ok w) × (new ≡ old)
+      × HaveSame (disjunctions before) (disjunctions after)
   pub plain : (w : Node) → IsPlain u v w → (result ≡ Ok w) × (new ≡ old) × (after ≡ before)
 
 -- What the last step may begin with: the results of both sides.
@@ -62,7 +64,8 @@ pub record CanClose {S : Type 0} (table : TableState S) (cache : OrCache) (o : O
   pub on_low : Disjoined table.graph o.u_low o.v_low low
 
 -- The step from the results of both sides to the disjunction of these operands, which is kept.
-pub record Closes {S : Type 0} (tells : Bool) (channel : S → Channel) (lent : S → Beside) (old : TableState S) (before : OrCache) (o : Operands) (high low : Node) (new : TableState S) (after : OrCache)
+pub record Closes {S : Type 0} (tells : Bool) (channel : S → Channel) (lent : S
+    → Beside) (old : TableState S) (before : OrCache) (o : Operands) (high low : Node) (new : TableState S) (after : OrCache)
     (result : Result Node TableError) : Type 0 where
   pub runs : Runs tells channel lent old (disjunctions before) (disjunction_of old.graph o.u o.v) new (disjunctions after) result
   pub room : MakesRoomFor before after o.u o.v

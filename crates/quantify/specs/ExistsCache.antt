@@ -38,7 +38,8 @@ IsLooked before after = LeavesEntries quantification before.results after.result
 
 -- One entry is kept: it takes the place of the one of its question, or of the last one where the cache was full.
 abbrev pub IsKept : ExistsCache → ExistsCache → Node → ℕ → Node → Type 0
-IsKept before after u level w = KeepsEntry quantification same_question before.results after.results (u, level) (Quantification u level w) None
+IsKept before after u level w = KeepsEntry quantification same_question before.results after.results (u, level)
+    (Quantification u level w) None
 
 -- entries are forgotten only where the cache is full
 abbrev pub RemembersQuantifications : ExistsCache → ExistsCache → Type 0

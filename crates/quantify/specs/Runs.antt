@@ -14,7 +14,8 @@ use Rattle.operations.specs.Entries.{Entry, Fits}
 
 -- A call for this function began with this table and these entries, and ended with those and this result. No clause was added
 -- but for definitions, none was retired, and each node that was made is a part of the function.
-pub record Runs {S : Type 0} (tells : Bool) (channel : S → Channel) (lent : S → Beside) (old : TableState S) (before : List Entry) (function : Levels → Bool) (new : TableState S) (after : List Entry)
+pub record Runs {S : Type 0} (tells : Bool) (channel : S → Channel) (lent : S
+    → Beside) (old : TableState S) (before : List Entry) (function : Levels → Bool) (new : TableState S) (after : List Entry)
     (result : Result Node TableError) : Type 0 where
   pub steps : Steps tells (channel old.book.sink) (channel new.book.sink) old new 0 (error_of result)
   pub retired : new.retired ≡ old.retired
@@ -29,9 +30,11 @@ abbrev pub HasSides : (Levels → Node → Bool) → ℕ → Node → Node → (
 HasSides value level high low function = (a : Levels) → (if a level then value a high else value a low) ≡ function a
 
 -- The step to the node of both sides: for each function that it is the node of, whatever entries fit.
-pub record Joins {S : Type 0} (tells : Bool) (channel : S → Channel) (lent : S → Beside) (old : TableState S) (level : ℕ) (high low : Node) (new : TableState S) (result : Result Node TableError) : Type 0 where
+pub record Joins {S : Type 0} (tells : Bool) (channel : S → Channel) (lent : S
+    → Beside) (old : TableState S) (level : ℕ) (high low : Node) (new : TableState S) (result : Result Node TableError) : Type 0 where
   pub runs : (listed : List Entry) (function : Levels → Bool) → Fits old listed → HasSides (value_of old.graph) level high low function
       → Runs tells channel lent old listed function new listed result
   pub children : IfOk result (λ w. HasChildren new.graph level high low w)
-  pub value : (function : Levels → Bool) → HasSides (value_of old.graph) level high low function → IfOk result (λ w. (a : Levels) → value_of new.graph a w ≡ function a)
+  pub value : (function : Levels → Bool) → HasSides (value_of old.graph) level high low function
+      → IfOk result (λ w. (a : Levels) → value_of new.graph a w ≡ function a)
   pub reachable : IfOk result (λ w. ReachesNew old.graph new.graph w)

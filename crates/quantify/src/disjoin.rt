@@ -1,6 +1,7 @@
 // The disjunction of two nodes, by their cofactors at the earlier of their variables. (Bryant: Graph-Based Algorithms for
 // Boolean Function Manipulation, 1986, section 4.3: apply.)
-ghost use Rattle.std.specs.Prelude.{◌≡◌, ◌≢◌, ◌⊎◌, ◌≤◌, ◌++◌, List, None, Some, Ok, Err, Contains, IsTrue, IfOk, IfSome, MatchOption, length};
+ghost use Rattle.std.specs.Prelude.{◌≡◌, ◌≢◌, ◌⊎◌, ◌≤◌, ◌++◌, List, None, Some, Ok, Err, Contains, IsTrue, IfOk, IfSome, MatchOption};
+ghost use Rattle.std.specs.Prelude.{length};
 ghost use Rattle.node_table.specs.declared.error.TableError.TheVariants.{NodeLimit};
 ghost use Rattle.node_table.specs.declared.node.Node.{Node as NodeValue};
 ghost use Rattle.node_table.specs.Diagram.{Graph, is_node};
@@ -41,13 +42,16 @@ pub fn or<S: Sink + Drop>(
     ensures none_added { UnlessTorn result (AddsNone table.old table.new) }
     // The cache fits, and so does it together with others that did.
     ensures fits { UnlessTorn result (Fits table.new (disjunctions cache.new)) }
-    ensures others { (others : List Entry) → Fits table.old (disjunctions cache.old ++ others) → UnlessTorn result (Fits table.new (disjunctions cache.new ++ others)) }
+    ensures others { (others : List Entry) → Fits table.old (disjunctions cache.old ++ others)
+        → UnlessTorn result (Fits table.new (disjunctions cache.new ++ others)) }
     // A disjunction that is kept is found again without a node more; a new one is kept; one is forgotten only where the cache
     // was full.
     ensures known { (w : NodeValue) → Contains (disjunctions cache.old) (Disjunction u v w)
         → (result ≡ Ok w) × (table.new ≡ table.old) × HaveSame (disjunctions cache.old) (disjunctions cache.new) }
-    ensures kept { u ≢ v → IsInner table.old.graph u → IsInner table.old.graph v → IfOk result (λ w. Contains (disjunctions cache.new) (Disjunction u v w)) }
-    ensures remembered { (entry : Entry) → Contains (disjunctions cache.old) entry → Contains (disjunctions cache.new) entry ⊎ (most_disjunctions cache.old ≤ length (disjunctions cache.new)) }
+    ensures kept { u ≢ v → IsInner table.old.graph u → IsInner table.old.graph v
+        → IfOk result (λ w. Contains (disjunctions cache.new) (Disjunction u v w)) }
+    ensures remembered { (entry : Entry) → Contains (disjunctions cache.old) entry → Contains (disjunctions cache.new) entry
+        ⊎ (most_disjunctions cache.old ≤ length (disjunctions cache.new)) }
     ensures no_fewer { length (disjunctions cache.old) ≤ length (disjunctions cache.new) }
     ensures capacity { most_disjunctions cache.new ≡ most_disjunctions cache.old }
     // A constant, and a node with itself: nothing changes.
@@ -150,7 +154,8 @@ fn plain(u: Node, v: Node) -> Option<Node>
     ensures exact { (w : NodeValue) → IsPlain u v w → result ≡ Some w }
     ensures plain { IfSome result (λ w. IsPlain u v w) }
     ensures differ { result ≡ None → u ≢ v }
-    ensures disjoined { MatchOption result ((graph : Graph) → IsTrue (is_node graph u) → IsTrue (is_node graph v) → IsInner graph u × IsInner graph v)
+    ensures disjoined { MatchOption result ((graph : Graph) → IsTrue (is_node graph u) → IsTrue (is_node graph v) → IsInner graph u
+        × IsInner graph v)
         (λ w. (graph : Graph) → IsTrue (is_node graph u) → IsTrue (is_node graph v) → Disjoined graph u v w) }
 {
     match (u, v) {

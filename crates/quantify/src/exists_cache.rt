@@ -7,7 +7,8 @@ ghost use Rattle.op_cache.specs.Cache.{last_of};
 ghost use Rattle.operations.specs.Entries.{Quantification};
 ghost use Rattle.operations.specs.Purged.{are_marked};
 ghost use Rattle.operations.specs.Turns.{HasTurn};
-ghost use Rattle.quantify.specs.ExistsCache.{IsKept, IsLooked, Question, most_quantifications, quantification, quantifications, same_question};
+ghost use Rattle.quantify.specs.ExistsCache.{IsKept, IsLooked, Question, most_quantifications, quantification, quantifications};
+ghost use Rattle.quantify.specs.ExistsCache.{same_question};
 
 use cnf_base::OutOfMemory;
 use node_table::{Marks, Node};
@@ -76,7 +77,8 @@ impl ExistsCache {
 
     // The entry whose use lies the longest ago comes to the front where the nodes that it names are marked. Else it goes.
     fn turn(&mut self, marks: &Marks)
-        ensures { (last : Question × NodeValue) → last_of self.old.results.entries ≡ Some last → HasTurn quantification marks.now same_question self.old.results self.new.results last }
+        ensures { (last : Question × NodeValue) → last_of self.old.results.entries ≡ Some last
+            → HasTurn quantification marks.now same_question self.old.results self.new.results last }
     {
         let Some((question, w)) = self.results.last() else {
             return;

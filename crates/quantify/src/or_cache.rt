@@ -77,7 +77,8 @@ impl OrCache {
 
     // The entry whose use lies the longest ago comes to the front where the nodes that it names are marked. Else it goes.
     fn turn(&mut self, marks: &Marks)
-        ensures { (last : Pair × NodeValue) → last_of self.old.results.entries ≡ Some last → HasTurn disjunction marks.now same_pair self.old.results self.new.results last }
+        ensures { (last : Pair × NodeValue) → last_of self.old.results.entries ≡ Some last
+            → HasTurn disjunction marks.now same_pair self.old.results self.new.results last }
     {
         let Some((pair, w)) = self.results.last() else {
             return;

@@ -44,18 +44,22 @@ pub fn exists<S: Sink + Drop>(
     ensures none_added { UnlessTorn result (AddsNone table.old table.new) }
     // Both caches fit as one list, and so do they together with others that did.
     ensures fits { UnlessTorn result (Fits table.new (both_caches cache.new ors.new)) }
-    ensures others { (others : List Entry) → Fits table.old (both_caches cache.old ors.old ++ others) → UnlessTorn result (Fits table.new (both_caches cache.new ors.new ++ others)) }
+    ensures others { (others : List Entry) → Fits table.old (both_caches cache.old ors.old ++ others)
+        → UnlessTorn result (Fits table.new (both_caches cache.new ors.new ++ others)) }
     // A quantification that is kept is found again without a node more; a new one is kept; one is forgotten only where the
     // cache was full, and so is a disjunction.
     ensures known { (w : NodeValue) → Contains (quantifications cache.old) (Quantification u level w)
-        → (result ≡ Ok w) × (table.new ≡ table.old) × HaveSame (quantifications cache.old) (quantifications cache.new) × (ors.new ≡ ors.old) }
+        → (result ≡ Ok w) × (table.new ≡ table.old) × HaveSame (quantifications cache.old) (quantifications cache.new)
+        × (ors.new ≡ ors.old) }
     ensures kept { level_of table.old.graph u ≤ level → IfOk result (λ w. Contains (quantifications cache.new) (Quantification u level w)) }
-    ensures remembered { (entry : Entry) → Contains (quantifications cache.old) entry → Contains (quantifications cache.new) entry ⊎ (most_quantifications cache.old ≤ length (quantifications cache.new)) }
+    ensures remembered { (entry : Entry) → Contains (quantifications cache.old) entry → Contains (quantifications cache.new) entry
+        ⊎ (most_quantifications cache.old ≤ length (quantifications cache.new)) }
     ensures no_fewer { length (quantifications cache.old) ≤ length (quantifications cache.new) }
     ensures capacity { most_quantifications cache.new ≡ most_quantifications cache.old }
     ensures ors { RemembersDisjunctions ors.old ors.new }
     // A constant, and a node below the level: nothing changes.
-    ensures plain { level < level_of table.old.graph u → (result ≡ Ok u) × (table.new ≡ table.old) × (cache.new ≡ cache.old) × (ors.new ≡ ors.old) }
+    ensures plain { level < level_of table.old.graph u → (result ≡ Ok u) × (table.new ≡ table.old) × (cache.new ≡ cache.old)
+        × (ors.new ≡ ors.old) }
     // However it ends, each node that was made is a subfunction of the quantification; on success none is left over.
     ensures made { MakesOnly table.old.graph table.new.graph (quantification_of table.old.graph u level) }
     ensures reachable { IfOk result (λ w. ReachesNew table.old.graph table.new.graph w) }

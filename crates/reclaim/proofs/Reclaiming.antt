@@ -1,6 +1,7 @@
 -- A reclamation step by step: the caches are purged, what they gave up is deleted with all that was retired, and then the
 -- nodes go that no root reaches.
-use Rattle.std.proofs.Common.{◌≡◌, ◌⊎◌, ◌≤◌, ◌<◌, ◌∙◌, ℕ, ℤ, Bool, true, false, List, [], ◌++◌, Option, None, Some, Contains, is_some, refl, sym, ap, subst, arith, inl, inr}
+use Rattle.std.proofs.Common.{◌≡◌, ◌⊎◌, ◌≤◌, ◌<◌, ◌∙◌, ℕ, ℤ, Bool, true, false, List, [], ◌++◌, Option, None, Some, Contains, is_some, refl}
+use Rattle.std.proofs.Common.{sym, ap, subst, arith, inl, inr}
 use Rattle.std.specs.Prelude.{if◌then◌else◌}
 use Rattle.std.proofs.lemmas.Bool.{cases_Bool}
 use Rattle.std.proofs.lemmas.List.Elements.{Contains-append_cases}
@@ -43,7 +44,8 @@ none_some {A} {o} {x} none some = let e : None ≡ Some x = sym none ∙ some in
 
 -- nothing is in a list without elements
 none_retired : (retired : List ℕ) (id : ℕ) → retired ≡ [] → Contains retired id → ⊥
-none_retired retired id empty there = let in_none : Contains [] id = subst (λ (ids : List ℕ). Contains ids id) empty there in omega (arith, in_none.1)
+none_retired retired id empty there = let in_none : Contains [] id = subst (λ (ids : List ℕ). Contains ids id) empty there in
+    omega (arith, in_none.1)
 
 live_of : (live : Live) (id : ℕ) → is_some (clause_at live id) ≡ true → (clause : List ℤ) × (clause_at live id ≡ Some clause)
 live_of live id stands = found (clause_at live id) stands
@@ -52,7 +54,8 @@ live_of live id stands = found (clause_at live id) stands
     found None stands = cc
     found (Some clause) stands = (clause, refl)
 
-module _ {S : Type 0} (fitting : Fitting S) (law : Purging S) (old one two : TableState S) (roots : List Node) (marks : List Bool) (before after : List Entry)
+module _ {S : Type 0} (fitting : Fitting S) (law : Purging S) (old one two : TableState S) (roots : List Node) (marks : List Bool)
+    (before after : List Entry)
     (sound : IsSound old) (fits : Fits old before) (reached : AreReached old.graph roots marks) (are : AreMarks old.graph marks)
     (purged : IsPurged old one marks before after) (settled : IsSettled one two) where
   graph_one : one.graph ≡ old.graph
@@ -92,8 +95,10 @@ module _ {S : Type 0} (fitting : Fitting S) (law : Purging S) (old one two : Tab
         | inl known ↦ elim (law.accounted old one marks before after id purged known) [
           | inl gone ↦ unretired_two id clause is gone
           | inr by ↦
-              let right : FitsEntry old.graph old.book.state.live by.0 = subst (λ (t : TableState S). FitsEntry t.graph t.book.state.live by.0) purged.table (fits_one.each by.0 by.1) in
-              law.clear old.graph old.book.state.live marks by.0 id clause sound.tied.reduced right by.2 (law.marked old one marks before after by.0 purged by.1) was literal holds key branch at unmarked same
+              let right : FitsEntry old.graph old.book.state.live by.0 = subst
+              (λ (t : TableState S). FitsEntry t.graph t.book.state.live by.0) purged.table (fits_one.each by.0 by.1) in
+              law.clear old.graph old.book.state.live marks by.0 id clause sound.tied.reduced right by.2
+              (law.marked old one marks before after by.0 purged by.1) was literal holds key branch at unmarked same
         ]
         | inr over ↦ let e : true ≡ false = sym ((reached key).1 (ap is_some at, over literal holds key branch at same)) ∙ unmarked in cc
       ]
@@ -117,17 +122,20 @@ module _ {S : Type 0} (fitting : Fitting S) (law : Purging S) (old one two : Tab
 
   module _ (new : TableState S) (swept : SweepsAway two new marks) where
     -- a node that is left was marked
-    left_marked : (key : ℕ) (branch : Branch) → branch_at new.graph key ≡ Some branch → (is_marked marks (inner key) ≡ true) × (branch_at old.graph key ≡ Some branch)
+    left_marked : (key : ℕ) (branch : Branch) → branch_at new.graph key ≡ Some branch → (is_marked marks (inner key) ≡ true)
+        × (branch_at old.graph key ≡ Some branch)
     left_marked key branch at = elim (cases_Bool (is_marked marks (inner key))) [
       | inl marked ↦ (
         marked,
-        ap (λ (g : Graph). branch_at g key) (sym graph_two) ∙ sym (swept.swept.nodes key ∙ ap (λ b. if b then branch_at two.graph key else None) marked) ∙ at,
+        ap (λ (g : Graph). branch_at g key) (sym graph_two) ∙ sym (swept.swept.nodes key
+            ∙ ap (λ b. if b then branch_at two.graph key else None) marked) ∙ at,
       )
       | inr unmarked ↦ absurd (none_some (swept.swept.nodes key ∙ ap (λ b. if b then branch_at two.graph key else None) unmarked) at)
     ]
 
     marked_stays : (key : ℕ) → is_marked marks (inner key) ≡ true → branch_at new.graph key ≡ branch_at old.graph key
-    marked_stays key marked = swept.swept.nodes key ∙ ap (λ b. if b then branch_at two.graph key else None) marked ∙ ap (λ (g : Graph). branch_at g key) graph_two
+    marked_stays key marked = swept.swept.nodes key ∙ ap (λ b. if b then branch_at two.graph key else None) marked
+        ∙ ap (λ (g : Graph). branch_at g key) graph_two
 
     live_new : (id : ℕ) (clause : List ℤ) → clause_at new.book.state.live id ≡ Some clause → clause_at two.book.state.live id ≡ Some clause
     live_new id clause is = sym (swept.stay id (λ d. none_some (swept.gone id d) is)) ∙ is
@@ -157,7 +165,8 @@ module _ {S : Type 0} (fitting : Fitting S) (law : Purging S) (old one two : Tab
 
     fits_new : Fits new after
     fits_new =
-        law.swept two new marks after settled.sound marks_two swept.swept (λ entry there. law.marked old one marks before after entry purged there) fits_two
+        law.swept two new marks after settled.sound marks_two swept.swept
+        (λ entry there. law.marked old one marks before after entry purged there) fits_two
         (λ id by. added_stays id (fits_two.own id by)) swept.inputs swept.retired
 
     -- no clause of the formula is retired
@@ -165,7 +174,8 @@ module _ {S : Type 0} (fitting : Fitting S) (law : Purging S) (old one two : Tab
     formula_stays id few =
         let one_sound = law.sound old one marks before after sound fits purged in
         let same : one.inputs ≡ old.inputs = ap (λ (t : TableState S). t.inputs) purged.table in
-        swept.formula id (omega (arith, few, inputs_two)) ∙ live_two id (λ gone. let above = (one_sound.retired.each id gone).above in omega (arith, above, few, same))
+        swept.formula id (omega (arith, few, inputs_two)) ∙ live_two id (λ gone. let above = (one_sound.retired.each id gone).above in
+        omega (arith, above, few, same))
 
     pub reclaims : Reclaims old new roots before after
     reclaims = record {
@@ -176,7 +186,8 @@ module _ {S : Type 0} (fitting : Fitting S) (law : Purging S) (old one two : Tab
       fewer = λ entry there. law.fewer old one marks before after entry purged there;
       clauses = λ id clause is. was_live id clause (live_new id clause is);
       formula = formula_stays;
-      kept = λ id own unknown. let unretired = λ (gone : Contains one.retired id). unknown (retired_known id gone) in added_stays id (added_still id own unretired) ∙ live_two id unretired;
+      kept = λ id own unknown. let unretired = λ (gone : Contains one.retired id). unknown (retired_known id gone) in
+          added_stays id (added_still id own unretired) ∙ live_two id unretired;
       added = λ id own.
           let was = swept.none_added id own in
           let clause = live_of two.book.state.live id was.stands in (

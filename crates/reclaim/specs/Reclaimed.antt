@@ -14,13 +14,15 @@ use Rattle.operations.specs.Entries.{Entry, Fits, IsAccounted, IsNamed}
 
 -- the extension variables of a clause are those of nodes that the roots reach
 abbrev pub IsOverReached : Graph → List Node → List ℤ → Type 0
-IsOverReached graph roots clause = (literal : ℤ) → IsTrue (list_any (int_eq literal) clause) → (key : ℕ) (branch : Branch) → branch_at graph key ≡ Some branch
+IsOverReached graph roots clause = (literal : ℤ) → IsTrue (list_any (int_eq literal) clause) → (key : ℕ) (branch : Branch)
+    → branch_at graph key ≡ Some branch
     → nat_abs literal ≡ branch.variable → IsReached graph roots (inner key)
 
 -- Each live clause beside the definitions of nodes is retired or named by an entry, or its extension variables are those of
 -- nodes that the roots reach.
 abbrev pub MayReclaim : {S : Type 0} → TableState S → List Entry → List Node → Type 0
-MayReclaim table entries roots = (id : ℕ) (clause : List ℤ) → clause_at table.book.state.live id ≡ Some clause → (Defines table.graph id → ⊥)
+MayReclaim table entries roots = (id : ℕ) (clause : List ℤ) → clause_at table.book.state.live id ≡ Some clause
+    → (Defines table.graph id → ⊥)
     → IsAccounted table entries id ⊎ IsOverReached table.graph roots clause
 
 -- Exactly the nodes are left that the roots reach, as they were, and of the entries some, which fit them. No clause was
@@ -28,13 +30,16 @@ MayReclaim table entries roots = (id : ℕ) (clause : List ℤ) → clause_at ta
 -- None is retired.
 pub record Reclaims {S : Type 0} (old new : TableState S) (roots : List Node) (before after : List Entry) : Type 0 where
   pub order : new.graph.order ≡ old.graph.order
-  pub nodes : (key : ℕ) (branch : Branch) → IsReached old.graph roots (inner key) → branch_at old.graph key ≡ Some branch → branch_at new.graph key ≡ Some branch
-  pub only : (key : ℕ) (branch : Branch) → branch_at new.graph key ≡ Some branch → (branch_at old.graph key ≡ Some branch) × IsReached old.graph roots (inner key)
+  pub nodes : (key : ℕ) (branch : Branch) → IsReached old.graph roots (inner key) → branch_at old.graph key ≡ Some branch
+      → branch_at new.graph key ≡ Some branch
+  pub only : (key : ℕ) (branch : Branch) → branch_at new.graph key ≡ Some branch → (branch_at old.graph key ≡ Some branch)
+      × IsReached old.graph roots (inner key)
   pub fits : Fits new after
   pub fewer : (entry : Entry) → Contains after entry → Contains before entry
   pub clauses : (id : ℕ) (clause : List ℤ) → clause_at new.book.state.live id ≡ Some clause → clause_at old.book.state.live id ≡ Some clause
   pub formula : (id : ℕ) → id ≤ old.inputs → clause_at new.book.state.live id ≡ clause_at old.book.state.live id
-  pub kept : (id : ℕ) → IsAddedTo old id → (IsAccounted old before id → ⊥) → clause_at new.book.state.live id ≡ clause_at old.book.state.live id
+  pub kept : (id : ℕ) → IsAddedTo old id → (IsAccounted old before id → ⊥) → clause_at new.book.state.live id
+      ≡ clause_at old.book.state.live id
   pub added : (id : ℕ) → IsAddedTo new id → IsAddedTo old id × (IsAccounted old before id → IsNamed after id)
   pub retired : new.retired ≡ []
   pub inputs : new.inputs ≡ old.inputs

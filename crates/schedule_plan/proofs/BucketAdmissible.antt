@@ -11,10 +11,12 @@ use Rattle.schedule_plan.proofs.Terms.{times, counted, IsClosed, times-conjuncti
 use Rattle.schedule_plan.proofs.Buckets.{last_once, items_are_closed}
 use Rattle.schedule_plan.proofs.Making.{AreNew, IsSound, with_term, makes_term, inputs_within, is_pushed-standing, standing_after}
 
-IsClosed-conjunction : (formula : Formula) (first : Term) (more : List Term) → IsClosed formula first → All (IsClosed formula) more → IsClosed formula (conjunction first more)
+IsClosed-conjunction : (formula : Formula) (first : Term) (more : List Term) → IsClosed formula first → All (IsClosed formula) more
+    → IsClosed formula (conjunction first more)
 IsClosed-conjunction formula first [] closed all = closed
 IsClosed-conjunction formula first (next ∷ more) closed all =
-    IsClosed-conjunction formula (both first next) more (closed, All-head (IsClosed formula) next more all) (All-tail (IsClosed formula) next more all)
+    IsClosed-conjunction formula (both first next) more (closed, All-head (IsClosed formula) next more all)
+    (All-tail (IsClosed formula) next more all)
 
 nothing_pushed : (formula : Formula) → IsSound formula no_stage
 nothing_pushed formula = record { within = λ i there. absurd (omega (arith, there)); stacked = λ i. omega arith }
@@ -30,7 +32,8 @@ admissible formula [] closed once = record {
 }
 admissible formula (first ∷ more) closed once =
     let all_closed : IsClosed formula (conjunction first more) =
-    IsClosed-conjunction formula first more (All-head (IsClosed formula) first more closed) (All-tail (IsClosed formula) first more closed) in
+    IsClosed-conjunction formula first more (All-head (IsClosed formula) first more closed)
+    (All-tail (IsClosed formula) first more closed) in
     let new : AreNew (conjunction first more) [] = λ i.
     elim (cases_eq (times i (conjunction first more)) 0) [
       | inl none ↦ omega (arith, none)
@@ -46,7 +49,9 @@ admissible formula (first ∷ more) closed once =
       one_term = omega arith;
     }
 
-pub bucket_is_admissible : (formula : Formula) (order : List ℕ) → IsOrder order → length order ≡ formula.vars → AreClausesOf formula.vars formula.clauses
+pub bucket_is_admissible : (formula : Formula) (order : List ℕ) → IsOrder order → length order ≡ formula.vars
+    → AreClausesOf formula.vars formula.clauses
     → IsAdmissible formula (bucket formula order)
 bucket_is_admissible formula order sound order_is _ =
-    admissible formula (items formula order (length order)) (items_are_closed formula order sound order_is (length order) (omega arith)) (last_once formula order)
+    admissible formula (items formula order (length order)) (items_are_closed formula order sound order_is (length order) (omega arith))
+    (last_once formula order)

@@ -1,15 +1,22 @@
 -- The bucket plan: each clause is in one open item at each place, the result of a bucket goes to the bucket of its first
 -- variable, and a clause climbs to the bucket of each of its variables.
-use Rattle.std.proofs.Common.{◌≡◌, ℕ, zero, suc, ◌+◌, ◌<◌, ◌≤◌, ◌==◌, Bool, true, false, not, List, [], ◌∷◌, ◌++◌, length, filter, All, Contains, refl, sym, ap, subst, ◌∙◌, inl, inr, arith, eq-eqb, ne_eqb, le-leb, eqb-true, leb-true, append_assoc}
+use Rattle.std.proofs.Common.{◌≡◌, ℕ, zero, suc, ◌+◌, ◌<◌, ◌≤◌, ◌==◌, Bool, true, false, not, List, [], ◌∷◌, ◌++◌, length, filter, All}
+use Rattle.std.proofs.Common.{Contains, refl, sym, ap, subst, ◌∙◌, inl, inr, arith, eq-eqb, ne_eqb, le-leb, eqb-true, leb-true}
+use Rattle.std.proofs.Common.{append_assoc}
 use Rattle.std.specs.Prelude.{nat_le, slice_index_or}
-use Rattle.std.proofs.lemmas.Bool.{cases_eq, cases_lt, both_ways, and_from, and_left, and_right, or_from, or_left, or_right, false_from_ne_true}
-use Rattle.std.proofs.lemmas.List.Elements.{All-nil, All-head, All-same, All-append, All-weaker, All-filter, All-contains, Contains-append_left, Contains-append_right, filter-append, filter_passes}
+use Rattle.std.proofs.lemmas.Bool.{cases_eq, cases_lt, both_ways, and_from, and_left, and_right, or_from, or_left, or_right}
+use Rattle.std.proofs.lemmas.Bool.{false_from_ne_true}
+use Rattle.std.proofs.lemmas.List.Elements.{All-nil, All-head, All-same, All-append, All-weaker, All-filter, All-contains}
+use Rattle.std.proofs.lemmas.List.Elements.{Contains-append_left, Contains-append_right, filter-append, filter_passes}
 use Rattle.std.proofs.lemmas.List.Sums.{prefix_len-le-length, passes_at_first, fails_before_first}
 use Rattle.cnf_base.specs.Formula.{Formula}
 use Rattle.cnf_base.specs.Order.{IsOrder}
 use Rattle.schedule_plan.specs.Plan.{Term, input, both, some_value, term_has, clause_has, clause_of_number}
 use Rattle.schedule_plan.specs.Bucket.{first_place, all_inputs, belonging, result_of, results, items}
-use Rattle.schedule_plan.proofs.Terms.{times, counted, IsClosed, same_number, counted-append, counted-result_of, counted_split, counted_none, counted_once, times_contained, times_filtered, is_number, variable_of_input, result_all, filter_all, inputs_all, closed_result, result_there, some_term, no_terms, input_contained, times_itself}
+use Rattle.schedule_plan.proofs.Terms.{times, counted, IsClosed, same_number, counted-append, counted-result_of, counted_split}
+use Rattle.schedule_plan.proofs.Terms.{counted_none, counted_once, times_contained, times_filtered, is_number, variable_of_input}
+use Rattle.schedule_plan.proofs.Terms.{result_all, filter_all, inputs_all, closed_result, result_there, some_term, no_terms}
+use Rattle.schedule_plan.proofs.Terms.{input_contained, times_itself}
 
 -- the clauses, and the results of the buckets before a place
 abbrev pub made : Formula → List ℕ → ℕ → List Term
@@ -33,7 +40,8 @@ results_at formula order place zero = []
 results_at formula order place (suc k) =
     results_at formula order place k ++ belonging formula order place (result_of (slice_index_or order k 0) (items formula order k))
 
-results_at-belonging : (formula : Formula) (order : List ℕ) (place k : ℕ) → results_at formula order place k ≡ belonging formula order place (results formula order k)
+results_at-belonging : (formula : Formula) (order : List ℕ) (place k : ℕ) → results_at formula order place k
+    ≡ belonging formula order place (results formula order k)
 results_at-belonging formula order place zero = refl
 results_at-belonging formula order place (suc k) =
     let next = result_of (slice_index_or order k 0) (items formula order k) in
@@ -41,10 +49,12 @@ results_at-belonging formula order place (suc k) =
     ∙ sym (filter-append (λ term. first_place formula order term == place) (results formula order k) next)
 
 pub items_split : (formula : Formula) (order : List ℕ) (place : ℕ)
-    → items formula order place ≡ belonging formula order place (all_inputs (length formula.clauses)) ++ results_at formula order place place
+    → items formula order place ≡ belonging formula order place (all_inputs (length formula.clauses))
+    ++ results_at formula order place place
 items_split formula order place =
     filter-append (λ term. first_place formula order term == place) (all_inputs (length formula.clauses)) (results formula order place)
-    ∙ ap (λ rest. belonging formula order place (all_inputs (length formula.clauses)) ++ rest) (sym (results_at-belonging formula order place place))
+    ∙ ap (λ rest. belonging formula order place (all_inputs (length formula.clauses))
+    ++ rest) (sym (results_at-belonging formula order place place))
 
 -- a result has the inputs of its bucket's items
 pub result_times : (formula : Formula) (order : List ℕ) (place : ℕ) (term : Term) (i : ℕ) → IsResult formula order place term
@@ -57,7 +67,8 @@ pub result_of_held : (formula : Formula) (order : List ℕ) (place i : ℕ) → 
     → (term : Term) × IsResult formula order place term
 result_of_held formula order place i held = result_there i (slice_index_or order place 0) (items formula order place) held
 
-pub result_unique : (formula : Formula) (order : List ℕ) (place : ℕ) (one other : Term) → IsResult formula order place one → IsResult formula order place other
+pub result_unique : (formula : Formula) (order : List ℕ) (place : ℕ) (one other : Term) → IsResult formula order place one
+    → IsResult formula order place other
     → one ≡ other
 result_unique formula order place one other made_one made_other = ap (λ terms. slice_index_or terms 0 one) (sym made_one ∙ made_other)
 
@@ -67,10 +78,13 @@ made_all : (P : Term → Type 0) (formula : Formula) (order : List ℕ) (place :
 made_all P formula order place here next =
     let result = result_of (slice_index_or order place 0) (items formula order place) in
     All-same P (made formula order (suc place)) (made formula order place ++ result)
-    (sym (append_assoc (all_inputs (length formula.clauses)) (results formula order place) result)) (All-append P (made formula order place) result here next)
+    (sym (append_assoc (all_inputs (length formula.clauses)) (results formula order place) result))
+    (All-append P (made formula order place) result here next)
 
-made_start : (P : Term → Type 0) (formula : Formula) (order : List ℕ) → ((i : ℕ) → 0 < i → i ≤ length formula.clauses → P (input i)) → All P (made formula order 0)
-made_start P formula order each = All-append P (all_inputs (length formula.clauses)) [] (inputs_all P (length formula.clauses) each) (All-nil P)
+made_start : (P : Term → Type 0) (formula : Formula) (order : List ℕ) → ((i : ℕ) → 0 < i → i ≤ length formula.clauses → P (input i))
+    → All P (made formula order 0)
+made_start P formula order each = All-append P (all_inputs (length formula.clauses)) [] (inputs_all P (length formula.clauses) each)
+    (All-nil P)
 
 pub first_within : (formula : Formula) (order : List ℕ) (term : Term) → first_place formula order term ≤ length order
 first_within formula order term = prefix_len-le-length (λ x. not (term_has formula x term)) order
@@ -81,11 +95,13 @@ pub first_behind : (formula : Formula) (order : List ℕ) (place : ℕ) (term : 
 first_behind formula order place term small lacks =
     elim (cases_lt place (first_place formula order term)) [
       | inl behind ↦ behind
-      | inr early ↦ absurd (both_ways _ (lacks (first_place formula order term) early) (passes_at_first (λ x. term_has formula x term) order 0 (omega (arith, early, small))))
+      | inr early ↦ absurd (both_ways _ (lacks (first_place formula order term) early)
+          (passes_at_first (λ x. term_has formula x term) order 0 (omega (arith, early, small))))
     ]
 
 -- and one that holds a variable has no later one
-pub first_upto : (formula : Formula) (order : List ℕ) (place : ℕ) (term : Term) → term_has formula (slice_index_or order place 0) term ≡ true
+pub first_upto : (formula : Formula) (order : List ℕ) (place : ℕ) (term : Term) → term_has formula (slice_index_or order place 0) term
+    ≡ true
     → first_place formula order term ≤ place
 first_upto formula order place term holds =
     elim (cases_lt place (first_place formula order term)) [
@@ -93,9 +109,11 @@ first_upto formula order place term holds =
       | inr early ↦ early
     ]
 
-pub items_first : (formula : Formula) (order : List ℕ) (place : ℕ) → All (λ term. first_place formula order term ≡ place) (items formula order place)
+pub items_first : (formula : Formula) (order : List ℕ) (place : ℕ)
+    → All (λ term. first_place formula order term ≡ place) (items formula order place)
 items_first formula order place =
-    All-weaker (λ term. (first_place formula order term == place) ≡ true) (λ term. first_place formula order term ≡ place) (λ term same. eqb-true _ _ same)
+    All-weaker (λ term. (first_place formula order term == place) ≡ true) (λ term. first_place formula order term
+    ≡ place) (λ term same. eqb-true _ _ same)
     (items formula order place) (filter_passes (λ term. first_place formula order term == place) (made formula order place))
 
 -- a term holds none of the variables of the first places
@@ -113,7 +131,8 @@ result_first formula order place small =
     result_all (LacksBefore formula order place) (LacksBefore formula order (suc place)) (slice_index_or order place 0)
     (λ one other left right k before. or_from _ _ (left k before) (right k before))
     (λ term lacks k before. elim (cases_eq k place) [
-      | inl same ↦ and_right _ _ (ap not (eq-eqb (slice_index_or order k 0) (slice_index_or order place 0) (ap (λ k. slice_index_or order k 0) same)))
+      | inl same ↦ and_right _ _ (ap not (eq-eqb (slice_index_or order k 0) (slice_index_or order place 0)
+          (ap (λ k. slice_index_or order k 0) same)))
       | inr differ ↦ and_left _ _ (lacks k (omega (arith, before, differ)))
     ])
     (items formula order place) here in
@@ -121,15 +140,18 @@ result_first formula order place small =
     (λ term lacks. first_behind formula order place term small (λ k early. lacks k (omega (arith, early))))
     (result_of (slice_index_or order place 0) (items formula order place)) there
 
-pub first_of_result : (formula : Formula) (order : List ℕ) (place : ℕ) (term : Term) → place < length order → IsResult formula order place term
+pub first_of_result : (formula : Formula) (order : List ℕ) (place : ℕ) (term : Term) → place < length order
+    → IsResult formula order place term
     → (place < first_place formula order term) × (first_place formula order term ≤ length order)
 first_of_result formula order place term small made_here =
     let later : All (λ term. place < first_place formula order term) (term ∷ []) =
-    All-same (λ term. place < first_place formula order term) (term ∷ []) (result_of (slice_index_or order place 0) (items formula order place))
+    All-same (λ term. place < first_place formula order term) (term
+    ∷ []) (result_of (slice_index_or order place 0) (items formula order place))
     (sym made_here) (result_first formula order place small) in
     (All-head (λ term. place < first_place formula order term) term [] later, first_within formula order term)
 
-pub result_made : (formula : Formula) (order : List ℕ) (earlier place : ℕ) (term : Term) → earlier < place → IsResult formula order earlier term
+pub result_made : (formula : Formula) (order : List ℕ) (earlier place : ℕ) (term : Term) → earlier < place
+    → IsResult formula order earlier term
     → Contains (made formula order place) term
 result_made formula order earlier zero term small made_here = absurd (omega (arith, small))
 result_made formula order earlier (suc place) term small made_here =
@@ -138,8 +160,10 @@ result_made formula order earlier (suc place) term small made_here =
     (elim (cases_eq earlier place) [
       | inl same ↦
           let last : IsResult formula order place term = subst (λ k. IsResult formula order k term) same made_here in
-          Contains-append_right (made formula order place) result term (subst (λ terms. Contains terms term) (sym last) (0, omega arith, refl))
-      | inr differ ↦ Contains-append_left (made formula order place) result term (result_made formula order earlier place term (omega (arith, small, differ)) made_here)
+          Contains-append_right (made formula order place) result term
+          (subst (λ terms. Contains terms term) (sym last) (0, omega arith, refl))
+      | inr differ ↦ Contains-append_left (made formula order place) result term
+          (result_made formula order earlier place term (omega (arith, small, differ)) made_here)
     ])
 
 -- the open items of the next place: those with a later first variable, and the new result
@@ -151,9 +175,12 @@ open_next formula order place i small =
     let kept : filter later result ≡ result =
     filter_all later result (All-weaker (λ term. place < first_place formula order term) (λ term. later term ≡ true)
     (λ term behind. le-leb (suc place) (first_place formula order term) behind) result (result_first formula order place small)) in
-    let cut : counted i (open_items formula order (suc place)) ≡ counted i (filter later (made formula order place)) + counted i (filter later result) =
-    ap (λ terms. counted i (filter later terms)) (sym (append_assoc (all_inputs (length formula.clauses)) (results formula order place) result))
-    ∙ ap (counted i) (filter-append later (made formula order place) result) ∙ counted-append i (filter later (made formula order place)) (filter later result) in
+    let cut : counted i (open_items formula order (suc place)) ≡ counted i (filter later (made formula order place))
+    + counted i (filter later result) =
+    ap (λ terms. counted i (filter later terms)) (sym (append_assoc (all_inputs (length formula.clauses))
+    (results formula order place) result))
+    ∙ ap (counted i) (filter-append later (made formula order place) result)
+    ∙ counted-append i (filter later (made formula order place)) (filter later result) in
     omega (
       arith,
       cut,
@@ -169,18 +196,26 @@ open_counted formula order zero i small =
     let all_open : open_items formula order 0 ≡ made formula order 0 =
     filter_all (λ term. nat_le 0 (first_place formula order term)) (made formula order 0) (λ k d within. le-leb 0 _ (omega arith)) in
     omega (arith, ap (counted i) all_open, counted-append i (all_inputs (length formula.clauses)) [])
-open_counted formula order (suc place) i small = open_next formula order place i small ∙ open_counted formula order place i (omega (arith, small))
+open_counted formula order (suc place) i small = open_next formula order place i small
+    ∙ open_counted formula order place i (omega (arith, small))
 
 pub open_once : (formula : Formula) (order : List ℕ) (place i : ℕ) → place ≤ length order → 0 < i → i ≤ length formula.clauses
     → counted i (open_items formula order place) ≡ 1
-open_once formula order place i small positive within = open_counted formula order place i small ∙ counted_once (length formula.clauses) i positive within
+open_once formula order place i small positive within = open_counted formula order place i small
+    ∙ counted_once (length formula.clauses) i positive within
 
 -- so have the items of the last bucket, that of the terms that hold no variable
-pub last_once : (formula : Formula) (order : List ℕ) (i : ℕ) → 0 < i → i ≤ length formula.clauses → counted i (items formula order (length order)) ≡ 1
+pub last_once : (formula : Formula) (order : List ℕ) (i : ℕ) → 0 < i → i ≤ length formula.clauses
+    → counted i (items formula order (length order)) ≡ 1
 last_once formula order i positive within =
-    let none : counted i (filter (λ term. nat_le (suc (length order)) (first_place formula order term)) (made formula order (length order))) ≡ 0 =
+    let none : counted i (filter (λ term. nat_le (suc (length order)) (first_place formula order term)) (made formula order (length order)))
+    ≡ 0 =
     counted_none i (λ term. nat_le (suc (length order)) (first_place formula order term)) (made formula order (length order))
-    (λ k d inside passes. absurd (omega (arith, leb-true _ _ passes, first_within formula order (slice_index_or (made formula order (length order)) k d)))) in
+    (λ k d inside passes. absurd (omega (
+      arith,
+      leb-true _ _ passes,
+      first_within formula order (slice_index_or (made formula order (length order)) k d),
+    ))) in
     omega (
       arith,
       none,
@@ -193,14 +228,21 @@ pub held_is_number : (formula : Formula) (order : List ℕ) (place i : ℕ) → 
     → (0 < i) × (i ≤ length formula.clauses)
 held_is_number formula order place i small held =
     is_number (length formula.clauses) i
-    (omega (arith, held, open_counted formula order place i small, counted_split i (first_place formula order) place (made formula order place)))
+    (omega (
+      arith,
+      held,
+      open_counted formula order place i small,
+      counted_split i (first_place formula order) place (made formula order place),
+    ))
 
 -- a term keeps the variables from a place on of the clauses inside
 abbrev KeepsFrom : Formula → List ℕ → ℕ → Term → Type 0
 KeepsFrom formula order place term =
-    (i j : ℕ) → place ≤ j → j < length order → 0 < times i term → holds_at formula order j i ≡ true → term_has formula (slice_index_or order j 0) term ≡ true
+    (i j : ℕ) → place ≤ j → j < length order → 0 < times i term → holds_at formula order j i ≡ true
+    → term_has formula (slice_index_or order j 0) term ≡ true
 
-both_keep : (formula : Formula) (order : List ℕ) (place : ℕ) (one other : Term) → KeepsFrom formula order place one → KeepsFrom formula order place other
+both_keep : (formula : Formula) (order : List ℕ) (place : ℕ) (one other : Term) → KeepsFrom formula order place one
+    → KeepsFrom formula order place other
     → KeepsFrom formula order place (both one other)
 both_keep formula order place one other left right i j late small inside held =
     elim (cases_eq (times i one) 0) [
@@ -212,27 +254,33 @@ some_value_keeps : (formula : Formula) (order : List ℕ) → IsOrder order → 
     → KeepsFrom formula order (suc place) (some_value (slice_index_or order place 0) term)
 some_value_keeps formula order sound place term keeps i j late small inside held =
     and_from _ _ (keeps i j (omega (arith, late)) small inside held)
-    (ap not (ne_eqb (slice_index_or order j 0) (slice_index_or order place 0) (λ same. omega (arith, sound.apart j place small (omega (arith, late, small)) same, late))))
+    (ap not (ne_eqb (slice_index_or order j 0) (slice_index_or order place 0)
+    (λ same. omega (arith, sound.apart j place small (omega (arith, late, small)) same, late))))
 
-made_keep : (formula : Formula) (order : List ℕ) → IsOrder order → (place : ℕ) → All (KeepsFrom formula order place) (made formula order place)
+made_keep : (formula : Formula) (order : List ℕ) → IsOrder order → (place : ℕ)
+    → All (KeepsFrom formula order place) (made formula order place)
 made_keep formula order sound zero =
     made_start (KeepsFrom formula order 0) formula order
     (λ number positive within i j late small inside held. subst (λ i. holds_at formula order j i ≡ true) (same_number i number inside) held)
 made_keep formula order sound (suc place) =
     let here = made_keep formula order sound place in
     made_all (KeepsFrom formula order (suc place)) formula order place
-    (All-weaker (KeepsFrom formula order place) (KeepsFrom formula order (suc place)) (λ term keeps i j late. keeps i j (omega (arith, late))) (made formula order place) here)
+    (All-weaker (KeepsFrom formula order place) (KeepsFrom formula order (suc place))
+    (λ term keeps i j late. keeps i j (omega (arith, late))) (made formula order place) here)
     (result_all (KeepsFrom formula order place) (KeepsFrom formula order (suc place)) (slice_index_or order place 0)
     (both_keep formula order place) (some_value_keeps formula order sound place) (items formula order place)
     (All-filter (λ term. first_place formula order term == place) (KeepsFrom formula order place) (made formula order place) here))
 
-pub kept_variables : (formula : Formula) (order : List ℕ) → IsOrder order → (place : ℕ) (term : Term) → Contains (made formula order place) term
+pub kept_variables : (formula : Formula) (order : List ℕ) → IsOrder order → (place : ℕ) (term : Term)
+    → Contains (made formula order place) term
     → (i j : ℕ) → place ≤ j → j < length order → 0 < times i term → holds_at formula order j i ≡ true
     → term_has formula (slice_index_or order j 0) term ≡ true
-kept_variables formula order sound place term here = All-contains (KeepsFrom formula order place) (made formula order place) term (made_keep formula order sound place) here
+kept_variables formula order sound place term here = All-contains (KeepsFrom formula order place) (made formula order place) term
+    (made_keep formula order sound place) here
 
 -- all clauses that hold a bucket's variable are in its items
-pub items_closed : (formula : Formula) (order : List ℕ) → IsOrder order → (place i : ℕ) → place < length order → 0 < i → i ≤ length formula.clauses
+pub items_closed : (formula : Formula) (order : List ℕ) → IsOrder order → (place i : ℕ) → place < length order → 0 < i → i
+    ≤ length formula.clauses
     → holds_at formula order place i ≡ true → counted i (items formula order place) ≡ 1
 items_closed formula order sound place i small positive within held =
     let later : Term → Bool = λ term. nat_le (suc place) (first_place formula order term) in
@@ -241,12 +289,23 @@ items_closed formula order sound place i small positive within held =
     (All-weaker (KeepsFrom formula order place) (λ term. later term ≡ true → times i term ≡ 0)
     (λ term keeps passes. elim (cases_eq (times i term) 0) [
       | inl without ↦ without
-      | inr inside ↦ absurd (omega (arith, leb-true _ _ passes, first_upto formula order place term (keeps i place (omega arith) small (omega (arith, inside)) held)))
+      | inr inside ↦ absurd (omega (
+        arith,
+        leb-true _ _ passes,
+        first_upto formula order place term
+            (keeps i place (omega arith) small (omega (arith, inside)) held),
+      ))
     ]) (made formula order place) (made_keep formula order sound place)) in
-    omega (arith, none, open_once formula order place i (omega (arith, small)) positive within, counted_split i (first_place formula order) place (made formula order place))
+    omega (
+      arith,
+      none,
+      open_once formula order place i (omega (arith, small)) positive within,
+      counted_split i (first_place formula order) place (made formula order place),
+    )
 
 -- and so in its result, which there is
-pub result_closed : (formula : Formula) (order : List ℕ) → IsOrder order → (place i : ℕ) → place < length order → 0 < i → i ≤ length formula.clauses
+pub result_closed : (formula : Formula) (order : List ℕ) → IsOrder order → (place i : ℕ) → place < length order → 0 < i → i
+    ≤ length formula.clauses
     → holds_at formula order place i ≡ true → (term : Term) × IsResult formula order place term × (times i term ≡ 1)
 result_closed formula order sound place i small positive within held =
     let closed = items_closed formula order sound place i small positive within held in
@@ -254,18 +313,23 @@ result_closed formula order sound place i small positive within held =
     (there.0, there.1, result_times formula order place there.0 i there.1 ∙ closed)
 
 -- an item holds its bucket's variable by a clause inside
-held_of_item : (formula : Formula) (order : List ℕ) (place : ℕ) (item : Term) → place < length order → Contains (items formula order place) item
+held_of_item : (formula : Formula) (order : List ℕ) (place : ℕ) (item : Term) → place < length order
+    → Contains (items formula order place) item
     → (i : ℕ) × (0 < i) × (i ≤ length formula.clauses) × (holds_at formula order place i ≡ true)
 held_of_item formula order place item small here =
-    let first = All-contains (λ term. first_place formula order term ≡ place) (items formula order place) item (items_first formula order place) here in
+    let first = All-contains (λ term. first_place formula order term
+    ≡ place) (items formula order place) item (items_first formula order place) here in
     let holds : term_has formula (slice_index_or order place 0) item ≡ true =
-    subst (λ k. term_has formula (slice_index_or order k 0) item ≡ true) first (passes_at_first (λ x. term_has formula x item) order 0 (omega (arith, first, small))) in
+    subst (λ k. term_has formula (slice_index_or order k 0) item
+    ≡ true) first (passes_at_first (λ x. term_has formula x item) order 0 (omega (arith, first, small))) in
     let inside = variable_of_input formula (slice_index_or order place 0) item holds in
-    let number = held_is_number formula order place inside.0 (omega (arith, small)) (omega (arith, inside.1, times_contained inside.0 (items formula order place) item here)) in
+    let number = held_is_number formula order place inside.0 (omega (arith, small))
+    (omega (arith, inside.1, times_contained inside.0 (items formula order place) item here)) in
     (inside.0, number.0, number.1, inside.2)
 
 -- A bucket is empty exactly where no clause holds its variable.
-pub held_of_items : (formula : Formula) (order : List ℕ) → (place : ℕ) (term : Term) → place < length order → IsResult formula order place term
+pub held_of_items : (formula : Formula) (order : List ℕ) → (place : ℕ) (term : Term) → place < length order
+    → IsResult formula order place term
     → (i : ℕ) × (0 < i) × (i ≤ length formula.clauses) × (holds_at formula order place i ≡ true)
 held_of_items formula order place term small made_here =
     let item = some_term (slice_index_or order place 0) (items formula order place) term made_here in
@@ -286,7 +350,8 @@ none_held formula order sound place i small empty positive within =
 pub first_is_held : (formula : Formula) (order : List ℕ) (term : Term) → first_place formula order term < length order
     → (i : ℕ) × (0 < times i term) × (holds_at formula order (first_place formula order term) i ≡ true)
 first_is_held formula order term small =
-    variable_of_input formula (slice_index_or order (first_place formula order term) 0) term (passes_at_first (λ x. term_has formula x term) order 0 small)
+    variable_of_input formula (slice_index_or order (first_place formula order term) 0) term
+    (passes_at_first (λ x. term_has formula x term) order 0 small)
 
 -- A result goes to the bucket of its first variable, and is among its result.
 pub climbs : (formula : Formula) (order : List ℕ) (place : ℕ) (term : Term) → place < length order → IsResult formula order place term
@@ -303,7 +368,8 @@ climbs formula order place term small made_here inner =
 
 -- Where a bucket has a clause, each term with that clause that was made before belongs to this bucket or to one before.
 upto_place : (formula : Formula) (order : List ℕ) (place : ℕ) (term : Term) (i : ℕ) → place ≤ length order
-    → Contains (made formula order place) term → 0 < times i term → 0 < counted i (items formula order place) → first_place formula order term ≤ place
+    → Contains (made formula order place) term → 0 < times i term → 0 < counted i (items formula order place)
+    → first_place formula order term ≤ place
 upto_place formula order place term i small here inside in_items =
     elim (cases_lt place (first_place formula order term)) [
       | inr early ↦ early
@@ -325,29 +391,44 @@ upto_place formula order place term i small here inside in_items =
 pub from_first : (formula : Formula) (order : List ℕ) (place i : ℕ) → place ≤ length order → 0 < i → i ≤ length formula.clauses
     → 0 < counted i (items formula order place) → first_place formula order (input i) ≤ place
 from_first formula order place i small positive within in_items =
-    let here = Contains-append_left (all_inputs (length formula.clauses)) (results formula order place) (input i) (input_contained (length formula.clauses) i positive within) in
+    let here = Contains-append_left (all_inputs (length formula.clauses)) (results formula order place) (input i)
+    (input_contained (length formula.clauses) i positive within) in
     upto_place formula order place (input i) i small here (omega (arith, times_itself i)) in_items
 
 pub at_first : (formula : Formula) (order : List ℕ) (i : ℕ) → 0 < i → i ≤ length formula.clauses
     → 0 < counted i (items formula order (first_place formula order (input i)))
 at_first formula order i positive within =
     let place = first_place formula order (input i) in
-    let here = Contains-append_left (all_inputs (length formula.clauses)) (results formula order place) (input i) (input_contained (length formula.clauses) i positive within) in
-    omega (arith, times_itself i, times_filtered i (λ term. first_place formula order term == place) (made formula order place) (input i) here (eq-eqb place place refl))
+    let here = Contains-append_left (all_inputs (length formula.clauses)) (results formula order place) (input i)
+    (input_contained (length formula.clauses) i positive within) in
+    omega (
+      arith,
+      times_itself i,
+      times_filtered i (λ term. first_place formula order term == place) (made formula order place)
+          (input i) here (eq-eqb place place refl),
+    )
 
 -- where the number of places between is below a number
-meets_within : (steps : ℕ) (formula : Formula) (order : List ℕ) (earlier place : ℕ) (one : Term) (i : ℕ) → place ≤ earlier + steps → earlier < place → place < length order
+meets_within : (steps : ℕ) (formula : Formula) (order : List ℕ) (earlier place : ℕ) (one : Term) (i : ℕ) → place ≤ earlier + steps → earlier
+    < place → place < length order
     → IsResult formula order earlier one → 0 < times i one → 0 < counted i (items formula order place)
     → (j : ℕ) → times j one ≤ counted j (items formula order place)
 meets_within zero formula order earlier place one i near before small made_one in_one in_items j = absurd (omega (arith, near, before))
 meets_within (suc steps) formula order earlier place one i near before small made_one in_one in_items j =
-    let upto = upto_place formula order place one i (omega (arith, small)) (result_made formula order earlier place one before made_one) in_one in_items in
+    let upto = upto_place formula order place one i (omega (arith, small))
+    (result_made formula order earlier place one before made_one) in_one in_items in
     let behind = (first_of_result formula order earlier one (omega (arith, before, small)) made_one).0 in
     let next = climbs formula order earlier one (omega (arith, before, small)) made_one (omega (arith, upto, small)) in
     elim (cases_eq (first_place formula order one) place) [
-      | inl same ↦ omega (arith, next.2 j, result_times formula order (first_place formula order one) next.0 j next.1, ap (λ k. counted j (items formula order k)) same)
+      | inl same ↦ omega (
+        arith,
+        next.2 j,
+        result_times formula order (first_place formula order one) next.0 j next.1,
+        ap (λ k. counted j (items formula order k)) same,
+      )
       | inr differ ↦
-          let rest = meets_within steps formula order (first_place formula order one) place next.0 i (omega (arith, near, behind)) (omega (arith, upto, differ)) small next.1
+          let rest = meets_within steps formula order (first_place formula order one) place next.0 i (omega (arith, near, behind))
+          (omega (arith, upto, differ)) small next.1
           (omega (arith, in_one, next.2 i)) in_items j in
           omega (arith, rest, next.2 j)
     ]
@@ -357,17 +438,25 @@ pub meets : (formula : Formula) (order : List ℕ) (earlier place : ℕ) (one ot
     → IsResult formula order earlier one → IsResult formula order place other → 0 < times i one → 0 < times i other
     → (first_place formula order one ≤ place) × ((j : ℕ) → times j one ≤ times j other)
 meets formula order earlier place one other i before small made_one made_other in_one in_other =
-    let in_items : 0 < counted i (items formula order place) = omega (arith, in_other, result_times formula order place other i made_other) in (
-      upto_place formula order place one i (omega (arith, small)) (result_made formula order earlier place one before made_one) in_one in_items,
-      (λ j. omega (arith, meets_within place formula order earlier place one i (omega arith) before small made_one in_one in_items j, result_times formula order place other j made_other)),
+    let in_items : 0 < counted i (items formula order place) = omega
+    (arith, in_other, result_times formula order place other i made_other) in (
+      upto_place formula order place one i (omega (arith, small))
+          (result_made formula order earlier place one before made_one) in_one in_items,
+      (λ j. omega (
+        arith,
+        meets_within place formula order earlier place one i (omega arith) before small made_one in_one in_items j,
+        result_times formula order place other j made_other,
+      )),
     )
 
 -- A result's first variable is the first one, behind the bucket's own, of the clauses inside.
-pub meets_variable : (formula : Formula) (order : List ℕ) → IsOrder order → (place : ℕ) (term : Term) (i j : ℕ) → IsResult formula order place term
+pub meets_variable : (formula : Formula) (order : List ℕ) → IsOrder order → (place : ℕ) (term : Term) (i j : ℕ)
+    → IsResult formula order place term
     → place < j → j < length order → 0 < times i term → holds_at formula order j i ≡ true → first_place formula order term ≤ j
 meets_variable formula order sound place term i j made_here late small inside held =
     first_upto formula order j term
-    (kept_variables formula order sound (suc place) term (result_made formula order place (suc place) term (omega arith) made_here) i j late small inside held)
+    (kept_variables formula order sound (suc place) term (result_made formula order place (suc place) term
+    (omega arith) made_here) i j late small inside held)
 
 -- quantified variables are closed inside all terms
 pub terms_closed : (formula : Formula) (order : List ℕ) → IsOrder order → length order ≡ formula.vars → (place : ℕ) → place ≤ length order
@@ -381,7 +470,9 @@ terms_closed formula order sound order_is (suc place) small =
     (λ i positive within held. omega (arith, items_closed formula order sound place i small positive within held))
     (All-filter (λ term. first_place formula order term == place) (IsClosed formula) (made formula order place) here))
 
-pub items_are_closed : (formula : Formula) (order : List ℕ) → IsOrder order → length order ≡ formula.vars → (place : ℕ) → place ≤ length order
+pub items_are_closed : (formula : Formula) (order : List ℕ) → IsOrder order → length order ≡ formula.vars → (place : ℕ) → place
+    ≤ length order
     → All (IsClosed formula) (items formula order place)
 items_are_closed formula order sound order_is place small =
-    All-filter (λ term. first_place formula order term == place) (IsClosed formula) (made formula order place) (terms_closed formula order sound order_is place small)
+    All-filter (λ term. first_place formula order term == place) (IsClosed formula) (made formula order place)
+    (terms_closed formula order sound order_is place small)

@@ -1,5 +1,6 @@
 -- How clauses climb: what has been climbed over points to an item above it, and has its bucket.
-use Rattle.std.proofs.Common.{◌≡◌, ℕ, ◌+◌, ◌-◌, ◌<◌, ◌≤◌, ◌⊎◌, ◌≢◌, inl, inr, Bool, true, List, Option, None, Some, length, set, slice_index, slice_index_or, refl, sym, ap, ◌∙◌, subst, arith, get_or-set_same, get_or-set_other, length-set}
+use Rattle.std.proofs.Common.{◌≡◌, ℕ, ◌+◌, ◌-◌, ◌<◌, ◌≤◌, ◌⊎◌, ◌≢◌, inl, inr, Bool, true, List, Option, None, Some, length, set}
+use Rattle.std.proofs.Common.{slice_index, slice_index_or, refl, sym, ap, ◌∙◌, subst, arith, get_or-set_same, get_or-set_other, length-set}
 use Rattle.std.proofs.lemmas.Bool.{cases_eq, cases_lt}
 use Rattle.std.proofs.lemmas.Option.{none-some, same_Some}
 use Rattle.schedule_plan.specs.declared.occurrence.Occurrence.{Occurrence}
@@ -34,7 +35,8 @@ count s = s.clauses + s.variables
 pub record AreSorted (s : Items) : Type 0 where
   pub sorted : (i j : ℕ) → i ≤ j → j < length s.occurrences → place_at s.occurrences i ≤ place_at s.occurrences j
   pub sound : (k : ℕ) → k < length s.occurrences
-      → (place_at s.occurrences k < s.variables) × (clause_at s.occurrences k < s.clauses) × (s.held (place_at s.occurrences k) (clause_at s.occurrences k) ≡ true)
+      → (place_at s.occurrences k < s.variables) × (clause_at s.occurrences k < s.clauses)
+      × (s.held (place_at s.occurrences k) (clause_at s.occurrences k) ≡ true)
   pub complete : (place clause : ℕ) → place < s.variables → clause < s.clauses → s.held place clause ≡ true
       → (k : ℕ) × (k < length s.occurrences) × (place_at s.occurrences k ≡ place) × (clause_at s.occurrences k ≡ clause)
 
@@ -42,8 +44,10 @@ pub record AreSorted (s : Items) : Type 0 where
 pub record AreFacts (s : Items) : Type 0 where
   pub own : (clause : ℕ) → clause < s.clauses → 0 < s.amount clause clause
   pub alone : (item clause : ℕ) → item < s.clauses → 0 < s.amount item clause → item ≡ clause
-  pub closed : (place clause : ℕ) → place < s.variables → clause < s.clauses → s.held place clause ≡ true → 0 < s.amount (s.clauses + place) clause
-  pub meets : (item place clause : ℕ) → item < s.clauses + place → place < s.variables → 0 < s.amount item clause → 0 < s.amount (s.clauses + place) clause
+  pub closed : (place clause : ℕ) → place < s.variables → clause < s.clauses → s.held place clause ≡ true → 0
+      < s.amount (s.clauses + place) clause
+  pub meets : (item place clause : ℕ) → item < s.clauses + place → place < s.variables → 0 < s.amount item clause → 0
+      < s.amount (s.clauses + place) clause
       → (s.first item ≤ place) × ((other : ℕ) → 0 < s.amount item other → 0 < s.amount (s.clauses + place) other)
   pub first_held : (item : ℕ) → item < count s → s.first item < s.variables
       → (clause : ℕ) × (clause < s.clauses) × (0 < s.amount item clause) × (s.held (s.first item) clause ≡ true)
@@ -66,11 +70,13 @@ pub record IsClimbed (s : Items) (n : ℕ) (buckets : List ℕ) (above : List (O
       × ((place : ℕ) × (clause : ℕ) × IsSeen s n place clause × (up ≡ s.clauses + place) × (item < up) × (0 < s.amount item clause))
 
 -- While the clause of the next occurrence climbs: what changed is below the item that it has come to.
-pub record IsClimbing (s : Items) (n : ℕ) (start : List ℕ) (starts : List (Option ℕ)) (buckets : List ℕ) (above : List (Option ℕ)) (at : ℕ) : Type 0 where
+pub record IsClimbing (s : Items) (n : ℕ) (start : List ℕ) (starts : List (Option ℕ)) (buckets : List ℕ) (above : List (Option ℕ))
+    (at : ℕ) : Type 0 where
   pub buckets_count : length buckets ≡ count s
   pub above_count : length above ≡ count s
   pub inside : 0 < s.amount at (clause_at s.occurrences n)
-  pub frontier : (item : ℕ) → item < s.clauses + place_at s.occurrences n → 0 < s.amount item (clause_at s.occurrences n) → above_at above item ≡ None → at ≤ item
+  pub frontier : (item : ℕ) → item < s.clauses + place_at s.occurrences n → 0 < s.amount item (clause_at s.occurrences n)
+      → above_at above item ≡ None → at ≤ item
   pub changed : (item : ℕ) → item < count s
       → ((above_at above item ≡ above_at starts item) × (slice_index buckets item ≡ slice_index start item))
       ⊎ ((item < at) × (item < s.clauses + place_at s.occurrences n) × (0 < s.amount item (clause_at s.occurrences n))
@@ -92,10 +98,16 @@ climb_first s n buckets above facts all small before =
     }
 
 -- an item that is climbed over and has its clause in a further one: the further one is a bucket's result
-further : (s : Items) (item other clause : ℕ) → AreFacts s → item < other → 0 < s.amount item clause → 0 < s.amount other clause → s.clauses ≤ other
+further : (s : Items) (item other clause : ℕ) → AreFacts s → item < other → 0 < s.amount item clause → 0 < s.amount other clause → s.clauses
+    ≤ other
 further s item other clause facts less has others =
     elim (cases_lt other s.clauses) [
-      | inl early ↦ absurd (omega (arith, less, facts.alone item clause (omega (arith, less, early)) has, facts.alone other clause early others))
+      | inl early ↦ absurd (omega (
+        arith,
+        less,
+        facts.alone item clause (omega (arith, less, early)) has,
+        facts.alone other clause early others,
+      ))
       | inr late ↦ late
     ]
 
@@ -126,10 +138,12 @@ untouched s n start starts buckets above at item now within late =
       | inr passed ↦ absurd (omega (arith, passed.0, late))
     ]
 
-unset : (above : List (Option ℕ)) (at item up : ℕ) → at < length above → above_at (set above at (Some up)) item ≡ None → (item ≢ at) × (above_at above item ≡ None)
+unset : (above : List (Option ℕ)) (at item up : ℕ) → at < length above → above_at (set above at (Some up)) item ≡ None → (item ≢ at)
+    × (above_at above item ≡ None)
 unset above at item up small none =
     elim (cases_eq item at) [
-      | inl same ↦ absurd (none-some up (sym none ∙ ap (above_at (set above at (Some up))) same ∙ get_or-set_same above at (Some up) None small))
+      | inl same ↦ absurd (none-some up (sym none ∙ ap (above_at (set above at (Some up))) same
+          ∙ get_or-set_same above at (Some up) None small))
       | inr differ ↦ (differ, sym (get_or-set_other above at item (Some up) None differ) ∙ none)
     ]
 
@@ -157,7 +171,8 @@ climb_next s n start starts buckets above at next facts all small before now bel
     let seen = all.sound old.1.2.0 (omega (arith, old.1.2.1, small)) in
     let inner : place < s.variables = omega (arith, seen.0, old.1.2.2) in
     let number : other < s.clauses = omega (arith, seen.1, old.1.2.3) in
-    let held : s.held place other ≡ true = ap (λ p. s.held p other) (sym old.1.2.2) ∙ ap (s.held (place_at s.occurrences old.1.2.0)) (sym old.1.2.3) ∙ seen.2 in
+    let held : s.held place other ≡ true = ap (λ p. s.held p other) (sym old.1.2.2)
+    ∙ ap (s.held (place_at s.occurrences old.1.2.0)) (sym old.1.2.3) ∙ seen.2 in
     let upper = facts.meets at place other (omega (arith, old.1.3, old.1.4)) inner old.1.5 (facts.closed place other inner number held) in
     let length_is : at < length above = omega (arith, within, now.above_count) in (
       old.1.4,
@@ -177,7 +192,8 @@ climb_next s n start starts buckets above at next facts all small before now bel
                   let has_q : 0 < s.amount (s.clauses + q) clause = subst (λ (i : ℕ). 0 < s.amount i clause) is has in
                   let all_of = facts.meets at q clause (omega (arith, after, is)) (omega (arith, there, is)) now.inside has_q in
                   let has_other : 0 < s.amount item other = subst (λ (i : ℕ). 0 < s.amount i other) (sym is) (all_of.1 other old.1.5) in
-                  absurd ((before.none item there (was_none s n start starts buckets above at item now there free.1)).1 place other old.1.2 (omega (arith, early, old.1.3)) has_other)
+                  absurd ((before.none item there (was_none s n start starts buckets above at item now there free.1)).1 place other old.1.2
+                  (omega (arith, early, old.1.3)) has_other)
               | inr late ↦ late
             ];
         changed = λ item there. elim (cases_eq item at) [
@@ -189,7 +205,8 @@ climb_next s n start starts buckets above at next facts all small before now bel
             ap (slice_index buckets) same ∙ kept.1 ∙ old.0 ∙ ap s.first (sym same),
           )
           | inr differ ↦
-              let same : above_at (set above at (Some top)) item ≡ above_at above item = get_or-set_other above at item (Some top) None differ in
+              let same : above_at (set above at (Some top)) item
+              ≡ above_at above item = get_or-set_other above at item (Some top) None differ in
               elim (now.changed item there) [
                 | inl as_before ↦ inl (same ∙ as_before.0, as_before.1)
                 | inr passed ↦ inr (omega (arith, passed.0, old.1.4), passed.1, passed.2, same ∙ passed.3, passed.4)
@@ -211,7 +228,8 @@ climb_root s n start starts buckets above at facts all small before now below po
     let within : at < count s = omega (arith, below, one.0) in
     let length_is : at < length above = omega (arith, within, now.above_count) in
     let buckets_are : at < length buckets = omega (arith, within, now.buckets_count) in
-    let unseen : place ≤ s.first at = not_before s n at start starts facts all small before within (was_none s n start starts buckets above at at now within points) in
+    let unseen : place ≤ s.first at = not_before s n at start starts facts all small before within
+    (was_none s n start starts buckets above at at now within points) in
     let inside_top : 0 < s.amount top clause = facts.closed place clause one.0 one.1 one.2 in
     let upper = facts.meets at place clause below one.0 now.inside inside_top in
     let first_is : place ≡ s.first at = omega (arith, unseen, upper.0) in
@@ -237,8 +255,10 @@ climb_root s n start starts buckets above at facts all small before now below po
           ap (slice_index (set buckets at place)) same ∙ get_or-set_same buckets at place 0 buckets_are ∙ first_is ∙ ap s.first (sym same),
         )
         | inr differ ↦
-            let same : above_at (set above at (Some top)) item ≡ above_at above item = get_or-set_other above at item (Some top) None differ in
-            let bucket : slice_index (set buckets at place) item ≡ slice_index buckets item = get_or-set_other buckets at item place 0 differ in
+            let same : above_at (set above at (Some top)) item ≡ above_at above item = get_or-set_other above at item
+            (Some top) None differ in
+            let bucket : slice_index (set buckets at place) item
+            ≡ slice_index buckets item = get_or-set_other buckets at item place 0 differ in
             elim (now.changed item there) [
               | inl as_before ↦ inl (same ∙ as_before.0, bucket ∙ as_before.1)
               | inr passed ↦ inr (passed.1, passed.1, passed.2, same ∙ passed.3, bucket ∙ passed.4)
@@ -267,7 +287,14 @@ climb_last s n start starts buckets above at before now past = record {
               let is : seen.0 ≡ n = omega (arith, late, seen.1) in
               let place_is : place ≡ place_at s.occurrences n = sym seen.2 ∙ ap (place_at s.occurrences) is in
               let clause_is : clause ≡ clause_at s.occurrences n = sym seen.3 ∙ ap (clause_at s.occurrences) is in
-              omega (arith, past, place_is, lower, now.frontier item (omega (arith, lower, place_is)) (subst (λ (i : ℕ). 0 < s.amount item i) clause_is has) none)
+              omega (
+                arith,
+                past,
+                place_is,
+                lower,
+                now.frontier item (omega (arith, lower, place_is))
+                    (subst (λ (i : ℕ). 0 < s.amount item i) clause_is has) none,
+              )
         ],
       );
   some = λ item up within points. elim (now.changed item within) [
@@ -275,8 +302,17 @@ climb_last s n start starts buckets above at before now past = record {
         let old = before.some item up within (sym same.0 ∙ points) in
         (same.1 ∙ old.0, (old.1.0, old.1.1, seen_more s n old.1.0 old.1.1 old.1.2, old.1.3, old.1.4, old.1.5))
     | inr passed ↦
-        let is : up ≡ s.clauses + place_at s.occurrences n = same_Some up (s.clauses + place_at s.occurrences n) (sym points ∙ passed.3) in
-        (passed.4, (place_at s.occurrences n, clause_at s.occurrences n, (n, omega arith, refl, refl), is, omega (arith, is, passed.1), passed.2))
+        let is : up ≡ s.clauses + place_at s.occurrences n = same_Some up (s.clauses + place_at s.occurrences n) (sym points ∙ passed.3) in (
+          passed.4,
+          (
+            place_at s.occurrences n,
+            clause_at s.occurrences n,
+            (n, omega arith, refl, refl),
+            is,
+            omega (arith, is, passed.1),
+            passed.2,
+          ),
+        )
   ];
 }
 
@@ -291,12 +327,14 @@ climbed_all s buckets above facts all done item within =
           elim (cases_lt (s.first item) s.variables) [
             | inl inner ↦
                 let held = facts.first_held item within inner in
-                absurd (old.1 (s.first item) held.0 (all.complete (s.first item) held.0 inner held.1 held.3) (facts.later item within) held.2)
+                absurd (old.1 (s.first item) held.0 (all.complete (s.first item) held.0 inner held.1 held.3)
+                (facts.later item within) held.2)
             | inr outer ↦ old.0 ∙ facts.unheld item within outer
           ]
     ] refl
 
-pub climbed_none : (s : Items) (above : List (Option ℕ)) → length s.fresh ≡ count s → length above ≡ count s → ((item : ℕ) → above_at above item ≡ None)
+pub climbed_none : (s : Items) (above : List (Option ℕ)) → length s.fresh ≡ count s → length above ≡ count s
+    → ((item : ℕ) → above_at above item ≡ None)
     → IsClimbed s 0 s.fresh above
 climbed_none s above fresh_count above_count none = record {
   buckets_count = fresh_count;

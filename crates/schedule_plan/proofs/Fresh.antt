@@ -1,5 +1,6 @@
 -- The buckets before any occurrence is looked at: those of variables that occur are told apart.
-use Rattle.std.proofs.Common.{◌≡◌, ℕ, suc, ◌+◌, ◌<◌, ◌⊎◌, ◌≢◌, inl, inr, true, List, length, set, slice_index, slice_index_or, sym, ap, ◌∙◌, subst, arith, get_or-set_same, get_or-set_other, length-set}
+use Rattle.std.proofs.Common.{◌≡◌, ℕ, suc, ◌+◌, ◌<◌, ◌⊎◌, ◌≢◌, inl, inr, true, List, length, set, slice_index, slice_index_or, sym, ap, ◌∙◌}
+use Rattle.std.proofs.Common.{subst, arith, get_or-set_same, get_or-set_other, length-set}
 use Rattle.std.proofs.lemmas.Bool.{cases_eq, cases_Bool, cases_lt}
 use Rattle.std.proofs.lemmas.List.{get_or_default}
 use Rattle.cnf_base.specs.Formula.{Formula}
@@ -58,7 +59,8 @@ fresh_more clauses variables occurrences n buckets inside before =
       ];
     }
 
-pub fresh_last : (formula : Formula) (order : List ℕ) (occurrences : List Occurrence) (buckets : List ℕ) → AreOccurrences formula order occurrences
+pub fresh_last : (formula : Formula) (order : List ℕ) (occurrences : List Occurrence) (buckets : List ℕ)
+    → AreOccurrences formula order occurrences
     → IsFreshAfter (length formula.clauses) (length order) occurrences (length occurrences) buckets → AreFresh formula order buckets
 fresh_last formula order occurrences buckets all done = record {
   count = done.count;

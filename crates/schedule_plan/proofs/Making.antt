@@ -1,12 +1,15 @@
 -- The moves of a closed term, none of whose clauses is pushed yet, are possible, and put it on the stack.
-use Rattle.std.proofs.Common.{◌≡◌, ℕ, zero, suc, ◌+◌, ◌<◌, ◌≤◌, true, false, ◌&&◌, cond, List, [], ◌∷◌, ◌++◌, length, None, Some, refl, ap, ◌∙◌, arith, inl, inr, eq-eqb}
+use Rattle.std.proofs.Common.{◌≡◌, ℕ, zero, suc, ◌+◌, ◌<◌, ◌≤◌, true, false, ◌&&◌, cond, List, [], ◌∷◌, ◌++◌, length, None, Some, refl, ap}
+use Rattle.std.proofs.Common.{◌∙◌, arith, inl, inr, eq-eqb}
 use Rattle.std.specs.Prelude.{not, nat_lt, nat_le, ◌==◌, if◌then◌else◌}
 use Rattle.std.specs.List.{list_any}
 use Rattle.std.specs.Option.{option_and_then}
-use Rattle.std.proofs.lemmas.Bool.{cases_eq, cases_Bool, lt-ltb, le-leb, ne_eqb, and_from, and_left, and_right, or_left, or_right, or_from, or_cases, false_from_ne_true, both_ways}
+use Rattle.std.proofs.lemmas.Bool.{cases_eq, cases_Bool, lt-ltb, le-leb, ne_eqb, and_from, and_left, and_right, or_left, or_right, or_from}
+use Rattle.std.proofs.lemmas.Bool.{or_cases, false_from_ne_true, both_ways}
 use Rattle.cnf_base.specs.Formula.{Formula}
 use Rattle.schedule_plan.specs.declared.plan.Move.TheVariants.{And, Exists}
-use Rattle.schedule_plan.specs.Plan.{Term, input, both, some_value, term_has, clause_has, clause_of_number, Stage, after_moves, after_push, after_exists, is_pushed, holds_later}
+use Rattle.schedule_plan.specs.Plan.{Term, input, both, some_value, term_has, clause_has, clause_of_number, Stage, after_moves, after_push}
+use Rattle.schedule_plan.specs.Plan.{after_exists, is_pushed, holds_later}
 use Rattle.schedule_plan.specs.Bucket.{moves_of}
 use Rattle.schedule_plan.proofs.Admissible.{append}
 use Rattle.schedule_plan.proofs.Terms.{times, counted, IsClosed, variable_of_input}
@@ -53,7 +56,8 @@ not_pushed : (i : ℕ) (js : List ℕ) → standing i js ≡ 0 → is_pushed js 
 not_pushed i [] none = refl
 not_pushed i (j ∷ js) none =
     elim (cases_eq j i) [
-      | inl same ↦ absurd (let own : standing i (j ∷ js) ≡ 1 + standing i js = ap (λ b. cond b 1 0 + standing i js) (eq-eqb j i same) in omega (arith, none, own))
+      | inl same ↦ absurd (let own : standing i (j ∷ js) ≡ 1 + standing i js = ap (λ b. cond b 1 0 + standing i js) (eq-eqb j i same) in
+          omega (arith, none, own))
       | inr differ ↦
           let skipped : standing i (j ∷ js) ≡ standing i js = ap (λ b. cond b 1 0 + standing i js) (ne_eqb j i differ) ∙ omega arith in
           or_from (j == i) (is_pushed js i) (ne_eqb j i differ) (not_pushed i js (omega (arith, none, skipped)))
@@ -66,11 +70,13 @@ standing_after i (both one other) pushed =
 standing_after i (some_value x term) pushed = standing_after i term pushed
 
 -- a closed term's clauses are the formula's
-pub inputs_within : (formula : Formula) (term : Term) → IsClosed formula term → (i : ℕ) → 0 < times i term → (0 < i) × (i ≤ length formula.clauses)
+pub inputs_within : (formula : Formula) (term : Term) → IsClosed formula term → (i : ℕ) → 0 < times i term → (0 < i)
+    × (i ≤ length formula.clauses)
 inputs_within formula (input j) closed i there =
     elim (cases_eq j i) [
       | inl same ↦ (omega (arith, closed.0, same), omega (arith, closed.1, same))
-      | inr differ ↦ absurd (let skipped : times i (input j) ≡ 0 = ap (λ b. cond b 1 0) (ne_eqb j i differ) in omega (arith, there, skipped))
+      | inr differ ↦ absurd (let skipped : times i (input j) ≡ 0 = ap (λ b. cond b 1 0) (ne_eqb j i differ) in
+          omega (arith, there, skipped))
     ]
 inputs_within formula (both one other) closed i there =
     elim (cases_eq (times i one) 0) [
@@ -101,7 +107,8 @@ none_later formula pushed x (suc n) all =
     ])
     (none_later formula pushed x n (λ i positive small has. all i positive (omega (arith, small)) has))
 
-IsSound-with_term : (formula : Formula) (stage : Stage) (term : Term) → IsSound formula stage → IsClosed formula term → IsSound formula (with_term stage term)
+IsSound-with_term : (formula : Formula) (stage : Stage) (term : Term) → IsSound formula stage → IsClosed formula term
+    → IsSound formula (with_term stage term)
 IsSound-with_term formula stage term sound closed = record {
   within = λ i there.
       elim (cases_eq (times i term) 0) [
@@ -122,7 +129,8 @@ push_possible formula stage i small new =
     ap (λ b. if b then Some (with_term stage (input i)) else None) possible
 
 -- No other stacked term holds the variable: its clauses that hold it would be in this term, and new.
-none_stacked : (formula : Formula) (stage : Stage) (x : ℕ) (term : Term) → IsSound formula stage → IsClosed formula (some_value x term) → AreNew term stage.pushed
+none_stacked : (formula : Formula) (stage : Stage) (x : ℕ) (term : Term) → IsSound formula stage → IsClosed formula (some_value x term)
+    → AreNew term stage.pushed
     → list_any (term_has formula x) stage.stack ≡ false
 none_stacked formula stage x term sound closed new = false_from_ne_true (list_any (term_has formula x) stage.stack) (λ has.
     let found = held_by_some formula x stage.stack has in
@@ -130,28 +138,33 @@ none_stacked formula stage x term sound closed new = false_from_ne_true (list_an
     let small = sound.within found.0 pushed in
     omega (arith, pushed, closed.2 found.0 small.0 small.1 found.2, new found.0))
 
-exists_possible : (formula : Formula) (stage : Stage) (x : ℕ) (term : Term) → IsSound formula stage → IsClosed formula (some_value x term) → AreNew term stage.pushed
+exists_possible : (formula : Formula) (stage : Stage) (x : ℕ) (term : Term) → IsSound formula stage → IsClosed formula (some_value x term)
+    → AreNew term stage.pushed
     → after_exists formula (with_term stage term) x (term ∷ stage.stack) ≡ Some (with_term stage (some_value x term))
 exists_possible formula stage x term sound closed new =
     let later : holds_later formula (pushed_after term stage.pushed) x (length formula.clauses) ≡ false =
     none_later formula (pushed_after term stage.pushed) x (length formula.clauses)
     (λ i positive small has. omega (arith, closed.2 i positive small has, standing_after i term stage.pushed)) in
-    let possible : (nat_lt 0 x && nat_le x formula.vars && not (list_any (term_has formula x) stage.stack) && not (holds_later formula (pushed_after term stage.pushed) x (length formula.clauses))) ≡ true =
-    and_from (nat_lt 0 x && nat_le x formula.vars && not (list_any (term_has formula x) stage.stack)) (not (holds_later formula (pushed_after term stage.pushed) x (length formula.clauses)))
+    let possible : (nat_lt 0 x && nat_le x formula.vars && not (list_any (term_has formula x) stage.stack)
+    && not (holds_later formula (pushed_after term stage.pushed) x (length formula.clauses))) ≡ true =
+    and_from (nat_lt 0 x && nat_le x formula.vars && not (list_any (term_has formula x) stage.stack))
+    (not (holds_later formula (pushed_after term stage.pushed) x (length formula.clauses)))
     (and_from (nat_lt 0 x && nat_le x formula.vars) (not (list_any (term_has formula x) stage.stack))
     (and_from (nat_lt 0 x) (nat_le x formula.vars) (lt-ltb 0 x closed.0) (le-leb x formula.vars closed.1))
     (ap not (none_stacked formula stage x term sound closed new)))
     (ap not later) in
     ap (λ b. if b then Some (with_term stage (some_value x term)) else None) possible
 
-pub makes_term : (formula : Formula) (stage : Stage) (term : Term) → IsSound formula stage → IsClosed formula term → AreNew term stage.pushed
+pub makes_term : (formula : Formula) (stage : Stage) (term : Term) → IsSound formula stage → IsClosed formula term
+    → AreNew term stage.pushed
     → after_moves formula stage (moves_of term) ≡ Some (with_term stage term)
 makes_term formula stage (input i) sound closed new = ap (option_and_then (λ later. Some later)) (push_possible formula stage i closed new)
 makes_term formula stage (both one other) sound closed new =
     append formula stage (moves_of one ++ moves_of other) (And ∷ [])
     ∙ ap (option_and_then (λ later. after_moves formula later (And ∷ [])))
     (append formula stage (moves_of one) (moves_of other)
-    ∙ ap (option_and_then (λ later. after_moves formula later (moves_of other))) (makes_term formula stage one sound closed.0 (λ i. omega (arith, new i)))
+    ∙ ap (option_and_then (λ later. after_moves formula later (moves_of other)))
+    (makes_term formula stage one sound closed.0 (λ i. omega (arith, new i)))
     ∙ makes_term formula (with_term stage one) other (IsSound-with_term formula stage one sound closed.0) closed.1
     (λ i. omega (arith, new i, standing_after i one stage.pushed)))
 makes_term formula stage (some_value x term) sound closed new =

@@ -33,7 +33,12 @@ natural_is_order n = record {
       let at = natural_at n place (omega (arith, small, length-natural n)) in
       (omega (arith, at), omega (arith, at, small));
   apart = λ place other small late same.
-      omega (arith, natural_at n place (omega (arith, small, length-natural n)), natural_at n other (omega (arith, late, length-natural n)), same);
+      omega (
+        arith,
+        natural_at n place (omega (arith, small, length-natural n)),
+        natural_at n other (omega (arith, late, length-natural n)),
+        same,
+      );
   each = λ variable positive small.
       let inside : variable - 1 < n = omega (arith, positive, small, length-natural n) in
       (variable - 1, omega (arith, inside, length-natural n), natural_at n (variable - 1) inside ∙ omega (arith, positive));

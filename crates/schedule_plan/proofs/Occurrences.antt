@@ -1,5 +1,6 @@
 -- The literals of all clauses, each with the place of its variable, are all occurrences.
-use Rattle.std.proofs.Common.{◌≡◌, ℕ, zero, suc, ◌+◌, ◌-◌, ◌<◌, ◌≤◌, ◌==◌, ℤ, nat_abs, inl, inr, true, List, [], length, map, slice_index, slice_index_or, All, Contains, IsPermutation, sym, ap, ◌∙◌, subst, arith, eq-eqb, eqb-true}
+use Rattle.std.proofs.Common.{◌≡◌, ℕ, zero, suc, ◌+◌, ◌-◌, ◌<◌, ◌≤◌, ◌==◌, ℤ, nat_abs, inl, inr, true, List, [], length, map, slice_index}
+use Rattle.std.proofs.Common.{slice_index_or, All, Contains, IsPermutation, sym, ap, ◌∙◌, subst, arith, eq-eqb, eqb-true}
 use Rattle.std.specs.Prelude.{nat_lt, nat_le, IsTrue}
 use Rattle.std.specs.List.{list_all}
 use Rattle.std.specs.List.Sorted.{IsNonDecreasingBy}
@@ -18,7 +19,8 @@ use Rattle.schedule_plan.specs.Forest.{ArePlaces, is_held, occurrence_of, occurr
 
 -- the literals of a clause are of the formula's variables
 pub literals_of : (formula : Formula) (n k : ℕ) (d : ℤ) → AreClausesOf formula.vars formula.clauses → n < length formula.clauses
-    → k < length (clause_of_number formula (suc n)) → (0 < nat_abs (slice_index_or (clause_of_number formula (suc n)) k d)) × (nat_abs (slice_index_or (clause_of_number formula (suc n)) k d) ≤ formula.vars)
+    → k < length (clause_of_number formula (suc n)) → (0 < nat_abs (slice_index_or (clause_of_number formula (suc n)) k d))
+    × (nat_abs (slice_index_or (clause_of_number formula (suc n)) k d) ≤ formula.vars)
 literals_of formula n k d of_vars small within =
     let same : suc n - 1 ≡ n = omega arith in
     let clause : list_all (is_literal_of formula.vars) (clause_of_number formula (suc n)) ≡ true =
@@ -30,7 +32,8 @@ literals_of formula n k d of_vars small within =
     (ltb-true 0 (nat_abs literal) parts.0, leb-true (nat_abs literal) formula.vars parts.1)
 
 -- so each is within the places
-pub literals_within : (formula : Formula) (n count : ℕ) → AreClausesOf formula.vars formula.clauses → n < length formula.clauses → count ≡ formula.vars + 1
+pub literals_within : (formula : Formula) (n count : ℕ) → AreClausesOf formula.vars formula.clauses → n < length formula.clauses → count
+    ≡ formula.vars + 1
     → IsTrue (list_all (λ (literal : ℤ). nat_lt (nat_abs literal) count) (clause_of_number formula (suc n)))
 literals_within formula n count of_vars small is =
     list_all-from_AllPass (λ (literal : ℤ). nat_lt (nat_abs literal) count) (clause_of_number formula (suc n))
@@ -49,14 +52,17 @@ sound_clause formula order places n sound right order_is of_vars small k d withi
       place = omega (arith, place, at.1);
       clause = small;
       held = subst (λ (p : ℕ). is_held formula order p n ≡ true) (sym place)
-          (list_any_at (λ (l : ℤ). nat_abs l == slice_index_or order at.0 0) clause k d within (eq-eqb (nat_abs literal) (slice_index_or order at.0 0) (sym at.2)));
+          (list_any_at (λ (l : ℤ). nat_abs l == slice_index_or order at.0 0) clause k d within
+          (eq-eqb (nat_abs literal) (slice_index_or order at.0 0) (sym at.2)));
     }
 
 gathered_sound : (formula : Formula) (order places : List ℕ) (n : ℕ) → IsOrder order → ArePlaces order places → length order ≡ formula.vars
-    → AreClausesOf formula.vars formula.clauses → n ≤ length formula.clauses → All (IsOccurrence formula order) (occurrences_of places formula n)
+    → AreClausesOf formula.vars formula.clauses → n ≤ length formula.clauses
+    → All (IsOccurrence formula order) (occurrences_of places formula n)
 gathered_sound formula order places zero sound right order_is of_vars small = All-nil (IsOccurrence formula order)
 gathered_sound formula order places (suc n) sound right order_is of_vars small =
-    All-append (IsOccurrence formula order) (occurrences_of places formula n) (map (occurrence_of places n) (clause_of_number formula (suc n)))
+    All-append (IsOccurrence formula order) (occurrences_of places formula n)
+    (map (occurrence_of places n) (clause_of_number formula (suc n)))
     (gathered_sound formula order places n sound right order_is of_vars (omega (arith, small)))
     (All-map (IsOccurrence formula order) (occurrence_of places n) (clause_of_number formula (suc n))
     (sound_clause formula order places n sound right order_is of_vars small))
@@ -75,10 +81,12 @@ complete_clause formula order places place n right small held =
     ap (slice_index places) (eqb-true (nat_abs any.1) (slice_index_or order place 0) any.4) ∙ right.right place small in (
       any.0,
       omega (arith, any.2, length-map clause (occurrence_of places n)),
-      get_or-map (occurrence_of places n) clause any.0 any.1 one any.2 ∙ ap (occurrence_of places n) any.3 ∙ ap (λ (p : ℕ). occurrence_at p n) at,
+      get_or-map (occurrence_of places n) clause any.0 any.1 one any.2 ∙ ap (occurrence_of places n) any.3
+          ∙ ap (λ (p : ℕ). occurrence_at p n) at,
     )
 
-gathered_complete : (formula : Formula) (order places : List ℕ) (place clause n : ℕ) → ArePlaces order places → place < length order → clause < n
+gathered_complete : (formula : Formula) (order places : List ℕ) (place clause n : ℕ) → ArePlaces order places → place < length order
+    → clause < n
     → is_held formula order place clause ≡ true → Contains (occurrences_of places formula n) (record { place = place; clause = clause })
 gathered_complete formula order places place clause zero right small early held = absurd (omega (arith, early))
 gathered_complete formula order places place clause (suc n) right small early held =
@@ -95,7 +103,8 @@ gathered_complete formula order places place clause (suc n) right small early he
 
 pub all_occurrences : (formula : Formula) (order places : List ℕ) (occurrences : List Occurrence) → IsOrder order → ArePlaces order places
     → length order ≡ formula.vars → AreClausesOf formula.vars formula.clauses
-    → IsPermutation (occurrences_of places formula (length formula.clauses)) occurrences → IsNonDecreasingBy (λ (one : Occurrence). one.place) occurrences
+    → IsPermutation (occurrences_of places formula (length formula.clauses)) occurrences
+    → IsNonDecreasingBy (λ (one : Occurrence). one.place) occurrences
     → AreOccurrences formula order occurrences
 all_occurrences formula order places occurrences sound right order_is of_vars moved sorted =
     let all = occurrences_of places formula (length formula.clauses) in

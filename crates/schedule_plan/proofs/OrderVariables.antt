@@ -1,5 +1,6 @@
 -- Distinct variables: as many as there are make an order, so what a text is read as is one.
-use Rattle.std.proofs.Common.{◌≡◌, ℕ, zero, suc, ◌+◌, ◌<◌, ◌≤◌, Bool, true, false, List, [], ◌∷◌, ◌++◌, Option, None, Some, length, refl, sym, ap, ◌∙◌, arith, inl, inr}
+use Rattle.std.proofs.Common.{◌≡◌, ℕ, zero, suc, ◌+◌, ◌<◌, ◌≤◌, Bool, true, false, List, [], ◌∷◌, ◌++◌, Option, None, Some, length, refl}
+use Rattle.std.proofs.Common.{sym, ap, ◌∙◌, arith, inl, inr}
 use Rattle.std.specs.Prelude.{nat_eq as eqb, nat_lt, ◌||◌, slice_index_or, if◌then◌else◌}
 use Rattle.std.specs.List.{AllByRecursion, IsDistinct}
 use Rattle.std.proofs.lemmas.Bool.{cases_lt, eqb-true, eqb-false, eq-eqb, ne_eqb, ltb-false}
@@ -24,13 +25,15 @@ neither : (a b : Bool) → (a || b) ≡ false → (a ≡ false) × (b ≡ false)
 neither true b h = cc
 neither false b h = (refl, h)
 
-judges : (a s : Bool) → ◌≡◌ {A = Option OrderKind} (if a then Some Range else if s then Some Repeated else None) None → (a ≡ false) × (s ≡ false)
+judges : (a s : Bool) → ◌≡◌ {A = Option OrderKind} (if a then Some Range else if s then Some Repeated else None) None → (a ≡ false)
+    × (s ≡ false)
 judges true s h = cc
 judges false true h = cc
 judges false false h = (refl, refl)
 
 -- a number that offends nothing is a variable, and stands nowhere before
-pub unoffending : (n vars : ℕ) (before : List ℕ) → offence_of (Some n) vars before ≡ None → (0 < n) × (n ≤ vars) × (stands_in n before ≡ false)
+pub unoffending : (n vars : ℕ) (before : List ℕ) → offence_of (Some n) vars before ≡ None → (0 < n) × (n ≤ vars)
+    × (stands_in n before ≡ false)
 unoffending n vars before h =
     let both = judges (eqb n 0 || nat_lt vars n) (stands_in n before) h in
     let range = neither (eqb n 0) (nat_lt vars n) both.0 in
@@ -92,7 +95,11 @@ below vars q numbers variables h = elim (eqb q 0) as (λ b. eqb q 0 ≡ b → q 
 
 few : (vars : ℕ) (numbers : List ℕ) → AreVariables vars numbers → length numbers ≤ vars
 few vars numbers variables =
-    omega (arith, length-le_from_distinct_below (0 ∷ numbers) (vars + 1) (with_zero vars numbers variables) (λ q h. below vars q numbers variables h))
+    omega (
+      arith,
+      length-le_from_distinct_below (0 ∷ numbers) (vars
+          + 1) (with_zero vars numbers variables) (λ q h. below vars q numbers variables h),
+    )
 
 -- so where they are as many, each variable stands among them
 each_stands : (vars variable : ℕ) (numbers : List ℕ) → AreVariables vars numbers → vars ≤ length numbers
@@ -112,12 +119,13 @@ each_stands vars variable numbers variables many positive small =
 
 place_of : (n : ℕ) (xs : List ℕ) → stands_in n xs ≡ true → (place : ℕ) × (place < length xs) × (slice_index_or xs place 0 ≡ n)
 place_of n [] h = cc
-place_of n (x ∷ xs) h = elim (eqb n x) as (λ b. eqb n x ≡ b → (place : ℕ) × (place < length (x ∷ xs)) × (slice_index_or (x ∷ xs) place 0 ≡ n)) [
-  | true ↦ λ e. (zero, omega arith, sym (eqb-true n x e))
-  | false ↦ λ e.
-      let later = place_of n xs (sym (ap (λ b. b || stands_in n xs) e) ∙ h) in
-      (suc later.0, omega (arith, later.1), later.2)
-] refl
+place_of n (x ∷ xs) h = elim (eqb n x) as (λ b. eqb n x ≡ b → (place : ℕ) × (place < length (x ∷ xs))
+    × (slice_index_or (x ∷ xs) place 0 ≡ n)) [
+      | true ↦ λ e. (zero, omega arith, sym (eqb-true n x e))
+      | false ↦ λ e.
+          let later = place_of n xs (sym (ap (λ b. b || stands_in n xs) e) ∙ h) in
+          (suc later.0, omega (arith, later.1), later.2)
+    ] refl
 
 differ : (xs : List ℕ) (i j : ℕ) → IsDistinct eqb xs → i < j → j < length xs → slice_index_or xs i 0 ≡ slice_index_or xs j 0 → ⊥
 differ xs i j distinct before inside same =
@@ -126,7 +134,8 @@ differ xs i j distinct before inside same =
     cc
 
 -- As many distinct variables as there are make an order.
-pub are_order : (vars : ℕ) (numbers : List ℕ) → AreVariables vars numbers → vars ≤ length numbers → IsOrder numbers × (length numbers ≡ vars)
+pub are_order : (vars : ℕ) (numbers : List ℕ) → AreVariables vars numbers → vars ≤ length numbers → IsOrder numbers
+    × (length numbers ≡ vars)
 are_order vars numbers variables many =
     let count : length numbers ≡ vars = omega (arith, many, few vars numbers variables) in (
       record {
@@ -151,36 +160,44 @@ are_order vars numbers variables many =
 pub no_variables : (vars : ℕ) → AreVariables vars []
 no_variables vars = record { distinct = distinct_none; within = λ number h. cc }
 
-pub one_more_variable : (vars n : ℕ) (numbers : List ℕ) → offence_of (Some n) vars numbers ≡ None → AreVariables vars numbers → AreVariables vars (numbers ++ n ∷ [])
+pub one_more_variable : (vars n : ℕ) (numbers : List ℕ) → offence_of (Some n) vars numbers ≡ None → AreVariables vars numbers
+    → AreVariables vars (numbers ++ n ∷ [])
 one_more_variable vars n numbers good variables =
     let is = unoffending n vars numbers good in
     record {
       distinct = distinct_last numbers n is.2 variables.distinct;
       within = λ number h. elim (eqb number n) as (λ b. eqb number n ≡ b → (0 < number) × (number ≤ vars)) [
         | true ↦ λ e. let same = eqb-true number n e in (omega (arith, is.0, same), omega (arith, is.1, same))
-        | false ↦ λ e. variables.within number (sym (or_false (stands_in number numbers)) ∙ sym (ap (λ b. stands_in number numbers || b) e) ∙ sym (stands_last number n numbers) ∙ h)
+        | false ↦ λ e. variables.within number (sym (or_false (stands_in number numbers)) ∙ sym (ap (λ b. stands_in number numbers || b) e)
+            ∙ sym (stands_last number n numbers) ∙ h)
       ] refl;
     }
 
 -- The law of the texts: what is read as an order is one.
-read_variables : (number : Option ℕ) (vars : ℕ) (before : List ℕ) → offence_of number vars before ≡ None → AreVariables vars before → AreVariables vars (with_read number before)
+read_variables : (number : Option ℕ) (vars : ℕ) (before : List ℕ) → offence_of number vars before ≡ None → AreVariables vars before
+    → AreVariables vars (with_read number before)
 read_variables None vars before none variables = cc
 read_variables (Some n) vars before none variables = one_more_variable vars n before none variables
 
-unrefused : (offence : Option OrderKind) (line : ℕ) (more : OrderText) (variables : List ℕ) → judged offence line more ≡ order variables → (offence ≡ None) × (more ≡ order variables)
+unrefused : (offence : Option OrderKind) (line : ℕ) (more : OrderText) (variables : List ℕ) → judged offence line more ≡ order variables
+    → (offence ≡ None) × (more ≡ order variables)
 unrefused (Some kind) line more variables h = cc
 unrefused None line more variables h = (refl, h)
 
-ended : (b : Bool) (line : ℕ) (numbers variables : List ℕ) → (if b then refusal Missing line else order numbers) ≡ order variables → (b ≡ false) × (numbers ≡ variables)
+ended : (b : Bool) (line : ℕ) (numbers variables : List ℕ) → (if b then refusal Missing line else order numbers) ≡ order variables
+    → (b ≡ false) × (numbers ≡ variables)
 ended true line numbers variables h = cc
 ended false line numbers variables h = (refl, cc)
 
-pub text_is_order : (all : Items) (vars : ℕ) (before variables : List ℕ) → AreVariables vars before → order_of all vars before ≡ order variables
+pub text_is_order : (all : Items) (vars : ℕ) (before variables : List ℕ) → AreVariables vars before → order_of all vars before
+    ≡ order variables
     → IsOrder variables × (length variables ≡ vars)
 text_is_order (the_end line) vars before variables are h =
     let end = ended (nat_lt (length before) vars) line before variables h in
     rw (← end.1) (are_order vars before are (ltb-false (length before) vars end.0))
 text_is_order (too_long line) vars before variables are h = cc
 text_is_order (next_word word all) vars before variables are h =
-    let good = unrefused (offence_of (plain_number word.bytes) vars before) word.line (order_of all vars (with_read (plain_number word.bytes) before)) variables h in
-    text_is_order all vars (with_read (plain_number word.bytes) before) variables (read_variables (plain_number word.bytes) vars before good.0 are) good.1
+    let good = unrefused (offence_of (plain_number word.bytes) vars before) word.line
+    (order_of all vars (with_read (plain_number word.bytes) before)) variables h in
+    text_is_order all vars (with_read (plain_number word.bytes) before) variables
+    (read_variables (plain_number word.bytes) vars before good.0 are) good.1

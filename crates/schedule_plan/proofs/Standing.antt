@@ -1,5 +1,6 @@
 -- What the next move does, where the moves so far are possible.
-use Rattle.std.proofs.Common.{◌≡◌, ℕ, ◌<◌, ◌≤◌, true, false, ◌&&◌, List, [], ◌∷◌, ◌++◌, length, None, Some, Result, Ok, Err, refl, ap, ◌∙◌, arith}
+use Rattle.std.proofs.Common.{◌≡◌, ℕ, ◌<◌, ◌≤◌, true, false, ◌&&◌, List, [], ◌∷◌, ◌++◌, length, None, Some, Result, Ok, Err, refl, ap, ◌∙◌}
+use Rattle.std.proofs.Common.{arith}
 use Rattle.std.specs.Prelude.{nat_lt, nat_le}
 use Rattle.std.specs.Option.{option_and_then}
 use Rattle.std.proofs.lemmas.Bool.{and_from, lt-ltb, le-leb}
@@ -14,19 +15,22 @@ use Rattle.schedule_plan.specs.ScheduleText.{fault_of_move, fault_behind, unless
 use Rattle.schedule_plan.proofs.Admissible.{append}
 
 -- one move
-pub refused : (formula : Formula) (done : List Move) (stage : Stage) (move : Move) (more : List Move) (kind : PlanKind) → after_moves formula no_stage done ≡ Some stage
+pub refused : (formula : Formula) (done : List Move) (stage : Stage) (move : Move) (more : List Move) (kind : PlanKind)
+    → after_moves formula no_stage done ≡ Some stage
     → fault_of_move formula stage move ≡ Some kind → taken formula done (move ∷ more) ≡ Err kind
 refused formula done stage move more kind possible fault =
     ap (λ o. unless (option_and_then (λ s. fault_of_move formula s move) o) (taken formula (done ++ move ∷ []) more)) possible
     ∙ ap (λ f. unless f (taken formula (done ++ move ∷ []) more)) fault
 
-pub accepted : (formula : Formula) (done : List Move) (stage : Stage) (move : Move) (more : List Move) → after_moves formula no_stage done ≡ Some stage
+pub accepted : (formula : Formula) (done : List Move) (stage : Stage) (move : Move) (more : List Move) → after_moves formula no_stage done
+    ≡ Some stage
     → fault_of_move formula stage move ≡ None → taken formula done (move ∷ more) ≡ taken formula (done ++ move ∷ []) more
 accepted formula done stage move more possible fault =
     ap (λ o. unless (option_and_then (λ s. fault_of_move formula s move) o) (taken formula (done ++ move ∷ []) more)) possible
     ∙ ap (λ f. unless f (taken formula (done ++ move ∷ []) more)) fault
 
-pub possible_behind : (formula : Formula) (done : List Move) (stage later : Stage) (move : Move) → after_moves formula no_stage done ≡ Some stage
+pub possible_behind : (formula : Formula) (done : List Move) (stage later : Stage) (move : Move) → after_moves formula no_stage done
+    ≡ Some stage
     → after_move formula stage move ≡ Some later → after_moves formula no_stage (done ++ move ∷ []) ≡ Some later
 possible_behind formula done stage later move possible step =
     append formula no_stage done (move ∷ [])
@@ -46,29 +50,39 @@ ok_err e = cc
 pub taken_first : (formula : Formula) (done later : List Move) (move : Move) (more : List Move) → taken formula done (move ∷ []) ≡ Ok later
     → taken formula done (move ∷ more) ≡ taken formula later more
 taken_first formula done later move more first =
-    elim (fault_behind formula done move) as (λ f. unless f (Ok (done ++ move ∷ [])) ≡ Ok later → unless f (taken formula (done ++ move ∷ []) more) ≡ taken formula later more) [
+    elim (fault_behind formula done move) as (λ f. unless f (Ok (done ++ move ∷ [])) ≡ Ok later
+    → unless f (taken formula (done ++ move ∷ []) more) ≡ taken formula later more) [
       | None ↦ λ e. ap (λ l. taken formula l more) (ok_same e)
       | Some kind ↦ λ e. absurd (err_ok e)
     ] first
 
-pub taken_refused : (formula : Formula) (done : List Move) (move : Move) (more : List Move) (kind : PlanKind) → taken formula done (move ∷ []) ≡ Err kind
+pub taken_refused : (formula : Formula) (done : List Move) (move : Move) (more : List Move) (kind : PlanKind)
+    → taken formula done (move ∷ []) ≡ Err kind
     → taken formula done (move ∷ more) ≡ Err kind
 taken_refused formula done move more kind first =
-    elim (fault_behind formula done move) as (λ f. unless f (Ok (done ++ move ∷ [])) ≡ Err kind → unless f (taken formula (done ++ move ∷ []) more) ≡ Err kind) [
+    elim (fault_behind formula done move) as (λ f. unless f (Ok (done ++ move ∷ [])) ≡ Err kind
+    → unless f (taken formula (done ++ move ∷ []) more) ≡ Err kind) [
       | None ↦ λ e. absurd (ok_err e)
       | Some other ↦ λ e. e
     ] first
 
 -- The faults, test by test.
-pub range_fault : (formula : Formula) (stage : Stage) (i : ℕ) → (0 < i → length formula.clauses < i) → fault_of_move formula stage (Push i) ≡ Some ClauseRange
+pub range_fault : (formula : Formula) (stage : Stage) (i : ℕ) → (0 < i → length formula.clauses < i) → fault_of_move formula stage (Push i)
+    ≡ Some ClauseRange
 range_fault formula stage i out = grind (arith, nat_tests, out)
 
-pub twice_fault : (formula : Formula) (stage : Stage) (i : ℕ) → 0 < i → i ≤ length formula.clauses → is_pushed stage.pushed i ≡ true → fault_of_move formula stage (Push i) ≡ Some ClauseTwice
+pub twice_fault : (formula : Formula) (stage : Stage) (i : ℕ) → 0 < i → i ≤ length formula.clauses → is_pushed stage.pushed i ≡ true
+    → fault_of_move formula stage (Push i) ≡ Some ClauseTwice
 twice_fault formula stage i positive small was =
-    let within : (nat_lt 0 i && nat_le i (length formula.clauses)) ≡ true = and_from (nat_lt 0 i) (nat_le i (length formula.clauses)) (lt-ltb 0 i positive) (le-leb i (length formula.clauses) small) in
+    let within : (nat_lt 0 i && nat_le i (length formula.clauses))
+    ≡ true = and_from (nat_lt 0 i) (nat_le i (length formula.clauses)) (lt-ltb 0 i positive)
+    (le-leb i (length formula.clauses) small) in
     rw (within, was) refl
 
-pub push_free : (formula : Formula) (stage : Stage) (i : ℕ) → 0 < i → i ≤ length formula.clauses → is_pushed stage.pushed i ≡ false → fault_of_move formula stage (Push i) ≡ None
+pub push_free : (formula : Formula) (stage : Stage) (i : ℕ) → 0 < i → i ≤ length formula.clauses → is_pushed stage.pushed i ≡ false
+    → fault_of_move formula stage (Push i) ≡ None
 push_free formula stage i positive small new =
-    let within : (nat_lt 0 i && nat_le i (length formula.clauses)) ≡ true = and_from (nat_lt 0 i) (nat_le i (length formula.clauses)) (lt-ltb 0 i positive) (le-leb i (length formula.clauses) small) in
+    let within : (nat_lt 0 i && nat_le i (length formula.clauses))
+    ≡ true = and_from (nat_lt 0 i) (nat_le i (length formula.clauses)) (lt-ltb 0 i positive)
+    (le-leb i (length formula.clauses) small) in
     rw (within, new) refl

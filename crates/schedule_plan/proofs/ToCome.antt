@@ -1,5 +1,6 @@
 -- How many clauses are to come.
-use Rattle.std.proofs.Common.{◌≡◌, ℕ, zero, suc, ◌+◌, ◌<◌, ◌≤◌, ◌==◌, Bool, true, false, ◌||◌, ◌&&◌, List, [], ◌∷◌, inl, inr, refl, sym, ap, ◌∙◌, arith, eq-eqb, ne_eqb}
+use Rattle.std.proofs.Common.{◌≡◌, ℕ, zero, suc, ◌+◌, ◌<◌, ◌≤◌, ◌==◌, Bool, true, false, ◌||◌, ◌&&◌, List, [], ◌∷◌, inl, inr, refl, sym, ap}
+use Rattle.std.proofs.Common.{◌∙◌, arith, eq-eqb, ne_eqb}
 use Rattle.std.specs.Prelude.{not, nat_lt, if◌then◌else◌}
 use Rattle.std.proofs.lemmas.Bool.{cases_eq, and_parts}
 use Rattle.cnf_base.specs.Formula.{Formula}
@@ -22,7 +23,8 @@ to_come_small test pushed (suc n) = omega (arith, one_small (not (is_pushed push
 pub to_come_below : (test : ℕ → Bool) (pushed : List ℕ) (i n : ℕ) → n < i → to_come test (i ∷ pushed) n ≡ to_come test pushed n
 to_come_below test pushed i zero below = refl
 to_come_below test pushed i (suc n) below =
-    let head : one_if (not ((i == suc n) || is_pushed pushed (suc n)) && test (suc n)) ≡ one_if (not (is_pushed pushed (suc n)) && test (suc n)) =
+    let head : one_if (not ((i == suc n) || is_pushed pushed (suc n)) && test (suc n))
+    ≡ one_if (not (is_pushed pushed (suc n)) && test (suc n)) =
     ap (λ b. one_if (not (b || is_pushed pushed (suc n)) && test (suc n))) (ne_eqb i (suc n) (λ same. omega (arith, below, same))) in
     omega (arith, head, to_come_below test pushed i n (omega (arith, below)))
 
@@ -39,7 +41,8 @@ to_come_push test pushed i (suc n) positive small new =
           ap (λ j. one_if (not (is_pushed pushed j) && test j)) (sym same) ∙ ap (λ b. one_if (not b && test i)) new in
           omega (arith, now, before, to_come_below test pushed i n (omega (arith, same)))
       | inr differ ↦
-          let head : one_if (not ((i == suc n) || is_pushed pushed (suc n)) && test (suc n)) ≡ one_if (not (is_pushed pushed (suc n)) && test (suc n)) =
+          let head : one_if (not ((i == suc n) || is_pushed pushed (suc n)) && test (suc n))
+          ≡ one_if (not (is_pushed pushed (suc n)) && test (suc n)) =
           ap (λ b. one_if (not (b || is_pushed pushed (suc n)) && test (suc n))) (ne_eqb i (suc n) differ) in
           omega (arith, head, to_come_push test pushed i n positive (omega (arith, small, differ)) new)
     ]
@@ -48,7 +51,8 @@ positive_sum : (b : Bool) (n : ℕ) → nat_lt 0 (one_if b + n) ≡ (b || nat_lt
 positive_sum true n = grind arith
 positive_sum false n = grind arith
 
-pub to_come_later : (formula : Formula) (pushed : List ℕ) (x n : ℕ) → nat_lt 0 (to_come (holds formula x) pushed n) ≡ holds_later formula pushed x n
+pub to_come_later : (formula : Formula) (pushed : List ℕ) (x n : ℕ) → nat_lt 0 (to_come (holds formula x) pushed n)
+    ≡ holds_later formula pushed x n
 to_come_later formula pushed x zero = refl
 to_come_later formula pushed x (suc n) =
     let b = not (is_pushed pushed (suc n)) && clause_has x (clause_of_number formula (suc n)) in

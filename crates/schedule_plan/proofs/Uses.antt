@@ -1,5 +1,6 @@
 -- The variables of a clause are changed once each, however often they stand in it.
-use Rattle.std.proofs.Common.{◌≡◌, ℕ, ◌+◌, ◌<◌, ◌≤◌, ◌==◌, Bool, true, false, ◌||◌, ℤ, nat_abs, List, [], ◌∷◌, length, take, set, inl, inr, refl, sym, ap, ◌∙◌, arith, eq-eqb, ne_eqb}
+use Rattle.std.proofs.Common.{◌≡◌, ℕ, ◌+◌, ◌<◌, ◌≤◌, ◌==◌, Bool, true, false, ◌||◌, ℤ, nat_abs, List, [], ◌∷◌, length, take, set, inl, inr}
+use Rattle.std.proofs.Common.{refl, sym, ap, ◌∙◌, arith, eq-eqb, ne_eqb}
 use Rattle.std.specs.Prelude.{slice_index_or, if◌then◌else◌, min, ◌-◌}
 use Rattle.std.specs.List.{list_any}
 use Rattle.std.proofs.lemmas.Bool.{cases_eq, cases_Bool}
@@ -10,8 +11,10 @@ use Rattle.schedule_plan.specs.Plan.{clause_has}
 use Rattle.schedule_plan.specs.ScheduleState.{no_use, use_at, counted, with_push, changed}
 
 -- what marks a use that isn't marked yet does nothing the second time
-marked_twice : (mark : ℕ) (next : Use → Use) (u : Use) → (next u).seen ≡ mark → ((v : Use) → v.seen ≡ mark → (if v.seen == mark then v else next v) ≡ v)
-    → (if (if u.seen == mark then u else next u).seen == mark then (if u.seen == mark then u else next u) else next (if u.seen == mark then u else next u)) ≡ (if u.seen == mark then u else next u)
+marked_twice : (mark : ℕ) (next : Use → Use) (u : Use) → (next u).seen ≡ mark
+    → ((v : Use) → v.seen ≡ mark → (if v.seen == mark then v else next v) ≡ v)
+    → (if (if u.seen == mark then u else next u).seen == mark then (if u.seen == mark then u else next u) else next
+    (if u.seen == mark then u else next u)) ≡ (if u.seen == mark then u else next u)
 marked_twice mark next u marks stays =
     elim (cases_Bool (u.seen == mark)) [
       | inl same ↦
@@ -43,14 +46,17 @@ or_false : (b : Bool) → (b || false) ≡ b
 or_false true = refl
 or_false false = refl
 
-again : (change : Use → Use) → ((u : Use) → change (change u) ≡ change u) → (had : Bool) (u : Use) → change (if had then change u else u) ≡ change u
+again : (change : Use → Use) → ((u : Use) → change (change u) ≡ change u) → (had : Bool) (u : Use) → change (if had then change u else u)
+    ≡ change u
 again change twice true u = twice u
 again change twice false u = refl
 
 -- one more literal
-pub changed_more : (change : Use → Use) → ((u : Use) → change (change u) ≡ change u) → (clause : List ℤ) (k : ℕ) (d : ℤ) (old now : List Use) → k < length clause
+pub changed_more : (change : Use → Use) → ((u : Use) → change (change u) ≡ change u)
+    → (clause : List ℤ) (k : ℕ) (d : ℤ) (old now : List Use) → k < length clause
     → nat_abs (slice_index_or clause k d) < length now → ((x : ℕ) → use_at now x ≡ changed change (take k clause) old x)
-    → (x : ℕ) → use_at (set now (nat_abs (slice_index_or clause k d)) (change (use_at now (nat_abs (slice_index_or clause k d))))) x ≡ changed change (take (k + 1) clause) old x
+    → (x : ℕ) → use_at (set now (nat_abs (slice_index_or clause k d)) (change (use_at now (nat_abs (slice_index_or clause k d))))) x
+    ≡ changed change (take (k + 1) clause) old x
 changed_more change twice clause k d old now small within before x =
     let literal = slice_index_or clause k d in
     let v = nat_abs literal in
@@ -62,8 +68,10 @@ changed_more change twice clause k d old now small within before x =
           let one : list_any (λ l. nat_abs l == x) (literal ∷ []) ≡ true = ap (λ b. b || false) (eq-eqb v x same) in
           let all : (had || list_any (λ l. nat_abs l == x) (literal ∷ [])) ≡ true = ap (λ b. had || b) one ∙ or_true had in
           let here : use_at (set now v (change (use_at now v))) x ≡ change (use_at now x) =
-          ap (λ y. use_at (set now v (change (use_at now v))) y) (sym same) ∙ get_or-set_same now v (change (use_at now v)) no_use within ∙ ap (λ y. change (use_at now y)) same in
-          here ∙ ap change (before x) ∙ again change twice had (use_at old x) ∙ sym (ap (λ b. if b then change (use_at old x) else use_at old x) (has ∙ all))
+          ap (λ y. use_at (set now v (change (use_at now v))) y) (sym same) ∙ get_or-set_same now v (change (use_at now v)) no_use within
+          ∙ ap (λ y. change (use_at now y)) same in
+          here ∙ ap change (before x) ∙ again change twice had (use_at old x)
+          ∙ sym (ap (λ b. if b then change (use_at old x) else use_at old x) (has ∙ all))
       | inr differ ↦
           let one : list_any (λ l. nat_abs l == x) (literal ∷ []) ≡ false = ap (λ b. b || false) (ne_eqb v x differ) in
           let all : (had || list_any (λ l. nat_abs l == x) (literal ∷ [])) ≡ had = ap (λ b. had || b) one ∙ or_false had in
@@ -73,7 +81,8 @@ changed_more change twice clause k d old now small within before x =
 
 pub counted_small : (mark : ℕ) (has : Bool) (u : Use) → u.to_come ≤ 10000000 → (if has then counted mark u else u).to_come ≤ 10000001
 counted_small mark true u few =
-    elim (u.seen == mark) as (λ b. (if b then u else record { to_come = u.to_come + 1; earliest = u.earliest; seen = mark }).to_come ≤ 10000001) [
+    elim (u.seen == mark) as (λ b. (if b then u else record { to_come = u.to_come + 1; earliest = u.earliest; seen = mark }).to_come
+    ≤ 10000001) [
       | true ↦ omega (arith, few)
       | false ↦ omega (arith, few)
     ]

@@ -36,7 +36,8 @@ abbrev pub results : Formula → List ℕ → ℕ → List Term
 results formula order zero = []
 results formula order (suc place) =
     results formula order place
-    ++ result_of (slice_index_or order place 0) (belonging formula order place (all_inputs (length formula.clauses) ++ results formula order place))
+    ++ result_of (slice_index_or order place 0) (belonging formula order place (all_inputs (length formula.clauses)
+    ++ results formula order place))
 
 -- A bucket's items: the clauses that belong to it, and then the results of earlier buckets. Behind the last variable's
 -- bucket stands that of the terms that hold no variable.

@@ -1,6 +1,7 @@
 -- How the bucket plan is computed: the items of all buckets by numbers, first the clauses and then the results of the
 -- buckets, each with the bucket that it belongs to.
-use Rattle.std.specs.Prelude.{◌≡◌, ℕ, zero, suc, ◌+◌, ◌-◌, ◌<◌, ◌==◌, ◌⊎◌, Bool, true, false, ℤ, nat_abs, nat_lt, List, [], ◌∷◌, ◌++◌, length, map, Option, None, Some, slice_index, slice_index_or, if◌then◌else◌}
+use Rattle.std.specs.Prelude.{◌≡◌, ℕ, zero, suc, ◌+◌, ◌-◌, ◌<◌, ◌==◌, ◌⊎◌, Bool, true, false, ℤ, nat_abs, nat_lt, List, [], ◌∷◌, ◌++◌}
+use Rattle.std.specs.Prelude.{length, map, Option, None, Some, slice_index, slice_index_or, if◌then◌else◌}
 use Rattle.std.specs.List.{All, Contains}
 use Rattle.std.specs.List.Sorted.{IsNonDecreasingBy}
 use Rattle.cnf_base.specs.Formula.{Formula}
@@ -82,7 +83,8 @@ pub record AreLinks (buckets : List ℕ) (count : ℕ) (links : Links) : Type 0 
   pub lasts : length links.last.items ≡ count
   pub befores : length links.before.items ≡ length buckets
   pub last : (bucket : ℕ) → bucket < count → slice_index_or links.last.items bucket None ≡ last_of buckets bucket (length buckets)
-  pub before : (item : ℕ) → item < length buckets → slice_index_or links.before.items item None ≡ last_of buckets (slice_index buckets item) item
+  pub before : (item : ℕ) → item < length buckets → slice_index_or links.before.items item None
+      ≡ last_of buckets (slice_index buckets item) item
 
 -- some list of the items' buckets is linked
 pub record IsLinked (formula : Formula) (order : List ℕ) (links : Links) : Type 0 where

@@ -1,7 +1,8 @@
 -- Plans: what is done with the clauses of a formula, one move after another. A term is a clause, the conjunction of
 -- two terms, or a term from which a variable is quantified. (Bryant, Heule: Generating Extended Resolution Proofs with
 -- a BDD-Based SAT Solver, 2021, section 5.)
-use Rattle.std.specs.Prelude.{◌≡◌, ℕ, zero, suc, ◌<◌, ◌≤◌, ◌-◌, Bool, true, false, not, ◌&&◌, ◌||◌, ℤ, nat_abs, List, [], ◌∷◌, ◌++◌, length, Option, None, Some, nat_le, nat_lt, ◌==◌, if◌then◌else◌, slice_index_or}
+use Rattle.std.specs.Prelude.{◌≡◌, ℕ, zero, suc, ◌<◌, ◌≤◌, ◌-◌, Bool, true, false, not, ◌&&◌, ◌||◌, ℤ, nat_abs, List, [], ◌∷◌, ◌++◌, length}
+use Rattle.std.specs.Prelude.{Option, None, Some, nat_le, nat_lt, ◌==◌, if◌then◌else◌, slice_index_or}
 use Rattle.std.specs.List.{list_any}
 use Rattle.std.specs.Option.{option_and_then}
 use Rattle.cnf_base.specs.Truth.{Assignment, clause_holds, with_value}
@@ -46,7 +47,8 @@ is_pushed pushed i = list_any (λ j. j == i) pushed
 -- the clauses with these numbers that aren't pushed yet and hold the variable
 abbrev pub holds_later : Formula → List ℕ → ℕ → ℕ → Bool
 holds_later formula pushed x zero = false
-holds_later formula pushed x (suc n) = (not (is_pushed pushed (suc n)) && clause_has x (clause_of_number formula (suc n))) || holds_later formula pushed x n
+holds_later formula pushed x (suc n) = (not (is_pushed pushed (suc n)) && clause_has x (clause_of_number formula (suc n)))
+    || holds_later formula pushed x n
 
 abbrev pub after_push : Formula → Stage → ℕ → Option Stage
 after_push formula stage i =
@@ -61,7 +63,8 @@ after_and stage (top ∷ below ∷ rest) = Some (record { stack = both below top
 abbrev pub after_exists : Formula → Stage → ℕ → List Term → Option Stage
 after_exists formula stage x [] = None
 after_exists formula stage x (top ∷ rest) =
-    if nat_lt 0 x && nat_le x formula.vars && not (list_any (term_has formula x) rest) && not (holds_later formula stage.pushed x (length formula.clauses))
+    if nat_lt 0 x && nat_le x formula.vars && not (list_any (term_has formula x) rest)
+    && not (holds_later formula stage.pushed x (length formula.clauses))
     then Some (record { stack = some_value x top ∷ rest; pushed = stage.pushed; trail = (x, top) ∷ stage.trail }) else None
 
 -- A move is possible, or not: a clause is one of the formula's and is pushed once, there are terms enough, and a

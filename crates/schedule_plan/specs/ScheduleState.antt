@@ -1,5 +1,6 @@
 -- A schedule as it is read: the line that isn't ended, and what is known of the clauses, the variables and the terms.
-use Rattle.std.specs.Prelude.{◌≡◌, ℕ, zero, suc, ◌+◌, ◌-◌, ◌<◌, ◌≤◌, min, Bool, true, false, not, ◌&&◌, List, [], ◌∷◌, ◌++◌, length, map, reverse, Option, None, Some, Result, Ok, Err, nat_lt, ◌==◌, if◌then◌else◌, slice_index_or, ⊤, ℤ}
+use Rattle.std.specs.Prelude.{◌≡◌, ℕ, zero, suc, ◌+◌, ◌-◌, ◌<◌, ◌≤◌, min, Bool, true, false, not, ◌&&◌, List, [], ◌∷◌, ◌++◌, length, map}
+use Rattle.std.specs.Prelude.{reverse, Option, None, Some, Result, Ok, Err, nat_lt, ◌==◌, if◌then◌else◌, slice_index_or, ⊤, ℤ}
 use Rattle.std.specs.List.{list_any}
 use Rattle.std.specs.Option.{option_map, option_and_then}
 use Rattle.cnf_base.specs.Formula.{Formula}
@@ -10,7 +11,8 @@ use Rattle.text_scan.specs.Items.{Items, the_end, too_long, next_word}
 use Rattle.schedule_plan.specs.declared.plan.Move.{Move}
 use Rattle.schedule_plan.specs.declared.plan.Move.TheVariants.{Push, Exists}
 use Rattle.schedule_plan.specs.declared.schedule.error.PlanKind.{PlanKind}
-use Rattle.schedule_plan.specs.declared.schedule.error.PlanKind.TheVariants.{Syntax, ClauseRange, ClauseTwice, StackShort, VariableRange, VariableInUse, ClauseUnused, TermsLeft}
+use Rattle.schedule_plan.specs.declared.schedule.error.PlanKind.TheVariants.{Syntax, ClauseRange, ClauseTwice, StackShort, VariableRange}
+use Rattle.schedule_plan.specs.declared.schedule.error.PlanKind.TheVariants.{VariableInUse, ClauseUnused, TermsLeft}
 use Rattle.schedule_plan.specs.declared.schedule.error.PlanError.{PlanError}
 use Rattle.schedule_plan.specs.declared.schedule.error.PlanError.TheVariants.{Refused, ReadFault, TooLong, OutOfMemory}
 use Rattle.schedule_plan.specs.declared.schedule.line.Command.{Command}
@@ -54,7 +56,11 @@ with_given (Some numbers) None = None
 with_given (Some numbers) (Some number) = Some (numbers ++ number ∷ [])
 
 abbrev pub draft_with : DraftLine → Word → DraftLine
-draft_with draft word = record { line = draft.line; command = draft.command; numbers = with_given draft.numbers (option_map capped (plain_number word.bytes)) }
+draft_with draft word = record {
+  line = draft.line;
+  command = draft.command;
+  numbers = with_given draft.numbers (option_map capped (plain_number word.bytes));
+}
 
 abbrev pub is_command : Command → Bool
 is_command Absent = false

@@ -2,7 +2,8 @@
 -- many top terms as its number says, `q` quantifies some variables in turn. Comment lines begin with `#`. (The format is
 -- this project's own, after the schedules of Bryant and Heule: Generating Extended Resolution Proofs with a BDD-Based SAT
 -- Solver, 2021, section 5.)
-use Rattle.std.specs.Prelude.{ℕ, zero, suc, ◌-◌, Bool, true, false, not, ◌&&◌, ◌||◌, List, [], ◌∷◌, ◌++◌, length, map, replicate, Option, None, Some, Result, Ok, Err, nat_lt, nat_le, ◌==◌, if◌then◌else◌}
+use Rattle.std.specs.Prelude.{ℕ, zero, suc, ◌-◌, Bool, true, false, not, ◌&&◌, ◌||◌, List, [], ◌∷◌, ◌++◌, length, map, replicate, Option}
+use Rattle.std.specs.Prelude.{None, Some, Result, Ok, Err, nat_lt, nat_le, ◌==◌, if◌then◌else◌}
 use Rattle.std.specs.List.{list_any}
 use Rattle.std.specs.Option.{option_and_then}
 use Rattle.cnf_base.specs.Formula.{Formula}
@@ -13,7 +14,8 @@ use Rattle.text_scan.specs.Items.{Items, the_end, too_long, next_word, items_of_
 use Rattle.schedule_plan.specs.declared.plan.Move.{Move}
 use Rattle.schedule_plan.specs.declared.plan.Move.TheVariants.{Push, And, Exists}
 use Rattle.schedule_plan.specs.declared.schedule.error.PlanKind.{PlanKind}
-use Rattle.schedule_plan.specs.declared.schedule.error.PlanKind.TheVariants.{Syntax, ClauseRange, ClauseTwice, StackShort, VariableRange, VariableInUse, ClauseUnused, TermsLeft}
+use Rattle.schedule_plan.specs.declared.schedule.error.PlanKind.TheVariants.{Syntax, ClauseRange, ClauseTwice, StackShort, VariableRange}
+use Rattle.schedule_plan.specs.declared.schedule.error.PlanKind.TheVariants.{VariableInUse, ClauseUnused, TermsLeft}
 use Rattle.schedule_plan.specs.Plan.{Term, Stage, no_stage, term_has, is_pushed, holds_later, after_moves}
 
 -- how many bytes a text may have
@@ -125,7 +127,8 @@ has_words [] = false
 has_words (word ∷ words) = true
 
 abbrev pub row_then : Formula → Row → List Move → (List Move → ScheduleText) → ScheduleText
-row_then formula row done rest = if has_words row.words then behind (line_taken formula done (moves_of_words row.words)) row.line rest else rest done
+row_then formula row done rest = if has_words row.words then behind
+    (line_taken formula done (moves_of_words row.words)) row.line rest else rest done
 
 -- no token yet, the line of one token, and a line with one more token
 abbrev pub no_row : Row

@@ -1,5 +1,6 @@
 // Reads the text of an order: plain numbers, each variable once, the top one first.
-ghost use Rattle.std.specs.Prelude.{ℕ, List, ◌^◌, ◌≡◌, ◌≢◌, slice_index_or, ◌≤◌, ◌<◌, [], ◌∷◌, ◌++◌, false, length, None, Some, Ok, Err, IsTrue, IfOk, OnOk, OnErr, ◌==◌};
+ghost use Rattle.std.specs.Prelude.{ℕ, List, ◌^◌, ◌≡◌, ◌≢◌, slice_index_or, ◌≤◌, ◌<◌, [], ◌∷◌, ◌++◌, false, length, None, Some, Ok, Err};
+ghost use Rattle.std.specs.Prelude.{IsTrue, IfOk, OnOk, OnErr, ◌==◌};
 ghost use Rattle.cnf_base.specs.Number.{plain_number};
 ghost use Rattle.host_io.specs.Channel.{Rose};
 ghost use Rattle.text_scan.specs.Items.{items};
@@ -8,7 +9,8 @@ ghost use Rattle.text_scan.specs.Scan.{ahead};
 ghost use Rattle.schedule_plan.specs.declared.order_error.OrderError.TheVariants.{ReadFault, OutOfMemory};
 ghost use Rattle.cnf_base.specs.Order.{IsOrder};
 ghost use Rattle.schedule_plan.specs.OrderReader.{Answers, Takes, WantsMemory, answer_of};
-ghost use Rattle.schedule_plan.specs.OrderText.{max_bytes, order, overlong, order_text, order_so_far, stands_in, offence_of, text_end, with_read};
+ghost use Rattle.schedule_plan.specs.OrderText.{max_bytes, order, overlong, order_text, order_so_far, stands_in, offence_of, text_end};
+ghost use Rattle.schedule_plan.specs.OrderText.{with_read};
 
 use crate::order::Order;
 use crate::order_error::{OrderError, OrderKind};
@@ -22,7 +24,8 @@ const MAX_BYTES: u64 = 4_000_000_000;
 
 /// What a text is read as is an order, of as many variables as were asked for.
 pub fn order_text_law()
-    ensures { (vars : ℕ) (bytes variables : List ℕ) → order_text vars bytes ≡ order variables → IsOrder variables × (length variables ≡ vars) }
+    ensures { (vars : ℕ) (bytes variables : List ℕ) → order_text vars bytes ≡ order variables → IsOrder variables
+        × (length variables ≡ vars) }
 {}
 
 // The numbers read so far, with a flag for each number that stands among them; the flags reach as far as is needed.
@@ -80,7 +83,8 @@ impl Front {
     }
 
     fn take_number(&mut self, number: u64, line: u64) -> Result<(), OrderError>
-        ensures takes { Takes result (offence_of (Some number) self.old.vars self.old.numbers) line (self.old.numbers ++ number ∷ []) self.new.numbers }
+        ensures takes { Takes result (offence_of (Some number) self.old.vars self.old.numbers) line (self.old.numbers ++ number
+            ∷ []) self.new.numbers }
         ensures memory { result ≡ Err OutOfMemory → offence_of (Some number) self.old.vars self.old.numbers ≡ None }
         ensures vars { self.new.vars ≡ self.old.vars }
         ensures small { self.old.vars < 2 ^ 32 }
@@ -149,13 +153,15 @@ impl Order {
     /// or a read may fail. No read follows once the answer is decided.
     pub fn read<S: Source>(alloc: Global, vars: u32, source: &mut S) -> Result<Order, OrderError>
         // The answer is the definition's of the bytes that were taken and whatever may follow them, so of the whole text.
-        ensures decides { IsTrue S.tells → Decides (S.channel source.old) (S.channel source.new) (λ bytes more. Answers result (order_text vars bytes)) }
+        ensures decides { IsTrue S.tells → Decides (S.channel source.old) (S.channel source.new)
+            (λ bytes more. Answers result (order_text vars bytes)) }
         ensures order { IfOk result (λ order. IsOrder order × (length order ≡ vars)) }
         ensures fault { result ≡ Err ReadFault → Rose (S.channel source.old).faults (S.channel source.new).faults }
         // no failed read is told as anything else
         ensures unfailed { result ≢ Err ReadFault → (S.channel source.new).faults ≡ (S.channel source.old).faults }
         // a read fails only where the bytes taken decide nothing yet
-        ensures undecided { IsTrue S.tells → result ≡ Err ReadFault → order_so_far vars (gained (S.channel source.old) (S.channel source.new)) ≡ overlong }
+        ensures undecided { IsTrue S.tells → result ≡ Err ReadFault
+            → order_so_far vars (gained (S.channel source.old) (S.channel source.new)) ≡ overlong }
         // memory is wanted only for a number that offends nothing
         ensures memory { IsTrue S.tells → result ≡ Err OutOfMemory → Decides (S.channel source.old) (S.channel source.new)
             (λ bytes more. WantsMemory vars (items 35 max_bytes bytes)) }

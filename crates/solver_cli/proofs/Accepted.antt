@@ -21,7 +21,8 @@ use Rattle.solver_cli.specs.ErrorText.{is_answer}
 use Rattle.solver_cli.specs.ExitCode.{status_of_run}
 use Rattle.solver_cli.specs.Phases.{WritesProof}
 use Rattle.solver_cli.specs.Stages.{Job, streams_of, Prepared, Uncreated, Undecided, bench_job, solve_job}
-use Rattle.solver_cli.specs.Headline.{Run, written_in, limits_given, decides, OutputFailed, IsUnharmed, GivesDecision, AsksBy, AsksFor, IsComplete, RefusalsAreDue, ProofStands}
+use Rattle.solver_cli.specs.Headline.{Run, written_in, limits_given, decides, OutputFailed, IsUnharmed, GivesDecision, AsksBy, AsksFor}
+use Rattle.solver_cli.specs.Headline.{IsComplete, RefusalsAreDue, ProofStands}
 use Rattle.solver_cli.proofs.Facts.{whole_of, no_answer, write_ends, not_unasked, only_misuse, only_help, decided_apart}
 use Rattle.solver_cli.proofs.Reading.{rose_since}
 use Rattle.solver_cli.proofs.CallsFor.{no_call}
@@ -38,21 +39,27 @@ pub record Posed (run : Run) (problem : Formula) (order : List ℕ) (moves : Lis
   pub shape : job.shape ≡ shape_asked (Some asked) problem
   pub made : run.after Made ≡ run.before Made
 
-abbrev pub asks_by : (run : Run) {problem : Formula} {order : List ℕ} {moves : List Move} {job : Job} → Posed run problem order moves job → IsTrue run.tells → AsksBy run problem order moves
+abbrev pub asks_by : (run : Run) {problem : Formula} {order : List ℕ} {moves : List Move} {job : Job} → Posed run problem order moves job
+    → IsTrue run.tells → AsksBy run problem order moves
 asks_by run posed t = record { asked = posed.asked; command = posed.gives; given = posed.given t }
 
-abbrev pub asks_for : (run : Run) {problem : Formula} {order : List ℕ} {moves : List Move} {job : Job} → Posed run problem order moves job → IsTrue run.tells → AsksFor run problem
+abbrev pub asks_for : (run : Run) {problem : Formula} {order : List ℕ} {moves : List Move} {job : Job} → Posed run problem order moves job
+    → IsTrue run.tells → AsksFor run problem
 asks_for run {order = order} {moves = moves} posed t = record { order = order; moves = moves; by = asks_by run posed t }
 
-pub decision : (run : Run) {problem : Formula} {order : List ℕ} {moves : List Move} {job : Job} → Posed run problem order moves job → GivesDecision run
+pub decision : (run : Run) {problem : Formula} {order : List ℕ} {moves : List Move} {job : Job} → Posed run problem order moves job
+    → GivesDecision run
 decision run posed = (posed.asked, posed.gives, posed.decides)
 
-pub same_limits : (run : Run) {problem : Formula} {order : List ℕ} {moves : List Move} {job : Job} → Posed run problem order moves job → job.limits ≡ limits_given run
+pub same_limits : (run : Run) {problem : Formula} {order : List ℕ} {moves : List Move} {job : Job} → Posed run problem order moves job
+    → job.limits ≡ limits_given run
 same_limits run posed = posed.limits ∙ sym (ap limits_asked posed.gives)
 
 -- `solve` is prepared, and `bench` has its board
-pub posed_by_files : (run : Run) (task : ToSolve) {problem : Formula} {order : List ℕ} {moves : List Move} → command run.words ≡ Some (Solve task)
-    → Prepared run.tells (streams_of run.before) (streams_of run.after) run.files task problem order moves → Posed run problem order moves (solve_job task)
+pub posed_by_files : (run : Run) (task : ToSolve) {problem : Formula} {order : List ℕ} {moves : List Move} → command run.words
+    ≡ Some (Solve task)
+    → Prepared run.tells (streams_of run.before) (streams_of run.after) run.files task problem order moves
+    → Posed run problem order moves (solve_job task)
 posed_by_files run task {problem = problem} gives prepared = record {
   asked = Solve task;
   gives = gives;
@@ -67,9 +74,18 @@ posed_by_files run task {problem = problem} gives prepared = record {
   made = prepared.made;
 }
 
-pub posed_by_board : (run : Run) (task : ToBench) {problem : Formula} {order : List ℕ} {moves : List Move} → command run.words ≡ Some (Bench task)
+pub posed_by_board : (run : Run) (task : ToBench) {problem : Formula} {order : List ℕ} {moves : List Move} → command run.words
+    ≡ Some (Bench task)
     → AreOfBoard task.size problem order moves → run.after Made ≡ run.before Made → Posed run problem order moves (bench_job task problem)
-posed_by_board run task gives board made = record { asked = Bench task; gives = gives; decides = refl; given = λ t. board; limits = refl; shape = refl; made = made }
+posed_by_board run task gives board made = record {
+  asked = Bench task;
+  gives = gives;
+  decides = refl;
+  given = λ t. board;
+  limits = refl;
+  shape = refl;
+  made = made;
+}
 
 -- a formula that was to be decided by what is asked for: no refusal is called for, and no verdict
 pub solve_complete : (run : Run) {problem : Formula} {order : List ℕ} {moves : List Move} {job : Job} → Posed run problem order moves job
@@ -137,19 +153,25 @@ uncreated run {problem = problem} posed u =
     }
 
 -- the proof so far, told of the bytes that the run wrote
-pub so_far_of_kind : (run : Run) (problem : Formula) (kind : State → Type 0) → (run.before ProofOut).written ≡ [] → IsProofSoFarOfKind problem.clauses kind (run.after ProofOut).written
+pub so_far_of_kind : (run : Run) (problem : Formula) (kind : State → Type 0) → (run.before ProofOut).written ≡ []
+    → IsProofSoFarOfKind problem.clauses kind (run.after ProofOut).written
     → IsProofSoFarOfKind problem.clauses kind (written_in run ProofOut)
-so_far_of_kind run problem kind idle p = subst (λ (bytes : List ℕ). IsProofSoFarOfKind problem.clauses kind bytes) (sym (whole_of (run.before ProofOut) (run.after ProofOut) idle)) p
+so_far_of_kind run problem kind idle p = subst (λ (bytes : List ℕ). IsProofSoFarOfKind problem.clauses kind bytes)
+    (sym (whole_of (run.before ProofOut) (run.after ProofOut) idle)) p
 
-pub proof_whole : (run : Run) (problem : Formula) → (run.before ProofOut).written ≡ [] → IsProof problem (limits_given run) (run.after ProofOut).written → IsProof problem (limits_given run) (written_in run ProofOut)
-proof_whole run problem idle p = subst (λ (bytes : List ℕ). IsProof problem (limits_given run) bytes) (sym (whole_of (run.before ProofOut) (run.after ProofOut) idle)) p
+pub proof_whole : (run : Run) (problem : Formula) → (run.before ProofOut).written ≡ []
+    → IsProof problem (limits_given run) (run.after ProofOut).written → IsProof problem (limits_given run) (written_in run ProofOut)
+proof_whole run problem idle p = subst (λ (bytes : List ℕ). IsProof problem (limits_given run) bytes)
+    (sym (whole_of (run.before ProofOut) (run.after ProofOut) idle)) p
 
 -- the formula was not decided
 pub undecided : (run : Run) {problem : Formula} {order : List ℕ} {moves : List Move} {job : Job} → Posed run problem order moves job
-    → Undecided run.tells (run.before ProofOut) (run.after ProofOut) (run.before Out) (run.after Out) problem order moves job run.status → Core run
+    → Undecided run.tells (run.before ProofOut) (run.after ProofOut) (run.before Out) (run.after Out) problem order moves job run.status
+    → Core run
 undecided run {problem = problem} {order = order} {moves = moves} posed u = both (write_ends run.status u.error u.ends) where
   writes : WritesProof run.tells u.created (run.after ProofOut) problem order moves (limits_given run) (Err u.error)
-  writes = subst (λ (l : Limits). WritesProof run.tells u.created (run.after ProofOut) problem order moves l (Err u.error)) (same_limits run posed) u.writes
+  writes = subst (λ (l : Limits). WritesProof run.tells u.created (run.after ProofOut) problem order moves l (Err u.error))
+      (same_limits run posed) u.writes
 
   failed : ◌≡◌ {A = Result Ending RunError} (Err u.error) (Err Torn) → OutputFailed run
   failed e = (ProofOut, inl tt, rose_since u.opens.faults.no_less (u.writes.fault e))
@@ -163,12 +185,28 @@ undecided run {problem = problem} {order = order} {moves = moves} posed u = both
 
   stands : ProofStands run
   stands = record {
-    so_far = λ t. inr (problem, asks_for run posed t, so_far_of_kind run problem (KeepsWithin problem (limits_given run)) u.opens.was_idle.written (writes.so_far t));
-    whole = λ unfaulted t. inr (problem, asks_for run posed t, proof_whole run problem u.opens.was_idle.written (writes.whole (λ e. unfaulted (torn e)) t));
-    price = λ t. inr (problem, asks_for run posed t, λ width price has paid. so_far_of_kind run problem (IsPaidFor problem (limits_given run) moves width price) u.opens.was_idle.written (writes.price width price has paid t));
+    so_far = λ t. inr (
+      problem,
+      asks_for run posed t,
+      so_far_of_kind run problem
+          (KeepsWithin problem (limits_given run)) u.opens.was_idle.written (writes.so_far t),
+    );
+    whole = λ unfaulted t. inr (
+      problem,
+      asks_for run posed t,
+      proof_whole run problem u.opens.was_idle.written
+          (writes.whole (λ e. unfaulted (torn e)) t),
+    );
+    price = λ t. inr (
+      problem,
+      asks_for run posed t,
+      λ width price has paid. so_far_of_kind run problem
+          (IsPaidFor problem (limits_given run) moves width price) u.opens.was_idle.written (writes.price width price has paid t),
+    );
   }
 
-  core : is_answer run.status ≡ false → Accepts run.status → RefusalsAreDue run → (run.status ≡ WriteFault → OutputFailed run) → (IsUnharmed run → run.status ≡ OutOfMemory) → Core run
+  core : is_answer run.status ≡ false → Accepts run.status → RefusalsAreDue run → (run.status ≡ WriteFault → OutputFailed run)
+      → (IsUnharmed run → run.status ≡ OutOfMemory) → Core run
   core unanswered accepts is_due fault memory = record {
     unsatisfiable = λ e. absurd (no_answer unanswered refl e);
     satisfiable = λ e. absurd (no_answer unanswered refl e);
@@ -193,5 +231,7 @@ undecided run {problem = problem} {order = order} {moves = moves} posed u = both
   apart d e = cc
 
   both : ((run.status ≡ WriteFault) × ◌≡◌ {A = Result Ending RunError} (Err u.error) (Err Torn)) ⊎ (run.status ≡ OutOfMemory) → Core run
-  both (inl fault) = core (ap is_answer fault.0) (accepts_write run.status fault.0) (due run fault.0 tt) (λ _. failed fault.1) (λ unharmed. absurd (unharmed.1 (failed fault.1)))
-  both (inr memory) = core (ap is_answer memory) (accepts_memory run.status memory) (due run memory tt) (λ e. absurd (apart memory e)) (λ unharmed. memory)
+  both (inl fault) = core (ap is_answer fault.0) (accepts_write run.status fault.0) (due run fault.0 tt) (λ _. failed fault.1)
+      (λ unharmed. absurd (unharmed.1 (failed fault.1)))
+  both (inr memory) = core (ap is_answer memory) (accepts_memory run.status memory) (due run memory tt) (λ e. absurd (apart memory e))
+      (λ unharmed. memory)

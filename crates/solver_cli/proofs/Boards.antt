@@ -18,13 +18,20 @@ use Rattle.solver_cli.proofs.Deciding.{deciding}
 use Rattle.solver_cli.proofs.Promised.{Core, due, short, quiet_output, no_proof, no_verdict, none_written, same_written}
 
 -- memory for the board ran out
-pub unmade : (run : Run) (asked : Command) → command run.words ≡ Some asked → Unmade (streams_of run.before) (streams_of run.after) run.status → Core run
+pub unmade : (run : Run) (asked : Command) → command run.words ≡ Some asked
+    → Unmade (streams_of run.before) (streams_of run.after) run.status → Core run
 unmade run asked gives u = short run asked gives
-    (record { proof = ap (λ (s : Streams). s.proof) u.same; made = ap (λ (s : Streams). s.made) u.same; out = ap (λ (s : Streams). s.out) u.same; makes = λ _. refl })
+    (record {
+      proof = ap (λ (s : Streams). s.proof) u.same;
+      made = ap (λ (s : Streams). s.made) u.same;
+      out = ap (λ (s : Streams). s.out) u.same;
+      makes = λ _. refl;
+    })
     u.ends
 
 -- what is complete of a run that makes a text
-make_complete : (run : Run) (task : ToMake) → command run.words ≡ Some (Make task) → (IsUnharmed run → (run.status ≡ Done) ⊎ (run.status ≡ OutOfMemory)) → IsComplete run
+make_complete : (run : Run) (task : ToMake) → command run.words ≡ Some (Make task)
+    → (IsUnharmed run → (run.status ≡ Done) ⊎ (run.status ≡ OutOfMemory)) → IsComplete run
 make_complete run task gives makes = record {
   misused = λ only. absurd (only_misuse run.words gives only);
   helped = λ only _. absurd (only_help run.words gives only);
@@ -50,8 +57,10 @@ ended_fault status is = record { unanswered = ap is_answer is; help = λ e. cc; 
 fault_not_done : {status : Status} → status ≡ WriteFault → status ≡ Done → ⊥
 fault_not_done d e = cc
 
-made : (run : Run) (task : ToMake) → command run.words ≡ Some (Make task) → run.after ProofOut ≡ run.before ProofOut → run.after Out ≡ run.before Out → Ended run.status → RefusalsAreDue run
-    → TextIsMade run → MadeStands run → (run.status ≡ WriteFault → OutputFailed run) → (IsUnharmed run → (run.status ≡ Done) ⊎ (run.status ≡ OutOfMemory)) → Core run
+made : (run : Run) (task : ToMake) → command run.words ≡ Some (Make task) → run.after ProofOut ≡ run.before ProofOut → run.after Out
+    ≡ run.before Out → Ended run.status → RefusalsAreDue run
+    → TextIsMade run → MadeStands run → (run.status ≡ WriteFault → OutputFailed run)
+    → (IsUnharmed run → (run.status ≡ Done) ⊎ (run.status ≡ OutOfMemory)) → Core run
 made run task gives proof out ended is_due text front fault makes = record {
   unsatisfiable = λ e. absurd (no_answer ended.unanswered refl e);
   satisfiable = λ e. absurd (no_answer ended.unanswered refl e);
@@ -73,14 +82,17 @@ made run task gives proof out ended is_due text front fault makes = record {
 }
 
 -- the text's file was not created
-pub file_uncreated : (run : Run) (task : ToMake) → command run.words ≡ Some (Make task) → FileUncreated (streams_of run.before) (streams_of run.after) task run.status → Core run
+pub file_uncreated : (run : Run) (task : ToMake) → command run.words ≡ Some (Make task)
+    → FileUncreated (streams_of run.before) (streams_of run.after) task run.status → Core run
 file_uncreated run task gives u =
     let failed : OutputFailed run = (Made, inl tt, u.opens.faults.cause u.failed) in
     made run task gives u.proof u.out (ended_fault run.status u.ends) (due run u.ends tt) (λ e. absurd (fault_not_done u.ends e))
-    (λ t. inl (whole_of (run.before Made) (run.after Made) u.opens.was_idle.written ∙ u.opens.idle.written)) (λ _. failed) (λ unharmed. absurd (unharmed.1 failed))
+    (λ t. inl (whole_of (run.before Made) (run.after Made) u.opens.was_idle.written ∙ u.opens.idle.written)) (λ _. failed)
+    (λ unharmed. absurd (unharmed.1 failed))
 
 -- the text was written or not
-pub written : (run : Run) (task : ToMake) → command run.words ≡ Some (Make task) → Written run.tells (streams_of run.before) (streams_of run.after) task run.status → Core run
+pub written : (run : Run) (task : ToMake) → command run.words ≡ Some (Make task)
+    → Written run.tells (streams_of run.before) (streams_of run.after) task run.status → Core run
 written run task gives w = go w.written w.puts w.ends where
   text : List ℕ
   text = made_text task.part task.size
@@ -95,9 +107,16 @@ written run task gives w = go w.written w.puts w.ends where
   front : (result : Result ⊤ Failed) → PutsText run.tells w.created (run.after Made) text result → MadeStands run
   front result puts t =
       let part = puts.front t in
-      inr (record { task = task; given = gives; rest = part.1; front = part.3 ∙ ap (λ (l : List ℕ). l ++ part.1) (sym (from_empty part.0 part.2)) })
+      inr (record {
+        task = task;
+        given = gives;
+        rest = part.1;
+        front = part.3
+            ∙ ap (λ (l : List ℕ). l ++ part.1) (sym (from_empty part.0 part.2));
+      })
 
-  go : (result : Result ⊤ Failed) → PutsText run.tells w.created (run.after Made) text result → run.status ≡ status_of_written result → Core run
+  go : (result : Result ⊤ Failed) → PutsText run.tells w.created (run.after Made) text result → run.status ≡ status_of_written result
+      → Core run
   go (Ok x) puts ends =
       made run task gives w.proof w.out (ended_done run.status ends) (due run ends tt)
       (λ e. (task, record { given = gives; written = λ t. from_empty text (puts.done t refl); flushed = λ t. puts.flushed t refl }))

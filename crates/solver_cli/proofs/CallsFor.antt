@@ -9,13 +9,16 @@ use Rattle.lrat_checker.specs.TextVerdict.{text_verdict}
 use Rattle.lrat_checker.specs.declared.verdict.Verdict.{Verdict}
 use Rattle.cnf_base.specs.Order.{natural}
 use Rattle.schedule_plan.specs.OrderText.{OrderText, order as given_order, refusal as order_refusal, overlong as overlong_order, order_text}
-use Rattle.schedule_plan.specs.ScheduleText.{ScheduleText, plan as given_plan, refusal as schedule_refusal, overlong as overlong_schedule, schedule}
+use Rattle.schedule_plan.specs.ScheduleText.{ScheduleText, plan as given_plan, refusal as schedule_refusal, overlong as overlong_schedule}
+use Rattle.schedule_plan.specs.ScheduleText.{schedule}
 use Rattle.schedule_plan.specs.declared.plan.Move.{Move}
 use Rattle.command_line.specs.Command.{Command, Solve, Check, Bench, Make, Planned, ByName, ByFile, formula_file, mode_of, command}
 use Rattle.solver_cli.specs.declared.status.Status.{Status}
-use Rattle.solver_cli.specs.declared.status.Status.TheVariants.{Sat, Unsat, Unknown, Verified, NotVerified, Done, Help, Usage, CnfRefused, OrderRefused, PlanRefused, TooLong, ReadFault, WriteFault, OutOfMemory}
+use Rattle.solver_cli.specs.declared.status.Status.TheVariants.{Sat, Unsat, Unknown, Verified, NotVerified, Done, Help, Usage, CnfRefused}
+use Rattle.solver_cli.specs.declared.status.Status.TheVariants.{OrderRefused, PlanRefused, TooLong, ReadFault, WriteFault, OutOfMemory}
 use Rattle.solver_cli.specs.Answer.{AreGiven, IsRead, IsOrdered, IsPlanned}
-use Rattle.solver_cli.specs.Headline.{Run, GivesCommand, GivesMake, Asks, AsksFor, AsksByOrder, AsksBySchedule, AsksToJudge, HasVerdict, CallsFor}
+use Rattle.solver_cli.specs.Headline.{Run, GivesCommand, GivesMake, AsksOver, AsksFor, AsksByOrder, AsksBySchedule, AsksToJudge, HasVerdict}
+use Rattle.solver_cli.specs.Headline.{CallsFor}
 use Rattle.solver_cli.proofs.Facts.{one_text, same_command}
 
 -- The refusals, text by text: what a text is refused by, and what comes next where it is accepted.
@@ -65,46 +68,56 @@ after_formula run (Check task) problem = in_file (run.files task.proof) (λ byte
 
 abbrev pub by_words : Run → Option Command → Option Status
 by_words run None = None
-by_words run (Some asked) = in_file (text_named run (formula_file asked)) (λ bytes. by_formula (cnf (mode_of asked) bytes) (after_formula run asked))
+by_words run (Some asked) = in_file (text_named run (formula_file asked))
+    (λ bytes. by_formula (cnf (mode_of asked) bytes) (after_formula run asked))
 
 abbrev pub refusal_due : Run → Option Status
 refusal_due run = by_words run (command run.words)
 
 -- a file that is read as that
-reads : {Text : Type 0} (files : Files) {file : List ℕ} {whole : List ℕ → Text} {text : Text} (says : Text → Option Status) → IsRead files file whole text → in_file (files file) (λ bytes. says (whole bytes)) ≡ says text
-reads files {whole = whole} says read = ap (λ (bytes : Option (List ℕ)). in_file bytes (λ b. says (whole b))) read.stands ∙ ap says read.says
+reads : {Text : Type 0} (files : Files) {file : List ℕ} {whole : List ℕ → Text} {text : Text} (says : Text → Option Status)
+    → IsRead files file whole text → in_file (files file) (λ bytes. says (whole bytes)) ≡ says text
+reads files {whole = whole} says read = ap (λ (bytes : Option (List ℕ)). in_file bytes (λ b. says (whole b))) read.stands
+    ∙ ap says read.says
 
 -- the words name one formula's file and one mode, and it has one text
-pub same_text : (run : Run) {asked other : Command} {text said : CnfText} → Asks run asked text → Asks run other said → text ≡ said
+pub same_text : (run : Run) {asked other : Command} {text said : CnfText} → AsksOver run asked text → AsksOver run other said → text ≡ said
 same_text run here there =
     sym here.read.says
-    ∙ ap₂ cnf (ap mode_of (same_command here.command there.command)) (one_text run.files here.command there.command here.named there.named here.read.stands there.read.stands)
+    ∙ ap₂ cnf (ap mode_of (same_command here.command there.command))
+    (one_text run.files here.command there.command here.named there.named here.read.stands there.read.stands)
     ∙ there.read.says
 
-asks : (run : Run) (asked : Command) (text : CnfText) → Asks run asked text → refusal_due run ≡ by_formula text (after_formula run asked)
+asks : (run : Run) (asked : Command) (text : CnfText) → AsksOver run asked text → refusal_due run
+    ≡ by_formula text (after_formula run asked)
 asks run asked text a =
     ap (by_words run) a.command
-    ∙ ap (λ (file : Option (List ℕ)). in_file (text_named run file) (λ bytes. by_formula (cnf (mode_of asked) bytes) (after_formula run asked))) a.named
+    ∙ ap (λ (file : Option (List ℕ)). in_file (text_named run file)
+    (λ bytes. by_formula (cnf (mode_of asked) bytes) (after_formula run asked))) a.named
     ∙ reads run.files (λ t. by_formula t (after_formula run asked)) a.read
 
-ordered : (run : Run) (file : Option (List ℕ)) (problem : Formula) (order : List ℕ) (next : Option Status) → IsOrdered run.files file problem order → with_order run file problem (λ order. next) ≡ next
+ordered : (run : Run) (file : Option (List ℕ)) (problem : Formula) (order : List ℕ) (next : Option Status)
+    → IsOrdered run.files file problem order → with_order run file problem (λ order. next) ≡ next
 ordered run None problem order next is = refl
 ordered run (Some file) problem order next is = reads run.files (λ t. by_order t (λ order. next)) is
 
-by_its_order : (run : Run) (problem : Formula) (text : OrderText) (a : AsksByOrder run problem text) → refusal_due run ≡ by_order text (λ order. after_order run a.task.plan problem)
+by_its_order : (run : Run) (problem : Formula) (text : OrderText) (a : AsksByOrder run problem text) → refusal_due run
+    ≡ by_order text (λ order. after_order run a.task.plan problem)
 by_its_order run problem text a =
     asks run (Solve a.task) (formula problem) a.asks
     ∙ ap (λ (file : Option (List ℕ)). with_order run file problem (λ order. after_order run a.task.plan problem)) a.named
     ∙ reads run.files (λ t. by_order t (λ order. after_order run a.task.plan problem)) a.read
 
-by_its_schedule : (run : Run) (problem : Formula) (text : ScheduleText) → AsksBySchedule run problem text → refusal_due run ≡ by_schedule text
+by_its_schedule : (run : Run) (problem : Formula) (text : ScheduleText) → AsksBySchedule run problem text → refusal_due run
+    ≡ by_schedule text
 by_its_schedule run problem text a =
     asks run (Solve a.task) (formula problem) a.asks
     ∙ ordered run a.task.order problem a.order (after_order run a.task.plan problem) a.ordered
     ∙ ap (λ (plan : Planned). after_order run plan problem) a.named
     ∙ reads run.files by_schedule a.read
 
-to_judge : (run : Run) (problem : Formula) (bytes : List ℕ) → AsksToJudge run problem bytes → refusal_due run ≡ by_proof (text_verdict problem.clauses bytes)
+to_judge : (run : Run) (problem : Formula) (bytes : List ℕ) → AsksToJudge run problem bytes → refusal_due run
+    ≡ by_proof (text_verdict problem.clauses bytes)
 to_judge run problem bytes a =
     asks run (Check a.task) (formula problem) a.asks
     ∙ ap (λ (b : Option (List ℕ)). in_file b (λ bytes. by_proof (text_verdict problem.clauses bytes))) a.stands
@@ -147,7 +160,8 @@ pub one_call : (run : Run) (status other : Status) → CallsFor run status → C
 one_call run status other here there = same_some (called run status here) (called run other there)
 
 -- none is where all texts are accepted
-planned : (run : Run) (plan : Planned) (problem : Formula) (order : List ℕ) (moves : List Move) → IsPlanned run.files plan problem order moves → after_order run plan problem ≡ None
+planned : (run : Run) (plan : Planned) (problem : Formula) (order : List ℕ) (moves : List Move)
+    → IsPlanned run.files plan problem order moves → after_order run plan problem ≡ None
 planned run (ByName name) problem order moves is = refl
 planned run (ByFile file) problem order moves is = reads run.files by_schedule is
 
@@ -167,8 +181,10 @@ pub no_call_made : (run : Run) → GivesMake run → (status : Status) → Calls
 no_call_made run given status is = some_none (called run status is) (ap (by_words run) given.1)
 
 -- or where the proof has a verdict
-pub no_call_judged : (run : Run) (problem : Formula) (bytes : List ℕ) (judged : Verdict) → HasVerdict run problem bytes judged → (status : Status) → CallsFor run status → ⊥
-no_call_judged run problem bytes judged has status is = some_none (called run status is) (to_judge run problem bytes has.asked ∙ ap by_proof has.judged)
+pub no_call_judged : (run : Run) (problem : Formula) (bytes : List ℕ) (judged : Verdict) → HasVerdict run problem bytes judged
+    → (status : Status) → CallsFor run status → ⊥
+no_call_judged run problem bytes judged has status is = some_none (called run status is) (to_judge run problem bytes has.asked
+    ∙ ap by_proof has.judged)
 
 -- a refusal is called for only where the words give a command
 pub calls_give : (run : Run) (status : Status) → CallsFor run status → GivesCommand run

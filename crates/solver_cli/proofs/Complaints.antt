@@ -10,13 +10,17 @@ use Rattle.solver_cli.specs.ErrorText.{role_word, refused_line, error_text}
 use Rattle.solver_cli.specs.Phases.{Complains}
 
 -- a flush behind a write covers all bytes, where no call failed
-flushed_whole : {T U : Type 0} (tells : Bool) (old mid new : Channel) (piece : List ℕ) (result : Result T Failed) (flushed : Result U Failed) → WritesAll tells old mid piece result → Flushes tells mid new flushed
+flushed_whole : {T U : Type 0} (tells : Bool) (old mid new : Channel) (piece : List ℕ) (result : Result T Failed)
+    (flushed : Result U Failed) → WritesAll tells old mid piece result → Flushes tells mid new flushed
     → IsTrue tells → (Rose old.faults new.faults → ⊥) → new.flushed ≡ length new.written
 flushed_whole tells old mid new piece result (Ok u) writes flushes t none = flushes.done t refl
-flushed_whole tells old mid new piece result (Err e) writes flushes t none = absurd (none (omega (arith, flushes.faults.cause refl, writes.faults.no_less)))
+flushed_whole tells old mid new piece result (Err e) writes flushes t none = absurd
+    (none (omega (arith, flushes.faults.cause refl, writes.faults.no_less)))
 
 -- the text was written, and whatever came of the flush
-pub complained : {T U : Type 0} (tells : Bool) (old mid new : Channel) (status : Status) (result : Result T Failed) (flushed : Result U Failed) → WritesAll tells old mid (error_text status) result → Flushes tells mid new flushed → Complains tells old new status
+pub complained : {T U : Type 0} (tells : Bool) (old mid new : Channel) (status : Status) (result : Result T Failed)
+    (flushed : Result U Failed) → WritesAll tells old mid (error_text status) result → Flushes tells mid new flushed
+    → Complains tells old new status
 complained tells old mid new status (Ok u) flushed writes flushes = record {
   written = λ t. (error_text status, [], flushes.written ∙ writes.done t refl, sym (append-nil (error_text status)), λ _. refl);
   flushed = flushed_whole tells old mid new (error_text status) (Ok u) flushed writes flushes;
@@ -36,7 +40,8 @@ complained tells old mid new status (Err e) flushed writes flushes = record {
 }
 
 -- the parts of the line about a text that was refused
-pub parts : (start digits last kind : List ℕ) → ((start ++ digits) ++ last) ++ kind ++ codes "\n" ≡ start ++ (digits ++ (last ++ kind ++ codes "\n"))
+pub parts : (start digits last kind : List ℕ) → ((start ++ digits) ++ last) ++ kind ++ codes "\n" ≡ start
+    ++ (digits ++ (last ++ kind ++ codes "\n"))
 parts start digits last kind = simp append_assoc
 
 -- what is written behind the line's number
@@ -44,8 +49,11 @@ abbrev pub kind_part : List ℕ → List ℕ
 kind_part kind = codes ": " ++ kind ++ codes "\n"
 
 -- writing the three parts writes the line
-pub refused : {T : Type 0} {tells : Bool} {old new : Channel} {result : Result T Failed} (role : Role) (line : ℕ) (kind start rest : List ℕ) → WritesAll tells old new (start ++ (decimal line ++ rest)) result
-    → start ≡ codes "error: " ++ role_word role ++ codes " line " → rest ≡ kind_part kind → WritesAll tells old new (refused_line role line kind) result
+pub refused : {T : Type 0} {tells : Bool} {old new : Channel} {result : Result T Failed} (role : Role) (line : ℕ) (kind start rest : List ℕ)
+    → WritesAll tells old new (start ++ (decimal line ++ rest)) result
+    → start ≡ codes "error: " ++ role_word role ++ codes " line " → rest ≡ kind_part kind
+    → WritesAll tells old new (refused_line role line kind) result
 refused {tells = tells} {old = old} {new = new} {result = result} role line kind start rest writes is_start is_rest =
     subst (λ (text : List ℕ). WritesAll tells old new text result)
-    (ap₂ (λ (a b : List ℕ). a ++ (decimal line ++ b)) is_start is_rest ∙ sym (parts (codes "error: " ++ role_word role ++ codes " line ") (decimal line) (codes ": ") kind)) writes
+    (ap₂ (λ (a b : List ℕ). a ++ (decimal line ++ b)) is_start is_rest
+    ∙ sym (parts (codes "error: " ++ role_word role ++ codes " line ") (decimal line) (codes ": ") kind)) writes

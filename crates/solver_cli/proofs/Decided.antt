@@ -29,7 +29,8 @@ last_of {formula = formula} {bytes = bytes} spells leads =
 
 pub written : {tells : Bool} {old new : Channel} {problem : Formula} {order : List ℕ} {moves : List Move} {limits : Limits}
     → ((clauses : List (List ℤ)) (bytes : List ℕ) (state : State) → IsWritten clauses bytes state → Spells clauses bytes state)
-    → (result : Result Run RunError) → Ends tells old new problem order moves limits result → WritesProof tells old new problem order moves limits result
+    → (result : Result Run RunError) → Ends tells old new problem order moves limits result
+    → WritesProof tells old new problem order moves limits result
 written spells (Ok run) ends = record {
   says = ends.says;
   certain = ends.certain;

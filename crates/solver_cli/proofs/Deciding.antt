@@ -7,11 +7,17 @@ use Rattle.command_line.specs.Command.{Command, Solve, Check, Bench, Make}
 use Rattle.solver_cli.specs.Answer.{AreGiven}
 use Rattle.solver_cli.specs.Headline.{Run, GivesDecision, AsksFor, decides}
 
-given_decides : (files : Files) (asked : Command) (problem : Formula) (order : List ℕ) (moves : List Move) → AreGiven files asked problem order moves → IsTrue (decides asked)
+given_decides : (files : Files) (asked : Command) (problem : Formula) (order : List ℕ) (moves : List Move)
+    → AreGiven files asked problem order moves → IsTrue (decides asked)
 given_decides files (Solve task) problem order moves given = refl
 given_decides files (Check task) problem order moves given = absurd given
 given_decides files (Bench task) problem order moves given = refl
 given_decides files (Make task) problem order moves given = absurd given
 
 pub deciding : (run : Run) (problem : Formula) → AsksFor run problem → GivesDecision run
-deciding run problem asks = (asks.by.asked, asks.by.command, given_decides run.files asks.by.asked problem asks.order asks.moves asks.by.given)
+deciding run problem asks = (
+  asks.by.asked,
+  asks.by.command,
+  given_decides run.files asks.by.asked problem asks.order asks.moves
+      asks.by.given,
+)

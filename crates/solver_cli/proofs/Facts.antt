@@ -1,5 +1,6 @@
 -- What the stages of a run say of its streams, for the promises.
-use Rattle.std.proofs.Common.{◌≡◌, ℕ, IsTrue, true, false, List, [], ◌∷◌, ◌++◌, length, append-nil, refl, sym, ap, ◌∙◌, Some, None, Err, inl, inr, true≢false, subst, Ok, IfOk}
+use Rattle.std.proofs.Common.{◌≡◌, ℕ, IsTrue, true, false, List, [], ◌∷◌, ◌++◌, length, append-nil, refl, sym, ap, ◌∙◌, Some, None, Err}
+use Rattle.std.proofs.Common.{inl, inr, true≢false, subst, Ok, IfOk}
 use Rattle.std.specs.Prelude.{Option, Result, drop, ◌⊎◌}
 use Rattle.std.proofs.Math.Seq.{drop-append_seam}
 use Rattle.cnf_base.specs.Formula.{Formula}
@@ -11,7 +12,8 @@ use Rattle.dimacs_reader.specs.Cnf.{CnfText, formula}
 use Rattle.solver_cli.specs.declared.status.Status.{Status}
 use Rattle.solver_cli.specs.declared.status.Status.TheVariants.{WriteFault, OutOfMemory}
 use Rattle.solver_cli.specs.ErrorText.{is_answer}
-use Rattle.command_line.specs.Command.{Command, ToSolve, ToCheck, ToMake, Solve, Check, Make, formula_file, Meaning, Asks, AsksHelp, Misuse, IsOneOf, MayMean, CanOnlyMean, meanings, only_command, command}
+use Rattle.command_line.specs.Command.{Command, ToSolve, ToCheck, ToMake, Solve, Check, Make, formula_file, Meaning, AsksOver, AsksHelp}
+use Rattle.command_line.specs.Command.{Misuse, IsOneOf, MayMean, CanOnlyMean, meanings, only_command, command}
 use Rattle.solver_cli.specs.ExitCode.{status_of_run}
 use Rattle.solver_cli.specs.Headline.{decides}
 
@@ -19,7 +21,8 @@ use Rattle.solver_cli.specs.Headline.{decides}
 pub behind : (old new : Channel) (part : List ℕ) → new.written ≡ old.written ++ part → drop (length old.written) new.written ≡ part
 behind old new part grown = ap (drop (length old.written)) grown ∙ drop-append_seam old.written part
 
-pub grown_by : (old new : Channel) (part : List ℕ) → new.written ≡ old.written ++ part → new.written ≡ old.written ++ drop (length old.written) new.written
+pub grown_by : (old new : Channel) (part : List ℕ) → new.written ≡ old.written ++ part → new.written ≡ old.written
+    ++ drop (length old.written) new.written
 grown_by old new part grown = grown ∙ ap (λ (l : List ℕ). old.written ++ l) (sym (behind old new part grown))
 
 pub nothing_more : (old new : Channel) → new.written ≡ old.written → new.written ≡ old.written ++ []
@@ -49,15 +52,17 @@ same_command here there = inner (sym here ∙ there) where
   inner e = cc
 
 pub one_text : (files : List ℕ → Option (List ℕ)) {words : Option Command} {asked other : Command} {file name bytes text : List ℕ}
-    → words ≡ Some asked → words ≡ Some other → formula_file asked ≡ Some file → formula_file other ≡ Some name → files file ≡ Some bytes → files name ≡ Some text → bytes ≡ text
+    → words ≡ Some asked → words ≡ Some other → formula_file asked ≡ Some file → formula_file other ≡ Some name → files file ≡ Some bytes
+    → files name ≡ Some text → bytes ≡ text
 one_text files here there named named_there stands stands_there =
     same_some (sym stands ∙ ap files (same_some (sym named ∙ ap formula_file (same_command here there) ∙ named_there)) ∙ stands_there)
 
 pub one_proof : (files : List ℕ → Option (List ℕ)) {words : Option Command} {task other : ToCheck} {bytes text : List ℕ}
     → words ≡ Some (Check task) → words ≡ Some (Check other) → files task.proof ≡ Some bytes → files other.proof ≡ Some text → bytes ≡ text
-one_proof files here there stands stands_there = same_some (sym stands ∙ ap (λ (t : ToCheck). files t.proof) (same_task _ _ (sym here ∙ there)) ∙ stands_there) where
-  same_task : (a b : ToCheck) → ◌≡◌ {A = Option Command} (Some (Check a)) (Some (Check b)) → a ≡ b
-  same_task a b e = cc
+one_proof files here there stands stands_there = same_some (sym stands
+    ∙ ap (λ (t : ToCheck). files t.proof) (same_task _ _ (sym here ∙ there)) ∙ stands_there) where
+      same_task : (a b : ToCheck) → ◌≡◌ {A = Option Command} (Some (Check a)) (Some (Check b)) → a ≡ b
+      same_task a b e = cc
 
 pub two_commands : {words : Option Command} {task : ToSolve} {other : ToCheck} → words ≡ Some (Solve task) → words ≡ Some (Check other) → ⊥
 two_commands {task = task} {other = other} here there = apart (sym here ∙ there) where
@@ -65,7 +70,8 @@ two_commands {task = task} {other = other} here there = apart (sym here ∙ ther
   apart e = cc
 
 -- a command that decides a formula, and one that doesn't
-pub decided_apart : {words : Option Command} {asked other : Command} → words ≡ Some asked → IsTrue (decides asked) → words ≡ Some other → decides other ≡ false → ⊥
+pub decided_apart : {words : Option Command} {asked other : Command} → words ≡ Some asked → IsTrue (decides asked) → words ≡ Some other
+    → decides other ≡ false → ⊥
 decided_apart here is there never = true≢false (sym is ∙ ap decides (same_command here there) ∙ never)
 
 pub checks_apart : {words : Option Command} {task : ToCheck} {other : ToMake} → words ≡ Some (Check task) → words ≡ Some (Make other) → ⊥
@@ -80,29 +86,30 @@ not_unasked {asked = asked} here none = apart (sym here ∙ none) where
   apart e = cc
 
 -- words that give a command can mean nothing else
-only_this : (meanings : List Meaning) (asked : Command) (meaning : Meaning) → only_command meanings ≡ Some asked → IsOneOf meaning meanings → meaning ≡ Asks asked
+only_this : (meanings : List Meaning) (asked : Command) (meaning : Meaning) → only_command meanings ≡ Some asked → IsOneOf meaning meanings
+    → meaning ≡ AsksOver asked
 only_this [] asked meaning e is = absurd is
-only_this (Asks one ∷ []) asked meaning e (inl same) = same ∙ inner e where
-  inner : {a b : Command} → ◌≡◌ {A = Option Command} (Some a) (Some b) → Asks a ≡ Asks b
+only_this (AsksOver one ∷ []) asked meaning e (inl same) = same ∙ inner e where
+  inner : {a b : Command} → ◌≡◌ {A = Option Command} (Some a) (Some b) → AsksOver a ≡ AsksOver b
   inner e = cc
-only_this (Asks one ∷ []) asked meaning e (inr none) = absurd none
-only_this (Asks one ∷ more ∷ others) asked meaning e is = cc
+only_this (AsksOver one ∷ []) asked meaning e (inr none) = absurd none
+only_this (AsksOver one ∷ more ∷ others) asked meaning e is = cc
 only_this (AsksHelp ∷ more) asked meaning e is = cc
 only_this (Misuse ∷ more) asked meaning e is = cc
 
-this_one : (meanings : List Meaning) (asked : Command) → only_command meanings ≡ Some asked → IsOneOf (Asks asked) meanings
+this_one : (meanings : List Meaning) (asked : Command) → only_command meanings ≡ Some asked → IsOneOf (AsksOver asked) meanings
 this_one [] asked e = cc
-this_one (Asks one ∷ []) asked e = inl (inner e) where
-  inner : {a b : Command} → ◌≡◌ {A = Option Command} (Some a) (Some b) → Asks b ≡ Asks a
+this_one (AsksOver one ∷ []) asked e = inl (inner e) where
+  inner : {a b : Command} → ◌≡◌ {A = Option Command} (Some a) (Some b) → AsksOver b ≡ AsksOver a
   inner e = cc
-this_one (Asks one ∷ more ∷ others) asked e = cc
+this_one (AsksOver one ∷ more ∷ others) asked e = cc
 this_one (AsksHelp ∷ more) asked e = cc
 this_one (Misuse ∷ more) asked e = cc
 
-misuse_apart : {asked : Command} → Misuse ≡ Asks asked → ⊥
+misuse_apart : {asked : Command} → Misuse ≡ AsksOver asked → ⊥
 misuse_apart e = cc
 
-help_apart : {asked : Command} → AsksHelp ≡ Asks asked → ⊥
+help_apart : {asked : Command} → AsksHelp ≡ AsksOver asked → ⊥
 help_apart e = cc
 
 pub no_misuse : (words : List (List ℕ)) {asked : Command} → command words ≡ Some asked → MayMean words Misuse → ⊥
@@ -112,10 +119,10 @@ pub no_help : (words : List (List ℕ)) {asked : Command} → command words ≡ 
 no_help words {asked = asked} e is = help_apart (only_this (meanings words) asked AsksHelp e is)
 
 pub only_misuse : (words : List (List ℕ)) {asked : Command} → command words ≡ Some asked → CanOnlyMean words Misuse → ⊥
-only_misuse words {asked = asked} e only = misuse_apart (sym (only (Asks asked) (this_one (meanings words) asked e)))
+only_misuse words {asked = asked} e only = misuse_apart (sym (only (AsksOver asked) (this_one (meanings words) asked e)))
 
 pub only_help : (words : List (List ℕ)) {asked : Command} → command words ≡ Some asked → CanOnlyMean words AsksHelp → ⊥
-only_help words {asked = asked} e only = help_apart (sym (only (Asks asked) (this_one (meanings words) asked e)))
+only_help words {asked = asked} e only = help_apart (sym (only (AsksOver asked) (this_one (meanings words) asked e)))
 
 pub same_formula : {text : CnfText} {problem other : Formula} → text ≡ formula problem → text ≡ formula other → problem ≡ other
 same_formula e d = inner _ _ (sym e ∙ d) where

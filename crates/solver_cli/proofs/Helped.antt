@@ -28,10 +28,12 @@ shown_fault status is = record { unanswered = ap is_answer is; done = λ e. cc; 
 
 pub helped : (run : Run) → Helped run.tells run.words (streams_of run.before) (streams_of run.after) run.status → Core run
 helped run h = go h.shows.printed h.shows.puts h.shows.ends where
-  grows : (printed : Result ⊤ Failed) → PutsText run.tells (run.before Out) (run.after Out) h.shows.text printed → IsTrue run.tells → (run.after Out).written ≡ (run.before Out).written ++ written_in run Out
+  grows : (printed : Result ⊤ Failed) → PutsText run.tells (run.before Out) (run.after Out) h.shows.text printed → IsTrue run.tells
+      → (run.after Out).written ≡ (run.before Out).written ++ written_in run Out
   grows printed puts t = let front = puts.front t in grown_by (run.before Out) (run.after Out) front.0 front.2
 
-  fronts : (printed : Result ⊤ Failed) → PutsText run.tells (run.before Out) (run.after Out) h.shows.text printed → IsTrue run.tells → IsHelp run
+  fronts : (printed : Result ⊤ Failed) → PutsText run.tells (run.before Out) (run.after Out) h.shows.text printed → IsTrue run.tells
+      → IsHelp run
   fronts printed puts t = let front = puts.front t in record {
     due = h.due;
     text = h.shows.text;
@@ -42,7 +44,8 @@ helped run h = go h.shows.printed h.shows.puts h.shows.ends where
   no_wish : AsksHelp ≡ Misuse → ⊥
   no_wish e = cc
 
-  core : (printed : Result ⊤ Failed) → PutsText run.tells (run.before Out) (run.after Out) h.shows.text printed → Shown run.status → RefusalsAreDue run
+  core : (printed : Result ⊤ Failed) → PutsText run.tells (run.before Out) (run.after Out) h.shows.text printed → Shown run.status
+      → RefusalsAreDue run
       → (run.status ≡ WriteFault → HasFault run Out)
       → (run.status ≡ Help → IsTrue run.tells → (help : IsHelp run) × (help.rest ≡ []))
       → (run.status ≡ Help → IsTrue run.tells → (run.after Out).flushed ≡ length (run.after Out).written)
@@ -56,7 +59,13 @@ helped run h = go h.shows.printed h.shows.puts h.shows.ends where
     made = λ e. absurd (shown.done e);
     made_file = no_text run h.made;
     refusals = is_due;
-    faults = λ quiet. record { read = λ e. absurd (shown.read e); undecided = λ e. absurd (shown.read e); quiet = quiet; write = λ e. (Out, inr refl, rose e); accepted = λ e. inl h.due };
+    faults = λ quiet. record {
+      read = λ e. absurd (shown.read e);
+      undecided = λ e. absurd (shown.read e);
+      quiet = quiet;
+      write = λ e. (Out, inr refl, rose e);
+      accepted = λ e. inl h.due;
+    };
     output = record {
       grows = grows printed puts;
       front = λ t. inr (inr (fronts printed puts t));
@@ -77,9 +86,11 @@ helped run h = go h.shows.printed h.shows.puts h.shows.ends where
     };
   }
 
-  go : (printed : Result ⊤ Failed) → PutsText run.tells (run.before Out) (run.after Out) h.shows.text printed → run.status ≡ status_of_help printed → Core run
+  go : (printed : Result ⊤ Failed) → PutsText run.tells (run.before Out) (run.after Out) h.shows.text printed → run.status
+      ≡ status_of_help printed → Core run
   go (Ok x) puts ends =
-      let all : IsTrue run.tells → written_in run Out ≡ h.shows.text = λ t. behind (run.before Out) (run.after Out) h.shows.text (puts.done t refl) in
+      let all : IsTrue run.tells → written_in run Out ≡ h.shows.text = λ t. behind (run.before Out) (run.after Out) h.shows.text
+      (puts.done t refl) in
       core (Ok x) puts (shown_help run.status ends) (due run ends h.due) (λ e. absurd (apart ends e))
       (λ e t. (record { due = h.due; text = h.shows.text; rest = []; front = sym (all t) ∙ sym (append-nil (written_in run Out)) }, refl))
       (λ e t. puts.flushed t refl) (λ unhelped _. unhelped ends) (λ faultless. inl ends) where
@@ -87,6 +98,7 @@ helped run h = go h.shows.printed h.shows.puts h.shows.ends where
         apart d e = cc
   go (Err e) puts ends =
       let rose : HasFault run Out = puts.fault refl in
-      core (Err e) puts (shown_fault run.status ends) (due run ends tt) (λ _. rose) (λ d. absurd (apart ends d)) (λ d. absurd (apart ends d)) (λ _ unfaulted. unfaulted ends) (λ faultless. absurd (faultless rose)) where
+      core (Err e) puts (shown_fault run.status ends) (due run ends tt) (λ _. rose) (λ d. absurd (apart ends d))
+      (λ d. absurd (apart ends d)) (λ _ unfaulted. unfaulted ends) (λ faultless. absurd (faultless rose)) where
         apart : {status : Status} → status ≡ WriteFault → status ≡ Help → ⊥
         apart d e = cc

@@ -12,9 +12,11 @@ use Rattle.lrat_checker.specs.declared.verdict.CheckError.TheVariants.{ReadFault
 use Rattle.solver_cli.specs.Phases.{ChecksProof, JudgesProof}
 use Rattle.solver_cli.proofs.Reading.{none_taken, rose_since}
 
-seen : (tells : Bool) (old new : Channel) (clauses : List (List ℤ)) (result : Result Verdict CheckError) → (IsTrue tells → Decides old new (λ bytes more. Answers result (text_verdict clauses bytes)))
+seen : (tells : Bool) (old new : Channel) (clauses : List (List ℤ)) (result : Result Verdict CheckError)
+    → (IsTrue tells → Decides old new (λ bytes more. Answers result (text_verdict clauses bytes)))
     → (result ≡ Err ReadFault → Rose old.faults new.faults) → (result ≢ Err ReadFault → new.faults ≡ old.faults)
-    → (IsTrue tells → result ≡ Err ReadFault → verdict_so_far clauses (gained old new) ≡ None) → OnlyReads old new → ChecksProof tells old new clauses result
+    → (IsTrue tells → result ≡ Err ReadFault → verdict_so_far clauses (gained old new) ≡ None) → OnlyReads old new
+    → ChecksProof tells old new clauses result
 seen tells old new clauses result decides fault unfailed undecided reads = record {
   judged = λ t. Decides-whole (decides t);
   decided = λ t. Decides-taken (decides t);
@@ -26,19 +28,24 @@ seen tells old new clauses result decides fault unfailed undecided reads = recor
   faults = reads.faults;
 }
 
-pub checked : {tells : Bool} {seen_old seen_new old new : Channel} {clauses : List (List ℤ)} {result : Result Verdict CheckError} → seen_old ≡ old → new ≡ seen_new
+pub checked : {tells : Bool} {seen_old seen_new old new : Channel} {clauses : List (List ℤ)} {result : Result Verdict CheckError} → seen_old
+    ≡ old → new ≡ seen_new
     → (IsTrue tells → Decides seen_old seen_new (λ bytes more. Answers result (text_verdict clauses bytes)))
     → (result ≡ Err ReadFault → Rose seen_old.faults seen_new.faults) → (result ≢ Err ReadFault → seen_new.faults ≡ seen_old.faults)
-    → (IsTrue tells → result ≡ Err ReadFault → verdict_so_far clauses (gained seen_old seen_new) ≡ None) → OnlyReads seen_old seen_new → ChecksProof tells old new clauses result
-checked {tells = tells} {seen_old = seen_old} {seen_new = seen_new} {old = old} {new = new} {clauses = clauses} {result = result} from to decides fault unfailed undecided reads =
+    → (IsTrue tells → result ≡ Err ReadFault → verdict_so_far clauses (gained seen_old seen_new) ≡ None) → OnlyReads seen_old seen_new
+    → ChecksProof tells old new clauses result
+checked {tells = tells} {seen_old = seen_old} {seen_new = seen_new} {old = old} {new = new} {clauses = clauses} {result = result} from to
+    decides fault unfailed undecided reads =
     subst (λ (o : Channel). ChecksProof tells o new clauses result) from
-    (subst (λ (n : Channel). ChecksProof tells seen_old n clauses result) (sym to) (seen tells seen_old seen_new clauses result decides fault unfailed undecided reads))
+    (subst (λ (n : Channel). ChecksProof tells seen_old n clauses result) (sym to)
+    (seen tells seen_old seen_new clauses result decides fault unfailed undecided reads))
 
 empty_text : (clauses : List (List ℤ)) → verdict_so_far clauses [] ≡ None
 empty_text clauses = refl
 
 -- the file was not opened
-pub unopened : {tells : Bool} {old new : Channel} {files : Files} {file : List ℕ} {clauses : List (List ℤ)} {answer : Result ⊤ Failed} → Opens old new file answer → IsErr answer → JudgesProof tells old new files file clauses (Err ReadFault)
+pub unopened : {tells : Bool} {old new : Channel} {files : Files} {file : List ℕ} {clauses : List (List ℤ)} {answer : Result ⊤ Failed}
+    → Opens old new file answer → IsErr answer → JudgesProof tells old new files file clauses (Err ReadFault)
 unopened {clauses = clauses} opens failed = record {
   read = λ t. inl refl;
   fault = λ e. opens.faults.cause failed;
@@ -50,10 +57,13 @@ unopened {clauses = clauses} opens failed = record {
 }
 
 -- the file was opened, and then its text was judged
-pub judged : {tells : Bool} {old opened new : Channel} {files : Files} {file : List ℕ} {clauses : List (List ℤ)} {answer : Result ⊤ Failed} {result : Result Verdict CheckError}
-    → Opens old opened file answer → IsOk answer → (IsTrue tells → files file ≡ Some opened.left) → ChecksProof tells opened new clauses result → JudgesProof tells old new files file clauses result
+pub judged : {tells : Bool} {old opened new : Channel} {files : Files} {file : List ℕ} {clauses : List
+    (List ℤ)} {answer : Result ⊤ Failed} {result : Result Verdict CheckError}
+    → Opens old opened file answer → IsOk answer → (IsTrue tells → files file ≡ Some opened.left)
+    → ChecksProof tells opened new clauses result → JudgesProof tells old new files file clauses result
 judged {tells = tells} {old = old} {opened = opened} {new = new} {clauses = clauses} {result = result} opens ok content checks =
-    let same : gained opened new ≡ gained old new = ap (λ (l : List ℕ). drop (length l) new.taken) (opens.idle.taken ∙ sym opens.was_idle.taken) in
+    let same : gained opened new ≡ gained old new = ap (λ (l : List ℕ). drop (length l) new.taken) (opens.idle.taken
+    ∙ sym opens.was_idle.taken) in
     record {
       read = λ t. inr (record {
         bytes = opened.left;

@@ -6,7 +6,8 @@ use Rattle.host_io.specs.declared.role.Role.{Role}
 use Rattle.host_io.specs.declared.role.Role.TheVariants.{Cnf, Order, Schedule, ProofIn, ProofOut, Made, Out, Err as ErrRole}
 use Rattle.host_io.specs.declared.source.Failed.{Failed}
 use Rattle.cnf_base.specs.Formula.{Formula}
-use Rattle.command_line.specs.Command.{Command, ToSolve, ToCheck, ToBench, ToMake, Solve, Check, Bench, Make, formula_file, mode_of, command}
+use Rattle.command_line.specs.Command.{Command, ToSolve, ToCheck, ToBench, ToMake, Solve, Check, Bench, Make, formula_file, mode_of}
+use Rattle.command_line.specs.Command.{command}
 use Rattle.term_runner.specs.declared.outcome.Outcome.{Outcome}
 use Rattle.term_runner.specs.declared.outcome.Outcome.TheVariants as outcome
 use Rattle.term_runner.specs.declared.outcome.Run.{Run as Ending}
@@ -20,7 +21,8 @@ use Rattle.schedule_plan.specs.declared.plan.Move.{Move}
 use Rattle.schedule_plan.specs.declared.order_error.OrderError.{OrderError}
 use Rattle.schedule_plan.specs.declared.schedule.error.PlanError.{PlanError}
 use Rattle.solver_cli.specs.Phases.{HasOrder, HasPlan, Complains}
-use Rattle.solver_cli.specs.Stages.{Streams, FilesBeside, Helped, Job, NoneRead, Untaken, streams_of, Came, CameToAnswer, CameToBench, CameToCheck, CameToMake, Stages, status_after, status_of_written}
+use Rattle.solver_cli.specs.Stages.{Streams, FilesBeside, Helped, Job, NoneRead, Untaken, streams_of, Came, CameToAnswer, CameToBench}
+use Rattle.solver_cli.specs.Stages.{CameToCheck, CameToMake, Stages, status_after, status_of_written}
 use Rattle.solver_cli.specs.Headline.{Run, GivesDecision, AsksFor, ErrorStands, NamesAreGiven, name_given, ends_before_proof}
 use Rattle.solver_cli.proofs.Facts.{behind, grown_by}
 use Rattle.solver_cli.proofs.Served.{order_name, plan_name}
@@ -28,7 +30,8 @@ use Rattle.solver_cli.proofs.Accepted.{Posed, asks_for, decision, posed_by_board
 
 -- a role has no name, or the one that the words give it
 abbrev pub IsNamed : Run → Role → Type 0
-IsNamed run role = ((run.after role).name ≡ None) ⊎ ((asked : Command) × (command run.words ≡ Some asked) × ((run.after role).name ≡ name_given role asked))
+IsNamed run role = ((run.after role).name ≡ None) ⊎ ((asked : Command) × (command run.words ≡ Some asked)
+    × ((run.after role).name ≡ name_given role asked))
 
 -- the proof has a name only where the words give a command that decides a formula and this was accepted
 abbrev pub IsAccepted : Run → Type 0
@@ -53,15 +56,18 @@ pub record StreamNames (run : Run) : Type 0 where
 name_of : {old new : Channel} → new ≡ old → old.name ≡ None → new.name ≡ None
 name_of same none = ap (λ (c : Channel). c.name) same ∙ none
 
-given : (run : Run) (asked : Command) (file : List ℕ) → command run.words ≡ Some asked → formula_file asked ≡ Some file → ((run.after Cnf).name ≡ Some file) ⊎ ((run.after Cnf).name ≡ None) → IsNamed run Cnf
+given : (run : Run) (asked : Command) (file : List ℕ) → command run.words ≡ Some asked → formula_file asked ≡ Some file
+    → ((run.after Cnf).name ≡ Some file) ⊎ ((run.after Cnf).name ≡ None) → IsNamed run Cnf
 given run asked file gives named (inl some) = inr (asked, gives, some ∙ sym named)
 given run asked file gives named (inr none) = inl none
 
-given_judged : (run : Run) (task : ToCheck) → command run.words ≡ Some (Check task) → ((run.after ProofIn).name ≡ Some task.proof) ⊎ ((run.after ProofIn).name ≡ None) → IsNamed run ProofIn
+given_judged : (run : Run) (task : ToCheck) → command run.words ≡ Some (Check task) → ((run.after ProofIn).name ≡ Some task.proof)
+    ⊎ ((run.after ProofIn).name ≡ None) → IsNamed run ProofIn
 given_judged run task asked (inl some) = inr (Check task, asked, some)
 given_judged run task asked (inr none) = inl none
 
-given_proof : (run : Run) (asked : Command) (file : List ℕ) → command run.words ≡ Some asked → name_given ProofOut asked ≡ Some file → ((run.after ProofOut).name ≡ Some file) ⊎ ((run.after ProofOut).name ≡ None) → IsNamed run ProofOut
+given_proof : (run : Run) (asked : Command) (file : List ℕ) → command run.words ≡ Some asked → name_given ProofOut asked ≡ Some file
+    → ((run.after ProofOut).name ≡ Some file) ⊎ ((run.after ProofOut).name ≡ None) → IsNamed run ProofOut
 given_proof run asked file gives named (inl some) = inr (asked, gives, some ∙ sym named)
 given_proof run asked file gives named (inr none) = inl none
 
@@ -80,14 +86,16 @@ left_made : (run : Run) → run.after Made ≡ run.before Made → (run.before M
 left_made run same none = let now = name_of same none in record { named = inl now; finished = unnamed_made run now }
 
 -- the order's file, and the schedule's
-given_order : (run : Run) (task : ToSolve) → command run.words ≡ Some (Solve task) → (run.before Order).name ≡ None → {result : Result (List ℕ) OrderError} {vars : ℕ}
+given_order : (run : Run) (task : ToSolve) → command run.words ≡ Some (Solve task) → (run.before Order).name ≡ None
+    → {result : Result (List ℕ) OrderError} {vars : ℕ}
     → HasOrder vars task.order run.tells (run.before Order) (run.after Order) run.files result → IsNamed run Order
 given_order run task asked unnamed has = elim (order_name task.order has) [
   | inl same ↦ inl (same ∙ unnamed)
   | inr other ↦ elim other [ inl named ↦ inr (Solve task, asked, named) | inr none ↦ inl none ]
 ]
 
-given_schedule : (run : Run) (task : ToSolve) → command run.words ≡ Some (Solve task) → (run.before Schedule).name ≡ None → {result : Result (List Move) PlanError} {problem : Formula} {order : List ℕ}
+given_schedule : (run : Run) (task : ToSolve) → command run.words ≡ Some (Solve task) → (run.before Schedule).name ≡ None
+    → {result : Result (List Move) PlanError} {problem : Formula} {order : List ℕ}
     → HasPlan problem order task.plan run.tells (run.before Schedule) (run.after Schedule) run.files result → IsNamed run Schedule
 given_schedule run task asked unnamed has = elim (plan_name task.plan has) [
   | inl same ↦ inl (same ∙ unnamed)
@@ -117,8 +125,10 @@ record AnswerNames (run : Run) : Type 0 where
   pub out : IsNamed run Out
   pub read_first : IsTrue (ends_before_proof run.status) → (run.after ProofOut).name ≡ None
 
-answer_names : (run : Run) {problem : Formula} {order : List ℕ} {moves : List Move} {job : Job} (asked : Command) → command run.words ≡ Some asked → name_given ProofOut asked ≡ Some job.proof → (run.before Out).name ≡ None
-    → CameToAnswer run.tells (run.before ProofOut) (run.after ProofOut) (run.before Out) (run.after Out) problem order moves job run.status → AnswerNames run
+answer_names : (run : Run) {problem : Formula} {order : List ℕ} {moves : List Move} {job : Job} (asked : Command) → command run.words
+    ≡ Some asked → name_given ProofOut asked ≡ Some job.proof → (run.before Out).name ≡ None
+    → CameToAnswer run.tells (run.before ProofOut) (run.after ProofOut) (run.before Out) (run.after Out) problem order moves job run.status
+    → AnswerNames run
 answer_names run {job = job} asked gives named unnamed (inl u) = record {
   proof = given_proof run asked job.proof gives named (u.opens.failed u.failed);
   out = inl (name_of u.same unnamed);
@@ -135,7 +145,8 @@ answer_names run {job = job} asked gives named unnamed (inr (inr a)) = record {
   read_first = later run.status (ap ends_before_proof a.ends ∙ answer_later a.ending a.printed);
 }
 
-accepted_for : (run : Run) {problem : Formula} {order : List ℕ} {moves : List Move} {job : Job} → Posed run problem order moves job → IsAccepted run
+accepted_for : (run : Run) {problem : Formula} {order : List ℕ} {moves : List Move} {job : Job} → Posed run problem order moves job
+    → IsAccepted run
 accepted_for run {problem = problem} posed named = (decision run posed, λ t. (problem, asks_for run posed t))
 
 -- nothing was created, and nothing printed
@@ -169,7 +180,8 @@ quiet_names run unnamed none inputs =
     }
 
 -- no file is read
-unread_names : (run : Run) → ((role : Role) → (run.before role).name ≡ None) → NoneRead (streams_of run.before) (streams_of run.after) → InputNames run
+unread_names : (run : Run) → ((role : Role) → (run.before role).name ≡ None) → NoneRead (streams_of run.before) (streams_of run.after)
+    → InputNames run
 unread_names run unnamed none = record {
   cnf = inl (name_of none.cnf (unnamed Cnf));
   order = inl (name_of none.order (unnamed Order));
@@ -177,9 +189,12 @@ unread_names run unnamed none = record {
   judged = inl (name_of none.judged (unnamed ProofIn));
 }
 
-answered_names : (run : Run) {problem : Formula} {order : List ℕ} {moves : List Move} {job : Job} → ((role : Role) → (run.before role).name ≡ None) → Posed run problem order moves job → (asked : Command) → command run.words ≡ Some asked
+answered_names : (run : Run) {problem : Formula} {order : List ℕ} {moves : List Move} {job : Job}
+    → ((role : Role) → (run.before role).name ≡ None) → Posed run problem order moves job → (asked : Command) → command run.words
+    ≡ Some asked
     → name_given ProofOut asked ≡ Some job.proof → InputNames run
-    → CameToAnswer run.tells (run.before ProofOut) (run.after ProofOut) (run.before Out) (run.after Out) problem order moves job run.status → StreamNames run
+    → CameToAnswer run.tells (run.before ProofOut) (run.after ProofOut) (run.before Out) (run.after Out) problem order moves job run.status
+    → StreamNames run
 answered_names run unnamed posed asked gives named inputs came =
     let unmade = left_made run posed.made (unnamed Made) in
     let names = answer_names run asked gives named (unnamed Out) came in
@@ -198,7 +213,11 @@ answered_names run unnamed posed asked gives named inputs came =
 
 same_names : (run : Run) → ((role : Role) → (run.before role).name ≡ None) → streams_of run.after ≡ streams_of run.before → StreamNames run
 same_names run unnamed same = quiet_names run unnamed
-    (record { proof = ap (λ (s : Streams). s.proof) same; made = ap (λ (s : Streams). s.made) same; out = ap (λ (s : Streams). s.out) same })
+    (record {
+      proof = ap (λ (s : Streams). s.proof) same;
+      made = ap (λ (s : Streams). s.made) same;
+      out = ap (λ (s : Streams). s.out) same;
+    })
     (unread_names run unnamed (record {
       cnf = ap (λ (s : Streams). s.cnf) same;
       order = ap (λ (s : Streams). s.order) same;
@@ -206,7 +225,8 @@ same_names run unnamed same = quiet_names run unnamed
       judged = ap (λ (s : Streams). s.judged) same;
     }))
 
-helped_names : (run : Run) → ((role : Role) → (run.before role).name ≡ None) → Helped run.tells run.words (streams_of run.before) (streams_of run.after) run.status → StreamNames run
+helped_names : (run : Run) → ((role : Role) → (run.before role).name ≡ None)
+    → Helped run.tells run.words (streams_of run.before) (streams_of run.after) run.status → StreamNames run
 helped_names run unnamed h =
     let unmade = left_made run h.made (unnamed Made) in
     let inputs = unread_names run unnamed (record { cnf = h.cnf; order = h.order; schedule = h.schedule; judged = h.judged }) in
@@ -223,30 +243,36 @@ helped_names run unnamed h =
       finished = unmade.finished;
     }
 
-untaken_names : (run : Run) (asked : Command) (file : List ℕ) → ((role : Role) → (run.before role).name ≡ None) → command run.words ≡ Some asked → formula_file asked ≡ Some file
+untaken_names : (run : Run) (asked : Command) (file : List ℕ) → ((role : Role) → (run.before role).name ≡ None) → command run.words
+    ≡ Some asked → formula_file asked ≡ Some file
     → Untaken (mode_of asked) run.tells (streams_of run.before) (streams_of run.after) run.files file run.status → StreamNames run
-untaken_names run asked file unnamed gives named u = quiet_names run unnamed (record { proof = u.proof; made = u.made; out = u.out }) (record {
-  cnf = given run asked file gives named u.takes.name;
-  order = inl (name_of u.order (unnamed Order));
-  schedule = inl (name_of u.schedule (unnamed Schedule));
-  judged = inl (name_of u.judged (unnamed ProofIn));
-})
+untaken_names run asked file unnamed gives named u = quiet_names run unnamed (record { proof = u.proof; made = u.made; out = u.out })
+    (record {
+      cnf = given run asked file gives named u.takes.name;
+      order = inl (name_of u.order (unnamed Order));
+      schedule = inl (name_of u.schedule (unnamed Schedule));
+      judged = inl (name_of u.judged (unnamed ProofIn));
+    })
 
-solve_names : (run : Run) (task : ToSolve) → ((role : Role) → (run.before role).name ≡ None) → command run.words ≡ Some (Solve task) → Came run.tells (streams_of run.before) (streams_of run.after) run.files task run.status → StreamNames run
+solve_names : (run : Run) (task : ToSolve) → ((role : Role) → (run.before role).name ≡ None) → command run.words ≡ Some (Solve task)
+    → Came run.tells (streams_of run.before) (streams_of run.after) run.files task run.status → StreamNames run
 solve_names run task unnamed asked (inl u) = untaken_names run (Solve task) task.file unnamed asked refl u
-solve_names run task unnamed asked (inr (inl u)) = quiet_names run unnamed (record { proof = u.proof; made = u.made; out = u.out }) (record {
-  cnf = given run (Solve task) task.file asked refl u.takes.name;
-  order = given_order run task asked (unnamed Order) u.orders;
-  schedule = inl (name_of u.schedule (unnamed Schedule));
-  judged = inl (name_of u.judged (unnamed ProofIn));
-})
-solve_names run task unnamed asked (inr (inr (inl u))) = quiet_names run unnamed (record { proof = u.proof; made = u.made; out = u.out }) (record {
-  cnf = given run (Solve task) task.file asked refl u.takes.name;
-  order = given_order run task asked (unnamed Order) u.orders;
-  schedule = given_schedule run task asked (unnamed Schedule) u.plans;
-  judged = inl (name_of u.judged (unnamed ProofIn));
-})
-solve_names run task unnamed asked (inr (inr (inr s))) = answered_names run unnamed (posed_by_files run task asked s.prepared) (Solve task) asked refl
+solve_names run task unnamed asked (inr (inl u)) = quiet_names run unnamed (record { proof = u.proof; made = u.made; out = u.out })
+    (record {
+      cnf = given run (Solve task) task.file asked refl u.takes.name;
+      order = given_order run task asked (unnamed Order) u.orders;
+      schedule = inl (name_of u.schedule (unnamed Schedule));
+      judged = inl (name_of u.judged (unnamed ProofIn));
+    })
+solve_names run task unnamed asked (inr (inr (inl u))) = quiet_names run unnamed (record { proof = u.proof; made = u.made; out = u.out })
+    (record {
+      cnf = given run (Solve task) task.file asked refl u.takes.name;
+      order = given_order run task asked (unnamed Order) u.orders;
+      schedule = given_schedule run task asked (unnamed Schedule) u.plans;
+      judged = inl (name_of u.judged (unnamed ProofIn));
+    })
+solve_names run task unnamed asked (inr (inr (inr s))) = answered_names run unnamed (posed_by_files run task asked s.prepared)
+    (Solve task) asked refl
     (record {
       cnf = given run (Solve task) task.file asked refl s.prepared.takes.name;
       order = given_order run task asked (unnamed Order) s.prepared.orders;
@@ -258,12 +284,13 @@ solve_names run task unnamed asked (inr (inr (inr s))) = answered_names run unna
 check_names : (run : Run) (task : ToCheck) → ((role : Role) → (run.before role).name ≡ None) → command run.words ≡ Some (Check task)
     → CameToCheck run.tells (streams_of run.before) (streams_of run.after) run.files task run.status → StreamNames run
 check_names run task unnamed asked (inl u) = untaken_names run (Check task) task.file unnamed asked refl u
-check_names run task unnamed asked (inr (inl u)) = quiet_names run unnamed (record { proof = u.proof; made = u.made; out = u.out }) (record {
-  cnf = given run (Check task) task.file asked refl u.takes.name;
-  order = inl (name_of u.order (unnamed Order));
-  schedule = inl (name_of u.schedule (unnamed Schedule));
-  judged = given_judged run task asked u.judges.name;
-})
+check_names run task unnamed asked (inr (inl u)) = quiet_names run unnamed (record { proof = u.proof; made = u.made; out = u.out })
+    (record {
+      cnf = given run (Check task) task.file asked refl u.takes.name;
+      order = inl (name_of u.order (unnamed Order));
+      schedule = inl (name_of u.schedule (unnamed Schedule));
+      judged = given_judged run task asked u.judges.name;
+    })
 check_names run task unnamed asked (inr (inr j)) =
     let unmade = left_made run j.made (unnamed Made) in
     record {
@@ -282,14 +309,17 @@ check_names run task unnamed asked (inr (inr j)) =
 bench_names : (run : Run) (task : ToBench) → ((role : Role) → (run.before role).name ≡ None) → command run.words ≡ Some (Bench task)
     → CameToBench run.tells (streams_of run.before) (streams_of run.after) task run.status → StreamNames run
 bench_names run task unnamed asked (inl u) = same_names run unnamed u.same
-bench_names run task unnamed asked (inr b) = answered_names run unnamed (posed_by_board run task asked b.board b.made) (Bench task) asked refl (unread_names run unnamed b.none_read) b.came
+bench_names run task unnamed asked (inr b) = answered_names run unnamed (posed_by_board run task asked b.board b.made)
+    (Bench task) asked refl (unread_names run unnamed b.none_read) b.came
 
 -- the text's file has the name that the words give it
-given_made : (run : Run) (task : ToMake) → command run.words ≡ Some (Make task) → ((run.after Made).name ≡ Some task.file) ⊎ ((run.after Made).name ≡ None) → IsNamed run Made
+given_made : (run : Run) (task : ToMake) → command run.words ≡ Some (Make task) → ((run.after Made).name ≡ Some task.file)
+    ⊎ ((run.after Made).name ≡ None) → IsNamed run Made
 given_made run task asked (inl some) = inr (Make task, asked, some)
 given_made run task asked (inr none) = inl none
 
-made_names : (run : Run) → ((role : Role) → (run.before role).name ≡ None) → NoneRead (streams_of run.before) (streams_of run.after) → run.after ProofOut ≡ run.before ProofOut → run.after Out ≡ run.before Out
+made_names : (run : Run) → ((role : Role) → (run.before role).name ≡ None) → NoneRead (streams_of run.before) (streams_of run.after)
+    → run.after ProofOut ≡ run.before ProofOut → run.after Out ≡ run.before Out
     → IsNamed run Made → (run.status ≡ Done) ⊎ (run.status ≡ WriteFault) → StreamNames run
 made_names run unnamed none proof out named ends =
     let inputs = unread_names run unnamed none in
@@ -313,10 +343,13 @@ written_ends (Err e) ends = inr ends
 make_names : (run : Run) (task : ToMake) → ((role : Role) → (run.before role).name ≡ None) → command run.words ≡ Some (Make task)
     → CameToMake run.tells (streams_of run.before) (streams_of run.after) task run.status → StreamNames run
 make_names run task unnamed asked (inl u) = same_names run unnamed u.same
-make_names run task unnamed asked (inr (inl u)) = made_names run unnamed u.none_read u.proof u.out (given_made run task asked (u.opens.failed u.failed)) (inr u.ends)
-make_names run task unnamed asked (inr (inr w)) = made_names run unnamed w.none_read w.proof w.out (given_made run task asked (inl (w.puts.only.name ∙ w.opens.named w.done))) (written_ends w.written w.ends)
+make_names run task unnamed asked (inr (inl u)) = made_names run unnamed u.none_read u.proof u.out
+    (given_made run task asked (u.opens.failed u.failed)) (inr u.ends)
+make_names run task unnamed asked (inr (inr w)) = made_names run unnamed w.none_read w.proof w.out
+    (given_made run task asked (inl (w.puts.only.name ∙ w.opens.named w.done))) (written_ends w.written w.ends)
 
-pub stream_names : (run : Run) → ((role : Role) → (run.before role).name ≡ None) → Stages run.tells run.words (streams_of run.before) (streams_of run.after) run.files run.status → StreamNames run
+pub stream_names : (run : Run) → ((role : Role) → (run.before role).name ≡ None)
+    → Stages run.tells run.words (streams_of run.before) (streams_of run.after) run.files run.status → StreamNames run
 stream_names run unnamed (inl m) = same_names run unnamed m.same
 stream_names run unnamed (inr (inl h)) = helped_names run unnamed h
 stream_names run unnamed (inr (inr (inl t))) = solve_names run t.task unnamed t.asked t.came
@@ -325,7 +358,8 @@ stream_names run unnamed (inr (inr (inr (inr (inl b))))) = bench_names run b.tas
 stream_names run unnamed (inr (inr (inr (inr (inr m))))) = make_names run m.task unnamed m.asked m.came
 
 -- the names of all roles
-pub names : (run : Run) → StreamNames run → (run.after ErrRole).name ≡ None → FilesBeside (run.after ProofOut).name (run.after Made).name run.files run.files_after → NamesAreGiven run
+pub names : (run : Run) → StreamNames run → (run.after ErrRole).name ≡ None
+    → FilesBeside (run.after ProofOut).name (run.after Made).name run.files run.files_after → NamesAreGiven run
 names run streams error files = record {
   names = each;
   files = files;

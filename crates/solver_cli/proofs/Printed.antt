@@ -1,5 +1,6 @@
 -- What is promised of a run that decided its formula.
-use Rattle.std.proofs.Common.{◌≡◌, ℕ, Bool, true, false, List, [], ◌++◌, append-nil, refl, sym, ap, ◌∙◌, subst, Ok, Err, IsTrue, inl, inr, true≢false}
+use Rattle.std.proofs.Common.{◌≡◌, ℕ, Bool, true, false, List, [], ◌++◌, append-nil, refl, sym, ap, ◌∙◌, subst, Ok, Err, IsTrue, inl, inr}
+use Rattle.std.proofs.Common.{true≢false}
 use Rattle.std.specs.Prelude.{Option, Result, ⊤}
 use Rattle.cnf_base.specs.Formula.{Formula}
 use Rattle.host_io.specs.declared.role.Role.TheVariants.{ProofOut, Out}
@@ -24,10 +25,12 @@ use Rattle.solver_cli.specs.Answer.{ending_text, last_identifier, outcome_at, sh
 use Rattle.solver_cli.specs.ErrorText.{is_answer}
 use Rattle.solver_cli.specs.Phases.{PutsText, WritesProof}
 use Rattle.solver_cli.specs.Stages.{Job, Answered, status_after}
-use Rattle.solver_cli.specs.Headline.{Run, written_in, limits_given, text_for, OutputFailed, AsksFor, AnswerTo, IsRefuted, IsSatisfied, IsUndecided, IsTrueAnswer, ProofStands}
+use Rattle.solver_cli.specs.Headline.{Run, written_in, limits_given, text_for, OutputFailed, AsksFor, AnswerTo, IsRefuted, IsSatisfied}
+use Rattle.solver_cli.specs.Headline.{IsUndecided, IsTrueAnswer, ProofStands}
 use Rattle.solver_cli.proofs.Facts.{behind, grown_by, whole_of, no_answer}
 use Rattle.solver_cli.proofs.Promised.{Core, due, no_text, no_verdict}
-use Rattle.solver_cli.proofs.Accepted.{Posed, asks_by, asks_for, decision, same_limits, solve_complete, answer_due, Accepts, accepts_write, accepts_answer, proof_whole, so_far_of_kind}
+use Rattle.solver_cli.proofs.Accepted.{Posed, asks_by, asks_for, decision, same_limits, solve_complete, answer_due, Accepts, accepts_write}
+use Rattle.solver_cli.proofs.Accepted.{accepts_answer, proof_whole, so_far_of_kind}
 
 is_unsat : (found : Outcome) → status_of found ≡ Unsat → found ≡ outcome.Unsat
 is_unsat (outcome.Sat values) e = cc
@@ -55,7 +58,8 @@ answers outcome.Unsat = refl
 answers outcome.NodeLimit = refl
 answers outcome.IdLimit = refl
 
-no_verdict_of : (found : Outcome) → (status_of found ≡ Verified → ⊥) × ((line : ℕ) (reason : Reason) → status_of found ≡ NotVerified line reason → ⊥)
+no_verdict_of : (found : Outcome) → (status_of found ≡ Verified → ⊥)
+    × ((line : ℕ) (reason : Reason) → status_of found ≡ NotVerified line reason → ⊥)
 no_verdict_of (outcome.Sat values) = ((λ e. cc), λ line reason e. cc)
 no_verdict_of outcome.Unsat = ((λ e. cc), λ line reason e. cc)
 no_verdict_of outcome.NodeLimit = ((λ e. cc), λ line reason e. cc)
@@ -72,7 +76,8 @@ no_write outcome.NodeLimit e = cc
 no_write outcome.IdLimit e = cc
 
 pub answered : (run : Run) {problem : Formula} {order : List ℕ} {moves : List Move} {job : Job} → Posed run problem order moves job
-    → Answered run.tells (run.before ProofOut) (run.after ProofOut) (run.before Out) (run.after Out) problem order moves job run.status → Core run
+    → Answered run.tells (run.before ProofOut) (run.after ProofOut) (run.before Out) (run.after Out) problem order moves job run.status
+    → Core run
 answered run {problem = problem} {order = order} {moves = moves} {job = job} posed a = go a.printed a.puts a.ends where
   found : Outcome
   found = a.ending.outcome
@@ -84,7 +89,8 @@ answered run {problem = problem} {order = order} {moves = moves} {job = job} pos
   given = asks_for run posed
 
   writes : WritesProof run.tells a.created (run.after ProofOut) problem order moves (limits_given run) (Ok a.ending)
-  writes = subst (λ (l : Limits). WritesProof run.tells a.created (run.after ProofOut) problem order moves l (Ok a.ending)) (same_limits run posed) a.writes
+  writes = subst (λ (l : Limits). WritesProof run.tells a.created (run.after ProofOut) problem order moves l (Ok a.ending))
+      (same_limits run posed) a.writes
 
   same_bytes : written_in run ProofOut ≡ (run.after ProofOut).written
   same_bytes = whole_of (run.before ProofOut) (run.after ProofOut) a.opens.was_idle.written
@@ -95,7 +101,8 @@ answered run {problem = problem} {order = order} {moves = moves} {job = job} pos
       ap (λ (last : ℕ). record { outcome = found; last_id = last }) (writes.last t ∙ ap (last_identifier problem.clauses) (sym same_bytes))
 
   same_text : IsTrue run.tells → text ≡ text_for run problem found
-  same_text t = λ i. ending_text ((posed.shape ∙ sym (ap (λ (c : Option Command). shape_asked c problem) posed.gives)) i) (same_limits run posed i) (same_ending t i)
+  same_text t = λ i. ending_text ((posed.shape ∙ sym (ap (λ (c : Option Command). shape_asked c problem) posed.gives)) i)
+      (same_limits run posed i) (same_ending t i)
 
   shows : IsTrue run.tells → Shows problem (limits_given run) (written_in run ProofOut) found
   shows t = subst (λ (bytes : List ℕ). Shows problem (limits_given run) bytes found) (sym same_bytes) (writes.shows t)
@@ -117,10 +124,16 @@ answered run {problem = problem} {order = order} {moves = moves} {job = job} pos
   stands = record {
     so_far = λ t. inr (problem, given t, inl (whole t));
     whole = λ unfaulted t. inr (problem, given t, whole t);
-    price = λ t. inr (problem, given t, λ width price has paid. so_far_of_kind run problem (IsPaidFor problem (limits_given run) moves width price) a.opens.was_idle.written (writes.price width price has paid t));
+    price = λ t. inr (
+      problem,
+      given t,
+      λ width price has paid. so_far_of_kind run problem
+          (IsPaidFor problem (limits_given run) moves width price) a.opens.was_idle.written (writes.price width price has paid t),
+    );
   }
 
-  true_answer : IsTrue run.tells → (rest : List ℕ) → text_for run problem found ≡ written_in run Out ++ rest → IsTrueAnswer run (AnswerTo problem found)
+  true_answer : IsTrue run.tells → (rest : List ℕ) → text_for run problem found ≡ written_in run Out ++ rest
+      → IsTrueAnswer run (AnswerTo problem found)
   true_answer t rest front = record {
     found = record {
       asked = given t;
@@ -132,13 +145,17 @@ answered run {problem = problem} {order = order} {moves = moves} {job = job} pos
     front = front;
   }
 
-  grows : (printed : Result ⊤ Failed) → PutsText run.tells (run.before Out) (run.after Out) text printed → IsTrue run.tells → (run.after Out).written ≡ (run.before Out).written ++ written_in run Out
+  grows : (printed : Result ⊤ Failed) → PutsText run.tells (run.before Out) (run.after Out) text printed → IsTrue run.tells
+      → (run.after Out).written ≡ (run.before Out).written ++ written_in run Out
   grows printed puts t = let front = puts.front t in grown_by (run.before Out) (run.after Out) front.0 front.2
 
-  fronts : (printed : Result ⊤ Failed) → PutsText run.tells (run.before Out) (run.after Out) text printed → IsTrue run.tells → IsTrueAnswer run (AnswerTo problem found)
-  fronts printed puts t = let front = puts.front t in true_answer t front.1 (sym (same_text t) ∙ front.3 ∙ ap (λ (l : List ℕ). l ++ front.1) (sym (behind (run.before Out) (run.after Out) front.0 front.2)))
+  fronts : (printed : Result ⊤ Failed) → PutsText run.tells (run.before Out) (run.after Out) text printed → IsTrue run.tells
+      → IsTrueAnswer run (AnswerTo problem found)
+  fronts printed puts t = let front = puts.front t in true_answer t front.1 (sym (same_text t) ∙ front.3
+      ∙ ap (λ (l : List ℕ). l ++ front.1) (sym (behind (run.before Out) (run.after Out) front.0 front.2)))
 
-  printed_as : (IsTrue run.tells → written_in run Out ≡ text) → (other : Outcome) → found ≡ other → IsTrue run.tells → written_in run Out ≡ text_for run problem other
+  printed_as : (IsTrue run.tells → written_in run Out ≡ text) → (other : Outcome) → found ≡ other → IsTrue run.tells → written_in run Out
+      ≡ text_for run problem other
   printed_as all other is t = all t ∙ same_text t ∙ ap (text_for run problem) is
 
   refuted : (IsTrue run.tells → written_in run Out ≡ text) → found ≡ outcome.Unsat → IsRefuted run
@@ -162,7 +179,11 @@ answered run {problem = problem} {order = order} {moves = moves} {job = job} pos
         one_each = recovered.one_each;
         satisfied = recovered.satisfied;
         recovered = recovered;
-        shown = λ t. record { asked = asks_by run posed t; few = shows_as (outcome.Sat values) is t; printed = printed_as all (outcome.Sat values) is t };
+        shown = λ t. record {
+          asked = asks_by run posed t;
+          few = shows_as (outcome.Sat values) is t;
+          printed = printed_as all (outcome.Sat values) is t;
+        };
       }
 
   undecided : (IsTrue run.tells → written_in run Out ≡ text) → (why : Why) → found ≡ outcome_at why → IsUndecided run why
@@ -173,7 +194,11 @@ answered run {problem = problem} {order = order} {moves = moves} {job = job} pos
     moves = moves;
     needs = says_as (outcome_at why) is;
     short = λ width price has paid ample. none_decided why (subst IsDecision is (writes.certain width price has paid ample));
-    shown = λ t. record { asked = asks_by run posed t; reached = shows_as (outcome_at why) is t; printed = printed_as all (outcome_at why) is t };
+    shown = λ t. record {
+      asked = asks_by run posed t;
+      reached = shows_as (outcome_at why) is t;
+      printed = printed_as all (outcome_at why) is t;
+    };
   }
 
   fine : (x : ⊤) → PutsText run.tells (run.before Out) (run.after Out) text (Ok x) → run.status ≡ status_of found → Core run
@@ -202,7 +227,13 @@ answered run {problem = problem} {order = order} {moves = moves} {job = job} pos
         output = record {
           grows = grows (Ok x) puts;
           front = λ t. inr (inl (AnswerTo problem found, fronts (Ok x) puts t));
-          answered = λ _ t. (AnswerTo problem found, true_answer t [] (sym (same_text t) ∙ sym (all t) ∙ sym (append-nil (written_in run Out))), ends, refl);
+          answered = λ _ t. (
+            AnswerTo problem found,
+            true_answer t [] (sym (same_text t) ∙ sym (all t)
+                ∙ sym (append-nil (written_in run Out))),
+            ends,
+            refl,
+          );
           helped = λ e. absurd (accepts.help e);
           flushed = λ _ t. puts.flushed t refl;
           silent = λ unanswered. absurd (true≢false (sym yes_answer ∙ unanswered));
@@ -236,13 +267,18 @@ answered run {problem = problem} {order = order} {moves = moves} {job = job} pos
           front = λ t. inr (inl (AnswerTo problem found, fronts (Err e) puts t));
           answered = λ yes_answer. absurd (true≢false (sym yes_answer ∙ unanswered));
           helped = λ d. absurd (accepts.help d);
-          flushed = λ either. elim either [ inl yes_answer ↦ absurd (true≢false (sym yes_answer ∙ unanswered)) | inr d ↦ absurd (accepts.help d) ];
+          flushed = λ either. elim either [
+            | inl yes_answer ↦ absurd (true≢false (sym yes_answer ∙ unanswered))
+            | inr d ↦ absurd
+                (accepts.help d)
+          ];
           silent = λ _ _ unfaulted. absurd (unfaulted ends);
         };
         proof = stands;
         complete = solve_complete run posed (λ unharmed. absurd (unharmed.1 failure));
       }
 
-  go : (printed : Result ⊤ Failed) → PutsText run.tells (run.before Out) (run.after Out) text printed → run.status ≡ status_after a.ending printed → Core run
+  go : (printed : Result ⊤ Failed) → PutsText run.tells (run.before Out) (run.after Out) text printed → run.status
+      ≡ status_after a.ending printed → Core run
   go (Ok x) puts ends = fine x puts ends
   go (Err e) puts ends = failed e puts ends

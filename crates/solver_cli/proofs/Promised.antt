@@ -6,11 +6,14 @@ use Rattle.host_io.specs.declared.role.Role.{Role}
 use Rattle.host_io.specs.declared.role.Role.TheVariants.{Cnf, Order, Schedule, ProofIn, ProofOut, Made, Out, Err as ErrRole}
 use Rattle.text_scan.specs.Decides.{gained, gained-none}
 use Rattle.solver_cli.specs.declared.status.Status.{Status}
-use Rattle.solver_cli.specs.declared.status.Status.TheVariants.{Sat, Unsat, Unknown, Verified, NotVerified, Done, Help, Usage, CnfRefused, OrderRefused, PlanRefused, TooLong, ReadFault, WriteFault, OutOfMemory}
+use Rattle.solver_cli.specs.declared.status.Status.TheVariants.{Sat, Unsat, Unknown, Verified, NotVerified, Done, Help, Usage, CnfRefused}
+use Rattle.solver_cli.specs.declared.status.Status.TheVariants.{OrderRefused, PlanRefused, TooLong, ReadFault, WriteFault, OutOfMemory}
 use Rattle.command_line.specs.Command.{Command, AsksHelp, Misuse, command}
 use Rattle.solver_cli.specs.ErrorText.{is_answer}
 use Rattle.solver_cli.specs.Stages.{Streams, streams_of, Misused}
-use Rattle.solver_cli.specs.Headline.{Run, written_in, taken_in, InputFailed, UnsatisfiableIsProved, SatisfiableIsTrue, LimitsAreReached, VerdictIsTrue, TextIsMade, MadeStands, GivesMake, IsDue, RefusalsAreDue, IsStillOpen, FaultsAreCounted, OutputStands, ProofStands, CallsFor, IsComplete}
+use Rattle.solver_cli.specs.Headline.{Run, written_in, taken_in, InputFailed, UnsatisfiableIsProved, SatisfiableIsTrue, LimitsAreReached}
+use Rattle.solver_cli.specs.Headline.{VerdictIsTrue, TextIsMade, MadeStands, GivesMake, IsDue, RefusalsAreDue, IsStillOpen}
+use Rattle.solver_cli.specs.Headline.{FaultsAreCounted, OutputStands, ProofStands, CallsFor, IsComplete}
 use Rattle.solver_cli.proofs.Facts.{behind, grown_by, nothing_more, no_answer, not_unasked, no_misuse, only_misuse, only_help}
 use Rattle.solver_cli.proofs.CallsFor.{one_call, no_call, no_call_judged, calls_give}
 
@@ -36,7 +39,8 @@ pub record Core (run : Run) : Type 0 where
 pub due : (run : Run) {status : Status} → run.status ≡ status → IsDue run status → RefusalsAreDue run
 due run ends is = subst (λ (s : Status). IsDue run s) (sym ends) is
 
-pub quiet_output : (run : Run) → is_answer run.status ≡ false → (run.status ≡ Help → ⊥) → (run.after Out).written ≡ (run.before Out).written → OutputStands run
+pub quiet_output : (run : Run) → is_answer run.status ≡ false → (run.status ≡ Help → ⊥) → (run.after Out).written ≡ (run.before Out).written
+    → OutputStands run
 quiet_output run unanswered unhelped same =
     let none : written_in run Out ≡ [] = behind (run.before Out) (run.after Out) [] (nothing_more (run.before Out) (run.after Out) same) in
     record {
@@ -49,7 +53,10 @@ quiet_output run unanswered unhelped same =
     }
 
 pub no_verdict : (run : Run) → is_answer run.status ≡ false → VerdictIsTrue run
-no_verdict run unanswered = record { verified = λ e. absurd (no_answer unanswered refl e); not_verified = λ line reason e. absurd (no_answer unanswered refl e) }
+no_verdict run unanswered = record {
+  verified = λ e. absurd (no_answer unanswered refl e);
+  not_verified = λ line reason e. absurd (no_answer unanswered refl e);
+}
 
 pub no_proof : (run : Run) → written_in run ProofOut ≡ [] → ProofStands run
 no_proof run none = record { so_far = λ t. inl none; whole = λ _ t. inl none; price = λ t. inl none }
@@ -64,7 +71,8 @@ pub same_written : {old new : Channel} → new ≡ old → new.written ≡ old.w
 same_written same = ap (λ (c : Channel). c.written) same
 
 pub none_written : (run : Run) (role : Role) → run.after role ≡ run.before role → written_in run role ≡ []
-none_written run role same = behind (run.before role) (run.after role) [] (nothing_more (run.before role) (run.after role) (same_written same))
+none_written run role same = behind (run.before role) (run.after role) []
+    (nothing_more (run.before role) (run.after role) (same_written same))
 
 -- no text was made
 pub no_text : (run : Run) → run.after Made ≡ run.before Made → MadeStands run
@@ -87,7 +95,11 @@ undone_memory status is = record { unanswered = ap is_answer is; done = λ e. cc
 -- the words may be faulty, or memory ran out
 pub misused : (run : Run) → Misused run.words (streams_of run.before) (streams_of run.after) run.status → Core run
 misused run m =
-    let undone : Undone run.status = elim m.ends [ inl faulty ↦ undone_usage run.status faulty.0 | inr memory ↦ undone_memory run.status memory ] in
+    let undone : Undone run.status = elim m.ends [
+      | inl faulty ↦ undone_usage run.status faulty.0
+      | inr memory ↦
+          undone_memory run.status memory
+    ] in
     record {
       unsatisfiable = λ e. absurd (no_answer undone.unanswered refl e);
       satisfiable = λ e. absurd (no_answer undone.unanswered refl e);
@@ -96,17 +108,35 @@ misused run m =
       made = λ e. absurd (undone.done e);
       made_file = no_text run (ap (λ (s : Streams). s.made) m.same);
       refusals = elim m.ends [ inl faulty ↦ due run faulty.0 faulty.1 | inr memory ↦ due run memory tt ];
-      faults = λ quiet. record { read = λ e. absurd (undone.read e); undecided = λ e. absurd (undone.read e); quiet = quiet; write = λ e. absurd (undone.write e); accepted = λ e. absurd (undone.write e) };
+      faults = λ quiet. record {
+        read = λ e. absurd (undone.read e);
+        undecided = λ e. absurd (undone.read e);
+        quiet = quiet;
+        write = λ e. absurd (undone.write e);
+        accepted = λ e. absurd (undone.write e);
+      };
       output = quiet_output run undone.unanswered undone.help (same_written (out_of m.same));
       proof = no_proof run (none_written run ProofOut (proof_of m.same));
       complete = record {
         misused = λ only. elim m.ends [ inl faulty ↦ inl faulty.0 | inr memory ↦ inr memory ];
         helped = λ only _. elim m.ends [ inl faulty ↦ absurd (no_wish (only Misuse faulty.1)) | inr memory ↦ inr memory ];
         unasked = λ _ _. elim m.ends [ inl faulty ↦ inl faulty.0 | inr memory ↦ inr (inr memory) ];
-        answers = λ problem asked t unharmed. elim m.ends [ inl faulty ↦ absurd (no_misuse run.words asked.by.command faulty.1) | inr memory ↦ inr memory ];
-        judges = λ problem bytes judged has t unharmed. elim m.ends [ inl faulty ↦ absurd (no_misuse run.words has.asked.asks.command faulty.1) | inr memory ↦ inr memory ];
+        answers = λ problem asked t unharmed. elim m.ends [
+          | inl faulty ↦ absurd
+              (no_misuse run.words asked.by.command faulty.1)
+          | inr memory ↦ inr memory
+        ];
+        judges = λ problem bytes judged has t unharmed. elim m.ends [
+          | inl faulty ↦ absurd
+              (no_misuse run.words has.asked.asks.command faulty.1)
+          | inr memory ↦ inr memory
+        ];
         makes = λ given unharmed. elim m.ends [ inl faulty ↦ absurd (no_misuse run.words given.1 faulty.1) | inr memory ↦ inr memory ];
-        refuses = λ status calls t unfailed. elim m.ends [ inl faulty ↦ absurd (no_misuse run.words (calls_give run status calls).1 faulty.1) | inr memory ↦ inr memory ];
+        refuses = λ status calls t unfailed. elim m.ends [
+          | inl faulty ↦ absurd
+              (no_misuse run.words (calls_give run status calls).1 faulty.1)
+          | inr memory ↦ inr memory
+        ];
       };
     } where
       no_wish : Misuse ≡ AsksHelp → ⊥
@@ -156,7 +186,8 @@ by_stop WriteFault is = cc
 by_stop OutOfMemory is = record { unanswered = refl; done = λ e. cc; help = λ e. cc; write = λ e. cc }
 
 -- a refusal that is due is called for, where the host tells its bytes
-calls_due : (run : Run) (status : Status) → stops status ≡ true → IsDue run status → IsTrue run.tells → (status ≡ ReadFault) ⊎ ((status ≡ OutOfMemory) ⊎ CallsFor run status)
+calls_due : (run : Run) (status : Status) → stops status ≡ true → IsDue run status → IsTrue run.tells → (status ≡ ReadFault)
+    ⊎ ((status ≡ OutOfMemory) ⊎ CallsFor run status)
 calls_due run Sat is d t = cc
 calls_due run Unsat is d t = cc
 calls_due run (Unknown why) is d t = cc
@@ -180,7 +211,8 @@ calls_due run ReadFault is d t = inl refl
 calls_due run WriteFault is d t = cc
 calls_due run OutOfMemory is d t = inr (inl refl)
 
-stopped_complete : (run : Run) (asked : Command) → command run.words ≡ Some asked → (GivesMake run → run.status ≡ OutOfMemory) → stops run.status ≡ true → IsDue run run.status → (run.status ≡ ReadFault → InputFailed run) → IsComplete run
+stopped_complete : (run : Run) (asked : Command) → command run.words ≡ Some asked → (GivesMake run → run.status ≡ OutOfMemory)
+    → stops run.status ≡ true → IsDue run run.status → (run.status ≡ ReadFault → InputFailed run) → IsComplete run
 stopped_complete run asked gives makes halts is failed = record {
   misused = λ only. absurd (only_misuse run.words gives only);
   helped = λ only _. absurd (only_help run.words gives only);
@@ -207,7 +239,8 @@ pub record LeftAlone (run : Run) (status : Status) : Type 0 where
   pub makes : GivesMake run → status ≡ OutOfMemory
 
 stopped : (run : Run) (asked : Command) → command run.words ≡ Some asked → LeftAlone run run.status
-    → stops run.status ≡ true → IsDue run run.status → (run.status ≡ ReadFault → InputFailed run × (IsTrue run.tells → IsStillOpen run)) → Core run
+    → stops run.status ≡ true → IsDue run run.status → (run.status ≡ ReadFault → InputFailed run × (IsTrue run.tells → IsStillOpen run))
+    → Core run
 stopped run asked gives alone halts is fault =
     let ends : Stops run.status = by_stop run.status halts in
     record {
@@ -218,7 +251,13 @@ stopped run asked gives alone halts is fault =
       made = λ e. absurd (ends.done e);
       made_file = no_text run alone.made;
       refusals = is;
-      faults = λ quiet. record { read = λ e. ((asked, gives), (fault e).0); undecided = λ e t. (fault e).1 t; quiet = quiet; write = λ e. absurd (ends.write e); accepted = λ e. absurd (ends.write e) };
+      faults = λ quiet. record {
+        read = λ e. ((asked, gives), (fault e).0);
+        undecided = λ e t. (fault e).1 t;
+        quiet = quiet;
+        write = λ e. absurd (ends.write e);
+        accepted = λ e. absurd (ends.write e);
+      };
       output = quiet_output run ends.unanswered ends.help (same_written alone.out);
       proof = no_proof run (none_written run ProofOut alone.proof);
       complete = stopped_complete run asked gives alone.makes halts is (λ e. (fault e).0);
@@ -231,14 +270,16 @@ alone_at run ends alone = subst (λ (s : Status). LeftAlone run s) (sym ends) al
 -- by the status itself: a refusal that is due, want of memory, or a read fault
 pub refused : (run : Run) (asked : Command) {status : Status} → command run.words ≡ Some asked → LeftAlone run status
     → run.status ≡ status → stops status ≡ true → (status ≡ ReadFault → ⊥) → IsDue run status → Core run
-refused run asked gives alone ends halts no_fault is = stopped run asked gives (alone_at run ends alone) (ap stops ends ∙ halts) (due run ends is) (λ e. absurd (no_fault (sym ends ∙ e)))
+refused run asked gives alone ends halts no_fault is = stopped run asked gives (alone_at run ends alone) (ap stops ends
+    ∙ halts) (due run ends is) (λ e. absurd (no_fault (sym ends ∙ e)))
 
 pub short : (run : Run) (asked : Command) → command run.words ≡ Some asked → LeftAlone run OutOfMemory → run.status ≡ OutOfMemory → Core run
 short run asked gives alone ends = refused run asked gives alone ends refl (λ e. cc) tt
 
 pub unread : (run : Run) (asked : Command) → command run.words ≡ Some asked → LeftAlone run ReadFault
     → run.status ≡ ReadFault → InputFailed run → (IsTrue run.tells → IsStillOpen run) → Core run
-unread run asked gives alone ends failed is_open = stopped run asked gives (alone_at run ends alone) (ap stops ends) (due run ends tt) (λ _. (failed, is_open))
+unread run asked gives alone ends failed is_open = stopped run asked gives (alone_at run ends alone) (ap stops ends) (due run ends tt)
+    (λ _. (failed, is_open))
 
 -- none was taken of a file that was left alone
 pub untouched : (run : Run) (role : Role) → run.after role ≡ run.before role → taken_in run role ≡ []

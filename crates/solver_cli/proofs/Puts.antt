@@ -6,7 +6,8 @@ use Rattle.host_io.specs.declared.source.Failed.{Failed}
 use Rattle.host_io.specs.Channel.{Channel, WritesAll}
 use Rattle.solver_cli.specs.Phases.{PutsText}
 
-pub cut_short : {tells : Bool} {old new : Channel} {text : List ℕ} {e : Failed} (answer : Result ⊤ Failed) → WritesAll {T = ⊤} tells old new text (Err e) → IsErr answer → PutsText tells old new text answer
+pub cut_short : {tells : Bool} {old new : Channel} {text : List ℕ} {e : Failed} (answer : Result ⊤ Failed)
+    → WritesAll {T = ⊤} tells old new text (Err e) → IsErr answer → PutsText tells old new text answer
 cut_short (Ok x) writes failed = cc
 cut_short {text = text} (Err f) writes failed = record {
   done = λ t ok. cc;

@@ -7,10 +7,12 @@ use Rattle.host_io.specs.declared.source.Failed.{Failed}
 use Rattle.text_scan.specs.Decides.{gained, Decides, OnlyReads, Decides-whole, Decides-taken}
 use Rattle.solver_cli.specs.Phases.{ReadsText, ReadsOpened, TakesText}
 
-seen : {Text T E : Type 0} {whole so_far : List ℕ → Text} {unread : Text} {answers : Result T E → Text → Type 0} {fit : T → Type 0} {fault : E} (tells : Bool) (old new : Channel) (result : Result T E)
+seen : {Text T E : Type 0} {whole so_far : List ℕ → Text} {unread : Text} {answers : Result T E → Text → Type 0} {fit : T
+    → Type 0} {fault : E} (tells : Bool) (old new : Channel) (result : Result T E)
     → (IsTrue tells → Decides old new (λ bytes more. answers result (whole bytes))) → IfOk result fit
     → (result ≡ Err fault → Rose old.faults new.faults) → (result ≢ Err fault → new.faults ≡ old.faults)
-    → (IsTrue tells → result ≡ Err fault → so_far (gained old new) ≡ unread) → OnlyReads old new → ReadsOpened whole so_far unread answers fit fault tells old new result
+    → (IsTrue tells → result ≡ Err fault → so_far (gained old new) ≡ unread) → OnlyReads old new
+    → ReadsOpened whole so_far unread answers fit fault tells old new result
 seen tells old new result decides fits failed unfailed undecided reads = record {
   told = λ t. Decides-whole (decides t);
   decided = λ t. Decides-taken (decides t);
@@ -23,15 +25,19 @@ seen tells old new result decides fits failed unfailed undecided reads = record 
   faults = reads.faults;
 }
 
-pub read : {Text T E : Type 0} {whole so_far : List ℕ → Text} {unread : Text} {answers : Result T E → Text → Type 0} {fit : T → Type 0} {fault : E} {tells : Bool} {seen_old seen_new old new : Channel} {result : Result T E}
+pub read : {Text T E : Type 0} {whole so_far : List ℕ → Text} {unread : Text} {answers : Result T E → Text → Type 0} {fit : T
+    → Type 0} {fault : E} {tells : Bool} {seen_old seen_new old new : Channel} {result : Result T E}
     → seen_old ≡ old → new ≡ seen_new
     → (IsTrue tells → Decides seen_old seen_new (λ bytes more. answers result (whole bytes))) → IfOk result fit
     → (result ≡ Err fault → Rose seen_old.faults seen_new.faults) → (result ≢ Err fault → seen_new.faults ≡ seen_old.faults)
     → (IsTrue tells → result ≡ Err fault → so_far (gained seen_old seen_new) ≡ unread) → OnlyReads seen_old seen_new
     → ReadsOpened whole so_far unread answers fit fault tells old new result
-read {whole = whole} {so_far = so_far} {unread = unread} {answers = answers} {fit = fit} {fault = fault} {tells = tells} {seen_old = seen_old} {seen_new = seen_new} {old = old} {new = new} {result = result} from to decides fits failed unfailed undecided reads =
+read {whole = whole} {so_far = so_far} {unread = unread} {answers = answers} {fit = fit} {fault = fault} {tells = tells}
+    {seen_old = seen_old} {seen_new = seen_new} {old = old} {new = new} {result = result} from to decides fits failed unfailed undecided
+    reads =
     subst (λ (o : Channel). ReadsOpened whole so_far unread answers fit fault tells o new result) from
-    (subst (λ (n : Channel). ReadsOpened whole so_far unread answers fit fault tells seen_old n result) (sym to) (seen tells seen_old seen_new result decides fits failed unfailed undecided reads))
+    (subst (λ (n : Channel). ReadsOpened whole so_far unread answers fit fault tells seen_old n result) (sym to)
+    (seen tells seen_old seen_new result decides fits failed unfailed undecided reads))
 
 -- a count that rose later has risen since
 pub rose_since : {old middle new : ℕ} → old ≤ middle → Rose middle new → Rose old new
@@ -42,8 +48,10 @@ pub none_taken : {old new : Channel} {file : List ℕ} {answer : Result ⊤ Fail
 none_taken {new = new} opens = ap (λ (l : List ℕ). drop (length l) new.taken) opens.was_idle.taken ∙ opens.idle.taken
 
 -- the file was not opened; the empty text decides nothing
-pub unopened : {Text T E : Type 0} {whole so_far : List ℕ → Text} {unread : Text} {answers : Result T E → Text → Type 0} {fit : T → Type 0} {fault : E} {tells : Bool} {old new : Channel} {files : Files} {file : List ℕ} {answer : Result ⊤ Failed}
-    → so_far [] ≡ unread → Opens old new file answer → IsErr answer → TakesText whole so_far unread answers fit fault tells old new files file (Err fault)
+pub unopened : {Text T E : Type 0} {whole so_far : List ℕ → Text} {unread : Text} {answers : Result T E → Text → Type 0} {fit : T
+    → Type 0} {fault : E} {tells : Bool} {old new : Channel} {files : Files} {file : List ℕ} {answer : Result ⊤ Failed}
+    → so_far [] ≡ unread → Opens old new file answer → IsErr answer
+    → TakesText whole so_far unread answers fit fault tells old new files file (Err fault)
 unopened {so_far = so_far} empty opens failed = record {
   read = λ t. inl refl;
   fits = tt;
@@ -56,12 +64,16 @@ unopened {so_far = so_far} empty opens failed = record {
 }
 
 -- the file was opened, and then read
-pub taken : {Text T E : Type 0} {whole so_far : List ℕ → Text} {unread : Text} {answers : Result T E → Text → Type 0} {fit : T → Type 0} {fault : E} {tells : Bool} {old opened new : Channel} {files : Files} {file : List ℕ}
+pub taken : {Text T E : Type 0} {whole so_far : List ℕ → Text} {unread : Text} {answers : Result T E → Text → Type 0} {fit : T
+    → Type 0} {fault : E} {tells : Bool} {old opened new : Channel} {files : Files} {file : List ℕ}
     {answer : Result ⊤ Failed} {result : Result T E}
-    → Opens old opened file answer → IsOk answer → (IsTrue tells → files file ≡ Some opened.left) → ReadsOpened whole so_far unread answers fit fault tells opened new result
+    → Opens old opened file answer → IsOk answer → (IsTrue tells → files file ≡ Some opened.left)
+    → ReadsOpened whole so_far unread answers fit fault tells opened new result
     → TakesText whole so_far unread answers fit fault tells old new files file result
-taken {whole = whole} {so_far = so_far} {answers = answers} {old = old} {opened = opened} {new = new} {result = result} opens ok content reads =
-    let same : gained opened new ≡ gained old new = ap (λ (l : List ℕ). drop (length l) new.taken) (opens.idle.taken ∙ sym opens.was_idle.taken) in
+taken {whole = whole} {so_far = so_far} {answers = answers} {old = old} {opened = opened} {new = new} {result = result} opens ok content
+    reads =
+    let same : gained opened new ≡ gained old new = ap (λ (l : List ℕ). drop (length l) new.taken) (opens.idle.taken
+    ∙ sym opens.was_idle.taken) in
     record {
       read = λ t. inr (record {
         bytes = opened.left;
@@ -79,8 +91,10 @@ taken {whole = whole} {so_far = so_far} {answers = answers} {old = old} {opened 
     }
 
 -- what was read, where no call failed
-pub text_read : {Text T E : Type 0} {whole so_far : List ℕ → Text} {unread : Text} {answers : Result T E → Text → Type 0} {fit : T → Type 0} {fault : E} {tells : Bool} {old new : Channel} {files : Files} {file : List ℕ} {result : Result T E}
-    → result ≢ Err fault → TakesText whole so_far unread answers fit fault tells old new files file result → IsTrue tells → ReadsText whole answers files file (gained old new) result
+pub text_read : {Text T E : Type 0} {whole so_far : List ℕ → Text} {unread : Text} {answers : Result T E → Text → Type 0} {fit : T
+    → Type 0} {fault : E} {tells : Bool} {old new : Channel} {files : Files} {file : List ℕ} {result : Result T E}
+    → result ≢ Err fault → TakesText whole so_far unread answers fit fault tells old new files file result → IsTrue tells
+    → ReadsText whole answers files file (gained old new) result
 text_read differs takes t = elim (takes.read t) [ inl failed ↦ absurd (differs failed) | inr text ↦ text ]
 
 -- no answer is both

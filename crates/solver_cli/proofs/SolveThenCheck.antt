@@ -10,10 +10,12 @@ use Rattle.lrat_rules.specs.Run.{verdict}
 use Rattle.lrat_rules.specs.declared.outcome.Reason.{Reason}
 use Rattle.lrat_checker.specs.TextVerdict.{max_bytes, text_verdict}
 use Rattle.solver_cli.specs.declared.status.Status.{Status}
-use Rattle.solver_cli.specs.declared.status.Status.TheVariants.{Sat, Unsat, Unknown, Verified, NotVerified, Done, Help, Usage, CnfRefused, OrderRefused, PlanRefused, TooLong, ReadFault, WriteFault, OutOfMemory}
+use Rattle.solver_cli.specs.declared.status.Status.TheVariants.{Sat, Unsat, Unknown, Verified, NotVerified, Done, Help, Usage, CnfRefused}
+use Rattle.solver_cli.specs.declared.status.Status.TheVariants.{OrderRefused, PlanRefused, TooLong, ReadFault, WriteFault, OutOfMemory}
 use Rattle.command_line.specs.Command.{Command}
 use Rattle.solver_cli.specs.Answer.{AreGiven, AreOfFiles}
-use Rattle.solver_cli.specs.Headline.{Run, written_in, GivesDecision, GivesSolve, Asks, AsksToJudge, IsDue, IsShownRefuted, IsRefuted, Promises}
+use Rattle.solver_cli.specs.Headline.{Run, written_in, GivesDecision, GivesSolve, AsksOver, AsksToJudge, IsDue, IsShownRefuted, IsRefuted}
+use Rattle.solver_cli.specs.Headline.{Promises}
 use Rattle.solver_cli.specs.SolveThenCheck.{ChecksSolved, MayEnd}
 use Rattle.solver_cli.proofs.Facts.{one_proof, same_command, two_commands, decided_apart, checks_apart, no_misuse, no_help, same_formula}
 use Rattle.solver_cli.proofs.CallsFor.{same_text}
@@ -36,7 +38,8 @@ ends long_text solved run first second asks = by run.status refl where
 
   -- the first run decided the formula of its named file
   of_files : AreOfFiles solved.files asks.solve problem shown.asked.order shown.asked.moves
-  of_files = subst (λ (c : Command). AreGiven solved.files c problem shown.asked.order shown.asked.moves) (same_command shown.asked.by.command asks.solve_asked) shown.asked.by.given
+  of_files = subst (λ (c : Command). AreGiven solved.files c problem shown.asked.order shown.asked.moves)
+      (same_command shown.asked.by.command asks.solve_asked) shown.asked.by.given
 
   to_judge : AsksToJudge run problem bytes
   to_judge = record {
@@ -72,12 +75,12 @@ ends long_text solved run first second asks = by run.status refl where
   due e = subst (λ (s : Status). IsDue run s) e second.refusals
 
   -- the formula was accepted, so its text isn't refused
-  accepted : (kind : CnfKind) (line : ℕ) {other : Command} → Asks run other (refusal kind line) → ⊥
+  accepted : (kind : CnfKind) (line : ℕ) {other : Command} → AsksOver run other (refusal kind line) → ⊥
   accepted kind line there = apart (same_text run to_judge.asks there) where
     apart : formula problem ≡ refusal kind line → ⊥
     apart e = cc
 
-  not_long : {other : Command} → Asks run other overlong → ⊥
+  not_long : {other : Command} → AsksOver run other overlong → ⊥
   not_long there = apart (same_text run to_judge.asks there) where
     apart : formula problem ≡ overlong → ⊥
     apart e = cc
@@ -98,7 +101,8 @@ ends long_text solved run first second asks = by run.status refl where
   by (TooLong Cnf) e = let refused = (due e).1 asks.checked_tells in absurd (not_long refused.asks)
   by (TooLong Order) e = absurd (unsolved (due e).0)
   by (TooLong Schedule) e = absurd (unsolved (due e).0)
-  by (TooLong ProofIn) e = let long = (due e).1 asks.checked_tells in (refl, long_text problem.clauses bytes (one_verdict run to_judge long.asked ∙ long.judged))
+  by (TooLong ProofIn) e = let long = (due e).1 asks.checked_tells in
+      (refl, long_text problem.clauses bytes (one_verdict run to_judge long.asked ∙ long.judged))
   by (TooLong ProofOut) e = absurd (due e)
   by (TooLong Made) e = absurd (due e)
   by (TooLong Out) e = absurd (due e)

@@ -22,21 +22,27 @@ use Rattle.solver_cli.specs.Phases.{TakesFormula, HasOrder, HasPlan, WritesProof
 use Rattle.solver_cli.specs.Stages.{Job, LeavesInputs, streams_of, solve_job, Prepared, Came, CameToAnswer}
 
 -- what was told of a stream that later calls left alone
-pub still_taken : (mode : Mode) {tells : Bool} {old new now : Channel} {files : Files} {file : List ℕ} {result : Result Formula CnfError} → now ≡ new → TakesFormula mode tells old new files file result
+pub still_taken : (mode : Mode) {tells : Bool} {old new now : Channel} {files : Files} {file : List ℕ} {result : Result Formula CnfError}
+    → now ≡ new → TakesFormula mode tells old new files file result
     → TakesFormula mode tells old now files file result
 still_taken mode {tells = tells} {old = old} {files = files} {file = file} {result = result} same takes =
     subst (λ (c : Channel). TakesFormula mode tells old c files file result) (sym same) takes
 
-pub opened_from : {start old new : Channel} {file : List ℕ} {answer : Result ⊤ Failed} → old ≡ start → Opens old new file answer → Opens start new file answer
+pub opened_from : {start old new : Channel} {file : List ℕ} {answer : Result ⊤ Failed} → old ≡ start → Opens old new file answer
+    → Opens start new file answer
 opened_from {new = new} {file = file} {answer = answer} same opens = subst (λ (c : Channel). Opens c new file answer) same opens
 
-pub still_written : {tells : Bool} {old new now : Channel} {problem : Formula} {order : List ℕ} {moves : List Move} {limits : Limits} {result : Result Ending RunError} → now ≡ new
+pub still_written : {tells : Bool} {old new now : Channel} {problem : Formula} {order : List ℕ} {moves : List Move} {limits : Limits}
+    {result : Result Ending RunError} → now ≡ new
     → WritesProof tells old new problem order moves limits result → WritesProof tells old now problem order moves limits result
-still_written {tells = tells} {old = old} {problem = problem} {order = order} {moves = moves} {limits = limits} {result = result} same writes =
+still_written {tells = tells} {old = old} {problem = problem} {order = order} {moves = moves} {limits = limits} {result = result} same
+    writes =
     subst (λ (c : Channel). WritesProof tells old c problem order moves limits result) (sym same) writes
 
-pub printed_from : {tells : Bool} {start old new : Channel} {text : List ℕ} {result : Result ⊤ Failed} → old ≡ start → PutsText tells old new text result → PutsText tells start new text result
-printed_from {tells = tells} {new = new} {text = text} {result = result} same puts = subst (λ (c : Channel). PutsText tells c new text result) same puts
+pub printed_from : {tells : Bool} {start old new : Channel} {text : List ℕ} {result : Result ⊤ Failed} → old ≡ start
+    → PutsText tells old new text result → PutsText tells start new text result
+printed_from {tells = tells} {new = new} {text = text} {result = result} same puts = subst
+    (λ (c : Channel). PutsText tells c new text result) same puts
 
 -- the files stayed
 pub same_files : {before files : Files} → FilesBut None before files → files ≡ before
@@ -45,42 +51,56 @@ same_files same = λ i file. same file none_some i where
   none_some e = cc
 
 -- the order and the plan, told of the streams and the files at the start, and of later ones
-order_at : {tells : Bool} {start old new now : Channel} {before files : Files} {vars : ℕ} {file : Option (List ℕ)} {result : Result (List ℕ) OrderError} → old ≡ start → now ≡ new → files ≡ before
+order_at : {tells : Bool} {start old new now : Channel} {before files : Files} {vars : ℕ} {file : Option (List ℕ)} {result : Result
+    (List ℕ) OrderError} → old ≡ start → now ≡ new → files ≡ before
     → HasOrder vars file tells old new files result → HasOrder vars file tells start now before result
-order_at {tells = tells} {start = start} {old = old} {new = new} {now = now} {before = before} {files = files} {vars = vars} {file = file} {result = result} from to same has =
+order_at {tells = tells} {start = start} {old = old} {new = new} {now = now} {before = before} {files = files} {vars = vars} {file = file}
+    {result = result} from to same has =
     subst (λ (f : Files). HasOrder vars file tells start now f result) same
-    (subst (λ (c : Channel). HasOrder vars file tells start c files result) (sym to) (subst (λ (c : Channel). HasOrder vars file tells c new files result) from has))
+    (subst (λ (c : Channel). HasOrder vars file tells start c files result) (sym to)
+    (subst (λ (c : Channel). HasOrder vars file tells c new files result) from has))
 
-plan_at : {tells : Bool} {start old new now : Channel} {before files : Files} {problem : Formula} {order : List ℕ} {plan : Planned} {result : Result (List Move) PlanError} → old ≡ start → now ≡ new → files ≡ before
+plan_at : {tells : Bool} {start old new now : Channel} {before files : Files} {problem : Formula} {order : List ℕ} {plan : Planned}
+    {result : Result (List Move) PlanError} → old ≡ start → now ≡ new → files ≡ before
     → HasPlan problem order plan tells old new files result → HasPlan problem order plan tells start now before result
-plan_at {tells = tells} {start = start} {old = old} {new = new} {now = now} {before = before} {files = files} {problem = problem} {order = order} {plan = plan} {result = result} from to same has =
+plan_at {tells = tells} {start = start} {old = old} {new = new} {now = now} {before = before} {files = files} {problem = problem}
+    {order = order} {plan = plan} {result = result} from to same has =
     subst (λ (f : Files). HasPlan problem order plan tells start now f result) same
-    (subst (λ (c : Channel). HasPlan problem order plan tells start c files result) (sym to) (subst (λ (c : Channel). HasPlan problem order plan tells c new files result) from has))
+    (subst (λ (c : Channel). HasPlan problem order plan tells start c files result) (sym to)
+    (subst (λ (c : Channel). HasPlan problem order plan tells c new files result) from has))
 
 -- The formula was taken.
-pub record Took (mode : Mode) (tells : Bool) (old taken : Role → Channel) (before files : Files) (file : List ℕ) (problem : Formula) : Type 0 where
+pub record Took (mode : Mode) (tells : Bool) (old taken : Role → Channel) (before files : Files) (file : List ℕ)
+    (problem : Formula) : Type 0 where
   pub takes : TakesFormula mode tells (old Cnf) (taken Cnf) before file (Ok problem)
   pub kept : Kept Cnf None old taken before files
 
 -- And the order was had.
-pub record Orders (tells : Bool) (old taken had : Role → Channel) (before files later : Files) (task : ToSolve) (problem : Formula) (order : List ℕ) : Type 0 where
+pub record Orders (tells : Bool) (old taken had : Role → Channel) (before files later : Files) (task : ToSolve) (problem : Formula)
+    (order : List ℕ) : Type 0 where
   pub took : Took task.mode tells old taken before files task.file problem
   pub orders : HasOrder problem.vars task.order tells (taken Order) (had Order) files (Ok order)
   pub kept : Kept Order None taken had files later
 
 -- And the plan.
-pub record Plans (tells : Bool) (old taken had made : Role → Channel) (before files later last : Files) (task : ToSolve) (problem : Formula) (order : List ℕ) (moves : List Move) : Type 0 where
+pub record Plans (tells : Bool) (old taken had made : Role → Channel) (before files later last : Files) (task : ToSolve) (problem : Formula)
+    (order : List ℕ) (moves : List Move) : Type 0 where
   pub ordered : Orders tells old taken had before files later task problem order
   pub plans : HasPlan problem order task.plan tells (had Schedule) (made Schedule) later (Ok moves)
   pub kept : Kept Schedule None had made later last
 
 -- the order is had of so many variables as the formula has
-pub order_of : {tells : Bool} {old new : Channel} {files : Files} {vars known : ℕ} {file : Option (List ℕ)} {result : Result (List ℕ) OrderError} → vars ≡ known → HasOrder vars file tells old new files result
+pub order_of : {tells : Bool} {old new : Channel} {files : Files} {vars known : ℕ} {file : Option (List ℕ)} {result : Result
+    (List ℕ) OrderError} → vars ≡ known → HasOrder vars file tells old new files result
     → HasOrder known file tells old new files result
-order_of {tells = tells} {old = old} {new = new} {files = files} {file = file} {result = result} same has = subst (λ (v : ℕ). HasOrder v file tells old new files result) same has
+order_of {tells = tells} {old = old} {new = new} {files = files} {file = file} {result = result} same has = subst
+    (λ (v : ℕ). HasOrder v file tells old new files result) same has
 
-pub unordered : {tells : Bool} {task : ToSolve} {problem : Formula} {error : OrderError} {status : Status} (old taken new : Role → Channel) (before files later : Files)
-    → Took task.mode tells old taken before files task.file problem → HasOrder problem.vars task.order tells (taken Order) (new Order) files (Err error) → Kept Order None taken new files later → status ≡ status_of_order error
+pub unordered : {tells : Bool} {task : ToSolve} {problem : Formula} {error : OrderError} {status : Status} (old taken new : Role
+    → Channel) (before files later : Files)
+    → Took task.mode tells old taken before files task.file problem
+    → HasOrder problem.vars task.order tells (taken Order) (new Order) files (Err error) → Kept Order None taken new files later → status
+    ≡ status_of_order error
     → Came tells (streams_of old) (streams_of new) before task status
 unordered {task = task} {problem = problem} {error = error} old taken new before files later took has kept ends =
     inr (inl (record {
@@ -96,8 +116,10 @@ unordered {task = task} {problem = problem} {error = error} old taken new before
       ends = ends;
     }))
 
-pub unplanned : {tells : Bool} {task : ToSolve} {problem : Formula} {order : List ℕ} {error : PlanError} {status : Status} (old taken had new : Role → Channel) (before files later last : Files)
-    → Orders tells old taken had before files later task problem order → HasPlan problem order task.plan tells (had Schedule) (new Schedule) later (Err error) → Kept Schedule None had new later last
+pub unplanned : {tells : Bool} {task : ToSolve} {problem : Formula} {order : List ℕ} {error : PlanError} {status : Status}
+    (old taken had new : Role → Channel) (before files later last : Files)
+    → Orders tells old taken had before files later task problem order
+    → HasPlan problem order task.plan tells (had Schedule) (new Schedule) later (Err error) → Kept Schedule None had new later last
     → status ≡ status_of_plan error → Came tells (streams_of old) (streams_of new) before task status
 unplanned {task = task} {problem = problem} {order = order} {error = error} old taken had new before files later last o has kept ends =
     let took = o.took in
@@ -107,7 +129,8 @@ unplanned {task = task} {problem = problem} {order = order} {error = error} old 
       order = order;
       orders = order_at (took.kept.others Order refl) (kept.others Order refl) (same_files took.kept.files) o.orders;
       error = error;
-      plans = plan_at (o.kept.others Schedule refl ∙ took.kept.others Schedule refl) refl (same_files o.kept.files ∙ same_files took.kept.files) has;
+      plans = plan_at (o.kept.others Schedule refl ∙ took.kept.others Schedule refl) refl (same_files o.kept.files
+          ∙ same_files took.kept.files) has;
       judged = kept.others ProofIn refl ∙ o.kept.others ProofIn refl ∙ took.kept.others ProofIn refl;
       proof = kept.others ProofOut refl ∙ o.kept.others ProofOut refl ∙ took.kept.others ProofOut refl;
       made = kept.others Made refl ∙ o.kept.others Made refl ∙ took.kept.others Made refl;
@@ -116,33 +139,42 @@ unplanned {task = task} {problem = problem} {order = order} {error = error} old 
     })))
 
 -- all was had, and the inputs were left alone from then on
-prepared : {tells : Bool} {old taken had made new : Role → Channel} {before files later last : Files} {task : ToSolve} {problem : Formula} {order : List ℕ} {moves : List Move}
-    → Plans tells old taken had made before files later last task problem order moves → LeavesInputs made new → Prepared tells (streams_of old) (streams_of new) before task problem order moves
+prepared : {tells : Bool} {old taken had made new : Role → Channel} {before files later last : Files} {task : ToSolve} {problem : Formula}
+    {order : List ℕ} {moves : List Move}
+    → Plans tells old taken had made before files later last task problem order moves → LeavesInputs made new
+    → Prepared tells (streams_of old) (streams_of new) before task problem order moves
 prepared {task = task} p leaves =
     let o = p.ordered in
     let took = o.took in
     record {
       takes = still_taken task.mode (leaves.cnf ∙ p.kept.others Cnf refl ∙ o.kept.others Cnf refl) took.takes;
       orders = order_at (took.kept.others Order refl) (leaves.order ∙ p.kept.others Order refl) (same_files took.kept.files) o.orders;
-      plans = plan_at (o.kept.others Schedule refl ∙ took.kept.others Schedule refl) leaves.schedule (same_files o.kept.files ∙ same_files took.kept.files) p.plans;
+      plans = plan_at (o.kept.others Schedule refl ∙ took.kept.others Schedule refl) leaves.schedule (same_files o.kept.files
+          ∙ same_files took.kept.files) p.plans;
       judged = leaves.judged ∙ p.kept.others ProofIn refl ∙ o.kept.others ProofIn refl ∙ took.kept.others ProofIn refl;
       made = leaves.made ∙ p.kept.others Made refl ∙ o.kept.others Made refl ∙ took.kept.others Made refl;
     }
 
 -- another role was left alone until then
-pub left_alone : {tells : Bool} {old taken had made : Role → Channel} {before files later last : Files} {task : ToSolve} {problem : Formula} {order : List ℕ} {moves : List Move}
+pub left_alone : {tells : Bool} {old taken had made : Role → Channel} {before files later last : Files} {task : ToSolve} {problem : Formula}
+    {order : List ℕ} {moves : List Move}
     → Plans tells old taken had made before files later last task problem order moves
-    → (role : Role) → IsFalse (same_role role Cnf) → IsFalse (same_role role Order) → IsFalse (same_role role Schedule) → made role ≡ old role
+    → (role : Role) → IsFalse (same_role role Cnf) → IsFalse (same_role role Order) → IsFalse (same_role role Schedule) → made role
+    ≡ old role
 left_alone p role a b c = p.kept.others role c ∙ p.ordered.kept.others role b ∙ p.ordered.took.kept.others role a
 
 -- the answer, told from an earlier state of its streams
-pub answered_from : {tells : Bool} {start old new start_out old_out out : Channel} {problem : Formula} {order : List ℕ} {moves : List Move} {job : Job} {status : Status} → old ≡ start → old_out ≡ start_out
-    → CameToAnswer tells old new old_out out problem order moves job status → CameToAnswer tells start new start_out out problem order moves job status
-answered_from {tells = tells} {start = start} {new = new} {old_out = old_out} {out = out} {problem = problem} {order = order} {moves = moves} {job = job} {status = status} same same_out came =
+pub answered_from : {tells : Bool} {start old new start_out old_out out : Channel} {problem : Formula} {order : List ℕ} {moves : List Move}
+    {job : Job} {status : Status} → old ≡ start → old_out ≡ start_out
+    → CameToAnswer tells old new old_out out problem order moves job status
+    → CameToAnswer tells start new start_out out problem order moves job status
+answered_from {tells = tells} {start = start} {new = new} {old_out = old_out} {out = out} {problem = problem} {order = order}
+    {moves = moves} {job = job} {status = status} same same_out came =
     subst (λ (c : Channel). CameToAnswer tells start new c out problem order moves job status) same_out
     (subst (λ (c : Channel). CameToAnswer tells c new old_out out problem order moves job status) same came)
 
-pub solved : {tells : Bool} {old taken had made : Role → Channel} {before files later last : Files} {task : ToSolve} {problem : Formula} {order : List ℕ} {moves : List Move} {status : Status} (new : Role → Channel)
+pub solved : {tells : Bool} {old taken had made : Role → Channel} {before files later last : Files} {task : ToSolve} {problem : Formula}
+    {order : List ℕ} {moves : List Move} {status : Status} (new : Role → Channel)
     → Plans tells old taken had made before files later last task problem order moves → LeavesInputs made new
     → CameToAnswer tells (made ProofOut) (new ProofOut) (made Out) (new Out) problem order moves (solve_job task) status
     → Came tells (streams_of old) (streams_of new) before task status
@@ -156,8 +188,11 @@ solved {problem = problem} {order = order} {moves = moves} new p leaves came =
     })))
 
 -- no file but the proof's was changed
-pub files_left : {tells : Bool} {old taken had made : Role → Channel} {before files later last new_files : Files} {task : ToSolve} {problem : Formula} {order : List ℕ} {moves : List Move} {name : Option (List ℕ)}
-    → Plans tells old taken had made before files later last task problem order moves → FilesBut name last new_files → FilesBut name before new_files
-files_left p answers file own = answers file own ∙ p.kept.files file none_some ∙ p.ordered.kept.files file none_some ∙ p.ordered.took.kept.files file none_some where
-  none_some : {name : List ℕ} → ◌≡◌ {A = Option (List ℕ)} None (Some name) → ⊥
-  none_some e = cc
+pub files_left : {tells : Bool} {old taken had made : Role → Channel} {before files later last new_files : Files} {task : ToSolve}
+    {problem : Formula} {order : List ℕ} {moves : List Move} {name : Option (List ℕ)}
+    → Plans tells old taken had made before files later last task problem order moves → FilesBut name last new_files
+    → FilesBut name before new_files
+files_left p answers file own = answers file own ∙ p.kept.files file none_some ∙ p.ordered.kept.files file none_some
+    ∙ p.ordered.took.kept.files file none_some where
+      none_some : {name : List ℕ} → ◌≡◌ {A = Option (List ℕ)} None (Some name) → ⊥
+      none_some e = cc

@@ -18,12 +18,19 @@ use Rattle.solver_cli.specs.Stages.{streams_of, CameToCheck, status_of_printed}
 use Rattle.solver_cli.proofs.Staged.{still_taken, printed_from}
 
 -- the files are those before the formula was read
-judged_in : {tells : Bool} {old new : Channel} {file : List ℕ} {clauses : List (List ℤ)} {result : Result Verdict CheckError} (files before : Files) → FilesBut None before files
+judged_in : {tells : Bool} {old new : Channel} {file : List ℕ} {clauses : List (List ℤ)} {result : Result Verdict CheckError}
+    (files before : Files) → FilesBut None before files
     → JudgesProof tells old new files file clauses result → JudgesProof tells old new before file clauses result
 judged_in {file = file} files before same judges = record {
   read = λ t. elim (judges.read t) [
     | inl fault ↦ inl fault
-    | inr text ↦ inr (record { bytes = text.bytes; stands = sym (same file none_some) ∙ text.stands; judged = text.judged; decided = text.decided })
+    | inr text ↦ inr (record {
+      bytes = text.bytes;
+      stands = sym (same file none_some)
+          ∙ text.stands;
+      judged = text.judged;
+      decided = text.decided;
+    })
   ];
   fault = judges.fault;
   unfailed = judges.unfailed;
@@ -36,14 +43,18 @@ judged_in {file = file} files before same judges = record {
   none_some e = cc
 
 -- and so are the channels
-judged_from : {tells : Bool} {start old new now : Channel} {files : Files} {file : List ℕ} {clauses : List (List ℤ)} {result : Result Verdict CheckError} → old ≡ start → now ≡ new
+judged_from : {tells : Bool} {start old new now : Channel} {files : Files} {file : List ℕ} {clauses : List
+    (List ℤ)} {result : Result Verdict CheckError} → old ≡ start → now ≡ new
     → JudgesProof tells old new files file clauses result → JudgesProof tells start now files file clauses result
 judged_from {tells = tells} {start = start} {new = new} {files = files} {file = file} {clauses = clauses} {result = result} from to judges =
-    subst (λ (c : Channel). JudgesProof tells start c files file clauses result) (sym to) (subst (λ (c : Channel). JudgesProof tells c new files file clauses result) from judges)
+    subst (λ (c : Channel). JudgesProof tells start c files file clauses result) (sym to)
+    (subst (λ (c : Channel). JudgesProof tells c new files file clauses result) from judges)
 
-pub unjudged : {tells : Bool} {task : ToCheck} {problem : Formula} {error : CheckError} {status : Status} (old taken new : Role → Channel) (before files : Files)
+pub unjudged : {tells : Bool} {task : ToCheck} {problem : Formula} {error : CheckError} {status : Status} (old taken new : Role
+    → Channel) (before files : Files)
     → TakesFormula task.mode tells (old Cnf) (taken Cnf) before task.file (Ok problem) → Others Cnf old taken → FilesBut None before files
-    → JudgesProof tells (taken ProofIn) (new ProofIn) files task.proof problem.clauses (Err error) → Others ProofIn taken new → status ≡ status_of_check error
+    → JudgesProof tells (taken ProofIn) (new ProofIn) files task.proof problem.clauses (Err error) → Others ProofIn taken new → status
+    ≡ status_of_check error
     → CameToCheck tells (streams_of old) (streams_of new) before task status
 unjudged {task = task} {problem = problem} {error = error} old taken new before files takes beside_taken same judges beside_new ends =
     inr (inl (record {
@@ -59,12 +70,15 @@ unjudged {task = task} {problem = problem} {error = error} old taken new before 
       ends = ends;
     }))
 
-pub judged : {tells : Bool} {task : ToCheck} {problem : Formula} {verdict : Verdict} {printed : Result ⊤ Failed} {status : Status} (old taken checked new : Role → Channel) (before files : Files)
+pub judged : {tells : Bool} {task : ToCheck} {problem : Formula} {verdict : Verdict} {printed : Result ⊤ Failed} {status : Status}
+    (old taken checked new : Role → Channel) (before files : Files)
     → TakesFormula task.mode tells (old Cnf) (taken Cnf) before task.file (Ok problem) → Others Cnf old taken → FilesBut None before files
     → JudgesProof tells (taken ProofIn) (checked ProofIn) files task.proof problem.clauses (Ok verdict) → Others ProofIn taken checked
-    → PutsText tells (checked Out) (new Out) (verdict_text verdict) printed → Others Out checked new → status ≡ status_of_printed verdict printed
+    → PutsText tells (checked Out) (new Out) (verdict_text verdict) printed → Others Out checked new → status
+    ≡ status_of_printed verdict printed
     → CameToCheck tells (streams_of old) (streams_of new) before task status
-judged {task = task} {problem = problem} {verdict = verdict} {printed = printed} old taken checked new before files takes beside_taken same judges beside_checked puts beside_new ends =
+judged {task = task} {problem = problem} {verdict = verdict} {printed = printed} old taken checked new before files takes beside_taken same
+    judges beside_checked puts beside_new ends =
     inr (inr (record {
       problem = problem;
       takes = still_taken task.mode (beside_new Cnf refl ∙ beside_checked Cnf refl) takes;

@@ -17,7 +17,9 @@ use Rattle.command_line.specs.Command.{ToSolve, ToCheck, ToBench, ToMake}
 use Rattle.solver_cli.specs.declared.status.Status.{Status}
 use Rattle.solver_cli.specs.declared.status.Status.TheVariants.{Usage, ReadFault, WriteFault, OutOfMemory}
 use Rattle.solver_cli.specs.ExitCode.{status_of_error, status_of_order, status_of_plan, status_of_run, status_of_check}
-use Rattle.solver_cli.specs.Stages.{Streams, streams_of, Misused, Helped, Untaken, Unordered, Unplanned, NoneRead, Job, Solved, Benched, Unjudged, Judged, Came, CameToAnswer, CameToBench, CameToCheck, CameToMake, Stages, status_of_help, status_after, status_of_printed, status_of_written}
+use Rattle.solver_cli.specs.Stages.{Streams, streams_of, Misused, Helped, Untaken, Unordered, Unplanned, NoneRead, Job, Solved, Benched}
+use Rattle.solver_cli.specs.Stages.{Unjudged, Judged, Came, CameToAnswer, CameToBench, CameToCheck, CameToMake, Stages, status_of_help}
+use Rattle.solver_cli.specs.Stages.{status_after, status_of_printed, status_of_written}
 use Rattle.solver_cli.specs.Headline.{Run, FailuresAreTold, written_in}
 use Rattle.solver_cli.proofs.Facts.{behind, nothing_more}
 use Rattle.solver_cli.proofs.Reading.{ok_err, same_error}
@@ -61,11 +63,13 @@ run_read : {status : Status} (error : RunError) → status ≡ status_of_run err
 run_read run_error.OutOfMemory ends e = cc
 run_read run_error.WriteFault ends e = cc
 
-answer_read : {status : Status} (ending : Ending) (printed : Result ⊤ Failed) → status ≡ status_after ending printed → status ≡ ReadFault → ⊥
+answer_read : {status : Status} (ending : Ending) (printed : Result ⊤ Failed) → status ≡ status_after ending printed → status ≡ ReadFault
+    → ⊥
 answer_read {status = status} ending (Ok x) ends e = (accepts_answer status ending.outcome ends).read e
 answer_read ending (Err f) ends e = cc
 
-verdict_read : {status : Status} (verdict : Verdict) (printed : Result ⊤ Failed) → status ≡ status_of_printed verdict printed → status ≡ ReadFault → ⊥
+verdict_read : {status : Status} (verdict : Verdict) (printed : Result ⊤ Failed) → status ≡ status_of_printed verdict printed → status
+    ≡ ReadFault → ⊥
 verdict_read {status = status} verdict (Ok x) ends e = (accepts_verdict status verdict ends).read e
 verdict_read verdict (Err f) ends e = cc
 
@@ -105,7 +109,8 @@ idle unread same = record {
   out = λ _. ap (λ (s : Streams). s.out.faults) same;
 }
 
-helped : {tells : Bool} {words : List (List ℕ)} {old new : Streams} {status : Status} → Helped tells words old new status → Told old new status
+helped : {tells : Bool} {words : List (List ℕ)} {old new : Streams} {status : Status} → Helped tells words old new status
+    → Told old new status
 helped h = record {
   quiet = λ e. absurd (help_read h.shows.printed h.shows.ends e);
   cnf = λ _. faults_of h.cnf;
@@ -117,9 +122,18 @@ helped h = record {
   out = λ differs. h.shows.puts.unfailed (help_ok h.shows.printed (λ e. differs (h.shows.ends ∙ e)));
 }
 
-untaken : {mode : Mode} {tells : Bool} {old new : Streams} {files : Files} {file : List ℕ} {status : Status} → Untaken mode tells old new files file status → Told old new status
+untaken : {mode : Mode} {tells : Bool} {old new : Streams} {files : Files} {file : List ℕ} {status : Status}
+    → Untaken mode tells old new files file status → Told old new status
 untaken u = record {
-  quiet = λ _. record { cnf = u.takes.written; order = written_of u.order; schedule = written_of u.schedule; judged = written_of u.judged; proof = written_of u.proof; made = written_of u.made; out = written_of u.out };
+  quiet = λ _. record {
+    cnf = u.takes.written;
+    order = written_of u.order;
+    schedule = written_of u.schedule;
+    judged = written_of u.judged;
+    proof = written_of u.proof;
+    made = written_of u.made;
+    out = written_of u.out;
+  };
   cnf = λ differs. u.takes.unfailed (λ e. differs (u.ends ∙ ap status_of_error (same_error e)));
   order = λ _. faults_of u.order;
   schedule = λ _. faults_of u.schedule;
@@ -129,11 +143,20 @@ untaken u = record {
   out = λ _. faults_of u.out;
 }
 
-unordered : {tells : Bool} {old new : Streams} {files : Files} {task : ToSolve} {status : Status} → Unordered tells old new files task status → Told old new status
+unordered : {tells : Bool} {old new : Streams} {files : Files} {task : ToSolve} {status : Status}
+    → Unordered tells old new files task status → Told old new status
 unordered {task = task} u =
     let served = order_served task.order u.orders in
     record {
-      quiet = λ _. record { cnf = u.takes.written; order = served.written; schedule = written_of u.schedule; judged = written_of u.judged; proof = written_of u.proof; made = written_of u.made; out = written_of u.out };
+      quiet = λ _. record {
+        cnf = u.takes.written;
+        order = served.written;
+        schedule = written_of u.schedule;
+        judged = written_of u.judged;
+        proof = written_of u.proof;
+        made = written_of u.made;
+        out = written_of u.out;
+      };
       cnf = λ _. u.takes.unfailed (λ e. ok_err e);
       order = λ differs. served.unfailed (λ e. differs (u.ends ∙ ap status_of_order (same_error e)));
       schedule = λ _. faults_of u.schedule;
@@ -143,12 +166,21 @@ unordered {task = task} u =
       out = λ _. faults_of u.out;
     }
 
-unplanned : {tells : Bool} {old new : Streams} {files : Files} {task : ToSolve} {status : Status} → Unplanned tells old new files task status → Told old new status
+unplanned : {tells : Bool} {old new : Streams} {files : Files} {task : ToSolve} {status : Status}
+    → Unplanned tells old new files task status → Told old new status
 unplanned {task = task} u =
     let orders = order_served task.order u.orders in
     let plans = plan_served task.plan u.plans in
     record {
-      quiet = λ _. record { cnf = u.takes.written; order = orders.written; schedule = plans.written; judged = written_of u.judged; proof = written_of u.proof; made = written_of u.made; out = written_of u.out };
+      quiet = λ _. record {
+        cnf = u.takes.written;
+        order = orders.written;
+        schedule = plans.written;
+        judged = written_of u.judged;
+        proof = written_of u.proof;
+        made = written_of u.made;
+        out = written_of u.out;
+      };
       cnf = λ _. u.takes.unfailed (λ e. ok_err e);
       order = λ _. orders.unfailed (λ e. ok_err e);
       schedule = λ differs. plans.unfailed (λ e. differs (u.ends ∙ ap status_of_plan (same_error e)));
@@ -164,7 +196,8 @@ record AnswerTold (old new old_out new_out : Channel) (status : Status) : Type 0
   pub proof : status ≢ WriteFault → new.faults ≡ old.faults
   pub out : status ≢ WriteFault → new_out.faults ≡ old_out.faults
 
-answer_told : {tells : Bool} {old new old_out out : Channel} {problem : Formula} {order : List ℕ} {moves : List Move} {job : Job} {status : Status}
+answer_told : {tells : Bool} {old new old_out out : Channel} {problem : Formula} {order : List ℕ} {moves : List Move} {job : Job}
+    {status : Status}
     → CameToAnswer tells old new old_out out problem order moves job status → AnswerTold old new old_out out status
 answer_told (inl u) = record { unread = no_writing u.ends; proof = λ differs. absurd (differs u.ends); out = λ _. faults_of u.same }
 answer_told (inr (inl u)) = record {
@@ -179,7 +212,8 @@ answer_told (inr (inr a)) = record {
 }
 
 -- what was had before the proof's file failed no call
-solved : {tells : Bool} {old new : Streams} {files : Files} {task : ToSolve} {status : Status} → Solved tells old new files task status → Told old new status
+solved : {tells : Bool} {old new : Streams} {files : Files} {task : ToSolve} {status : Status} → Solved tells old new files task status
+    → Told old new status
 solved {task = task} s =
     let p = s.prepared in
     let answer = answer_told s.came in
@@ -209,7 +243,8 @@ benched b =
     }
 
 -- only the text's file was called
-only_made : {old new : Streams} {status : Status} → (status ≡ ReadFault → ⊥) → NoneRead old new → new.proof ≡ old.proof → new.out ≡ old.out → (status ≢ WriteFault → new.made.faults ≡ old.made.faults) → Told old new status
+only_made : {old new : Streams} {status : Status} → (status ≡ ReadFault → ⊥) → NoneRead old new → new.proof ≡ old.proof → new.out ≡ old.out
+    → (status ≢ WriteFault → new.made.faults ≡ old.made.faults) → Told old new status
 only_made unread none proof out made = record {
   quiet = λ e. absurd (unread e);
   cnf = λ _. faults_of none.cnf;
@@ -229,9 +264,18 @@ written_ok : (written : Result ⊤ Failed) → status_of_written written ≢ Wri
 written_ok (Ok x) differs = refl
 written_ok (Err e) differs = absurd (differs refl)
 
-unjudged : {tells : Bool} {old new : Streams} {files : Files} {task : ToCheck} {status : Status} → Unjudged tells old new files task status → Told old new status
+unjudged : {tells : Bool} {old new : Streams} {files : Files} {task : ToCheck} {status : Status} → Unjudged tells old new files task status
+    → Told old new status
 unjudged u = record {
-  quiet = λ _. record { cnf = u.takes.written; order = written_of u.order; schedule = written_of u.schedule; judged = u.judges.written; proof = written_of u.proof; made = written_of u.made; out = written_of u.out };
+  quiet = λ _. record {
+    cnf = u.takes.written;
+    order = written_of u.order;
+    schedule = written_of u.schedule;
+    judged = u.judges.written;
+    proof = written_of u.proof;
+    made = written_of u.made;
+    out = written_of u.out;
+  };
   cnf = λ _. u.takes.unfailed (λ e. ok_err e);
   order = λ _. faults_of u.order;
   schedule = λ _. faults_of u.schedule;
@@ -241,7 +285,8 @@ unjudged u = record {
   out = λ _. faults_of u.out;
 }
 
-judged : {tells : Bool} {old new : Streams} {files : Files} {task : ToCheck} {status : Status} → Judged tells old new files task status → Told old new status
+judged : {tells : Bool} {old new : Streams} {files : Files} {task : ToCheck} {status : Status} → Judged tells old new files task status
+    → Told old new status
 judged j = record {
   quiet = λ e. absurd (verdict_read j.verdict j.printed j.ends e);
   cnf = λ _. j.takes.unfailed (λ e. ok_err e);
@@ -253,27 +298,33 @@ judged j = record {
   out = λ differs. j.puts.unfailed (verdict_ok j.verdict j.printed (λ e. differs (j.ends ∙ e)));
 }
 
-came : {tells : Bool} {old new : Streams} {files : Files} {task : ToSolve} {status : Status} → Came tells old new files task status → Told old new status
+came : {tells : Bool} {old new : Streams} {files : Files} {task : ToSolve} {status : Status} → Came tells old new files task status
+    → Told old new status
 came (inl u) = untaken u
 came (inr (inl u)) = unordered u
 came (inr (inr (inl u))) = unplanned u
 came (inr (inr (inr s))) = solved s
 
-came_to_check : {tells : Bool} {old new : Streams} {files : Files} {task : ToCheck} {status : Status} → CameToCheck tells old new files task status → Told old new status
+came_to_check : {tells : Bool} {old new : Streams} {files : Files} {task : ToCheck} {status : Status}
+    → CameToCheck tells old new files task status → Told old new status
 came_to_check (inl u) = untaken u
 came_to_check (inr (inl u)) = unjudged u
 came_to_check (inr (inr j)) = judged j
 
-came_to_bench : {tells : Bool} {old new : Streams} {task : ToBench} {status : Status} → CameToBench tells old new task status → Told old new status
+came_to_bench : {tells : Bool} {old new : Streams} {task : ToBench} {status : Status} → CameToBench tells old new task status
+    → Told old new status
 came_to_bench (inl u) = idle (no_memory u.ends) u.same
 came_to_bench (inr b) = benched b
 
-came_to_make : {tells : Bool} {old new : Streams} {task : ToMake} {status : Status} → CameToMake tells old new task status → Told old new status
+came_to_make : {tells : Bool} {old new : Streams} {task : ToMake} {status : Status} → CameToMake tells old new task status
+    → Told old new status
 came_to_make (inl u) = idle (no_memory u.ends) u.same
 came_to_make (inr (inl u)) = only_made (no_writing u.ends) u.none_read u.proof u.out (λ differs. absurd (differs u.ends))
-came_to_make (inr (inr w)) = only_made (written_read w.written w.ends) w.none_read w.proof w.out (λ differs. w.puts.unfailed (written_ok w.written (λ e. differs (w.ends ∙ e))) ∙ w.opens.faults.unfailed w.done)
+came_to_make (inr (inr w)) = only_made (written_read w.written w.ends) w.none_read w.proof w.out
+    (λ differs. w.puts.unfailed (written_ok w.written (λ e. differs (w.ends ∙ e))) ∙ w.opens.faults.unfailed w.done)
 
-pub told : {tells : Bool} {words : List (List ℕ)} {old new : Streams} {files : Files} {status : Status} → Stages tells words old new files status → Told old new status
+pub told : {tells : Bool} {words : List (List ℕ)} {old new : Streams} {files : Files} {status : Status}
+    → Stages tells words old new files status → Told old new status
 told (inl m) = idle (misused_read m) m.same
 told (inr (inl h)) = helped h
 told (inr (inr (inl t))) = came t.came

@@ -20,7 +20,8 @@ use Rattle.solver_cli.specs.ExitCode.{status_of_check}
 use Rattle.solver_cli.specs.Verdict.{status_of_verdict}
 use Rattle.solver_cli.specs.Phases.{JudgesText, JudgesProof}
 use Rattle.solver_cli.specs.Stages.{streams_of, Unjudged}
-use Rattle.solver_cli.specs.Headline.{Run, taken_in, IsUnharmed, Asks, AsksToJudge, HasVerdict, IsLongProof, IsOpenProof, CallsFor, IsComplete}
+use Rattle.solver_cli.specs.Headline.{Run, taken_in, IsUnharmed, AsksOver, AsksToJudge, HasVerdict, IsLongProof, IsOpenProof, CallsFor}
+use Rattle.solver_cli.specs.Headline.{IsComplete}
 use Rattle.solver_cli.proofs.Facts.{one_proof, not_unasked, checks_apart, decided_apart, only_misuse, only_help, same_formula}
 use Rattle.solver_cli.proofs.CallsFor.{same_text}
 use Rattle.solver_cli.proofs.Promised.{Core, LeftAlone, refused, short, unread}
@@ -52,7 +53,8 @@ one_some here there e d = inner (sym e ∙ d) where
   inner e = cc
 
 -- what is complete of a run that judged its proof
-pub check_complete : (run : Run) (task : ToCheck) → command run.words ≡ Some (Check task) → (IsTrue run.tells → (status : Status) → CallsFor run status → ⊥)
+pub check_complete : (run : Run) (task : ToCheck) → command run.words ≡ Some (Check task)
+    → (IsTrue run.tells → (status : Status) → CallsFor run status → ⊥)
     → ((other : Formula) (text : List ℕ) (judged : Verdict) → HasVerdict run other text judged → IsTrue run.tells → IsUnharmed run
     → (run.status ≡ status_of_verdict judged) ⊎ (run.status ≡ OutOfMemory))
     → IsComplete run
@@ -67,21 +69,31 @@ check_complete run task gives uncalled judges = record {
 }
 
 -- the proof was not judged
-pub unjudged : Laws → (run : Run) (task : ToCheck) → command run.words ≡ Some (Check task) → Unjudged run.tells (streams_of run.before) (streams_of run.after) run.files task run.status → Core run
+pub unjudged : Laws → (run : Run) (task : ToCheck) → command run.words ≡ Some (Check task)
+    → Unjudged run.tells (streams_of run.before) (streams_of run.after) run.files task run.status → Core run
 unjudged laws run task asked u = go u.error u.judges u.ends where
-  read : IsTrue run.tells → Asks run (Check task) (formula u.problem)
+  read : IsTrue run.tells → AsksOver run (Check task) (formula u.problem)
   read = took run (Check task) task.file u.problem asked refl u.takes
 
   alone : (status : Status) → LeftAlone run status
   alone status = record { proof = u.proof; made = u.made; out = u.out; makes = λ make. absurd (checks_apart asked make.1) }
 
-  to_judge : {result : Result Verdict CheckError} → IsTrue run.tells → (text : JudgesText run.files task.proof u.problem.clauses (taken_in run ProofIn) result) → AsksToJudge run u.problem text.bytes
+  to_judge : {result : Result Verdict CheckError} → IsTrue run.tells
+      → (text : JudgesText run.files task.proof u.problem.clauses (taken_in run ProofIn) result) → AsksToJudge run u.problem text.bytes
   to_judge t text = record { task = task; asks = read t; stands = text.stands }
 
-  go : (e : CheckError) → JudgesProof run.tells (run.before ProofIn) (run.after ProofIn) run.files task.proof u.problem.clauses (Err e) → run.status ≡ status_of_check e → Core run
-  go error.ReadFault judges ends = unread run (Check task) asked (alone ReadFault) ends (ProofIn, tt, judges.fault refl) (λ t. inr (inr (inr (open_proof t)))) where
-    open_proof : IsTrue run.tells → IsOpenProof run
-    open_proof t = record { task = task; problem = u.problem; asks = read t; failed = judges.fault refl; undecided = judges.undecided t refl }
+  go : (e : CheckError) → JudgesProof run.tells (run.before ProofIn) (run.after ProofIn) run.files task.proof u.problem.clauses (Err e)
+      → run.status ≡ status_of_check e → Core run
+  go error.ReadFault judges ends = unread run (Check task) asked (alone ReadFault) ends (ProofIn, tt, judges.fault refl)
+      (λ t. inr (inr (inr (open_proof t)))) where
+        open_proof : IsTrue run.tells → IsOpenProof run
+        open_proof t = record {
+          task = task;
+          problem = u.problem;
+          asks = read t;
+          failed = judges.fault refl;
+          undecided = judges.undecided t refl;
+        }
   go error.TooLong judges ends = refused run (Check task) asked (alone (TooLong ProofIn)) ends refl (λ e. cc) ((task, asked), is_long) where
     no_fault : ◌≡◌ {A = Result Verdict CheckError} (Err error.TooLong) (Err error.ReadFault) → ⊥
     no_fault e = cc

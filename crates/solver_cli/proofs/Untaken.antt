@@ -24,20 +24,38 @@ use Rattle.solver_cli.specs.Answer.{IsRead, IsOrdered, IsPlanned}
 use Rattle.solver_cli.specs.ExitCode.{status_of_error, status_of_order, status_of_plan}
 use Rattle.solver_cli.specs.Phases.{ReadsText, TakesFormula, TakesOrder, TakesSchedule, HasOrder, HasPlan}
 use Rattle.solver_cli.specs.Stages.{streams_of, Untaken, Unordered, Unplanned}
-use Rattle.solver_cli.specs.Headline.{Run, taken_in, Asks, IsRefusedBy, OrderIsRefusedBy, ScheduleIsRefusedBy, IsOpenFormula}
+use Rattle.solver_cli.specs.Headline.{Run, taken_in, AsksOver, IsRefusedBy, OrderIsRefusedBy, ScheduleIsRefusedBy, IsOpenFormula}
 use Rattle.solver_cli.proofs.Reading.{text_read, ok_err}
 use Rattle.solver_cli.proofs.Facts.{same_command, decided_apart}
 use Rattle.solver_cli.proofs.Promised.{Core, LeftAlone, refused, short, unread, untouched}
 
 -- the formula was not taken, by a command that makes no text
-pub untaken : (run : Run) (asked : Command) (file : List ℕ) → command run.words ≡ Some asked → formula_file asked ≡ Some file → Untaken (mode_of asked) run.tells (streams_of run.before) (streams_of run.after) run.files file run.status → Core run
+pub untaken : (run : Run) (asked : Command) (file : List ℕ) → command run.words ≡ Some asked → formula_file asked ≡ Some file
+    → Untaken (mode_of asked) run.tells (streams_of run.before) (streams_of run.after) run.files file run.status → Core run
 untaken run asked file gives named u = go u.error u.takes u.ends where
-  text : {Answer : Result Formula CnfError → CnfText → Type 0} {result : Result Formula CnfError} {said : CnfText} → (says : ReadsText (cnf (mode_of asked)) Answer run.files file (taken_in run Cnf) result)
+  text : {Answer : Result Formula CnfError → CnfText → Type 0} {result : Result Formula CnfError} {said : CnfText}
+      → (says : ReadsText (cnf (mode_of asked)) Answer run.files file (taken_in run Cnf) result)
       → cnf (mode_of asked) says.bytes ≡ said → cnf (mode_of asked) (taken_in run Cnf) ≡ said → IsRefusedBy run said
-  text says told decided = record { asked = asked; asks = record { command = gives; file = file; named = named; read = record { bytes = says.bytes; stands = says.stands; says = told } }; decided = decided }
+  text says told decided = record {
+    asked = asked;
+    asks = record {
+      command = gives;
+      file = file;
+      named = named;
+      read = record { bytes = says.bytes; stands = says.stands; says = told };
+    };
+    decided = decided;
+  }
 
-  is_open : TakesFormula (mode_of asked) run.tells (run.before Cnf) (run.after Cnf) run.files file (Err cnf_error.ReadFault) → IsTrue run.tells → IsOpenFormula run
-  is_open takes t = record { asked = asked; given = gives; failed = takes.failed refl; undecided = takes.undecided t refl; before_others = others } where
+  is_open : TakesFormula (mode_of asked) run.tells (run.before Cnf) (run.after Cnf) run.files file (Err cnf_error.ReadFault)
+      → IsTrue run.tells → IsOpenFormula run
+  is_open takes t = record {
+    asked = asked;
+    given = gives;
+    failed = takes.failed refl;
+    undecided = takes.undecided t refl;
+    before_others = others;
+  } where
     others : (role : Role) → IsInput role → role ≢ Cnf → taken_in run role ≡ []
     others Cnf is other = absurd (other refl)
     others Order is other = untouched run Order u.order
@@ -56,94 +74,136 @@ untaken run asked file gives named u = go u.error u.takes u.ends where
   alone : (status : Status) → LeftAlone run status
   alone status = record { proof = u.proof; made = u.made; out = u.out; makes = λ make. absurd (no_file (same_command gives make.1)) }
 
-  go : (error : CnfError) → TakesFormula (mode_of asked) run.tells (run.before Cnf) (run.after Cnf) run.files file (Err error) → run.status ≡ status_of_error error → Core run
+  go : (error : CnfError) → TakesFormula (mode_of asked) run.tells (run.before Cnf) (run.after Cnf) run.files file (Err error) → run.status
+      ≡ status_of_error error → Core run
   go (cnf_error.Refused kind line) takes ends =
-      refused run asked gives (alone (CnfRefused kind line)) ends refl (λ e. cc) ((asked, gives), λ t. let says = text_read (λ e. cc) takes t in text says says.told says.decided)
+      refused run asked gives (alone (CnfRefused kind line)) ends refl (λ e. cc)
+      ((asked, gives), λ t. let says = text_read (λ e. cc) takes t in text says says.told says.decided)
   go cnf_error.TooLong takes ends =
-      refused run asked gives (alone (TooLong Cnf)) ends refl (λ e. cc) ((asked, gives), λ t. let says = text_read (λ e. cc) takes t in text says says.told says.decided)
-  go cnf_error.ReadFault takes ends = unread run asked gives (alone ReadFault) ends (Cnf, tt, takes.failed refl) (λ t. inl (is_open takes t))
+      refused run asked gives (alone (TooLong Cnf)) ends refl (λ e. cc) (
+        (asked, gives),
+        λ t. let says = text_read (λ e. cc) takes t in
+            text says says.told says.decided,
+      )
+  go cnf_error.ReadFault takes ends = unread run asked gives (alone ReadFault) ends (Cnf, tt, takes.failed refl)
+      (λ t. inl (is_open takes t))
   go cnf_error.OutOfMemory takes ends = short run asked gives (alone OutOfMemory) ends
 
 -- the formula that is asked for was read
-pub formula_read : (mode : Mode) {tells : Bool} {old new : Channel} {files : Files} {file : List ℕ} {problem : Formula} → TakesFormula mode tells old new files file (Ok problem) → IsTrue tells
+pub formula_read : (mode : Mode) {tells : Bool} {old new : Channel} {files : Files} {file : List ℕ} {problem : Formula}
+    → TakesFormula mode tells old new files file (Ok problem) → IsTrue tells
     → IsRead files file (cnf mode) (formula problem)
-formula_read mode takes t = let says = text_read (λ e. ok_err e) takes t in record { bytes = says.bytes; stands = says.stands; says = says.told }
+formula_read mode takes t = let says = text_read (λ e. ok_err e) takes t in
+    record { bytes = says.bytes; stands = says.stands; says = says.told }
 
-pub took : (run : Run) (asked : Command) (file : List ℕ) (problem : Formula) → command run.words ≡ Some asked → formula_file asked ≡ Some file
-    → TakesFormula (mode_of asked) run.tells (run.before Cnf) (run.after Cnf) run.files file (Ok problem) → IsTrue run.tells → Asks run asked (formula problem)
-took run asked file problem gives named takes t = record { command = gives; file = file; named = named; read = formula_read (mode_of asked) takes t }
+pub took : (run : Run) (asked : Command) (file : List ℕ) (problem : Formula) → command run.words ≡ Some asked → formula_file asked
+    ≡ Some file
+    → TakesFormula (mode_of asked) run.tells (run.before Cnf) (run.after Cnf) run.files file (Ok problem) → IsTrue run.tells
+    → AsksOver run asked (formula problem)
+took run asked file problem gives named takes t = record {
+  command = gives;
+  file = file;
+  named = named;
+  read = formula_read (mode_of asked) takes t;
+}
 
 -- a run of `solve` that nothing was written in
-solve_alone : (run : Run) (task : ToSolve) → command run.words ≡ Some (Solve task) → run.after ProofOut ≡ run.before ProofOut → run.after Made ≡ run.before Made → run.after Out ≡ run.before Out
+solve_alone : (run : Run) (task : ToSolve) → command run.words ≡ Some (Solve task) → run.after ProofOut ≡ run.before ProofOut
+    → run.after Made ≡ run.before Made → run.after Out ≡ run.before Out
     → (status : Status) → LeftAlone run status
 solve_alone run task gives proof made out status =
     record { proof = proof; made = made; out = out; makes = λ make. absurd (decided_apart gives refl make.1 refl) }
 
 -- the order that was had is the one that is asked for
-pub ordered : {tells : Bool} {old new : Channel} {files : Files} (problem : Formula) {order : List ℕ} (file : Option (List ℕ)) → HasOrder problem.vars file tells old new files (Ok order) → IsTrue tells → IsOrdered files file problem order
+pub ordered : {tells : Bool} {old new : Channel} {files : Files} (problem : Formula) {order : List ℕ} (file : Option (List ℕ))
+    → HasOrder problem.vars file tells old new files (Ok order) → IsTrue tells → IsOrdered files file problem order
 ordered problem None has t = (has.natural refl).made
-ordered problem (Some file) has t = let says = text_read (λ e. ok_err e) (has.named file refl) t in record { bytes = says.bytes; stands = says.stands; says = says.told }
+ordered problem (Some file) has t = let says = text_read (λ e. ok_err e) (has.named file refl) t in
+    record { bytes = says.bytes; stands = says.stands; says = says.told }
 
 -- and so is the plan
-pub planned : {tells : Bool} {old new : Channel} {files : Files} {problem : Formula} {order : List ℕ} {moves : List Move} (plan : Planned) → HasPlan problem order plan tells old new files (Ok moves) → IsTrue tells
+pub planned : {tells : Bool} {old new : Channel} {files : Files} {problem : Formula} {order : List ℕ} {moves : List Move} (plan : Planned)
+    → HasPlan problem order plan tells old new files (Ok moves) → IsTrue tells
     → IsPlanned files plan problem order moves
 planned (ByName name) has t = (has.named name refl).made
-planned (ByFile file) has t = let says = text_read (λ e. ok_err e) (has.scheduled file refl) t in record { bytes = says.bytes; stands = says.stands; says = says.told }
+planned (ByFile file) has t = let says = text_read (λ e. ok_err e) (has.scheduled file refl) t in
+    record { bytes = says.bytes; stands = says.stands; says = says.told }
 
 -- the order was not had
-pub unordered : (run : Run) (task : ToSolve) → command run.words ≡ Some (Solve task) → Unordered run.tells (streams_of run.before) (streams_of run.after) run.files task run.status → Core run
+pub unordered : (run : Run) (task : ToSolve) → command run.words ≡ Some (Solve task)
+    → Unordered run.tells (streams_of run.before) (streams_of run.after) run.files task run.status → Core run
 unordered run task gives u = by task.order refl u.orders where
-  asks : IsTrue run.tells → Asks run (Solve task) (formula u.problem)
+  asks : IsTrue run.tells → AsksOver run (Solve task) (formula u.problem)
   asks = took run (Solve task) task.file u.problem gives refl u.takes
 
   alone : (status : Status) → LeftAlone run status
   alone = solve_alone run task gives u.proof u.made u.out
 
-  go : (file : List ℕ) → task.order ≡ Some file → (error : OrderError) → TakesOrder u.problem.vars run.tells (run.before Order) (run.after Order) run.files file (Err error) → run.status ≡ status_of_order error → Core run
+  go : (file : List ℕ) → task.order ≡ Some file → (error : OrderError)
+      → TakesOrder u.problem.vars run.tells (run.before Order) (run.after Order) run.files file (Err error) → run.status
+      ≡ status_of_order error → Core run
   go file named error takes ends = by_error error takes ends where
-    text : {Answer : Result (List ℕ) OrderError → OrderText → Type 0} {result : Result (List ℕ) OrderError} {said : OrderText} → IsTrue run.tells
-        → (says : ReadsText (order_text u.problem.vars) Answer run.files file (taken_in run Order) result) → order_text u.problem.vars says.bytes ≡ said → order_text u.problem.vars (taken_in run Order) ≡ said
+    text : {Answer : Result (List ℕ) OrderError → OrderText → Type 0} {result : Result (List ℕ) OrderError} {said : OrderText}
+        → IsTrue run.tells
+        → (says : ReadsText (order_text u.problem.vars) Answer run.files file (taken_in run Order) result)
+        → order_text u.problem.vars says.bytes ≡ said → order_text u.problem.vars (taken_in run Order) ≡ said
         → OrderIsRefusedBy run said
     text t says told decided = record {
       problem = u.problem;
-      asks = record { task = task; asks = asks t; file = file; named = named; read = record { bytes = says.bytes; stands = says.stands; says = told } };
+      asks = record {
+        task = task;
+        asks = asks t;
+        file = file;
+        named = named;
+        read = record { bytes = says.bytes; stands = says.stands; says = told };
+      };
       decided = decided;
     }
 
-    by_error : (error : OrderError) → TakesOrder u.problem.vars run.tells (run.before Order) (run.after Order) run.files file (Err error) → run.status ≡ status_of_order error → Core run
+    by_error : (error : OrderError) → TakesOrder u.problem.vars run.tells (run.before Order) (run.after Order) run.files file (Err error)
+        → run.status ≡ status_of_order error → Core run
     by_error (order_error.Refused kind line) takes ends =
-        refused run (Solve task) gives (alone (OrderRefused kind line)) ends refl (λ e. cc) ((task, gives), λ t. let says = text_read (λ e. cc) takes t in text t says says.told says.decided)
+        refused run (Solve task) gives (alone (OrderRefused kind line)) ends refl (λ e. cc)
+        ((task, gives), λ t. let says = text_read (λ e. cc) takes t in text t says says.told says.decided)
     by_error order_error.TooLong takes ends =
-        refused run (Solve task) gives (alone (TooLong Order)) ends refl (λ e. cc) ((task, gives), λ t. let says = text_read (λ e. cc) takes t in text t says says.told says.decided)
-    by_error order_error.ReadFault takes ends = unread run (Solve task) gives (alone ReadFault) ends (Order, tt, takes.failed refl) (λ t. inr (inl (record {
-      task = task;
-      problem = u.problem;
-      asks = asks t;
-      file = file;
-      named = named;
-      failed = takes.failed refl;
-      undecided = takes.undecided t refl;
-      before_schedule = untouched run Schedule u.schedule;
-    })))
+        refused run (Solve task) gives (alone (TooLong Order)) ends refl (λ e. cc)
+        ((task, gives), λ t. let says = text_read (λ e. cc) takes t in text t says says.told says.decided)
+    by_error order_error.ReadFault takes ends = unread run (Solve task) gives (alone ReadFault) ends (Order, tt, takes.failed refl)
+        (λ t. inr (inl (record {
+          task = task;
+          problem = u.problem;
+          asks = asks t;
+          file = file;
+          named = named;
+          failed = takes.failed refl;
+          undecided = takes.undecided t refl;
+          before_schedule = untouched run Schedule u.schedule;
+        })))
     by_error order_error.OutOfMemory takes ends = short run (Solve task) gives (alone OutOfMemory) ends
 
-  by : (file : Option (List ℕ)) → task.order ≡ file → HasOrder u.problem.vars file run.tells (run.before Order) (run.after Order) run.files (Err u.error) → Core run
+  by : (file : Option (List ℕ)) → task.order ≡ file → HasOrder u.problem.vars file run.tells (run.before Order) (run.after Order) run.files
+      (Err u.error) → Core run
   by None named has = short run (Solve task) gives (alone OutOfMemory) (u.ends ∙ ap status_of_order (has.natural refl).refused)
   by (Some file) named has = go file named u.error (has.named file refl) u.ends
 
 -- the plan was not had
-pub unplanned : (run : Run) (task : ToSolve) → command run.words ≡ Some (Solve task) → Unplanned run.tells (streams_of run.before) (streams_of run.after) run.files task run.status → Core run
+pub unplanned : (run : Run) (task : ToSolve) → command run.words ≡ Some (Solve task)
+    → Unplanned run.tells (streams_of run.before) (streams_of run.after) run.files task run.status → Core run
 unplanned run task gives u = by task.plan refl u.plans where
-  asks : IsTrue run.tells → Asks run (Solve task) (formula u.problem)
+  asks : IsTrue run.tells → AsksOver run (Solve task) (formula u.problem)
   asks = took run (Solve task) task.file u.problem gives refl u.takes
 
   alone : (status : Status) → LeftAlone run status
   alone = solve_alone run task gives u.proof u.made u.out
 
-  go : (file : List ℕ) → task.plan ≡ ByFile file → (error : PlanError) → TakesSchedule u.problem run.tells (run.before Schedule) (run.after Schedule) run.files file (Err error) → run.status ≡ status_of_plan error → Core run
+  go : (file : List ℕ) → task.plan ≡ ByFile file → (error : PlanError)
+      → TakesSchedule u.problem run.tells (run.before Schedule) (run.after Schedule) run.files file (Err error) → run.status
+      ≡ status_of_plan error → Core run
   go file named error takes ends = by_error error takes ends where
-    text : {Answer : Result (List Move) PlanError → ScheduleText → Type 0} {result : Result (List Move) PlanError} {said : ScheduleText} → IsTrue run.tells
-        → (says : ReadsText (schedule u.problem) Answer run.files file (taken_in run Schedule) result) → schedule u.problem says.bytes ≡ said → schedule u.problem (taken_in run Schedule) ≡ said
+    text : {Answer : Result (List Move) PlanError → ScheduleText → Type 0} {result : Result (List Move) PlanError} {said : ScheduleText}
+        → IsTrue run.tells
+        → (says : ReadsText (schedule u.problem) Answer run.files file (taken_in run Schedule) result) → schedule u.problem says.bytes
+        ≡ said → schedule u.problem (taken_in run Schedule) ≡ said
         → ScheduleIsRefusedBy run said
     text t says told decided = record {
       problem = u.problem;
@@ -159,24 +219,29 @@ unplanned run task gives u = by task.plan refl u.plans where
       decided = decided;
     }
 
-    by_error : (error : PlanError) → TakesSchedule u.problem run.tells (run.before Schedule) (run.after Schedule) run.files file (Err error) → run.status ≡ status_of_plan error → Core run
+    by_error : (error : PlanError) → TakesSchedule u.problem run.tells (run.before Schedule) (run.after Schedule) run.files file (Err error)
+        → run.status ≡ status_of_plan error → Core run
     by_error (plan_error.Refused kind line) takes ends =
-        refused run (Solve task) gives (alone (PlanRefused kind line)) ends refl (λ e. cc) ((task, gives), λ t. let says = text_read (λ e. cc) takes t in text t says says.told says.decided)
+        refused run (Solve task) gives (alone (PlanRefused kind line)) ends refl (λ e. cc)
+        ((task, gives), λ t. let says = text_read (λ e. cc) takes t in text t says says.told says.decided)
     by_error plan_error.TooLong takes ends =
-        refused run (Solve task) gives (alone (TooLong Schedule)) ends refl (λ e. cc) ((task, gives), λ t. let says = text_read (λ e. cc) takes t in text t says says.told says.decided)
-    by_error plan_error.ReadFault takes ends = unread run (Solve task) gives (alone ReadFault) ends (Schedule, tt, takes.failed refl) (λ t. inr (inr (inl (record {
-      task = task;
-      problem = u.problem;
-      asks = asks t;
-      order = u.order;
-      ordered = ordered u.problem task.order u.orders t;
-      file = file;
-      named = named;
-      failed = takes.failed refl;
-      undecided = takes.undecided t refl;
-    }))))
+        refused run (Solve task) gives (alone (TooLong Schedule)) ends refl (λ e. cc)
+        ((task, gives), λ t. let says = text_read (λ e. cc) takes t in text t says says.told says.decided)
+    by_error plan_error.ReadFault takes ends = unread run (Solve task) gives (alone ReadFault) ends (Schedule, tt, takes.failed refl)
+        (λ t. inr (inr (inl (record {
+          task = task;
+          problem = u.problem;
+          asks = asks t;
+          order = u.order;
+          ordered = ordered u.problem task.order u.orders t;
+          file = file;
+          named = named;
+          failed = takes.failed refl;
+          undecided = takes.undecided t refl;
+        }))))
     by_error plan_error.OutOfMemory takes ends = short run (Solve task) gives (alone OutOfMemory) ends
 
-  by : (plan : Planned) → task.plan ≡ plan → HasPlan u.problem u.order plan run.tells (run.before Schedule) (run.after Schedule) run.files (Err u.error) → Core run
+  by : (plan : Planned) → task.plan ≡ plan → HasPlan u.problem u.order plan run.tells (run.before Schedule) (run.after Schedule) run.files
+      (Err u.error) → Core run
   by (ByName name) named has = short run (Solve task) gives (alone OutOfMemory) (u.ends ∙ ap status_of_plan (has.named name refl).refused)
   by (ByFile file) named has = go file named u.error (has.scheduled file refl) u.ends

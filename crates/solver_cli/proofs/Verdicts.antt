@@ -1,5 +1,6 @@
 -- What is promised of a run that judged its proof.
-use Rattle.std.proofs.Common.{◌≡◌, ℕ, true, false, List, [], ◌++◌, append-nil, refl, sym, ap, ◌∙◌, subst, Some, Ok, Err, IsTrue, inl, inr, true≢false}
+use Rattle.std.proofs.Common.{◌≡◌, ℕ, true, false, List, [], ◌++◌, append-nil, refl, sym, ap, ◌∙◌, subst, Some, Ok, Err, IsTrue, inl, inr}
+use Rattle.std.proofs.Common.{true≢false}
 use Rattle.std.specs.Prelude.{Result, ⊤}
 use Rattle.cnf_base.specs.Formula.{Formula}
 use Rattle.dimacs_reader.specs.Cnf.{formula}
@@ -19,7 +20,8 @@ use Rattle.solver_cli.specs.ErrorText.{is_answer}
 use Rattle.solver_cli.specs.Verdict.{verdict_text, status_of_verdict}
 use Rattle.solver_cli.specs.Phases.{JudgesText, PutsText}
 use Rattle.solver_cli.specs.Stages.{streams_of, Judged, status_of_printed}
-use Rattle.solver_cli.specs.Headline.{Run, written_in, taken_in, OutputFailed, Asks, HasVerdict, RefusalsAreDue, CallsFor, VerdictOn, IsTrueAnswer}
+use Rattle.solver_cli.specs.Headline.{Run, written_in, taken_in, OutputFailed, AsksOver, HasVerdict, RefusalsAreDue, CallsFor, VerdictOn}
+use Rattle.solver_cli.specs.Headline.{IsTrueAnswer}
 use Rattle.solver_cli.proofs.Facts.{behind, grown_by, no_answer}
 use Rattle.solver_cli.proofs.CallsFor.{no_call_judged}
 use Rattle.solver_cli.proofs.Promised.{Core, due, no_proof, no_text, no_verdict, none_written}
@@ -55,7 +57,8 @@ is_verified : (judged : Verdict) → status_of_verdict judged ≡ Verified → j
 is_verified judgement.Verified e = refl
 is_verified (judgement.Refused line reason) e = cc
 
-is_refused : (judged : Verdict) (line : ℕ) (reason : Reason) → status_of_verdict judged ≡ NotVerified line reason → judged ≡ judgement.Refused line reason
+is_refused : (judged : Verdict) (line : ℕ) (reason : Reason) → status_of_verdict judged ≡ NotVerified line reason → judged
+    ≡ judgement.Refused line reason
 is_refused judgement.Verified line reason e = cc
 is_refused (judgement.Refused number why) line reason e = inner e where
   inner : NotVerified number why ≡ NotVerified line reason → judgement.Refused number why ≡ judgement.Refused line reason
@@ -67,12 +70,13 @@ verdict_due run judgement.Verified ends = due run ends tt
 verdict_due run (judgement.Refused line reason) ends = due run ends tt
 
 -- the proof was judged
-pub judged : Laws → (run : Run) (task : ToCheck) → command run.words ≡ Some (Check task) → Judged run.tells (streams_of run.before) (streams_of run.after) run.files task run.status → Core run
+pub judged : Laws → (run : Run) (task : ToCheck) → command run.words ≡ Some (Check task)
+    → Judged run.tells (streams_of run.before) (streams_of run.after) run.files task run.status → Core run
 judged laws run task asked j = go j.printed j.puts j.ends where
   text : List ℕ
   text = verdict_text j.verdict
 
-  read : IsTrue run.tells → Asks run (Check task) (formula j.problem)
+  read : IsTrue run.tells → AsksOver run (Check task) (formula j.problem)
   read = took run (Check task) task.file j.problem asked refl j.takes
 
   no_fault : (v : Verdict) → ◌≡◌ {A = Result Verdict CheckError} (Ok v) (Err error.ReadFault) → ⊥
@@ -82,25 +86,33 @@ judged laws run task asked j = go j.printed j.puts j.ends where
   judged_text t = elim (j.judges.read t) [ inl e ↦ absurd (no_fault j.verdict e) | inr found ↦ found ]
 
   has : (t : IsTrue run.tells) → HasVerdict run j.problem (judged_text t).bytes j.verdict
-  has t = let found = judged_text t in record { asked = record { task = task; asks = read t; stands = found.stands }; judged = found.judged }
+  has t = let found = judged_text t in record {
+    asked = record { task = task; asks = read t; stands = found.stands };
+    judged = found.judged;
+  }
 
   has_as : (t : IsTrue run.tells) (v : Verdict) → j.verdict ≡ v → HasVerdict run j.problem (judged_text t).bytes v
   has_as t v is = subst (λ (x : Verdict). HasVerdict run j.problem (judged_text t).bytes x) is (has t)
 
   same_verdict : (other : Formula) (bytes : List ℕ) (v : Verdict) → HasVerdict run other bytes v → IsTrue run.tells → j.verdict ≡ v
-  same_verdict other bytes v given t = let here = has t in one_some j.verdict v (one_verdict run given.asked here.asked ∙ here.judged) given.judged
+  same_verdict other bytes v given t = let here = has t in one_some j.verdict v (one_verdict run given.asked here.asked
+      ∙ here.judged) given.judged
 
   uncalled : IsTrue run.tells → (status : Status) → CallsFor run status → ⊥
   uncalled t = no_call_judged run j.problem (judged_text t).bytes j.verdict (has t)
 
-  true_answer : (t : IsTrue run.tells) (rest : List ℕ) → text ≡ written_in run Out ++ rest → IsTrueAnswer run (VerdictOn j.problem (judged_text t).bytes j.verdict)
+  true_answer : (t : IsTrue run.tells) (rest : List ℕ) → text ≡ written_in run Out ++ rest
+      → IsTrueAnswer run (VerdictOn j.problem (judged_text t).bytes j.verdict)
   true_answer t rest front = record { found = has t; rest = rest; front = front }
 
-  grows : (printed : Result ⊤ Failed) → PutsText run.tells (run.before Out) (run.after Out) text printed → IsTrue run.tells → (run.after Out).written ≡ (run.before Out).written ++ written_in run Out
+  grows : (printed : Result ⊤ Failed) → PutsText run.tells (run.before Out) (run.after Out) text printed → IsTrue run.tells
+      → (run.after Out).written ≡ (run.before Out).written ++ written_in run Out
   grows printed puts t = let front = puts.front t in grown_by (run.before Out) (run.after Out) front.0 front.2
 
-  fronts : (printed : Result ⊤ Failed) → PutsText run.tells (run.before Out) (run.after Out) text printed → (t : IsTrue run.tells) → IsTrueAnswer run (VerdictOn j.problem (judged_text t).bytes j.verdict)
-  fronts printed puts t = let front = puts.front t in true_answer t front.1 (front.3 ∙ ap (λ (l : List ℕ). l ++ front.1) (sym (behind (run.before Out) (run.after Out) front.0 front.2)))
+  fronts : (printed : Result ⊤ Failed) → PutsText run.tells (run.before Out) (run.after Out) text printed → (t : IsTrue run.tells)
+      → IsTrueAnswer run (VerdictOn j.problem (judged_text t).bytes j.verdict)
+  fronts printed puts t = let front = puts.front t in true_answer t front.1 (front.3
+      ∙ ap (λ (l : List ℕ). l ++ front.1) (sym (behind (run.before Out) (run.after Out) front.0 front.2)))
 
   fine : (x : ⊤) → PutsText run.tells (run.before Out) (run.after Out) text (Ok x) → run.status ≡ status_of_verdict j.verdict → Core run
   fine x puts ends =
@@ -118,7 +130,8 @@ judged laws run task asked j = go j.printed j.puts j.ends where
             λ t.
                 let is : j.verdict ≡ judgement.Verified = is_verified j.verdict (sym ends ∙ e) in
                 let verified : HasVerdict run j.problem (judged_text t).bytes judgement.Verified = has_as t judgement.Verified is in
-                let refutes : Refutes j.problem.clauses (judged_text t).bytes = laws.verified j.problem.clauses (judged_text t).bytes verified.judged in
+                let refutes : Refutes j.problem.clauses (judged_text t).bytes = laws.verified j.problem.clauses
+                (judged_text t).bytes verified.judged in
                 record {
                   problem = j.problem;
                   bytes = (judged_text t).bytes;
@@ -132,7 +145,8 @@ judged laws run task asked j = go j.printed j.puts j.ends where
             (task, asked),
             λ t.
                 let is : j.verdict ≡ judgement.Refused line reason = is_refused j.verdict line reason (sym ends ∙ e) in
-                let refused : HasVerdict run j.problem (judged_text t).bytes (judgement.Refused line reason) = has_as t (judgement.Refused line reason) is in
+                let refused : HasVerdict run j.problem (judged_text t).bytes (judgement.Refused line reason) = has_as t
+                (judgement.Refused line reason) is in
                 record {
                   problem = j.problem;
                   bytes = (judged_text t).bytes;
@@ -155,7 +169,12 @@ judged laws run task asked j = go j.printed j.puts j.ends where
         output = record {
           grows = grows (Ok x) puts;
           front = λ t. inr (inl (VerdictOn j.problem (judged_text t).bytes j.verdict, fronts (Ok x) puts t));
-          answered = λ _ t. (VerdictOn j.problem (judged_text t).bytes j.verdict, true_answer t [] (sym (all t) ∙ sym (append-nil (written_in run Out))), ends, refl);
+          answered = λ _ t. (
+            VerdictOn j.problem (judged_text t).bytes j.verdict,
+            true_answer t [] (sym (all t) ∙ sym (append-nil (written_in run Out))),
+            ends,
+            refl,
+          );
           helped = λ e. absurd (accepts.help e);
           flushed = λ _ t. puts.flushed t refl;
           silent = λ unanswered. absurd (true≢false (sym yes_answer ∙ unanswered));
@@ -190,13 +209,18 @@ judged laws run task asked j = go j.printed j.puts j.ends where
           front = λ t. inr (inl (VerdictOn j.problem (judged_text t).bytes j.verdict, fronts (Err e) puts t));
           answered = λ yes_answer. absurd (true≢false (sym yes_answer ∙ unanswered));
           helped = λ d. absurd (accepts.help d);
-          flushed = λ either. elim either [ inl yes_answer ↦ absurd (true≢false (sym yes_answer ∙ unanswered)) | inr d ↦ absurd (accepts.help d) ];
+          flushed = λ either. elim either [
+            | inl yes_answer ↦ absurd (true≢false (sym yes_answer ∙ unanswered))
+            | inr d ↦ absurd
+                (accepts.help d)
+          ];
           silent = λ _ _ unfaulted. absurd (unfaulted ends);
         };
         proof = no_proof run (none_written run ProofOut j.proof);
         complete = check_complete run task asked uncalled (λ other bytes v given t unharmed. absurd (unharmed.1 failure));
       }
 
-  go : (printed : Result ⊤ Failed) → PutsText run.tells (run.before Out) (run.after Out) text printed → run.status ≡ status_of_printed j.verdict printed → Core run
+  go : (printed : Result ⊤ Failed) → PutsText run.tells (run.before Out) (run.after Out) text printed → run.status
+      ≡ status_of_printed j.verdict printed → Core run
   go (Ok x) puts ends = fine x puts ends
   go (Err e) puts ends = failed e puts ends

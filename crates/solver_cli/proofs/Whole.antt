@@ -23,7 +23,8 @@ use Rattle.solver_cli.proofs.Named.{stream_names, names, error_stands}
 use Rattle.solver_cli.proofs.Told.{Told, told, failures, quiet}
 
 answers : (run : Run) {problem : Formula} {order : List ℕ} {moves : List Move} {job : Job} → Posed run problem order moves job
-    → CameToAnswer run.tells (run.before ProofOut) (run.after ProofOut) (run.before Out) (run.after Out) problem order moves job run.status → Core run
+    → CameToAnswer run.tells (run.before ProofOut) (run.after ProofOut) (run.before Out) (run.after Out) problem order moves job run.status
+    → Core run
 answers run posed (inl u) = uncreated run posed u
 answers run posed (inr (inl u)) = undecided run posed u
 answers run posed (inr (inr a)) = answered run posed a
@@ -52,8 +53,10 @@ core law run (inr (inr (inr (inr (inr m))))) = came m.came where
   came (inr (inl u)) = file_uncreated run m.task m.asked u
   came (inr (inr w)) = written run m.task m.asked w
 
-whole : Laws → (run : Run) → ((role : Role) → (run.before role).name ≡ None) → Stages run.tells run.words (streams_of run.before) (streams_of run.after) run.files run.status
-    → (run.after ErrRole).name ≡ None → FilesBeside (run.after ProofOut).name (run.after Made).name run.files run.files_after → Complains run.tells (run.before ErrRole) (run.after ErrRole) run.status → Promises run
+whole : Laws → (run : Run) → ((role : Role) → (run.before role).name ≡ None)
+    → Stages run.tells run.words (streams_of run.before) (streams_of run.after) run.files run.status
+    → (run.after ErrRole).name ≡ None → FilesBeside (run.after ProofOut).name (run.after Made).name run.files run.files_after
+    → Complains run.tells (run.before ErrRole) (run.after ErrRole) run.status → Promises run
 whole law run unnamed stages error files complains =
     let c : Core run = core law run stages in
     let counts : Told (streams_of run.before) (streams_of run.after) run.status = told stages in
@@ -88,13 +91,16 @@ streams_kept old new beside = λ i. record {
 
 pub promises : Laws → (run : Run) (middle : Role → Channel) (files : Files) → ((role : Role) → (run.before role).name ≡ None)
     → Stages run.tells run.words (streams_of run.before) (streams_of middle) run.files run.status
-    → middle ErrRole ≡ run.before ErrRole → FilesBeside (middle ProofOut).name (middle Made).name run.files files → Complains run.tells (middle ErrRole) (run.after ErrRole) run.status
+    → middle ErrRole ≡ run.before ErrRole → FilesBeside (middle ProofOut).name (middle Made).name run.files files
+    → Complains run.tells (middle ErrRole) (run.after ErrRole) run.status
     → Kept ErrRole (middle ErrRole).name middle run.after files run.files_after → Promises run
 promises law run middle files unnamed stages error beside complains kept = whole law run unnamed
-    (subst (λ (s : Streams). Stages run.tells run.words (streams_of run.before) s run.files run.status) (sym (streams_kept middle run.after kept.others)) stages)
+    (subst (λ (s : Streams). Stages run.tells run.words (streams_of run.before) s run.files run.status)
+    (sym (streams_kept middle run.after kept.others)) stages)
     (complains.only.name ∙ err_none)
     (λ file proof made. kept.files file (λ same. none_some (sym err_none ∙ same))
-    ∙ beside file (λ same. proof (ap (λ (c : Channel). c.name) (kept.others ProofOut refl) ∙ same)) (λ same. made (ap (λ (c : Channel). c.name) (kept.others Made refl) ∙ same)))
+    ∙ beside file (λ same. proof (ap (λ (c : Channel). c.name) (kept.others ProofOut refl) ∙ same))
+    (λ same. made (ap (λ (c : Channel). c.name) (kept.others Made refl) ∙ same)))
     (subst (λ (c : Channel). Complains run.tells c (run.after ErrRole) run.status) error complains) where
       err_none : (middle ErrRole).name ≡ None
       err_none = ap (λ (c : Channel). c.name) error ∙ unnamed ErrRole

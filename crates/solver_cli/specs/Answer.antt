@@ -70,7 +70,8 @@ AreGiven files (Bench task) problem order moves = AreOfBoard task.size problem o
 AreGiven files (Make task) problem order moves = ⊥
 
 -- the outcome is true of the formula, and the proof that was written shows it
-pub record Holds (limits : Limits) (problem : Formula) (order : List ℕ) (moves : List Move) (bytes : List ℕ) (found : Outcome) : Type 0 where
+pub record Holds (limits : Limits) (problem : Formula) (order : List ℕ) (moves : List Move) (bytes : List ℕ)
+    (found : Outcome) : Type 0 where
   pub says : Says problem order moves limits found
   pub shows : Shows problem limits bytes found
 

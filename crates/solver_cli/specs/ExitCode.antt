@@ -2,18 +2,23 @@
 -- and 0 of an answer. The other codes are this project's own.)
 use Rattle.std.specs.Prelude.{ℕ}
 use Rattle.dimacs_reader.specs.declared.error.CnfError.{CnfError}
-use Rattle.dimacs_reader.specs.declared.error.CnfError.TheVariants.{Refused, ReadFault as CnfReadFault, TooLong as CnfTooLong, OutOfMemory as CnfOutOfMemory}
+use Rattle.dimacs_reader.specs.declared.error.CnfError.TheVariants.{Refused, ReadFault as CnfReadFault, TooLong as CnfTooLong}
+use Rattle.dimacs_reader.specs.declared.error.CnfError.TheVariants.{OutOfMemory as CnfOutOfMemory}
 use Rattle.host_io.specs.declared.role.Role.TheVariants.{Cnf, Order, Schedule, ProofIn}
 use Rattle.lrat_checker.specs.declared.verdict.CheckError.{CheckError}
-use Rattle.lrat_checker.specs.declared.verdict.CheckError.TheVariants.{ReadFault as CheckReadFault, TooLong as CheckTooLong, OutOfMemory as CheckOutOfMemory}
+use Rattle.lrat_checker.specs.declared.verdict.CheckError.TheVariants.{ReadFault as CheckReadFault, TooLong as CheckTooLong}
+use Rattle.lrat_checker.specs.declared.verdict.CheckError.TheVariants.{OutOfMemory as CheckOutOfMemory}
 use Rattle.schedule_plan.specs.declared.order_error.OrderError.{OrderError}
-use Rattle.schedule_plan.specs.declared.order_error.OrderError.TheVariants.{Refused as OrderIsRefused, ReadFault as OrderReadFault, TooLong as OrderTooLong, OutOfMemory as OrderOutOfMemory}
+use Rattle.schedule_plan.specs.declared.order_error.OrderError.TheVariants.{Refused as OrderIsRefused, ReadFault as OrderReadFault}
+use Rattle.schedule_plan.specs.declared.order_error.OrderError.TheVariants.{TooLong as OrderTooLong, OutOfMemory as OrderOutOfMemory}
 use Rattle.schedule_plan.specs.declared.schedule.error.PlanError.{PlanError}
-use Rattle.schedule_plan.specs.declared.schedule.error.PlanError.TheVariants.{Refused as PlanIsRefused, ReadFault as PlanReadFault, TooLong as PlanTooLong, OutOfMemory as PlanOutOfMemory}
+use Rattle.schedule_plan.specs.declared.schedule.error.PlanError.TheVariants.{Refused as PlanIsRefused, ReadFault as PlanReadFault}
+use Rattle.schedule_plan.specs.declared.schedule.error.PlanError.TheVariants.{TooLong as PlanTooLong, OutOfMemory as PlanOutOfMemory}
 use Rattle.term_runner.specs.declared.error.RunError.{RunError}
 use Rattle.term_runner.specs.declared.error.RunError.TheVariants.{OutOfMemory as RunOutOfMemory, WriteFault as RunWriteFault}
 use Rattle.solver_cli.specs.declared.status.Status.{Status}
-use Rattle.solver_cli.specs.declared.status.Status.TheVariants.{Sat, Unsat, Unknown, Verified, NotVerified, Done, Help, Usage, CnfRefused, OrderRefused, PlanRefused, TooLong, ReadFault, WriteFault, OutOfMemory}
+use Rattle.solver_cli.specs.declared.status.Status.TheVariants.{Sat, Unsat, Unknown, Verified, NotVerified, Done, Help, Usage, CnfRefused}
+use Rattle.solver_cli.specs.declared.status.Status.TheVariants.{OrderRefused, PlanRefused, TooLong, ReadFault, WriteFault, OutOfMemory}
 
 abbrev pub exit_code : Status → ℕ
 exit_code Sat = 10

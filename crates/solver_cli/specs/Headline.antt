@@ -1,6 +1,7 @@
 -- What the program promises, over one run of it: its words, the host before and after, and how it ended. What it
 -- says of bytes is said of hosts that tell their bytes.
-use Rattle.std.specs.Prelude.{◌≡◌, ◌≢◌, ◌⊎◌, ◌++◌, ◌<◌, ℕ, Bool, true, false, List, [], Option, None, Some, length, drop, IsTrue, IsFalse, ⊤}
+use Rattle.std.specs.Prelude.{◌≡◌, ◌≢◌, ◌⊎◌, ◌++◌, ◌<◌, ℕ, Bool, true, false, List, [], Option, None, Some, length, drop, IsTrue, IsFalse}
+use Rattle.std.specs.Prelude.{⊤}
 use Rattle.cnf_base.specs.Truth.{Satisfies, assignment_of}
 use Rattle.cnf_base.specs.Formula.{Formula}
 use Rattle.host_io.specs.declared.role.Role.{Role}
@@ -14,7 +15,8 @@ use Rattle.lrat_checker.specs.TextVerdict.{max_bytes, text_verdict, verdict_so_f
 use Rattle.lrat_checker.specs.declared.verdict.Verdict.{Verdict}
 use Rattle.lrat_checker.specs.declared.verdict.Verdict.TheVariants as judgement
 use Rattle.schedule_plan.specs.OrderText.{OrderText, refusal as order_refusal, overlong as overlong_order, order_text, order_so_far}
-use Rattle.schedule_plan.specs.ScheduleText.{ScheduleText, refusal as schedule_refusal, overlong as overlong_schedule, schedule, schedule_so_far}
+use Rattle.schedule_plan.specs.ScheduleText.{ScheduleText, refusal as schedule_refusal, overlong as overlong_schedule, schedule}
+use Rattle.schedule_plan.specs.ScheduleText.{schedule_so_far}
 use Rattle.schedule_plan.specs.declared.plan.Move.{Move}
 use Rattle.schedule_plan.specs.declared.limits.Limits.{Limits}
 use Rattle.term_runner.specs.declared.outcome.Outcome.{Outcome}
@@ -26,10 +28,12 @@ use Rattle.term_runner.specs.Width.{HasWidth}
 use Rattle.term_runner.specs.Ends.{Says, Shows}
 use Rattle.term_runner.specs.Recovered.{IsRecovered}
 use Rattle.answer_text.specs.Status.{verified_line, refused_text}
-use Rattle.command_line.specs.Command.{Command, ToSolve, ToCheck, ToMake, Solve, Check, Bench, Make, Planned, ByName, ByFile, formula_file, mode_of, AsksHelp, Misuse, MayMean, CanOnlyMean, command, limits_asked}
+use Rattle.command_line.specs.Command.{Command, ToSolve, ToCheck, ToMake, Solve, Check, Bench, Make, Planned, ByName, ByFile, formula_file}
+use Rattle.command_line.specs.Command.{mode_of, AsksHelp, Misuse, MayMean, CanOnlyMean, command, limits_asked}
 use Rattle.solver_cli.specs.declared.status.Why.{Why}
 use Rattle.solver_cli.specs.declared.status.Status.{Status}
-use Rattle.solver_cli.specs.declared.status.Status.TheVariants.{Sat, Unsat, Unknown, Verified, NotVerified, Done, Help, Usage, CnfRefused, OrderRefused, PlanRefused, TooLong, ReadFault, WriteFault, OutOfMemory}
+use Rattle.solver_cli.specs.declared.status.Status.TheVariants.{Sat, Unsat, Unknown, Verified, NotVerified, Done, Help, Usage, CnfRefused}
+use Rattle.solver_cli.specs.declared.status.Status.TheVariants.{OrderRefused, PlanRefused, TooLong, ReadFault, WriteFault, OutOfMemory}
 use Rattle.solver_cli.specs.ErrorText.{error_text, is_answer}
 use Rattle.solver_cli.specs.Answer.{AreGiven, IsRead, IsOrdered, Holds, answer_text, outcome_at, status_of}
 use Rattle.solver_cli.specs.MadeText.{made_text}
@@ -96,7 +100,7 @@ abbrev pub GivesDecision : Run → Type 0
 GivesDecision run = (asked : Command) × (command run.words ≡ Some asked) × IsTrue (decides asked)
 
 -- the words ask for this command, and the text of its formula's file, read in its mode, says this
-pub record Asks (run : Run) (asked : Command) (text : CnfText) : Type 0 where
+pub record AsksOver (run : Run) (asked : Command) (text : CnfText) : Type 0 where
   pub command : command run.words ≡ Some asked
   pub file : List ℕ
   pub named : formula_file asked ≡ Some file
@@ -105,7 +109,7 @@ pub record Asks (run : Run) (asked : Command) (text : CnfText) : Type 0 where
 -- They ask to decide this formula by an order that stands in a file, whose text says this.
 pub record AsksByOrder (run : Run) (problem : Formula) (text : OrderText) : Type 0 where
   pub task : ToSolve
-  pub asks : Asks run (Solve task) (formula problem)
+  pub asks : AsksOver run (Solve task) (formula problem)
   pub file : List ℕ
   pub named : task.order ≡ Some file
   pub read : IsRead run.files file (order_text problem.vars) text
@@ -113,7 +117,7 @@ pub record AsksByOrder (run : Run) (problem : Formula) (text : OrderText) : Type
 -- They ask to decide this formula by a schedule, and the order is given; the text of the schedule's file says this.
 pub record AsksBySchedule (run : Run) (problem : Formula) (text : ScheduleText) : Type 0 where
   pub task : ToSolve
-  pub asks : Asks run (Solve task) (formula problem)
+  pub asks : AsksOver run (Solve task) (formula problem)
   pub order : List ℕ
   pub ordered : IsOrdered run.files task.order problem order
   pub file : List ℕ
@@ -136,7 +140,7 @@ pub record AsksFor (run : Run) (problem : Formula) : Type 0 where
 -- they ask to judge this proof over this formula
 pub record AsksToJudge (run : Run) (problem : Formula) (bytes : List ℕ) : Type 0 where
   pub task : ToCheck
-  pub asks : Asks run (Check task) (formula problem)
+  pub asks : AsksOver run (Check task) (formula problem)
   pub stands : run.files task.proof ≡ Some bytes
 
 -- and this is the verdict on it
@@ -171,7 +175,8 @@ UnsatisfiableIsProved run = run.status ≡ Unsat → IsRefuted run
 -- leaves few clauses live beside those of nodes: as many as two caches have entries, and one.
 pub record IsShownSatisfied (run : Run) (problem : Formula) (order : List ℕ) (moves : List Move) (values : List Bool) : Type 0 where
   pub asked : AsksBy run problem order moves
-  pub few : IsProofOfKind problem.clauses (IsLeanAtEnd problem.vars (length problem.clauses) (limits_given run).cache) (written_in run ProofOut)
+  pub few : IsProofOfKind problem.clauses (IsLeanAtEnd problem.vars (length problem.clauses) (limits_given run).cache)
+      (written_in run ProofOut)
   pub printed : written_in run Out ≡ text_for run problem (outcome.Sat values)
 
 pub record IsSatisfied (run : Run) : Type 0 where
@@ -202,7 +207,8 @@ pub record IsUndecided (run : Run) (why : Why) : Type 0 where
   pub order : List ℕ
   pub moves : List Move
   pub needs : Says problem order moves (limits_given run) (outcome_at why)
-  pub short : (width price : ℕ) → HasWidth problem order moves width → IsMovePrice problem.vars (limits_given run).cache width price → AreAmple (limits_given run) problem moves width price → ⊥
+  pub short : (width price : ℕ) → HasWidth problem order moves width → IsMovePrice problem.vars (limits_given run).cache width price
+      → AreAmple (limits_given run) problem moves width price → ⊥
   pub shown : IsTrue run.tells → IsShownUndecided run why problem order moves
 
 abbrev pub LimitsAreReached : Run → Type 0
@@ -227,7 +233,8 @@ pub record IsNotVerified (run : Run) (line : ℕ) (reason : Reason) : Type 0 whe
 
 pub record VerdictIsTrue (run : Run) : Type 0 where
   pub verified : run.status ≡ Verified → GivesCheck run × (IsTrue run.tells → IsVerified run)
-  pub not_verified : (line : ℕ) (reason : Reason) → run.status ≡ NotVerified line reason → GivesCheck run × (IsTrue run.tells → IsNotVerified run line reason)
+  pub not_verified : (line : ℕ) (reason : Reason) → run.status ≡ NotVerified line reason → GivesCheck run
+      × (IsTrue run.tells → IsNotVerified run line reason)
 
 -- Done: the words give `make`, and the text of the board was written to the file that they name, and flushed.
 pub record IsMade (run : Run) (task : ToMake) : Type 0 where
@@ -251,7 +258,7 @@ MadeStands run = IsTrue run.tells → (written_in run Made ≡ []) ⊎ IsFrontOf
 -- a refusal of the formula is that of the named file's whole text, and already that of the bytes taken
 pub record IsRefusedBy (run : Run) (text : CnfText) : Type 0 where
   pub asked : Command
-  pub asks : Asks run asked text
+  pub asks : AsksOver run asked text
   pub decided : cnf (mode_of asked) (taken_in run Cnf) ≡ text
 
 -- and so is one of the order, and one of the schedule, of a formula that was accepted
@@ -322,7 +329,7 @@ pub record IsOpenFormula (run : Run) : Type 0 where
 pub record IsOpenOrder (run : Run) : Type 0 where
   pub task : ToSolve
   pub problem : Formula
-  pub asks : Asks run (Solve task) (formula problem)
+  pub asks : AsksOver run (Solve task) (formula problem)
   pub file : List ℕ
   pub named : task.order ≡ Some file
   pub failed : HasFault run Order
@@ -333,7 +340,7 @@ pub record IsOpenOrder (run : Run) : Type 0 where
 pub record IsOpenSchedule (run : Run) : Type 0 where
   pub task : ToSolve
   pub problem : Formula
-  pub asks : Asks run (Solve task) (formula problem)
+  pub asks : AsksOver run (Solve task) (formula problem)
   pub order : List ℕ
   pub ordered : IsOrdered run.files task.order problem order
   pub file : List ℕ
@@ -346,7 +353,7 @@ pub record IsOpenSchedule (run : Run) : Type 0 where
 pub record IsOpenProof (run : Run) : Type 0 where
   pub task : ToCheck
   pub problem : Formula
-  pub asks : Asks run (Check task) (formula problem)
+  pub asks : AsksOver run (Check task) (formula problem)
   pub failed : HasFault run ProofIn
   pub undecided : verdict_so_far problem.clauses (taken_in run ProofIn) ≡ None
 
@@ -419,16 +426,19 @@ pub record IsHelp (run : Run) : Type 0 where
 pub record OutputStands (run : Run) : Type 0 where
   pub grows : IsTrue run.tells → (run.after Out).written ≡ (run.before Out).written ++ written_in run Out
   pub front : IsTrue run.tells → (written_in run Out ≡ []) ⊎ (((finding : Finding) × IsTrueAnswer run finding) ⊎ IsHelp run)
-  pub answered : IsTrue (is_answer run.status) → IsTrue run.tells → (finding : Finding) × (true_answer : IsTrueAnswer run finding) × (run.status ≡ status_found finding) × (true_answer.rest ≡ [])
+  pub answered : IsTrue (is_answer run.status) → IsTrue run.tells → (finding : Finding) × (true_answer : IsTrueAnswer run finding)
+      × (run.status ≡ status_found finding) × (true_answer.rest ≡ [])
   pub helped : run.status ≡ Help → IsTrue run.tells → (help : IsHelp run) × (help.rest ≡ [])
-  pub flushed : IsTrue (is_answer run.status) ⊎ (run.status ≡ Help) → IsTrue run.tells → (run.after Out).flushed ≡ length (run.after Out).written
+  pub flushed : IsTrue (is_answer run.status) ⊎ (run.status ≡ Help) → IsTrue run.tells → (run.after Out).flushed
+      ≡ length (run.after Out).written
   pub silent : IsFalse (is_answer run.status) → run.status ≢ Help → run.status ≢ WriteFault → IsTrue run.tells → written_in run Out ≡ []
 
 -- Standard error: a front of the status's text, the whole of it and flushed where no call of it failed; nothing for an
 -- answer and for help.
 pub record ErrorStands (run : Run) : Type 0 where
   pub grows : IsTrue run.tells → (run.after Err).written ≡ (run.before Err).written ++ written_in run Err
-  pub front : IsTrue run.tells → (rest : List ℕ) × (error_text run.status ≡ written_in run Err ++ rest) × ((HasFault run Err → ⊥) → rest ≡ [])
+  pub front : IsTrue run.tells → (rest : List ℕ) × (error_text run.status ≡ written_in run Err ++ rest)
+      × ((HasFault run Err → ⊥) → rest ≡ [])
   pub flushed : IsTrue run.tells → (HasFault run Err → ⊥) → (run.after Err).flushed ≡ length (run.after Err).written
 
 -- The proof: nothing, or exactly the lines of good steps from the clauses of the formula that is asked for, whose deletions
@@ -437,8 +447,10 @@ pub record ErrorStands (run : Run) : Type 0 where
 -- a failed write. However the run ends, it keeps within the price of the plan that is asked for, by its width: numbers, nodes
 -- and live clauses.
 pub record ProofStands (run : Run) : Type 0 where
-  pub so_far : IsTrue run.tells → (written_in run ProofOut ≡ []) ⊎ ((problem : Formula) × AsksFor run problem × IsProofSoFar problem (limits_given run) (written_in run ProofOut))
-  pub whole : run.status ≢ WriteFault → IsTrue run.tells → (written_in run ProofOut ≡ []) ⊎ ((problem : Formula) × AsksFor run problem × IsProof problem (limits_given run) (written_in run ProofOut))
+  pub so_far : IsTrue run.tells → (written_in run ProofOut ≡ [])
+      ⊎ ((problem : Formula) × AsksFor run problem × IsProofSoFar problem (limits_given run) (written_in run ProofOut))
+  pub whole : run.status ≢ WriteFault → IsTrue run.tells → (written_in run ProofOut ≡ [])
+      ⊎ ((problem : Formula) × AsksFor run problem × IsProof problem (limits_given run) (written_in run ProofOut))
   pub price : IsTrue run.tells → (written_in run ProofOut ≡ []) ⊎ ((problem : Formula) × (asked : AsksFor run problem)
       × ((width price : ℕ) → HasWidth problem asked.order asked.moves width → IsMovePrice problem.vars (limits_given run).cache width price
       → IsProofSoFarOfKind problem.clauses (IsPaidFor problem (limits_given run) asked.moves width price) (written_in run ProofOut)))
@@ -487,8 +499,10 @@ name_given Err asked = None
 -- once all reading is over and all texts were accepted, however the run ends, and the made one, which is created only
 -- where its text was written or a call of it failed.
 pub record NamesAreGiven (run : Run) : Type 0 where
-  pub names : (role : Role) → ((run.after role).name ≡ None) ⊎ ((asked : Command) × (command run.words ≡ Some asked) × ((run.after role).name ≡ name_given role asked))
-  pub files : (file : List ℕ) → (run.after ProofOut).name ≢ Some file → (run.after Made).name ≢ Some file → run.files_after file ≡ run.files file
+  pub names : (role : Role) → ((run.after role).name ≡ None) ⊎ ((asked : Command) × (command run.words ≡ Some asked)
+      × ((run.after role).name ≡ name_given role asked))
+  pub files : (file : List ℕ) → (run.after ProofOut).name ≢ Some file → (run.after Made).name ≢ Some file → run.files_after file
+      ≡ run.files file
   pub read_first : IsTrue (ends_before_proof run.status) → (run.after ProofOut).name ≡ None
   pub accepted : (run.after ProofOut).name ≢ None → GivesDecision run × (IsTrue run.tells → (problem : Formula) × AsksFor run problem)
   pub made : (run.after Made).name ≢ None → (run.status ≡ Done) ⊎ (run.status ≡ WriteFault)
@@ -503,13 +517,14 @@ CallsFor run (NotVerified line reason) = ⊥
 CallsFor run Done = ⊥
 CallsFor run Help = ⊥
 CallsFor run Usage = ⊥
-CallsFor run (CnfRefused kind line) = (asked : Command) × Asks run asked (refusal kind line)
+CallsFor run (CnfRefused kind line) = (asked : Command) × AsksOver run asked (refusal kind line)
 CallsFor run (OrderRefused kind line) = (problem : Formula) × AsksByOrder run problem (order_refusal kind line)
 CallsFor run (PlanRefused kind line) = (problem : Formula) × AsksBySchedule run problem (schedule_refusal kind line)
-CallsFor run (TooLong Cnf) = (asked : Command) × Asks run asked overlong
+CallsFor run (TooLong Cnf) = (asked : Command) × AsksOver run asked overlong
 CallsFor run (TooLong Order) = (problem : Formula) × AsksByOrder run problem overlong_order
 CallsFor run (TooLong Schedule) = (problem : Formula) × AsksBySchedule run problem overlong_schedule
-CallsFor run (TooLong ProofIn) = (problem : Formula) × (bytes : List ℕ) × AsksToJudge run problem bytes × (text_verdict problem.clauses bytes ≡ None)
+CallsFor run (TooLong ProofIn) = (problem : Formula) × (bytes : List ℕ) × AsksToJudge run problem bytes
+    × (text_verdict problem.clauses bytes ≡ None)
 CallsFor run (TooLong ProofOut) = ⊥
 CallsFor run (TooLong Made) = ⊥
 CallsFor run (TooLong Out) = ⊥
@@ -524,12 +539,16 @@ CallsFor run OutOfMemory = ⊥
 pub record IsComplete (run : Run) : Type 0 where
   pub misused : CanOnlyMean run.words Misuse → (run.status ≡ Usage) ⊎ (run.status ≡ OutOfMemory)
   pub helped : CanOnlyMean run.words AsksHelp → (HasFault run Out → ⊥) → (run.status ≡ Help) ⊎ (run.status ≡ OutOfMemory)
-  pub unasked : command run.words ≡ None → (HasFault run Out → ⊥) → (run.status ≡ Usage) ⊎ ((run.status ≡ Help) ⊎ (run.status ≡ OutOfMemory))
-  pub answers : (problem : Formula) → AsksFor run problem → IsTrue run.tells → IsUnharmed run → IsTrue (is_answer run.status) ⊎ (run.status ≡ OutOfMemory)
-  pub judges : (problem : Formula) (bytes : List ℕ) (judged : Verdict) → HasVerdict run problem bytes judged → IsTrue run.tells → IsUnharmed run
+  pub unasked : command run.words ≡ None → (HasFault run Out → ⊥) → (run.status ≡ Usage)
+      ⊎ ((run.status ≡ Help) ⊎ (run.status ≡ OutOfMemory))
+  pub answers : (problem : Formula) → AsksFor run problem → IsTrue run.tells → IsUnharmed run → IsTrue (is_answer run.status)
+      ⊎ (run.status ≡ OutOfMemory)
+  pub judges : (problem : Formula) (bytes : List ℕ) (judged : Verdict) → HasVerdict run problem bytes judged → IsTrue run.tells
+      → IsUnharmed run
       → (run.status ≡ status_of_verdict judged) ⊎ (run.status ≡ OutOfMemory)
   pub makes : GivesMake run → IsUnharmed run → (run.status ≡ Done) ⊎ (run.status ≡ OutOfMemory)
-  pub refuses : (status : Status) → CallsFor run status → IsTrue run.tells → (InputFailed run → ⊥) → (run.status ≡ status) ⊎ (run.status ≡ OutOfMemory)
+  pub refuses : (status : Status) → CallsFor run status → IsTrue run.tells → (InputFailed run → ⊥) → (run.status ≡ status)
+      ⊎ (run.status ≡ OutOfMemory)
 
 -- All that the program promises of a run.
 pub record Promises (run : Run) : Type 0 where

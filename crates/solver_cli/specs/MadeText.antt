@@ -1,12 +1,12 @@
 -- The texts that `make` writes.
 use Rattle.std.specs.Prelude.{ℕ, List}
-use Rattle.command_line.specs.declared.part.Part.{Part}
-use Rattle.command_line.specs.declared.part.Part.TheVariants.{Cnf, Order, Schedule}
+use Rattle.command_line.specs.declared.part.BoardText.{BoardText}
+use Rattle.command_line.specs.declared.part.BoardText.TheVariants.{Cnf, Order, Schedule}
 use Rattle.workload.specs.Board.{board_formula, column_order}
 use Rattle.workload.specs.Texts.{cnf_text, order_text, schedule_text}
 
 -- the formula of the board of so many squares a side, its column order, or its column schedule
-abbrev pub made_text : Part → ℕ → List ℕ
+abbrev pub made_text : BoardText → ℕ → List ℕ
 made_text Cnf size = cnf_text (board_formula size)
 made_text Order size = order_text (column_order size)
 made_text Schedule size = schedule_text size

@@ -1,5 +1,6 @@
 -- The parts of a run, each over the one role that it serves.
-use Rattle.std.specs.Prelude.{◌≡◌, ◌≢◌, ◌⊎◌, ◌≤◌, ◌++◌, ℕ, Bool, List, [], Option, None, Some, Result, Err, length, IsTrue, IsOk, IsErr, IfOk, IfErr, ℤ, ⊤}
+use Rattle.std.specs.Prelude.{◌≡◌, ◌≢◌, ◌⊎◌, ◌≤◌, ◌++◌, ℕ, Bool, List, [], Option, None, Some, Result, Err, length, IsTrue, IsOk, IsErr}
+use Rattle.std.specs.Prelude.{IfOk, IfErr, ℤ, ⊤}
 use Rattle.cnf_base.specs.Formula.{Formula, IsFormula}
 use Rattle.host_io.specs.declared.source.Failed.{Failed}
 use Rattle.host_io.specs.Channel.{Channel, Rose}
@@ -41,7 +42,8 @@ use Rattle.solver_cli.specs.declared.status.Status.{Status}
 
 -- A text was read: the answer is that of the whole text that stands in the file of this name, and already that of the
 -- bytes taken.
-pub record ReadsText {Text R : Type 0} (whole : List ℕ → Text) (answers : R → Text → Type 0) (files : Files) (file taken : List ℕ) (result : R) : Type 0 where
+pub record ReadsText {Text R : Type 0} (whole : List ℕ → Text) (answers : R → Text
+    → Type 0) (files : Files) (file taken : List ℕ) (result : R) : Type 0 where
   pub bytes : List ℕ
   pub stands : files file ≡ Some bytes
   pub told : answers result (whole bytes)
@@ -50,7 +52,8 @@ pub record ReadsText {Text R : Type 0} (whole : List ℕ → Text) (answers : R 
 -- The text of an opened file was read. `whole` is what a text is, `so_far` what its front decides, `unread` where that is
 -- nothing yet; `answers` says which answers a text allows, `fit` what is promised of a value that was read, and `fault` is
 -- the answer where a call on the file failed. Then the bytes taken decide nothing yet.
-pub record ReadsOpened {Text T E : Type 0} (whole so_far : List ℕ → Text) (unread : Text) (answers : Result T E → Text → Type 0) (fit : T → Type 0) (fault : E)
+pub record ReadsOpened {Text T E : Type 0} (whole so_far : List ℕ → Text) (unread : Text) (answers : Result T E → Text → Type 0) (fit : T
+    → Type 0) (fault : E)
     (tells : Bool) (old new : Channel) (result : Result T E) : Type 0 where
   pub told : IsTrue tells → answers result (whole old.left)
   pub decided : IsTrue tells → answers result (whole (gained old new))
@@ -63,7 +66,8 @@ pub record ReadsOpened {Text T E : Type 0} (whole so_far : List ℕ → Text) (u
   pub faults : old.faults ≤ new.faults
 
 -- the same of a file that was opened for it
-pub record TakesText {Text T E : Type 0} (whole so_far : List ℕ → Text) (unread : Text) (answers : Result T E → Text → Type 0) (fit : T → Type 0) (fault : E)
+pub record TakesText {Text T E : Type 0} (whole so_far : List ℕ → Text) (unread : Text) (answers : Result T E → Text → Type 0) (fit : T
+    → Type 0) (fault : E)
     (tells : Bool) (old new : Channel) (files : Files) (file : List ℕ) (result : Result T E) : Type 0 where
   pub read : IsTrue tells → (result ≡ Err fault) ⊎ ReadsText whole answers files file (gained old new) result
   pub fits : IfOk result fit
@@ -92,10 +96,12 @@ abbrev pub TakesOrder : ℕ → Bool → Channel → Channel → Files → List 
 TakesOrder vars = TakesText (order_text vars) (order_so_far vars) unread_order OrderAnswers (IsOrderOf vars) OrderReadFault
 
 abbrev pub ReadsSchedule : Formula → Bool → Channel → Channel → Result (List Move) PlanError → Type 0
-ReadsSchedule problem = ReadsOpened (schedule problem) (schedule_so_far problem) unread_schedule ScheduleAnswers (IsAdmissible problem) PlanReadFault
+ReadsSchedule problem = ReadsOpened (schedule problem) (schedule_so_far problem) unread_schedule ScheduleAnswers
+    (IsAdmissible problem) PlanReadFault
 
 abbrev pub TakesSchedule : Formula → Bool → Channel → Channel → Files → List ℕ → Result (List Move) PlanError → Type 0
-TakesSchedule problem = TakesText (schedule problem) (schedule_so_far problem) unread_schedule ScheduleAnswers (IsAdmissible problem) PlanReadFault
+TakesSchedule problem = TakesText (schedule problem) (schedule_so_far problem) unread_schedule ScheduleAnswers
+    (IsAdmissible problem) PlanReadFault
 
 -- A value was made without a file, unless memory ran out.
 pub record Makes {T E : Type 0} (value : T) (memory : E) (old new : Channel) (result : Result T E) : Type 0 where
@@ -104,12 +110,14 @@ pub record Makes {T E : Type 0} (value : T) (memory : E) (old new : Channel) (re
   pub same : new ≡ old
 
 -- The order was had: that of the named file, or without one the natural order.
-pub record HasOrder (vars : ℕ) (asked : Option (List ℕ)) (tells : Bool) (old new : Channel) (files : Files) (result : Result (List ℕ) OrderError) : Type 0 where
+pub record HasOrder (vars : ℕ) (asked : Option (List ℕ)) (tells : Bool) (old new : Channel) (files : Files)
+    (result : Result (List ℕ) OrderError) : Type 0 where
   pub natural : asked ≡ None → Makes (natural_order vars) OrderOutOfMemory old new result
   pub named : (file : List ℕ) → asked ≡ Some file → TakesOrder vars tells old new files file result
 
 -- The plan was had: the one of the given name over the order, or that of the schedule in the named file.
-pub record HasPlan (problem : Formula) (order : List ℕ) (asked : Planned) (tells : Bool) (old new : Channel) (files : Files) (result : Result (List Move) PlanError) : Type 0 where
+pub record HasPlan (problem : Formula) (order : List ℕ) (asked : Planned) (tells : Bool) (old new : Channel) (files : Files)
+    (result : Result (List Move) PlanError) : Type 0 where
   pub named : (name : PlanName) → asked ≡ ByName name → Makes (moves_of_plan name problem order) PlanOutOfMemory old new result
   pub scheduled : (file : List ℕ) → asked ≡ ByFile file → TakesSchedule problem tells old new files file result
 
@@ -126,14 +134,16 @@ pub record ChecksProof (tells : Bool) (old new : Channel) (clauses : List (List 
   pub faults : old.faults ≤ new.faults
 
 -- what the file of this name holds was judged
-pub record JudgesText (files : Files) (file : List ℕ) (clauses : List (List ℤ)) (taken : List ℕ) (result : Result Verdict CheckError) : Type 0 where
+pub record JudgesText (files : Files) (file : List ℕ) (clauses : List (List ℤ)) (taken : List ℕ)
+    (result : Result Verdict CheckError) : Type 0 where
   pub bytes : List ℕ
   pub stands : files file ≡ Some bytes
   pub judged : Answers result (text_verdict clauses bytes)
   pub decided : Answers result (text_verdict clauses taken)
 
 -- the proof's file was opened, and its text judged
-pub record JudgesProof (tells : Bool) (old new : Channel) (files : Files) (file : List ℕ) (clauses : List (List ℤ)) (result : Result Verdict CheckError) : Type 0 where
+pub record JudgesProof (tells : Bool) (old new : Channel) (files : Files) (file : List ℕ) (clauses : List (List ℤ))
+    (result : Result Verdict CheckError) : Type 0 where
   pub read : IsTrue tells → (result ≡ Err CheckReadFault) ⊎ JudgesText files file clauses (gained old new) result
   pub fault : result ≡ Err CheckReadFault → Rose old.faults new.faults
   pub unfailed : result ≢ Err CheckReadFault → new.faults ≡ old.faults
@@ -150,14 +160,17 @@ pub record OnlyWritten (old new : Channel) : Type 0 where
 -- A formula was decided, and its proof written: exactly the lines of good steps, within the limits, flushed where the
 -- formula was decided; a line that is cut short only after a failed write. It keeps within what the plan's width needs.
 -- The greatest identifier is that of the bytes.
-pub record WritesProof (tells : Bool) (old new : Channel) (problem : Formula) (order : List ℕ) (moves : List Move) (limits : Limits) (result : Result Ending RunError) : Type 0 where
+pub record WritesProof (tells : Bool) (old new : Channel) (problem : Formula) (order : List ℕ) (moves : List Move) (limits : Limits)
+    (result : Result Ending RunError) : Type 0 where
   pub says : IfOk result (λ ending. Says problem order moves limits ending.outcome)
-  pub certain : (width price : ℕ) → HasWidth problem order moves width → IsMovePrice problem.vars limits.cache width price → AreAmple limits problem moves width price → IfOk result (λ ending. IsDecision ending.outcome)
+  pub certain : (width price : ℕ) → HasWidth problem order moves width → IsMovePrice problem.vars limits.cache width price
+      → AreAmple limits problem moves width price → IfOk result (λ ending. IsDecision ending.outcome)
   pub shows : IsTrue tells → IfOk result (λ ending. Shows problem limits new.written ending.outcome)
   pub last : IsTrue tells → IfOk result (λ ending. ending.last_id ≡ last_identifier problem.clauses new.written)
   pub whole : result ≢ Err Torn → IsTrue tells → IsProof problem limits new.written
   pub so_far : IsTrue tells → IsProofSoFar problem limits new.written
-  pub price : (width price : ℕ) → HasWidth problem order moves width → IsMovePrice problem.vars limits.cache width price → IsTrue tells → IsProofSoFarOfKind problem.clauses (IsPaidFor problem limits moves width price) new.written
+  pub price : (width price : ℕ) → HasWidth problem order moves width → IsMovePrice problem.vars limits.cache width price → IsTrue tells
+      → IsProofSoFarOfKind problem.clauses (IsPaidFor problem limits moves width price) new.written
   pub flushed : IsOk result → IsTrue tells → new.flushed ≡ length new.written
   pub fault : result ≡ Err Torn → Rose old.faults new.faults
   pub unfailed : result ≢ Err Torn → new.faults ≡ old.faults
@@ -165,7 +178,8 @@ pub record WritesProof (tells : Bool) (old new : Channel) (problem : Formula) (o
 
 -- The status's text was written on standard error and flushed, or, where a call failed, a front of it was written.
 pub record Complains (tells : Bool) (old new : Channel) (status : Status) : Type 0 where
-  pub written : IsTrue tells → (part : List ℕ) × (rest : List ℕ) × (new.written ≡ old.written ++ part) × (error_text status ≡ part ++ rest) × ((Rose old.faults new.faults → ⊥) → rest ≡ [])
+  pub written : IsTrue tells → (part : List ℕ) × (rest : List ℕ) × (new.written ≡ old.written ++ part) × (error_text status ≡ part ++ rest)
+      × ((Rose old.faults new.faults → ⊥) → rest ≡ [])
   pub flushed : IsTrue tells → (Rose old.faults new.faults → ⊥) → new.flushed ≡ length new.written
   pub only : OnlyWritten old new
 

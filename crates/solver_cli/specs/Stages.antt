@@ -45,7 +45,15 @@ pub record Streams : Type 0 where
 
 abbrev pub streams_of : (Role → Channel) → Streams
 streams_of channel =
-    record { cnf = channel Cnf; order = channel Order; schedule = channel Schedule; judged = channel ProofIn; proof = channel ProofOut; made = channel Made; out = channel Out }
+    record {
+      cnf = channel Cnf;
+      order = channel Order;
+      schedule = channel Schedule;
+      judged = channel ProofIn;
+      proof = channel ProofOut;
+      made = channel Made;
+      out = channel Out;
+    }
 
 -- nothing was done for the words: they may be faulty, or memory ran out
 pub record Misused (words : List (List ℕ)) (old new : Streams) (status : Status) : Type 0 where
@@ -115,7 +123,8 @@ pub record Unplanned (tells : Bool) (old new : Streams) (files : Files) (task : 
   pub ends : status ≡ status_of_plan error
 
 -- all was had that is to be decided by; no proof is judged, and no text made
-pub record Prepared (tells : Bool) (old new : Streams) (files : Files) (task : ToSolve) (problem : Formula) (order : List ℕ) (moves : List Move) : Type 0 where
+pub record Prepared (tells : Bool) (old new : Streams) (files : Files) (task : ToSolve) (problem : Formula) (order : List ℕ)
+    (moves : List Move) : Type 0 where
   pub takes : TakesFormula task.mode tells old.cnf new.cnf files task.file (Ok problem)
   pub orders : HasOrder problem.vars task.order tells old.order new.order files (Ok order)
   pub plans : HasPlan problem order task.plan tells old.schedule new.schedule files (Ok moves)
@@ -146,7 +155,8 @@ pub record Uncreated (old new old_out out : Channel) (job : Job) (status : Statu
   pub ends : status ≡ WriteFault
 
 -- the formula was not decided
-pub record Undecided (tells : Bool) (old new old_out out : Channel) (problem : Formula) (order : List ℕ) (moves : List Move) (job : Job) (status : Status) : Type 0 where
+pub record Undecided (tells : Bool) (old new old_out out : Channel) (problem : Formula) (order : List ℕ) (moves : List Move) (job : Job)
+    (status : Status) : Type 0 where
   pub created : Channel
   pub created_answer : Result ⊤ Failed
   pub done : IsOk created_answer
@@ -162,7 +172,8 @@ status_after ending (Ok x) = status_of ending.outcome
 status_after ending (Err e) = WriteFault
 
 -- it was decided, and the answer was printed or not
-pub record Answered (tells : Bool) (old new old_out out : Channel) (problem : Formula) (order : List ℕ) (moves : List Move) (job : Job) (status : Status) : Type 0 where
+pub record Answered (tells : Bool) (old new old_out out : Channel) (problem : Formula) (order : List ℕ) (moves : List Move) (job : Job)
+    (status : Status) : Type 0 where
   pub created : Channel
   pub created_answer : Result ⊤ Failed
   pub done : IsOk created_answer
@@ -213,7 +224,14 @@ FilesBeside one other old new = (file : List ℕ) → one ≢ Some file → othe
 
 -- what `solve` is asked to do, and what `check` is
 abbrev pub task_of : SolveTask → ToSolve
-task_of task = record { file = task.files.formula.now; proof = task.files.proof.now; mode = task.mode; order = text_of task.order; plan = planned_of task.plan; limits = task.limits }
+task_of task = record {
+  file = task.files.formula.now;
+  proof = task.files.proof.now;
+  mode = task.mode;
+  order = text_of task.order;
+  plan = planned_of task.plan;
+  limits = task.limits;
+}
 
 abbrev pub check_of : CheckTask → ToCheck
 check_of task = record { file = task.files.formula.now; proof = task.files.proof.now; mode = task.mode }

@@ -12,11 +12,13 @@ use host_io::{Failed, Host, HostSink, Role, Sink, beside_kept, write_all};
 use itoa::Buffer;
 use schedule_plan::{OrderKind, PlanKind};
 
-/// Writes the status's line on standard error, and nothing for an answer, a text that was made or help, and flushes. That the line could not
+/// Writes the status's line on standard error, and nothing for an answer, a text that was made or help, and flushes. That the line could
+/// not
 /// be written ends no run otherwise.
 pub fn complain<H: Host>(host: &mut H, status: Status)
     ensures complains { Complains H.tells (H.channel host.old ErrRole) (H.channel host.new ErrRole) status }
-    ensures kept { Kept ErrRole (H.channel host.old ErrRole).name (H.channel host.old) (H.channel host.new) (H.files host.old) (H.files host.new) }
+    ensures kept { Kept ErrRole (H.channel host.old ErrRole).name (H.channel host.old) (H.channel host.new) (H.files host.old)
+        (H.files host.new) }
 {
     beside_kept::<H>();
     let mut sink = HostSink::new(host, Role::Err);

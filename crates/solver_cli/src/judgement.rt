@@ -17,7 +17,8 @@ pub fn judge<H: Host>(
     name: &str,
 ) -> Result<Verdict, CheckError>
     requires { (H.channel host.old ProofIn).name ≡ None }
-    ensures judges { JudgesProof H.tells (H.channel host.old ProofIn) (H.channel host.new ProofIn) (H.files host.old) name.now formula.now.clauses result }
+    ensures judges { JudgesProof H.tells (H.channel host.old ProofIn) (H.channel host.new ProofIn)
+        (H.files host.old) name.now formula.now.clauses result }
     ensures kept { Kept ProofIn None (H.channel host.old) (H.channel host.new) (H.files host.old) (H.files host.new) }
 {
     if host.open_read(Role::ProofIn, name).is_err() {

@@ -1,5 +1,6 @@
 //! The program as a library. `run` does all that it does, over any host: it reads the words, decides a formula and writes the
-//! proof, or judges a proof, and prints the answer; or it makes a workload's texts. Its contract, `Promises` of `specs/Headline.antt`, is what the program is
+//! proof, or judges a proof, and prints the answer; or it makes a workload's texts. Its contract, `Promises` of `specs/Headline.antt`, is
+//! what the program is
 //! worth; `run_with` is that over the words as the system gives them. It stands on `command_line`, `term_runner`,
 //! `lrat_checker`, `dimacs_reader` and `answer_text`.
 #![tactic(auto)]
@@ -21,7 +22,7 @@ mod verdict;
 
 pub use answer::Shape;
 pub use command_line::{
-    Asked, BenchTask, CheckTask, FileNames, MakeTask, Part, PlanName, PlanSource, Refusal,
+    Asked, BenchTask, BoardText, CheckTask, FileNames, MakeTask, PlanName, PlanSource, Refusal,
     SolveTask, gather, read_words,
 };
 pub use complaint::complain;

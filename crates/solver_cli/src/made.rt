@@ -7,26 +7,37 @@ ghost use Rattle.workload.specs.Board.{board_formula, column_order};
 ghost use Rattle.solver_cli.specs.MadeText.{made_text};
 ghost use Rattle.solver_cli.specs.Phases.{PutsText};
 
-use command_line::Part;
+use command_line::BoardText;
 use host_io::{Failed, Host, HostSink, Role, Sink, beside_kept};
 use workload::{Board, write_cnf, write_columns, write_order};
 
 /// Writes this text of the board of so many squares a side in the role that was created for it, and flushes it.
-pub fn put_part<H: Host>(host: &mut H, board: &Board, size: u32, part: Part) -> Result<(), Failed>
+pub fn put_part<H: Host>(
+    host: &mut H,
+    board: &Board,
+    size: u32,
+    part: BoardText,
+) -> Result<(), Failed>
     requires created { (H.channel host.old Made).name ≢ None }
     requires least { 2 ≤ size }
     requires most { size ≤ 100 }
     requires cnf { board.now.cnf ≡ board_formula size }
     requires order { board.now.order ≡ column_order size }
     ensures puts { PutsText H.tells (H.channel host.old Made) (H.channel host.new Made) (made_text part size) result }
-    ensures kept { Kept Made (H.channel host.old Made).name (H.channel host.old) (H.channel host.new) (H.files host.old) (H.files host.new) }
+    ensures kept { Kept Made (H.channel host.old Made).name (H.channel host.old) (H.channel host.new) (H.files host.old)
+        (H.files host.new) }
 {
     beside_kept::<H>();
     let mut sink = HostSink::new(host, Role::Made);
     print_part(&mut sink, board, size, part)
 }
 
-fn print_part<S: Sink>(sink: &mut S, board: &Board, size: u32, part: Part) -> Result<(), Failed>
+fn print_part<S: Sink>(
+    sink: &mut S,
+    board: &Board,
+    size: u32,
+    part: BoardText,
+) -> Result<(), Failed>
     requires least { 2 ≤ size }
     requires most { size ≤ 100 }
     requires cnf { board.now.cnf ≡ board_formula size }
@@ -38,7 +49,12 @@ fn print_part<S: Sink>(sink: &mut S, board: &Board, size: u32, part: Part) -> Re
     sink.flush()
 }
 
-fn write_part<S: Sink>(sink: &mut S, board: &Board, size: u32, part: Part) -> Result<(), Failed>
+fn write_part<S: Sink>(
+    sink: &mut S,
+    board: &Board,
+    size: u32,
+    part: BoardText,
+) -> Result<(), Failed>
     requires least { 2 ≤ size }
     requires most { size ≤ 100 }
     requires cnf { board.now.cnf ≡ board_formula size }
@@ -47,8 +63,8 @@ fn write_part<S: Sink>(sink: &mut S, board: &Board, size: u32, part: Part) -> Re
     ensures beside { S.beside sink.new ≡ S.beside sink.old }
 {
     match part {
-        Part::Cnf => write_cnf(sink, &board.cnf),
-        Part::Order => write_order(sink, &board.order),
-        Part::Schedule => write_columns(sink, size),
+        BoardText::Cnf => write_cnf(sink, &board.cnf),
+        BoardText::Order => write_order(sink, &board.order),
+        BoardText::Schedule => write_columns(sink, size),
     }
 }

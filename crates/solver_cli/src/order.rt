@@ -19,7 +19,8 @@ pub fn take_order<H: Host>(
     name: Option<&str>,
 ) -> Result<Order, OrderError>
     requires { (H.channel host.old OrderRole).name ≡ None }
-    ensures takes { HasOrder vars (text_of name.entry) H.tells (H.channel host.old OrderRole) (H.channel host.new OrderRole) (H.files host.old) result }
+    ensures takes { HasOrder vars (text_of name.entry) H.tells (H.channel host.old OrderRole) (H.channel host.new OrderRole)
+        (H.files host.old) result }
     ensures one_each { IfOk result (λ order. length order ≡ vars) }
     ensures kept { Kept OrderRole None (H.channel host.old) (H.channel host.new) (H.files host.old) (H.files host.new) }
 {
@@ -46,7 +47,8 @@ fn take_named<H: Host>(
     name: &str,
 ) -> Result<Order, OrderError>
     requires { (H.channel host.old OrderRole).name ≡ None }
-    ensures takes { TakesOrder vars H.tells (H.channel host.old OrderRole) (H.channel host.new OrderRole) (H.files host.old) name.now result }
+    ensures takes { TakesOrder vars H.tells (H.channel host.old OrderRole) (H.channel host.new OrderRole)
+        (H.files host.old) name.now result }
     ensures kept { Kept OrderRole None (H.channel host.old) (H.channel host.new) (H.files host.old) (H.files host.new) }
 {
     if host.open_read(Role::Order, name).is_err() {

@@ -24,7 +24,8 @@ pub fn take_plan<H: Host>(
 ) -> Result<Plan, PlanError>
     requires unnamed { (H.channel host.old ScheduleRole).name ≡ None }
     requires one_each { length order.now ≡ formula.now.vars }
-    ensures takes { HasPlan formula.now order.now (planned_of asked.now) H.tells (H.channel host.old ScheduleRole) (H.channel host.new ScheduleRole) (H.files host.old) result }
+    ensures takes { HasPlan formula.now order.now (planned_of asked.now) H.tells (H.channel host.old ScheduleRole)
+        (H.channel host.new ScheduleRole) (H.files host.old) result }
     ensures admissible { IfOk result (IsAdmissible formula.now) }
     ensures kept { Kept ScheduleRole None (H.channel host.old) (H.channel host.new) (H.files host.old) (H.files host.new) }
 {
@@ -60,7 +61,8 @@ fn take_schedule<H: Host>(
     name: &str,
 ) -> Result<Plan, PlanError>
     requires { (H.channel host.old ScheduleRole).name ≡ None }
-    ensures takes { TakesSchedule formula.now H.tells (H.channel host.old ScheduleRole) (H.channel host.new ScheduleRole) (H.files host.old) name.now result }
+    ensures takes { TakesSchedule formula.now H.tells (H.channel host.old ScheduleRole) (H.channel host.new ScheduleRole)
+        (H.files host.old) name.now result }
     ensures kept { Kept ScheduleRole None (H.channel host.old) (H.channel host.new) (H.files host.old) (H.files host.new) }
 {
     if host.open_read(Role::Schedule, name).is_err() {

@@ -15,7 +15,8 @@ ghost use Rattle.solver_cli.specs.ExitCode.{exit_code};
 ghost use Rattle.solver_cli.specs.Start.{OnlyTold, status_of_kind};
 ghost use Rattle.solver_cli.specs.declared.status.Status.{Status};
 ghost use Rattle.solver_cli.specs.declared.status.Status.TheVariants.{OutOfMemory};
-ghost use Rattle.solver_cli.specs.Stages.{Came, CameToAnswer, CameToBench, CameToCheck, CameToMake, FilesBeside, LeavesInputs, ShowsHelp, Stages, bench_of, check_of, job_of, make_of, streams_of, task_of};
+ghost use Rattle.solver_cli.specs.Stages.{Came, CameToAnswer, CameToBench, CameToCheck, CameToMake, FilesBeside, LeavesInputs, ShowsHelp};
+ghost use Rattle.solver_cli.specs.Stages.{Stages, bench_of, check_of, job_of, make_of, streams_of, task_of};
 
 use crate::answer::{Shape, status_of};
 use crate::complaint::complain;
@@ -41,7 +42,8 @@ use workload::board;
 
 fn work<H: Host>(alloc: Global, words: &[String], host: &mut H) -> Status
     requires unnamed { (role : Role) → (H.channel host.old role).name ≡ None }
-    ensures stages { Stages H.tells (map string_bytes words.now) (streams_of (H.channel host.old)) (streams_of (H.channel host.new)) (H.files host.old) result }
+    ensures stages { Stages H.tells (map string_bytes words.now) (streams_of (H.channel host.old)) (streams_of (H.channel host.new))
+        (H.files host.old) result }
     ensures error { H.channel host.new ErrRole ≡ H.channel host.old ErrRole }
     ensures files { FilesBeside (H.channel host.new ProofOut).name (H.channel host.new Made).name (H.files host.old) (H.files host.new) }
 {
@@ -72,7 +74,8 @@ fn show_help<H: Host>(text: &str, host: &mut H) -> Status
 fn solve<H: Host>(alloc: Global, asked: &SolveTask<'_>, host: &mut H) -> Status
     requires unnamed { (role : Role) → (H.channel host.old role).name ≡ None }
     requires limits { AreLimits asked.now.limits }
-    ensures came { Came H.tells (streams_of (H.channel host.old)) (streams_of (H.channel host.new)) (H.files host.old) (task_of asked.now) result }
+    ensures came { Came H.tells (streams_of (H.channel host.old)) (streams_of (H.channel host.new)) (H.files host.old)
+        (task_of asked.now) result }
     ensures error { H.channel host.new ErrRole ≡ H.channel host.old ErrRole }
     ensures files { FilesBut (H.channel host.new ProofOut).name (H.files host.old) (H.files host.new) }
 {
@@ -135,7 +138,8 @@ fn answer<H: Host>(
     requires order { length order.now ≡ formula.now.vars }
     requires plan { IsAdmissible formula.now plan.now }
     requires limits { AreLimits job.now.limits }
-    ensures came { CameToAnswer H.tells (H.channel host.old ProofOut) (H.channel host.new ProofOut) (H.channel host.old Out) (H.channel host.new Out) formula.now order.now plan.now (job_of job.now) result }
+    ensures came { CameToAnswer H.tells (H.channel host.old ProofOut) (H.channel host.new ProofOut) (H.channel host.old Out)
+        (H.channel host.new Out) formula.now order.now plan.now (job_of job.now) result }
     ensures inputs { LeavesInputs (H.channel host.old) (H.channel host.new) }
     ensures files { FilesBut (H.channel host.new ProofOut).name (H.files host.old) (H.files host.new) }
 {
@@ -176,7 +180,8 @@ fn make<H: Host>(alloc: Global, asked: &MakeTask<'_>, host: &mut H) -> Status
 // Reads the formula, judges the proof over it and prints the verdict.
 fn check<H: Host>(alloc: Global, asked: &CheckTask<'_>, host: &mut H) -> Status
     requires unnamed { (role : Role) → (H.channel host.old role).name ≡ None }
-    ensures came { CameToCheck H.tells (streams_of (H.channel host.old)) (streams_of (H.channel host.new)) (H.files host.old) (check_of asked.now) result }
+    ensures came { CameToCheck H.tells (streams_of (H.channel host.old)) (streams_of (H.channel host.new)) (H.files host.old)
+        (check_of asked.now) result }
     ensures error { H.channel host.new ErrRole ≡ H.channel host.old ErrRole }
     ensures files { FilesBut None (H.files host.old) (H.files host.new) }
 {
@@ -252,7 +257,8 @@ pub fn run_with<H: Host, I: Iterator<Item = String> + Drop>(
           files_after = H.files host.new;
           status = status;
         }))
-        ⊎ ((status ≡ OutOfMemory) × OnlyTold H.tells (H.channel host.old) (H.channel host.new) (H.files host.old) (H.files host.new) status))) }
+        ⊎ ((status ≡ OutOfMemory) × OnlyTold H.tells (H.channel host.old) (H.channel host.new) (H.files host.old)
+        (H.files host.new) status))) }
     ensures unread { IfErr words (λ kind. (result ≡ exit_code (status_of_kind kind))
         × OnlyTold H.tells (H.channel host.old) (H.channel host.new) (H.files host.old) (H.files host.new) (status_of_kind kind)) }
 {

@@ -27,8 +27,10 @@ pub fn prove<H: Host>(
     requires order { length order.now ≡ formula.now.vars }
     requires plan { IsAdmissible formula.now plan.now }
     requires limits { AreLimits limits }
-    ensures writes { WritesProof H.tells (H.channel host.old ProofOut) (H.channel host.new ProofOut) formula.now order.now plan.now limits result }
-    ensures kept { Kept ProofOut (H.channel host.old ProofOut).name (H.channel host.old) (H.channel host.new) (H.files host.old) (H.files host.new) }
+    ensures writes { WritesProof H.tells (H.channel host.old ProofOut)
+        (H.channel host.new ProofOut) formula.now order.now plan.now limits result }
+    ensures kept { Kept ProofOut (H.channel host.old ProofOut).name (H.channel host.old) (H.channel host.new) (H.files host.old)
+        (H.files host.new) }
 {
     beside_kept::<H>();
     let mut sink = HostSink::new(host, Role::ProofOut);

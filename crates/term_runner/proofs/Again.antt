@@ -11,7 +11,7 @@ use Rattle.node_table.specs.HandedOn.{no_error}
 use Rattle.node_table.specs.Laws.{Growth}
 use Rattle.node_table.specs.Tied.{KeepsClauses}
 use Rattle.schedule_plan.specs.Plan.{Stage}
-use Rattle.term_runner.specs.declared.held.Held.{Held}
+use Rattle.term_runner.specs.declared.held.HeldTerm.{HeldTerm}
 use Rattle.term_runner.specs.Held.{AreHeld, AreKept, IsAt}
 use Rattle.term_runner.proofs.Stacks.{held_kept}
 use Rattle.term_runner.proofs.Trails.{kept_grown}
@@ -23,9 +23,13 @@ failed_limit {T} (Err e) is = failed
     failed : IsErr {T = T} (Err e)
     failed = refl
 
-pub at_still : Growth → (formula : Formula) (old new : Graph) → IsReduced old → KeepsNodes old new → (live more : Live) → KeepsClauses live more → (stage : Stage) (before after : List Held)
-    (trail kept : List (ℕ × Node)) → after ≡ before → kept ≡ trail → IsAt formula old live before trail stage → IsAt formula new more after kept stage
+pub at_still : Growth → (formula : Formula) (old new : Graph) → IsReduced old → KeepsNodes old new → (live more : Live)
+    → KeepsClauses live more → (stage : Stage) (before after : List HeldTerm)
+    (trail kept : List (ℕ × Node)) → after ≡ before → kept ≡ trail → IsAt formula old live before trail stage
+    → IsAt formula new more after kept stage
 at_still growth formula old new reduced keeps live more clauses stage before after trail kept same same_trail at = record {
-  held = subst (λ (stack : List Held). AreHeld formula new more (reverse stack) stage.stack) (sym same) (held_kept growth old new reduced keeps live more clauses formula (reverse before) stage.stack at.held);
-  kept = subst (λ (nodes : List (ℕ × Node)). AreKept formula new (reverse nodes) stage.trail) (sym same_trail) (kept_grown growth formula old new reduced keeps (reverse trail) stage.trail at.kept);
+  held = subst (λ (stack : List HeldTerm). AreHeld formula new more (reverse stack) stage.stack) (sym same)
+      (held_kept growth old new reduced keeps live more clauses formula (reverse before) stage.stack at.held);
+  kept = subst (λ (nodes : List (ℕ × Node)). AreKept formula new (reverse nodes) stage.trail) (sym same_trail)
+      (kept_grown growth formula old new reduced keeps (reverse trail) stage.trail at.kept);
 }

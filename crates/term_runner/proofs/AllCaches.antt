@@ -1,5 +1,6 @@
 -- The entries of all caches as one list: what a call leaves of its own caches' entries beside the others.
-use Rattle.std.proofs.Common.{◌≡◌, ◌∙◌, ◌⊎◌, ◌++◌, ℕ, zero, suc, List, [], ◌∷◌, map, Contains, Option, None, Some, Result, refl, sym, ap, subst, arith, inl, inr}
+use Rattle.std.proofs.Common.{◌≡◌, ◌∙◌, ◌⊎◌, ◌++◌, ℕ, zero, suc, List, [], ◌∷◌, map, Contains, Option, None, Some, Result, refl, sym, ap}
+use Rattle.std.proofs.Common.{subst, arith, inl, inr}
 use Rattle.std.specs.Prelude.{IsErrAnd}
 use Rattle.std.proofs.lemmas.List.Elements.{Contains-append_left, Contains-append_right, Contains-append_cases}
 use Rattle.lrat_rules.specs.State.{State}
@@ -7,7 +8,8 @@ use Rattle.node_table.specs.declared.error.TableError.{TableError}
 use Rattle.node_table.specs.Table.{TableState, AddsNone, Extends, IsSound, UnlessTorn}
 use Rattle.node_table.specs.Progress.{error_of}
 use Rattle.operations.specs.Accounts.{IsWhole, none_whole, whole_error}
-use Rattle.operations.specs.Entries.{Entry, Conjunction, Implication, Disjunction, Quantification, Accounts, AreApart, Fits, Fitting, IsAccounted, IsNamed, Names, NamesOnly, RetiresOwn}
+use Rattle.operations.specs.Entries.{Entry, Conjunction, Implication, Disjunction, Quantification, Accounts, AreApart, Fits, Fitting}
+use Rattle.operations.specs.Entries.{IsAccounted, IsNamed, Names, NamesOnly, RetiresOwn}
 use Rattle.apply_and.specs.Cache.{entries as conjunctions, entry_of as conjunction_entry}
 use Rattle.imply.specs.Cache.{entries as implications, entry_of as implication_entry}
 use Rattle.quantify.specs.declared.exists_cache.ExistsCache.{ExistsCache}
@@ -36,7 +38,8 @@ kind_of (Quantification u level w) = quantifies
 abbrev pub AreOf : Kind → List Entry → Type 0
 AreOf kind listed = (entry : Entry) → Contains listed entry → kind_of entry ≡ kind
 
-pub all_of : {X : Type 0} (entry_of : X → Entry) (kind : Kind) → ((x : X) → kind_of (entry_of x) ≡ kind) → (xs : List X) → AreOf kind (map entry_of xs)
+pub all_of : {X : Type 0} (entry_of : X → Entry) (kind : Kind) → ((x : X) → kind_of (entry_of x) ≡ kind) → (xs : List X)
+    → AreOf kind (map entry_of xs)
 all_of entry_of kind is [] entry there = absurd (omega (arith, there.1))
 all_of entry_of kind is (x ∷ xs) entry (zero, small, at) = subst (λ (e : Entry). kind_of e ≡ kind) at (is x)
 all_of entry_of kind is (x ∷ xs) entry (suc k, small, at) = all_of entry_of kind is xs entry (k, omega (arith, small), at)
@@ -101,7 +104,8 @@ pub record AreParts (ands one rest : List Entry) : Type 0 where
   pub second : AreOf implies one
   pub third : AreUnnamed rest
 
-module _ {S : Type 0} (table : TableState S) (ands one rest : List Entry) (parts : AreParts ands one rest) (fits : Fits table (ands ++ (one ++ rest))) where
+module _ {S : Type 0} (table : TableState S) (ands one rest : List Entry) (parts : AreParts ands one rest)
+    (fits : Fits table (ands ++ (one ++ rest))) where
   -- no conjunction names the clause of an implication
   apart_kinds : (id : ℕ) → IsNamed ands id → IsNamed one id → ⊥
   apart_kinds id first second =
@@ -125,7 +129,8 @@ module _ {S : Type 0} (table : TableState S) (ands one rest : List Entry) (parts
 pub named_in : (few more : List Entry) → AreIn few more → (id : ℕ) → IsNamed few id → IsNamed more id
 named_in few more within id named = (named.0, within named.0 named.1, named.2)
 
-pub retires_in : {S : Type 0} (old new : TableState S) (few more : List Entry) → AreIn few more → RetiresOwn old new few → RetiresOwn old new more
+pub retires_in : {S : Type 0} (old new : TableState S) (few more : List Entry) → AreIn few more → RetiresOwn old new few
+    → RetiresOwn old new more
 retires_in old new few more within retires = record {
   each = λ id gone. elim (retires.each id gone) [
     | inl was ↦ inl was
@@ -136,7 +141,8 @@ retires_in old new few more within retires = record {
   ];
 }
 
-pub names_beside : (before after others : List Entry) (old new : State) → NamesOnly before after old new → NamesOnly (before ++ others) (after ++ others) old new
+pub names_beside : (before after others : List Entry) (old new : State) → NamesOnly before after old new
+    → NamesOnly (before ++ others) (after ++ others) old new
 names_beside before after others old new names = record {
   each = λ entry there. elim (Contains-append_cases after others entry there) [
     | inl own ↦ elim (names.each entry own) [
@@ -147,7 +153,8 @@ names_beside before after others old new names = record {
   ];
 }
 
-pub names_in : (before more after less : List Entry) (old new : State) → AreIn before more → AreIn less after → NamesOnly before after old new → NamesOnly more less old new
+pub names_in : (before more after less : List Entry) (old new : State) → AreIn before more → AreIn less after
+    → NamesOnly before after old new → NamesOnly more less old new
 names_in before more after less old new within also names = record {
   each = λ entry there. elim (names.each entry (also entry there)) [
     | inl was ↦ inl (within entry was)
@@ -157,11 +164,15 @@ names_in before more after less old new within also names = record {
 
 -- entries that name no clause came anew, or not
 pub names_unnamed : (before after : List Entry) (old new : State) → AreUnnamed after → NamesOnly before after old new
-names_unnamed before after old new none = record { each = λ entry there. inr (λ id names. absurd (names_none entry id (none entry there) names)) }
+names_unnamed before after old new none = record {
+  each = λ entry there. inr
+      (λ id names. absurd (names_none entry id (none entry there) names));
+}
 
 -- One call after another, and one that neither keeps an entry nor retires a clause.
 module _ {S : Type 0} where
-  pub keeps_further : (old mid new : TableState S) (first second third : List Entry) (error : Option TableError) → Extends old mid → Extends mid new
+  pub keeps_further : (old mid new : TableState S) (first second third : List Entry) (error : Option TableError) → Extends old mid
+      → Extends mid new
       → KeepsEntries old mid first second None → KeepsEntries mid new second third error → KeepsEntries old new first third error
   keeps_further old mid new first second third error extends again before more = record {
     fits = more.fits;
@@ -188,20 +199,24 @@ module _ {S : Type 0} where
     };
   }
 
-  pub keeps_handed : {T : Type 0} (old new : TableState S) (before after : List Entry) (r : Result T TableError) (came : TableError) → IsErrAnd r (λ e. e ≡ came) → KeepsEntries old new before after (Some came)
+  pub keeps_handed : {T : Type 0} (old new : TableState S) (before after : List Entry) (r : Result T TableError) (came : TableError)
+      → IsErrAnd r (λ e. e ≡ came) → KeepsEntries old new before after (Some came)
       → KeepsEntries old new before after (error_of r)
   keeps_handed old new before after r came is keeps = subst (KeepsEntries old new before after) (sym (error_handed r came is)) keeps
 
-  pub keeps_all : Fitting S → (old new : TableState S) (listed : List Entry) (error : Option TableError) → IsSound old → (IsWhole error → IsSound new) → Extends old new → new.retired ≡ old.retired → Fits old listed
+  pub keeps_all : Fitting S → (old new : TableState S) (listed : List Entry) (error : Option TableError) → IsSound old
+      → (IsWhole error → IsSound new) → Extends old new → new.retired ≡ old.retired → Fits old listed
       → KeepsEntries old new listed listed error
   keeps_all fitting old new listed error sound still extends same fits = record {
-    fits = λ whole. fitting.kept old new listed sound (still whole) extends fits (λ id named gone. fits.unretired id named (subst (λ (ids : List ℕ). Contains ids id) same gone));
+    fits = λ whole. fitting.kept old new listed sound (still whole) extends fits
+        (λ id named gone. fits.unretired id named (subst (λ (ids : List ℕ). Contains ids id) same gone));
     named = λ whole. record { each = λ entry there. inl there };
     retires = record { each = λ id gone. inl (subst (λ (ids : List ℕ). Contains ids id) same gone) };
   }
 
 -- A conjunction, an implication and a quantification, each over all caches.
-pub caches_parts : (caches : Caches) → AreParts (conjunctions caches.ands) (implications caches.implications) (both_caches caches.quantifications caches.ors)
+pub caches_parts : (caches : Caches) → AreParts (conjunctions caches.ands) (implications caches.implications)
+    (both_caches caches.quantifications caches.ors)
 caches_parts caches = record {
   first = all_of conjunction_entry conjoins (λ x. refl) caches.ands.results.entries;
   second = all_of implication_entry implies (λ x. refl) caches.implications.results.entries;
@@ -209,61 +224,83 @@ caches_parts caches = record {
 }
 
 -- the entries of one cache fit by themselves
-module _ {S : Type 0} (fitting : Fitting S) (table : TableState S) (ands one rest : List Entry) (fits : Fits table (ands ++ (one ++ rest))) where
+module _ {S : Type 0} (fitting : Fitting S) (table : TableState S) (ands one rest : List Entry)
+    (fits : Fits table (ands ++ (one ++ rest))) where
   pub conjunctions_fit : Fits table ands
-  conjunctions_fit = fitting.fewer table ands (ands ++ (one ++ rest)) (λ entry there. Contains-append_left ands (one ++ rest) entry there) fits
+  conjunctions_fit = fitting.fewer table ands (ands ++ (one ++ rest))
+      (λ entry there. Contains-append_left ands (one ++ rest) entry there) fits
 
   pub implications_fit : Fits table one
-  implications_fit = fitting.fewer table one (ands ++ (one ++ rest)) (λ entry there. Contains-append_right ands (one ++ rest) entry (Contains-append_left one rest entry there)) fits
+  implications_fit = fitting.fewer table one (ands ++ (one ++ rest))
+      (λ entry there. Contains-append_right ands (one ++ rest) entry (Contains-append_left one rest entry there)) fits
 
   pub quantifications_fit : Fits table rest
-  quantifications_fit = fitting.fewer table rest (ands ++ (one ++ rest)) (λ entry there. Contains-append_right ands (one ++ rest) entry (Contains-append_right one rest entry there)) fits
+  quantifications_fit = fitting.fewer table rest (ands ++ (one ++ rest))
+      (λ entry there. Contains-append_right ands (one ++ rest) entry (Contains-append_right one rest entry there)) fits
 
-module _ {S T : Type 0} (fitting : Fitting S) (old new : TableState S) (ands one rest : List Entry) (parts : AreParts ands one rest) (fits : Fits old (ands ++ (one ++ rest))) (result : Result T TableError) where
-  pub and_keeps : (after : List Entry) → ((others : List Entry) → Fits old (ands ++ others) → AreApart ands others → UnlessTorn result (Fits new (after ++ others) × AreApart after others))
-      → UnlessTorn result (NamesOnly ands after old.book.state new.book.state) → RetiresOwn old new ands → KeepsEntries old new (ands ++ (one ++ rest)) (after ++ (one ++ rest)) (error_of result)
+module _ {S T : Type 0} (fitting : Fitting S) (old new : TableState S) (ands one rest : List Entry) (parts : AreParts ands one rest)
+    (fits : Fits old (ands ++ (one ++ rest))) (result : Result T TableError) where
+  pub and_keeps : (after : List Entry) → ((others : List Entry) → Fits old (ands ++ others) → AreApart ands others
+      → UnlessTorn result (Fits new (after ++ others) × AreApart after others))
+      → UnlessTorn result (NamesOnly ands after old.book.state new.book.state) → RetiresOwn old new ands
+      → KeepsEntries old new (ands ++ (one ++ rest)) (after ++ (one ++ rest)) (error_of result)
   and_keeps after beside named retires = record {
     fits = λ whole. (beside (one ++ rest) fits (conjunctions_apart old ands one rest parts fits) (whole_error result whole)).0;
     named = λ whole. names_beside ands after (one ++ rest) old.book.state new.book.state (named (whole_error result whole));
     retires = retires_in old new ands (ands ++ (one ++ rest)) (λ entry there. Contains-append_left ands (one ++ rest) entry there) retires;
   }
 
-  pub implication_keeps : (after : List Entry) → ((others : List Entry) → Fits old (one ++ others) → AreApart one others → UnlessTorn result (Fits new (after ++ others) × AreApart after others))
-      → UnlessTorn result (NamesOnly one after old.book.state new.book.state) → RetiresOwn old new one → KeepsEntries old new (ands ++ (one ++ rest)) (ands ++ (after ++ rest)) (error_of result)
+  pub implication_keeps : (after : List Entry) → ((others : List Entry) → Fits old (one ++ others) → AreApart one others
+      → UnlessTorn result (Fits new (after ++ others) × AreApart after others))
+      → UnlessTorn result (NamesOnly one after old.book.state new.book.state) → RetiresOwn old new one
+      → KeepsEntries old new (ands ++ (one ++ rest)) (ands ++ (after ++ rest)) (error_of result)
   implication_keeps after beside named retires = record {
     fits = λ whole.
         fitting.fewer new (ands ++ (after ++ rest)) (after ++ (ands ++ rest)) (exchanged ands after rest)
-        (beside (ands ++ rest) (fitting.fewer old (one ++ (ands ++ rest)) (ands ++ (one ++ rest)) (exchanged one ands rest) fits) (implications_apart old ands one rest parts fits) (whole_error result whole)).0;
+        (beside (ands ++ rest) (fitting.fewer old (one ++ (ands ++ rest)) (ands ++ (one ++ rest)) (exchanged one ands rest) fits)
+        (implications_apart old ands one rest parts fits) (whole_error result whole)).0;
     named = λ whole.
-        names_in (one ++ (ands ++ rest)) (ands ++ (one ++ rest)) (after ++ (ands ++ rest)) (ands ++ (after ++ rest)) old.book.state new.book.state (exchanged one ands rest) (exchanged ands after rest)
+        names_in (one ++ (ands ++ rest)) (ands ++ (one ++ rest)) (after ++ (ands ++ rest)) (ands
+        ++ (after ++ rest)) old.book.state new.book.state (exchanged one ands rest) (exchanged ands after rest)
         (names_beside one after (ands ++ rest) old.book.state new.book.state (named (whole_error result whole)));
-    retires = retires_in old new one (ands ++ (one ++ rest)) (λ entry there. Contains-append_right ands (one ++ rest) entry (Contains-append_left one rest entry there)) retires;
+    retires = retires_in old new one (ands ++ (one ++ rest)) (λ entry there. Contains-append_right ands (one
+        ++ rest) entry (Contains-append_left one rest entry there)) retires;
   }
 
-  pub quantification_keeps : (after : List Entry) → AreUnnamed after → ((others : List Entry) → Fits old (rest ++ others) → UnlessTorn result (Fits new (after ++ others))) → new.retired ≡ old.retired
+  pub quantification_keeps : (after : List Entry) → AreUnnamed after
+      → ((others : List Entry) → Fits old (rest ++ others) → UnlessTorn result (Fits new (after ++ others))) → new.retired ≡ old.retired
       → KeepsEntries old new (ands ++ (one ++ rest)) (ands ++ (one ++ after)) (error_of result)
   quantification_keeps after none beside same = record {
     fits = λ whole.
         fitting.fewer new (ands ++ (one ++ after)) (after ++ (ands ++ one)) (last_first ands one after)
-        (beside (ands ++ one) (fitting.fewer old (rest ++ (ands ++ one)) (ands ++ (one ++ rest)) (first_last ands one rest) fits) (whole_error result whole));
+        (beside (ands ++ one) (fitting.fewer old (rest ++ (ands ++ one)) (ands ++ (one ++ rest)) (first_last ands one rest) fits)
+        (whole_error result whole));
     named = λ whole.
-        names_in (rest ++ (ands ++ one)) (ands ++ (one ++ rest)) (after ++ (ands ++ one)) (ands ++ (one ++ after)) old.book.state new.book.state (first_last ands one rest) (last_first ands one after)
+        names_in (rest ++ (ands ++ one)) (ands ++ (one ++ rest)) (after ++ (ands ++ one)) (ands
+        ++ (one ++ after)) old.book.state new.book.state (first_last ands one rest) (last_first ands one after)
         (names_beside rest after (ands ++ one) old.book.state new.book.state (names_unnamed rest after old.book.state new.book.state none));
     retires = record { each = λ id gone. inl (subst (λ (ids : List ℕ). Contains ids id) same gone) };
   }
 
 -- No clause is lost beside other entries, and in another order.
 module _ {S : Type 0} (old new : TableState S) where
-  accounted_in : (table : TableState S) (few more : List Entry) → AreIn few more → (id : ℕ) → IsAccounted table few id → IsAccounted table more id
-  accounted_in table few more within id accounted = elim accounted [ inl gone ↦ inl gone | inr named ↦ inr (named_in few more within id named) ]
+  accounted_in : (table : TableState S) (few more : List Entry) → AreIn few more → (id : ℕ) → IsAccounted table few id
+      → IsAccounted table more id
+  accounted_in table few more within id accounted = elim accounted [
+    | inl gone ↦ inl gone
+    | inr named ↦ inr
+        (named_in few more within id named)
+  ]
 
-  pub accounts_in : (before more after less : List Entry) → AreIn more before → AreIn after less → Accounts old new before after → Accounts old new more less
+  pub accounts_in : (before more after less : List Entry) → AreIn more before → AreIn after less → Accounts old new before after
+      → Accounts old new more less
   accounts_in before more after less within also accounts = record {
     still = λ id accounted. accounted_in new after less also id (accounts.still id (accounted_in old more before within id accounted));
     added = λ id above own. accounted_in new after less also id (accounts.added id above own);
   }
 
-  pub accounts_beside : (before after others : List Entry) → Accounts old new before after → Accounts old new (before ++ others) (after ++ others)
+  pub accounts_beside : (before after others : List Entry) → Accounts old new before after
+      → Accounts old new (before ++ others) (after ++ others)
   accounts_beside before after others accounts = record {
     still = λ id accounted. elim accounted [
       | inl gone ↦ widen id (accounts.still id (inl gone))
@@ -276,14 +313,18 @@ module _ {S : Type 0} (old new : TableState S) where
   }
     where
       widen : (id : ℕ) → IsAccounted new after id → IsAccounted new (after ++ others) id
-      widen id accounted = accounted_in new after (after ++ others) (λ entry there. Contains-append_left after others entry there) id accounted
+      widen id accounted = accounted_in new after (after ++ others)
+          (λ entry there. Contains-append_left after others entry there) id accounted
 
-  pub implication_accounts : (ands one rest after : List Entry) → Accounts old new one after → Accounts old new (ands ++ (one ++ rest)) (ands ++ (after ++ rest))
+  pub implication_accounts : (ands one rest after : List Entry) → Accounts old new one after
+      → Accounts old new (ands ++ (one ++ rest)) (ands ++ (after ++ rest))
   implication_accounts ands one rest after accounts =
-      accounts_in (one ++ (ands ++ rest)) (ands ++ (one ++ rest)) (after ++ (ands ++ rest)) (ands ++ (after ++ rest)) (exchanged ands one rest) (exchanged after ands rest)
+      accounts_in (one ++ (ands ++ rest)) (ands ++ (one ++ rest)) (after ++ (ands ++ rest)) (ands
+      ++ (after ++ rest)) (exchanged ands one rest) (exchanged after ands rest)
       (accounts_beside one after (ands ++ rest) accounts)
 
-  pub quantification_accounts : (ands one rest after : List Entry) → AreUnnamed rest → IsSound old → new.retired ≡ old.retired → AddsNone old new
+  pub quantification_accounts : (ands one rest after : List Entry) → AreUnnamed rest → IsSound old → new.retired ≡ old.retired
+      → AddsNone old new
       → Accounts old new (ands ++ (one ++ rest)) (ands ++ (one ++ after))
   quantification_accounts ands one rest after unnamed sound same none = record {
     still = λ id accounted. elim accounted [
@@ -291,7 +332,11 @@ module _ {S : Type 0} (old new : TableState S) where
       | inr named ↦ elim (Contains-append_cases ands (one ++ rest) named.0 named.1) [
         | inl first ↦ inr (named.0, Contains-append_left ands (one ++ after) named.0 first, named.2)
         | inr other ↦ elim (Contains-append_cases one rest named.0 other) [
-          | inl second ↦ inr (named.0, Contains-append_right ands (one ++ after) named.0 (Contains-append_left one after named.0 second), named.2)
+          | inl second ↦ inr (
+            named.0,
+            Contains-append_right ands (one ++ after) named.0 (Contains-append_left one after named.0 second),
+            named.2,
+          )
           | inr last ↦ absurd (names_none named.0 id (unnamed named.0 last) named.2)
         ]
       ]

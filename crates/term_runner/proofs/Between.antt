@@ -1,5 +1,6 @@
 -- A run between two moves of its plan.
-use Rattle.std.proofs.Common.{◌≡◌, ℕ, zero, suc, ◌+◌, ◌<◌, ◌≤◌, List, [], ◌∷◌, take, drop, length, reverse, Option, None, Some, refl, sym, ap, ◌∙◌, subst, arith}
+use Rattle.std.proofs.Common.{◌≡◌, ℕ, zero, suc, ◌+◌, ◌<◌, ◌≤◌, List, [], ◌∷◌, take, drop, length, reverse, Option, None, Some, refl, sym}
+use Rattle.std.proofs.Common.{ap, ◌∙◌, subst, arith}
 use Rattle.std.specs.List.{slice_get}
 use Rattle.std.specs.Option.{option_and_then}
 use Rattle.cnf_base.specs.Formula.{Formula}
@@ -8,24 +9,26 @@ use Rattle.node_table.specs.declared.node.Node.{Node}
 use Rattle.node_table.specs.Diagram.{Graph}
 use Rattle.schedule_plan.specs.declared.plan.Move.{Move}
 use Rattle.schedule_plan.specs.Plan.{Stage, after_move, after_moves, no_stage}
-use Rattle.term_runner.specs.declared.held.Held.{Held}
+use Rattle.term_runner.specs.declared.held.HeldTerm.{HeldTerm}
 use Rattle.term_runner.specs.Held.{AreHeld, AreKept, IsAt}
 
 -- The moves up to here lead to the stage, those from this one on lead where the whole plan does, and the stack and the
 -- trail are the stage's.
-pub record IsBetween (formula : Formula) (moves : List Move) (i : ℕ) (graph : Graph) (live : Live) (stack : List Held) (trail : List (ℕ × Node)) : Type 0 where
+pub record IsBetween (formula : Formula) (moves : List Move) (i : ℕ) (graph : Graph) (live : Live) (stack : List HeldTerm)
+    (trail : List (ℕ × Node)) : Type 0 where
   pub stage : Stage
   pub front : after_moves formula no_stage (take i moves) ≡ Some stage
   pub rest : after_moves formula stage (drop i moves) ≡ after_moves formula no_stage moves
   pub at : IsAt formula graph live stack trail stage
 
-pub at_first : (formula : Formula) (moves : List Move) (graph : Graph) (live : Live) (stack : List Held) (trail : List (ℕ × Node)) → stack ≡ [] → trail ≡ [] → IsBetween formula moves 0 graph live stack trail
+pub at_first : (formula : Formula) (moves : List Move) (graph : Graph) (live : Live) (stack : List HeldTerm) (trail : List (ℕ × Node))
+    → stack ≡ [] → trail ≡ [] → IsBetween formula moves 0 graph live stack trail
 at_first formula moves graph live stack trail empty none = record {
   stage = no_stage;
   front = refl;
   rest = refl;
   at = record {
-    held = subst (λ (s : List Held). AreHeld formula graph live (reverse s) []) (sym empty) tt;
+    held = subst (λ (s : List HeldTerm). AreHeld formula graph live (reverse s) []) (sym empty) tt;
     kept = subst (λ (t : List (ℕ × Node)). AreKept formula graph (reverse t) []) (sym none) tt;
   };
 }
@@ -53,18 +56,23 @@ pub record IsNext (formula : Formula) (moves : List Move) (i : ℕ) (stage : Sta
   pub is : after_move formula stage step ≡ Some next
   pub rest : after_moves formula next (drop (i + 1) moves) ≡ Some last
 
-next_of : (formula : Formula) (moves : List Move) (i : ℕ) (stage last : Stage) (step : Move) → slice_get moves i ≡ Some step → after_moves formula stage (drop i moves) ≡ Some last → IsNext formula moves i stage step last
+next_of : (formula : Formula) (moves : List Move) (i : ℕ) (stage last : Stage) (step : Move) → slice_get moves i ≡ Some step
+    → after_moves formula stage (drop i moves) ≡ Some last → IsNext formula moves i stage step last
 next_of formula moves i stage last step at reached =
-    go (after_move formula stage step) refl (subst (λ (ms : List Move). after_moves formula stage ms ≡ Some last) (move_at moves i step at) reached)
+    go (after_move formula stage step) refl (subst (λ (ms : List Move). after_moves formula stage ms
+    ≡ Some last) (move_at moves i step at) reached)
   where
-    go : (o : Option Stage) → after_move formula stage step ≡ o → option_and_then (λ later. after_moves formula later (drop (i + 1) moves)) o ≡ Some last → IsNext formula moves i stage step last
+    go : (o : Option Stage) → after_move formula stage step ≡ o → option_and_then
+        (λ later. after_moves formula later (drop (i + 1) moves)) o ≡ Some last → IsNext formula moves i stage step last
     go None is e = cc
     go (Some next) is e = record { next = next; is = is; rest = e }
 
 -- so it is where the plan is possible
-pub next_at : (formula : Formula) (moves : List Move) (i : ℕ) (graph : Graph) (live : Live) (stack : List Held) (trail : List (ℕ × Node)) (last : Stage) (step : Move) → after_moves formula no_stage moves ≡ Some last → slice_get moves i ≡ Some step
+pub next_at : (formula : Formula) (moves : List Move) (i : ℕ) (graph : Graph) (live : Live) (stack : List HeldTerm)
+    (trail : List (ℕ × Node)) (last : Stage) (step : Move) → after_moves formula no_stage moves ≡ Some last → slice_get moves i ≡ Some step
     → (between : IsBetween formula moves i graph live stack trail) → IsNext formula moves i between.stage step last
-next_at formula moves i graph live stack trail last step reached at between = next_of formula moves i between.stage last step at (between.rest ∙ reached)
+next_at formula moves i graph live stack trail last step reached at between = next_of formula moves i between.stage last step at
+    (between.rest ∙ reached)
 
 drop_all : (moves : List Move) (i : ℕ) → length moves ≤ i → drop i moves ≡ []
 drop_all [] zero large = refl
@@ -73,11 +81,13 @@ drop_all (move ∷ moves) zero large = absurd (omega (arith, large))
 drop_all (move ∷ moves) (suc i) large = drop_all moves i (omega (arith, large))
 
 -- at the end the stage is the plan's last
-pub at_last : (formula : Formula) (moves : List Move) (i : ℕ) (graph : Graph) (live : Live) (stack : List Held) (trail : List (ℕ × Node)) (last : Stage) → length moves ≤ i → after_moves formula no_stage moves ≡ Some last
+pub at_last : (formula : Formula) (moves : List Move) (i : ℕ) (graph : Graph) (live : Live) (stack : List HeldTerm)
+    (trail : List (ℕ × Node)) (last : Stage) → length moves ≤ i → after_moves formula no_stage moves ≡ Some last
     → IsBetween formula moves i graph live stack trail → IsAt formula graph live stack trail last
 at_last formula moves i graph live stack trail last large reached between =
     subst (IsAt formula graph live stack trail)
-    (inside between.stage last ((λ k. after_moves formula between.stage (sym (drop_all moves i large) k)) ∙ between.rest ∙ reached)) between.at
+    (inside between.stage last ((λ k. after_moves formula between.stage (sym (drop_all moves i large) k)) ∙ between.rest
+    ∙ reached)) between.at
   where
     inside : (s t : Stage) → Some s ≡ Some t → s ≡ t
     inside s t e = cc

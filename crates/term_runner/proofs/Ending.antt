@@ -1,5 +1,6 @@
 -- How a run ends, by what its moves led to and by the flush.
-use Rattle.std.proofs.Common.{◌≡◌, ◌≢◌, ◌≤◌, ℕ, Bool, true, false, ℤ, List, length, Option, None, Some, Result, Ok, Err, refl, sym, ap, ◌∙◌, subst, arith, inl, inr}
+use Rattle.std.proofs.Common.{◌≡◌, ◌≢◌, ◌≤◌, ℕ, Bool, true, false, ℤ, List, length, Option, None, Some, Result, Ok, Err, refl, sym, ap, ◌∙◌}
+use Rattle.std.proofs.Common.{subst, arith, inl, inr}
 use Rattle.std.specs.Prelude.{IsTrue, IfOk}
 use Rattle.std.specs.List.{list_all}
 use Rattle.cnf_base.specs.Formula.{Formula}
@@ -24,11 +25,13 @@ use Rattle.term_runner.specs.Ends.{Ends, Says, Shows, outcome_of}
 use Rattle.term_runner.specs.Opened.{IsFlushed, Leads}
 
 -- what the bytes of a proof are
-pub written_of : (clauses : List (List ℤ)) (tells : Bool) (channel : Channel) (state : State) → IsProofOf clauses tells channel state → IsTrue tells → IsWritten clauses channel.written state
+pub written_of : (clauses : List (List ℤ)) (tells : Bool) (channel : Channel) (state : State) → IsProofOf clauses tells channel state
+    → IsTrue tells → IsWritten clauses channel.written state
 written_of clauses tells channel state proof t = record { steps = proof.steps; derived = proof.derived; text = proof.text t }
 
 -- a fact of each outcome that the moves may come to
-pub by_outcome : (P : Outcome → Type 0) (found : Result (Option (List Bool)) TableError) → (found ≡ Ok None → P Unsat) → ((values : List Bool) → found ≡ Ok (Some values) → P (Sat values))
+pub by_outcome : (P : Outcome → Type 0) (found : Result (Option (List Bool)) TableError) → (found ≡ Ok None → P Unsat)
+    → ((values : List Bool) → found ≡ Ok (Some values) → P (Sat values))
     → (found ≡ Err table.NodeLimit → P NodeLimit) → (found ≡ Err table.IdLimit → P IdLimit) → IfOk (outcome_of found) P
 by_outcome P (Ok None) unsat sat nodes numbers = unsat refl
 by_outcome P (Ok (Some values)) unsat sat nodes numbers = sat values refl
@@ -53,15 +56,18 @@ module _ (tells : Bool) (before mid after : Channel) (formula : Formula) (order 
   -- what stands of a run before the flush
   pub record Shown (run : Run) : Type 0 where
     pub says : Says formula order moves limits run.outcome
-    pub certain : (width price : ℕ) → HasWidth formula order moves width → IsMovePrice formula.vars limits.cache width price → AreAmple limits formula moves width price → IsDecision run.outcome
+    pub certain : (width price : ℕ) → HasWidth formula order moves width → IsMovePrice formula.vars limits.cache width price
+        → AreAmple limits formula moves width price → IsDecision run.outcome
     pub shows : IsTrue tells → Shows formula limits mid.written run.outcome
     pub last : IsTrue tells → LeadsTo formula limits mid.written run.last_id
-    pub price : (width price : ℕ) → HasWidth formula order moves width → IsMovePrice formula.vars limits.cache width price → IsTrue tells → IsProofOfKind formula.clauses (IsPaidFor formula limits moves width price) mid.written
+    pub price : (width price : ℕ) → HasWidth formula order moves width → IsMovePrice formula.vars limits.cache width price → IsTrue tells
+        → IsProofOfKind formula.clauses (IsPaidFor formula limits moves width price) mid.written
     pub tautologies : IsTrue (list_all is_tautology formula.clauses) → mid.written ≡ before.written
     pub name : mid.name ≡ before.name
     pub unfailed : mid.faults ≡ before.faults
 
-  stays : (run : Run) → Shown run → after.written ≡ mid.written → after.name ≡ mid.name → after.faults ≡ mid.faults → (IsTrue tells → after.flushed ≡ length after.written)
+  stays : (run : Run) → Shown run → after.written ≡ mid.written → after.name ≡ mid.name → after.faults ≡ mid.faults
+      → (IsTrue tells → after.flushed ≡ length after.written)
       → Ends tells before after formula order moves limits (Ok run)
   stays run shown written name unfailed flushed = record {
     says = shown.says;
@@ -70,7 +76,8 @@ module _ (tells : Bool) (before mid after : Channel) (formula : Formula) (order 
     last = λ t. subst (λ (b : List ℕ). LeadsTo formula limits b run.last_id) (sym written) (shown.last t);
     whole = λ _ t. subst (λ (b : List ℕ). IsProof formula limits b) (sym written) (shown.last t).proof;
     so_far = λ t. inl (subst (λ (b : List ℕ). IsProof formula limits b) (sym written) (shown.last t).proof);
-    price = λ width price has paid t. inl (subst (λ (b : List ℕ). IsProofOfKind formula.clauses (IsPaidFor formula limits moves width price) b) (sym written) (shown.price width price has paid t));
+    price = λ width price has paid t. inl (subst (λ (b : List ℕ). IsProofOfKind formula.clauses
+        (IsPaidFor formula limits moves width price) b) (sym written) (shown.price width price has paid t));
     flushed = λ _ t. flushed t;
     fault = λ e. cc;
     unfailed = λ _. unfailed ∙ shown.unfailed;
@@ -79,7 +86,8 @@ module _ (tells : Bool) (before mid after : Channel) (formula : Formula) (order 
     faults = omega (arith, unfailed, shown.unfailed);
   }
 
-  fails : (run : Run) → Shown run → after.written ≡ mid.written → after.name ≡ mid.name → mid.faults ≤ after.faults → Rose mid.faults after.faults
+  fails : (run : Run) → Shown run → after.written ≡ mid.written → after.name ≡ mid.name → mid.faults ≤ after.faults
+      → Rose mid.faults after.faults
       → Ends tells before after formula order moves limits (Err WriteFault)
   fails run shown written name faults rose = record {
     says = tt;
@@ -88,7 +96,8 @@ module _ (tells : Bool) (before mid after : Channel) (formula : Formula) (order 
     last = λ t. tt;
     whole = λ no t. absurd (no refl);
     so_far = λ t. inl (subst (λ (b : List ℕ). IsProof formula limits b) (sym written) (shown.last t).proof);
-    price = λ width price has paid t. inl (subst (λ (b : List ℕ). IsProofOfKind formula.clauses (IsPaidFor formula limits moves width price) b) (sym written) (shown.price width price has paid t));
+    price = λ width price has paid t. inl (subst (λ (b : List ℕ). IsProofOfKind formula.clauses
+        (IsPaidFor formula limits moves width price) b) (sym written) (shown.price width price has paid t));
     flushed = λ ok t. absurd (let e : false ≡ true = ok in cc);
     fault = λ e. omega (arith, rose, shown.unfailed);
     unfailed = λ no. absurd (no refl);
@@ -97,21 +106,37 @@ module _ (tells : Bool) (before mid after : Channel) (formula : Formula) (order 
     faults = omega (arith, faults, shown.unfailed);
   }
 
-  pub flushed_ends : (run : Run) (result : Result Run RunError) → IsFlushed tells mid after (Ok run) result → Shown run → Ends tells before after formula order moves limits result
+  pub flushed_ends : (run : Run) (result : Result Run RunError) → IsFlushed tells mid after (Ok run) result → Shown run
+      → Ends tells before after formula order moves limits result
   flushed_ends run result flushes shown = elim flushes.ends [
-    | inl same ↦ subst (λ (r : Result Run RunError). Ends tells before after formula order moves limits r) (sym same.0) (stays run shown flushes.written flushes.name same.2 same.1)
-    | inr broke ↦ subst (λ (r : Result Run RunError). Ends tells before after formula order moves limits r) (sym broke.0) (fails run shown flushes.written flushes.name flushes.faults broke.1)
+    | inl same ↦ subst (λ (r : Result Run RunError). Ends tells before after formula order moves limits r) (sym same.0)
+        (stays run shown flushes.written flushes.name same.2 same.1)
+    | inr broke ↦ subst (λ (r : Result Run RunError). Ends tells before after formula order moves limits r) (sym broke.0)
+        (fails run shown flushes.written flushes.name flushes.faults broke.1)
   ]
 
   module _ {S : Type 0} (book : Book S) where
-    proof_of : (found : Result Outcome RunError) → Leads tells before mid formula order moves limits book found → found ≢ Err WriteFault → IsTrue tells → IsProof formula limits mid.written
-    proof_of found leads whole t = record { state = book.state; written = written_of formula.clauses tells mid book.state (leads.proof whole) t; within = leads.within whole }
+    proof_of : (found : Result Outcome RunError) → Leads tells before mid formula order moves limits book found → found ≢ Err WriteFault
+        → IsTrue tells → IsProof formula limits mid.written
+    proof_of found leads whole t = record {
+      state = book.state;
+      written = written_of formula.clauses tells mid book.state
+          (leads.proof whole) t;
+      within = leads.within whole;
+    }
 
-    priced_of : (found : Result Outcome RunError) → Leads tells before mid formula order moves limits book found → found ≢ Err WriteFault → (width price : ℕ) → HasWidth formula order moves width → IsMovePrice formula.vars limits.cache width price → IsTrue tells → IsProofOfKind formula.clauses (IsPaidFor formula limits moves width price) mid.written
+    priced_of : (found : Result Outcome RunError) → Leads tells before mid formula order moves limits book found → found ≢ Err WriteFault
+        → (width price : ℕ) → HasWidth formula order moves width → IsMovePrice formula.vars limits.cache width price → IsTrue tells
+        → IsProofOfKind formula.clauses (IsPaidFor formula limits moves width price) mid.written
     priced_of found leads whole width price has paid t =
-        record { state = book.state; written = written_of formula.clauses tells mid book.state (leads.proof whole) t; within = leads.paid width price has paid whole }
+        record {
+          state = book.state;
+          written = written_of formula.clauses tells mid book.state (leads.proof whole) t;
+          within = leads.paid width price has paid whole;
+        }
 
-    pub outcome_shown : (outcome : Outcome) (last : ℕ) → Leads tells before mid formula order moves limits book (Ok outcome) → last ≡ book.state.top → Shown (record { outcome = outcome; last_id = last })
+    pub outcome_shown : (outcome : Outcome) (last : ℕ) → Leads tells before mid formula order moves limits book (Ok outcome) → last
+        ≡ book.state.top → Shown (record { outcome = outcome; last_id = last })
     unfolding proof_of
     outcome_shown outcome last leads top = record {
       says = leads.says;
@@ -125,7 +150,8 @@ module _ (tells : Bool) (before mid after : Channel) (formula : Formula) (order 
     }
 
     -- without an outcome nothing is flushed
-    pub failure_ends : (error : RunError) → Leads tells before mid formula order moves limits book (Err error) → Ends tells before mid formula order moves limits (Err error)
+    pub failure_ends : (error : RunError) → Leads tells before mid formula order moves limits book (Err error)
+        → Ends tells before mid formula order moves limits (Err error)
     failure_ends OutOfMemory leads = record {
       says = tt;
       certain = λ width price has paid ample. tt;
@@ -158,9 +184,11 @@ module _ (tells : Bool) (before mid after : Channel) (formula : Formula) (order 
     }
 
 -- the end where memory ran out before the moves
-pub nothing_ends : (tells : Bool) (before after : Channel) (formula : Formula) (order : List ℕ) (moves : List Move) (limits : Limits) → (IsTrue tells → IsProof formula limits after.written)
+pub nothing_ends : (tells : Bool) (before after : Channel) (formula : Formula) (order : List ℕ) (moves : List Move) (limits : Limits)
+    → (IsTrue tells → IsProof formula limits after.written)
     → ((width price : ℕ) → IsTrue tells → IsProofOfKind formula.clauses (IsPaidFor formula limits moves width price) after.written)
-    → after.written ≡ before.written → after.name ≡ before.name → after.faults ≡ before.faults → Ends tells before after formula order moves limits (Err OutOfMemory)
+    → after.written ≡ before.written → after.name ≡ before.name → after.faults ≡ before.faults
+    → Ends tells before after formula order moves limits (Err OutOfMemory)
 nothing_ends tells before after formula order moves limits whole within_price written name unfailed = record {
   says = tt;
   certain = λ width price has paid ample. tt;

@@ -1,5 +1,6 @@
 -- A reclamation leaves no more nodes than there are parts in hand at the move before it, or behind it.
-use Rattle.std.proofs.Common.{◌≡◌, ◌≤◌, ◌<◌, ◌⊎◌, ℕ, true, zero, suc, List, ◌∷◌, map, length, Some, Contains, is_some, refl, sym, ap, ◌∙◌, subst, arith, inl, inr}
+use Rattle.std.proofs.Common.{◌≡◌, ◌≤◌, ◌<◌, ◌⊎◌, ℕ, true, zero, suc, List, ◌∷◌, map, length, Some, Contains, is_some, refl, sym, ap, ◌∙◌}
+use Rattle.std.proofs.Common.{subst, arith, inl, inr}
 use Rattle.std.specs.FinMap as finmap
 use Rattle.std.proofs.lemmas.Bool.{cases_lt}
 use Rattle.cnf_base.specs.Formula.{Formula}
@@ -15,7 +16,8 @@ use Rattle.term_runner.proofs.InHand.{IsThere, left_part}
 use Rattle.term_runner.proofs.Listed.{differ_at, essential_at, function_at, functions_of, key_at, length-functions, listed, some_of}
 use Rattle.term_runner.proofs.Taking.{and_of, exists_of, push_of}
 
-module _ (law : Subfunctions) (canonical : Canonical) (formula : Formula) (order : List ℕ) (ordered : IsOrder order) (first last stage : Stage) (in_hand : (term : Term) → IsThere stage term → IsInHand first last term)
+module _ (law : Subfunctions) (canonical : Canonical) (formula : Formula) (order : List ℕ) (ordered : IsOrder order)
+    (first last stage : Stage) (in_hand : (term : Term) → IsThere stage term → IsInHand first last term)
     (left : ℕ) (were : WereLeft formula order stage left) where
   abbrev es : List (ℕ × Branch)
   es = finmap.entries were.graph.nodes
@@ -26,7 +28,8 @@ module _ (law : Subfunctions) (canonical : Canonical) (formula : Formula) (order
   part : (place : ℕ) → place < length es → IsPartInHand formula order first last (part_at (functions_of were.graph es) place)
   part place small =
       let found = some_of (branch_at were.graph (key_at es place)) (stands place small) in
-      subst (IsPartInHand formula order first last) (sym (function_at were.graph es place small)) (left_part formula order ordered stage left were law first last in_hand (key_at es place) found.0 found.1)
+      subst (IsPartInHand formula order first last) (sym (function_at were.graph es place small))
+      (left_part formula order ordered stage left were law first last in_hand (key_at es place) found.0 found.1)
 
   pub few_left : (width : ℕ) → HoldsAtMost formula order first last width → left ≤ width
   few_left width most = elim (cases_lt width left) [
@@ -34,13 +37,16 @@ module _ (law : Subfunctions) (canonical : Canonical) (formula : Formula) (order
     | inl many ↦
         let all = length-functions were.graph es in
         let count = finmap.len-entries were.graph.nodes in
-        let within : (place : ℕ) → place < length (functions_of were.graph es) → place < length es = λ place small. omega (arith, small, all) in
+        let within : (place : ℕ) → place < length (functions_of were.graph es) → place
+        < length es = λ place small. omega (arith, small, all) in
         absurd (most (record {
           parts = functions_of were.graph es;
           more = omega (arith, many, all, count, were.count);
           are = λ place small. part place (within place small);
-          essential = λ place small. essential_at canonical were.graph were.reduced es (finmap.entries_sorted were.graph.nodes) stands place (within place small);
-          differ = λ place other less small. differ_at canonical were.graph were.reduced es (finmap.entries_sorted were.graph.nodes) stands place other less (within other small);
+          essential = λ place small. essential_at canonical were.graph were.reduced es (finmap.entries_sorted were.graph.nodes) stands place
+              (within place small);
+          differ = λ place other less small. differ_at canonical were.graph were.reduced es
+              (finmap.entries_sorted were.graph.nodes) stands place other less (within other small);
         }))
   ]
 
@@ -61,7 +67,8 @@ pub result_is : (top : Term) (rest stack : List Term) (term : Term) → stack �
 result_is top rest stack term same is = subst (λ (s : List Term). IsResult s term) (sym same) is
 
 -- a term behind a move is in hand at it
-pub in_hand_behind : (formula : Formula) (before after : Stage) (step : Move) → after_move formula before step ≡ Some after → (term : Term) → IsThere after term → IsInHand before after term
+pub in_hand_behind : (formula : Formula) (before after : Stage) (step : Move) → after_move formula before step ≡ Some after → (term : Term)
+    → IsThere after term → IsInHand before after term
 in_hand_behind formula before after (Push i) leads term there =
     let push = push_of formula before after (Push i) i refl leads in
     elim there [
@@ -76,7 +83,8 @@ in_hand_behind formula before after And leads term there =
     elim there [
       | inl stacked ↦ elim (first_or _ conjoined.rest term (subst (λ (s : List Term). Contains s term) conjoined.after stacked)) [
         | inl is ↦ inr (inr (result_is _ conjoined.rest after.stack term conjoined.after is))
-        | inr was ↦ inl (subst (λ (s : List Term). Contains s term) (sym conjoined.before) (behind conjoined.other (conjoined.one ∷ conjoined.rest) term (behind conjoined.one conjoined.rest term was)))
+        | inr was ↦ inl (subst (λ (s : List Term). Contains s term) (sym conjoined.before)
+            (behind conjoined.other (conjoined.one ∷ conjoined.rest) term (behind conjoined.one conjoined.rest term was)))
       ]
       | inr kept ↦ inr (inl (subst (λ (t : List (ℕ × Term)). Contains (map (λ (k : ℕ × Term). k.1) t) term) conjoined.trail kept))
     ]
@@ -87,10 +95,12 @@ in_hand_behind formula before after (Exists x) leads term there =
     elim there [
       | inl stacked ↦ elim (first_or _ quantified.rest term (subst (λ (s : List Term). Contains s term) stack stacked)) [
         | inl is ↦ inr (inr (result_is _ quantified.rest after.stack term stack is))
-        | inr was ↦ inl (subst (λ (s : List Term). Contains s term) (sym quantified.stacked) (behind quantified.top quantified.rest term was))
+        | inr was ↦ inl (subst (λ (s : List Term). Contains s term) (sym quantified.stacked)
+            (behind quantified.top quantified.rest term was))
       ]
-      | inr kept ↦ elim (first_or quantified.top (map (λ (k : ℕ × Term). k.1) before.trail) term (subst (λ (t : List (ℕ × Term)). Contains (map (λ (k : ℕ × Term). k.1) t) term) trail kept)) [
-        | inl is ↦ inl (subst (λ (s : List Term). Contains s term) (sym quantified.stacked) (zero, omega arith, is))
-        | inr was ↦ inr (inl was)
-      ]
+      | inr kept ↦ elim (first_or quantified.top (map (λ (k : ℕ × Term). k.1) before.trail) term
+          (subst (λ (t : List (ℕ × Term)). Contains (map (λ (k : ℕ × Term). k.1) t) term) trail kept)) [
+            | inl is ↦ inl (subst (λ (s : List Term). Contains s term) (sym quantified.stacked) (zero, omega arith, is))
+            | inr was ↦ inr (inl was)
+          ]
     ]

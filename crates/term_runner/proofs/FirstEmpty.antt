@@ -1,5 +1,6 @@
 -- Where the first empty clause stands, and what a formula with one or without says.
-use Rattle.std.proofs.Common.{◌≡◌, ℕ, zero, suc, ◌<◌, Bool, true, false, List, [], ◌∷◌, ℤ, length, take, slice_index_or, refl, sym, ap, ◌∙◌, arith}
+use Rattle.std.proofs.Common.{◌≡◌, ℕ, zero, suc, ◌<◌, Bool, true, false, List, [], ◌∷◌, ℤ, length, take, slice_index_or, refl, sym, ap, ◌∙◌}
+use Rattle.std.proofs.Common.{arith}
 use Rattle.std.specs.Prelude.{if◌then◌else◌}
 use Rattle.std.proofs.lemmas.Bool.{or_parts, or_left, or_right, and_parts}
 use Rattle.cnf_base.specs.Truth.{Assignment, Satisfies, clause_holds}
@@ -14,7 +15,8 @@ further : (b : Bool) (n : ℕ) → b ≡ false → (if b then 1 else n) ≡ n
 further true n e = cc
 further false n e = refl
 
-pub first_at : (clauses : List (List ℤ)) (i : ℕ) → has_empty_clause (take i clauses) ≡ false → i < length clauses → slice_index_or clauses i [] ≡ []
+pub first_at : (clauses : List (List ℤ)) (i : ℕ) → has_empty_clause (take i clauses) ≡ false → i < length clauses
+    → slice_index_or clauses i [] ≡ []
     → (suc i ≡ first_empty clauses) × (has_empty_clause clauses ≡ true)
 first_at [] i before inside empty = absurd (omega (arith, inside))
 first_at (clause ∷ more) zero before inside empty =
@@ -26,7 +28,8 @@ first_at (clause ∷ more) (suc i) before inside empty =
     (ap suc later.0 ∙ sym (further (is_empty clause) (suc (first_empty more)) parts.0), or_right (is_empty clause) _ later.1)
 
 -- without an empty clause none is found
-pub full_at : (clauses : List (List ℤ)) (i : ℕ) → has_empty_clause clauses ≡ false → i < length clauses → slice_index_or clauses i [] ≡ [] → ⊥
+pub full_at : (clauses : List (List ℤ)) (i : ℕ) → has_empty_clause clauses ≡ false → i < length clauses → slice_index_or clauses i [] ≡ []
+    → ⊥
 full_at [] i none small is = omega (arith, small)
 full_at (clause ∷ more) zero none small is = let f : true ≡ false = sym (ap is_empty is) ∙ (or_parts (is_empty clause) _ none).0 in cc
 full_at (clause ∷ more) (suc i) none small is = full_at more i (or_parts (is_empty clause) _ none).1 (omega (arith, small)) is

@@ -1,6 +1,7 @@
 -- The unit that a move gives, and no clause lost: through calls one after another, at the start of a run, and where the
 -- retired clauses are deleted.
-use Rattle.std.proofs.Common.{◌≡◌, ◌⊎◌, ◌∙◌, ◌≤◌, ◌<◌, ℕ, Bool, true, false, List, [], ◌∷◌, reverse, Contains, None, Some, is_some, sym, ap, subst, arith, inl, inr}
+use Rattle.std.proofs.Common.{◌≡◌, ◌⊎◌, ◌∙◌, ◌≤◌, ◌<◌, ℕ, Bool, true, false, List, [], ◌∷◌, reverse, Contains, None, Some, is_some, sym, ap}
+use Rattle.std.proofs.Common.{subst, arith, inl, inr}
 use Rattle.std.specs.Prelude.{IsTrue}
 use Rattle.std.proofs.lemmas.Bool.{cases_lt}
 use Rattle.lrat_rules.specs.State.{clause_at}
@@ -13,14 +14,15 @@ use Rattle.host_io.specs.Channel.{Channel}
 use Rattle.operations.specs.Accounts.{none_whole}
 use Rattle.operations.specs.Entries.{Entry, Accounts, Fits, IsAccounted, IsNewJust, NamesOnly, RetiresOwn}
 use Rattle.term_runner.specs.Caches.{KeepsEntries}
-use Rattle.term_runner.specs.declared.held.Held.{Held}
+use Rattle.term_runner.specs.declared.held.HeldTerm.{HeldTerm}
 use Rattle.term_runner.specs.Held.{GivesUnit, HasUnits, IsUnitOf}
 use Rattle.term_runner.proofs.OwnUnits.{new_unit, no_clause, unit_own, within_top}
 use Rattle.term_runner.proofs.Replaced.{first_unit, free_after, later_unit, no_unit}
 
 module _ {S : Type 0} where
   -- an operand's unit, or one that was added since
-  pub of_two : (old new : TableState S) (u v : Held) (unit : Just) → (unit ≡ u.unit) ⊎ ((unit ≡ v.unit) ⊎ IsNewJust old.book.state new.book.state unit)
+  pub of_two : (old new : TableState S) (u v : HeldTerm) (unit : Just) → (unit ≡ u.unit)
+      ⊎ ((unit ≡ v.unit) ⊎ IsNewJust old.book.state new.book.state unit)
       → (unit ≡ u.unit) ⊎ ((unit ≡ v.unit) ⊎ ((id : ℕ) → unit ≡ Clause id → IsAddedTo new id))
       → (id : ℕ) → unit ≡ Clause id → IsUnitOf (v ∷ u ∷ []) id ⊎ ((old.book.state.top < id) × IsAddedTo new id)
   of_two old new u v unit given added id is = elim given [
@@ -43,8 +45,9 @@ module _ {S : Type 0} where
       second : unit ≡ v.unit → IsUnitOf (v ∷ u ∷ []) id
       second own = first_unit v (u ∷ []) id (sym own ∙ is)
 
-  pub of_one : (old new : TableState S) (u : Held) (unit : Just) → (unit ≡ u.unit) ⊎ IsNewJust old.book.state new.book.state unit
-      → (unit ≡ u.unit) ⊎ ((id : ℕ) → unit ≡ Clause id → IsAddedTo new id) → (id : ℕ) → unit ≡ Clause id → IsUnitOf (u ∷ []) id ⊎ ((old.book.state.top < id) × IsAddedTo new id)
+  pub of_one : (old new : TableState S) (u : HeldTerm) (unit : Just) → (unit ≡ u.unit) ⊎ IsNewJust old.book.state new.book.state unit
+      → (unit ≡ u.unit) ⊎ ((id : ℕ) → unit ≡ Clause id → IsAddedTo new id) → (id : ℕ) → unit ≡ Clause id → IsUnitOf (u ∷ []) id
+      ⊎ ((old.book.state.top < id) × IsAddedTo new id)
   of_one old new u unit given added id is = elim given [
     | inl own ↦ inl (first_unit u [] id (sym own ∙ is))
     | inr came ↦ elim added [
@@ -54,9 +57,12 @@ module _ {S : Type 0} where
   ]
 
   -- behind a call that loses no clause, one adds the unit alone and retires none
-  pub given_behind : (old mid new : TableState S) (before after : List Entry) (operands : List Held) (unit : Just) → Accounts old mid before after → RetiresOwn old mid before
-      → NamesOnly before after old.book.state mid.book.state → old.book.state.top ≤ mid.book.state.top → mid.book.state.top ≤ new.book.state.top → new.retired ≡ mid.retired
-      → ((id : ℕ) → IsAddedTo new id → IsAddedTo mid id ⊎ (unit ≡ Clause id)) → ((id : ℕ) → unit ≡ Clause id → IsUnitOf operands id ⊎ ((mid.book.state.top < id) × IsAddedTo new id))
+  pub given_behind : (old mid new : TableState S) (before after : List Entry) (operands : List HeldTerm) (unit : Just)
+      → Accounts old mid before after → RetiresOwn old mid before
+      → NamesOnly before after old.book.state mid.book.state → old.book.state.top ≤ mid.book.state.top → mid.book.state.top
+      ≤ new.book.state.top → new.retired ≡ mid.retired
+      → ((id : ℕ) → IsAddedTo new id → IsAddedTo mid id ⊎ (unit ≡ Clause id))
+      → ((id : ℕ) → unit ≡ Clause id → IsUnitOf operands id ⊎ ((mid.book.state.top < id) × IsAddedTo new id))
       → ((id : ℕ) → unit ≡ Clause id → IsAccounted new after id → ⊥) → GivesUnit old new before after operands unit
   given_behind old mid new before after operands unit accounts retires named less more same alone given own = record {
     retires = record { each = λ id gone. retires.each id (subst (λ (ids : List ℕ). Contains ids id) same gone) };
@@ -89,8 +95,10 @@ module _ {S : Type 0} where
   }
 
   -- behind a call that loses no clause, one that gives the unit
-  pub given_further : (old mid new : TableState S) (first second third : List Entry) (operands : List Held) (unit : Just) → Accounts old mid first second → RetiresOwn old new first
-      → NamesOnly first third old.book.state new.book.state → old.book.state.top ≤ mid.book.state.top → ((id : ℕ) → id ≤ mid.book.state.top → IsAddedTo new id → IsAddedTo mid id)
+  pub given_further : (old mid new : TableState S) (first second third : List Entry) (operands : List HeldTerm) (unit : Just)
+      → Accounts old mid first second → RetiresOwn old new first
+      → NamesOnly first third old.book.state new.book.state → old.book.state.top ≤ mid.book.state.top
+      → ((id : ℕ) → id ≤ mid.book.state.top → IsAddedTo new id → IsAddedTo mid id)
       → GivesUnit mid new second third operands unit → GivesUnit old new first third operands unit
   given_further old mid new first second third operands unit accounts retires named less was more = record {
     retires = retires;
@@ -108,40 +116,59 @@ module _ {S : Type 0} where
   }
 
   -- the unit of a conjunction of two terms
-  pub two_give : (old mid new : TableState S) (before after : List Entry) (u v : Held) (rest : List Held) (unit : Just) → IsSound old → IsSound mid → HasUnits old before (v ∷ u ∷ rest)
-      → KeepsEntries old mid before after None → Accounts old mid before after → old.book.state.top ≤ mid.book.state.top → mid.book.state.top ≤ new.book.state.top → new.retired ≡ mid.retired
-      → ((id : ℕ) → IsAddedTo new id → IsAddedTo mid id ⊎ (unit ≡ Clause id)) → (unit ≡ u.unit) ⊎ ((unit ≡ v.unit) ⊎ IsNewJust mid.book.state new.book.state unit)
-      → (unit ≡ u.unit) ⊎ ((unit ≡ v.unit) ⊎ ((id : ℕ) → unit ≡ Clause id → IsAddedTo new id)) → GivesUnit old new before after (v ∷ u ∷ []) unit
+  pub two_give : (old mid new : TableState S) (before after : List Entry) (u v : HeldTerm) (rest : List HeldTerm) (unit : Just)
+      → IsSound old → IsSound mid → HasUnits old before (v ∷ u ∷ rest)
+      → KeepsEntries old mid before after None → Accounts old mid before after → old.book.state.top ≤ mid.book.state.top
+      → mid.book.state.top ≤ new.book.state.top → new.retired ≡ mid.retired
+      → ((id : ℕ) → IsAddedTo new id → IsAddedTo mid id ⊎ (unit ≡ Clause id)) → (unit ≡ u.unit)
+      ⊎ ((unit ≡ v.unit) ⊎ IsNewJust mid.book.state new.book.state unit)
+      → (unit ≡ u.unit) ⊎ ((unit ≡ v.unit) ⊎ ((id : ℕ) → unit ≡ Clause id → IsAddedTo new id))
+      → GivesUnit old new before after (v ∷ u ∷ []) unit
   two_give old mid new before after u v rest unit sound still has keeps accounts less more same alone given added =
-      given_behind old mid new before after (v ∷ u ∷ []) unit accounts keeps.retires (keeps.named none_whole) less more same alone (of_two mid new u v unit given added)
-      (unit_own mid new after u.unit v.unit unit still (keeps.fits none_whole) same (λ id is. free id (later_unit v (u ∷ rest) id (first_unit u rest id is))) (λ id is. free id (first_unit v (u ∷ rest) id is)) given)
+      given_behind old mid new before after (v ∷ u ∷ []) unit accounts keeps.retires (keeps.named none_whole) less more same alone
+      (of_two mid new u v unit given added)
+      (unit_own mid new after u.unit v.unit unit still (keeps.fits none_whole) same
+      (λ id is. free id (later_unit v (u ∷ rest) id (first_unit u rest id is)))
+      (λ id is. free id (first_unit v (u ∷ rest) id is)) given)
     where
       free : (id : ℕ) → IsUnitOf (v ∷ u ∷ rest) id → IsAccounted mid after id → ⊥
       free id is = free_after old mid before after (v ∷ u ∷ rest) sound has keeps.retires (keeps.named none_whole) id is
 
   -- that of a node that a term implies
-  pub one_give : (old mid new : TableState S) (before after : List Entry) (u : Held) (unit : Just) → IsSound mid → ((id : ℕ) → u.unit ≡ Clause id → IsAccounted mid after id → ⊥)
-      → KeepsEntries old mid before after None → Accounts old mid before after → old.book.state.top ≤ mid.book.state.top → mid.book.state.top ≤ new.book.state.top → new.retired ≡ mid.retired
-      → ((id : ℕ) → IsAddedTo new id → IsAddedTo mid id ⊎ (unit ≡ Clause id)) → (unit ≡ u.unit) ⊎ IsNewJust mid.book.state new.book.state unit
+  pub one_give : (old mid new : TableState S) (before after : List Entry) (u : HeldTerm) (unit : Just) → IsSound mid
+      → ((id : ℕ) → u.unit ≡ Clause id → IsAccounted mid after id → ⊥)
+      → KeepsEntries old mid before after None → Accounts old mid before after → old.book.state.top ≤ mid.book.state.top
+      → mid.book.state.top ≤ new.book.state.top → new.retired ≡ mid.retired
+      → ((id : ℕ) → IsAddedTo new id → IsAddedTo mid id ⊎ (unit ≡ Clause id)) → (unit ≡ u.unit)
+      ⊎ IsNewJust mid.book.state new.book.state unit
       → (unit ≡ u.unit) ⊎ ((id : ℕ) → unit ≡ Clause id → IsAddedTo new id) → GivesUnit old new before after (u ∷ []) unit
   one_give old mid new before after u unit still free keeps accounts less more same alone given added =
-      given_behind old mid new before after (u ∷ []) unit accounts keeps.retires (keeps.named none_whole) less more same alone (of_one mid new u unit given added)
-      (unit_own mid new after u.unit u.unit unit still (keeps.fits none_whole) same free free (elim given [ inl own ↦ inl own | inr came ↦ inr (inr came) ]))
+      given_behind old mid new before after (u ∷ []) unit accounts keeps.retires (keeps.named none_whole) less more same alone
+      (of_one mid new u unit given added)
+      (unit_own mid new after u.unit u.unit unit still (keeps.fits none_whole) same free free
+      (elim given [ inl own ↦ inl own | inr came ↦ inr (inr came) ]))
 
   -- that of a clause that is pushed
-  pub new_gives : (old new : TableState S) (kept : List Entry) (unit : Just) → IsSound old → Fits old kept → old.book.state.top ≤ new.book.state.top → new.retired ≡ old.retired
-      → ((id : ℕ) → IsAddedTo new id → IsAddedTo old id ⊎ (unit ≡ Clause id)) → ((id : ℕ) → unit ≡ Clause id → (id ≡ new.book.state.top) × (old.book.state.top < id))
+  pub new_gives : (old new : TableState S) (kept : List Entry) (unit : Just) → IsSound old → Fits old kept → old.book.state.top
+      ≤ new.book.state.top → new.retired ≡ old.retired
+      → ((id : ℕ) → IsAddedTo new id → IsAddedTo old id ⊎ (unit ≡ Clause id))
+      → ((id : ℕ) → unit ≡ Clause id → (id ≡ new.book.state.top) × (old.book.state.top < id))
       → ((id : ℕ) → unit ≡ Clause id → IsAddedTo new id) → GivesUnit old new kept kept [] unit
   new_gives old new kept unit sound fits more same alone last added =
-      given_behind old old new kept kept [] unit (none_lost old kept sound) (record { each = λ id gone. inl gone }) (record { each = λ entry there. inl there }) (omega arith) more same alone
+      given_behind old old new kept kept [] unit (none_lost old kept sound) (record { each = λ id gone. inl gone })
+      (record { each = λ entry there. inl there }) (omega arith) more same alone
       (λ id is. inr ((last id is).1, added id is))
-      (unit_own old new kept Trivial Trivial unit sound fits same (λ id none. absurd (no_clause id none)) (λ id none. absurd (no_clause id none)) (inr (inr (λ id is. new_unit old new id (last id is)))))
+      (unit_own old new kept Trivial Trivial unit sound fits same (λ id none. absurd (no_clause id none))
+      (λ id none. absurd (no_clause id none)) (inr (inr (λ id is. new_unit old new id (last id is)))))
 
   -- a call that loses no clause leaves the units of all terms
-  pub units_behind : (tells : Bool) (channel : S → Channel) → StepByStep tells channel → (old new : TableState S) (before after : List Entry) (stack : List Held) → IsSound old → IsSound new → Extends old new
-      → HasUnits old before stack → RetiresOwn old new before → NamesOnly before after old.book.state new.book.state → Accounts old new before after → HasUnits new after stack
+  pub units_behind : (tells : Bool) (channel : S → Channel) → StepByStep tells channel
+      → (old new : TableState S) (before after : List Entry) (stack : List HeldTerm) → IsSound old → IsSound new → Extends old new
+      → HasUnits old before stack → RetiresOwn old new before → NamesOnly before after old.book.state new.book.state
+      → Accounts old new before after → HasUnits new after stack
   units_behind tells channel laws old new before after stack sound more extends has retires named accounts = record {
-    own = λ held there id is. free_after old new before after stack sound has retires named id (record { held = held; stacked = there; unit = is });
+    own = λ held there id is. free_after old new before after stack sound has retires named id
+        (record { held = held; stacked = there; unit = is });
     apart = has.apart;
     added = λ id is. laws.added old new sound more extends id (has.added id is);
     known = λ id added. elim (cases_lt old.book.state.top id) [
@@ -154,25 +181,30 @@ module _ {S : Type 0} where
   }
 
   -- so does one that adds none and retires none
-  pub none_added : (old new : TableState S) (kept : List Entry) → IsSound old → new.retired ≡ old.retired → AddsNone old new → Accounts old new kept kept
+  pub none_added : (old new : TableState S) (kept : List Entry) → IsSound old → new.retired ≡ old.retired → AddsNone old new
+      → Accounts old new kept kept
   none_added old new kept sound same none = record {
     still = λ id accounted. elim accounted [ inl gone ↦ inl (subst (λ (ids : List ℕ). Contains ids id) (sym same) gone) | inr by ↦ inr by ];
     added = λ id above own. absurd (let within = within_top old sound id (none id own).stands in omega (arith, within, above));
   }
 
   -- no clause was added yet, and no term is stacked
-  pub units_none : (table : TableState S) (kept : List Entry) (stack : List Held) → IsSound table → table.inputs ≡ table.book.state.top → stack ≡ [] → HasUnits table kept (reverse stack)
-  units_none table kept stack sound fresh empty = subst (λ (list : List Held). HasUnits table kept (reverse list)) (sym empty) (record {
+  pub units_none : (table : TableState S) (kept : List Entry) (stack : List HeldTerm) → IsSound table → table.inputs ≡ table.book.state.top
+      → stack ≡ [] → HasUnits table kept (reverse stack)
+  units_none table kept stack sound fresh empty = subst (λ (list : List HeldTerm). HasUnits table kept (reverse list)) (sym empty) (record {
     own = λ held there id is accounted. omega (arith, there.1);
     apart = tt;
     added = λ id is. absurd (no_unit id is);
-    known = λ id own. absurd (let within = within_top table sound id own.stands in let above = own.above in omega (arith, within, above, fresh));
+    known = λ id own. absurd (let within = within_top table sound id own.stands in let above = own.above in
+        omega (arith, within, above, fresh));
   })
 
 -- The retired clauses were deleted.
-module _ {S : Type 0} (old new : TableState S) (kept : List Entry) (stack : List Held) (nodes : new.graph ≡ old.graph) (inputs : new.inputs ≡ old.inputs) (none : new.retired ≡ [])
+module _ {S : Type 0} (old new : TableState S) (kept : List Entry) (stack : List HeldTerm) (nodes : new.graph
+    ≡ old.graph) (inputs : new.inputs ≡ old.inputs) (none : new.retired ≡ [])
     (gone : (id : ℕ) → Contains old.retired id → clause_at new.book.state.live id ≡ None)
-    (stay : (id : ℕ) → (Contains old.retired id → ⊥) → clause_at new.book.state.live id ≡ clause_at old.book.state.live id) (has : HasUnits old kept stack) where
+    (stay : (id : ℕ) → (Contains old.retired id → ⊥) → clause_at new.book.state.live id
+    ≡ clause_at old.book.state.live id) (has : HasUnits old kept stack) where
   added_still : (id : ℕ) → (Contains old.retired id → ⊥) → IsAddedTo old id → IsAddedTo new id
   added_still id unretired added = record {
     stands = ap is_some (stay id unretired) ∙ added.stands;
@@ -187,11 +219,13 @@ module _ {S : Type 0} (old new : TableState S) (kept : List Entry) (stack : List
   was_added id added = record {
     stands = sym (ap is_some (stay id (deleted id added.stands))) ∙ added.stands;
     above = let above = added.above in omega (arith, above, inputs);
-    defines_none = λ key branch at. added.defines_none key branch (subst (λ (graph : Graph). branch_at graph key ≡ Some branch) (sym nodes) at);
+    defines_none = λ key branch at. added.defines_none key branch
+        (subst (λ (graph : Graph). branch_at graph key ≡ Some branch) (sym nodes) at);
   }
 
   in_none : (id : ℕ) → Contains new.retired id → ⊥
-  in_none id there = let in_empty : Contains [] id = subst (λ (list : List ℕ). Contains list id) none there in absurd (omega (arith, in_empty.1))
+  in_none id there = let in_empty : Contains [] id = subst (λ (list : List ℕ). Contains list id) none there in
+      absurd (omega (arith, in_empty.1))
 
   pub units_settled : HasUnits new kept stack
   units_settled = record {

@@ -12,7 +12,8 @@ use Rattle.term_runner.specs.Held.{IsReady}
 use Rattle.term_runner.proofs.Plans.{at_each}
 use Rattle.term_runner.proofs.FirstEmpty.{full_at}
 
-module _ {S : Type 0} (formula : Formula) (table : TableState S) (kept : List Entry) (ready : IsReady formula table kept) (number : ℕ) (from_one : 1 ≤ number) (to_len : number ≤ length formula.clauses)
+module _ {S : Type 0} (formula : Formula) (table : TableState S) (kept : List Entry) (ready : IsReady formula table kept) (number : ℕ)
+    (from_one : 1 ≤ number) (to_len : number ≤ length formula.clauses)
     (clause : List ℤ) (is : clause ≡ slice_index_or formula.clauses (number - 1) []) where
   place : number - 1 < length formula.clauses
   place = omega (arith, from_one, to_len)
@@ -24,7 +25,8 @@ module _ {S : Type 0} (formula : Formula) (table : TableState S) (kept : List En
   input_live = (λ k. clause_at table.book.state.live (sym back k)) ∙ ready.inputs (number - 1) place ∙ ap Some (sym is)
 
   pub input_literals : AreClausesOf formula.vars formula.clauses → IsTrue (list_all (is_literal_of (levels table.graph)) clause)
-  input_literals all = (λ k. list_all (is_literal_of (ready.vars k)) (is k)) ∙ at_each (list_all (is_literal_of formula.vars)) formula.clauses all (number - 1) place
+  input_literals all = (λ k. list_all (is_literal_of (ready.vars k)) (is k))
+      ∙ at_each (list_all (is_literal_of formula.vars)) formula.clauses all (number - 1) place
 
   pub input_some : clause ≢ []
   input_some empty = full_at formula.clauses (number - 1) ready.none_empty place (sym is ∙ empty)

@@ -13,12 +13,14 @@ use Rattle.term_runner.specs.Recovered.{IsRecovered, set_all_back, set_back, sta
 use Rattle.term_runner.proofs.Plans.{satisfied_alike, satisfied_by_recovered}
 
 -- a kept node sets its variable back as its term does
-same_back : (formula : Formula) (graph : Graph) (a : Assignment) (kept : ℕ × Node) (quantified : ℕ × Term) → IsKept formula graph kept quantified → set_node_back graph a kept ≡ set_back formula a quantified
+same_back : (formula : Formula) (graph : Graph) (a : Assignment) (kept : ℕ × Node) (quantified : ℕ × Term)
+    → IsKept formula graph kept quantified → set_node_back graph a kept ≡ set_back formula a quantified
 same_back formula graph a kept quantified is =
     ap (λ b. with_value a kept.0 (not b)) (is.value (with_value a kept.0 false))
     ∙ ap (λ x. with_value a x (not (term_holds formula (with_value a x false) quantified.1))) is.variable
 
-all_same_back : (formula : Formula) (graph : Graph) (a : Assignment) (nodes : List (ℕ × Node)) (trail : List (ℕ × Term)) → AreKept formula graph nodes trail
+all_same_back : (formula : Formula) (graph : Graph) (a : Assignment) (nodes : List (ℕ × Node)) (trail : List (ℕ × Term))
+    → AreKept formula graph nodes trail
     → set_nodes_back graph a nodes ≡ set_all_back formula a trail
 all_same_back formula graph a [] [] are = refl
 all_same_back formula graph a [] (quantified ∷ trail) are = absurd are
@@ -27,13 +29,16 @@ all_same_back formula graph a (kept ∷ nodes) (quantified ∷ trail) are =
     all_same_back formula graph (set_node_back graph a kept) nodes trail are.1
     ∙ ap (λ (b : Assignment). set_all_back formula b trail) (same_back formula graph a kept quantified are.0)
 
-pub recovered : (formula : Formula) (graph : Graph) (moves : List Move) (plan : IsAdmissible formula moves) → AreClausesOf formula.vars formula.clauses → levels graph ≡ formula.vars
+pub recovered : (formula : Formula) (graph : Graph) (moves : List Move) (plan : IsAdmissible formula moves)
+    → AreClausesOf formula.vars formula.clauses → levels graph ≡ formula.vars
     → (node : Node) → ((a : Assignment) → value_of graph (by_level graph.order a) node ≡ stack_holds formula a plan.last.stack)
-    → (trail : List (ℕ × Node)) → AreKept formula graph trail plan.last.trail → (values : List Bool) → IsRecoveredFrom graph node trail values → IsRecovered formula graph.order moves values
+    → (trail : List (ℕ × Node)) → AreKept formula graph trail plan.last.trail → (values : List Bool)
+    → IsRecoveredFrom graph node trail values → IsRecovered formula graph.order moves values
 recovered formula graph moves plan literals vars node same trail kept values from =
     let holds : stack_holds formula from.first plan.last.stack ≡ true = sym (same from.first) ∙ from.least.satisfies in
     let back : (variable : ℕ) → 0 < variable → assignment_of values variable ≡ set_all_back formula from.first plan.last.trail variable =
-    λ variable above. from.recovered variable above ∙ ap (λ (a : Assignment). a variable) (all_same_back formula graph from.first trail plan.last.trail kept) in
+    λ variable above. from.recovered variable above ∙ ap (λ (a : Assignment). a variable)
+    (all_same_back formula graph from.first trail plan.last.trail kept) in
     record {
       one_each = from.one_each ∙ vars;
       last = plan.last;
@@ -41,10 +46,12 @@ recovered formula graph moves plan literals vars node same trail kept values fro
       first = from.first;
       least = record {
         satisfies = holds;
-        least = λ other true_of place small earlier at. from.least.least (by_level graph.order other) (same other ∙ true_of) place small earlier at;
+        least = λ other true_of place small earlier at. from.least.least (by_level graph.order other) (same other
+            ∙ true_of) place small earlier at;
       };
       recovered = back;
       satisfied =
-          satisfied_alike formula.vars formula.clauses literals (set_all_back formula from.first plan.last.trail) (assignment_of values) (λ variable above. sym (back variable above))
+          satisfied_alike formula.vars formula.clauses literals (set_all_back formula from.first plan.last.trail) (assignment_of values)
+          (λ variable above. sym (back variable above))
           (satisfied_by_recovered formula moves plan from.first holds);
     }

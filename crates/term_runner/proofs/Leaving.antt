@@ -13,12 +13,15 @@ pub error_handed : {T E : Type 0} (r : Result T E) (came : E) → IsErrAnd r (λ
 error_handed (Ok x) came is = absurd is
 error_handed (Err e) came is = ap Some is
 
-pub steps_handed : {S T : Type 0} (tells : Bool) (before after : Channel) (old new : TableState S) (justified : ℕ) (r : Result T TableError) (came : TableError) → IsErrAnd r (λ e. e ≡ came)
+pub steps_handed : {S T : Type 0} (tells : Bool) (before after : Channel) (old new : TableState S) (justified : ℕ) (r : Result T TableError)
+    (came : TableError) → IsErrAnd r (λ e. e ≡ came)
     → Steps tells before after old new justified (Some came) → Steps tells before after old new justified (error_of r)
-steps_handed tells before after old new justified r came is steps = subst (λ (error : Option TableError). Steps tells before after old new justified error) (sym (error_handed r came is)) steps
+steps_handed tells before after old new justified r came is steps = subst
+    (λ (error : Option TableError). Steps tells before after old new justified error) (sym (error_handed r came is)) steps
 
 -- unless a write failed, the call went on
-pub went_on : {S T : Type 0} (tells : Bool) (before after : Channel) (old new : TableState S) (r : Result T TableError) → Leaves tells before after old new (error_of r) → r ≢ Err WriteFault
+pub went_on : {S T : Type 0} (tells : Bool) (before after : Channel) (old new : TableState S) (r : Result T TableError)
+    → Leaves tells before after old new (error_of r) → r ≢ Err WriteFault
     → Continues tells before after old new
 went_on tells before after old new (Ok x) leaves whole = leaves
 went_on tells before after old new (Err NodeLimit) leaves whole = leaves.0
@@ -27,21 +30,27 @@ went_on tells before after old new (Err OutOfMemory) leaves whole = leaves
 went_on tells before after old new (Err WriteFault) leaves whole = absurd (whole refl)
 
 -- the limit of nodes leaves all in step
-pub limit_left : {S : Type 0} (tells : Bool) (channel : S → Channel) (old new : TableState S) (came : TableError) → came ≡ NodeLimit → Leaves tells (channel old.book.sink) (channel new.book.sink) old new (Some came)
+pub limit_left : {S : Type 0} (tells : Bool) (channel : S → Channel) (old new : TableState S) (came : TableError) → came ≡ NodeLimit
+    → Leaves tells (channel old.book.sink) (channel new.book.sink) old new (Some came)
     → Leaves tells (channel old.book.sink) (channel new.book.sink) old new (Some NodeLimit)
-limit_left tells channel old new came is leaves = subst (λ (e : TableError). Leaves tells (channel old.book.sink) (channel new.book.sink) old new (Some e)) is leaves
+limit_left tells channel old new came is leaves = subst (λ (e : TableError). Leaves tells (channel old.book.sink)
+    (channel new.book.sink) old new (Some e)) is leaves
 
 -- want of memory leaves all in step
-pub memory_left : {S T : Type 0} (tells : Bool) (before after : Channel) (old new : TableState S) (r : Result T TableError) → IsErrAnd r (λ e. e ≡ OutOfMemory) → Continues tells before after old new
+pub memory_left : {S T : Type 0} (tells : Bool) (before after : Channel) (old new : TableState S) (r : Result T TableError)
+    → IsErrAnd r (λ e. e ≡ OutOfMemory) → Continues tells before after old new
     → Leaves tells before after old new (error_of r)
-memory_left tells before after old new r is continues = subst (λ (error : Option TableError). Leaves tells before after old new error) (sym (error_handed r OutOfMemory is)) continues
+memory_left tells before after old new r is continues = subst (λ (error : Option TableError). Leaves tells before after old new error)
+    (sym (error_handed r OutOfMemory is)) continues
 
 -- want of memory after steps that succeeded leaves what they left
-pub after_all : {S T : Type 0} (tells : Bool) (before after : Channel) (old new : TableState S) (justified : ℕ) (r : Result T TableError) → IfErr r (λ e. e ≡ OutOfMemory)
+pub after_all : {S T : Type 0} (tells : Bool) (before after : Channel) (old new : TableState S) (justified : ℕ) (r : Result T TableError)
+    → IfErr r (λ e. e ≡ OutOfMemory)
     → Steps tells before after old new justified None → Steps tells before after old new justified (error_of r)
 after_all tells before after old new justified (Ok x) failed steps = steps
 after_all tells before after old new justified (Err e) failed steps =
-    subst (λ (error : TableError). Steps tells before after old new justified (Some error)) (turned e failed) (record { leaves = steps.leaves; extends = steps.extends; adds = steps.adds })
+    subst (λ (error : TableError). Steps tells before after old new justified (Some error)) (turned e failed)
+    (record { leaves = steps.leaves; extends = steps.extends; adds = steps.adds })
   where
     turned : (e : TableError) → e ≡ OutOfMemory → OutOfMemory ≡ e
     turned e is = cc

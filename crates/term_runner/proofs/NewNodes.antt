@@ -1,5 +1,6 @@
 -- How many nodes a move makes: where their functions are parts of terms in hand, no more than there are of these.
-use Rattle.std.proofs.Common.{◌≡◌, ℕ, ◌<◌, ◌≤◌, ◌+◌, Bool, true, false, not, cond, List, length, Option, None, Some, is_some, nat_cmp, T, Equal, refl, sym, ap, ◌∙◌, subst, arith, inl, inr}
+use Rattle.std.proofs.Common.{◌≡◌, ℕ, ◌<◌, ◌≤◌, ◌+◌, Bool, true, false, not, cond, List, length, Option, None, Some, is_some, nat_cmp, T}
+use Rattle.std.proofs.Common.{Equal, refl, sym, ap, ◌∙◌, subst, arith, inl, inr}
 use Rattle.std.specs.Cmp.{nat_cmp_total}
 use Rattle.std.specs.FinMap as finmap
 use Rattle.std.specs.FinMap.Entries.{find, find-where_key, is_some-find, is_sorted, is_sorted-where_key, same_entries, where_key}
@@ -57,7 +58,8 @@ module _ (old new : Graph) (keeps : KeepsNodes old new) where
 
   still_all : still ≡ finmap.entries old.nodes
   still_all =
-      same_entries nat_cmp nat_cmp_total finmap.nat_cmp-IsAntisymmetric still (finmap.entries old.nodes) (is_sorted-where_key nat_cmp was_there all (finmap.entries_sorted new.nodes))
+      same_entries nat_cmp nat_cmp_total finmap.nat_cmp-IsAntisymmetric still (finmap.entries old.nodes)
+      (is_sorted-where_key nat_cmp was_there all (finmap.entries_sorted new.nodes))
       (finmap.entries_sorted old.nodes) found
 
   counted : length fresh + live_nodes old ≡ live_nodes new
@@ -66,7 +68,8 @@ module _ (old new : Graph) (keeps : KeepsNodes old new) where
       let kept = ap length still_all in
       omega (arith, both, kept, finmap.len-entries old.nodes, finmap.len-entries new.nodes)
 
-  fresh_at : (place : ℕ) → place < length fresh → (is_new (key_at fresh place) ≡ true) × (is_some (branch_at new (key_at fresh place)) ≡ true)
+  fresh_at : (place : ℕ) → place < length fresh → (is_new (key_at fresh place) ≡ true)
+      × (is_some (branch_at new (key_at fresh place)) ≡ true)
   fresh_at place small =
       let q = key_at fresh place in
       let parts = some_cond (is_new q) (find nat_cmp q all)
@@ -77,7 +80,8 @@ module _ (old new : Graph) (keeps : KeepsNodes old new) where
   stands place small = (fresh_at place small).1
 
   module _ (canonical : Canonical) (formula : Formula) (order : List ℕ) (before after : Stage) (reduced : IsReduced new)
-      (made : (key : ℕ) (branch : Branch) → branch_at new key ≡ Some branch → branch_at old key ≡ None → IsPartInHand formula order before after (λ a. value_of new a (inner key))) where
+      (made : (key : ℕ) (branch : Branch) → branch_at new key ≡ Some branch → branch_at old key ≡ None
+      → IsPartInHand formula order before after (λ a. value_of new a (inner key))) where
     sorted : T (is_sorted nat_cmp fresh)
     sorted = is_sorted-where_key nat_cmp is_new all (finmap.entries_sorted new.nodes)
 
@@ -93,7 +97,8 @@ module _ (old new : Graph) (keeps : KeepsNodes old new) where
       | inr few ↦ few
       | inl many ↦
           let listed_all = length-functions new fresh in
-          let within : (place : ℕ) → place < length (functions_of new fresh) → place < length fresh = λ place small. omega (arith, small, listed_all) in
+          let within : (place : ℕ) → place < length (functions_of new fresh) → place
+          < length fresh = λ place small. omega (arith, small, listed_all) in
           absurd (most (record {
             parts = functions_of new fresh;
             more = omega (arith, many, counted, listed_all);

@@ -1,5 +1,6 @@
 -- The line that refutes a formula with an empty clause.
-use Rattle.std.proofs.Common.{◌≡◌, ◌≢◌, ℕ, zero, suc, ◌+◌, ◌*◌, ◌^◌, ◌<◌, ◌≤◌, ◌++◌, Bool, true, false, List, ℤ, [], ◌∷◌, length, Option, None, Some, Contains, is_some, Result, Ok, Err, refl, sym, ap, ◌∙◌, subst, arith, inl, inr}
+use Rattle.std.proofs.Common.{◌≡◌, ◌≢◌, ℕ, zero, suc, ◌+◌, ◌*◌, ◌^◌, ◌<◌, ◌≤◌, ◌++◌, Bool, true, false, List, ℤ, [], ◌∷◌, length, Option}
+use Rattle.std.proofs.Common.{None, Some, Contains, is_some, Result, Ok, Err, refl, sym, ap, ◌∙◌, subst, arith, inl, inr}
 use Rattle.std.specs.Prelude.{◌↔◌, IsTrue, IsOk, IfOk, IfErr, nat_lt, nat_le, ◌&&◌}
 use Rattle.std.specs.List.{list_all}
 use Rattle.std.proofs.Math.Nat.{one-le-mul, two-pow-succ}
@@ -36,7 +37,8 @@ pub one_hint_printable : (id hint : ℕ) → 0 < id → id ≤ max_id → 0 < hi
 one_hint_printable id hint some small some_hint small_hint =
     let number : is_id id ≡ true = and_from (nat_lt 0 id) (nat_le id max_id) (lt-ltb 0 id some) (le-leb id max_id small) in
     let one : is_id hint ≡ true = and_from (nat_lt 0 hint) (nat_le hint max_id) (lt-ltb 0 hint some_hint) (le-leb hint max_id small_hint) in
-    and_from ((is_id id && true) && (is_id hint && true)) true (and_from (is_id id && true) (is_id hint && true) (and_from (is_id id) true number refl) (and_from (is_id hint) true one refl)) refl
+    and_from ((is_id id && true) && (is_id hint && true)) true (and_from (is_id id && true) (is_id hint
+    && true) (and_from (is_id id) true number refl) (and_from (is_id hint) true one refl)) refl
 
 -- an empty clause is no tautology
 pub empty_is_open : (clauses : List (List ℤ)) → has_empty_clause clauses ≡ true → list_all is_tautology clauses ≡ false
@@ -52,19 +54,23 @@ abbrev pub Unused : Type 0
 Unused = (vars : ℕ) (clauses : List (List ℤ)) → AreClausesOf vars clauses → in_use vars (start clauses) ≡ 0
 
 abbrev pub Appended : Type 0
-Appended = (clauses : List (List ℤ)) (clause : List ℤ) → start (clauses ++ clause ∷ []) ≡ record { live = with_clause (start clauses).live (length clauses + 1) clause; top = length clauses + 1 }
+Appended = (clauses : List (List ℤ)) (clause : List ℤ) → start (clauses ++ clause ∷ [])
+    ≡ record { live = with_clause (start clauses).live (length clauses + 1) clause; top = length clauses + 1 }
 
 -- the limits are kept at the start, and with the empty clause under the next number where one is left
-pub start_within : Unused → (formula : Formula) (limits : Limits) → AreClausesOf formula.vars formula.clauses → KeepsWithin formula limits (start formula.clauses)
+pub start_within : Unused → (formula : Formula) (limits : Limits) → AreClausesOf formula.vars formula.clauses
+    → KeepsWithin formula limits (start formula.clauses)
 start_within unused formula limits literals = record {
   numbers = omega arith;
   nodes = omega (arith, unused formula.vars formula.clauses literals);
 }
 
-next_within : Unused → Appended → (formula : Formula) (limits : Limits) → AreClausesOf formula.vars formula.clauses → length formula.clauses < limits.max_ids → KeepsWithin formula limits (with_next (start formula.clauses) [])
+next_within : Unused → Appended → (formula : Formula) (limits : Limits) → AreClausesOf formula.vars formula.clauses → length formula.clauses
+    < limits.max_ids → KeepsWithin formula limits (with_next (start formula.clauses) [])
 next_within unused appended formula limits literals room =
     let more : AreClausesOf formula.vars (formula.clauses ++ [] ∷ []) =
-    list_all-append (list_all (is_literal_of formula.vars)) formula.clauses ([] ∷ []) ∙ and_from (list_all (list_all (is_literal_of formula.vars)) formula.clauses) true literals refl in
+    list_all-append (list_all (is_literal_of formula.vars)) formula.clauses ([] ∷ [])
+    ∙ and_from (list_all (list_all (is_literal_of formula.vars)) formula.clauses) true literals refl in
     let none = unused formula.vars (formula.clauses ++ [] ∷ []) more in
     record {
       numbers = omega (arith, room);
@@ -75,25 +81,31 @@ abbrev pub NoneAbove : Type 0
 NoneAbove = (clauses : List (List ℤ)) (id : ℕ) → length clauses < id → clause_at (start clauses).live id ≡ None
 
 abbrev pub FewLive : Type 0
-FewLive = (inputs : ℕ) (live : Live) (ids : List ℕ) → ((id : ℕ) → inputs < id → is_some (clause_at live id) ≡ true → Contains ids id) → live_above inputs live ≤ length ids
+FewLive = (inputs : ℕ) (live : Live) (ids : List ℕ) → ((id : ℕ) → inputs < id → is_some (clause_at live id) ≡ true → Contains ids id)
+    → live_above inputs live ≤ length ids
 
 none_live : {o : Option (List ℤ)} → o ≡ None → is_some o ≡ true → ⊥
 none_live none is = let e : false ≡ true = sym (ap is_some none) ∙ is in cc
 
 -- at the start all is within any price
-pub start_paid : Unused → NoneAbove → FewLive → (formula : Formula) (limits : Limits) (moves : List Move) (width price : ℕ) → AreClausesOf formula.vars formula.clauses → IsPaidFor formula limits moves width price (start formula.clauses)
+pub start_paid : Unused → NoneAbove → FewLive → (formula : Formula) (limits : Limits) (moves : List Move) (width price : ℕ)
+    → AreClausesOf formula.vars formula.clauses → IsPaidFor formula limits moves width price (start formula.clauses)
 start_paid unused none_above few formula limits moves width price literals = record {
   within = record { numbers = omega arith; nodes = omega (arith, unused formula.vars formula.clauses literals) };
-  lean = let none = few (length formula.clauses) (start formula.clauses).live [] (λ id above is. absurd (none_live (none_above formula.clauses id above) is)) in omega (arith, none);
+  lean = let none = few (length formula.clauses) (start formula.clauses).live []
+      (λ id above is. absurd (none_live (none_above formula.clauses id above) is)) in omega (arith, none);
 }
 
 -- and with the empty clause under the next number, where the price is that of some moves
-next_paid : Unused → Appended → NoneAbove → FewLive → (formula : Formula) (limits : Limits) (moves : List Move) (width price : ℕ) → AreClausesOf formula.vars formula.clauses → 0 < price
-    → length formula.clauses < most_ids formula moves price → IsPaidFor formula limits moves width price (with_next (start formula.clauses) [])
+next_paid : Unused → Appended → NoneAbove → FewLive → (formula : Formula) (limits : Limits) (moves : List Move) (width price : ℕ)
+    → AreClausesOf formula.vars formula.clauses → 0 < price
+    → length formula.clauses < most_ids formula moves price → IsPaidFor formula limits moves width price
+    (with_next (start formula.clauses) [])
 next_paid unused appended none_above few formula limits moves width price literals some room =
     let clauses = formula.clauses ++ [] ∷ [] in
     let more : AreClausesOf formula.vars clauses =
-    list_all-append (list_all (is_literal_of formula.vars)) formula.clauses ([] ∷ []) ∙ and_from (list_all (list_all (is_literal_of formula.vars)) formula.clauses) true literals refl in
+    list_all-append (list_all (is_literal_of formula.vars)) formula.clauses ([] ∷ [])
+    ∙ and_from (list_all (list_all (is_literal_of formula.vars)) formula.clauses) true literals refl in
     let none = unused formula.vars clauses more in
     let one = few (length formula.clauses) (start clauses).live ((length formula.clauses + 1) ∷ [])
     (λ id above is. elim (cases_lt (length clauses) id) [
@@ -105,7 +117,8 @@ next_paid unused appended none_above few formula limits moves width price litera
         numbers = omega (arith, room);
         nodes = subst (λ (s : State). in_use formula.vars s ≤ most_nodes width) (appended formula.clauses []) (omega (arith, none));
       };
-      lean = subst (λ (s : State). IsLean formula.vars (length formula.clauses) (2 * limits.cache + length formula.clauses + price) s) (appended formula.clauses []) (omega (arith, one, some));
+      lean = subst (λ (s : State). IsLean formula.vars (length formula.clauses) (2 * limits.cache + length formula.clauses + price) s)
+          (appended formula.clauses []) (omega (arith, one, some));
     }
 
 one_power : (n : ℕ) → 0 < 2 ^ n
@@ -123,17 +136,21 @@ some_price vars size width price is = elim is [
 ]
 
 -- a plan of some moves has room for a number above the formula's
-above_start : (formula : Formula) (moves : List Move) (price : ℕ) → 0 < price → 0 < length moves → length formula.clauses < most_ids formula moves price
+above_start : (formula : Formula) (moves : List Move) (price : ℕ) → 0 < price → 0 < length moves → length formula.clauses
+    < most_ids formula moves price
 above_start formula moves price paid some = let all = one-le-mul some paid in omega (arith, all)
 
 -- a plan of a formula with clauses has some moves
-pub some_moves : (formula : Formula) (moves : List Move) → IsAdmissible formula moves → has_empty_clause formula.clauses ≡ true → 0 < length moves
+pub some_moves : (formula : Formula) (moves : List Move) → IsAdmissible formula moves → has_empty_clause formula.clauses ≡ true → 0
+    < length moves
 some_moves formula [] plan has = absurd (none_pushed formula.clauses has plan.all_pushed)
   where
     none_there : plan.last.pushed ≡ []
-    none_there = let same : Some no_stage ≡ Some plan.last = plan.possible in let is : no_stage ≡ plan.last = cc in sym (ap (λ (s : Stage). s.pushed) is)
+    none_there = let same : Some no_stage ≡ Some plan.last = plan.possible in let is : no_stage ≡ plan.last = cc in
+        sym (ap (λ (s : Stage). s.pushed) is)
 
-    none_pushed : (clauses : List (List ℤ)) → has_empty_clause clauses ≡ true → ((i : ℕ) → 0 < i → i ≤ length clauses → is_pushed plan.last.pushed i ≡ true) → ⊥
+    none_pushed : (clauses : List (List ℤ)) → has_empty_clause clauses ≡ true
+        → ((i : ℕ) → 0 < i → i ≤ length clauses → is_pushed plan.last.pushed i ≡ true) → ⊥
     none_pushed [] is all = let e : false ≡ true = is in cc
     none_pushed (clause ∷ more) is all =
         let e : false ≡ true = subst (λ (pushed : List ℕ). is_pushed pushed 1 ≡ true) none_there (all 1 (omega arith) (omega arith)) in
@@ -141,13 +158,17 @@ some_moves formula [] plan has = absurd (none_pushed formula.clauses has plan.al
 some_moves formula (move ∷ moves) plan has = omega arith
 
 -- what the addition of the empty clause left
-pub record Added {S : Type 0} (tells : Bool) (before after : Channel) (hint : ℕ) (old new : Book S) (result : Result (Option (List Bool)) TableError) : Type 0 where
+pub record Added {S : Type 0} (tells : Bool) (before after : Channel) (hint : ℕ) (old new : Book S)
+    (result : Result (Option (List Bool)) TableError) : Type 0 where
   pub found : IfOk result (λ found. (found ≡ None) × (new.state ≡ with_next old.state []))
-  pub refutes : (clauses : List (List ℤ)) → IsProofOf clauses tells before old.state → IsTrue tells → IsOk result → Refutes clauses after.written
+  pub refutes : (clauses : List (List ℤ)) → IsProofOf clauses tells before old.state → IsTrue tells → IsOk result
+      → Refutes clauses after.written
   pub line : IsTrue tells → IsOk result → after.written ≡ before.written ++ next_line old.state [] (hint ∷ [])
   pub in_step : result ≢ Err table.WriteFault → IsTrue new.in_step
-  pub kept : (clauses : List (List ℤ)) → IsProofOf clauses tells before old.state → result ≢ Err table.WriteFault → IsProofOf clauses tells after new.state
-  pub cut : (clauses : List (List ℤ)) → IsProofOf clauses tells before old.state → IsTrue tells → result ≡ Err table.WriteFault → IsCutProof clauses after.written old.state new.state
+  pub kept : (clauses : List (List ℤ)) → IsProofOf clauses tells before old.state → result ≢ Err table.WriteFault
+      → IsProofOf clauses tells after new.state
+  pub cut : (clauses : List (List ℤ)) → IsProofOf clauses tells before old.state → IsTrue tells → result ≡ Err table.WriteFault
+      → IsCutProof clauses after.written old.state new.state
   pub fault_state : result ≡ Err table.WriteFault → new.state ≡ with_next old.state []
   pub fault : result ≡ Err table.WriteFault → Rose before.faults after.faults
   pub unfailed : result ≢ Err table.WriteFault → after.faults ≡ before.faults
@@ -156,8 +177,10 @@ pub record Added {S : Type 0} (tells : Bool) (before after : Channel) (hint : �
   pub refused : IfErr result (λ e. e ≢ table.WriteFault → new.state ≡ old.state)
   pub only_writes : OnlyWrites before after
 
-module _ {S : Type 0} (unused : Unused) (appended : Appended) (none_above : NoneAbove) (few_live : FewLive) (tells : Bool) (before after : Channel) (hint : ℕ) (old new : Book S) (result : Result (Option (List Bool)) TableError)
-    (added : Added tells before after hint old new result) (formula : Formula) (order : List ℕ) (moves : List Move) (limits : Limits) (opened : IsOpened tells before formula limits.max_ids old)
+module _ {S : Type 0} (unused : Unused) (appended : Appended) (none_above : NoneAbove) (few_live : FewLive) (tells : Bool)
+    (before after : Channel) (hint : ℕ) (old new : Book S) (result : Result (Option (List Bool)) TableError)
+    (added : Added tells before after hint old new result) (formula : Formula) (order : List ℕ) (moves : List Move) (limits : Limits)
+    (opened : IsOpened tells before formula limits.max_ids old)
     (first : hint ≡ first_empty formula.clauses) (has : IsTrue (has_empty_clause formula.clauses)) (some : 0 < length moves) where
   top_at_start : old.state.top ≡ length formula.clauses
   top_at_start = ap (λ (s : State). s.top) opened.state
@@ -170,39 +193,54 @@ module _ {S : Type 0} (unused : Unused) (appended : Appended) (none_above : None
   ]
 
   -- of a number more there is room within the price of any width
-  room_by_price : (width price : ℕ) → IsMovePrice formula.vars limits.cache width price → length formula.clauses < most_ids formula moves price
+  room_by_price : (width price : ℕ) → IsMovePrice formula.vars limits.cache width price → length formula.clauses
+      < most_ids formula moves price
   room_by_price width price is = above_start formula moves price (some_price formula.vars limits.cache width price is) some
 
   same_within : (within : Limits) → new.state ≡ old.state → KeepsWithin formula within new.state
-  same_within within same = subst (λ (s : State). KeepsWithin formula within s) (sym (same ∙ opened.state)) (start_within unused formula within opened.literals)
+  same_within within same = subst (λ (s : State). KeepsWithin formula within s) (sym (same ∙ opened.state))
+      (start_within unused formula within opened.literals)
 
-  more_within : (within : Limits) → length formula.clauses < within.max_ids → new.state ≡ with_next old.state [] → KeepsWithin formula within new.state
+  more_within : (within : Limits) → length formula.clauses < within.max_ids → new.state ≡ with_next old.state []
+      → KeepsWithin formula within new.state
   more_within within room is =
-      subst (λ (s : State). KeepsWithin formula within s) (sym (is ∙ (λ k. with_next (opened.state k) []))) (next_within unused appended formula within opened.literals room)
+      subst (λ (s : State). KeepsWithin formula within s) (sym (is ∙ (λ k. with_next (opened.state k) [])))
+      (next_within unused appended formula within opened.literals room)
 
-  within_of : (within : Limits) (r : Result (Option (List Bool)) TableError) → (r ≢ Err table.IdLimit → length formula.clauses < within.max_ids) → r ≢ Err table.WriteFault
-      → IfOk r (λ found. (found ≡ None) × (new.state ≡ with_next old.state [])) → IfErr r (λ e. e ≢ table.WriteFault → new.state ≡ old.state) → KeepsWithin formula within new.state
-  within_of within (Ok found) room whole ok refused = more_within within (room (λ e. let wrong : ◌≡◌ {A = Result (Option (List Bool)) TableError} (Ok found) (Err table.IdLimit) = e in cc)) ok.1
+  within_of : (within : Limits) (r : Result (Option (List Bool)) TableError)
+      → (r ≢ Err table.IdLimit → length formula.clauses < within.max_ids) → r ≢ Err table.WriteFault
+      → IfOk r (λ found. (found ≡ None) × (new.state ≡ with_next old.state []))
+      → IfErr r (λ e. e ≢ table.WriteFault → new.state ≡ old.state) → KeepsWithin formula within new.state
+  within_of within (Ok found) room whole ok refused = more_within within
+      (room (λ e. let wrong : ◌≡◌ {A = Result (Option (List Bool)) TableError} (Ok found) (Err table.IdLimit) = e in cc)) ok.1
   within_of within (Err e) room whole ok refused = same_within within (refused (λ torn. whole (ap Err torn)))
 
   at_start_within : (within : Limits) → KeepsWithin formula within old.state
-  at_start_within within = subst (λ (s : State). KeepsWithin formula within s) (sym opened.state) (start_within unused formula within opened.literals)
+  at_start_within within = subst (λ (s : State). KeepsWithin formula within s) (sym opened.state)
+      (start_within unused formula within opened.literals)
 
   at_start_paid : (width price : ℕ) → IsPaidFor formula limits moves width price old.state
-  at_start_paid width price = subst (IsPaidFor formula limits moves width price) (sym opened.state) (start_paid unused none_above few_live formula limits moves width price opened.literals)
+  at_start_paid width price = subst (IsPaidFor formula limits moves width price) (sym opened.state)
+      (start_paid unused none_above few_live formula limits moves width price opened.literals)
 
-  more_paid : (width price : ℕ) → IsMovePrice formula.vars limits.cache width price → new.state ≡ with_next old.state [] → IsPaidFor formula limits moves width price new.state
+  more_paid : (width price : ℕ) → IsMovePrice formula.vars limits.cache width price → new.state ≡ with_next old.state []
+      → IsPaidFor formula limits moves width price new.state
   more_paid width price paid is =
       subst (IsPaidFor formula limits moves width price) (sym (is ∙ (λ k. with_next (opened.state k) [])))
-      (next_paid unused appended none_above few_live formula limits moves width price opened.literals (some_price formula.vars limits.cache width price paid) (room_by_price width price paid))
+      (next_paid unused appended none_above few_live formula limits moves width price opened.literals
+      (some_price formula.vars limits.cache width price paid) (room_by_price width price paid))
 
-  paid_of : (width price : ℕ) → IsMovePrice formula.vars limits.cache width price → (r : Result (Option (List Bool)) TableError) → r ≢ Err table.WriteFault
-      → IfOk r (λ found. (found ≡ None) × (new.state ≡ with_next old.state [])) → IfErr r (λ e. e ≢ table.WriteFault → new.state ≡ old.state) → IsPaidFor formula limits moves width price new.state
+  paid_of : (width price : ℕ) → IsMovePrice formula.vars limits.cache width price → (r : Result (Option (List Bool)) TableError) → r
+      ≢ Err table.WriteFault
+      → IfOk r (λ found. (found ≡ None) × (new.state ≡ with_next old.state []))
+      → IfErr r (λ e. e ≢ table.WriteFault → new.state ≡ old.state) → IsPaidFor formula limits moves width price new.state
   paid_of width price paid (Ok found) whole ok refused = more_paid width price paid ok.1
-  paid_of width price paid (Err e) whole ok refused = subst (IsPaidFor formula limits moves width price) (sym (refused (λ torn. whole (ap Err torn)))) (at_start_paid width price)
+  paid_of width price paid (Err e) whole ok refused = subst (IsPaidFor formula limits moves width price)
+      (sym (refused (λ torn. whole (ap Err torn)))) (at_start_paid width price)
 
   none_found : (values : List Bool) → result ≡ Ok (Some values) → ⊥
-  none_found values is = refuted (subst (λ (r : Result (Option (List Bool)) TableError). IfOk r (λ found. (found ≡ None) × (new.state ≡ with_next old.state []))) is added.found).0
+  none_found values is = refuted (subst (λ (r : Result (Option (List Bool)) TableError). IfOk r (λ found. (found ≡ None)
+      × (new.state ≡ with_next old.state []))) is added.found).0
     where
       refuted : Some values ≡ None → ⊥
       refuted e = cc
@@ -212,7 +250,8 @@ module _ {S : Type 0} (unused : Unused) (appended : Appended) (none_above : None
   ok_of (Err e) found is = cc
 
   refused_at_limit : result ≡ Err table.IdLimit → new.state ≡ old.state
-  refused_at_limit is = subst (λ (r : Result (Option (List Bool)) TableError). IfErr r (λ e. e ≢ table.WriteFault → new.state ≡ old.state)) is added.refused (λ e. cc)
+  refused_at_limit is = subst (λ (r : Result (Option (List Bool)) TableError). IfErr r (λ e. e ≢ table.WriteFault → new.state
+      ≡ old.state)) is added.refused (λ e. cc)
 
   pub added_leads : Leads tells before after formula order moves limits new (outcome_of result)
   added_leads = record {
@@ -220,15 +259,18 @@ module _ {S : Type 0} (unused : Unused) (appended : Appended) (none_above : None
     proof = λ whole. added.kept formula.clauses opened.proof (whole_of result whole);
     within = λ whole. within_of limits result room_of (whole_of result whole) added.found added.refused;
     paid = λ width price has paid whole. paid_of width price paid result (whole_of result whole) added.found added.refused;
-    broken = λ is t. broken_of_kind (KeepsWithin formula limits) is t (at_start_within limits) (more_within limits (room_of (λ e. two_causes (sym (torn_of result is) ∙ e))) (added.fault_state (torn_of result is)));
-    broken_paid = λ width price has paid is t. broken_of_kind (IsPaidFor formula limits moves width price) is t (at_start_paid width price) (more_paid width price paid (added.fault_state (torn_of result is)));
+    broken = λ is t. broken_of_kind (KeepsWithin formula limits) is t (at_start_within limits)
+        (more_within limits (room_of (λ e. two_causes (sym (torn_of result is) ∙ e))) (added.fault_state (torn_of result is)));
+    broken_paid = λ width price has paid is t. broken_of_kind (IsPaidFor formula limits moves width price) is t (at_start_paid width price)
+        (more_paid width price paid (added.fault_state (torn_of result is)));
     certain = λ width price has_width paid ample.
         by_outcome IsDecision result (λ _. tt) (λ values is. tt) (λ is. absurd (added.no_node_limit is))
         (λ is.
         let limit = added.id_limit.0 is in
         let above = room_by_price width price paid in
         omega (arith, limit, opened.limit, top_at_start, ample.1, above));
-    says = by_outcome (Says formula order moves limits) result (λ _. none_satisfies formula.clauses has) (λ values is. absurd (none_found values is)) (λ is. absurd (added.no_node_limit is)) (λ _. tt);
+    says = by_outcome (Says formula order moves limits) result (λ _. none_satisfies formula.clauses has)
+        (λ values is. absurd (none_found values is)) (λ is. absurd (added.no_node_limit is)) (λ _. tt);
     shows = λ t.
         by_outcome (Shows formula limits after.written) result
         (λ is. record {
@@ -257,7 +299,8 @@ module _ {S : Type 0} (unused : Unused) (appended : Appended) (none_above : None
       two_causes : ◌≡◌ {A = Result (Option (List Bool)) TableError} (Err table.WriteFault) (Err table.IdLimit) → ⊥
       two_causes e = cc
 
-      broken_of_kind : (kind : State → Type 0) → outcome_of result ≡ Err WriteFault → IsTrue tells → kind old.state → kind new.state → IsBrokenOfKind formula.clauses kind after.written
+      broken_of_kind : (kind : State → Type 0) → outcome_of result ≡ Err WriteFault → IsTrue tells → kind old.state → kind new.state
+          → IsBrokenOfKind formula.clauses kind after.written
       broken_of_kind kind is t before_is after_is = record {
         before = old.state;
         after = new.state;

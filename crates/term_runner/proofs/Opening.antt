@@ -1,5 +1,6 @@
 -- From an opened ledger to the end of the moves.
-use Rattle.std.proofs.Common.{◌≡◌, ◌≢◌, ℕ, zero, suc, ◌+◌, ◌*◌, ◌<◌, ◌≤◌, ◌⊎◌, Bool, true, false, ℤ, List, [], length, Option, None, Some, Result, Ok, Err, refl, sym, ap, ◌∙◌, subst, arith, inl, inr}
+use Rattle.std.proofs.Common.{◌≡◌, ◌≢◌, ℕ, zero, suc, ◌+◌, ◌<◌, ◌≤◌, ◌⊎◌, Bool, true, false, ℤ, List, [], length, Option, None, Some}
+use Rattle.std.proofs.Common.{Result, Ok, Err, refl, sym, ap, ◌∙◌, subst, arith, inl, inr}
 use Rattle.std.specs.Prelude.{IsTrue, IsFalse, IsSome, IfOk, MatchOption, slice_index_or}
 use Rattle.std.specs.List.{list_all, list_any}
 use Rattle.std.specs.FinMap as map
@@ -29,7 +30,7 @@ use Rattle.term_runner.specs.Proofs.{IsBrokenOfKind, IsProofOfKind, KeepsWithin}
 use Rattle.term_runner.specs.Recovered.{IsRecovered}
 use Rattle.term_runner.specs.Ends.{Says, Shows, outcome_of}
 use Rattle.term_runner.specs.Held.{IsReady}
-use Rattle.term_runner.specs.Price.{IsDecision, IsLeanAtEnd, IsMovePrice, IsPaid, IsPaidFor, most_ids}
+use Rattle.term_runner.specs.Price.{IsDecision, IsLeanAtEnd, IsMovePrice, IsPaid, IsPaidFor}
 use Rattle.term_runner.specs.Width.{HasWidth}
 use Rattle.term_runner.specs.Nodes.{RunsShort}
 use Rattle.term_runner.specs.Opened.{IsOpened, Leads, LeavesKind}
@@ -39,7 +40,8 @@ use Rattle.term_runner.proofs.Ending.{by_outcome, torn_of, whole_of, written_of}
 use Rattle.term_runner.proofs.OneLine.{NoneAbove}
 
 abbrev pub StartClauses : Type 0
-StartClauses = (clauses : List (List ℤ)) (i : ℕ) → i < length clauses → clause_at (start clauses).live (i + 1) ≡ Some (slice_index_or clauses i [])
+StartClauses = (clauses : List (List ℤ)) (i : ℕ) → i < length clauses → clause_at (start clauses).live (i + 1)
+    ≡ Some (slice_index_or clauses i [])
 
 abbrev pub NoneAtZero : Type 0
 NoneAtZero = (clauses : List (List ℤ)) → clause_at (start clauses).live 0 ≡ None
@@ -48,14 +50,16 @@ some_is_some : (clause : List ℤ) → None ≡ Some clause → ⊥
 some_is_some clause e = cc
 
 -- at the start the formula's clauses have the numbers from 1 on
-numbered : NoneAtZero → NoneAbove → (clauses : List (List ℤ)) (id : ℕ) (clause : List ℤ) → clause_at (start clauses).live id ≡ Some clause → (0 < id) × (id ≤ length clauses)
+numbered : NoneAtZero → NoneAbove → (clauses : List (List ℤ)) (id : ℕ) (clause : List ℤ) → clause_at (start clauses).live id ≡ Some clause
+    → (0 < id) × (id ≤ length clauses)
 numbered zero_law above clauses zero clause at = absurd (some_is_some clause (sym (zero_law clauses) ∙ at))
 numbered zero_law above clauses (suc id) clause at = elim (cases_lt (length clauses) (suc id)) [
   | inl large ↦ absurd (some_is_some clause (sym (above clauses (suc id) large) ∙ at))
   | inr small ↦ (omega arith, small)
 ]
 
-pub proof_at_start : StartClauses → NoneAtZero → NoneAbove → ((clauses : List (List ℤ)) → IsDerivation clauses [] (start clauses)) → (clauses : List (List ℤ)) (tells : Bool) (channel : Channel) → (IsTrue tells → channel.written ≡ [])
+pub proof_at_start : StartClauses → NoneAtZero → NoneAbove → ((clauses : List (List ℤ)) → IsDerivation clauses [] (start clauses))
+    → (clauses : List (List ℤ)) (tells : Bool) (channel : Channel) → (IsTrue tells → channel.written ≡ [])
     → IsProofOf clauses tells channel (start clauses)
 proof_at_start there zero_law above none clauses tells channel fresh = record {
   steps = [];
@@ -67,13 +71,20 @@ proof_at_start there zero_law above none clauses tells channel fresh = record {
 }
 
 -- nothing was written yet
-pub whole_at_start : (formula : Formula) (kind : State → Type 0) → kind (start formula.clauses) → (tells : Bool) (channel : Channel) → IsProofOf formula.clauses tells channel (start formula.clauses) → IsTrue tells
+pub whole_at_start : (formula : Formula) (kind : State → Type 0) → kind (start formula.clauses) → (tells : Bool) (channel : Channel)
+    → IsProofOf formula.clauses tells channel (start formula.clauses) → IsTrue tells
     → IsProofOfKind formula.clauses kind channel.written
 whole_at_start formula kind is tells channel proof t =
-    record { state = start formula.clauses; written = written_of formula.clauses tells channel (start formula.clauses) proof t; within = is }
+    record {
+      state = start formula.clauses;
+      written = written_of formula.clauses tells channel (start formula.clauses) proof t;
+      within = is;
+    }
 
-pub opened_at : {S : Type 0} (tells : Bool) (channel : Channel) (formula : Formula) (max_ids : ℕ) (book : Book S) → AreClausesOf formula.vars formula.clauses → book.state ≡ start formula.clauses → book.limit ≡ max_ids → IsTrue book.in_step
-    → IsProofOf formula.clauses tells channel (start formula.clauses) → (IsTrue tells → channel.written ≡ []) → IsOpened tells channel formula max_ids book
+pub opened_at : {S : Type 0} (tells : Bool) (channel : Channel) (formula : Formula) (max_ids : ℕ) (book : Book S)
+    → AreClausesOf formula.vars formula.clauses → book.state ≡ start formula.clauses → book.limit ≡ max_ids → IsTrue book.in_step
+    → IsProofOf formula.clauses tells channel (start formula.clauses) → (IsTrue tells → channel.written ≡ [])
+    → IsOpened tells channel formula max_ids book
 opened_at tells channel formula max_ids book literals state limit in_step proof fresh = record {
   literals = literals;
   state = state;
@@ -84,18 +95,25 @@ opened_at tells channel formula max_ids book literals state limit in_step proof 
 }
 
 -- a table over the opened ledger is ready
-pub ready_at : {S : Type 0} → StartClauses → ((order : List ℕ) (clauses : List (List ℤ)) → IsOrder order → AreClausesOf (length order) clauses → IsTied (record { order = order; nodes = map.empty }) (start clauses))
-    → ((order : List ℕ) (clauses : List (List ℤ)) (inputs : ℕ) → AreRetired (record { order = order; nodes = map.empty }) (start clauses).live inputs [])
-    → (formula : Formula) (order : List ℕ) (table : TableState S) → table.graph ≡ record { order = order; nodes = map.empty } → table.book.state ≡ start formula.clauses → IsTrue table.book.in_step → table.inputs ≡ table.book.state.top → table.retired ≡ [] → IsOrder order → length order ≡ formula.vars
+pub ready_at : {S : Type 0} → StartClauses → ((order : List ℕ) (clauses : List (List ℤ)) → IsOrder order
+    → AreClausesOf (length order) clauses → IsTied (record { order = order; nodes = map.empty }) (start clauses))
+    → ((order : List ℕ) (clauses : List (List ℤ)) (inputs : ℕ) → AreRetired (record { order = order; nodes = map.empty })
+    (start clauses).live inputs [])
+    → (formula : Formula) (order : List ℕ) (table : TableState S) → table.graph ≡ record { order = order; nodes = map.empty }
+    → table.book.state ≡ start formula.clauses → IsTrue table.book.in_step → table.inputs ≡ table.book.state.top → table.retired ≡ []
+    → IsOrder order → length order ≡ formula.vars
     → AreClausesOf formula.vars formula.clauses → IsFalse (has_empty_clause formula.clauses) → IsReady formula table []
 ready_at there opening none_retired formula order table graph state in_step inputs retired is_order vars literals none = record {
   sound = record {
     in_step = in_step;
-    tied = subst (λ (h : Graph). IsTied h table.book.state) (sym graph) (subst (λ (s : State). IsTied (record { order = order; nodes = map.empty }) s) (sym state)
+    tied = subst (λ (h : Graph). IsTied h table.book.state) (sym graph)
+        (subst (λ (s : State). IsTied (record { order = order; nodes = map.empty }) s) (sym state)
         (opening order formula.clauses is_order (subst (λ (v : ℕ). AreClausesOf v formula.clauses) (sym vars) literals)));
     inputs = omega (arith, inputs);
-    retired = subst (λ (ids : List ℕ). AreRetired table.graph table.book.state.live table.inputs ids) (sym retired) (subst (λ (h : Graph). AreRetired h table.book.state.live table.inputs []) (sym graph)
-        (subst (λ (s : State). AreRetired (record { order = order; nodes = map.empty }) s.live table.inputs []) (sym state) (none_retired order formula.clauses table.inputs)));
+    retired = subst (λ (ids : List ℕ). AreRetired table.graph table.book.state.live table.inputs ids) (sym retired)
+        (subst (λ (h : Graph). AreRetired h table.book.state.live table.inputs []) (sym graph)
+        (subst (λ (s : State). AreRetired (record { order = order; nodes = map.empty }) s.live table.inputs []) (sym state)
+        (none_retired order formula.clauses table.inputs)));
   };
   fits = record {
     each = λ entry has. absurd (omega (arith, has.1));
@@ -111,10 +129,12 @@ ready_at there opening none_retired formula order table graph state in_step inpu
 
 -- a model, or a live clause without literals
 abbrev pub IsDecided : Formula → List ℕ → List Move → Live → Option (List Bool) → Type 0
-IsDecided formula order moves live found = MatchOption found ((id : ℕ) × (clause_at live id ≡ Some [])) (λ model. IsRecovered formula order moves model)
+IsDecided formula order moves live found = MatchOption found ((id : ℕ)
+    × (clause_at live id ≡ Some [])) (λ model. IsRecovered formula order moves model)
 
 -- what the decision told
-pub record Decided {S : Type 0} (tells : Bool) (before after : Channel) (formula : Formula) (order : List ℕ) (moves : List Move) (size : ℕ) (old new : TableState S) (result : Result (Option (List Bool)) TableError) : Type 0 where
+pub record Decided {S : Type 0} (tells : Bool) (before after : Channel) (formula : Formula) (order : List ℕ) (moves : List Move) (size : ℕ)
+    (old new : TableState S) (result : Result (Option (List Bool)) TableError) : Type 0 where
   pub found : IfOk result (IsDecided formula order moves new.book.state.live)
   pub leaves : Leaves tells before after old new (error_of result)
   pub tautologies : IsTrue (list_all is_tautology formula.clauses) → after.written ≡ before.written
@@ -133,7 +153,8 @@ either (Err OutOfMemory) X whole torn = whole (λ e. cc)
 either (Err WriteFault) X whole torn = torn refl
 
 -- a call in step left a state of the kind
-kind_of_whole : {S : Type 0} (tells : Bool) (before after : Channel) (old new : TableState S) (kind : State → Type 0) (result : Result (Option (List Bool)) TableError) → result ≢ Err WriteFault
+kind_of_whole : {S : Type 0} (tells : Bool) (before after : Channel) (old new : TableState S) (kind : State
+    → Type 0) (result : Result (Option (List Bool)) TableError) → result ≢ Err WriteFault
     → LeavesKind tells before after old new kind (error_of result) → kind new.book.state
 kind_of_whole tells before after old new kind (Ok found) whole is = is
 kind_of_whole tells before after old new kind (Err NodeLimit) whole is = is
@@ -142,15 +163,20 @@ kind_of_whole tells before after old new kind (Err OutOfMemory) whole is = is
 kind_of_whole tells before after old new kind (Err WriteFault) whole is = absurd (whole refl)
 
 abbrev pub DerivedEmpty : Type 0
-DerivedEmpty = (vars : ℕ) (clauses : List (List ℤ)) (steps : List Step) (state : State) (id : ℕ) → AreClausesOf vars clauses → IsDerivation clauses steps state
+DerivedEmpty = (vars : ℕ) (clauses : List (List ℤ)) (steps : List Step) (state : State) (id : ℕ) → AreClausesOf vars clauses
+    → IsDerivation clauses steps state
     → clause_at state.live id ≡ Some [] → (a : Assignment) → Satisfies a clauses → ⊥
 
 abbrev pub WrittenEmpty : Type 0
-WrittenEmpty = (clauses : List (List ℤ)) (bytes : List ℕ) (state : State) (id : ℕ) → IsWritten clauses bytes state → IsFalse (list_any is_empty clauses) → clause_at state.live id ≡ Some [] → Refutes clauses bytes
+WrittenEmpty = (clauses : List (List ℤ)) (bytes : List ℕ) (state : State) (id : ℕ) → IsWritten clauses bytes state
+    → IsFalse (list_any is_empty clauses) → clause_at state.live id ≡ Some [] → Refutes clauses bytes
 
-module _ {S : Type 0} (canonical : Canonical) (unsatisfied : DerivedEmpty) (refutes : WrittenEmpty) (uses : (graph : Graph) (state : State) → IsTied graph state → in_use (levels graph) state ≡ live_nodes graph)
-    (tells : Bool) (before after : Channel) (formula : Formula) (order : List ℕ) (moves : List Move) (limits : Limits) (old new : TableState S) (result : Result (Option (List Bool)) TableError)
-    (opened : IsOpened tells before formula limits.max_ids old.book) (ready : IsReady formula old []) (inputs : old.inputs ≡ old.book.state.top) (few_nodes : old.max_nodes ≡ limits.max_nodes)
+module _ {S : Type 0} (canonical : Canonical) (unsatisfied : DerivedEmpty) (refutes : WrittenEmpty) (uses : (graph : Graph) (state : State)
+    → IsTied graph state → in_use (levels graph) state ≡ live_nodes graph)
+    (tells : Bool) (before after : Channel) (formula : Formula) (order : List ℕ) (moves : List Move) (limits : Limits)
+    (old new : TableState S) (result : Result (Option (List Bool)) TableError)
+    (opened : IsOpened tells before formula limits.max_ids old.book) (ready : IsReady formula old []) (inputs : old.inputs
+    ≡ old.book.state.top) (few_nodes : old.max_nodes ≡ limits.max_nodes)
     (decided : Decided tells before after formula order moves limits.cache old new result) where
   has_none : (has : IsTrue (has_empty_clause formula.clauses)) → ⊥
   has_none has = let e : true ≡ false = sym has ∙ ready.none_empty in cc
@@ -162,10 +188,12 @@ module _ {S : Type 0} (canonical : Canonical) (unsatisfied : DerivedEmpty) (refu
   torn is = subst (λ (r : Result (Option (List Bool)) TableError). Leaves tells before after old new (error_of r)) is decided.leaves
 
   at_node_limit : result ≡ Err NodeLimit → new.max_nodes ≤ live_nodes new.graph
-  at_node_limit is = (subst (λ (r : Result (Option (List Bool)) TableError). Leaves tells before after old new (error_of r)) is decided.leaves).1
+  at_node_limit is = (subst (λ (r : Result (Option (List Bool)) TableError). Leaves tells before after old new
+      (error_of r)) is decided.leaves).1
 
   at_id_limit : result ≡ Err IdLimit → new.book.limit < new.book.state.top + 4
-  at_id_limit is = (subst (λ (r : Result (Option (List Bool)) TableError). Leaves tells before after old new (error_of r)) is decided.leaves).1
+  at_id_limit is = (subst (λ (r : Result (Option (List Bool)) TableError). Leaves tells before after old new
+      (error_of r)) is decided.leaves).1
 
   top_at_start : old.book.state.top ≡ length formula.clauses
   top_at_start = ap (λ (s : State). s.top) opened.state
@@ -189,10 +217,12 @@ module _ {S : Type 0} (canonical : Canonical) (unsatisfied : DerivedEmpty) (refu
     nodes = omega (arith, used whole, decided.few, (grown whole).max_nodes, few_nodes);
   }
 
-  nodes_within : (most : ℕ) → live_nodes new.graph ≤ most → (state : State) → IsWithin (levels old.graph) (number_limit old) (live_nodes new.graph) state → in_use formula.vars state ≤ most
+  nodes_within : (most : ℕ) → live_nodes new.graph ≤ most → (state : State)
+      → IsWithin (levels old.graph) (number_limit old) (live_nodes new.graph) state → in_use formula.vars state ≤ most
   nodes_within most few state is = subst (λ (v : ℕ). in_use v state ≤ most) ready.vars (omega (arith, is.nodes, few))
 
-  within_limits : live_nodes new.graph ≤ old.max_nodes → (state : State) → IsWithin (levels old.graph) (number_limit old) (live_nodes new.graph) state → KeepsWithin formula limits state
+  within_limits : live_nodes new.graph ≤ old.max_nodes → (state : State)
+      → IsWithin (levels old.graph) (number_limit old) (live_nodes new.graph) state → KeepsWithin formula limits state
   within_limits few state is = record {
     numbers = omega (arith, is.numbers, top_at_start, opened.limit);
     nodes = nodes_within limits.max_nodes (omega (arith, few, few_nodes)) state is;
@@ -203,30 +233,44 @@ module _ {S : Type 0} (canonical : Canonical) (unsatisfied : DerivedEmpty) (refu
   same_inputs = inputs ∙ top_at_start
 
   own_price : (width price : ℕ) → HasWidth formula order moves width → IsMovePrice formula.vars limits.cache width price
-      → LeavesKind tells before after old new (IsPaid (levels old.graph) old.inputs (length moves) limits.cache width price) (error_of result)
-  own_price width price has is = decided.paid width price has (subst (λ (vars : ℕ). IsMovePrice vars limits.cache width price) (sym ready.vars) is)
+      → LeavesKind tells before after old new (IsPaid (levels old.graph) old.inputs (length moves) limits.cache width price)
+      (error_of result)
+  own_price width price has is = decided.paid width price has (subst (λ (vars : ℕ). IsMovePrice vars limits.cache width price)
+      (sym ready.vars) is)
 
-  as_paid : (width price : ℕ) (state : State) → IsPaid (levels old.graph) old.inputs (length moves) limits.cache width price state → IsPaidFor formula limits moves width price state
+  as_paid : (width price : ℕ) (state : State) → IsPaid (levels old.graph) old.inputs (length moves) limits.cache width price state
+      → IsPaidFor formula limits moves width price state
   as_paid width price state paid =
       subst (λ (vars : ℕ). IsPaid vars (length formula.clauses) (length moves) limits.cache width price state) ready.vars
       (subst (λ (count : ℕ). IsPaid (levels old.graph) count (length moves) limits.cache width price state) same_inputs paid)
 
-  paid : (width price : ℕ) → HasWidth formula order moves width → IsMovePrice formula.vars limits.cache width price → result ≢ Err WriteFault → IsPaidFor formula limits moves width price new.book.state
+  paid : (width price : ℕ) → HasWidth formula order moves width → IsMovePrice formula.vars limits.cache width price → result
+      ≢ Err WriteFault → IsPaidFor formula limits moves width price new.book.state
   paid width price has is whole =
-      as_paid width price new.book.state (kind_of_whole tells before after old new (IsPaid (levels old.graph) old.inputs (length moves) limits.cache width price) result whole (own_price width price has is))
+      as_paid width price new.book.state (kind_of_whole tells before after old new
+      (IsPaid (levels old.graph) old.inputs (length moves) limits.cache width price) result whole (own_price width price has is))
 
-  broken_paid : (width price : ℕ) → HasWidth formula order moves width → IsMovePrice formula.vars limits.cache width price → result ≡ Err WriteFault → IsTrue tells
+  broken_paid : (width price : ℕ) → HasWidth formula order moves width → IsMovePrice formula.vars limits.cache width price → result
+      ≡ Err WriteFault → IsTrue tells
       → IsBrokenOfKind formula.clauses (IsPaidFor formula limits moves width price) after.written
   broken_paid width price has is torn_is t =
       let kind = IsPaid (levels old.graph) old.inputs (length moves) limits.cache width price in
-      let own = subst (λ (r : Result (Option (List Bool)) TableError). LeavesKind tells before after old new kind (error_of r)) torn_is (own_price width price has is) in
+      let own = subst (λ (r : Result (Option (List Bool)) TableError). LeavesKind tells before after old new kind (error_of r)) torn_is
+      (own_price width price has is) in
       let cut = own formula.clauses all_inputs opened.proof t in
-      record { before = cut.before; after = cut.after; cut = cut.cut; within_before = as_paid width price cut.before cut.within_before; within_after = as_paid width price cut.after cut.within_after }
+      record {
+        before = cut.before;
+        after = cut.after;
+        cut = cut.cut;
+        within_before = as_paid width price cut.before cut.within_before;
+        within_after = as_paid width price cut.after cut.within_after;
+      }
 
   -- with a model few clauses are left
   lean : (values : List Bool) → result ≡ Ok (Some values) → IsLeanAtEnd formula.vars (length formula.clauses) limits.cache new.book.state
   lean values is =
-      let own = subst (λ (r : Result (Option (List Bool)) TableError). IfOk r (λ found. IsSome found → IsLeanAtEnd (levels old.graph) old.inputs limits.cache new.book.state)) is decided.lean refl in
+      let own = subst (λ (r : Result (Option (List Bool)) TableError). IfOk r (λ found. IsSome found
+      → IsLeanAtEnd (levels old.graph) old.inputs limits.cache new.book.state)) is decided.lean refl in
       subst (λ (vars : ℕ). IsLeanAtEnd vars (length formula.clauses) limits.cache new.book.state) ready.vars
       (subst (λ (count : ℕ). IsLeanAtEnd (levels old.graph) count limits.cache new.book.state) same_inputs own)
 
@@ -234,7 +278,8 @@ module _ {S : Type 0} (canonical : Canonical) (unsatisfied : DerivedEmpty) (refu
   not_torn other is differs e = differs (sym is ∙ e)
 
   found_in : (found : Option (List Bool)) → result ≡ Ok found → IsDecided formula order moves new.book.state.live found
-  found_in found is = subst (λ (r : Result (Option (List Bool)) TableError). IfOk r (IsDecided formula order moves new.book.state.live)) is decided.found
+  found_in found is = subst (λ (r : Result (Option (List Bool)) TableError). IfOk r
+      (IsDecided formula order moves new.book.state.live)) is decided.found
 
   says : IfOk (outcome_of result) (Says formula order moves limits)
   says = by_outcome (Says formula order moves limits) result
@@ -245,7 +290,8 @@ module _ {S : Type 0} (canonical : Canonical) (unsatisfied : DerivedEmpty) (refu
       (λ values is. found_in (Some values) is)
       (λ is.
       let more = grown (not_torn (Err NodeLimit) is (λ e. cc)) in
-      is_wider canonical formula order moves new.graph more.sound.tied.reduced (decided.short is) limits.max_nodes (omega (arith, at_node_limit is, decided.few, more.max_nodes, few_nodes)))
+      is_wider canonical formula order moves new.graph more.sound.tied.reduced (decided.short is) limits.max_nodes
+      (omega (arith, at_node_limit is, decided.few, more.max_nodes, few_nodes)))
       (λ _. tt)
 
   shows : IsTrue tells → IfOk (outcome_of result) (Shows formula limits after.written)
@@ -253,7 +299,9 @@ module _ {S : Type 0} (canonical : Canonical) (unsatisfied : DerivedEmpty) (refu
       (λ is.
       let empty = found_in None is in
       record {
-        refutes = refutes formula.clauses after.written new.book.state empty.0 (written_of formula.clauses tells after new.book.state (proof_new (not_torn (Ok None) is (λ e. cc))) t) ready.none_empty empty.1;
+        refutes = refutes formula.clauses after.written new.book.state empty.0
+            (written_of formula.clauses tells after new.book.state
+            (proof_new (not_torn (Ok None) is (λ e. cc))) t) ready.none_empty empty.1;
         at_once = λ has. absurd (has_none has);
       })
       (λ values is. record {
@@ -288,14 +336,21 @@ module _ {S : Type 0} (canonical : Canonical) (unsatisfied : DerivedEmpty) (refu
     broken = λ is t.
         let cut = (torn (torn_of result is)).cut formula.clauses all_inputs opened.proof t in
         let few = (torn (torn_of result is)).few in
-        record { before = cut.before; after = new.book.state; cut = cut.cut; within_before = within_limits few cut.before cut.within_before; within_after = within_limits few new.book.state cut.within_after };
+        record {
+          before = cut.before;
+          after = new.book.state;
+          cut = cut.cut;
+          within_before = within_limits few cut.before cut.within_before;
+          within_after = within_limits few new.book.state cut.within_after;
+        };
     paid = λ width price has is whole. paid width price has is (whole_of result whole);
     broken_paid = λ width price has is torn_is t. broken_paid width price has is (torn_of result torn_is) t;
     certain = λ width price has is_price ample.
         by_outcome IsDecision result (λ _. tt) (λ values is. tt)
         (λ is.
         let more = grown (not_torn (Err NodeLimit) is (λ e. cc)) in
-        let wider = is_wider canonical formula order moves new.graph more.sound.tied.reduced (decided.short is) limits.max_nodes (omega (arith, at_node_limit is, decided.few, more.max_nodes, few_nodes)) in
+        let wider = is_wider canonical formula order moves new.graph more.sound.tied.reduced (decided.short is) limits.max_nodes
+        (omega (arith, at_node_limit is, decided.few, more.max_nodes, few_nodes)) in
         has (wider_less formula order moves width limits.max_nodes ample.0 wider))
         (λ is.
         let whole = not_torn (Err IdLimit) is (λ e. cc) in

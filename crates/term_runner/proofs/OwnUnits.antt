@@ -1,6 +1,7 @@
 -- The units of stacked terms are neither retired nor named by an entry, from call to call, so that they stay where the
 -- retired clauses are deleted.
-use Rattle.std.proofs.Common.{◌≡◌, ◌∙◌, ◌⊎◌, ◌≤◌, ◌<◌, ◌+◌, ℕ, zero, suc, ℤ, true, false, List, [], ◌∷◌, Option, None, Some, Contains, Result, Ok, Err, is_some, refl, sym, ap, subst, arith, inl, inr}
+use Rattle.std.proofs.Common.{◌≡◌, ◌∙◌, ◌⊎◌, ◌≤◌, ◌<◌, ◌+◌, ℕ, zero, suc, ℤ, true, false, List, [], ◌∷◌, Option, None, Some, Contains}
+use Rattle.std.proofs.Common.{Result, Ok, Err, is_some, refl, sym, ap, subst, arith, inl, inr}
 use Rattle.std.specs.Prelude.{IfOk, IsFalse}
 use Rattle.cnf_base.specs.Formula.{Formula}
 use Rattle.lrat_rules.specs.State.{Live, clause_at}
@@ -16,7 +17,7 @@ use Rattle.node_table.specs.Just.{IsJustified}
 use Rattle.node_table.specs.Table.{TableState, IsSound}
 use Rattle.operations.specs.Entries.{Entry, Fits, Fitting, IsAccounted, IsNewJust, NamesOnly, RetiresOwn}
 use Rattle.schedule_plan.specs.Plan.{Term}
-use Rattle.term_runner.specs.declared.held.Held.{Held}
+use Rattle.term_runner.specs.declared.held.HeldTerm.{HeldTerm}
 use Rattle.term_runner.specs.Held.{AreHeld, IsHeld, IsReady, OwnUnits}
 
 pub later : {X : Type 0} (first : X) (list : List X) (x : X) → Contains list x → Contains (first ∷ list) x
@@ -28,7 +29,8 @@ one_some Always apart = absurd (let e : true ≡ false = apart in cc)
 one_some Never apart = refl
 one_some (Of x) apart = refl
 
-unit_live : (live : Live) (atom : Atom) (unit : Just) (id : ℕ) → IsJustified live (atom ∷ []) unit → unit ≡ Clause id → is_some (clause_at live id) ≡ true
+unit_live : (live : Live) (atom : Atom) (unit : Just) (id : ℕ) → IsJustified live (atom ∷ []) unit → unit ≡ Clause id
+    → is_some (clause_at live id) ≡ true
 unit_live live atom unit id proved is =
     let own : IsJustified live (atom ∷ []) (Clause id) = subst (λ (j : Just). IsJustified live (atom ∷ []) j) is proved in
     ap is_some own.1 ∙ one_some atom own.0
@@ -45,24 +47,30 @@ no_clause id is = cc
 
 module _ {S : Type 0} where
   -- the last clause, which came since
-  pub new_unit : (old new : TableState S) (id : ℕ) → (id ≡ new.book.state.top) × (old.book.state.top < id) → (old.book.state.top < id) × (id ≤ new.book.state.top)
+  pub new_unit : (old new : TableState S) (id : ℕ) → (id ≡ new.book.state.top) × (old.book.state.top < id) → (old.book.state.top < id)
+      × (id ≤ new.book.state.top)
   new_unit old new id last = (last.1, omega (arith, last.0))
 
-  pub within_top : (table : TableState S) → IsSound table → (id : ℕ) → is_some (clause_at table.book.state.live id) ≡ true → id ≤ table.book.state.top
-  within_top table sound id live = let clause = some_clause (clause_at table.book.state.live id) live in (sound.tied.numbers id clause.0 clause.1).1
+  pub within_top : (table : TableState S) → IsSound table → (id : ℕ) → is_some (clause_at table.book.state.live id) ≡ true → id
+      ≤ table.book.state.top
+  within_top table sound id live = let clause = some_clause (clause_at table.book.state.live id) live in
+      (sound.tied.numbers id clause.0 clause.1).1
 
-  pub unit_within : (table : TableState S) → IsSound table → (atom : Atom) (unit : Just) (id : ℕ) → IsJustified table.book.state.live (atom ∷ []) unit → unit ≡ Clause id → id ≤ table.book.state.top
+  pub unit_within : (table : TableState S) → IsSound table → (atom : Atom) (unit : Just) (id : ℕ)
+      → IsJustified table.book.state.live (atom ∷ []) unit → unit ≡ Clause id → id ≤ table.book.state.top
   unit_within table sound atom unit id proved is = within_top table sound id (unit_live table.book.state.live atom unit id proved is)
 
   -- what is retired or named isn't new
-  pub accounted_within : (table : TableState S) → IsSound table → (kept : List Entry) → Fits table kept → (id : ℕ) → IsAccounted table kept id → id ≤ table.book.state.top
+  pub accounted_within : (table : TableState S) → IsSound table → (kept : List Entry) → Fits table kept → (id : ℕ)
+      → IsAccounted table kept id → id ≤ table.book.state.top
   accounted_within table sound kept fits id accounted = elim accounted [
     | inl gone ↦ within_top table sound id (sound.retired.each id gone).stands
     | inr named ↦ within_top table sound id (fits.own id named).stands
   ]
 
   -- what is neither retired nor named by an entry stays so through a call
-  pub unaccounted_after : (old mid : TableState S) (before after : List Entry) (id : ℕ) → id ≤ old.book.state.top → (IsAccounted old before id → ⊥) → RetiresOwn old mid before
+  pub unaccounted_after : (old mid : TableState S) (before after : List Entry) (id : ℕ) → id ≤ old.book.state.top
+      → (IsAccounted old before id → ⊥) → RetiresOwn old mid before
       → NamesOnly before after old.book.state mid.book.state → IsAccounted mid after id → ⊥
   unaccounted_after old mid before after id within own retires names accounted = elim accounted [
     | inl gone ↦ elim (retires.each id gone) [
@@ -79,61 +87,84 @@ module _ {S : Type 0} where
   ]
 
   -- a unit of the next number
-  pub given_next : (old new : TableState S) (u v : Just) (result : Result Just TableError) → IfOk result (λ unit. (unit ≡ Clause (old.book.state.top + 1)) × (new.book.state.top ≡ old.book.state.top + 1))
+  pub given_next : (old new : TableState S) (u v : Just) (result : Result Just TableError)
+      → IfOk result (λ unit. (unit ≡ Clause (old.book.state.top + 1)) × (new.book.state.top ≡ old.book.state.top + 1))
       → IfOk result (λ unit. (unit ≡ u) ⊎ ((unit ≡ v) ⊎ IsNewJust old.book.state new.book.state unit))
   given_next old new u v (Err e) next = tt
-  given_next old new u v (Ok unit) next = inr (inr (λ id is. let same = same_clause (old.book.state.top + 1) id (sym next.0 ∙ is) in (omega (arith, same), omega (arith, same, next.1))))
+  given_next old new u v (Ok unit) next = inr (inr (λ id is. let same = same_clause (old.book.state.top + 1) id (sym next.0 ∙ is) in
+      (omega (arith, same), omega (arith, same, next.1))))
 
-  pub given_one : (old new : TableState S) (u : Just) (result : Result Just TableError) → IfOk result (λ unit. (unit ≡ Clause (old.book.state.top + 1)) × (new.book.state.top ≡ old.book.state.top + 1))
+  pub given_one : (old new : TableState S) (u : Just) (result : Result Just TableError)
+      → IfOk result (λ unit. (unit ≡ Clause (old.book.state.top + 1)) × (new.book.state.top ≡ old.book.state.top + 1))
       → IfOk result (λ unit. (unit ≡ u) ⊎ IsNewJust old.book.state new.book.state unit)
   given_one old new u (Err e) next = tt
-  given_one old new u (Ok unit) next = inr (λ id is. let same = same_clause (old.book.state.top + 1) id (sym next.0 ∙ is) in (omega (arith, same), omega (arith, same, next.1)))
+  given_one old new u (Ok unit) next = inr (λ id is. let same = same_clause (old.book.state.top + 1) id (sym next.0 ∙ is) in
+      (omega (arith, same), omega (arith, same, next.1)))
 
   -- the unit of a conjunction: an operand's, or a new one
   pub unit_own : (mid new : TableState S) (kept : List Entry) (u v unit : Just) → IsSound mid → Fits mid kept → new.retired ≡ mid.retired
       → ((id : ℕ) → u ≡ Clause id → IsAccounted mid kept id → ⊥) → ((id : ℕ) → v ≡ Clause id → IsAccounted mid kept id → ⊥)
       → (unit ≡ u) ⊎ ((unit ≡ v) ⊎ IsNewJust mid.book.state new.book.state unit) → (id : ℕ) → unit ≡ Clause id → IsAccounted new kept id → ⊥
   unit_own mid new kept u v unit sound fits same first second given id is accounted =
-      let before : IsAccounted mid kept id = elim accounted [ inl gone ↦ inl (subst (λ (list : List ℕ). Contains list id) same gone) | inr named ↦ inr named ] in
+      let before : IsAccounted mid kept id = elim accounted [
+        | inl gone ↦ inl
+            (subst (λ (list : List ℕ). Contains list id) same gone)
+        | inr named ↦ inr named
+      ] in
       elim given [
         | inl own ↦ first id (sym own ∙ is) before
         | inr other ↦ elim other [
           | inl own ↦ second id (sym own ∙ is) before
-          | inr came ↦ absurd (let within = accounted_within mid sound kept fits id before in let above = (came id is).0 in omega (arith, within, above))
+          | inr came ↦ absurd (let within = accounted_within mid sound kept fits id before in let above = (came id is).0 in
+              omega (arith, within, above))
         ]
       ]
 
 -- The retired clauses were deleted.
-module _ {S : Type 0} (formula : Formula) (old new : TableState S) (kept : List Entry) (nodes : new.graph ≡ old.graph) (none : new.retired ≡ [])
+module _ {S : Type 0} (formula : Formula) (old new : TableState S) (kept : List Entry) (nodes : new.graph ≡ old.graph) (none : new.retired
+    ≡ [])
     (stay : (id : ℕ) → (Contains old.retired id → ⊥) → clause_at new.book.state.live id ≡ clause_at old.book.state.live id) where
-  unit_settled : (atom : Atom) (unit : Just) → IsJustified old.book.state.live (atom ∷ []) unit → ((id : ℕ) → unit ≡ Clause id → Contains old.retired id → ⊥) → IsJustified new.book.state.live (atom ∷ []) unit
+  unit_settled : (atom : Atom) (unit : Just) → IsJustified old.book.state.live (atom ∷ []) unit
+      → ((id : ℕ) → unit ≡ Clause id → Contains old.retired id → ⊥) → IsJustified new.book.state.live (atom ∷ []) unit
   unit_settled atom Trivial proved own = proved
   unit_settled atom (Clause id) proved own = (proved.0, stay id (own id refl) ∙ proved.1)
 
-  one_settled : (held : Held) (term : Term) → IsHeld formula old.graph old.book.state.live held term → ((id : ℕ) → held.unit ≡ Clause id → Contains old.retired id → ⊥)
+  one_settled : (held : HeldTerm) (term : Term) → IsHeld formula old.graph old.book.state.live held term
+      → ((id : ℕ) → held.unit ≡ Clause id → Contains old.retired id → ⊥)
       → IsHeld formula old.graph new.book.state.live held term
   one_settled held term is own = record {
-    is = record { stands = is.is.stands; value = is.is.value; proved = unit_settled (atom_of old.graph held.node) held.unit is.is.proved own };
+    is = record {
+      stands = is.is.stands;
+      value = is.is.value;
+      proved = unit_settled
+          (atom_of old.graph held.node) held.unit is.is.proved own;
+    };
     not_false = is.not_false;
   }
 
-  all_settled : (stack : List Held) (terms : List Term) → AreHeld formula old.graph old.book.state.live stack terms
-      → ((held : Held) → Contains stack held → (id : ℕ) → held.unit ≡ Clause id → Contains old.retired id → ⊥) → AreHeld formula old.graph new.book.state.live stack terms
+  all_settled : (stack : List HeldTerm) (terms : List Term) → AreHeld formula old.graph old.book.state.live stack terms
+      → ((held : HeldTerm) → Contains stack held → (id : ℕ) → held.unit ≡ Clause id → Contains old.retired id → ⊥)
+      → AreHeld formula old.graph new.book.state.live stack terms
   all_settled [] [] are own = tt
   all_settled [] (term ∷ terms) are own = absurd are
   all_settled (held ∷ stack) [] are own = absurd are
-  all_settled (held ∷ stack) (term ∷ terms) are own =
-      (one_settled held term are.0 (λ id is gone. own held (zero, omega arith, refl) id is gone), all_settled stack terms are.1 (λ other there. own other (later held stack other there)))
+  all_settled (held ∷ stack) (term ∷ terms) are own = (
+    one_settled held term are.0 (λ id is gone. own held (zero, omega arith, refl) id is gone),
+    all_settled stack terms are.1 (λ other there. own other (later held stack other there)),
+  )
 
-  pub held_settled : (stack : List Held) (terms : List Term) → OwnUnits old kept stack → AreHeld formula old.graph old.book.state.live stack terms → AreHeld formula new.graph new.book.state.live stack terms
+  pub held_settled : (stack : List HeldTerm) (terms : List Term) → OwnUnits old kept stack
+      → AreHeld formula old.graph old.book.state.live stack terms → AreHeld formula new.graph new.book.state.live stack terms
   held_settled stack terms own are =
-      subst (λ (graph : Graph). AreHeld formula graph new.book.state.live stack terms) (sym nodes) (all_settled stack terms are (λ held there id is gone. own held there id is (inl gone)))
+      subst (λ (graph : Graph). AreHeld formula graph new.book.state.live stack terms) (sym nodes)
+      (all_settled stack terms are (λ held there id is gone. own held there id is (inl gone)))
 
   pub ready_settled : Fitting S → new.inputs ≡ old.inputs → IsSound new → IsReady formula old kept → IsReady formula new kept
   ready_settled fitting inputs sound ready = record {
     sound = sound;
     fits = fitting.settled old new kept nodes inputs none stay ready.fits;
-    inputs = λ i small. stay (i + 1) (λ gone. let above = (ready.sound.retired.each (i + 1) gone).above in omega (arith, above, small, ready.counted)) ∙ ready.inputs i small;
+    inputs = λ i small. stay (i + 1) (λ gone. let above = (ready.sound.retired.each (i + 1) gone).above in
+        omega (arith, above, small, ready.counted)) ∙ ready.inputs i small;
     counted = omega (arith, ready.counted, inputs);
     vars = ap levels nodes ∙ ready.vars;
     none_empty = ready.none_empty;

@@ -1,14 +1,14 @@
 -- What a move leaves, however it ends, keeps within the price of the plan's width.
-use Rattle.std.proofs.Common.{◌≡◌, ◌∙◌, ℕ, ◌+◌, ◌-◌, ◌*◌, ◌<◌, ◌≤◌, ℤ, List, [], length, Bool, true, false, Option, None, Some, Result, is_some, refl, sym, ap, subst, arith, inl}
+use Rattle.std.proofs.Common.{◌≡◌, ◌∙◌, ℕ, ◌+◌, ◌-◌, ◌*◌, ◌≤◌, ℤ, List, [], length, Bool, true, false, Option, None, Some, Result, is_some}
+use Rattle.std.proofs.Common.{refl, sym, ap, subst, arith, inl}
 use Rattle.std.specs.Prelude.{IsErrAnd}
 use Rattle.host_io.specs.Channel.{Channel}
-use Rattle.lrat_rules.specs.State.{State, Live, clause_at}
+use Rattle.lrat_rules.specs.State.{State, clause_at}
 use Rattle.lrat_rules.specs.Marks.{in_use}
-use Rattle.clause_ledger.specs.Book.{IsProofOf}
 use Rattle.node_table.specs.declared.error.TableError.{TableError}
 use Rattle.node_table.specs.declared.error.TableError.TheVariants.{NodeLimit, IdLimit, OutOfMemory, WriteFault}
 use Rattle.node_table.specs.Diagram.{Graph, levels}
-use Rattle.node_table.specs.Lean.{HasAdded, IsLean, live_above}
+use Rattle.node_table.specs.Lean.{HasAdded, IsLean}
 use Rattle.node_table.specs.Progress.{BreaksOff, ComesSince, Continues, Leaves, error_of}
 use Rattle.node_table.specs.Table.{TableState, IsSound, live_nodes}
 use Rattle.node_table.specs.Tied.{IsTied}
@@ -18,7 +18,8 @@ use Rattle.term_runner.proofs.Leaving.{error_handed}
 
 -- what node_table's laws say of live clauses and of extension variables in use
 abbrev pub Lean : Type 0 → Type 0
-Lean S = (old : TableState S) (number : ℕ) (state : State) → IsSound old → HasAdded old number → ComesSince old.book.state state → IsLean (levels old.graph) old.inputs (number + (state.top - old.book.state.top)) state
+Lean S = (old : TableState S) (number : ℕ) (state : State) → IsSound old → HasAdded old number → ComesSince old.book.state state
+    → IsLean (levels old.graph) old.inputs (number + (state.top - old.book.state.top)) state
 
 abbrev pub InUse : Type 0
 InUse = (graph : Graph) (state : State) → IsTied graph state → in_use (levels graph) state ≡ live_nodes graph
@@ -27,25 +28,32 @@ InUse = (graph : Graph) (state : State) → IsTied graph state → in_use (level
 lean_more : (vars inputs few more : ℕ) (state : State) → few ≤ more → IsLean vars inputs few state → IsLean vars inputs more state
 lean_more vars inputs few more state less lean = omega (arith, less, lean)
 
-module _ {S : Type 0} (lean : Lean S) (uses : InUse) (tells : Bool) (one two three : Channel) (first mid new : TableState S) (so_far : Continues tells one two first mid) where
+module _ {S : Type 0} (lean : Lean S) (uses : InUse) (tells : Bool) (one two three : Channel) (first mid new : TableState S)
+    (so_far : Continues tells one two first mid) where
   -- a state behind the table in the middle
-  module _ (size number moves width price : ℕ) (added : HasAdded mid number) (few : number ≤ 2 * size + first.inputs) (ids : new.book.state.top ≤ first.inputs + moves * price)
+  module _ (size number moves width price : ℕ) (added : HasAdded mid number) (few : number ≤ 2 * size
+      + first.inputs) (ids : new.book.state.top ≤ first.inputs + moves * price)
       (near : new.book.state.top ≤ mid.book.state.top + price) (nodes : live_nodes new.graph ≤ most_nodes width) where
     abbrev Kind : State → Type 0
     Kind = IsPaid (levels first.graph) first.inputs moves size width price
 
-    lean_behind : (state : State) → ComesSince mid.book.state state → state.top ≤ new.book.state.top → IsLean (levels first.graph) first.inputs (2 * size + first.inputs + price) state
+    lean_behind : (state : State) → ComesSince mid.book.state state → state.top ≤ new.book.state.top
+        → IsLean (levels first.graph) first.inputs (2 * size + first.inputs + price) state
     lean_behind state since within =
         let own = lean mid number state so_far.sound added since in
-        let here = subst (λ (vars : ℕ). IsLean vars mid.inputs (number + (state.top - mid.book.state.top)) state) (ap length so_far.order) own in
-        let there = subst (λ (inputs : ℕ). IsLean (levels first.graph) inputs (number + (state.top - mid.book.state.top)) state) so_far.inputs here in
-        lean_more (levels first.graph) first.inputs (number + (state.top - mid.book.state.top)) (2 * size + first.inputs + price) state (omega (arith, few, near, within)) there
+        let here = subst (λ (vars : ℕ). IsLean vars mid.inputs (number + (state.top - mid.book.state.top)) state)
+        (ap length so_far.order) own in
+        let there = subst (λ (inputs : ℕ). IsLean (levels first.graph) inputs (number
+        + (state.top - mid.book.state.top)) state) so_far.inputs here in
+        lean_more (levels first.graph) first.inputs (number + (state.top - mid.book.state.top)) (2 * size + first.inputs
+        + price) state (omega (arith, few, near, within)) there
 
     on : Continues tells two three mid new → Kind new.book.state
     on more = record {
       within = record {
         numbers = ids;
-        nodes = subst (λ (vars : ℕ). in_use vars new.book.state ≤ most_nodes width) (ap length (more.order ∙ so_far.order)) (let same = uses new.graph new.book.state more.sound.tied in omega (arith, same, nodes));
+        nodes = subst (λ (vars : ℕ). in_use vars new.book.state ≤ most_nodes width) (ap length (more.order ∙ so_far.order))
+            (let same = uses new.graph new.book.state more.sound.tied in omega (arith, same, nodes));
       };
       lean = lean_behind new.book.state more.since (omega arith);
     }
@@ -53,14 +61,24 @@ module _ {S : Type 0} (lean : Lean S) (uses : InUse) (tells : Bool) (one two thr
     off : BreaksOff tells two three mid new → LeavesKind tells one three first new Kind (Some WriteFault)
     off broken clauses small proof told =
         let cut = broken.cut clauses (omega (arith, small, so_far.inputs)) (so_far.kept clauses small proof) told in
-        let nodes_in : (state : State) → in_use (levels mid.graph) state ≤ live_nodes new.graph → in_use (levels first.graph) state ≤ most_nodes width =
+        let nodes_in : (state : State) → in_use (levels mid.graph) state ≤ live_nodes new.graph → in_use (levels first.graph) state
+        ≤ most_nodes width =
         λ state own. subst (λ (vars : ℕ). in_use vars state ≤ most_nodes width) (ap length so_far.order) (omega (arith, own, nodes)) in
         record {
           before = cut.before;
           after = new.book.state;
           cut = cut.cut;
-          within_before = record { within = record { numbers = omega (arith, cut.no_less, ids); nodes = nodes_in cut.before cut.within_before.nodes }; lean = lean_behind cut.before cut.since cut.no_less };
-          within_after = record { within = record { numbers = ids; nodes = nodes_in new.book.state cut.within_after.nodes }; lean = lean_behind new.book.state broken.since (omega arith) };
+          within_before = record {
+            within = record {
+              numbers = omega (arith, cut.no_less, ids);
+              nodes = nodes_in cut.before cut.within_before.nodes;
+            };
+            lean = lean_behind cut.before cut.since cut.no_less;
+          };
+          within_after = record {
+            within = record { numbers = ids; nodes = nodes_in new.book.state cut.within_after.nodes };
+            lean = lean_behind new.book.state broken.since (omega arith);
+          };
         }
 
     pub paid_behind : (error : Option TableError) → Leaves tells two three mid new error → LeavesKind tells one three first new Kind error
@@ -75,7 +93,8 @@ pub none_added : {S : Type 0} (table : TableState S) → IsSound table → table
 none_added table sound fresh = record {
   ids = [];
   few = omega arith;
-  all = λ id own. let clause = some_of (clause_at table.book.state.live id) own.stands in let within = (sound.tied.numbers id clause.0 clause.1).1 in absurd (omega (arith, own.above, within, fresh));
+  all = λ id own. let clause = some_of (clause_at table.book.state.live id) own.stands in
+      let within = (sound.tied.numbers id clause.0 clause.1).1 in absurd (omega (arith, own.above, within, fresh));
 }
   where
     some_of : (o : Option (List ℤ)) → is_some o ≡ true → (clause : List ℤ) × (o ≡ Some clause)
@@ -83,12 +102,16 @@ none_added table sound fresh = record {
     some_of (Some clause) is = (clause, refl)
 
 -- what is live in a sound table
-pub lean_here : {S : Type 0} → Lean S → (table : TableState S) → IsSound table → (number : ℕ) → HasAdded table number → IsLean (levels table.graph) table.inputs number table.book.state
+pub lean_here : {S : Type 0} → Lean S → (table : TableState S) → IsSound table → (number : ℕ) → HasAdded table number
+    → IsLean (levels table.graph) table.inputs number table.book.state
 lean_here lean table sound number added =
     let own = lean table number table.book.state sound added (λ id clause is. inl is) in
-    lean_more (levels table.graph) table.inputs (number + (table.book.state.top - table.book.state.top)) number table.book.state (omega arith) own
+    lean_more (levels table.graph) table.inputs (number + (table.book.state.top - table.book.state.top)) number table.book.state
+    (omega arith) own
 
 -- want of memory leaves all in step
-pub kind_of_memory : {S T : Type 0} (tells : Bool) (before after : Channel) (old new : TableState S) (kind : State → Type 0) (r : Result T TableError) → IsErrAnd r (λ e. e ≡ OutOfMemory) → kind new.book.state
+pub kind_of_memory : {S T : Type 0} (tells : Bool) (before after : Channel) (old new : TableState S) (kind : State
+    → Type 0) (r : Result T TableError) → IsErrAnd r (λ e. e ≡ OutOfMemory) → kind new.book.state
     → LeavesKind tells before after old new kind (error_of r)
-kind_of_memory tells before after old new kind r is such = subst (λ (error : Option TableError). LeavesKind tells before after old new kind error) (sym (error_handed r OutOfMemory is)) such
+kind_of_memory tells before after old new kind r is such = subst
+    (λ (error : Option TableError). LeavesKind tells before after old new kind error) (sym (error_handed r OutOfMemory is)) such

@@ -1,5 +1,5 @@
 -- How many clauses a call within a move adds beside definitions, where the caches have room for all pairs of its operands' parts.
-use Rattle.std.proofs.Common.{◌≡◌, ℕ, ◌+◌, ◌*◌, ◌≤◌, Bool, true, List, length, refl, subst, arith}
+use Rattle.std.proofs.Common.{◌≡◌, ℕ, ◌*◌, ◌≤◌, Bool, true, List, length, refl, subst, arith}
 use Rattle.std.proofs.Math.Nat.{mul-le-mul_left, mul-le-mul_right}
 use Rattle.cnf_base.specs.Formula.{Formula}
 use Rattle.node_table.specs.declared.node.Node.{Node}
@@ -15,11 +15,13 @@ use Rattle.term_runner.specs.Width.{HasAtMost, HoldsAtMost, IsInHand, term_funct
 use Rattle.term_runner.proofs.ReachedList.{reached_few}
 
 -- a function with the same values has as many parts
-pub at_most_same : (one other : Levels → Bool) → ((a : Levels) → one a ≡ other a) → (number : ℕ) → HasAtMost one number → HasAtMost other number
+pub at_most_same : (one other : Levels → Bool) → ((a : Levels) → one a ≡ other a) → (number : ℕ) → HasAtMost one number
+    → HasAtMost other number
 at_most_same one other same number few = subst (λ (function : Levels → Bool). HasAtMost function number) (λ i a. same a i) few
 
 -- a term in hand has no more parts than are in hand
-pub few_of_term : (formula : Formula) (order : List ℕ) (before after : Stage) (term : Term) → IsInHand before after term → (width : ℕ) → HoldsAtMost formula order before after width
+pub few_of_term : (formula : Formula) (order : List ℕ) (before after : Stage) (term : Term) → IsInHand before after term → (width : ℕ)
+    → HoldsAtMost formula order before after width
     → HasAtMost (term_function formula order term) width
 few_of_term formula order before after term there width most more =
     most (record {
@@ -37,9 +39,11 @@ few_pairs us vs width few_us few_vs =
     omega (arith, first, second)
 
 -- a call of two nodes, each with few parts
-pub adds_pairs : {S : Type 0} → Subfunctions → Canonical → (old new : TableState S) → IsReduced old.graph → (u v : Node) → is_node old.graph u ≡ true → is_node old.graph v ≡ true → (caches : Caches) (width : ℕ)
+pub adds_pairs : {S : Type 0} → Subfunctions → Canonical → (old new : TableState S) → IsReduced old.graph → (u v : Node)
+    → is_node old.graph u ≡ true → is_node old.graph v ≡ true → (caches : Caches) (width : ℕ)
     → HaveRoom caches width → HasAtMost (λ a. value_of old.graph a u) width → HasAtMost (λ a. value_of old.graph a v) width
-    → ((size : ℕ) (us vs : List Node) → HaveSize caches size → HoldsReached old.graph u us → HoldsReached old.graph v vs → length us * length vs ≤ size → AddsAtMost (2 * (length us * length vs)) old new)
+    → ((size : ℕ) (us vs : List Node) → HaveSize caches size → HoldsReached old.graph u us → HoldsReached old.graph v vs → length us
+    * length vs ≤ size → AddsAtMost (2 * (length us * length vs)) old new)
     → AddsAtMost (2 * (width * width)) old new
 adds_pairs law canonical old new reduced u v is_u is_v caches width room few_u few_v price =
     let us = reached_few law canonical old.graph reduced u is_u (λ a. value_of old.graph a u) (λ a. refl) width few_u in

@@ -14,7 +14,8 @@ use Rattle.term_runner.specs.Width.{Differ, IsEssential, IsPartInHand, IsWider, 
 use Rattle.term_runner.specs.Nodes.{RunsShort}
 use Rattle.term_runner.proofs.Listed.{differ_at, essential_at, function_at, functions_of, key_at, length-functions, listed, some_of}
 
-module _ (canonical : Canonical) (formula : Formula) (order : List ℕ) (moves : List Move) (graph : Graph) (reduced : IsReduced graph) (short : RunsShort formula order moves graph) where
+module _ (canonical : Canonical) (formula : Formula) (order : List ℕ) (moves : List Move) (graph : Graph) (reduced : IsReduced graph)
+    (short : RunsShort formula order moves graph) where
   abbrev es : List (ℕ × Branch)
   es = finmap.entries graph.nodes
 
@@ -24,10 +25,12 @@ module _ (canonical : Canonical) (formula : Formula) (order : List ℕ) (moves :
   in_hand_at : (place : ℕ) → place < length es → IsPartInHand formula order short.before short.after (part_at (functions_of graph es) place)
   in_hand_at place small =
       let found = some_of (branch_at graph (key_at es place)) (stands place small) in
-      subst (IsPartInHand formula order short.before short.after) (sym (function_at graph es place small)) (short.in_hand (key_at es place) found.0 found.1)
+      subst (IsPartInHand formula order short.before short.after) (sym (function_at graph es place small))
+      (short.in_hand (key_at es place) found.0 found.1)
 
   nowhere_at : (place : ℕ) → place < length es → Differ short.further (part_at (functions_of graph es) place)
-  nowhere_at place small same = short.nowhere (inner (key_at es place)) (stands place small) (λ a. sym (λ k. function_at graph es place small k a) ∙ sym (same a))
+  nowhere_at place small same = short.nowhere (inner (key_at es place)) (stands place small)
+      (λ a. sym (λ k. function_at graph es place small k a) ∙ sym (same a))
 
   abbrev all : List (Levels → Bool)
   all = short.further ∷ functions_of graph es
@@ -42,13 +45,15 @@ module _ (canonical : Canonical) (formula : Formula) (order : List ℕ) (moves :
   essential : (place : ℕ) → place < length all → IsEssential (part_at all place)
   essential zero small true same = short.nowhere True refl (λ a. sym (same a))
   essential zero small false same = short.nowhere False refl (λ a. sym (same a))
-  essential (suc place) small value same = essential_at canonical graph reduced es (finmap.entries_sorted graph.nodes) stands place (few place small) value same
+  essential (suc place) small value same = essential_at canonical graph reduced es (finmap.entries_sorted graph.nodes) stands place
+      (few place small) value same
 
   differ : (place other : ℕ) → place < other → other < length all → Differ (part_at all place) (part_at all other)
   differ zero zero less small same = omega (arith, less)
   differ zero (suc other) less small same = nowhere_at other (few other small) same
   differ (suc place) zero less small same = omega (arith, less)
-  differ (suc place) (suc other) less small same = differ_at canonical graph reduced es (finmap.entries_sorted graph.nodes) stands place other (omega (arith, less)) (few other small) same
+  differ (suc place) (suc other) less small same = differ_at canonical graph reduced es
+      (finmap.entries_sorted graph.nodes) stands place other (omega (arith, less)) (few other small) same
 
   pub is_wider : (number : ℕ) → live_nodes graph ≡ number → IsWider formula order moves number
   is_wider number live = record {
@@ -66,11 +71,18 @@ module _ (canonical : Canonical) (formula : Formula) (order : List ℕ) (moves :
   }
 
 -- what is wider than a number is wider than a lesser one
-pub wider_less : (formula : Formula) (order : List ℕ) (moves : List Move) (few number : ℕ) → few ≤ number → IsWider formula order moves number → IsWider formula order moves few
+pub wider_less : (formula : Formula) (order : List ℕ) (moves : List Move) (few number : ℕ) → few ≤ number
+    → IsWider formula order moves number → IsWider formula order moves few
 wider_less formula order moves few number less wider = record {
   count = wider.count;
   before = wider.before;
   after = wider.after;
   move = wider.move;
-  more = record { parts = wider.more.parts; more = omega (arith, less, wider.more.more); are = wider.more.are; essential = wider.more.essential; differ = wider.more.differ };
+  more = record {
+    parts = wider.more.parts;
+    more = omega (arith, less, wider.more.more);
+    are = wider.more.are;
+    essential = wider.more.essential;
+    differ = wider.more.differ;
+  };
 }

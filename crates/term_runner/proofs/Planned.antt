@@ -1,5 +1,6 @@
 -- The nodes that a plan's moves make are of parts of its terms.
-use Rattle.std.proofs.Common.{◌≡◌, ℕ, zero, suc, ◌<◌, Bool, true, ◌&&◌, List, [], ◌∷◌, take, Option, None, Some, is_some, Result, Ok, Err, refl, sym, ap, ◌∙◌, arith, inl, inr, eq-eqb, ne_eqb}
+use Rattle.std.proofs.Common.{◌≡◌, ℕ, zero, suc, ◌<◌, Bool, true, ◌&&◌, List, [], ◌∷◌, take, Option, None, Some, is_some, Result, Ok, Err}
+use Rattle.std.proofs.Common.{refl, sym, ap, ◌∙◌, arith, inl, inr, eq-eqb, ne_eqb}
 use Rattle.std.specs.Prelude.{IfErr, ◌==◌, if◌then◌else◌}
 use Rattle.std.specs.List.{slice_get}
 use Rattle.std.specs.Option.{option_and_then}
@@ -29,57 +30,70 @@ module _ (graph : Graph) (reduced : IsReduced graph) (ordered : IsOrder graph.or
   pub value_there : (a : Levels) (level : ℕ) → level < levels graph → by_variable graph.order a (variable_at graph level) ≡ a level
   value_there a level small =
       ap a (position_or_len_is (λ x. x == variable_at graph level) graph.order level 0 (omega (arith, small))
-      (λ k before. ne_eqb (variable_at graph k) (variable_at graph level) (λ same. omega (arith, before, ordered.apart k level (omega (arith, before, small)) small same)))
+      (λ k before. ne_eqb (variable_at graph k) (variable_at graph level)
+      (λ same. omega (arith, before, ordered.apart k level (omega (arith, before, small)) small same)))
       (λ _. eq-eqb (variable_at graph level) (variable_at graph level) refl))
 
-  pub agree_within : (steps : ℕ) (a b : Levels) (node : Node) → is_node graph node ≡ true → ((level : ℕ) → level < levels graph → a level ≡ b level) → value_within steps graph a node ≡ value_within steps graph b node
+  pub agree_within : (steps : ℕ) (a b : Levels) (node : Node) → is_node graph node ≡ true
+      → ((level : ℕ) → level < levels graph → a level ≡ b level) → value_within steps graph a node ≡ value_within steps graph b node
   agree_within steps a b False is same = refl
   agree_within steps a b True is same = refl
   agree_within zero a b (Inner key) is same = refl
   agree_within (suc steps) a b (Inner key) is same =
       let branch = some_of (branch_at graph key.index) is in
       let at = branch.1 in
-      let same_high : value_within steps graph a branch.0.high ≡ value_within steps graph b branch.0.high = agree_within steps a b branch.0.high (reduced.high key.index branch.0 at).stands same in
-      let same_low : value_within steps graph a branch.0.low ≡ value_within steps graph b branch.0.low = agree_within steps a b branch.0.low (reduced.low key.index branch.0 at).stands same in
+      let same_high : value_within steps graph a branch.0.high ≡ value_within steps graph b branch.0.high =
+      agree_within steps a b branch.0.high (reduced.high key.index branch.0 at).stands same in
+      let same_low : value_within steps graph a branch.0.low ≡ value_within steps graph b branch.0.low = agree_within steps a b branch.0.low
+      (reduced.low key.index branch.0 at).stands same in
       let same_here : a branch.0.level ≡ b branch.0.level = same branch.0.level (reduced.level key.index branch.0 at) in
       ap (branch_value a (value_within steps graph a)) at
       ∙ (λ i. if same_here i then same_high i else same_low i)
       ∙ sym (ap (branch_value b (value_within steps graph b)) at)
 
   -- a node's function by levels, where it is a term's by assignments
-  pub node_function : (formula : Formula) (node : Node) (term : Term) → is_node graph node ≡ true → ((a : Assignment) → value_of graph (by_level graph.order a) node ≡ term_holds formula a term)
+  pub node_function : (formula : Formula) (node : Node) (term : Term) → is_node graph node ≡ true
+      → ((a : Assignment) → value_of graph (by_level graph.order a) node ≡ term_holds formula a term)
       → (a : Levels) → value_of graph a node ≡ term_function formula graph.order term a
   node_function formula node term stands value a =
-      sym (agree_within (levels graph) (by_level graph.order (by_variable graph.order a)) a node stands (λ level small. value_there a level small)) ∙ value (by_variable graph.order a)
+      sym (agree_within (levels graph) (by_level graph.order (by_variable graph.order a)) a node stands
+      (λ level small. value_there a level small)) ∙ value (by_variable graph.order a)
 
   -- the conjunction of two terms' nodes
-  pub both_function : (formula : Formula) (live : Live) (u v : Node) (first second : Just) (one other : Term) → IsTerm graph live (λ a. term_holds formula a one) u first → IsTerm graph live (λ a. term_holds formula a other) v second
+  pub both_function : (formula : Formula) (live : Live) (u v : Node) (first second : Just) (one other : Term)
+      → IsTerm graph live (λ a. term_holds formula a one) u first → IsTerm graph live (λ a. term_holds formula a other) v second
       → conjunction_of graph u v ≡ term_function formula graph.order (both one other)
   both_function formula live u v first second one other is_u is_v =
       λ i a. node_function formula u one is_u.stands is_u.value a i && node_function formula v other is_v.stands is_v.value a i
 
 -- a front of the moves, and one move more
-pub moved_on : (formula : Formula) (moves : List Move) (i : ℕ) (step : Move) (first stage next : Stage) → slice_get moves i ≡ Some step → after_moves formula first (take i moves) ≡ Some stage
+pub moved_on : (formula : Formula) (moves : List Move) (i : ℕ) (step : Move) (first stage next : Stage) → slice_get moves i ≡ Some step
+    → after_moves formula first (take i moves) ≡ Some stage
     → after_move formula stage step ≡ Some next → after_moves formula first (take (suc i) moves) ≡ Some next
 moved_on formula [] zero step first stage next at front is = cc
 moved_on formula [] (suc i) step first stage next at front is = cc
 moved_on formula (move ∷ moves) zero step first stage next at front is =
-    ap (option_and_then (λ (later : Stage). Some later)) ((λ k. after_move formula (inside_stage first stage front k) (inside_move move step at k)) ∙ is)
+    ap (option_and_then (λ (later : Stage). Some later)) ((λ k. after_move formula (inside_stage first stage front k)
+    (inside_move move step at k)) ∙ is)
   where
     inside_stage : (s t : Stage) → Some s ≡ Some t → s ≡ t
     inside_stage s t e = cc
 
     inside_move : (s t : Move) → Some s ≡ Some t → s ≡ t
     inside_move s t e = cc
-moved_on formula (move ∷ moves) (suc i) step first stage next at front is = go (λ later e. moved_on formula moves i step later stage next at e is) (after_move formula first move) front
+moved_on formula (move ∷ moves) (suc i) step first stage next at front is = go
+    (λ later e. moved_on formula moves i step later stage next at e is) (after_move formula first move) front
   where
-    go : ((later : Stage) → after_moves formula later (take i moves) ≡ Some stage → after_moves formula later (take (suc i) moves) ≡ Some next) → (o : Option Stage)
-        → option_and_then (λ later. after_moves formula later (take i moves)) o ≡ Some stage → option_and_then (λ later. after_moves formula later (take (suc i) moves)) o ≡ Some next
+    go : ((later : Stage) → after_moves formula later (take i moves) ≡ Some stage → after_moves formula later (take (suc i) moves)
+        ≡ Some next) → (o : Option Stage)
+        → option_and_then (λ later. after_moves formula later (take i moves)) o ≡ Some stage
+        → option_and_then (λ later. after_moves formula later (take (suc i) moves)) o ≡ Some next
     go further None e = cc
     go further (Some later) e = further later e
 
 -- what was made of a function is kept, or a part of it
-pub keeps_or_makes : Growth → (old new : Graph) (function : Levels → Bool) → IsReduced old → KeepsNodes old new → MakesOnly old new function → KeepsOrMakes old new function
+pub keeps_or_makes : Growth → (old new : Graph) (function : Levels → Bool) → IsReduced old → KeepsNodes old new → MakesOnly old new function
+    → KeepsOrMakes old new function
 keeps_or_makes growth old new function reduced keeps made = record {
   each = λ key branch at. elim (made.each key branch at) [
     | inl there ↦ inl (there, λ a. growth.value old new reduced keeps a (inner key) (ap is_some there))
@@ -90,4 +104,5 @@ keeps_or_makes growth old new function reduced keeps made = record {
 -- want of memory is no limit of nodes
 pub no_limit : {T : Type 0} (result : Result T TableError) → IfErr result (λ e. e ≡ OutOfMemory) → result ≡ Err NodeLimit → ⊥
 no_limit (Ok x) failed is = cc
-no_limit (Err e) failed is = let same : e ≡ NodeLimit = cc in let wrong : ◌≡◌ {A = TableError} OutOfMemory NodeLimit = sym failed ∙ same in cc
+no_limit (Err e) failed is = let same : e ≡ NodeLimit = cc in let wrong : ◌≡◌ {A = TableError} OutOfMemory NodeLimit = sym failed ∙ same in
+    cc

@@ -1,5 +1,6 @@
 -- How many numbers a try of a move gives, and a move in two tries.
-use Rattle.std.proofs.Common.{◌≡◌, ℕ, zero, suc, ◌+◌, ◌*◌, ◌^◌, ◌≤◌, ◌∙◌, Bool, nat_cmp, List, Option, None, Some, refl, sym, ap, subst, arith, inl, inr}
+use Rattle.std.proofs.Common.{◌≡◌, ℕ, zero, suc, ◌+◌, ◌*◌, ◌^◌, ◌≤◌, ◌∙◌, Bool, nat_cmp, List, Option, None, Some, refl, sym, ap, subst}
+use Rattle.std.proofs.Common.{arith, inl, inr}
 use Rattle.std.specs.FinMap as map
 use Rattle.std.proofs.Math.Nat.{add-mul, mul-add, mul-one, one-mul, two-pow-succ}
 use Rattle.cnf_base.specs.Formula.{Formula}
@@ -30,7 +31,8 @@ square : (n : ℕ) → (n + 1) * (n + 1) ≡ n * n + n + n + 1
 square n = omega (arith, add-mul n 1 (n + 1), mul-add n n 1, mul-one n, one-mul (n + 1))
 
 -- a try takes no more than half of a move's price
-pub half_price : (vars size width price : ℕ) → IsMovePrice vars size width price → (first last : ℕ) → last ≤ first + (4 * width + (most_additions vars + 1))
+pub half_price : (vars size width price : ℕ) → IsMovePrice vars size width price → (first last : ℕ) → last ≤ first
+    + (4 * width + (most_additions vars + 1))
     → (width * width ≤ size → last ≤ first + (4 * width + (2 * (width * width) + 1))) → 2 * last ≤ 2 * first + price
 half_price vars size width price is first last any room = elim is [
   | inl by_variables ↦ omega (arith, any, by_variables, most_is vars)
@@ -38,7 +40,8 @@ half_price vars size width price is first last any room = elim is [
 ]
 
 -- however a call ends, the nodes are reduced
-reduced_left : {S : Type 0} (tells : Bool) (before after : Channel) (old new : TableState S) (error : Option TableError) → Leaves tells before after old new error → IsReduced new.graph
+reduced_left : {S : Type 0} (tells : Bool) (before after : Channel) (old new : TableState S) (error : Option TableError)
+    → Leaves tells before after old new error → IsReduced new.graph
 reduced_left tells before after old new None leaves = leaves.sound.tied.reduced
 reduced_left tells before after old new (Some NodeLimit) leaves = leaves.0.sound.tied.reduced
 reduced_left tells before after old new (Some IdLimit) leaves = leaves.0.sound.tied.reduced
@@ -64,9 +67,12 @@ moved_few old new left width tidy few adds =
     elim adds [ inl more ↦ omega (arith, before, more) | inr all ↦ omega (arith, all) ]
 
 -- one try, however it ends
-module _ {S : Type 0} (canonical : Canonical) (formula : Formula) (order : List ℕ) (before after : Stage) (step : Move) (leads : after_move formula before step ≡ Some after) (old new : TableState S)
-    (tells : Bool) (one other : Channel) (error : Option TableError) (leaves : Leaves tells one other old new error) (keeps : KeepsNodes old.graph new.graph)
-    (made : KeepsOrMakes old.graph new.graph (top_function formula order after.stack)) (width : ℕ) (most : HoldsAtMost formula order before after width) where
+module _ {S : Type 0} (canonical : Canonical) (formula : Formula) (order : List ℕ) (before after : Stage) (step : Move)
+    (leads : after_move formula before step ≡ Some after) (old new : TableState S)
+    (tells : Bool) (one other : Channel) (error : Option TableError) (leaves : Leaves tells one other old new error)
+    (keeps : KeepsNodes old.graph new.graph)
+    (made : KeepsOrMakes old.graph new.graph (top_function formula order after.stack)) (width : ℕ)
+    (most : HoldsAtMost formula order before after width) where
   pub tried_few : live_nodes new.graph ≤ live_nodes old.graph + width
   tried_few =
       few_made old.graph new.graph keeps canonical formula order before after (reduced_left tells one other old new error leaves)
@@ -75,9 +81,11 @@ module _ {S : Type 0} (canonical : Canonical) (formula : Formula) (order : List 
         | inr part ↦ result_part formula order before after step leads _ part
       ]) width most
 
-  pub tried : (vars size price : ℕ) → levels old.graph ≡ vars → IsMovePrice vars size width price → AddsAtMost (most_additions (levels old.graph) + 1) old new
+  pub tried : (vars size price : ℕ) → levels old.graph ≡ vars → IsMovePrice vars size width price
+      → AddsAtMost (most_additions (levels old.graph) + 1) old new
       → (width * width ≤ size → AddsAtMost (2 * (width * width) + 1) old new) → 2 * new.book.state.top ≤ 2 * old.book.state.top + price
   tried vars size price same is adds pairs =
       half_price vars size width price is old.book.state.top new.book.state.top
-      (subst (λ (n : ℕ). new.book.state.top ≤ old.book.state.top + (4 * width + (most_additions n + 1))) same (omega (arith, adds, tried_few)))
+      (subst (λ (n : ℕ). new.book.state.top ≤ old.book.state.top
+      + (4 * width + (most_additions n + 1))) same (omega (arith, adds, tried_few)))
       (λ room. let own = pairs room in omega (arith, own, tried_few))

@@ -21,17 +21,23 @@ needs_none (Quantification u level w) of = refl
 
 module _ {S : Type 0} (purging : Purging S) (marks : List Bool) where
   -- where the conjunctions were purged, the implications fit still
-  pub implications_fit_still : Fitting S → (old new : TableState S) (ands left one rest : List Entry) → AreParts ands one rest → IsSound old → Fits old (ands ++ (one ++ rest))
+  pub implications_fit_still : Fitting S → (old new : TableState S) (ands left one rest : List Entry) → AreParts ands one rest → IsSound old
+      → Fits old (ands ++ (one ++ rest))
       → IsPurged old new marks ands left → Fits new one
   implications_fit_still fitting old new ands left one rest parts sound fits purged =
-      implications_fit fitting new left one rest (purging.beside old new marks ands left (one ++ rest) sound fits (conjunctions_apart old ands one rest parts fits) purged).0
+      implications_fit fitting new left one rest (purging.beside old new marks ands left (one
+      ++ rest) sound fits (conjunctions_apart old ands one rest parts fits) purged).0
 
   -- the table stays where such entries go
-  unnamed_purged : (table : TableState S) (before after : List Entry) → AreUnnamed before → after ≡ filter (are_marked marks) before → IsPurged table table marks before after
-  unnamed_purged table before after none same = subst (IsPurged table table marks before) (sym same) (purging.plain table marks before (λ entry there. needs_none entry (none entry there)))
+  unnamed_purged : (table : TableState S) (before after : List Entry) → AreUnnamed before → after ≡ filter (are_marked marks) before
+      → IsPurged table table marks before after
+  unnamed_purged table before after none same = subst (IsPurged table table marks before) (sym same)
+      (purging.plain table marks before (λ entry there. needs_none entry (none entry there)))
 
-  pub all_purged : (old middle new : TableState S) (ands ands_left one one_left two two_left three three_left : List Entry) → AreUnnamed (two ++ three)
-      → IsPurged old middle marks ands ands_left → IsPurged middle new marks one one_left → two_left ≡ filter (are_marked marks) two → three_left ≡ filter (are_marked marks) three
+  pub all_purged : (old middle new : TableState S) (ands ands_left one one_left two two_left three three_left : List Entry)
+      → AreUnnamed (two ++ three)
+      → IsPurged old middle marks ands ands_left → IsPurged middle new marks one one_left → two_left ≡ filter (are_marked marks) two
+      → three_left ≡ filter (are_marked marks) three
       → IsPurged old new marks (ands ++ (one ++ (two ++ three))) (ands_left ++ (one_left ++ (two_left ++ three_left)))
   all_purged old middle new ands ands_left one one_left two two_left three three_left none first second third fourth =
       purging.joined old middle new marks ands ands_left (one ++ (two ++ three)) (one_left ++ (two_left ++ three_left)) first

@@ -16,42 +16,52 @@ use Rattle.operations.specs.Results.{Quantified, with_level}
 use Rattle.quantify.specs.Quantification.{quantification_of}
 use Rattle.clause_terms.specs.Term.{by_variable}
 use Rattle.schedule_plan.specs.Plan.{Term, some_value, term_holds}
-use Rattle.term_runner.specs.declared.held.Held.{Held}
+use Rattle.term_runner.specs.declared.held.HeldTerm.{HeldTerm}
 use Rattle.term_runner.specs.Held.{IsHeld}
 use Rattle.term_runner.specs.Width.{term_function}
 use Rattle.term_runner.proofs.Planned.{agree_within, value_there}
 
 -- one variable set, by its number and by its level
-module _ (graph : Graph) (reduced : IsReduced graph) (ordered : IsOrder graph.order) (level x : ℕ) (within : level < levels graph) (at : variable_at graph level ≡ x) where
-  set_there : (a : Assignment) (value : Bool) (i : ℕ) → i < levels graph → with_level (by_level graph.order a) level value i ≡ by_level graph.order (with_value a x value) i
+module _ (graph : Graph) (reduced : IsReduced graph) (ordered : IsOrder graph.order) (level x : ℕ) (within : level
+    < levels graph) (at : variable_at graph level ≡ x) where
+  set_there : (a : Assignment) (value : Bool) (i : ℕ) → i < levels graph → with_level (by_level graph.order a) level value i
+      ≡ by_level graph.order (with_value a x value) i
   set_there a value i small = elim (cases_eq i level) [
     | inl same ↦
         (λ k. if eq-eqb i level same k then value else a (variable_at graph i))
         ∙ sym (λ k. if eq-eqb (variable_at graph i) x (ap (variable_at graph) same ∙ at) k then value else a (variable_at graph i))
     | inr differ ↦
         (λ k. if ne_eqb i level differ k then value else a (variable_at graph i))
-        ∙ sym (λ k. if ne_eqb (variable_at graph i) x (λ is. differ (ordered.apart i level small within (is ∙ sym at))) k then value else a (variable_at graph i))
+        ∙ sym (λ k. if ne_eqb (variable_at graph i) x (λ is. differ (ordered.apart i level small within (is ∙ sym at))) k then value else a
+        (variable_at graph i))
   ]
 
   -- a term's node with one variable set
-  set_value : (formula : Formula) (term : Term) (u : Node) → is_node graph u ≡ true → ((a : Assignment) → value_of graph (by_level graph.order a) u ≡ term_holds formula a term)
-      → (a : Assignment) (b : Levels) → ((i : ℕ) → i < levels graph → b i ≡ by_level graph.order a i) → (value : Bool) → value_of graph (with_level b level value) u ≡ term_holds formula (with_value a x value) term
+  set_value : (formula : Formula) (term : Term) (u : Node) → is_node graph u ≡ true
+      → ((a : Assignment) → value_of graph (by_level graph.order a) u ≡ term_holds formula a term)
+      → (a : Assignment) (b : Levels) → ((i : ℕ) → i < levels graph → b i ≡ by_level graph.order a i) → (value : Bool)
+      → value_of graph (with_level b level value) u ≡ term_holds formula (with_value a x value) term
   set_value formula term u stands same a b agree value =
       agree_within graph reduced ordered (levels graph) (with_level b level value) (by_level graph.order (with_value a x value)) u stands
       (λ i small. (λ k. if i == level then value else agree i small k) ∙ set_there a value i small)
       ∙ same (with_value a x value)
 
   -- the quantified term, by assignments and by levels
-  pub quantified_value : (formula : Formula) (term : Term) (u : Node) → is_node graph u ≡ true → ((a : Assignment) → value_of graph (by_level graph.order a) u ≡ term_holds formula a term)
+  pub quantified_value : (formula : Formula) (term : Term) (u : Node) → is_node graph u ≡ true
+      → ((a : Assignment) → value_of graph (by_level graph.order a) u ≡ term_holds formula a term)
       → (a : Assignment) → quantification_of graph u level (by_level graph.order a) ≡ term_holds formula a (some_value x term)
   quantified_value formula term u stands same a =
-      λ k. set_value formula term u stands same a (by_level graph.order a) (λ i small. refl) true k || set_value formula term u stands same a (by_level graph.order a) (λ i small. refl) false k
+      λ k. set_value formula term u stands same a (by_level graph.order a) (λ i small. refl) true k
+      || set_value formula term u stands same a (by_level graph.order a) (λ i small. refl) false k
 
-  pub quantified_function : (formula : Formula) (term : Term) (u : Node) → is_node graph u ≡ true → ((a : Assignment) → value_of graph (by_level graph.order a) u ≡ term_holds formula a term)
+  pub quantified_function : (formula : Formula) (term : Term) (u : Node) → is_node graph u ≡ true
+      → ((a : Assignment) → value_of graph (by_level graph.order a) u ≡ term_holds formula a term)
       → quantification_of graph u level ≡ term_function formula graph.order (some_value x term)
   quantified_function formula term u stands same = λ k a.
-      set_value formula term u stands same (by_variable graph.order a) a (λ i small. sym (value_there graph reduced ordered a i small)) true k
-      || set_value formula term u stands same (by_variable graph.order a) a (λ i small. sym (value_there graph reduced ordered a i small)) false k
+      set_value formula term u stands same (by_variable graph.order a) a
+      (λ i small. sym (value_there graph reduced ordered a i small)) true k
+      || set_value formula term u stands same (by_variable graph.order a) a
+      (λ i small. sym (value_there graph reduced ordered a i small)) false k
 
 -- where a node holds, so does its quantification
 own_level : (a : Levels) (level : ℕ) (value : Bool) → a level ≡ value → (i : ℕ) → with_level a level value i ≡ a i
@@ -60,7 +70,8 @@ own_level a level value own i = elim (cases_eq i level) [
   | inr differ ↦ (λ k. if ne_eqb i level differ k then value else a i)
 ]
 
-pub implies_some : (graph : Graph) (u : Node) (level : ℕ) (a : Levels) → value_of graph a u ≡ true → quantification_of graph u level a ≡ true
+pub implies_some : (graph : Graph) (u : Node) (level : ℕ) (a : Levels) → value_of graph a u ≡ true → quantification_of graph u level a
+    ≡ true
 implies_some graph u level a holds = go (a level) refl
   where
     same : (value : Bool) → a level ≡ value → value_of graph (with_level a level value) u ≡ true
@@ -72,16 +83,21 @@ implies_some graph u level a holds = go (a level) refl
 
     go : (value : Bool) → a level ≡ value → quantification_of graph u level a ≡ true
     go true own = (λ k. same true own k || value_of graph (with_level a level false) u)
-    go false own = (λ k. value_of graph (with_level a level true) u || same false own k) ∙ or_true (value_of graph (with_level a level true) u)
+    go false own = (λ k. value_of graph (with_level a level true) u || same false own k)
+        ∙ or_true (value_of graph (with_level a level true) u)
 
 -- the quantified term, with its unit
-module _ (graph : Graph) (reduced : IsReduced graph) (ordered : IsOrder graph.order) (level x : ℕ) (within : level < levels graph) (at : variable_at graph level ≡ x) where
-  pub quantified_held : (formula : Formula) (live : Live) (u : Held) (term : Term) (w : Node) (unit : Just) → IsHeld formula graph live u term → Quantified graph u.node level w
-      → IsJustified live (atom_of graph w ∷ []) unit → w ≢ False → IsHeld formula graph live (record { node = w; unit = unit }) (some_value x term)
+module _ (graph : Graph) (reduced : IsReduced graph) (ordered : IsOrder graph.order) (level x : ℕ) (within : level
+    < levels graph) (at : variable_at graph level ≡ x) where
+  pub quantified_held : (formula : Formula) (live : Live) (u : HeldTerm) (term : Term) (w : Node) (unit : Just)
+      → IsHeld formula graph live u term → Quantified graph u.node level w
+      → IsJustified live (atom_of graph w ∷ []) unit → w ≢ False
+      → IsHeld formula graph live (record { node = w; unit = unit }) (some_value x term)
   quantified_held formula live u term w unit held quantified proved some = record {
     is = record {
       stands = quantified.stands;
-      value = λ a. quantified.value (by_level graph.order a) ∙ quantified_value graph reduced ordered level x within at formula term u.node held.is.stands held.is.value a;
+      value = λ a. quantified.value (by_level graph.order a)
+          ∙ quantified_value graph reduced ordered level x within at formula term u.node held.is.stands held.is.value a;
       proved = proved;
     };
     not_false = some;

@@ -1,6 +1,7 @@
 -- A reclamation between moves: the nodes of the stacked terms and of the trail, which are its roots, stay with their
 -- functions, and so do the terms' units.
-use Rattle.std.proofs.Common.{◌≡◌, ◌∙◌, ◌≤◌, ◌-◌, ◌||◌, ℕ, zero, suc, ℤ, pos, nat_abs, Bool, true, false, List, [], ◌∷◌, map, reverse, length, Option, None, Some, Contains, is_some, int_eq, refl, sym, ap, subst, arith, inl, inr, leb-true}
+use Rattle.std.proofs.Common.{◌≡◌, ◌∙◌, ◌≤◌, ◌-◌, ◌||◌, ℕ, zero, suc, ℤ, pos, nat_abs, Bool, true, false, List, [], ◌∷◌, map, reverse}
+use Rattle.std.proofs.Common.{length, Option, None, Some, Contains, is_some, int_eq, refl, sym, ap, subst, arith, inl, inr, leb-true}
 use Rattle.std.specs.Prelude.{nat_lt, nat_le, slice_index_or}
 use Rattle.std.specs.List.{list_all, list_any}
 use Rattle.std.proofs.lemmas.Bool.{and_parts, cases_lt, false_from_ne_true, or_cases}
@@ -27,7 +28,7 @@ use Rattle.node_table.specs.Value.{by_level, value_of}
 use Rattle.operations.specs.Entries.{Entry}
 use Rattle.reclaim.specs.Reclaimed.{IsOverReached, MayReclaim, Reclaims}
 use Rattle.schedule_plan.specs.Plan.{Stage, Term}
-use Rattle.term_runner.specs.declared.held.Held.{Held}
+use Rattle.term_runner.specs.declared.held.HeldTerm.{HeldTerm}
 use Rattle.term_runner.specs.Held.{AreHeld, AreKept, HasUnits, IsAt, IsHeld, IsKept, IsReady, IsUnitOf}
 use Rattle.term_runner.specs.Tidy.{LeavesReached, held_nodes}
 use Rattle.term_runner.proofs.Inputs.{input_literals, input_live}
@@ -50,48 +51,67 @@ from_reverse : {X : Type 0} (xs : List X) (x : X) → Contains (reverse xs) x �
 from_reverse {X} xs x there = subst (λ (list : List X). Contains list x) (reverse-reverse xs) (in_reverse (reverse xs) x there)
 
 -- the roots are the nodes of the stacked terms and of the trail
-module _ (stack : List Held) (trail : List (ℕ × Node)) where
-  held_root : (held : Held) → Contains (reverse stack) held → Contains (held_nodes stack trail) held.node
+module _ (stack : List HeldTerm) (trail : List (ℕ × Node)) where
+  held_root : (held : HeldTerm) → Contains (reverse stack) held → Contains (held_nodes stack trail) held.node
   held_root held there =
-      Contains-append_left (map (λ (h : Held). h.node) stack) (map (λ (k : ℕ × Node). k.1) trail) held.node (in_map (λ (h : Held). h.node) stack held (from_reverse stack held there))
+      Contains-append_left (map (λ (h : HeldTerm). h.node) stack) (map (λ (k : ℕ × Node). k.1) trail) held.node
+      (in_map (λ (h : HeldTerm). h.node) stack held (from_reverse stack held there))
 
   kept_root : (kept : ℕ × Node) → Contains (reverse trail) kept → Contains (held_nodes stack trail) kept.1
   kept_root kept there =
-      Contains-append_right (map (λ (h : Held). h.node) stack) (map (λ (k : ℕ × Node). k.1) trail) kept.1 (in_map (λ (k : ℕ × Node). k.1) trail kept (from_reverse trail kept there))
+      Contains-append_right (map (λ (h : HeldTerm). h.node) stack) (map (λ (k : ℕ × Node). k.1) trail) kept.1
+      (in_map (λ (k : ℕ × Node). k.1) trail kept (from_reverse trail kept there))
 
 module _ (formula : Formula) (graph : Graph) (live : Live) where
-  pub held_term : (stack : List Held) (terms : List Term) → AreHeld formula graph live stack terms → (held : Held) → Contains stack held
+  pub held_term : (stack : List HeldTerm) (terms : List Term) → AreHeld formula graph live stack terms → (held : HeldTerm)
+      → Contains stack held
       → (term : Term) × Contains terms term × IsHeld formula graph live held term
   held_term [] terms are held there = absurd (omega (arith, there.1))
   held_term (first ∷ stack) [] are held there = absurd are
-  held_term (first ∷ stack) (term ∷ terms) are held (zero, small, at) = (term, (zero, omega arith, refl), subst (λ (h : Held). IsHeld formula graph live h term) at are.0)
+  held_term (first ∷ stack) (term ∷ terms) are held (zero, small, at) = (
+    term,
+    (zero, omega arith, refl),
+    subst (λ (h : HeldTerm). IsHeld formula graph live h term) at are.0,
+  )
   held_term (first ∷ stack) (term ∷ terms) are held (suc k, small, at) =
       let found = held_term stack terms are.1 held (k, omega (arith, small), at) in (found.0, later term terms found.0 found.1, found.2)
 
-  pub kept_term : (nodes : List (ℕ × Node)) (trail : List (ℕ × Term)) → AreKept formula graph nodes trail → (kept : ℕ × Node) → Contains nodes kept
+  pub kept_term : (nodes : List (ℕ × Node)) (trail : List (ℕ × Term)) → AreKept formula graph nodes trail → (kept : ℕ × Node)
+      → Contains nodes kept
       → (quantified : ℕ × Term) × Contains trail quantified × IsKept formula graph kept quantified
   kept_term [] trail are kept there = absurd (omega (arith, there.1))
   kept_term (first ∷ nodes) [] are kept there = absurd are
-  kept_term (first ∷ nodes) (quantified ∷ trail) are kept (zero, small, at) = (quantified, (zero, omega arith, refl), subst (λ (k : ℕ × Node). IsKept formula graph k quantified) at are.0)
+  kept_term (first ∷ nodes) (quantified ∷ trail) are kept (zero, small, at) = (
+    quantified,
+    (zero, omega arith, refl),
+    subst (λ (k : ℕ × Node). IsKept formula graph k quantified) at are.0,
+  )
   kept_term (first ∷ nodes) (quantified ∷ trail) are kept (suc k, small, at) =
-      let found = kept_term nodes trail are.1 kept (k, omega (arith, small), at) in (found.0, later quantified trail found.0 found.1, found.2)
+      let found = kept_term nodes trail are.1 kept (k, omega (arith, small), at) in
+      (found.0, later quantified trail found.0 found.1, found.2)
 
-  pub roots_stand : (stack : List Held) (trail : List (ℕ × Node)) (stage : Stage) → IsAt formula graph live stack trail stage → (root : Node) → Contains (held_nodes stack trail) root → is_node graph root ≡ true
-  roots_stand stack trail stage at root there = elim (Contains-append_cases (map (λ (h : Held). h.node) stack) (map (λ (k : ℕ × Node). k.1) trail) root there) [
-    | inl of_stack ↦
-        let was = of_map (λ (h : Held). h.node) stack root of_stack in
-        subst (λ (node : Node). is_node graph node ≡ true) was.2 (held_term (reverse stack) stage.stack at.held was.0 (in_reverse stack was.0 was.1)).2.is.stands
-    | inr of_trail ↦
-        let was = of_map (λ (k : ℕ × Node). k.1) trail root of_trail in
-        subst (λ (node : Node). is_node graph node ≡ true) was.2 (kept_term (reverse trail) stage.trail at.kept was.0 (in_reverse trail was.0 was.1)).2.stands
-  ]
+  pub roots_stand : (stack : List HeldTerm) (trail : List (ℕ × Node)) (stage : Stage) → IsAt formula graph live stack trail stage
+      → (root : Node) → Contains (held_nodes stack trail) root → is_node graph root ≡ true
+  roots_stand stack trail stage at root there = elim (Contains-append_cases (map (λ (h : HeldTerm). h.node) stack)
+      (map (λ (k : ℕ × Node). k.1) trail) root there) [
+        | inl of_stack ↦
+            let was = of_map (λ (h : HeldTerm). h.node) stack root of_stack in
+            subst (λ (node : Node). is_node graph node ≡ true) was.2
+            (held_term (reverse stack) stage.stack at.held was.0 (in_reverse stack was.0 was.1)).2.is.stands
+        | inr of_trail ↦
+            let was = of_map (λ (k : ℕ × Node). k.1) trail root of_trail in
+            subst (λ (node : Node). is_node graph node ≡ true) was.2
+            (kept_term (reverse trail) stage.trail at.kept was.0 (in_reverse trail was.0 was.1)).2.stands
+      ]
 
 -- The nodes were given back.
-module _ {S : Type 0} (old new : TableState S) (roots : List Node) (before after : List Entry) (reclaims : Reclaims old new roots before after) where
-  pub units_reclaimed : (units : List Held) → HasUnits old before units → HasUnits new after units
+module _ {S : Type 0} (old new : TableState S) (roots : List Node) (before after : List Entry)
+    (reclaims : Reclaims old new roots before after) where
+  pub units_reclaimed : (units : List HeldTerm) → HasUnits old before units → HasUnits new after units
   units_reclaimed units has = record {
     own = λ held there id is accounted. elim accounted [
-      | inl gone ↦ let in_none : Contains [] id = subst (λ (ids : List ℕ). Contains ids id) reclaims.retired gone in omega (arith, in_none.1)
+      | inl gone ↦ let in_none : Contains [] id = subst (λ (ids : List ℕ). Contains ids id) reclaims.retired gone in
+          omega (arith, in_none.1)
       | inr by ↦ has.own held there id is (inr (by.0, reclaims.fewer by.0 by.1, by.2))
     ];
     apart = has.apart;
@@ -107,7 +127,8 @@ module _ {S : Type 0} (old new : TableState S) (roots : List Node) (before after
         elim (has.known id was.0) [ inl accounted ↦ inl (inr (was.1 accounted)) | inr is ↦ inr is ];
   }
 
-module _ {S : Type 0} (growth : Growth) (formula : Formula) (old new : TableState S) (stack : List Held) (trail : List (ℕ × Node)) (before after : List Entry) (sound : IsSound new)
+module _ {S : Type 0} (growth : Growth) (formula : Formula) (old new : TableState S) (stack : List HeldTerm) (trail : List (ℕ × Node))
+    (before after : List Entry) (sound : IsSound new)
     (reclaims : Reclaims old new (held_nodes stack trail) before after) where
   -- what is left was there
   were : KeepsNodes new.graph old.graph
@@ -120,23 +141,32 @@ module _ {S : Type 0} (growth : Growth) (formula : Formula) (old new : TableStat
     where
       there : (o : Option Branch) → branch_at old.graph key.index ≡ o → is_some o ≡ true → is_some (branch_at new.graph key.index) ≡ true
       there None at some = absurd (let e : false ≡ true = some in cc)
-      there (Some branch) at some = ap is_some (reclaims.nodes key.index branch (record { root = Inner key; is_root = root; reaches = record { path = []; ends = refl } }) at)
+      there (Some branch) at some = ap is_some (reclaims.nodes key.index branch
+          (record { root = Inner key; is_root = root; reaches = record { path = []; ends = refl } }) at)
 
-  node_value : (node : Node) → is_node new.graph node ≡ true → (a : Assignment) → value_of new.graph (by_level new.graph.order a) node ≡ value_of old.graph (by_level old.graph.order a) node
-  node_value node is a = (λ k. value_of new.graph (by_level (reclaims.order k) a) node) ∙ sym (growth.value new.graph old.graph sound.tied.reduced were (by_level old.graph.order a) node is)
+  node_value : (node : Node) → is_node new.graph node ≡ true → (a : Assignment) → value_of new.graph (by_level new.graph.order a) node
+      ≡ value_of old.graph (by_level old.graph.order a) node
+  node_value node is a = (λ k. value_of new.graph (by_level (reclaims.order k) a) node)
+      ∙ sym (growth.value new.graph old.graph sound.tied.reduced were (by_level old.graph.order a) node is)
 
-  unit_stays : (node : Node) → is_node new.graph node ≡ true → (unit : Just) → ((id : ℕ) → unit ≡ Clause id → clause_at new.book.state.live id ≡ clause_at old.book.state.live id)
-      → IsJustified old.book.state.live (atom_of old.graph node ∷ []) unit → IsJustified new.book.state.live (atom_of new.graph node ∷ []) unit
+  unit_stays : (node : Node) → is_node new.graph node ≡ true → (unit : Just)
+      → ((id : ℕ) → unit ≡ Clause id → clause_at new.book.state.live id ≡ clause_at old.book.state.live id)
+      → IsJustified old.book.state.live (atom_of old.graph node ∷ []) unit
+      → IsJustified new.book.state.live (atom_of new.graph node ∷ []) unit
   unit_stays node is unit stay proved =
-      subst (λ (atom : Atom). IsJustified new.book.state.live (atom ∷ []) unit) (growth.atom new.graph old.graph were node is) (go unit stay proved)
+      subst (λ (atom : Atom). IsJustified new.book.state.live (atom ∷ []) unit) (growth.atom new.graph old.graph were node is)
+      (go unit stay proved)
     where
-      go : (just : Just) → ((id : ℕ) → just ≡ Clause id → clause_at new.book.state.live id ≡ clause_at old.book.state.live id) → IsJustified old.book.state.live (atom_of old.graph node ∷ []) just
+      go : (just : Just) → ((id : ℕ) → just ≡ Clause id → clause_at new.book.state.live id ≡ clause_at old.book.state.live id)
+          → IsJustified old.book.state.live (atom_of old.graph node ∷ []) just
           → IsJustified new.book.state.live (atom_of old.graph node ∷ []) just
       go Trivial same own = own
       go (Clause id) same own = (own.0, same id refl ∙ own.1)
 
-  all_stay : (held : List Held) (terms : List Term) → ((one : Held) → Contains held one → Contains (held_nodes stack trail) one.node)
-      → ((one : Held) → Contains held one → (id : ℕ) → one.unit ≡ Clause id → clause_at new.book.state.live id ≡ clause_at old.book.state.live id)
+  all_stay : (held : List HeldTerm) (terms : List Term) → ((one : HeldTerm) → Contains held one
+      → Contains (held_nodes stack trail) one.node)
+      → ((one : HeldTerm) → Contains held one → (id : ℕ) → one.unit ≡ Clause id → clause_at new.book.state.live id
+      ≡ clause_at old.book.state.live id)
       → AreHeld formula old.graph old.book.state.live held terms → AreHeld formula new.graph new.book.state.live held terms
   all_stay [] [] roots stay are = tt
   all_stay [] (term ∷ terms) roots stay are = absurd are
@@ -152,10 +182,12 @@ module _ {S : Type 0} (growth : Growth) (formula : Formula) (old new : TableStat
           };
           not_false = are.0.not_false;
         },
-        all_stay held terms (λ other there. roots other (later one held other there)) (λ other there. stay other (later one held other there)) are.1,
+        all_stay held terms (λ other there. roots other (later one held other there))
+            (λ other there. stay other (later one held other there)) are.1,
       )
 
-  trail_stays : (nodes : List (ℕ × Node)) (quantified : List (ℕ × Term)) → ((kept : ℕ × Node) → Contains nodes kept → Contains (held_nodes stack trail) kept.1)
+  trail_stays : (nodes : List (ℕ × Node)) (quantified : List (ℕ × Term))
+      → ((kept : ℕ × Node) → Contains nodes kept → Contains (held_nodes stack trail) kept.1)
       → AreKept formula old.graph nodes quantified → AreKept formula new.graph nodes quantified
   trail_stays [] [] roots are = tt
   trail_stays [] (variable ∷ quantified) roots are = absurd are
@@ -166,21 +198,29 @@ module _ {S : Type 0} (growth : Growth) (formula : Formula) (old new : TableStat
         trail_stays nodes quantified (λ other there. roots other (later kept nodes other there)) are.1,
       )
 
-  pub at_reclaimed : HasUnits old before (reverse stack) → (stage : Stage) → IsAt formula old.graph old.book.state.live stack trail stage → IsAt formula new.graph new.book.state.live stack trail stage
+  pub at_reclaimed : HasUnits old before (reverse stack) → (stage : Stage) → IsAt formula old.graph old.book.state.live stack trail stage
+      → IsAt formula new.graph new.book.state.live stack trail stage
   at_reclaimed has stage at = record {
     held = all_stay (reverse stack) stage.stack (held_root stack trail)
-        (λ held there id is. reclaims.kept id (has.added id (record { held = held; stacked = there; unit = is })) (has.own held there id is)) at.held;
+        (λ held there id is. reclaims.kept id (has.added id (record { held = held; stacked = there; unit = is }))
+        (has.own held there id is)) at.held;
     kept = trail_stays (reverse trail) stage.trail (kept_root stack trail) at.kept;
   }
 
-  pub leaves_reached : Reachability → (stage : Stage) → IsAt formula old.graph old.book.state.live stack trail stage → LeavesReached old.graph new.graph (held_nodes stack trail)
+  pub leaves_reached : Reachability → (stage : Stage) → IsAt formula old.graph old.book.state.live stack trail stage
+      → LeavesReached old.graph new.graph (held_nodes stack trail)
   leaves_reached reach stage at = record {
     order = reclaims.order;
     reduced = sound.tied.reduced;
     nodes = λ key branch there. (reclaims.only key branch there).0;
     reached = λ key branch there.
         let by = (reclaims.only key branch there).1 in
-        record { root = by.root; is_root = by.is_root; reaches = reach.kept_back new.graph old.graph sound.tied.reduced were by.root (inner key) (stand by.root by.is_root) by.reaches };
+        record {
+          root = by.root;
+          is_root = by.is_root;
+          reaches = reach.kept_back new.graph old.graph sound.tied.reduced were by.root
+              (inner key) (stand by.root by.is_root) by.reaches;
+        };
     stand = stand;
     value = λ a node is. sym (growth.value new.graph old.graph sound.tied.reduced were a node is);
   }
@@ -205,14 +245,16 @@ no_literal clause is literal any =
     cc
 
 -- the one literal of a node's unit is that of its extension variable
-unit_variable : (graph : Graph) (node : Node) (clause : List ℤ) → clause_of (atom_of graph node ∷ []) ≡ Some clause → (literal : ℤ) → list_any (int_eq literal) clause ≡ true
+unit_variable : (graph : Graph) (node : Node) (clause : List ℤ) → clause_of (atom_of graph node ∷ []) ≡ Some clause → (literal : ℤ)
+    → list_any (int_eq literal) clause ≡ true
     → (key : ℕ) × (branch : Branch) × (node ≡ inner key) × (branch_at graph key ≡ Some branch) × (nat_abs literal ≡ branch.variable)
 unit_variable graph False clause is literal any = absurd (no_literal clause is literal any)
 unit_variable graph True clause is literal any = absurd (let e : None ≡ Some clause = is in cc)
 unit_variable graph (Inner key) clause is literal any = of_branch (branch_at graph key.index) refl is
   where
     of_branch : (o : Option Branch) → branch_at graph key.index ≡ o → clause_of (atom_in o ∷ []) ≡ Some clause
-        → (own : ℕ) × (branch : Branch) × (Inner key ≡ inner own) × (branch_at graph own ≡ Some branch) × (nat_abs literal ≡ branch.variable)
+        → (own : ℕ) × (branch : Branch) × (Inner key ≡ inner own) × (branch_at graph own ≡ Some branch)
+        × (nat_abs literal ≡ branch.variable)
     of_branch None at one = absurd (no_literal clause one literal any)
     of_branch (Some branch) at one =
         let e : Some (pos branch.variable ∷ []) ≡ Some clause = one in
@@ -224,10 +266,13 @@ unit_variable graph (Inner key) clause is literal any = of_branch (branch_at gra
         ]
 
 -- No clause stands in the way.
-module _ {S : Type 0} (formula : Formula) (table : TableState S) (kept : List Entry) (stack : List Held) (trail : List (ℕ × Node)) (stage : Stage) (ready : IsReady formula table kept)
-    (literals : AreClausesOf formula.vars formula.clauses) (has : HasUnits table kept (reverse stack)) (at : IsAt formula table.graph table.book.state.live stack trail stage) where
+module _ {S : Type 0} (formula : Formula) (table : TableState S) (kept : List Entry) (stack : List HeldTerm) (trail : List (ℕ × Node))
+    (stage : Stage) (ready : IsReady formula table kept)
+    (literals : AreClausesOf formula.vars formula.clauses) (has : HasUnits table kept (reverse stack))
+    (at : IsAt formula table.graph table.book.state.live stack trail stage) where
   -- the formula's clauses are over its variables
-  over_formula : (id : ℕ) (clause : List ℤ) → clause_at table.book.state.live id ≡ Some clause → id ≤ table.inputs → IsOverReached table.graph (held_nodes stack trail) clause
+  over_formula : (id : ℕ) (clause : List ℤ) → clause_at table.book.state.live id ≡ Some clause → id ≤ table.inputs
+      → IsOverReached table.graph (held_nodes stack trail) clause
   over_formula id clause is low literal any key branch stands same =
       let above = (ready.sound.tied.numbers id clause is).0 in
       let own = slice_index_or formula.clauses (id - 1) [] in
@@ -236,14 +281,18 @@ module _ {S : Type 0} (formula : Formula) (table : TableState S) (kept : List En
       let e : Some clause ≡ Some own = sym is ∙ input_live formula table kept ready id from_one to_len own refl in
       let same_clause : own ≡ clause = cc in
       let all : list_all (is_literal_of (levels table.graph)) clause ≡ true =
-      ap (list_all (is_literal_of (levels table.graph))) (sym same_clause) ∙ input_literals formula table kept ready id from_one to_len own refl literals in
-      let good : is_literal_of (levels table.graph) literal ≡ true = passed_by (is_literal_of (levels table.graph)) literal clause all any in
-      let small = leb-true (nat_abs literal) (levels table.graph) (and_parts (nat_lt 0 (nat_abs literal)) (nat_le (nat_abs literal) (levels table.graph)) good).1 in
+      ap (list_all (is_literal_of (levels table.graph))) (sym same_clause)
+      ∙ input_literals formula table kept ready id from_one to_len own refl literals in
+      let good : is_literal_of (levels table.graph) literal ≡ true = passed_by
+      (is_literal_of (levels table.graph)) literal clause all any in
+      let small = leb-true (nat_abs literal) (levels table.graph)
+      (and_parts (nat_lt 0 (nat_abs literal)) (nat_le (nat_abs literal) (levels table.graph)) good).1 in
       let extension = ready.sound.tied.reduced.above key branch stands in
       absurd (omega (arith, small, extension, same))
 
   -- the unit of a stacked term is over its node
-  over_unit : (id : ℕ) (clause : List ℤ) → clause_at table.book.state.live id ≡ Some clause → IsUnitOf (reverse stack) id → IsOverReached table.graph (held_nodes stack trail) clause
+  over_unit : (id : ℕ) (clause : List ℤ) → clause_at table.book.state.live id ≡ Some clause → IsUnitOf (reverse stack) id
+      → IsOverReached table.graph (held_nodes stack trail) clause
   over_unit id clause is by literal any key branch stands same =
       let held = by.held in
       let term = held_term formula table.graph table.book.state.live (reverse stack) stage.stack at.held held by.stacked in
@@ -251,7 +300,11 @@ module _ {S : Type 0} (formula : Formula) (table : TableState S) (kept : List En
       subst (λ (unit : Just). IsJustified table.book.state.live (atom_of table.graph held.node ∷ []) unit) by.unit term.2.is.proved in
       let own = unit_variable table.graph held.node clause (sym proved.1 ∙ is) literal any in
       let one : own.0 ≡ key = ready.sound.tied.reduced.apart own.0 key own.1 branch own.3 stands (sym own.4 ∙ same) in
-      record { root = held.node; is_root = held_root stack trail held by.stacked; reaches = record { path = []; ends = own.2 ∙ ap inner one } }
+      record {
+        root = held.node;
+        is_root = held_root stack trail held by.stacked;
+        reaches = record { path = []; ends = own.2 ∙ ap inner one };
+      }
 
   pub may_reclaim : MayReclaim table kept (held_nodes stack trail)
   may_reclaim id clause is defines_none = elim (cases_lt table.inputs id) [
@@ -260,7 +313,8 @@ module _ {S : Type 0} (formula : Formula) (table : TableState S) (kept : List En
         let added : IsAddedTo table id = record {
           stands = ap is_some is;
           above = above;
-          defines_none = λ key branch stands. false_from_ne_true (is_defined_by (defs_of branch) id) (λ defines. defines_none (record { key = key; branch = branch; stands = stands; defines = defines }));
+          defines_none = λ key branch stands. false_from_ne_true (is_defined_by (defs_of branch) id)
+              (λ defines. defines_none (record { key = key; branch = branch; stands = stands; defines = defines }));
         } in
         elim (has.known id added) [ inl accounted ↦ inl accounted | inr by ↦ inr (over_unit id clause is by) ]
   ]

@@ -9,45 +9,45 @@ use Rattle.node_table.specs.Laws.{StepByStep}
 use Rattle.node_table.specs.Table.{TableState, Extends, IsAddedTo, IsSound}
 use Rattle.host_io.specs.Channel.{Channel}
 use Rattle.operations.specs.Entries.{Entry, IsAccounted, NamesOnly, RetiresOwn}
-use Rattle.term_runner.specs.declared.held.Held.{Held}
+use Rattle.term_runner.specs.declared.held.HeldTerm.{HeldTerm}
 use Rattle.term_runner.specs.Held.{GivesUnit, HasUnits, IsUnitOf, RetiresBut, UnitsApart}
 use Rattle.term_runner.proofs.OwnUnits.{unaccounted_after, within_top}
 
 -- the unit of a term of the one part of the stack, or of the other
-pub unit_left : (one rest : List Held) (id : ℕ) → IsUnitOf one id → IsUnitOf (one ++ rest) id
+pub unit_left : (one rest : List HeldTerm) (id : ℕ) → IsUnitOf one id → IsUnitOf (one ++ rest) id
 unit_left one rest id is = record { held = is.held; stacked = Contains-append_left one rest is.held is.stacked; unit = is.unit }
 
-pub unit_right : (one rest : List Held) (id : ℕ) → IsUnitOf rest id → IsUnitOf (one ++ rest) id
+pub unit_right : (one rest : List HeldTerm) (id : ℕ) → IsUnitOf rest id → IsUnitOf (one ++ rest) id
 unit_right one rest id is = record { held = is.held; stacked = Contains-append_right one rest is.held is.stacked; unit = is.unit }
 
-either_unit : (one rest : List Held) (id : ℕ) → IsUnitOf (one ++ rest) id → IsUnitOf one id ⊎ IsUnitOf rest id
+either_unit : (one rest : List HeldTerm) (id : ℕ) → IsUnitOf (one ++ rest) id → IsUnitOf one id ⊎ IsUnitOf rest id
 either_unit one rest id is = elim (Contains-append_cases one rest is.held is.stacked) [
   | inl there ↦ inl (record { held = is.held; stacked = there; unit = is.unit })
   | inr there ↦ inr (record { held = is.held; stacked = there; unit = is.unit })
 ]
 
 -- that of the first term, or of a later one
-pub first_unit : (held : Held) (rest : List Held) (id : ℕ) → held.unit ≡ Clause id → IsUnitOf (held ∷ rest) id
+pub first_unit : (held : HeldTerm) (rest : List HeldTerm) (id : ℕ) → held.unit ≡ Clause id → IsUnitOf (held ∷ rest) id
 first_unit held rest id is = record { held = held; stacked = (zero, omega arith, refl); unit = is }
 
-pub later_unit : (held : Held) (rest : List Held) (id : ℕ) → IsUnitOf rest id → IsUnitOf (held ∷ rest) id
+pub later_unit : (held : HeldTerm) (rest : List HeldTerm) (id : ℕ) → IsUnitOf rest id → IsUnitOf (held ∷ rest) id
 later_unit held rest id is = unit_right (held ∷ []) rest id is
 
-pub which_unit : (held : Held) (rest : List Held) (id : ℕ) → IsUnitOf (held ∷ rest) id → (held.unit ≡ Clause id) ⊎ IsUnitOf rest id
+pub which_unit : (held : HeldTerm) (rest : List HeldTerm) (id : ℕ) → IsUnitOf (held ∷ rest) id → (held.unit ≡ Clause id) ⊎ IsUnitOf rest id
 which_unit held rest id is = at is.held is.stacked is.unit
   where
-    at : (one : Held) → Contains (held ∷ rest) one → one.unit ≡ Clause id → (held.unit ≡ Clause id) ⊎ IsUnitOf rest id
-    at one (zero, small, same) named = inl (ap (λ (h : Held). h.unit) same ∙ named)
+    at : (one : HeldTerm) → Contains (held ∷ rest) one → one.unit ≡ Clause id → (held.unit ≡ Clause id) ⊎ IsUnitOf rest id
+    at one (zero, small, same) named = inl (ap (λ (h : HeldTerm). h.unit) same ∙ named)
     at one (suc k, small, same) named = inr (record { held = one; stacked = (k, omega (arith, small), same); unit = named })
 
 pub no_unit : (id : ℕ) → IsUnitOf [] id → ⊥
 no_unit id is = let there = is.stacked in absurd (omega (arith, there.1))
 
-apart_rest : (one rest : List Held) → UnitsApart (one ++ rest) → UnitsApart rest
+apart_rest : (one rest : List HeldTerm) → UnitsApart (one ++ rest) → UnitsApart rest
 apart_rest [] rest apart = apart
 apart_rest (held ∷ one) rest apart = apart_rest one rest apart.1
 
-apart_parts : (one rest : List Held) → UnitsApart (one ++ rest) → (id : ℕ) → IsUnitOf one id → IsUnitOf rest id → ⊥
+apart_parts : (one rest : List HeldTerm) → UnitsApart (one ++ rest) → (id : ℕ) → IsUnitOf one id → IsUnitOf rest id → ⊥
 apart_parts [] rest apart id is other = no_unit id is
 apart_parts (held ∷ one) rest apart id is other = elim (which_unit held one id is) [
   | inl first ↦ apart.0 id first (unit_right one rest id other)
@@ -55,7 +55,7 @@ apart_parts (held ∷ one) rest apart id is other = elim (which_unit held one id
 ]
 
 -- The operands' units are retired, but for one that is kept, and nothing else.
-pub record RetiresUnits {S : Type 0} (old new : TableState S) (operands : List Held) (kept : Just) : Type 0 where
+pub record RetiresUnits {S : Type 0} (old new : TableState S) (operands : List HeldTerm) (kept : Just) : Type 0 where
   pub same : new ≡ record old { retired = new.retired }
   pub still : (id : ℕ) → Contains old.retired id → Contains new.retired id
   pub only : (id : ℕ) → Contains new.retired id → Contains old.retired id ⊎ (IsUnitOf operands id × (kept ≡ Clause id → ⊥))
@@ -71,7 +71,8 @@ module _ {S : Type 0} where
   }
 
   -- one operand more
-  pub one_more_retired : (old mid new : TableState S) (operands : List Held) (held : Held) (kept : Just) → RetiresUnits old mid operands kept → RetiresBut mid new held.unit kept
+  pub one_more_retired : (old mid new : TableState S) (operands : List HeldTerm) (held : HeldTerm) (kept : Just)
+      → RetiresUnits old mid operands kept → RetiresBut mid new held.unit kept
       → RetiresUnits old new (held ∷ operands) kept
   one_more_retired old mid new operands held kept before more = record {
     same = more.same ∙ ap (λ (t : TableState S). record t { retired = new.retired }) before.same;
@@ -93,14 +94,18 @@ module _ {S : Type 0} where
   }
 
   -- a stacked unit is neither retired nor named after a call
-  pub free_after : (old new : TableState S) (before after : List Entry) (stack : List Held) → IsSound old → HasUnits old before stack → RetiresOwn old new before
+  pub free_after : (old new : TableState S) (before after : List Entry) (stack : List HeldTerm) → IsSound old → HasUnits old before stack
+      → RetiresOwn old new before
       → NamesOnly before after old.book.state new.book.state → (id : ℕ) → IsUnitOf stack id → IsAccounted new after id → ⊥
   free_after old new before after stack sound has retires named id is =
-      unaccounted_after old new before after id (within_top old sound id (has.added id is).stands) (has.own is.held is.stacked id is.unit) retires named
+      unaccounted_after old new before after id (within_top old sound id (has.added id is).stands)
+      (has.own is.held is.stacked id is.unit) retires named
 
 -- The one unit takes the place of the operands'.
-module _ {S : Type 0} (tells : Bool) (channel : S → Channel) (laws : StepByStep tells channel) (old new last : TableState S) (before after : List Entry) (operands rest : List Held) (result : Held)
-    (sound : IsSound old) (more : IsSound new) (extends : Extends old new) (has : HasUnits old before (operands ++ rest)) (gives : GivesUnit old new before after operands result.unit)
+module _ {S : Type 0} (tells : Bool) (channel : S → Channel) (laws : StepByStep tells channel) (old new last : TableState S)
+    (before after : List Entry) (operands rest : List HeldTerm) (result : HeldTerm)
+    (sound : IsSound old) (more : IsSound new) (extends : Extends old new) (has : HasUnits old before (operands ++ rest))
+    (gives : GivesUnit old new before after operands result.unit)
     (retires : RetiresUnits new last operands result.unit) where
   within : (id : ℕ) → IsUnitOf (operands ++ rest) id → id ≤ old.book.state.top
   within id is = within_top old sound id (has.added id is).stands

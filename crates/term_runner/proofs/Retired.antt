@@ -11,7 +11,8 @@ use Rattle.term_runner.specs.Held.{RetiresBut}
 
 -- the clause of a unit, unless it is that of the one that is kept
 abbrev pub IsGivenUp : Just → Just → Option ℕ → Type 0
-IsGivenUp unit kept given = MatchOption given ((id : ℕ) → unit ≡ Clause id → kept ≡ Clause id) (λ id. (unit ≡ Clause id) × (kept ≡ Clause id → ⊥))
+IsGivenUp unit kept given = MatchOption given ((id : ℕ) → unit ≡ Clause id → kept ≡ Clause id) (λ id. (unit ≡ Clause id)
+    × (kept ≡ Clause id → ⊥))
 
 same_some : (id other : ℕ) → ◌≡◌ {A = Option ℕ} (Some id) (Some other) → id ≡ other
 same_some id other is = cc
@@ -19,22 +20,26 @@ same_some id other is = cc
 no_some : (id : ℕ) → ◌≡◌ {A = Option ℕ} None (Some id) → ⊥
 no_some id is = cc
 
-pub given_clause : (unit kept : Just) (given : Option ℕ) → IsGivenUp unit kept given → (id : ℕ) → given ≡ Some id → (unit ≡ Clause id) × (kept ≡ Clause id → ⊥)
+pub given_clause : (unit kept : Just) (given : Option ℕ) → IsGivenUp unit kept given → (id : ℕ) → given ≡ Some id → (unit ≡ Clause id)
+    × (kept ≡ Clause id → ⊥)
 given_clause unit kept None up id is = absurd (no_some id is)
 given_clause unit kept (Some other) up id is = subst (λ (n : ℕ). (unit ≡ Clause n) × (kept ≡ Clause n → ⊥)) (same_some other id is) up
 
 same_clause : (id other : ℕ) → Clause id ≡ Clause other → id ≡ other
 same_clause id other is = cc
 
-given_or_kept : (unit kept : Just) (given : Option ℕ) → IsGivenUp unit kept given → (id : ℕ) → unit ≡ Clause id → (given ≡ Some id) ⊎ (kept ≡ Clause id)
+given_or_kept : (unit kept : Just) (given : Option ℕ) → IsGivenUp unit kept given → (id : ℕ) → unit ≡ Clause id → (given ≡ Some id)
+    ⊎ (kept ≡ Clause id)
 given_or_kept unit kept None up id is = inr (up id is)
 given_or_kept unit kept (Some other) up id is = inl (ap Some (same_clause other id (sym up.0 ∙ is)))
 
-pub retired_but : {S : Type 0} (tells : Bool) (channel : S → Channel) (old new : TableState S) (unit kept : Just) (given : Option ℕ) → IsGivenUp unit kept given → RetiresOne tells channel old new given
+pub retired_but : {S : Type 0} (tells : Bool) (channel : S → Channel) (old new : TableState S) (unit kept : Just) (given : Option ℕ)
+    → IsGivenUp unit kept given → RetiresOne tells channel old new given
     → RetiresBut old new unit kept
 retired_but tells channel old new unit kept given up one = record {
   same = one.same;
-  still = λ id there. subst (λ (ids : List ℕ). Contains ids id) (sym one.steps.extends.retired) (Contains-append_left old.retired one.steps.extends.more id there);
+  still = λ id there. subst (λ (ids : List ℕ). Contains ids id) (sym one.steps.extends.retired)
+      (Contains-append_left old.retired one.steps.extends.more id there);
   only = λ id there. elim (one.only id there) [
     | inl was ↦ inl was
     | inr is ↦ inr (given_clause unit kept given up id is)

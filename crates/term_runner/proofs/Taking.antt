@@ -12,10 +12,16 @@ pub record IsPushed (formula : Formula) (stage next : Stage) (i : ℕ) : Type 0 
   pub stack : next.stack ≡ input i ∷ stage.stack
   pub trail : next.trail ≡ stage.trail
 
-pub push_of : (formula : Formula) (stage next : Stage) (step : Move) (i : ℕ) → step ≡ Push i → after_move formula stage step ≡ Some next → IsPushed formula stage next i
+pub push_of : (formula : Formula) (stage next : Stage) (step : Move) (i : ℕ) → step ≡ Push i → after_move formula stage step ≡ Some next
+    → IsPushed formula stage next i
 push_of formula stage next step i named is =
     let pushed = pushed_of formula stage next i (subst (λ (m : Move). after_move formula stage m ≡ Some next) named is) in
-    record { from_one = pushed.0; to_len = pushed.1; stack = ap (λ (s : Stage). s.stack) pushed.2; trail = ap (λ (s : Stage). s.trail) pushed.2 }
+    record {
+      from_one = pushed.0;
+      to_len = pushed.1;
+      stack = ap (λ (s : Stage). s.stack) pushed.2;
+      trail = ap (λ (s : Stage). s.trail) pushed.2;
+    }
 
 pub record IsConjoined (stage next : Stage) : Type 0 where
   pub one : Term
@@ -29,13 +35,24 @@ two_of : (stage next : Stage) (stack : List Term) → stage.stack ≡ stack → 
 two_of stage next [] here is = cc
 two_of stage next (top ∷ []) here is = cc
 two_of stage next (top ∷ below ∷ rest) here is =
-    record { one = below; other = top; rest = rest; before = here; after = sym (ap (λ (s : Stage). s.stack) (inside _ next is)); trail = sym (ap (λ (s : Stage). s.trail) (inside _ next is)) }
+    record {
+      one = below;
+      other = top;
+      rest = rest;
+      before = here;
+      after = sym (ap (λ (s : Stage). s.stack) (inside _ next is));
+      trail = sym (ap (λ (s : Stage). s.trail) (inside _ next is));
+    }
   where
     inside : (s t : Stage) → Some s ≡ Some t → s ≡ t
     inside s t e = cc
 
-pub and_of : (formula : Formula) (stage next : Stage) (step : Move) → step ≡ And → after_move formula stage step ≡ Some next → IsConjoined stage next
-and_of formula stage next step named is = two_of stage next stage.stack refl (subst (λ (m : Move). after_move formula stage m ≡ Some next) named is)
+pub and_of : (formula : Formula) (stage next : Stage) (step : Move) → step ≡ And → after_move formula stage step ≡ Some next
+    → IsConjoined stage next
+and_of formula stage next step named is = two_of stage next stage.stack refl
+    (subst (λ (m : Move). after_move formula stage m ≡ Some next) named is)
 
-pub exists_of : (formula : Formula) (stage next : Stage) (step : Move) (x : ℕ) → step ≡ Exists x → after_move formula stage step ≡ Some next → IsAfterExists formula stage next x stage.stack
-exists_of formula stage next step x named is = quantified_of formula stage next x stage.stack (subst (λ (m : Move). after_move formula stage m ≡ Some next) named is)
+pub exists_of : (formula : Formula) (stage next : Stage) (step : Move) (x : ℕ) → step ≡ Exists x → after_move formula stage step ≡ Some next
+    → IsAfterExists formula stage next x stage.stack
+exists_of formula stage next step x named is = quantified_of formula stage next x stage.stack
+    (subst (λ (m : Move). after_move formula stage m ≡ Some next) named is)

@@ -12,24 +12,27 @@ use Rattle.node_table.specs.Made.{inner}
 use Rattle.node_table.specs.Table.{live_nodes}
 use Rattle.node_table.specs.Value.{Levels, IsSubfunction, value_of}
 use Rattle.schedule_plan.specs.Plan.{Stage}
-use Rattle.term_runner.specs.declared.held.Held.{Held}
+use Rattle.term_runner.specs.declared.held.HeldTerm.{HeldTerm}
 use Rattle.term_runner.specs.Held.{IsAt}
 use Rattle.term_runner.specs.Nodes.{KeepsOrMakes}
 use Rattle.term_runner.specs.Tidy.{LeavesReached, WereLeft, held_nodes}
 
-part_same : (function part other : Levels → Bool) → ((a : Levels) → other a ≡ part a) → IsSubfunction function part → IsSubfunction function other
+part_same : (function part other : Levels → Bool) → ((a : Levels) → other a ≡ part a) → IsSubfunction function part
+    → IsSubfunction function other
 part_same function part other same is = record { level = is.level; fixed = is.fixed; same = λ a. same a ∙ is.same a }
 
 pub none_made : (graph : Graph) (function : Levels → Bool) → KeepsOrMakes graph graph function
 none_made graph function = record { each = λ key branch at. inl (at, λ a. refl) }
 
 -- what was there or was made before a reclamation, and behind it
-pub made_behind : (old one two new : Graph) (roots : List Node) (function : Levels → Bool) → KeepsOrMakes old one function → LeavesReached one two roots → KeepsOrMakes two new function
+pub made_behind : (old one two new : Graph) (roots : List Node) (function : Levels → Bool) → KeepsOrMakes old one function
+    → LeavesReached one two roots → KeepsOrMakes two new function
     → KeepsOrMakes old new function
 made_behind old one two new roots function before left behind = record {
   each = λ key branch at. elim (behind.each key branch at) [
     | inl there ↦
-        let same : (a : Levels) → value_of new a (inner key) ≡ value_of one a (inner key) = λ a. there.1 a ∙ left.value a (inner key) (ap is_some there.0) in
+        let same : (a : Levels) → value_of new a (inner key) ≡ value_of one a (inner key) = λ a. there.1 a
+        ∙ left.value a (inner key) (ap is_some there.0) in
         elim (before.each key branch (left.nodes key branch there.0)) [
           | inl was ↦ inl (was.0, λ a. same a ∙ was.1 a)
           | inr part ↦ inr (part_same function (λ a. value_of one a (inner key)) (λ a. value_of new a (inner key)) same part)
@@ -38,7 +41,8 @@ made_behind old one two new roots function before left behind = record {
   ];
 }
 
-abbrev pub were_left : (formula : Formula) (old new : Graph) (live : Live) (stack : List Held) (trail : List (ℕ × Node)) (stage : Stage) (order : List ℕ) (left : ℕ) → IsAt formula new live stack trail stage
+abbrev pub were_left : (formula : Formula) (old new : Graph) (live : Live) (stack : List HeldTerm) (trail : List (ℕ × Node)) (stage : Stage)
+    (order : List ℕ) (left : ℕ) → IsAt formula new live stack trail stage
     → LeavesReached old new (held_nodes stack trail) → new.order ≡ order → left ≡ live_nodes new → WereLeft formula order stage left
 were_left formula old new live stack trail stage order left at reached same count = record {
   graph = new;

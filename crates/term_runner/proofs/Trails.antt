@@ -1,6 +1,7 @@
 -- The trail of a run: its nodes as the graph grows, its variables, and what is left to recover where all clauses are
 -- tautologies.
-use Rattle.std.proofs.Common.{◌≡◌, ◌∙◌, ◌++◌, ◌≤◌, ◌<◌, ℕ, zero, suc, Bool, true, false, ◌&&◌, List, [], ◌∷◌, map, reverse, Some, Contains, refl, sym, ap, subst, arith, inl, inr, eq-eqb, ne_eqb}
+use Rattle.std.proofs.Common.{◌≡◌, ◌∙◌, ◌++◌, ◌≤◌, ◌<◌, ℕ, zero, suc, Bool, true, false, ◌&&◌, List, [], ◌∷◌, map, reverse, Some, Contains}
+use Rattle.std.proofs.Common.{refl, sym, ap, subst, arith, inl, inr, eq-eqb, ne_eqb}
 use Rattle.std.specs.Prelude.{if◌then◌else◌}
 use Rattle.std.proofs.lemmas.Bool.{and_from, and_parts, cases_eq}
 use Rattle.std.proofs.lemmas.List.{reverse-append}
@@ -22,24 +23,32 @@ use Rattle.term_runner.proofs.Least.{recovered}
 use Rattle.term_runner.proofs.Plans.{AllHold, first_of_moves, inside, pushed_of, quantified_of, true_after, true_after_all}
 
 -- the nodes stay, and one more is put behind them
-pub one_grown : Growth → (formula : Formula) (old new : Graph) → IsReduced old → KeepsNodes old new → (kept : ℕ × Node) (quantified : ℕ × Term) → IsKept formula old kept quantified → IsKept formula new kept quantified
+pub one_grown : Growth → (formula : Formula) (old new : Graph) → IsReduced old → KeepsNodes old new
+    → (kept : ℕ × Node) (quantified : ℕ × Term) → IsKept formula old kept quantified → IsKept formula new kept quantified
 one_grown growth formula old new reduced keeps kept quantified is = record {
   variable = is.variable;
   stands = growth.stands old new keeps kept.1 is.stands;
-  value = λ a. (λ k. value_of new (by_level (keeps.order k) a) kept.1) ∙ growth.value old new reduced keeps (by_level old.order a) kept.1 is.stands ∙ is.value a;
+  value = λ a. (λ k. value_of new (by_level (keeps.order k) a) kept.1)
+      ∙ growth.value old new reduced keeps (by_level old.order a) kept.1 is.stands ∙ is.value a;
 }
 
-pub kept_grown : Growth → (formula : Formula) (old new : Graph) → IsReduced old → KeepsNodes old new → (nodes : List (ℕ × Node)) (trail : List (ℕ × Term)) → AreKept formula old nodes trail → AreKept formula new nodes trail
+pub kept_grown : Growth → (formula : Formula) (old new : Graph) → IsReduced old → KeepsNodes old new
+    → (nodes : List (ℕ × Node)) (trail : List (ℕ × Term)) → AreKept formula old nodes trail → AreKept formula new nodes trail
 kept_grown growth formula old new reduced keeps [] [] are = tt
 kept_grown growth formula old new reduced keeps [] (quantified ∷ trail) are = absurd are
 kept_grown growth formula old new reduced keeps (kept ∷ nodes) [] are = absurd are
-kept_grown growth formula old new reduced keeps (kept ∷ nodes) (quantified ∷ trail) are =
-    (one_grown growth formula old new reduced keeps kept quantified are.0, kept_grown growth formula old new reduced keeps nodes trail are.1)
+kept_grown growth formula old new reduced keeps (kept ∷ nodes) (quantified ∷ trail) are = (
+  one_grown growth formula old new reduced keeps kept quantified are.0,
+  kept_grown growth formula old new reduced keeps nodes trail are.1,
+)
 
-pub kept_pushed : (formula : Formula) (graph : Graph) (before after : List (ℕ × Node)) (kept : ℕ × Node) (quantified : ℕ × Term) (trail : List (ℕ × Term)) → after ≡ before ++ kept ∷ []
-    → IsKept formula graph kept quantified → AreKept formula graph (reverse before) trail → AreKept formula graph (reverse after) (quantified ∷ trail)
+pub kept_pushed : (formula : Formula) (graph : Graph) (before after : List (ℕ × Node)) (kept : ℕ × Node) (quantified : ℕ
+    × Term) (trail : List (ℕ × Term)) → after ≡ before ++ kept ∷ []
+    → IsKept formula graph kept quantified → AreKept formula graph (reverse before) trail
+    → AreKept formula graph (reverse after) (quantified ∷ trail)
 kept_pushed formula graph before after kept quantified trail is one are =
-    subst (λ (nodes : List (ℕ × Node)). AreKept formula graph nodes (quantified ∷ trail)) (sym (ap reverse is ∙ reverse-append before (kept ∷ []))) (one, are)
+    subst (λ (nodes : List (ℕ × Node)). AreKept formula graph nodes (quantified ∷ trail))
+    (sym (ap reverse is ∙ reverse-append before (kept ∷ []))) (one, are)
 
 -- the quantified variables are some of the formula's
 abbrev pub AreVariables : Formula → List (ℕ × Term) → Type 0
@@ -51,14 +60,17 @@ trail_after_and stage next [] is = cc
 trail_after_and stage next (top ∷ []) is = cc
 trail_after_and stage next (top ∷ below ∷ rest) is = sym (ap (λ (s : Stage). s.trail) (inside _ next is))
 
-variables_after : (formula : Formula) (stage next : Stage) (move : Move) → after_move formula stage move ≡ Some next → AreVariables formula stage.trail → AreVariables formula next.trail
-variables_after formula stage next (Push i) is are = subst (λ (s : Stage). AreVariables formula s.trail) (sym (pushed_of formula stage next i is).2) are
+variables_after : (formula : Formula) (stage next : Stage) (move : Move) → after_move formula stage move ≡ Some next
+    → AreVariables formula stage.trail → AreVariables formula next.trail
+variables_after formula stage next (Push i) is are = subst (λ (s : Stage). AreVariables formula s.trail)
+    (sym (pushed_of formula stage next i is).2) are
 variables_after formula stage next And is are = subst (AreVariables formula) (sym (trail_after_and stage next stage.stack is)) are
 variables_after formula stage next (Exists x) is are =
     let given = quantified_of formula stage next x stage.stack is in
     subst (λ (s : Stage). AreVariables formula s.trail) (sym given.after) (given.above, given.within, are)
 
-pub are_variables : (formula : Formula) (moves : List Move) (stage last : Stage) → after_moves formula stage moves ≡ Some last → AreVariables formula stage.trail → AreVariables formula last.trail
+pub are_variables : (formula : Formula) (moves : List Move) (stage last : Stage) → after_moves formula stage moves ≡ Some last
+    → AreVariables formula stage.trail → AreVariables formula last.trail
 are_variables formula [] stage last is are = subst (λ (s : Stage). AreVariables formula s.trail) (inside stage last is) are
 are_variables formula (move ∷ moves) stage last is are =
     let first = first_of_moves formula stage last move moves is in
@@ -70,37 +82,50 @@ pub record IsOfVariable (vars : ℕ) (graph : Graph) (kept : ℕ × Node) : Type
   pub above : 0 < kept.0
   pub within : kept.0 ≤ vars
 
-kept_in : (formula : Formula) (graph : Graph) (nodes : List (ℕ × Node)) (trail : List (ℕ × Term)) → AreKept formula graph nodes trail → AreVariables formula trail → (kept : ℕ × Node) → Contains nodes kept
+kept_in : (formula : Formula) (graph : Graph) (nodes : List (ℕ × Node)) (trail : List (ℕ × Term)) → AreKept formula graph nodes trail
+    → AreVariables formula trail → (kept : ℕ × Node) → Contains nodes kept
     → IsOfVariable formula.vars graph kept
 kept_in formula graph [] trail are variables kept there = absurd (omega (arith, there.1))
 kept_in formula graph (first ∷ nodes) [] are variables kept there = absurd are
 kept_in formula graph (first ∷ nodes) (quantified ∷ trail) are variables kept (zero, small, at) =
     subst (IsOfVariable formula.vars graph) at
-    (record { stands = are.0.stands; above = omega (arith, are.0.variable, variables.0); within = omega (arith, are.0.variable, variables.1) })
-kept_in formula graph (first ∷ nodes) (quantified ∷ trail) are variables kept (suc k, small, at) = kept_in formula graph nodes trail are.1 variables.2 kept (k, omega (arith, small), at)
+    (record {
+      stands = are.0.stands;
+      above = omega (arith, are.0.variable, variables.0);
+      within = omega (arith, are.0.variable, variables.1);
+    })
+kept_in formula graph (first ∷ nodes) (quantified ∷ trail) are variables kept
+    (suc k, small, at) = kept_in formula graph nodes trail are.1 variables.2 kept (k, omega (arith, small), at)
 
 pub in_reverse : {X : Type 0} (xs : List X) (x : X) → Contains xs x → Contains (reverse xs) x
 in_reverse {X} [] x there = absurd (omega (arith, there.1))
 in_reverse {X} (y ∷ xs) x (zero, small, at) =
-    subst (λ (list : List X). Contains list x) (sym (reverse-append (y ∷ []) xs)) (Contains-append_right (reverse xs) (y ∷ []) x (zero, omega arith, at))
+    subst (λ (list : List X). Contains list x) (sym (reverse-append (y ∷ []) xs))
+    (Contains-append_right (reverse xs) (y ∷ []) x (zero, omega arith, at))
 in_reverse {X} (y ∷ xs) x (suc k, small, at) =
-    subst (λ (list : List X). Contains list x) (sym (reverse-append (y ∷ []) xs)) (Contains-append_left (reverse xs) (y ∷ []) x (in_reverse xs x (k, omega (arith, small), at)))
+    subst (λ (list : List X). Contains list x) (sym (reverse-append (y ∷ []) xs))
+    (Contains-append_left (reverse xs) (y ∷ []) x (in_reverse xs x (k, omega (arith, small), at)))
 
-pub kept_there : (formula : Formula) (graph : Graph) (nodes : List (ℕ × Node)) (trail : List (ℕ × Term)) → AreKept formula graph (reverse nodes) trail → AreVariables formula trail → (kept : ℕ × Node) → Contains nodes kept
+pub kept_there : (formula : Formula) (graph : Graph) (nodes : List (ℕ × Node)) (trail : List (ℕ × Term))
+    → AreKept formula graph (reverse nodes) trail → AreVariables formula trail → (kept : ℕ × Node) → Contains nodes kept
     → IsOfVariable formula.vars graph kept
-kept_there formula graph nodes trail are variables kept there = kept_in formula graph (reverse nodes) trail are variables kept (in_reverse nodes kept there)
+kept_there formula graph nodes trail are variables kept there = kept_in formula graph (reverse nodes) trail are variables kept
+    (in_reverse nodes kept there)
 
 -- Where all clauses are tautologies, all terms are true: each quantified variable would be set back to false, which it is.
 abbrev pub all_true : Formula → Assignment → List (ℕ × Term) → Bool
 all_true formula a [] = true
 all_true formula a (quantified ∷ trail) = term_holds formula a quantified.1 && all_true formula a trail
 
-trail_true : (formula : Formula) (a : Assignment) → AllHold formula a → (moves : List Move) (stage last : Stage) → after_moves formula stage moves ≡ Some last → stack_holds formula a stage.stack ≡ true
+trail_true : (formula : Formula) (a : Assignment) → AllHold formula a → (moves : List Move) (stage last : Stage)
+    → after_moves formula stage moves ≡ Some last → stack_holds formula a stage.stack ≡ true
     → all_true formula a stage.trail ≡ true → all_true formula a last.trail ≡ true
-trail_true formula a all [] stage last is holds trail = subst (λ (s : Stage). all_true formula a s.trail ≡ true) (inside stage last is) trail
+trail_true formula a all [] stage last is holds trail = subst (λ (s : Stage). all_true formula a s.trail
+    ≡ true) (inside stage last is) trail
 trail_true formula a all (move ∷ moves) stage last is holds trail =
     let first = first_of_moves formula stage last move moves is in
-    trail_true formula a all moves first.later last first.rest (true_after formula a all stage first.later move holds first.taken) (one_move first.later move first.taken)
+    trail_true formula a all moves first.later last first.rest (true_after formula a all stage first.later move holds first.taken)
+    (one_move first.later move first.taken)
   where
     one_move : (next : Stage) (m : Move) → after_move formula stage m ≡ Some next → all_true formula a next.trail ≡ true
     one_move next (Push i) at = ap (λ (s : Stage). all_true formula a s.trail) (pushed_of formula stage next i at).2 ∙ trail
@@ -108,12 +133,14 @@ trail_true formula a all (move ∷ moves) stage last is holds trail =
     one_move next (Exists x) at =
         let given = quantified_of formula stage next x stage.stack at in
         ap (λ (s : Stage). all_true formula a s.trail) given.after
-        ∙ and_from (term_holds formula a given.top) _ (and_parts (term_holds formula a given.top) _ (sym (ap (stack_holds formula a) given.stacked) ∙ holds)).0 trail
+        ∙ and_from (term_holds formula a given.top) _ (and_parts (term_holds formula a given.top) _
+        (sym (ap (stack_holds formula a) given.stacked) ∙ holds)).0 trail
 
 abbrev pub true_nodes : List (ℕ × Term) → List (ℕ × Node)
 true_nodes trail = map (λ quantified. (quantified.0, True)) trail
 
-true_kept : (formula : Formula) (graph : Graph) (trail : List (ℕ × Term)) → ((a : Assignment) → all_true formula a trail ≡ true) → AreKept formula graph (true_nodes trail) trail
+true_kept : (formula : Formula) (graph : Graph) (trail : List (ℕ × Term)) → ((a : Assignment) → all_true formula a trail ≡ true)
+    → AreKept formula graph (true_nodes trail) trail
 true_kept formula graph [] all = tt
 true_kept formula graph (quantified ∷ trail) all = (
   record { variable = refl; stands = refl; value = λ a. sym (and_parts (term_holds formula a quantified.1) _ (all a)).0 },
@@ -143,32 +170,40 @@ false_back a x at y = elim (cases_eq y x) [
   | inr differ ↦ (λ k. if ne_eqb y x differ k then false else a y)
 ]
 
-all_back : (graph : Graph) (vars : ℕ) (a : Assignment) → ((x : ℕ) → 0 < x → x ≤ vars → a x ≡ false) → (formula : Formula) → formula.vars ≡ vars → (trail : List (ℕ × Term)) → AreVariables formula trail
+all_back : (graph : Graph) (vars : ℕ) (a : Assignment) → ((x : ℕ) → 0 < x → x ≤ vars → a x ≡ false) → (formula : Formula) → formula.vars
+    ≡ vars → (trail : List (ℕ × Term)) → AreVariables formula trail
     → set_nodes_back graph a (true_nodes trail) ≡ a
 all_back graph vars a none formula same [] are = refl
 all_back graph vars a none formula same (quantified ∷ trail) are =
-    ap (λ (b : Assignment). set_nodes_back graph b (true_nodes trail)) (λ k y. false_back a quantified.0 (none quantified.0 are.0 (omega (arith, are.1, same))) y k)
+    ap (λ (b : Assignment). set_nodes_back graph b (true_nodes trail))
+    (λ k y. false_back a quantified.0 (none quantified.0 are.0 (omega (arith, are.1, same))) y k)
     ∙ all_back graph vars a none formula same trail are.2
 
 -- with and without the trail the same is recovered
-true_recovered : (graph : Graph) → IsOrder graph.order → (formula : Formula) → levels graph ≡ formula.vars → (trail : List (ℕ × Term)) → AreVariables formula trail
+true_recovered : (graph : Graph) → IsOrder graph.order → (formula : Formula) → levels graph ≡ formula.vars → (trail : List (ℕ × Term))
+    → AreVariables formula trail
     → (values : List Bool) → IsRecoveredFrom graph True [] values → IsRecoveredFrom graph True (true_nodes trail) values
 true_recovered graph ordered formula vars trail are values from = record {
   one_each = from.one_each;
   first = from.first;
   least = from.least;
-  recovered = λ variable above. from.recovered variable above ∙ sym (ap (λ (a : Assignment). a variable) (all_back graph (levels graph) from.first none formula (sym vars) trail are));
+  recovered = λ variable above. from.recovered variable above ∙ sym
+      (ap (λ (a : Assignment). a variable) (all_back graph (levels graph) from.first none formula (sym vars) trail are));
 }
   where
     none : (x : ℕ) → 0 < x → x ≤ levels graph → from.first x ≡ false
     none x above within =
         let place = ordered.each x above within in
-        sym (ap from.first place.2) ∙ first_false (levels graph) (by_level graph.order from.first) from.least (levels graph) (omega arith) place.0 place.1
+        sym (ap from.first place.2) ∙ first_false (levels graph) (by_level graph.order from.first) from.least (levels graph)
+        (omega arith) place.0 place.1
 
-pub tautologies_recovered : (formula : Formula) (graph : Graph) (moves : List Move) (plan : IsAdmissible formula moves) → IsOrder graph.order → AreClausesOf formula.vars formula.clauses → levels graph ≡ formula.vars
-    → ((a : Assignment) → AllHold formula a) → (values : List Bool) → IsRecoveredFrom graph True [] values → IsRecovered formula graph.order moves values
+pub tautologies_recovered : (formula : Formula) (graph : Graph) (moves : List Move) (plan : IsAdmissible formula moves)
+    → IsOrder graph.order → AreClausesOf formula.vars formula.clauses → levels graph ≡ formula.vars
+    → ((a : Assignment) → AllHold formula a) → (values : List Bool) → IsRecoveredFrom graph True [] values
+    → IsRecovered formula graph.order moves values
 tautologies_recovered formula graph moves plan ordered literals vars all values from =
     let trail = plan.last.trail in
-    recovered formula graph moves plan literals vars True (λ a. sym (true_after_all formula a (all a) moves no_stage plan.last refl plan.possible))
+    recovered formula graph moves plan literals vars True (λ a. sym
+    (true_after_all formula a (all a) moves no_stage plan.last refl plan.possible))
     (true_nodes trail) (true_kept formula graph trail (λ a. trail_true formula a (all a) moves no_stage plan.last plan.possible refl refl))
     values (true_recovered graph ordered formula vars trail (are_variables formula moves no_stage plan.last plan.possible tt) values from)

@@ -1,8 +1,8 @@
 -- The width of a small plan, by the definition alone: of a clause of one literal one part is in hand, its own function.
-use Rattle.std.proofs.Common.{◌≡◌, ℕ, zero, suc, ◌<◌, Bool, true, false, ◌||◌, pos, List, [], ◌∷◌, length, map, None, Some, Contains, refl, sym, ap, ◌∙◌, subst, arith, inl, inr}
+use Rattle.std.proofs.Common.{◌≡◌, ℕ, zero, suc, ◌<◌, Bool, true, false, ◌||◌, [], ◌∷◌, length, map, None, Some, Contains, refl, sym, ap}
+use Rattle.std.proofs.Common.{◌∙◌, subst, arith, inl, inr}
 use Rattle.std.specs.Prelude.{if◌then◌else◌}
 use Rattle.std.proofs.lemmas.Bool.{lt-ltb}
-use Rattle.cnf_base.specs.Formula.{Formula}
 use Rattle.node_table.specs.Value.{Levels, IsSubfunction, fixed_to}
 use Rattle.schedule_plan.specs.declared.plan.Move.{Move}
 use Rattle.schedule_plan.specs.declared.plan.Move.TheVariants.{Push}
@@ -22,30 +22,38 @@ inside : {X : Type 0} (x y : X) → Some x ≡ Some y → x ≡ y
 inside x y e = cc
 
 -- a part of it that isn't constant is itself
-part_is : (part : Levels → Bool) → IsSubfunction (term_function one_clause one_variable (input 1)) part → IsEssential part → (a : Levels) → part a ≡ a 0
+part_is : (part : Levels → Bool) → IsSubfunction (term_function one_clause one_variable (input 1)) part → IsEssential part → (a : Levels)
+    → part a ≡ a 0
 part_is part is essential = go is.level is.fixed is.same
   where
-    go : (level : ℕ) (fixed : Levels) → ((a : Levels) → part a ≡ term_function one_clause one_variable (input 1) (fixed_to level fixed a)) → (a : Levels) → part a ≡ a 0
+    go : (level : ℕ) (fixed : Levels) → ((a : Levels) → part a ≡ term_function one_clause one_variable (input 1) (fixed_to level fixed a))
+        → (a : Levels) → part a ≡ a 0
     go zero fixed same a = same a ∙ function_is (fixed_to zero fixed a)
     go (suc level) fixed same a =
-        absurd (essential (fixed 0) (λ b. same b ∙ function_is (fixed_to (suc level) fixed b) ∙ ap (λ t. if t then fixed 0 else b 0) (lt-ltb 0 (suc level) (omega arith))))
+        absurd (essential (fixed 0) (λ b. same b ∙ function_is (fixed_to (suc level) fixed b)
+        ∙ ap (λ t. if t then fixed 0 else b 0) (lt-ltb 0 (suc level) (omega arith))))
 
 -- no other term is in hand
-behind_push : (before after : Stage) (step : Move) → no_stage ≡ before → Push 1 ≡ step → after_move one_clause before step ≡ Some after → (term : Term) → IsInHand before after term → input 1 ≡ term
+behind_push : (before after : Stage) (step : Move) → no_stage ≡ before → Push 1 ≡ step → after_move one_clause before step ≡ Some after
+    → (term : Term) → IsInHand before after term → input 1 ≡ term
 unfolding one_clause
 behind_push before after step start first leads term there =
     let moved : after_move one_clause no_stage (Push 1) ≡ Some after = (λ k. after_move one_clause (start k) (first k)) ∙ leads in
     let result = inside _ after moved in
     elim there [
-      | inl stacked ↦ let none : Contains [] term = subst (λ (s : Stage). Contains s.stack term) (sym start) stacked in absurd (omega (arith, none.1))
+      | inl stacked ↦ let none : Contains [] term = subst (λ (s : Stage). Contains s.stack term) (sym start) stacked in
+          absurd (omega (arith, none.1))
       | inr rest ↦ elim rest [
-        | inl kept ↦ let none : Contains [] term = subst (λ (s : Stage). Contains (map (λ (k : ℕ × Term). k.1) s.trail) term) (sym start) kept in absurd (omega (arith, none.1))
+        | inl kept ↦ let none : Contains [] term = subst (λ (s : Stage). Contains (map (λ (k : ℕ × Term). k.1) s.trail) term)
+            (sym start) kept in absurd (omega (arith, none.1))
         | inr is ↦ subst (λ (s : Stage). IsResult s.stack term) (sym result) is
       ]
     ]
 
-in_hand_is : (count : ℕ) (before after : Stage) → IsMove one_clause (conjoin 1) count before after → (term : Term) → IsInHand before after term → input 1 ≡ term
-in_hand_is zero before after move = behind_push before after move.step (inside no_stage before move.reached) (inside (Push 1) move.step move.is) move.leads
+in_hand_is : (count : ℕ) (before after : Stage) → IsMove one_clause (conjoin 1) count before after → (term : Term)
+    → IsInHand before after term → input 1 ≡ term
+in_hand_is zero before after move = behind_push before after move.step (inside no_stage before move.reached)
+    (inside (Push 1) move.step move.is) move.leads
 in_hand_is (suc count) before after move = absurd (let e : None ≡ Some move.step = move.is in cc)
 
 pub one_at_most : HasWidth one_clause one_variable (conjoin 1) 1
@@ -56,7 +64,8 @@ one_at_most wider =
     let here : place < length many.parts = omega (arith, small, many.more) in
     let in_hand = many.are place here in
     part_is (part_at many.parts place)
-    (subst (λ (t : Term). IsSubfunction (term_function one_clause one_variable t) (part_at many.parts place)) (sym (in_hand_is wider.count wider.before wider.after wider.move in_hand.term in_hand.in_hand)) in_hand.is_part)
+    (subst (λ (t : Term). IsSubfunction (term_function one_clause one_variable t) (part_at many.parts place))
+    (sym (in_hand_is wider.count wider.before wider.after wider.move in_hand.term in_hand.in_hand)) in_hand.is_part)
     (many.essential place here) in
     many.differ 0 1 (omega arith) (omega (arith, many.more)) (λ a. same 0 (omega arith) a ∙ sym (same 1 (omega arith) a))
 
@@ -79,7 +88,8 @@ one_at_least itself =
           | suc n ↦ λ less. absurd (omega (arith, less))
         ] small;
         essential = λ place small. elim place as (λ n. n < 1 → IsEssential (part_at (function ∷ []) n)) [
-          | zero ↦ λ _ b same. let e : true ≡ false = sym (function_is (λ _. true)) ∙ same (λ _. true) ∙ sym (same (λ _. false)) ∙ function_is (λ _. false) in cc
+          | zero ↦ λ _ b same. let e : true ≡ false = sym (function_is (λ _. true)) ∙ same (λ _. true) ∙ sym (same (λ _. false))
+              ∙ function_is (λ _. false) in cc
           | suc n ↦ λ less. absurd (omega (arith, less))
         ] small;
         differ = λ place other less small. absurd (omega (arith, less, small));

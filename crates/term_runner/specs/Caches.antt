@@ -16,7 +16,8 @@ all_entries caches = conjunctions caches.ands ++ (implications caches.implicatio
 
 -- how many entries each of them may have
 abbrev pub sizes : Caches → List ℕ
-sizes caches = most_conjunctions caches.ands ∷ most_implications caches.implications ∷ most_quantifications caches.quantifications ∷ most_disjunctions caches.ors ∷ []
+sizes caches = most_conjunctions caches.ands ∷ most_implications caches.implications ∷ most_quantifications caches.quantifications
+    ∷ most_disjunctions caches.ors ∷ []
 
 -- each may have so many
 abbrev pub HaveSize : Caches → ℕ → Type 0

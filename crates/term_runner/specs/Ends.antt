@@ -13,7 +13,8 @@ use Rattle.term_runner.specs.declared.outcome.Outcome.{Outcome}
 use Rattle.term_runner.specs.declared.outcome.Outcome.TheVariants.{Unsat, Sat, NodeLimit, IdLimit}
 use Rattle.term_runner.specs.declared.outcome.Run.{Run}
 use Rattle.term_runner.specs.Clauses.{is_tautology}
-use Rattle.term_runner.specs.Proofs.{AreUnsatisfiable, IsProof, IsProofOfKind, IsProofSoFar, IsProofSoFarOfKind, LeadsTo, Refutation, NodesAreUsed, NumbersAreUsed}
+use Rattle.term_runner.specs.Proofs.{AreUnsatisfiable, IsProof, IsProofOfKind, IsProofSoFar, IsProofSoFarOfKind, LeadsTo, Refutation}
+use Rattle.term_runner.specs.Proofs.{NodesAreUsed, NumbersAreUsed}
 use Rattle.term_runner.specs.Recovered.{IsRecovered}
 use Rattle.term_runner.specs.Price.{AreAmple, IsDecision, IsLeanAtEnd, IsMovePrice, IsPaidFor}
 use Rattle.term_runner.specs.Width.{HasWidth, IsWider}
@@ -29,7 +30,8 @@ Says formula order moves limits IdLimit = ⊤
 -- What the very bytes of the proof show of it: a refutation, that few clauses are left, or that the limit is reached.
 abbrev pub Shows : Formula → Limits → List ℕ → Outcome → Type 0
 Shows formula limits bytes Unsat = Refutation formula.clauses bytes
-Shows formula limits bytes (Sat values) = IsProofOfKind formula.clauses (IsLeanAtEnd formula.vars (length formula.clauses) limits.cache) bytes
+Shows formula limits bytes (Sat values) = IsProofOfKind formula.clauses
+    (IsLeanAtEnd formula.vars (length formula.clauses) limits.cache) bytes
 Shows formula limits bytes NodeLimit = NodesAreUsed formula limits.max_nodes bytes
 Shows formula limits bytes IdLimit = NumbersAreUsed formula limits.max_ids bytes
 
@@ -46,14 +48,17 @@ outcome_of (Err table.WriteFault) = Err WriteFault
 -- width needs, it is a decision. A write fault is answered exactly where a write or the flush failed. All that was written
 -- is a proof within the limits, but for a front of one line after a failed write, and flushed with an outcome; it keeps
 -- within what the plan's width needs. Where all clauses are tautologies nothing is written.
-pub record Ends (tells : Bool) (before after : Channel) (formula : Formula) (order : List ℕ) (moves : List Move) (limits : Limits) (result : Result Run RunError) : Type 0 where
+pub record Ends (tells : Bool) (before after : Channel) (formula : Formula) (order : List ℕ) (moves : List Move) (limits : Limits)
+    (result : Result Run RunError) : Type 0 where
   pub says : IfOk result (λ run. Says formula order moves limits run.outcome)
-  pub certain : (width price : ℕ) → HasWidth formula order moves width → IsMovePrice formula.vars limits.cache width price → AreAmple limits formula moves width price → IfOk result (λ run. IsDecision run.outcome)
+  pub certain : (width price : ℕ) → HasWidth formula order moves width → IsMovePrice formula.vars limits.cache width price
+      → AreAmple limits formula moves width price → IfOk result (λ run. IsDecision run.outcome)
   pub shows : IsTrue tells → IfOk result (λ run. Shows formula limits after.written run.outcome)
   pub last : IsTrue tells → IfOk result (λ run. LeadsTo formula limits after.written run.last_id)
   pub whole : result ≢ Err WriteFault → IsTrue tells → IsProof formula limits after.written
   pub so_far : IsTrue tells → IsProofSoFar formula limits after.written
-  pub price : (width price : ℕ) → HasWidth formula order moves width → IsMovePrice formula.vars limits.cache width price → IsTrue tells → IsProofSoFarOfKind formula.clauses (IsPaidFor formula limits moves width price) after.written
+  pub price : (width price : ℕ) → HasWidth formula order moves width → IsMovePrice formula.vars limits.cache width price → IsTrue tells
+      → IsProofSoFarOfKind formula.clauses (IsPaidFor formula limits moves width price) after.written
   pub flushed : IsOk result → IsTrue tells → after.flushed ≡ length after.written
   pub fault : result ≡ Err WriteFault → Rose before.faults after.faults
   pub unfailed : result ≢ Err WriteFault → after.faults ≡ before.faults

@@ -13,16 +13,16 @@ use Rattle.node_table.specs.Table.{TableState, IsAddedTo, IsSound}
 use Rattle.operations.specs.Entries.{Entry, Fits, IsAccounted, NamesOnly, RetiresOwn}
 use Rattle.clause_terms.specs.Term.{IsTerm}
 use Rattle.schedule_plan.specs.Plan.{Stage, Term, term_holds}
-use Rattle.term_runner.specs.declared.held.Held.{Held}
+use Rattle.term_runner.specs.declared.held.HeldTerm.{HeldTerm}
 use Rattle.term_runner.specs.Clauses.{has_empty_clause}
 
 -- a stacked term's node and unit; its node isn't False
-pub record IsHeld (formula : Formula) (graph : Graph) (live : Live) (held : Held) (term : Term) : Type 0 where
+pub record IsHeld (formula : Formula) (graph : Graph) (live : Live) (held : HeldTerm) (term : Term) : Type 0 where
   pub is : IsTerm graph live (λ a. term_holds formula a term) held.node held.unit
   pub not_false : held.node ≢ False
 
 -- those of all stacked terms, the last one first
-abbrev pub AreHeld : Formula → Graph → Live → List Held → List Term → Type 0
+abbrev pub AreHeld : Formula → Graph → Live → List HeldTerm → List Term → Type 0
 AreHeld formula graph live [] [] = Unit {0}
 AreHeld formula graph live [] (term ∷ terms) = ⊥
 AreHeld formula graph live (held ∷ stack) [] = ⊥
@@ -42,37 +42,38 @@ AreKept formula graph (kept ∷ nodes) [] = ⊥
 AreKept formula graph (kept ∷ nodes) (quantified ∷ trail) = IsKept formula graph kept quantified × AreKept formula graph nodes trail
 
 -- The stack and the trail of a run, whose last element is the plan's first, are those of this stage.
-pub record IsAt (formula : Formula) (graph : Graph) (live : Live) (stack : List Held) (trail : List (ℕ × Node)) (stage : Stage) : Type 0 where
+pub record IsAt (formula : Formula) (graph : Graph) (live : Live) (stack : List HeldTerm) (trail : List (ℕ × Node))
+    (stage : Stage) : Type 0 where
   pub held : AreHeld formula graph live (reverse stack) stage.stack
   pub kept : AreKept formula graph (reverse trail) stage.trail
 
 -- the last term's node; where there is no term, that of the empty conjunction
-abbrev pub top_node : List Held → Node
+abbrev pub top_node : List HeldTerm → Node
 top_node [] = True
 top_node (held ∷ stack) = held.node
 
 -- no stacked unit is retired, or named by an entry of the caches
-abbrev pub OwnUnits : {S : Type 0} → TableState S → List Entry → List Held → Type 0
-OwnUnits table kept stack = (held : Held) → Contains stack held → (id : ℕ) → held.unit ≡ Clause id → IsAccounted table kept id → ⊥
+abbrev pub OwnUnits : {S : Type 0} → TableState S → List Entry → List HeldTerm → Type 0
+OwnUnits table kept stack = (held : HeldTerm) → Contains stack held → (id : ℕ) → held.unit ≡ Clause id → IsAccounted table kept id → ⊥
 
 -- the unit of a stacked term
-pub record IsUnitOf (stack : List Held) (id : ℕ) : Type 0 where
-  pub held : Held
+pub record IsUnitOf (stack : List HeldTerm) (id : ℕ) : Type 0 where
+  pub held : HeldTerm
   pub stacked : Contains stack held
   pub unit : held.unit ≡ Clause id
 
 -- two places of the stack never have one unit
-abbrev pub UnitsApart : List Held → Type 0
+abbrev pub UnitsApart : List HeldTerm → Type 0
 UnitsApart [] = Unit {0}
 UnitsApart (held ∷ stack) = ((id : ℕ) → held.unit ≡ Clause id → IsUnitOf stack id → ⊥) × UnitsApart stack
 
 -- each clause that was added beside definitions is retired, named by an entry, or a stacked term's unit
-abbrev pub AllKnown : {S : Type 0} → TableState S → List Entry → List Held → Type 0
+abbrev pub AllKnown : {S : Type 0} → TableState S → List Entry → List HeldTerm → Type 0
 AllKnown table kept stack = (id : ℕ) → IsAddedTo table id → IsAccounted table kept id ⊎ IsUnitOf stack id
 
 -- The stacked units were added beside definitions, each is that of one place and of nothing else, and no other such clause
 -- is lost.
-pub record HasUnits {S : Type 0} (table : TableState S) (kept : List Entry) (stack : List Held) : Type 0 where
+pub record HasUnits {S : Type 0} (table : TableState S) (kept : List Entry) (stack : List HeldTerm) : Type 0 where
   pub own : OwnUnits table kept stack
   pub apart : UnitsApart stack
   pub added : (id : ℕ) → IsUnitOf stack id → IsAddedTo table id
@@ -80,7 +81,8 @@ pub record HasUnits {S : Type 0} (table : TableState S) (kept : List Entry) (sta
 
 -- What a move leaves of the units, and the one that it gives: that of an operand, or a clause that it added. No clause is
 -- lost: each that was retired or named is so still, and so is each that was added since, but for the one given.
-pub record GivesUnit {S : Type 0} (old new : TableState S) (before after : List Entry) (operands : List Held) (unit : Just) : Type 0 where
+pub record GivesUnit {S : Type 0} (old new : TableState S) (before after : List Entry) (operands : List HeldTerm)
+    (unit : Just) : Type 0 where
   pub retires : RetiresOwn old new before
   pub named : NamesOnly before after old.book.state new.book.state
   pub still : (id : ℕ) → IsAccounted old before id → IsAccounted new after id

@@ -16,7 +16,8 @@ pub record RunsShort (formula : Formula) (order : List ℕ) (moves : List Move) 
   pub before : Stage
   pub after : Stage
   pub move : IsMove formula moves count before after
-  pub in_hand : (key : ℕ) (branch : Branch) → branch_at graph key ≡ Some branch → IsPartInHand formula order before after (λ a. value_of graph a (inner key))
+  pub in_hand : (key : ℕ) (branch : Branch) → branch_at graph key ≡ Some branch
+      → IsPartInHand formula order before after (λ a. value_of graph a (inner key))
   pub further : Levels → Bool
   pub is_part : IsPartInHand formula order before after further
   pub nowhere : (node : Node) → IsTrue (is_node graph node) → ((a : Levels) → value_of graph a node ≡ further a) → ⊥
@@ -24,4 +25,5 @@ pub record RunsShort (formula : Formula) (order : List ℕ) (moves : List Move) 
 -- After a move each node is one that was there, with its function, or its function is a part of this one.
 pub record KeepsOrMakes (old new : Graph) (function : Levels → Bool) : Type 0 where
   pub each : (key : ℕ) (branch : Branch) → branch_at new key ≡ Some branch
-      → ((branch_at old key ≡ Some branch) × ((a : Levels) → value_of new a (inner key) ≡ value_of old a (inner key))) ⊎ IsSubfunction function (λ a. value_of new a (inner key))
+      → ((branch_at old key ≡ Some branch) × ((a : Levels) → value_of new a (inner key) ≡ value_of old a (inner key)))
+      ⊎ IsSubfunction function (λ a. value_of new a (inner key))

@@ -32,31 +32,38 @@ pub record IsOpened {S : Type 0} (tells : Bool) (channel : Channel) (formula : F
 
 -- The result stands after a flush that didn't fail, or the flush failed; no byte changed.
 pub record IsFlushed (tells : Bool) (before after : Channel) (found result : Result Run RunError) : Type 0 where
-  pub ends : ((result ≡ found) × (IsTrue tells → after.flushed ≡ length after.written) × (after.faults ≡ before.faults)) ⊎ ((result ≡ Err WriteFault) × Rose before.faults after.faults)
+  pub ends : ((result ≡ found) × (IsTrue tells → after.flushed ≡ length after.written) × (after.faults ≡ before.faults))
+      ⊎ ((result ≡ Err WriteFault) × Rose before.faults after.faults)
   pub written : after.written ≡ before.written
   pub name : after.name ≡ before.name
   pub faults : before.faults ≤ after.faults
 
 -- The state that a call left is of this kind; after a failed write, so are those before and behind the line that it cut.
-abbrev pub LeavesKind : {S : Type 0} → Bool → Channel → Channel → TableState S → TableState S → (State → Type 0) → Option TableError → Type 0
+abbrev pub LeavesKind : {S : Type 0} → Bool → Channel → Channel → TableState S → TableState S → (State → Type 0) → Option TableError
+    → Type 0
 LeavesKind tells before after old new kind None = kind new.book.state
 LeavesKind tells before after old new kind (Some table.NodeLimit) = kind new.book.state
 LeavesKind tells before after old new kind (Some table.IdLimit) = kind new.book.state
 LeavesKind tells before after old new kind (Some table.OutOfMemory) = kind new.book.state
-LeavesKind tells before after old new kind (Some table.WriteFault) = (clauses : List (List ℤ)) → length clauses ≤ old.inputs → IsProofOf clauses tells before old.book.state → IsTrue tells
+LeavesKind tells before after old new kind (Some table.WriteFault) = (clauses : List (List ℤ)) → length clauses ≤ old.inputs
+    → IsProofOf clauses tells before old.book.state → IsTrue tells
     → IsBrokenOfKind clauses kind after.written
 
 -- What the moves led to, before the proof is flushed: each outcome is true, and shown by what was written.
-pub record Leads {S : Type 0} (tells : Bool) (before after : Channel) (formula : Formula) (order : List ℕ) (moves : List Move) (limits : Limits) (book : Book S) (found : Result Outcome RunError) : Type 0 where
+pub record Leads {S : Type 0} (tells : Bool) (before after : Channel) (formula : Formula) (order : List ℕ) (moves : List Move)
+    (limits : Limits) (book : Book S) (found : Result Outcome RunError) : Type 0 where
   pub in_step : found ≢ Err WriteFault → IsTrue book.in_step
   pub proof : found ≢ Err WriteFault → IsProofOf formula.clauses tells after book.state
   pub within : found ≢ Err WriteFault → KeepsWithin formula limits book.state
   pub broken : found ≡ Err WriteFault → IsTrue tells → IsBroken formula limits after.written
   -- the same by the price of the plan's width
-  pub paid : (width price : ℕ) → HasWidth formula order moves width → IsMovePrice formula.vars limits.cache width price → found ≢ Err WriteFault → IsPaidFor formula limits moves width price book.state
-  pub broken_paid : (width price : ℕ) → HasWidth formula order moves width → IsMovePrice formula.vars limits.cache width price → found ≡ Err WriteFault → IsTrue tells
+  pub paid : (width price : ℕ) → HasWidth formula order moves width → IsMovePrice formula.vars limits.cache width price → found
+      ≢ Err WriteFault → IsPaidFor formula limits moves width price book.state
+  pub broken_paid : (width price : ℕ) → HasWidth formula order moves width → IsMovePrice formula.vars limits.cache width price → found
+      ≡ Err WriteFault → IsTrue tells
       → IsBrokenOfKind formula.clauses (IsPaidFor formula limits moves width price) after.written
-  pub certain : (width price : ℕ) → HasWidth formula order moves width → IsMovePrice formula.vars limits.cache width price → AreAmple limits formula moves width price → IfOk found IsDecision
+  pub certain : (width price : ℕ) → HasWidth formula order moves width → IsMovePrice formula.vars limits.cache width price
+      → AreAmple limits formula moves width price → IfOk found IsDecision
   pub says : IfOk found (Says formula order moves limits)
   pub shows : IsTrue tells → IfOk found (Shows formula limits after.written)
   pub fault : found ≡ Err WriteFault → Rose before.faults after.faults

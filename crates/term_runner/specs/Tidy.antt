@@ -11,7 +11,7 @@ use Rattle.node_table.specs.Marks.{IsReached}
 use Rattle.node_table.specs.Table.{live_nodes}
 use Rattle.node_table.specs.Value.{Levels, value_of}
 use Rattle.schedule_plan.specs.Plan.{Stage}
-use Rattle.term_runner.specs.declared.held.Held.{Held}
+use Rattle.term_runner.specs.declared.held.HeldTerm.{HeldTerm}
 use Rattle.term_runner.specs.Held.{IsAt}
 
 -- so few nodes that none are given back
@@ -19,7 +19,7 @@ abbrev pub IsTidy : ℕ → ℕ → Type 0
 IsTidy live left = (live < 1000) ⊎ (live < 2 * left)
 
 -- the nodes of the stacked terms, and those on the trail
-abbrev pub held_nodes : List Held → List (ℕ × Node) → List Node
+abbrev pub held_nodes : List HeldTerm → List (ℕ × Node) → List Node
 held_nodes stack trail = map (λ held. held.node) stack ++ map (λ kept. kept.1) trail
 
 -- Only nodes are left that the roots reach, as they were, with their functions.
@@ -35,7 +35,7 @@ pub record LeavesReached (old new : Graph) (roots : List Node) : Type 0 where
 pub record WereLeft (formula : Formula) (order : List ℕ) (stage : Stage) (left : ℕ) : Type 0 where
   pub graph : Graph
   pub live : Live
-  pub stack : List Held
+  pub stack : List HeldTerm
   pub trail : List (ℕ × Node)
   pub at : IsAt formula graph live stack trail stage
   pub order_is : graph.order ≡ order

@@ -54,7 +54,8 @@ impl Caches {
 
     /// For the prover alone: no more entries name clauses than two caches may have.
     pub fn few_law(&self)
-        ensures { (size : ℕ) → HaveSize self.now size → (ids : List ℕ) × (length ids ≤ 2 * size) × ((id : ℕ) → IsNamed (all_entries self.now) id → Contains ids id) }
+        ensures { (size : ℕ) → HaveSize self.now size → (ids : List ℕ) × (length ids ≤ 2 * size)
+            × ((id : ℕ) → IsNamed (all_entries self.now) id → Contains ids id) }
     {
         self.ands.few_law();
         self.implications.few_law();
@@ -72,11 +73,13 @@ impl Caches {
         requires second { IsTrue (is_node table.old.graph v) }
         requires fits { Fits table.old (all_entries self.old) }
         ensures conjoined { IfOk result (λ found. Conjoined table.new.graph table.new.book.state.live u v found.0 found.1) }
-        ensures steps { Steps S.tells (S.channel table.old.book.sink) (S.channel table.new.book.sink) table.old table.new (most_additions (levels table.old.graph)) (error_of result) }
+        ensures steps { Steps S.tells (S.channel table.old.book.sink) (S.channel table.new.book.sink) table.old table.new
+            (most_additions (levels table.old.graph)) (error_of result) }
         ensures keeps { KeepsEntries table.old table.new (all_entries self.old) (all_entries self.new) (error_of result) }
         ensures accounts { UnlessTorn result (Accounts table.old table.new (all_entries self.old) (all_entries self.new)) }
         // Where the caches have room for all pairs of inner nodes that the operands reach, two clauses for each of these.
-        ensures price { (size : ℕ) (us vs : List NodeValue) → HaveSize self.old size → HoldsReached table.old.graph u us → HoldsReached table.old.graph v vs → length us * length vs ≤ size
+        ensures price { (size : ℕ) (us vs : List NodeValue) → HaveSize self.old size → HoldsReached table.old.graph u us
+            → HoldsReached table.old.graph v vs → length us * length vs ≤ size
             → AddsAtMost (2 * (length us * length vs)) table.old table.new }
         ensures sizes { sizes self.new ≡ sizes self.old }
         ensures made { MakesOnly table.old.graph table.new.graph (conjunction_of table.old.graph u v) }
@@ -100,11 +103,13 @@ impl Caches {
         requires second { IsTrue (is_node table.old.graph v) }
         requires fits { Fits table.old (all_entries self.old) }
         ensures decided { IfOk result (λ answer. IsDecided table.new.graph table.new.book.state.live u v answer) }
-        ensures steps { Steps S.tells (S.channel table.old.book.sink) (S.channel table.new.book.sink) table.old table.new (most_additions (levels table.old.graph)) (error_of result) }
+        ensures steps { Steps S.tells (S.channel table.old.book.sink) (S.channel table.new.book.sink) table.old table.new
+            (most_additions (levels table.old.graph)) (error_of result) }
         ensures keeps { KeepsEntries table.old table.new (all_entries self.old) (all_entries self.new) (error_of result) }
         ensures accounts { UnlessTorn result (Accounts table.old table.new (all_entries self.old) (all_entries self.new)) }
         // Where the caches have room for all pairs of inner nodes that the operands reach, two clauses for each of these.
-        ensures price { (size : ℕ) (us vs : List NodeValue) → HaveSize self.old size → HoldsReached table.old.graph u us → HoldsReached table.old.graph v vs → length us * length vs ≤ size
+        ensures price { (size : ℕ) (us vs : List NodeValue) → HaveSize self.old size → HoldsReached table.old.graph u us
+            → HoldsReached table.old.graph v vs → length us * length vs ≤ size
             → AddsAtMost (2 * (length us * length vs)) table.old table.new }
         ensures sizes { sizes self.new ≡ sizes self.old }
         ensures nodes { table.new.graph ≡ table.old.graph }
@@ -129,7 +134,8 @@ impl Caches {
         requires level { level < levels table.old.graph }
         requires fits { Fits table.old (all_entries self.old) }
         ensures quantified { IfOk result (λ w. Quantified table.new.graph u level w) }
-        ensures steps { Steps S.tells (S.channel table.old.book.sink) (S.channel table.new.book.sink) table.old table.new 0 (error_of result) }
+        ensures steps { Steps S.tells (S.channel table.old.book.sink) (S.channel table.new.book.sink) table.old table.new 0
+            (error_of result) }
         ensures keeps { KeepsEntries table.old table.new (all_entries self.old) (all_entries self.new) (error_of result) }
         ensures accounts { UnlessTorn result (Accounts table.old table.new (all_entries self.old) (all_entries self.new)) }
         ensures sizes { sizes self.new ≡ sizes self.old }

@@ -1,5 +1,6 @@
 // From the moves of a plan to what was found.
-ghost use Rattle.std.specs.Prelude.{◌≡◌, ◌⊎◌, ◌≤◌, ◌+◌, ◌*◌, ℕ, [], Ok, Err, None, Some, IsTrue, IsFalse, IfOk, IsSome, MatchOption, length, reverse};
+ghost use Rattle.std.specs.Prelude.{◌≡◌, ◌⊎◌, ◌≤◌, ◌+◌, ◌*◌, ℕ, [], Ok, Err, None, Some, IsTrue, IsFalse, IfOk, IsSome, MatchOption};
+ghost use Rattle.std.specs.Prelude.{length, reverse};
 ghost use Rattle.std.specs.List.{list_all};
 ghost use Rattle.std.specs.FinMap as map;
 ghost use Rattle.lrat_rules.specs.State.{clause_at};
@@ -7,6 +8,7 @@ ghost use Rattle.node_table.specs.declared.error.TableError.TheVariants.{NodeLim
 ghost use Rattle.node_table.specs.Diagram.{levels};
 ghost use Rattle.node_table.specs.Progress.{Leaves, error_of};
 ghost use Rattle.schedule_plan.specs.Plan.{IsAdmissible};
+ghost use Rattle.term_runner.specs.Caches.{HaveSize, all_entries};
 ghost use Rattle.term_runner.specs.Clauses.{is_tautology};
 ghost use Rattle.term_runner.specs.Recovered.{IsRecovered};
 ghost use Rattle.term_runner.specs.Price.{IsLeanAtEnd, IsMovePrice, IsPaid};
@@ -16,7 +18,7 @@ ghost use Rattle.term_runner.specs.Opened.{LeavesKind};
 ghost use Rattle.term_runner.specs.Held.{IsReady, top_node};
 
 use crate::caches::Caches;
-use crate::held::Held;
+use crate::held::HeldTerm;
 use crate::open::are_tautologies;
 use crate::reclamation::take_move;
 use clause_terms::{Model, Trail, recover};
@@ -27,6 +29,7 @@ use node_table::{
 };
 use schedule_plan::Plan;
 use std::alloc::Global;
+use std::mem::forget;
 
 /// Decides a formula without empty clauses, from a table without nodes: a model, or None where the empty clause was
 /// added. Where all clauses are tautologies no node or clause is made.
@@ -49,9 +52,12 @@ pub fn decide<S: Sink + Drop>(
     ensures tautologies { IsTrue (list_all is_tautology formula.now.clauses) → table.new ≡ table.old }
     ensures open_clause { (result ≡ Err NodeLimit) ⊎ (result ≡ Err IdLimit) → IsFalse (list_all is_tautology formula.now.clauses) }
     // However it ends, it keeps within the price of the plan's width; with a model few clauses are left.
-    ensures paid { (width price : ℕ) → HasWidth formula.now table.old.graph.order plan.now width → IsMovePrice (levels table.old.graph) capacity width price
-        → LeavesKind S.tells (S.channel table.old.book.sink) (S.channel table.new.book.sink) table.old table.new (IsPaid (levels table.old.graph) table.old.inputs (length plan.now) capacity width price) (error_of result) }
-    ensures lean { IfOk result (λ found. IsSome found → IsLeanAtEnd (levels table.old.graph) table.old.inputs capacity table.new.book.state) }
+    ensures paid { (width price : ℕ) → HasWidth formula.now table.old.graph.order plan.now width
+        → IsMovePrice (levels table.old.graph) capacity width price
+        → LeavesKind S.tells (S.channel table.old.book.sink) (S.channel table.new.book.sink) table.old table.new
+        (IsPaid (levels table.old.graph) table.old.inputs (length plan.now) capacity width price) (error_of result) }
+    ensures lean { IfOk result (λ found. IsSome found → IsLeanAtEnd
+        (levels table.old.graph) table.old.inputs capacity table.new.book.state) }
     // A node that is wanted is refused for want of room.
     ensures short { result ≡ Err NodeLimit → RunsShort formula.now table.old.graph.order plan.now table.new.graph }
     ensures beside { S.beside table.new.book.sink ≡ S.beside table.old.book.sink }
@@ -68,7 +74,8 @@ pub fn decide<S: Sink + Drop>(
     run_moves(alloc, table, formula, plan, capacity)
 }
 
-// Takes the moves in turn, until the empty clause is added or the plan ends.
+// Runs the moves over caches of their own. The memory of these stays taken: to let entries go one by one would take longer
+// than some runs, and a program that decides a formula ends soon.
 fn run_moves<S: Sink + Drop>(
     alloc: Global,
     table: &mut Table<S>,
@@ -85,9 +92,50 @@ fn run_moves<S: Sink + Drop>(
     ensures found { IfOk result (λ found. MatchOption found ((id : ℕ) × (clause_at table.new.book.state.live id ≡ Some []))
         (λ model. IsRecovered formula.now table.old.graph.order plan.now model)) }
     ensures leaves { Leaves S.tells (S.channel table.old.book.sink) (S.channel table.new.book.sink) table.old table.new (error_of result) }
-    ensures paid { (width price : ℕ) → HasWidth formula.now table.old.graph.order plan.now width → IsMovePrice (levels table.old.graph) capacity width price
-        → LeavesKind S.tells (S.channel table.old.book.sink) (S.channel table.new.book.sink) table.old table.new (IsPaid (levels table.old.graph) table.old.inputs (length plan.now) capacity width price) (error_of result) }
-    ensures lean { IfOk result (λ found. IsSome found → IsLeanAtEnd (levels table.old.graph) table.old.inputs capacity table.new.book.state) }
+    ensures paid { (width price : ℕ) → HasWidth formula.now table.old.graph.order plan.now width
+        → IsMovePrice (levels table.old.graph) capacity width price
+        → LeavesKind S.tells (S.channel table.old.book.sink) (S.channel table.new.book.sink) table.old table.new
+        (IsPaid (levels table.old.graph) table.old.inputs (length plan.now) capacity width price) (error_of result) }
+    ensures lean { IfOk result (λ found. IsSome found → IsLeanAtEnd
+        (levels table.old.graph) table.old.inputs capacity table.new.book.state) }
+    ensures short { result ≡ Err NodeLimit → RunsShort formula.now table.old.graph.order plan.now table.new.graph }
+    ensures beside { S.beside table.new.book.sink ≡ S.beside table.old.book.sink }
+{
+    steps_law::<S>();
+    in_use_law();
+    lean_law::<S>();
+    let mut caches = Caches::new(alloc, capacity)?;
+    let found = take_moves(alloc, table, &mut caches, formula, plan, capacity);
+    forget(caches);
+    found
+}
+
+// Takes the moves in turn, until the empty clause is added or the plan ends. `capacity` is that of the caches.
+fn take_moves<S: Sink + Drop>(
+    alloc: Global,
+    table: &mut Table<S>,
+    caches: &mut Caches,
+    formula: &Cnf,
+    plan: &Plan,
+    capacity: u32,
+) -> Result<Option<Model>, TableError>
+    requires plan { IsAdmissible formula.now plan.now }
+    requires capacity { 1 ≤ capacity }
+    requires no_entries { all_entries caches.old ≡ [] }
+    requires size { HaveSize caches.old capacity }
+    requires ready { IsReady formula.now table.old [] }
+    requires empty { table.old.graph.nodes ≡ map.empty }
+    requires settled { table.old.retired ≡ [] }
+    requires fresh { table.old.inputs ≡ table.old.book.state.top }
+    ensures found { IfOk result (λ found. MatchOption found ((id : ℕ) × (clause_at table.new.book.state.live id ≡ Some []))
+        (λ model. IsRecovered formula.now table.old.graph.order plan.now model)) }
+    ensures leaves { Leaves S.tells (S.channel table.old.book.sink) (S.channel table.new.book.sink) table.old table.new (error_of result) }
+    ensures paid { (width price : ℕ) → HasWidth formula.now table.old.graph.order plan.now width
+        → IsMovePrice (levels table.old.graph) capacity width price
+        → LeavesKind S.tells (S.channel table.old.book.sink) (S.channel table.new.book.sink) table.old table.new
+        (IsPaid (levels table.old.graph) table.old.inputs (length plan.now) capacity width price) (error_of result) }
+    ensures lean { IfOk result (λ found. IsSome found → IsLeanAtEnd
+        (levels table.old.graph) table.old.inputs capacity table.new.book.state) }
     ensures short { result ≡ Err NodeLimit → RunsShort formula.now table.old.graph.order plan.now table.new.graph }
     ensures beside { S.beside table.new.book.sink ≡ S.beside table.old.book.sink }
 {
@@ -97,8 +145,7 @@ fn run_moves<S: Sink + Drop>(
     in_use_law();
     lean_law::<S>();
     formula.formula_law();
-    let mut caches = Caches::new(alloc, capacity)?;
-    let mut stack: Vec<Held> = Vec::new(alloc);
+    let mut stack: Vec<HeldTerm> = Vec::new(alloc);
     let mut trail = Trail::new(alloc);
     // How many nodes the last reclamation left.
     let mut left = 0;
@@ -108,14 +155,7 @@ fn run_moves<S: Sink + Drop>(
             unreachable!();
         };
         if take_move(
-            alloc,
-            table,
-            &mut caches,
-            &mut stack,
-            &mut trail,
-            &mut left,
-            formula,
-            step,
+            alloc, table, caches, &mut stack, &mut trail, &mut left, formula, step,
         )? {
             return Ok(None);
         }
@@ -126,7 +166,7 @@ fn run_moves<S: Sink + Drop>(
 }
 
 // The last term's node; True where there is no term.
-fn top(stack: &[Held]) -> Node
+fn top(stack: &[HeldTerm]) -> Node
     ensures { result ≡ top_node (reverse stack.now) }
 {
     match stack.last() {

@@ -60,7 +60,8 @@ pub fn refute<S: Sink + Drop>(ledger: &mut Ledger<S>, number: usize) -> Result<R
     requires in_step { IsTrue ledger.old.in_step }
     requires limit { ledger.old.limit ≤ max_id }
     requires empty { clause_at ledger.old.state.live number ≡ Some [] }
-    ensures ends { (formula : Formula) (order : List ℕ) (moves : List Move) (limits : Limits) → IsOpened S.tells (S.channel ledger.old.sink) formula limits.max_ids ledger.old
+    ensures ends { (formula : Formula) (order : List ℕ) (moves : List Move) (limits : Limits)
+        → IsOpened S.tells (S.channel ledger.old.sink) formula limits.max_ids ledger.old
         → number ≡ first_empty formula.clauses → IsTrue (has_empty_clause formula.clauses) → 0 < length moves
         → Ends S.tells (S.channel ledger.old.sink) (S.channel ledger.new.sink) formula order moves limits result }
     ensures beside { S.beside ledger.new.sink ≡ S.beside ledger.old.sink }
@@ -80,7 +81,8 @@ fn add_empty<S: Sink + Drop>(ledger: &mut Ledger<S>, hint: Id) -> Result<Option<
     ensures found { IfOk result (λ found. (found ≡ None) × (ledger.new.state ≡ with_next ledger.old.state [])) }
     ensures refutes { (clauses : List (List ℤ)) → IsProofOf clauses S.tells (S.channel ledger.old.sink) ledger.old.state
         → IsTrue S.tells → IsOk result → Refutes clauses (S.channel ledger.new.sink).written }
-    ensures line { IsTrue S.tells → IsOk result → (S.channel ledger.new.sink).written ≡ (S.channel ledger.old.sink).written ++ next_line ledger.old.state [] (hint ∷ []) }
+    ensures line { IsTrue S.tells → IsOk result → (S.channel ledger.new.sink).written ≡ (S.channel ledger.old.sink).written
+        ++ next_line ledger.old.state [] (hint ∷ []) }
     ensures in_step { result ≢ Err WriteFault → IsTrue ledger.new.in_step }
     ensures kept { (clauses : List (List ℤ)) → IsProofOf clauses S.tells (S.channel ledger.old.sink) ledger.old.state
         → result ≢ Err WriteFault → IsProofOf clauses S.tells (S.channel ledger.new.sink) ledger.new.state }

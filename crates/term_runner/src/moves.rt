@@ -1,6 +1,7 @@
 // One move of a plan. (Bryant, Heule: Generating Extended Resolution Proofs with a BDD-Based SAT Solver, 2021,
 // section 5.)
-ghost use Rattle.std.specs.Prelude.{◌≡◌, ◌↔◌, ◌≤◌, ◌⊎◌, ◌+◌, ◌*◌, ℕ, List, [], ◌∷◌, Ok, Err, Some, IsTrue, IsErr, IfOk, false, length, reverse};
+ghost use Rattle.std.specs.Prelude.{◌≡◌, ◌↔◌, ◌≤◌, ◌⊎◌, ◌+◌, ◌*◌, ℕ, List, [], ◌∷◌, Ok, Err, Some, IsTrue, IsErr, IfOk, false, length};
+ghost use Rattle.std.specs.Prelude.{reverse};
 ghost use Rattle.lrat_rules.specs.State.{clause_at};
 ghost use Rattle.node_table.specs.declared.error.TableError.TheVariants.{NodeLimit};
 ghost use Rattle.node_table.specs.Diagram.{KeepsNodes, levels};
@@ -17,7 +18,7 @@ ghost use Rattle.term_runner.specs.Nodes.{KeepsOrMakes};
 ghost use Rattle.term_runner.specs.Held.{AreHeld, IsAt, IsReady, HasUnits};
 
 use crate::caches::Caches;
-use crate::held::{Held, last_two, put, replace_two};
+use crate::held::{HeldTerm, last_two, put, replace_two};
 use crate::quantification::quantify_out;
 use crate::unit::{is_same, retire_unit, unit_of};
 use clause_terms::{Trail, push_clause};
@@ -34,17 +35,20 @@ pub fn try_move<S: Sink + Drop>(
     alloc: Global,
     table: &mut Table<S>,
     caches: &mut Caches,
-    stack: &mut Vec<Held>,
+    stack: &mut Vec<HeldTerm>,
     trail: &mut Trail,
     formula: &Cnf,
     step: Move,
 ) -> Result<bool, TableError>
     requires ready { IsReady formula.now table.old (all_entries caches.old) }
-    requires possible { (stage next : Stage) × IsAt formula.now table.old.graph table.old.book.state.live stack.old.items trail.old stage × (after_move formula.now stage step ≡ Some next) }
+    requires possible { (stage next : Stage) × IsAt formula.now table.old.graph table.old.book.state.live stack.old.items trail.old stage
+        × (after_move formula.now stage step ≡ Some next) }
     requires settled { table.old.retired ≡ [] }
     requires own { HasUnits table.old (all_entries caches.old) (reverse stack.old.items) }
-    ensures held { (stage next : Stage) → IsAt formula.now table.old.graph table.old.book.state.live stack.old.items trail.old stage → after_move formula.now stage step ≡ Some next
-        → IfOk result (λ refuted. refuted ≡ false → IsAt formula.now table.new.graph table.new.book.state.live stack.new.items trail.new next) }
+    ensures held { (stage next : Stage) → IsAt formula.now table.old.graph table.old.book.state.live stack.old.items trail.old stage
+        → after_move formula.now stage step ≡ Some next
+        → IfOk result (λ refuted. refuted ≡ false
+        → IsAt formula.now table.new.graph table.new.book.state.live stack.new.items trail.new next) }
     ensures refuted { IfOk result (λ refuted. IsTrue refuted → (id : ℕ) × (clause_at table.new.book.state.live id ≡ Some [])) }
     ensures ready { UnlessTorn result (IsReady formula.now table.new (all_entries caches.new)) }
     ensures settled { (result ≡ Ok false) ⊎ (result ≡ Err NodeLimit) → table.new.retired ≡ [] }
@@ -59,12 +63,16 @@ pub fn try_move<S: Sink + Drop>(
     // caches have room for all pairs of parts in hand, than two for each of these.
     ensures nodes { KeepsNodes table.old.graph table.new.graph }
     ensures adds { AddsAtMost (most_additions (levels table.old.graph) + 1) table.old table.new }
-    ensures pairs { (stage next : Stage) → IsAt formula.now table.old.graph table.old.book.state.live stack.old.items trail.old stage → after_move formula.now stage step ≡ Some next
-        → (width : ℕ) → HaveRoom caches.old width → HoldsAtMost formula.now table.old.graph.order stage next width → AddsAtMost (2 * (width * width) + 1) table.old table.new }
+    ensures pairs { (stage next : Stage) → IsAt formula.now table.old.graph table.old.book.state.live stack.old.items trail.old stage
+        → after_move formula.now stage step ≡ Some next
+        → (width : ℕ) → HaveRoom caches.old width → HoldsAtMost formula.now table.old.graph.order stage next width
+        → AddsAtMost (2 * (width * width) + 1) table.old table.new }
     ensures sizes { sizes caches.new ≡ sizes caches.old }
-    ensures made { (stage next : Stage) → IsAt formula.now table.old.graph table.old.book.state.live stack.old.items trail.old stage → after_move formula.now stage step ≡ Some next
+    ensures made { (stage next : Stage) → IsAt formula.now table.old.graph table.old.book.state.live stack.old.items trail.old stage
+        → after_move formula.now stage step ≡ Some next
         → KeepsOrMakes table.old.graph table.new.graph (top_function formula.now table.old.graph.order next.stack) }
-    ensures lacks { (stage next : Stage) → IsAt formula.now table.old.graph table.old.book.state.live stack.old.items trail.old stage → after_move formula.now stage step ≡ Some next
+    ensures lacks { (stage next : Stage) → IsAt formula.now table.old.graph table.old.book.state.live stack.old.items trail.old stage
+        → after_move formula.now stage step ≡ Some next
         → result ≡ Err NodeLimit → LacksPart table.new.graph (top_function formula.now table.old.graph.order next.stack) }
     ensures beside { S.beside table.new.book.sink ≡ S.beside table.old.book.sink }
 {
@@ -96,17 +104,20 @@ fn carry_out<S: Sink + Drop>(
     alloc: Global,
     table: &mut Table<S>,
     caches: &mut Caches,
-    stack: &mut Vec<Held>,
+    stack: &mut Vec<HeldTerm>,
     trail: &mut Trail,
     formula: &Cnf,
     step: Move,
 ) -> Result<bool, TableError>
     requires ready { IsReady formula.now table.old (all_entries caches.old) }
-    requires possible { (stage next : Stage) × IsAt formula.now table.old.graph table.old.book.state.live stack.old.items trail.old stage × (after_move formula.now stage step ≡ Some next) }
+    requires possible { (stage next : Stage) × IsAt formula.now table.old.graph table.old.book.state.live stack.old.items trail.old stage
+        × (after_move formula.now stage step ≡ Some next) }
     requires settled { table.old.retired ≡ [] }
     requires own { HasUnits table.old (all_entries caches.old) (reverse stack.old.items) }
-    ensures held { (stage next : Stage) → IsAt formula.now table.old.graph table.old.book.state.live stack.old.items trail.old stage → after_move formula.now stage step ≡ Some next
-        → IfOk result (λ refuted. refuted ≡ false → IsAt formula.now table.new.graph table.new.book.state.live stack.new.items trail.new next) }
+    ensures held { (stage next : Stage) → IsAt formula.now table.old.graph table.old.book.state.live stack.old.items trail.old stage
+        → after_move formula.now stage step ≡ Some next
+        → IfOk result (λ refuted. refuted ≡ false
+        → IsAt formula.now table.new.graph table.new.book.state.live stack.new.items trail.new next) }
     ensures refuted { IfOk result (λ refuted. IsTrue refuted → (id : ℕ) × (clause_at table.new.book.state.live id ≡ Some [])) }
     ensures own { IfOk result (λ refuted. refuted ≡ false → HasUnits table.new (all_entries caches.new) (reverse stack.new.items)) }
     ensures ready { UnlessTorn result (IsReady formula.now table.new (all_entries caches.new)) }
@@ -117,12 +128,16 @@ fn carry_out<S: Sink + Drop>(
     ensures leaves { Leaves S.tells (S.channel table.old.book.sink) (S.channel table.new.book.sink) table.old table.new (error_of result) }
     ensures nodes { KeepsNodes table.old.graph table.new.graph }
     ensures adds { AddsAtMost (most_additions (levels table.old.graph) + 1) table.old table.new }
-    ensures pairs { (stage next : Stage) → IsAt formula.now table.old.graph table.old.book.state.live stack.old.items trail.old stage → after_move formula.now stage step ≡ Some next
-        → (width : ℕ) → HaveRoom caches.old width → HoldsAtMost formula.now table.old.graph.order stage next width → AddsAtMost (2 * (width * width) + 1) table.old table.new }
+    ensures pairs { (stage next : Stage) → IsAt formula.now table.old.graph table.old.book.state.live stack.old.items trail.old stage
+        → after_move formula.now stage step ≡ Some next
+        → (width : ℕ) → HaveRoom caches.old width → HoldsAtMost formula.now table.old.graph.order stage next width
+        → AddsAtMost (2 * (width * width) + 1) table.old table.new }
     ensures sizes { sizes caches.new ≡ sizes caches.old }
-    ensures made { (stage next : Stage) → IsAt formula.now table.old.graph table.old.book.state.live stack.old.items trail.old stage → after_move formula.now stage step ≡ Some next
+    ensures made { (stage next : Stage) → IsAt formula.now table.old.graph table.old.book.state.live stack.old.items trail.old stage
+        → after_move formula.now stage step ≡ Some next
         → KeepsOrMakes table.old.graph table.new.graph (top_function formula.now table.old.graph.order next.stack) }
-    ensures lacks { (stage next : Stage) → IsAt formula.now table.old.graph table.old.book.state.live stack.old.items trail.old stage → after_move formula.now stage step ≡ Some next
+    ensures lacks { (stage next : Stage) → IsAt formula.now table.old.graph table.old.book.state.live stack.old.items trail.old stage
+        → after_move formula.now stage step ≡ Some next
         → result ≡ Err NodeLimit → LacksPart table.new.graph (top_function formula.now table.old.graph.order next.stack) }
     ensures beside { S.beside table.new.book.sink ≡ S.beside table.old.book.sink }
 {
@@ -139,7 +154,7 @@ fn carry_out<S: Sink + Drop>(
 fn push<S: Sink + Drop>(
     alloc: Global,
     table: &mut Table<S>,
-    stack: &mut Vec<Held>,
+    stack: &mut Vec<HeldTerm>,
     formula: &Cnf,
     number: u32,
 ) -> Result<bool, TableError>
@@ -147,10 +162,12 @@ fn push<S: Sink + Drop>(
     requires from_one { 1 ≤ number }
     requires to_len { number ≤ length formula.now.clauses }
     ensures held { (terms : List TermValue) → AreHeld formula.now table.old.graph table.old.book.state.live (reverse stack.old.items) terms
-        → IfOk result (λ refuted. refuted ≡ false → AreHeld formula.now table.new.graph table.new.book.state.live (reverse stack.new.items) (input number ∷ terms)) }
+        → IfOk result (λ refuted. refuted ≡ false → AreHeld formula.now table.new.graph table.new.book.state.live (reverse stack.new.items)
+        (input number ∷ terms)) }
     ensures refuted { IfOk result (λ refuted. IsTrue refuted → (id : ℕ) × (clause_at table.new.book.state.live id ≡ Some [])) }
     ensures unchanged { IsErr result → stack.new.items ≡ stack.old.items }
-    ensures again { (kept : List Entry) → Fits table.old kept → HasUnits table.old kept (reverse stack.old.items) → result ≡ Err NodeLimit → HasUnits table.new kept (reverse stack.new.items) }
+    ensures again { (kept : List Entry) → Fits table.old kept → HasUnits table.old kept (reverse stack.old.items) → result ≡ Err NodeLimit
+        → HasUnits table.new kept (reverse stack.new.items) }
     ensures own { (kept : List Entry) → Fits table.old kept → HasUnits table.old kept (reverse stack.old.items)
         → IfOk result (λ refuted. refuted ≡ false → HasUnits table.new kept (reverse stack.new.items)) }
     ensures steps { Steps S.tells (S.channel table.old.book.sink) (S.channel table.new.book.sink) table.old table.new 1 (error_of result) }
@@ -171,27 +188,35 @@ fn push<S: Sink + Drop>(
 fn conjoin<S: Sink + Drop>(
     table: &mut Table<S>,
     caches: &mut Caches,
-    stack: &mut Vec<Held>,
+    stack: &mut Vec<HeldTerm>,
 ) -> Result<bool, TableError>
     requires sound { IsSound table.old }
     requires fits { Fits table.old (all_entries caches.old) }
     requires own { HasUnits table.old (all_entries caches.old) (reverse stack.old.items) }
-    requires two { (formula : Formula) × (one other : TermValue) × (terms : List TermValue) × AreHeld formula table.old.graph table.old.book.state.live (reverse stack.old.items) (other ∷ one ∷ terms) }
-    ensures held { (formula : Formula) (one other : TermValue) (terms : List TermValue) → AreHeld formula table.old.graph table.old.book.state.live (reverse stack.old.items) (other ∷ one ∷ terms)
-        → IfOk result (λ refuted. refuted ≡ false → AreHeld formula table.new.graph table.new.book.state.live (reverse stack.new.items) (both one other ∷ terms)) }
+    requires two { (formula : Formula) × (one other : TermValue) × (terms : List TermValue)
+        × AreHeld formula table.old.graph table.old.book.state.live (reverse stack.old.items) (other ∷ one ∷ terms) }
+    ensures held { (formula : Formula) (one other : TermValue) (terms : List TermValue)
+        → AreHeld formula table.old.graph table.old.book.state.live (reverse stack.old.items) (other ∷ one ∷ terms)
+        → IfOk result (λ refuted. refuted ≡ false → AreHeld formula table.new.graph table.new.book.state.live (reverse stack.new.items)
+        (both one other ∷ terms)) }
     ensures refuted { IfOk result (λ refuted. IsTrue refuted → (id : ℕ) × (clause_at table.new.book.state.live id ≡ Some [])) }
     ensures unchanged { IsErr result → stack.new.items ≡ stack.old.items }
     ensures again { result ≡ Err NodeLimit → HasUnits table.new (all_entries caches.new) (reverse stack.new.items) }
     ensures own { IfOk result (λ refuted. refuted ≡ false → HasUnits table.new (all_entries caches.new) (reverse stack.new.items)) }
-    ensures steps { Steps S.tells (S.channel table.old.book.sink) (S.channel table.new.book.sink) table.old table.new (most_additions (levels table.old.graph) + 1) (error_of result) }
+    ensures steps { Steps S.tells (S.channel table.old.book.sink) (S.channel table.new.book.sink) table.old table.new
+        (most_additions (levels table.old.graph) + 1) (error_of result) }
     ensures fits { UnlessTorn result (Fits table.new (all_entries caches.new)) }
-    ensures made { (formula : Formula) (one other : TermValue) (terms : List TermValue) → AreHeld formula table.old.graph table.old.book.state.live (reverse stack.old.items) (other ∷ one ∷ terms)
+    ensures made { (formula : Formula) (one other : TermValue) (terms : List TermValue)
+        → AreHeld formula table.old.graph table.old.book.state.live (reverse stack.old.items) (other ∷ one ∷ terms)
         → MakesOnly table.old.graph table.new.graph (term_function formula table.old.graph.order (both one other)) }
-    ensures lacks { (formula : Formula) (one other : TermValue) (terms : List TermValue) → AreHeld formula table.old.graph table.old.book.state.live (reverse stack.old.items) (other ∷ one ∷ terms)
+    ensures lacks { (formula : Formula) (one other : TermValue) (terms : List TermValue)
+        → AreHeld formula table.old.graph table.old.book.state.live (reverse stack.old.items) (other ∷ one ∷ terms)
         → result ≡ Err NodeLimit → LacksPart table.new.graph (term_function formula table.old.graph.order (both one other)) }
     // Where the caches have room for all pairs of the terms' parts, no more than two clauses for each of these, and the unit.
-    ensures pairs { (formula : Formula) (one other : TermValue) (terms : List TermValue) → AreHeld formula table.old.graph table.old.book.state.live (reverse stack.old.items) (other ∷ one ∷ terms)
-        → (width : ℕ) → HaveRoom caches.old width → HasAtMost (term_function formula table.old.graph.order one) width → HasAtMost (term_function formula table.old.graph.order other) width
+    ensures pairs { (formula : Formula) (one other : TermValue) (terms : List TermValue)
+        → AreHeld formula table.old.graph table.old.book.state.live (reverse stack.old.items) (other ∷ one ∷ terms)
+        → (width : ℕ) → HaveRoom caches.old width → HasAtMost (term_function formula table.old.graph.order one) width
+        → HasAtMost (term_function formula table.old.graph.order other) width
         → AddsAtMost (2 * (width * width) + 1) table.old table.new }
     ensures sizes { sizes caches.new ≡ sizes caches.old }
     ensures beside { S.beside table.new.book.sink ≡ S.beside table.old.book.sink }

@@ -17,7 +17,8 @@ const SHORT: usize = 64;
 /// The number of the first empty clause, from 1, if there is one.
 pub fn first_empty(formula: &Cnf) -> Option<usize>
     ensures { MatchOption result (IsFalse (has_empty_clause formula.now.clauses))
-        (λ number. (number ≡ first_empty formula.now.clauses) × IsTrue (has_empty_clause formula.now.clauses) × (1 ≤ number) × (number ≤ length formula.now.clauses) × (slice_index_or formula.now.clauses (number - 1) [] ≡ [])) }
+        (λ number. (number ≡ first_empty formula.now.clauses) × IsTrue (has_empty_clause formula.now.clauses) × (1 ≤ number)
+        × (number ≤ length formula.now.clauses) × (slice_index_or formula.now.clauses (number - 1) [] ≡ [])) }
 {
     for i in 0..formula.len() {
         if formula.clause(i + 1).is_empty() {

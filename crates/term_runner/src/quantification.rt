@@ -23,7 +23,7 @@ ghost use Rattle.term_runner.specs.Held.{AreHeld, AreKept, GivesUnit, HasUnits};
 ghost use Rattle.term_runner.specs.Width.{HasAtMost, term_function};
 
 use crate::caches::Caches;
-use crate::held::{Held, last_term, replace_last};
+use crate::held::{HeldTerm, last_term, replace_last};
 use crate::unit::{is_same, retire_unit, unit_of_implied};
 use clause_terms::Trail;
 use host_io::Sink;
@@ -36,7 +36,7 @@ use operations::entry_law;
 pub fn quantify_out<S: Sink + Drop>(
     table: &mut Table<S>,
     caches: &mut Caches,
-    stack: &mut Vec<Held>,
+    stack: &mut Vec<HeldTerm>,
     trail: &mut Trail,
     variable: u32,
 ) -> Result<bool, TableError>
@@ -45,23 +45,33 @@ pub fn quantify_out<S: Sink + Drop>(
     requires own { HasUnits table.old (all_entries caches.old) (reverse stack.old.items) }
     requires from_one { 1 ≤ variable }
     requires to_levels { variable ≤ levels table.old.graph }
-    requires one { (formula : Formula) × (term : TermValue) × (terms : List TermValue) × AreHeld formula table.old.graph table.old.book.state.live (reverse stack.old.items) (term ∷ terms) }
-    ensures held { (formula : Formula) (term : TermValue) (terms : List TermValue) → AreHeld formula table.old.graph table.old.book.state.live (reverse stack.old.items) (term ∷ terms)
-        → IfOk result (λ refuted. refuted ≡ false → AreHeld formula table.new.graph table.new.book.state.live (reverse stack.new.items) (some_value variable term ∷ terms)) }
-    ensures kept { (formula : Formula) (term : TermValue) (terms : List TermValue) (quantified : List (ℕ × TermValue)) → AreHeld formula table.old.graph table.old.book.state.live (reverse stack.old.items) (term ∷ terms)
-        → AreKept formula table.old.graph (reverse trail.old) quantified → IfOk result (λ refuted. AreKept formula table.new.graph (reverse trail.new) ((variable, term) ∷ quantified)) }
+    requires one { (formula : Formula) × (term : TermValue) × (terms : List TermValue)
+        × AreHeld formula table.old.graph table.old.book.state.live (reverse stack.old.items) (term ∷ terms) }
+    ensures held { (formula : Formula) (term : TermValue) (terms : List TermValue)
+        → AreHeld formula table.old.graph table.old.book.state.live (reverse stack.old.items) (term ∷ terms)
+        → IfOk result (λ refuted. refuted ≡ false → AreHeld formula table.new.graph table.new.book.state.live (reverse stack.new.items)
+        (some_value variable term ∷ terms)) }
+    ensures kept { (formula : Formula) (term : TermValue) (terms : List TermValue) (quantified : List (ℕ × TermValue))
+        → AreHeld formula table.old.graph table.old.book.state.live (reverse stack.old.items) (term ∷ terms)
+        → AreKept formula table.old.graph (reverse trail.old) quantified
+        → IfOk result (λ refuted. AreKept formula table.new.graph (reverse trail.new) ((variable, term) ∷ quantified)) }
     ensures unchanged { IsErr result → (stack.new.items ≡ stack.old.items) × (trail.new ≡ trail.old) }
     ensures again { result ≡ Err NodeLimit → HasUnits table.new (all_entries caches.new) (reverse stack.new.items) }
     ensures refuted { IfOk result (λ refuted. IsTrue refuted → (id : ℕ) × (clause_at table.new.book.state.live id ≡ Some [])) }
     ensures own { IfOk result (λ refuted. refuted ≡ false → HasUnits table.new (all_entries caches.new) (reverse stack.new.items)) }
-    ensures steps { Steps S.tells (S.channel table.old.book.sink) (S.channel table.new.book.sink) table.old table.new (most_additions (levels table.old.graph) + 1) (error_of result) }
+    ensures steps { Steps S.tells (S.channel table.old.book.sink) (S.channel table.new.book.sink) table.old table.new
+        (most_additions (levels table.old.graph) + 1) (error_of result) }
     ensures fits { UnlessTorn result (Fits table.new (all_entries caches.new)) }
-    ensures made { (formula : Formula) (term : TermValue) (terms : List TermValue) → AreHeld formula table.old.graph table.old.book.state.live (reverse stack.old.items) (term ∷ terms)
+    ensures made { (formula : Formula) (term : TermValue) (terms : List TermValue)
+        → AreHeld formula table.old.graph table.old.book.state.live (reverse stack.old.items) (term ∷ terms)
         → MakesOnly table.old.graph table.new.graph (term_function formula table.old.graph.order (some_value variable term)) }
-    ensures lacks { (formula : Formula) (term : TermValue) (terms : List TermValue) → AreHeld formula table.old.graph table.old.book.state.live (reverse stack.old.items) (term ∷ terms)
+    ensures lacks { (formula : Formula) (term : TermValue) (terms : List TermValue)
+        → AreHeld formula table.old.graph table.old.book.state.live (reverse stack.old.items) (term ∷ terms)
         → result ≡ Err NodeLimit → LacksPart table.new.graph (term_function formula table.old.graph.order (some_value variable term)) }
-    ensures pairs { (formula : Formula) (term : TermValue) (terms : List TermValue) → AreHeld formula table.old.graph table.old.book.state.live (reverse stack.old.items) (term ∷ terms)
-        → (width : ℕ) → HaveRoom caches.old width → HasAtMost (term_function formula table.old.graph.order term) width → HasAtMost (term_function formula table.old.graph.order (some_value variable term)) width
+    ensures pairs { (formula : Formula) (term : TermValue) (terms : List TermValue)
+        → AreHeld formula table.old.graph table.old.book.state.live (reverse stack.old.items) (term ∷ terms)
+        → (width : ℕ) → HaveRoom caches.old width → HasAtMost (term_function formula table.old.graph.order term) width
+        → HasAtMost (term_function formula table.old.graph.order (some_value variable term)) width
         → AddsAtMost (2 * (width * width) + 1) table.old table.new }
     ensures sizes { sizes caches.new ≡ sizes caches.old }
     ensures beside { S.beside table.new.book.sink ≡ S.beside table.old.book.sink }
@@ -89,9 +99,9 @@ pub fn quantify_out<S: Sink + Drop>(
 fn weaken<S: Sink + Drop>(
     table: &mut Table<S>,
     caches: &mut Caches,
-    u: &Held,
+    u: &HeldTerm,
     level: u32,
-) -> Result<Held, TableError>
+) -> Result<HeldTerm, TableError>
     requires sound { IsSound table.old }
     requires stands { IsTrue (is_node table.old.graph u.now.node) }
     requires some { u.now.node ≢ False }
@@ -102,13 +112,16 @@ fn weaken<S: Sink + Drop>(
     ensures quantified { IfOk result (λ held. Quantified table.new.graph u.now.node level held.node) }
     ensures unit { IfOk result (λ held. IsJustified table.new.book.state.live (atom_of table.new.graph held.node ∷ []) held.unit) }
     ensures own { IfOk result (λ held. (id : ℕ) → held.unit ≡ Clause id → IsAccounted table.new (all_entries caches.new) id → ⊥) }
-    ensures gives { IfOk result (λ held. GivesUnit table.old table.new (all_entries caches.old) (all_entries caches.new) (u.now ∷ []) held.unit) }
-    ensures steps { Steps S.tells (S.channel table.old.book.sink) (S.channel table.new.book.sink) table.old table.new (most_additions (levels table.old.graph) + 1) (error_of result) }
+    ensures gives { IfOk result (λ held. GivesUnit table.old table.new (all_entries caches.old) (all_entries caches.new) (u.now
+        ∷ []) held.unit) }
+    ensures steps { Steps S.tells (S.channel table.old.book.sink) (S.channel table.new.book.sink) table.old table.new
+        (most_additions (levels table.old.graph) + 1) (error_of result) }
     ensures keeps { KeepsEntries table.old table.new (all_entries caches.old) (all_entries caches.new) (error_of result) }
     ensures accounts { result ≡ Err NodeLimit → Accounts table.old table.new (all_entries caches.old) (all_entries caches.new) }
     ensures made { MakesOnly table.old.graph table.new.graph (quantification_of table.old.graph u.now.node level) }
     ensures lacks { result ≡ Err NodeLimit → LacksPart table.new.graph (quantification_of table.old.graph u.now.node level) }
-    ensures pairs { (width : ℕ) → HaveRoom caches.old width → HasAtMost (λ a. value_of table.old.graph a u.now.node) width → HasAtMost (quantification_of table.old.graph u.now.node level) width
+    ensures pairs { (width : ℕ) → HaveRoom caches.old width → HasAtMost (λ a. value_of table.old.graph a u.now.node) width
+        → HasAtMost (quantification_of table.old.graph u.now.node level) width
         → AddsAtMost (2 * (width * width) + 1) table.old table.new }
     ensures sizes { sizes caches.new ≡ sizes caches.old }
     ensures beside { S.beside table.new.book.sink ≡ S.beside table.old.book.sink }
@@ -117,14 +130,14 @@ fn weaken<S: Sink + Drop>(
     steps_law::<S>();
     let node = caches.exists(table, u.node, level)?;
     let unit = implied_unit(table, caches, u, node)?;
-    Ok(Held { node, unit })
+    Ok(HeldTerm { node, unit })
 }
 
 // The unit of a node that the term implies.
 fn implied_unit<S: Sink + Drop>(
     table: &mut Table<S>,
     caches: &mut Caches,
-    u: &Held,
+    u: &HeldTerm,
     w: Node,
 ) -> Result<Just, TableError>
     requires sound { IsSound table.old }
@@ -137,12 +150,15 @@ fn implied_unit<S: Sink + Drop>(
     requires own { (id : ℕ) → u.now.unit ≡ Clause id → IsAccounted table.old (all_entries caches.old) id → ⊥ }
     ensures unit { IfOk result (λ unit. IsJustified table.new.book.state.live (atom_of table.old.graph w ∷ []) unit) }
     ensures own { IfOk result (λ unit. (id : ℕ) → unit ≡ Clause id → IsAccounted table.new (all_entries caches.new) id → ⊥) }
-    ensures gives { IfOk result (λ unit. GivesUnit table.old table.new (all_entries caches.old) (all_entries caches.new) (u.now ∷ []) unit) }
+    ensures gives { IfOk result (λ unit. GivesUnit table.old table.new (all_entries caches.old) (all_entries caches.new) (u.now
+        ∷ []) unit) }
     ensures nodes { table.new.graph ≡ table.old.graph }
-    ensures steps { Steps S.tells (S.channel table.old.book.sink) (S.channel table.new.book.sink) table.old table.new (most_additions (levels table.old.graph) + 1) (error_of result) }
+    ensures steps { Steps S.tells (S.channel table.old.book.sink) (S.channel table.new.book.sink) table.old table.new
+        (most_additions (levels table.old.graph) + 1) (error_of result) }
     ensures keeps { KeepsEntries table.old table.new (all_entries caches.old) (all_entries caches.new) (error_of result) }
     ensures no_node_limit { result ≢ Err NodeLimit }
-    ensures pairs { (width : ℕ) → HaveRoom caches.old width → HasAtMost (λ a. value_of table.old.graph a u.now.node) width → HasAtMost (λ a. value_of table.old.graph a w) width
+    ensures pairs { (width : ℕ) → HaveRoom caches.old width → HasAtMost (λ a. value_of table.old.graph a u.now.node) width
+        → HasAtMost (λ a. value_of table.old.graph a w) width
         → AddsAtMost (2 * (width * width) + 1) table.old table.new }
     ensures sizes { sizes caches.new ≡ sizes caches.old }
     ensures beside { S.beside table.new.book.sink ≡ S.beside table.old.book.sink }

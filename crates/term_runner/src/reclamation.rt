@@ -19,7 +19,7 @@ ghost use Rattle.term_runner.specs.Held.{IsAt, IsReady, HasUnits};
 ghost use Rattle.term_runner.specs.Tidy.{IsTidy, LeavesReached, WereLeft, held_nodes};
 
 use crate::caches::Caches;
-use crate::held::Held;
+use crate::held::HeldTerm;
 use crate::moves::{is_node_limit, try_move};
 use clause_terms::Trail;
 use cnf_base::{Cnf, OutOfMemory as NoMemory};
@@ -40,40 +40,53 @@ pub fn take_move<S: Sink + Drop>(
     alloc: Global,
     table: &mut Table<S>,
     caches: &mut Caches,
-    stack: &mut Vec<Held>,
+    stack: &mut Vec<HeldTerm>,
     trail: &mut Trail,
     left: &mut u32,
     formula: &Cnf,
     step: Move,
 ) -> Result<bool, TableError>
     requires ready { IsReady formula.now table.old (all_entries caches.old) }
-    requires possible { (stage next : Stage) × IsAt formula.now table.old.graph table.old.book.state.live stack.old.items trail.old stage × (after_move formula.now stage step ≡ Some next) }
+    requires possible { (stage next : Stage) × IsAt formula.now table.old.graph table.old.book.state.live stack.old.items trail.old stage
+        × (after_move formula.now stage step ≡ Some next) }
     requires settled { table.old.retired ≡ [] }
     requires own { HasUnits table.old (all_entries caches.old) (reverse stack.old.items) }
-    ensures held { (stage next : Stage) → IsAt formula.now table.old.graph table.old.book.state.live stack.old.items trail.old stage → after_move formula.now stage step ≡ Some next
-        → IfOk result (λ refuted. refuted ≡ false → IsAt formula.now table.new.graph table.new.book.state.live stack.new.items trail.new next) }
+    ensures held { (stage next : Stage) → IsAt formula.now table.old.graph table.old.book.state.live stack.old.items trail.old stage
+        → after_move formula.now stage step ≡ Some next
+        → IfOk result (λ refuted. refuted ≡ false
+        → IsAt formula.now table.new.graph table.new.book.state.live stack.new.items trail.new next) }
     ensures refuted { IfOk result (λ refuted. IsTrue refuted → (id : ℕ) × (clause_at table.new.book.state.live id ≡ Some [])) }
     ensures ready { OnOk result (IsReady formula.now table.new (all_entries caches.new)) }
     ensures settled { result ≡ Ok false → table.new.retired ≡ [] }
     ensures own { IfOk result (λ refuted. refuted ≡ false → HasUnits table.new (all_entries caches.new) (reverse stack.new.items)) }
     ensures leaves { Leaves S.tells (S.channel table.old.book.sink) (S.channel table.new.book.sink) table.old table.new (error_of result) }
-    ensures made { (stage next : Stage) → IsAt formula.now table.old.graph table.old.book.state.live stack.old.items trail.old stage → after_move formula.now stage step ≡ Some next
+    ensures made { (stage next : Stage) → IsAt formula.now table.old.graph table.old.book.state.live stack.old.items trail.old stage
+        → after_move formula.now stage step ≡ Some next
         → KeepsOrMakes table.old.graph table.new.graph (top_function formula.now table.old.graph.order next.stack) }
-    ensures lacks { (stage next : Stage) → IsAt formula.now table.old.graph table.old.book.state.live stack.old.items trail.old stage → after_move formula.now stage step ≡ Some next
+    ensures lacks { (stage next : Stage) → IsAt formula.now table.old.graph table.old.book.state.live stack.old.items trail.old stage
+        → after_move formula.now stage step ≡ Some next
         → result ≡ Err NodeLimit → LacksPart table.new.graph (top_function formula.now table.old.graph.order next.stack) }
     // At the limit there are but nodes that the terms reached, and those of the move's own.
-    ensures full { (stage next : Stage) → IsAt formula.now table.old.graph table.old.book.state.live stack.old.items trail.old stage → after_move formula.now stage step ≡ Some next
-        → result ≡ Err NodeLimit → (were : WereLeft formula.now table.old.graph.order stage left.new) × KeepsOrMakes were.graph table.new.graph (top_function formula.now table.old.graph.order next.stack) }
+    ensures full { (stage next : Stage) → IsAt formula.now table.old.graph table.old.book.state.live stack.old.items trail.old stage
+        → after_move formula.now stage step ≡ Some next
+        → result ≡ Err NodeLimit → (were : WereLeft formula.now table.old.graph.order stage left.new)
+        × KeepsOrMakes were.graph table.new.graph (top_function formula.now table.old.graph.order next.stack) }
     ensures tidy { result ≡ Ok false → IsTidy (live_nodes table.new.graph) left.new }
-    ensures left { (stage next : Stage) → IsAt formula.now table.old.graph table.old.book.state.live stack.old.items trail.old stage → after_move formula.now stage step ≡ Some next
-        → result ≡ Ok false → (left.new ≡ left.old) ⊎ (WereLeft formula.now table.old.graph.order stage left.new ⊎ WereLeft formula.now table.old.graph.order next left.new) }
+    ensures left { (stage next : Stage) → IsAt formula.now table.old.graph table.old.book.state.live stack.old.items trail.old stage
+        → after_move formula.now stage step ≡ Some next
+        → result ≡ Ok false → (left.new ≡ left.old) ⊎ (WereLeft formula.now table.old.graph.order stage left.new
+        ⊎ WereLeft formula.now table.old.graph.order next left.new) }
     // However it ends, it gave so many numbers at most, and made so few nodes, by the parts in hand at the move.
-    ensures price { (stage next : Stage) → IsAt formula.now table.old.graph table.old.book.state.live stack.old.items trail.old stage → after_move formula.now stage step ≡ Some next
-        → (size width price : ℕ) → HaveSize caches.old size → IsMovePrice (levels table.old.graph) size width price → HoldsAtMost formula.now table.old.graph.order stage next width
+    ensures price { (stage next : Stage) → IsAt formula.now table.old.graph table.old.book.state.live stack.old.items trail.old stage
+        → after_move formula.now stage step ≡ Some next
+        → (size width price : ℕ) → HaveSize caches.old size → IsMovePrice (levels table.old.graph) size width price
+        → HoldsAtMost formula.now table.old.graph.order stage next width
         → table.new.book.state.top ≤ table.old.book.state.top + price }
     ensures sizes { sizes caches.new ≡ sizes caches.old }
-    ensures few { (stage next : Stage) → IsAt formula.now table.old.graph table.old.book.state.live stack.old.items trail.old stage → after_move formula.now stage step ≡ Some next
-        → (width : ℕ) → HoldsAtMost formula.now table.old.graph.order stage next width → AddsFew (live_nodes table.old.graph) (live_nodes table.new.graph) width }
+    ensures few { (stage next : Stage) → IsAt formula.now table.old.graph table.old.book.state.live stack.old.items trail.old stage
+        → after_move formula.now stage step ≡ Some next
+        → (width : ℕ) → HoldsAtMost formula.now table.old.graph.order stage next width
+        → AddsFew (live_nodes table.old.graph) (live_nodes table.new.graph) width }
     ensures beside { S.beside table.new.book.sink ≡ S.beside table.old.book.sink }
 {
     canonical_law();
@@ -96,36 +109,48 @@ fn try_twice<S: Sink + Drop>(
     alloc: Global,
     table: &mut Table<S>,
     caches: &mut Caches,
-    stack: &mut Vec<Held>,
+    stack: &mut Vec<HeldTerm>,
     trail: &mut Trail,
     left: &mut u32,
     formula: &Cnf,
     step: Move,
 ) -> Result<bool, TableError>
     requires ready { IsReady formula.now table.old (all_entries caches.old) }
-    requires possible { (stage next : Stage) × IsAt formula.now table.old.graph table.old.book.state.live stack.old.items trail.old stage × (after_move formula.now stage step ≡ Some next) }
+    requires possible { (stage next : Stage) × IsAt formula.now table.old.graph table.old.book.state.live stack.old.items trail.old stage
+        × (after_move formula.now stage step ≡ Some next) }
     requires settled { table.old.retired ≡ [] }
     requires own { HasUnits table.old (all_entries caches.old) (reverse stack.old.items) }
-    ensures held { (stage next : Stage) → IsAt formula.now table.old.graph table.old.book.state.live stack.old.items trail.old stage → after_move formula.now stage step ≡ Some next
-        → IfOk result (λ refuted. refuted ≡ false → IsAt formula.now table.new.graph table.new.book.state.live stack.new.items trail.new next) }
+    ensures held { (stage next : Stage) → IsAt formula.now table.old.graph table.old.book.state.live stack.old.items trail.old stage
+        → after_move formula.now stage step ≡ Some next
+        → IfOk result (λ refuted. refuted ≡ false
+        → IsAt formula.now table.new.graph table.new.book.state.live stack.new.items trail.new next) }
     ensures refuted { IfOk result (λ refuted. IsTrue refuted → (id : ℕ) × (clause_at table.new.book.state.live id ≡ Some [])) }
     ensures ready { OnOk result (IsReady formula.now table.new (all_entries caches.new)) }
     ensures settled { result ≡ Ok false → table.new.retired ≡ [] }
     ensures own { IfOk result (λ refuted. refuted ≡ false → HasUnits table.new (all_entries caches.new) (reverse stack.new.items)) }
     ensures leaves { Leaves S.tells (S.channel table.old.book.sink) (S.channel table.new.book.sink) table.old table.new (error_of result) }
-    ensures made { (stage next : Stage) → IsAt formula.now table.old.graph table.old.book.state.live stack.old.items trail.old stage → after_move formula.now stage step ≡ Some next
+    ensures made { (stage next : Stage) → IsAt formula.now table.old.graph table.old.book.state.live stack.old.items trail.old stage
+        → after_move formula.now stage step ≡ Some next
         → KeepsOrMakes table.old.graph table.new.graph (top_function formula.now table.old.graph.order next.stack) }
-    ensures lacks { (stage next : Stage) → IsAt formula.now table.old.graph table.old.book.state.live stack.old.items trail.old stage → after_move formula.now stage step ≡ Some next
+    ensures lacks { (stage next : Stage) → IsAt formula.now table.old.graph table.old.book.state.live stack.old.items trail.old stage
+        → after_move formula.now stage step ≡ Some next
         → result ≡ Err NodeLimit → LacksPart table.new.graph (top_function formula.now table.old.graph.order next.stack) }
-    ensures full { (stage next : Stage) → IsAt formula.now table.old.graph table.old.book.state.live stack.old.items trail.old stage → after_move formula.now stage step ≡ Some next
-        → result ≡ Err NodeLimit → (were : WereLeft formula.now table.old.graph.order stage left.new) × KeepsOrMakes were.graph table.new.graph (top_function formula.now table.old.graph.order next.stack) }
-    ensures left { (stage : Stage) → IsAt formula.now table.old.graph table.old.book.state.live stack.old.items trail.old stage → (left.new ≡ left.old) ⊎ WereLeft formula.now table.old.graph.order stage left.new }
-    ensures price { (stage next : Stage) → IsAt formula.now table.old.graph table.old.book.state.live stack.old.items trail.old stage → after_move formula.now stage step ≡ Some next
-        → (size width price : ℕ) → HaveSize caches.old size → IsMovePrice (levels table.old.graph) size width price → HoldsAtMost formula.now table.old.graph.order stage next width
+    ensures full { (stage next : Stage) → IsAt formula.now table.old.graph table.old.book.state.live stack.old.items trail.old stage
+        → after_move formula.now stage step ≡ Some next
+        → result ≡ Err NodeLimit → (were : WereLeft formula.now table.old.graph.order stage left.new)
+        × KeepsOrMakes were.graph table.new.graph (top_function formula.now table.old.graph.order next.stack) }
+    ensures left { (stage : Stage) → IsAt formula.now table.old.graph table.old.book.state.live stack.old.items trail.old stage
+        → (left.new ≡ left.old) ⊎ WereLeft formula.now table.old.graph.order stage left.new }
+    ensures price { (stage next : Stage) → IsAt formula.now table.old.graph table.old.book.state.live stack.old.items trail.old stage
+        → after_move formula.now stage step ≡ Some next
+        → (size width price : ℕ) → HaveSize caches.old size → IsMovePrice (levels table.old.graph) size width price
+        → HoldsAtMost formula.now table.old.graph.order stage next width
         → table.new.book.state.top ≤ table.old.book.state.top + price }
     ensures sizes { sizes caches.new ≡ sizes caches.old }
-    ensures few { (stage next : Stage) → IsAt formula.now table.old.graph table.old.book.state.live stack.old.items trail.old stage → after_move formula.now stage step ≡ Some next
-        → (width : ℕ) → HoldsAtMost formula.now table.old.graph.order stage next width → AddsFew (live_nodes table.old.graph) (live_nodes table.new.graph) width }
+    ensures few { (stage next : Stage) → IsAt formula.now table.old.graph table.old.book.state.live stack.old.items trail.old stage
+        → after_move formula.now stage step ≡ Some next
+        → (width : ℕ) → HoldsAtMost formula.now table.old.graph.order stage next width
+        → AddsFew (live_nodes table.old.graph) (live_nodes table.new.graph) width }
     ensures beside { S.beside table.new.book.sink ≡ S.beside table.old.book.sink }
 {
     subfunction_law();
@@ -147,7 +172,7 @@ fn give_back<S: Sink + Drop>(
     alloc: Global,
     table: &mut Table<S>,
     caches: &mut Caches,
-    stack: &[Held],
+    stack: &[HeldTerm],
     trail: &Trail,
     formula: &Cnf,
 ) -> Result<u32, TableError>
@@ -179,7 +204,7 @@ fn give_back<S: Sink + Drop>(
 }
 
 // The nodes of the stack and of the trail.
-fn roots_of(alloc: Global, stack: &[Held], trail: &Trail) -> Result<Vec<Node>, NoMemory>
+fn roots_of(alloc: Global, stack: &[HeldTerm], trail: &Trail) -> Result<Vec<Node>, NoMemory>
     ensures { IfOk result (λ roots. roots.items ≡ held_nodes stack.now trail.now) }
 {
     let mut roots: Vec<Node> = Vec::new(alloc);

@@ -1,7 +1,8 @@
 // The unit of a conjunction of two terms, and that of a node that a term implies: an operand's own where it is that
 // operand, else a clause that follows from the operands' units and the clause of the conjunction or the implication. Then
 // the operands' units are needed no more.
-ghost use Rattle.std.specs.Prelude.{◌≡◌, ◌≢◌, ◌<◌, ◌+◌, ◌⊎◌, ◌↔◌, ℕ, ℤ, List, [], ◌∷◌, Err, None, Some, Contains, IsTrue, IfOk, MatchOption};
+ghost use Rattle.std.specs.Prelude.{◌≡◌, ◌≢◌, ◌<◌, ◌+◌, ◌⊎◌, ◌↔◌, ℕ, ℤ, List, [], ◌∷◌, Err, None, Some, Contains, IsTrue, IfOk};
+ghost use Rattle.std.specs.Prelude.{MatchOption};
 ghost use Rattle.node_table.specs.declared.node.Node.TheVariants.{False, True};
 ghost use Rattle.node_table.specs.declared.node.Just.TheVariants.{Trivial, Clause};
 ghost use Rattle.lrat_rules.specs.Strict.{RefutesStrictly};
@@ -16,7 +17,7 @@ ghost use Rattle.operations.specs.Results.{Conjoined, Implied};
 ghost use Rattle.operations.specs.Entries.{IsNewJust};
 ghost use Rattle.term_runner.specs.Held.{RetiresBut};
 
-use crate::held::Held;
+use crate::held::HeldTerm;
 use cnf_base::Id;
 use hint_chain::{clause_law, following_unit_law};
 use host_io::Sink;
@@ -27,8 +28,8 @@ use operations::retire;
 /// The unit of the node w, which is the conjunction of both terms' nodes.
 pub fn unit_of<S: Sink + Drop>(
     table: &mut Table<S>,
-    u: &Held,
-    v: &Held,
+    u: &HeldTerm,
+    v: &HeldTerm,
     w: Node,
     just: &Just,
 ) -> Result<Just, TableError>
@@ -41,12 +42,15 @@ pub fn unit_of<S: Sink + Drop>(
     requires second_unit { IsJustified table.old.book.state.live (atom_of table.old.graph v.now.node ∷ []) v.now.unit }
     requires conjoined { Conjoined table.old.graph table.old.book.state.live u.now.node v.now.node w just.now }
     ensures unit { IfOk result (λ unit. IsJustified table.new.book.state.live (atom_of table.old.graph w ∷ []) unit) }
-    ensures given { IfOk result (λ unit. (unit ≡ u.now.unit) ⊎ ((unit ≡ v.now.unit) ⊎ IsNewJust table.old.book.state table.new.book.state unit)) }
-    ensures added { IfOk result (λ unit. (unit ≡ u.now.unit) ⊎ ((unit ≡ v.now.unit) ⊎ ((id : ℕ) → unit ≡ Clause id → IsAddedTo table.new id))) }
+    ensures given { IfOk result (λ unit. (unit ≡ u.now.unit) ⊎ ((unit ≡ v.now.unit)
+        ⊎ IsNewJust table.old.book.state table.new.book.state unit)) }
+    ensures added { IfOk result (λ unit. (unit ≡ u.now.unit) ⊎ ((unit ≡ v.now.unit)
+        ⊎ ((id : ℕ) → unit ≡ Clause id → IsAddedTo table.new id))) }
     ensures alone { IfOk result (λ unit. (id : ℕ) → IsAddedTo table.new id → IsAddedTo table.old id ⊎ (unit ≡ Clause id)) }
     // An operand's own unit without a clause more, or one clause.
     ensures own { (w ≡ u.now.node) ⊎ (w ≡ v.now.node) → table.new ≡ table.old }
-    ensures number { w ≢ u.now.node → w ≢ v.now.node → IfOk result (λ unit. (unit ≡ Clause (table.old.book.state.top + 1)) × (table.new.book.state.top ≡ table.old.book.state.top + 1)) }
+    ensures number { w ≢ u.now.node → w ≢ v.now.node → IfOk result (λ unit. (unit ≡ Clause (table.old.book.state.top + 1))
+        × (table.new.book.state.top ≡ table.old.book.state.top + 1)) }
     ensures nodes { table.new.graph ≡ table.old.graph }
     ensures steps { Steps S.tells (S.channel table.old.book.sink) (S.channel table.new.book.sink) table.old table.new 1 (error_of result) }
     ensures retired { table.new.retired ≡ table.old.retired }
@@ -78,7 +82,7 @@ pub fn unit_of<S: Sink + Drop>(
 /// The unit of the node w, which the term's node implies.
 pub fn unit_of_implied<S: Sink + Drop>(
     table: &mut Table<S>,
-    u: &Held,
+    u: &HeldTerm,
     w: Node,
     just: &Just,
 ) -> Result<Just, TableError>
@@ -94,7 +98,8 @@ pub fn unit_of_implied<S: Sink + Drop>(
     ensures alone { IfOk result (λ unit. (id : ℕ) → IsAddedTo table.new id → IsAddedTo table.old id ⊎ (unit ≡ Clause id)) }
     // Its own unit, or none where w is True, without a clause more; or one clause.
     ensures own { (w ≡ u.now.node) ⊎ (w ≡ True) → table.new ≡ table.old }
-    ensures number { w ≢ u.now.node → w ≢ True → IfOk result (λ unit. (unit ≡ Clause (table.old.book.state.top + 1)) × (table.new.book.state.top ≡ table.old.book.state.top + 1)) }
+    ensures number { w ≢ u.now.node → w ≢ True → IfOk result (λ unit. (unit ≡ Clause (table.old.book.state.top + 1))
+        × (table.new.book.state.top ≡ table.old.book.state.top + 1)) }
     ensures nodes { table.new.graph ≡ table.old.graph }
     ensures steps { Steps S.tells (S.channel table.old.book.sink) (S.channel table.new.book.sink) table.old table.new 1 (error_of result) }
     ensures retired { table.new.retired ≡ table.old.retired }
@@ -134,7 +139,8 @@ pub fn retire_unit<S: Sink + Drop>(table: &mut Table<S>, unit: &Just, kept: &Jus
 
 // The clause of a unit, unless it is that of the one that is kept.
 fn given_up(unit: &Just, kept: &Just) -> Option<Id>
-    ensures { MatchOption result ((id : ℕ) → unit.now ≡ Clause id → kept.now ≡ Clause id) (λ id. (unit.now ≡ Clause id) × (kept.now ≡ Clause id → ⊥)) }
+    ensures { MatchOption result ((id : ℕ) → unit.now ≡ Clause id → kept.now ≡ Clause id) (λ id. (unit.now ≡ Clause id)
+        × (kept.now ≡ Clause id → ⊥)) }
 {
     let Some(id) = clause_id(unit) else {
         return None;
@@ -177,9 +183,11 @@ fn add_unit<S: Sink + Drop>(table: &mut Table<S>, w: Node, hints: &[Id]) -> Resu
     requires sound { IsSound table.old }
     requires stands { IsTrue (is_node table.old.graph w) }
     requires not_true { w ≢ True }
-    requires strict { (clause : List ℤ) → clause_of (atom_of table.old.graph w ∷ []) ≡ Some clause → RefutesStrictly table.old.book.state.live clause hints.now }
+    requires strict { (clause : List ℤ) → clause_of (atom_of table.old.graph w ∷ []) ≡ Some clause
+        → RefutesStrictly table.old.book.state.live clause hints.now }
     ensures unit { IfOk result (λ unit. IsJustified table.new.book.state.live (atom_of table.old.graph w ∷ []) unit) }
-    ensures number { IfOk result (λ unit. (unit ≡ Clause (table.old.book.state.top + 1)) × (table.new.book.state.top ≡ table.old.book.state.top + 1)) }
+    ensures number { IfOk result (λ unit. (unit ≡ Clause (table.old.book.state.top + 1))
+        × (table.new.book.state.top ≡ table.old.book.state.top + 1)) }
     ensures added { IfOk result (λ unit. (id : ℕ) → unit ≡ Clause id → IsAddedTo table.new id) }
     ensures alone { IfOk result (λ unit. (id : ℕ) → IsAddedTo table.new id → IsAddedTo table.old id ⊎ (unit ≡ Clause id)) }
     ensures nodes { table.new.graph ≡ table.old.graph }

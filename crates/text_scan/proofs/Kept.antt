@@ -1,5 +1,6 @@
 -- What is kept of a token says the same as the token.
-use Rattle.std.proofs.Common.{◌≡◌, ℕ, zero, suc, ◌≤◌, min, Bool, true, false, List, [], ◌∷◌, length, take, refl, ◌∙◌, ap, arith, length-take}
+use Rattle.std.proofs.Common.{◌≡◌, ℕ, zero, suc, ◌≤◌, min, Bool, true, false, List, [], ◌∷◌, length, take, refl, ◌∙◌, ap, arith}
+use Rattle.std.proofs.Common.{length-take}
 use Rattle.std.specs.Prelude.{nat_le, map, Option, None, if◌then◌else◌, ◌&&◌, IsTrue}
 use Rattle.std.specs.List.{list_all}
 use Rattle.cnf_base.specs.Number.{is_short, numeral_value, plain_number, signed_value, signed_number}
@@ -22,11 +23,13 @@ pub take-short : (xs : List ℕ) → IsTrue (is_short xs) → take 65 xs ≡ xs
 take-short xs short = take_whole 65 xs (grind arith)
 
 -- a value of short tokens alone
-part : {X : Type 0} (f : List ℕ → Option X) (xs : List ℕ) → (if is_short (take 65 xs) then f (take 65 xs) else None) ≡ (if is_short xs then f xs else None)
-part f xs = elim (is_short xs) as (λ b. is_short xs ≡ b → (if is_short (take 65 xs) then f (take 65 xs) else None) ≡ (if is_short xs then f xs else None)) [
-  | true ↦ λ short. rw (take-short xs short) refl
-  | false ↦ λ long. rw (is_short-take xs, long) refl
-] refl
+part : {X : Type 0} (f : List ℕ → Option X) (xs : List ℕ) → (if is_short (take 65 xs) then f (take 65 xs) else None)
+    ≡ (if is_short xs then f xs else None)
+part f xs = elim (is_short xs) as (λ b. is_short xs ≡ b → (if is_short (take 65 xs) then f (take 65 xs) else None)
+    ≡ (if is_short xs then f xs else None)) [
+      | true ↦ λ short. rw (take-short xs short) refl
+      | false ↦ λ long. rw (is_short-take xs, long) refl
+    ] refl
 
 pub plain_number-take : (xs : List ℕ) → plain_number (take 65 xs) ≡ plain_number xs
 plain_number-take xs = part numeral_value xs
@@ -45,5 +48,6 @@ and_right false b h = cc
 pub map-kept : (words : List Word) → IsTrue (list_all (λ word. is_short word.bytes) words) → map kept words ≡ words
 map-kept [] short = refl
 map-kept (word ∷ words) short =
-    let first : take 65 word.bytes ≡ word.bytes = take-short word.bytes (and_left (is_short word.bytes) (list_all (λ word. is_short word.bytes) words) short) in
+    let first : take 65 word.bytes ≡ word.bytes = take-short word.bytes
+    (and_left (is_short word.bytes) (list_all (λ word. is_short word.bytes) words) short) in
     rw (first, map-kept words (and_right (is_short word.bytes) (list_all (λ word. is_short word.bytes) words) short)) refl

@@ -1,5 +1,6 @@
 -- A number at the front of some bytes is what the token there spells.
-use Rattle.std.proofs.Common.{◌≡◌, ℕ, zero, suc, ◌+◌, ◌-◌, ◌*◌, ◌<◌, ◌≤◌, true, false, ℤ, pos, negsuc, SFits, w64, to_z, of_z, List, [], ◌∷◌, ◌++◌, length, get_or, take, drop, refl, sym, ◌∙◌, ap, arith, length-take, Some}
+use Rattle.std.proofs.Common.{◌≡◌, ℕ, zero, suc, ◌+◌, ◌-◌, ◌*◌, ◌<◌, ◌≤◌, true, false, ℤ, pos, negsuc, SFits, w64, to_z, of_z, List, []}
+use Rattle.std.proofs.Common.{◌∷◌, ◌++◌, length, get_or, take, drop, refl, sym, ◌∙◌, ap, arith, length-take, Some}
 use Rattle.std.proofs.lemmas.Int.{to_z-of_z}
 use Rattle.std.specs.Prelude.{Option, None, IfSome, ◌≢◌, ◌&&◌, neg_ℤ, nat_abs, nat_le, ◌==◌}
 use Rattle.std.specs.List.{list_all, list_any}
@@ -12,15 +13,18 @@ use Rattle.text_scan.specs.Block.{IsNumeralAtFront, IsNumberAtFront}
 use Rattle.text_scan.specs.Capped.{cap}
 use Rattle.text_scan.specs.Scan.{Scan, TookNumber}
 
-value_after-snoc : (digits : List ℕ) (value digit : ℕ) → value_after value (digits ++ digit ∷ []) ≡ 10 * value_after value digits + (digit - 48)
+value_after-snoc : (digits : List ℕ) (value digit : ℕ) → value_after value (digits ++ digit ∷ []) ≡ 10 * value_after value digits
+    + (digit - 48)
 value_after-snoc [] value digit = refl
 value_after-snoc (first ∷ digits) value digit = value_after-snoc digits (10 * value + (first - 48)) digit
 
 -- one more digit at the front
-pub digits_more : (bytes : List ℕ) (len : ℕ) → len < length bytes → list_all is_digit (take len bytes) ≡ true → is_digit (get_or bytes len 0) ≡ true → list_all is_digit (take (len + 1) bytes) ≡ true
+pub digits_more : (bytes : List ℕ) (len : ℕ) → len < length bytes → list_all is_digit (take len bytes) ≡ true
+    → is_digit (get_or bytes len 0) ≡ true → list_all is_digit (take (len + 1) bytes) ≡ true
 digits_more bytes len within all one = list_all_more is_digit bytes len 0 within ∙ rw (all, one) refl
 
-pub value_more : (bytes : List ℕ) (len value : ℕ) → len < length bytes → value ≡ value_after 0 (take len bytes) → 10 * value + (get_or bytes len 0 - 48) ≡ value_after 0 (take (len + 1) bytes)
+pub value_more : (bytes : List ℕ) (len value : ℕ) → len < length bytes → value ≡ value_after 0 (take len bytes) → 10 * value
+    + (get_or bytes len 0 - 48) ≡ value_after 0 (take (len + 1) bytes)
 value_more bytes len value within same =
     ap (λ n. 10 * n + (get_or bytes len 0 - 48)) same
     ∙ sym (value_after-snoc (take len bytes) 0 (get_or bytes len 0))
@@ -33,14 +37,17 @@ digit_or_minus : (byte : ℕ) → is_digit byte ≡ true → (byte == 45) ≡ fa
 digit_or_minus byte digit = grind (arith, nat_tests)
 
 first_digit : (byte : ℕ) (bytes : List ℕ) → list_all is_digit (byte ∷ bytes) ≡ true → is_digit byte ≡ true
-first_digit byte bytes all = elim (is_digit byte) as (λ b. (b && list_all is_digit bytes) ≡ true → b ≡ true) [ true ↦ λ _. refl | false ↦ λ h. h ] all
+first_digit byte bytes all = elim (is_digit byte) as (λ b. (b && list_all is_digit bytes) ≡ true → b
+    ≡ true) [ true ↦ λ _. refl | false ↦ λ h. h ] all
 
 other_digits : (byte : ℕ) (bytes : List ℕ) → list_all is_digit (byte ∷ bytes) ≡ true → list_all is_digit bytes ≡ true
-other_digits byte bytes all = elim (is_digit byte) as (λ b. (b && list_all is_digit bytes) ≡ true → list_all is_digit bytes ≡ true) [ true ↦ λ h. h | false ↦ λ h. cc ] all
+other_digits byte bytes all = elim (is_digit byte) as (λ b. (b && list_all is_digit bytes) ≡ true → list_all is_digit bytes
+    ≡ true) [ true ↦ λ h. h | false ↦ λ h. cc ] all
 
 digits_no_blank : (bytes : List ℕ) → list_all is_digit bytes ≡ true → list_any is_blank bytes ≡ false
 digits_no_blank [] all = refl
-digits_no_blank (byte ∷ bytes) all = rw (digit_or_blank byte (first_digit byte bytes all)) (digits_no_blank bytes (other_digits byte bytes all))
+digits_no_blank (byte ∷ bytes) all = rw (digit_or_blank byte (first_digit byte bytes all))
+    (digits_no_blank bytes (other_digits byte bytes all))
 
 -- digits alone
 plain_value : (bytes : List ℕ) → 0 < length bytes → list_all is_digit bytes ≡ true → signed_value bytes ≡ Some (pos (value_after 0 bytes))
@@ -48,7 +55,8 @@ plain_value [] some all = absurd (omega arith)
 plain_value (byte ∷ bytes) some all = rw (digit_or_minus byte (first_digit byte bytes all), all) refl
 
 -- behind a minus sign
-minus_value : (bytes : List ℕ) (value : ℕ) → 0 < length bytes → list_all is_digit bytes ≡ true → value_after 0 bytes ≡ suc value → signed_value (45 ∷ bytes) ≡ Some (neg_ℤ (pos (suc value)))
+minus_value : (bytes : List ℕ) (value : ℕ) → 0 < length bytes → list_all is_digit bytes ≡ true → value_after 0 bytes ≡ suc value
+    → signed_value (45 ∷ bytes) ≡ Some (neg_ℤ (pos (suc value)))
 minus_value [] value some all is = absurd (omega arith)
 minus_value (byte ∷ bytes) value some all is = rw (all, is) refl
 
@@ -64,11 +72,13 @@ plain_at_front bytes value len is =
       short = omega (arith, is.short);
       within = is.within;
       blank = is.blank;
-      number_is = rw fits (plain_value (take len bytes) (omega (arith, is.some, size)) is.digits ∙ ap (λ n. Some (pos n)) (sym is.value_is));
+      number_is = rw fits (plain_value (take len bytes) (omega (arith, is.some, size)) is.digits
+          ∙ ap (λ n. Some (pos n)) (sym is.value_is));
       small = omega (arith, is.small);
     }
 
-pub minus_at_front : (bytes : List ℕ) (value len : ℕ) → IsNumeralAtFront bytes (suc value) len → IsNumberAtFront (45 ∷ bytes) (neg_ℤ (pos (suc value))) (len + 1)
+pub minus_at_front : (bytes : List ℕ) (value len : ℕ) → IsNumeralAtFront bytes (suc value) len
+    → IsNumberAtFront (45 ∷ bytes) (neg_ℤ (pos (suc value))) (len + 1)
 minus_at_front bytes value len is =
     let size : length (take len bytes) ≡ len = length-take len bytes ∙ omega (arith, is.within) in
     let e : len + 1 ≡ suc len = omega arith in
@@ -92,7 +102,8 @@ first_minus [] some is = absurd (omega arith)
 first_minus (byte ∷ bytes) some is = ap (λ b. b ∷ bytes) is
 
 -- a minus sign and a value that isn't zero
-pub negative_at_front : (bytes : List ℕ) (value len : ℕ) (number : ℤ) → 0 < length bytes → get_or bytes 0 0 ≡ 45 → IsNumeralAtFront (drop 1 bytes) value len
+pub negative_at_front : (bytes : List ℕ) (value len : ℕ) (number : ℤ) → 0 < length bytes → get_or bytes 0 0 ≡ 45
+    → IsNumeralAtFront (drop 1 bytes) value len
     → (value ≡ 0 → ⊥) → (0 < value → number ≡ neg_ℤ (pos value)) → IsNumberAtFront bytes (to_z w64 (of_z w64 number)) (len + 1)
 negative_at_front bytes zero len number some minus is not_zero same = absurd (not_zero refl)
 negative_at_front bytes (suc value) len number some minus is not_zero same =
@@ -102,7 +113,8 @@ negative_at_front bytes (suc value) len number some minus is not_zero same =
     rw (number_is, to_z-of_z w64 (neg_ℤ (pos (suc value))) (small_fits (neg_ℤ (pos (suc value))) found.small), whole) found
 
 -- the line of a number that was taken is that of the scanner
-pub took_line : (result : Option ℤ) (old new : Scan) → IfSome result (λ number. TookNumber number old.lex.line old new) → IfSome result (λ number. TookNumber number new.line old new)
+pub took_line : (result : Option ℤ) (old new : Scan) → IfSome result (λ number. TookNumber number old.lex.line old new)
+    → IfSome result (λ number. TookNumber number new.line old new)
 took_line None old new took = tt
 took_line (Some number) old new took = record {
   word = took.word;
@@ -116,6 +128,7 @@ took_line (Some number) old new took = record {
   gave = took.gave;
 }
 
-pub took_past : (result : Option ℤ) (old new : Scan) (line : ℕ) → (old.lex.line ≡ line → ⊥) → IfSome result (λ number. TookNumber number old.lex.line old new) → IfSome result (λ number. new.line ≢ line)
+pub took_past : (result : Option ℤ) (old new : Scan) (line : ℕ) → (old.lex.line ≡ line → ⊥)
+    → IfSome result (λ number. TookNumber number old.lex.line old new) → IfSome result (λ number. new.line ≢ line)
 took_past None old new line other took = tt
 took_past (Some number) old new line other took = λ same. other (sym took.line ∙ sym took.gave.line ∙ same)

@@ -1,5 +1,6 @@
 -- The value of digits, cut, from any digit on.
-use Rattle.std.proofs.Common.{◌≡◌, ℕ, ◌+◌, ◌-◌, ◌*◌, ◌<◌, ◌≤◌, min, true, false, List, [], ◌∷◌, length, get_or, drop, refl, sym, ◌∙◌, ap, arith, add-one, drop-cons, None, Some}
+use Rattle.std.proofs.Common.{◌≡◌, ℕ, ◌+◌, ◌-◌, ◌*◌, ◌<◌, ◌≤◌, min, true, false, List, [], ◌∷◌, length, get_or, drop, refl, sym, ◌∙◌, ap}
+use Rattle.std.proofs.Common.{arith, add-one, drop-cons, None, Some}
 use Rattle.std.proofs.Math.Seq.{drop-length}
 use Rattle.std.specs.List.{list_all}
 use Rattle.std.specs.Option.{option_map}
@@ -36,7 +37,8 @@ module _ (digits : List ℕ) (at value : ℕ) (from : IsNumeralFrom digits at va
       rw (numeral_test digits (omega arith), none) refl
 
   -- one more digit
-  pub one_more_digit : is_digit (get_or digits at 0) ≡ true → IsNumeralFrom digits (at + 1) (min (10 * value + (get_or digits at 0 - 48)) cap)
+  pub one_more_digit : is_digit (get_or digits at 0) ≡ true → IsNumeralFrom digits (at
+      + 1) (min (10 * value + (get_or digits at 0 - 48)) cap)
   one_more_digit one =
       let rest : List ℕ = drop (at + 1) digits in
       let digit : ℕ = get_or digits at 0 in
@@ -48,9 +50,11 @@ module _ (digits : List ℕ) (at value : ℕ) (from : IsNumeralFrom digits at va
       }
 
 -- all were digits
-pub whole_numeral : (digits : List ℕ) (value : ℕ) → IsNumeralFrom digits (length digits) value → 0 < length digits → Some value ≡ option_map capped (numeral_value digits)
+pub whole_numeral : (digits : List ℕ) (value : ℕ) → IsNumeralFrom digits (length digits) value → 0 < length digits → Some value
+    ≡ option_map capped (numeral_value digits)
 whole_numeral digits value from some =
     let ended : drop (length digits) digits ≡ [] = drop-length digits in
     let all : list_all is_digit digits ≡ true = sym from.all ∙ ap (list_all is_digit) ended in
-    let same : value ≡ capped (value_after 0 digits) = (let e : value ≡ capped value = omega (arith, from.small) in e ∙ ap (λ l. capped (value_after value l)) (sym ended) ∙ from.value_is) in
+    let same : value ≡ capped (value_after 0 digits) = (let e : value ≡ capped value = omega (arith, from.small) in e
+    ∙ ap (λ l. capped (value_after value l)) (sym ended) ∙ from.value_is) in
     rw (numeral_test digits some, all) (ap Some same)

@@ -1,5 +1,7 @@
 -- A token that lies whole in what is unread is one step.
-use Rattle.std.proofs.Common.{◌≡◌, ℕ, zero, suc, ◌+◌, ◌-◌, ◌<◌, ◌≤◌, min, Bool, true, false, List, [], ◌∷◌, ◌++◌, length, get_or, take, drop, refl, sym, ◌∙◌, ap, arith, append_assoc, append-nil, drop-cons, length-take, length-drop, get_or-take, get_or-drop}
+use Rattle.std.proofs.Common.{◌≡◌, ℕ, zero, suc, ◌+◌, ◌-◌, ◌<◌, ◌≤◌, min, Bool, true, false, List, [], ◌∷◌, ◌++◌, length, get_or, take}
+use Rattle.std.proofs.Common.{drop, refl, sym, ◌∙◌, ap, arith, append_assoc, append-nil, drop-cons, length-take, length-drop, get_or-take}
+use Rattle.std.proofs.Common.{get_or-drop}
 use Rattle.std.proofs.lemmas.List.{drop-take, drop-drop, take-append-drop}
 use Rattle.std.specs.Prelude.{◌&&◌, ◌||◌, not}
 use Rattle.std.specs.List.{list_any}
@@ -24,9 +26,11 @@ no_line_end byte other = elim (is_line_end byte) as (λ b. is_line_end byte ≡ 
   | false ↦ λ _. refl
 ] refl
 
-letter_in_word : (comment line : ℕ) (word : List ℕ) (byte : ℕ) → is_blank byte ≡ false → after (in_word comment line word) byte ≡ in_word comment line (word ++ byte ∷ [])
+letter_in_word : (comment line : ℕ) (word : List ℕ) (byte : ℕ) → is_blank byte ≡ false → after (in_word comment line word) byte
+    ≡ in_word comment line (word ++ byte ∷ [])
 letter_in_word comment line word byte other =
-    rw (other, no_line_end byte other) (ap (λ (l : List ℕ). record { comment = comment; mode = Words; line = line; word = l }) (word_with-take 65 word byte))
+    rw (other, no_line_end byte other) (ap (λ (l : List ℕ). record { comment = comment; mode = Words; line = line; word = l })
+    (word_with-take 65 word byte))
 
 or_left : (a b : Bool) → (a || b) ≡ false → a ≡ false
 or_left true b h = h
@@ -41,7 +45,8 @@ quiet byte word other = rw other refl
 
 -- a run of letters
 letters_run : (letters : List ℕ) (comment line room : ℕ) (word xs : List ℕ) → list_any is_blank letters ≡ false → length letters ≤ room →
-    items_from (in_word comment line word) room (letters ++ xs) ≡ items_from (in_word comment line (word ++ letters)) (room - length letters) xs
+    items_from (in_word comment line word) room (letters ++ xs) ≡ items_from (in_word comment line (word ++ letters))
+    (room - length letters) xs
 letters_run [] comment line room word xs none fits = let e : room - 0 ≡ room = omega arith in rw (e, append-nil word) refl
 letters_run (byte ∷ letters) comment line room word xs none fits =
     let other : is_blank byte ≡ false = or_left (is_blank byte) (list_any is_blank letters) none in
@@ -83,29 +88,39 @@ not_true false h = refl
 -- the first letter
 first_letter : (lex : Lex) (byte : ℕ) → begins_word lex byte ≡ true → after lex byte ≡ in_word lex.comment lex.line (byte ∷ [])
 first_letter lex byte begins =
-    let front : (not (has_bytes lex.word) && not (is_blank byte)) ≡ true = (both (not (has_bytes lex.word) && not (is_blank byte)) (is_words (mode_with lex.mode lex.comment byte)) begins).0 in
-    let mode : mode_with lex.mode lex.comment byte ≡ Words = words_mode (mode_with lex.mode lex.comment byte) ((both (not (has_bytes lex.word) && not (is_blank byte)) (is_words (mode_with lex.mode lex.comment byte)) begins).1) in
-    let empty : lex.word ≡ [] = no_word lex.word (not_true (has_bytes lex.word) ((both (not (has_bytes lex.word)) (not (is_blank byte)) front).0)) in
+    let front : (not (has_bytes lex.word) && not (is_blank byte))
+    ≡ true = (both (not (has_bytes lex.word) && not (is_blank byte)) (is_words (mode_with lex.mode lex.comment byte)) begins).0 in
+    let mode : mode_with lex.mode lex.comment byte ≡ Words = words_mode (mode_with lex.mode lex.comment byte)
+    ((both (not (has_bytes lex.word) && not (is_blank byte)) (is_words (mode_with lex.mode lex.comment byte)) begins).1) in
+    let empty : lex.word ≡ [] = no_word lex.word (not_true (has_bytes lex.word)
+    ((both (not (has_bytes lex.word)) (not (is_blank byte)) front).0)) in
     let other : is_blank byte ≡ false = not_true (is_blank byte) ((both (not (has_bytes lex.word)) (not (is_blank byte)) front).1) in
     rw (other, no_line_end byte other, mode, empty) refl
 
 begins_other : (lex : Lex) (byte : ℕ) → begins_word lex byte ≡ true → is_blank byte ≡ false
 begins_other lex byte begins =
-    let front : (not (has_bytes lex.word) && not (is_blank byte)) ≡ true = (both (not (has_bytes lex.word) && not (is_blank byte)) (is_words (mode_with lex.mode lex.comment byte)) begins).0 in
+    let front : (not (has_bytes lex.word) && not (is_blank byte))
+    ≡ true = (both (not (has_bytes lex.word) && not (is_blank byte)) (is_words (mode_with lex.mode lex.comment byte)) begins).0 in
     not_true (is_blank byte) ((both (not (has_bytes lex.word)) (not (is_blank byte)) front).1)
 
 -- what a blank leaves doesn't depend on the token
 after_blank : (comment line : ℕ) (mode : Mode) (word other : List ℕ) (byte : ℕ) → is_blank byte ≡ true →
-    after (record { comment = comment; mode = mode; line = line; word = word }) byte ≡ after (record { comment = comment; mode = mode; line = line; word = other }) byte
-after_blank comment line mode word other byte blank = elim (is_line_end byte) as (λ b. is_line_end byte ≡ b → after (record { comment = comment; mode = mode; line = line; word = word }) byte ≡ after (record { comment = comment; mode = mode; line = line; word = other }) byte) [
-  | true ↦ λ ends. rw ends refl
-  | false ↦ λ inside. rw (blank, inside) refl
-] refl
+    after (record { comment = comment; mode = mode; line = line; word = word }) byte
+    ≡ after (record { comment = comment; mode = mode; line = line; word = other }) byte
+after_blank comment line mode word other byte blank = elim (is_line_end byte) as (λ b. is_line_end byte ≡ b
+    → after (record { comment = comment; mode = mode; line = line; word = word }) byte
+    ≡ after (record { comment = comment; mode = mode; line = line; word = other }) byte) [
+      | true ↦ λ ends. rw ends refl
+      | false ↦ λ inside. rw (blank, inside) refl
+    ] refl
 
 -- a whole token and the blank behind it
-pub token_run : (lex : Lex) (byte : ℕ) (letters : List ℕ) (blank room : ℕ) (xs : List ℕ) → begins_word lex byte ≡ true → list_any is_blank letters ≡ false → is_blank blank ≡ true → length letters + 1 < room →
+pub token_run : (lex : Lex) (byte : ℕ) (letters : List ℕ) (blank room : ℕ) (xs : List ℕ) → begins_word lex byte ≡ true
+    → list_any is_blank letters ≡ false → is_blank blank ≡ true → length letters + 1 < room →
     items_from lex room (byte ∷ (letters ++ blank ∷ xs))
-    ≡ next_word (record { bytes = take 65 (byte ∷ letters); line = lex.line }) (items_from (after (record { comment = lex.comment; mode = Words; line = lex.line; word = lex.word }) blank) (room - (length letters + 2)) xs)
+    ≡ next_word (record { bytes = take 65 (byte ∷ letters); line = lex.line })
+    (items_from (after (record { comment = lex.comment; mode = Words; line = lex.line; word = lex.word }) blank)
+    (room - (length letters + 2)) xs)
 token_run lex byte letters blank room xs begins none is_one fits =
     let e : room - 1 - length letters - 1 ≡ room - (length letters + 2) = omega arith in
     quiet_byte lex room byte (letters ++ blank ∷ xs) (omega arith) (quiet byte lex.word (begins_other lex byte begins))
@@ -114,9 +129,11 @@ token_run lex byte letters blank room xs begins none is_one fits =
     ∙ ending_byte (in_word lex.comment lex.line (byte ∷ letters)) (room - 1 - length letters) blank xs (omega arith) (rw is_one refl)
     ∙ rw (e, after_blank lex.comment lex.line Words (take 65 (byte ∷ letters)) lex.word blank is_one) refl
 
-pub token_front : (lex : Lex) (byte : ℕ) (letters : List ℕ) (blank : ℕ) (xs : List ℕ) → begins_word lex byte ≡ true → list_any is_blank letters ≡ false → is_blank blank ≡ true →
+pub token_front : (lex : Lex) (byte : ℕ) (letters : List ℕ) (blank : ℕ) (xs : List ℕ) → begins_word lex byte ≡ true
+    → list_any is_blank letters ≡ false → is_blank blank ≡ true →
     front_from lex (byte ∷ (letters ++ blank ∷ xs))
-    ≡ next_word (record { bytes = take 65 (byte ∷ letters); line = lex.line }) (front_from (after (record { comment = lex.comment; mode = Words; line = lex.line; word = lex.word }) blank) xs)
+    ≡ next_word (record { bytes = take 65 (byte ∷ letters); line = lex.line })
+    (front_from (after (record { comment = lex.comment; mode = Words; line = lex.line; word = lex.word }) blank) xs)
 token_front lex byte letters blank xs begins none is_one =
     quiet_front lex byte (letters ++ blank ∷ xs) (quiet byte lex.word (begins_other lex byte begins))
     ∙ ap (λ l. front_from l (letters ++ blank ∷ xs)) (first_letter lex byte begins)
@@ -125,68 +142,89 @@ token_front lex byte letters blank xs begins none is_one =
     ∙ rw (after_blank lex.comment lex.line Words (take 65 (byte ∷ letters)) lex.word blank is_one) refl
 
 -- the token and the blank behind it stand at the front of what is unread
-cut_at_blank : (len : ℕ) (bytes more : List ℕ) → len < length bytes → bytes ++ more ≡ take len bytes ++ (get_or bytes len 0 ∷ (drop (suc len) bytes ++ more))
+cut_at_blank : (len : ℕ) (bytes more : List ℕ) → len < length bytes → bytes ++ more ≡ take len bytes
+    ++ (get_or bytes len 0 ∷ (drop (suc len) bytes ++ more))
 cut_at_blank len bytes more within =
-    let split : bytes ≡ take len bytes ++ (get_or bytes len 0 ∷ drop (suc len) bytes) = sym (take-append-drop len bytes) ∙ ap (λ (l : List ℕ). take len bytes ++ l) (drop-cons bytes len 0 within) in
+    let split : bytes ≡ take len bytes ++ (get_or bytes len 0 ∷ drop (suc len) bytes) = sym (take-append-drop len bytes)
+    ∙ ap (λ (l : List ℕ). take len bytes ++ l) (drop-cons bytes len 0 within) in
     ap (λ (l : List ℕ). l ++ more) split ∙ append_assoc (take len bytes) (get_or bytes len 0 ∷ drop (suc len) bytes) more
 
 -- the same of what is unread
-unread_run : (lex : Lex) (room len : ℕ) (unread : List ℕ) → begins_word lex (get_or unread 0 0) ≡ true → list_any is_blank (take len unread) ≡ false → len < length unread → is_blank (get_or unread len 0) ≡ true → len < room → (more : List ℕ) →
+unread_run : (lex : Lex) (room len : ℕ) (unread : List ℕ) → begins_word lex (get_or unread 0 0) ≡ true → list_any is_blank (take len unread)
+    ≡ false → len < length unread → is_blank (get_or unread len 0) ≡ true → len < room → (more : List ℕ) →
     items_from lex room (unread ++ more)
     ≡ next_word (record { bytes = take 65 (take len unread); line = lex.line })
-    (items_from (after (record { comment = lex.comment; mode = Words; line = lex.line; word = lex.word }) (get_or unread len 0)) (room - (len + 1)) (drop (len + 1) unread ++ more))
+    (items_from (after (record { comment = lex.comment; mode = Words; line = lex.line; word = lex.word }) (get_or unread len 0))
+    (room - (len + 1)) (drop (len + 1) unread ++ more))
 unread_run lex room len [] begins none within is_one under more = absurd (omega arith)
-unread_run lex room zero (byte ∷ bytes) begins none within is_one under more = let other : is_blank byte ≡ false = begins_other lex byte begins in cc
+unread_run lex room zero (byte ∷ bytes) begins none within is_one under more = let other : is_blank byte
+    ≡ false = begins_other lex byte begins in cc
 unread_run lex room (suc len) (byte ∷ bytes) begins none within is_one under more =
     let rest : list_any is_blank (take len bytes) ≡ false = or_right (is_blank byte) (list_any is_blank (take len bytes)) none in
     let count : length (take len bytes) ≡ len = length-take len bytes ∙ omega arith in
-    let whole : bytes ++ more ≡ take len bytes ++ (get_or bytes len 0 ∷ (drop (suc len) bytes ++ more)) = cut_at_blank len bytes more (omega arith) in
+    let whole : bytes ++ more ≡ take len bytes ++ (get_or bytes len 0
+    ∷ (drop (suc len) bytes ++ more)) = cut_at_blank len bytes more (omega arith) in
     let e : suc len + 1 ≡ suc (suc len) = omega arith in
     let f : room - (length (take len bytes) + 2) ≡ room - suc (suc len) = omega (arith, count) in
     ap (λ (l : List ℕ). items_from lex room (byte ∷ l)) whole
     ∙ token_run lex byte (take len bytes) (get_or bytes len 0) room (drop (suc len) bytes ++ more) begins rest is_one (omega (arith, count))
     ∙ rw (e, f) refl
 
-unread_front : (lex : Lex) (len : ℕ) (unread : List ℕ) → begins_word lex (get_or unread 0 0) ≡ true → list_any is_blank (take len unread) ≡ false → len < length unread → is_blank (get_or unread len 0) ≡ true → (more : List ℕ) →
+unread_front : (lex : Lex) (len : ℕ) (unread : List ℕ) → begins_word lex (get_or unread 0 0) ≡ true → list_any is_blank (take len unread)
+    ≡ false → len < length unread → is_blank (get_or unread len 0) ≡ true → (more : List ℕ) →
     front_from lex (unread ++ more)
     ≡ next_word (record { bytes = take 65 (take len unread); line = lex.line })
-    (front_from (after (record { comment = lex.comment; mode = Words; line = lex.line; word = lex.word }) (get_or unread len 0)) (drop (len + 1) unread ++ more))
+    (front_from (after (record { comment = lex.comment; mode = Words; line = lex.line; word = lex.word }) (get_or unread len 0))
+    (drop (len + 1) unread ++ more))
 unread_front lex len [] begins none within is_one more = absurd (omega arith)
 unread_front lex zero (byte ∷ bytes) begins none within is_one more = let other : is_blank byte ≡ false = begins_other lex byte begins in cc
 unread_front lex (suc len) (byte ∷ bytes) begins none within is_one more =
     let rest : list_any is_blank (take len bytes) ≡ false = or_right (is_blank byte) (list_any is_blank (take len bytes)) none in
-    let whole : bytes ++ more ≡ take len bytes ++ (get_or bytes len 0 ∷ (drop (suc len) bytes ++ more)) = cut_at_blank len bytes more (omega arith) in
+    let whole : bytes ++ more ≡ take len bytes ++ (get_or bytes len 0
+    ∷ (drop (suc len) bytes ++ more)) = cut_at_blank len bytes more (omega arith) in
     let e : suc len + 1 ≡ suc (suc len) = omega arith in
     ap (λ (l : List ℕ). front_from lex (byte ∷ l)) whole
     ∙ token_front lex byte (take len bytes) (get_or bytes len 0) (drop (suc len) bytes ++ more) begins rest is_one
     ∙ rw e refl
 
 -- a whole token in a block is one step
-pub block_run : (scan : Scan) (lex : Lex) (block : List ℕ) (at end room len : ℕ) (word : Word) (next : Lex) → IsWordAhead scan word len → scan.lex ≡ lex → scan.unread ≡ drop at (take end block) → scan.room ≡ room - at → end ≤ length block
-    → next ≡ after (record { comment = lex.comment; mode = Words; line = lex.line; word = lex.word }) (get_or block (at + len) 0) → (more : List ℕ) →
-    items_from scan.lex scan.room (scan.unread ++ more) ≡ next_word word (items_from next (room - (at + (len + 1))) (drop (at + (len + 1)) (take end block) ++ more))
+pub block_run : (scan : Scan) (lex : Lex) (block : List ℕ) (at end room len : ℕ) (word : Word) (next : Lex) → IsWordAhead scan word len
+    → scan.lex ≡ lex → scan.unread ≡ drop at (take end block) → scan.room ≡ room - at → end ≤ length block
+    → next ≡ after (record { comment = lex.comment; mode = Words; line = lex.line; word = lex.word }) (get_or block (at + len) 0)
+    → (more : List ℕ) →
+    items_from scan.lex scan.room (scan.unread ++ more) ≡ next_word word
+    (items_from next (room - (at + (len + 1))) (drop (at + (len + 1)) (take end block) ++ more))
 block_run scan lex block at end room len word next is lex_is unread_is room_is fits next_is more =
-    let size : length scan.unread ≡ min end (length block) - at = ap length unread_is ∙ length-drop at (take end block) ∙ ap (λ n. n - at) (length-take end block) in
+    let size : length scan.unread ≡ min end (length block) - at = ap length unread_is ∙ length-drop at (take end block)
+    ∙ ap (λ n. n - at) (length-take end block) in
     let within : at + len < end = omega (arith, is.within, size) in
-    let same : get_or scan.unread len 0 ≡ get_or block (at + len) 0 = ap (λ (l : List ℕ). get_or l len 0) unread_is ∙ get_or-drop at (take end block) len 0 ∙ get_or-take end block (at + len) 0 within in
-    let rest : drop (len + 1) scan.unread ≡ drop (at + (len + 1)) (take end block) = ap (drop (len + 1)) unread_is ∙ drop-drop (len + 1) at (take end block) in
+    let same : get_or scan.unread len 0 ≡ get_or block (at + len) 0 = ap (λ (l : List ℕ). get_or l len 0) unread_is
+    ∙ get_or-drop at (take end block) len 0 ∙ get_or-take end block (at + len) 0 within in
+    let rest : drop (len + 1) scan.unread ≡ drop (at + (len + 1)) (take end block) = ap (drop (len + 1)) unread_is
+    ∙ drop-drop (len + 1) at (take end block) in
     let left : scan.room - (len + 1) ≡ room - (at + (len + 1)) = omega arith in
     unread_run scan.lex scan.room len scan.unread is.begins is.letters is.within is.blank is.under more
     ∙ rw (is.word_is, next_is, same, rest, left, lex_is) refl
 
-pub block_front : (scan : Scan) (lex : Lex) (block : List ℕ) (at end len : ℕ) (word : Word) (next : Lex) → IsWordAhead scan word len → scan.lex ≡ lex → scan.unread ≡ drop at (take end block) → end ≤ length block
-    → next ≡ after (record { comment = lex.comment; mode = Words; line = lex.line; word = lex.word }) (get_or block (at + len) 0) → (more : List ℕ) →
+pub block_front : (scan : Scan) (lex : Lex) (block : List ℕ) (at end len : ℕ) (word : Word) (next : Lex) → IsWordAhead scan word len
+    → scan.lex ≡ lex → scan.unread ≡ drop at (take end block) → end ≤ length block
+    → next ≡ after (record { comment = lex.comment; mode = Words; line = lex.line; word = lex.word }) (get_or block (at + len) 0)
+    → (more : List ℕ) →
     front_from scan.lex (scan.unread ++ more) ≡ next_word word (front_from next (drop (at + (len + 1)) (take end block) ++ more))
 block_front scan lex block at end len word next is lex_is unread_is fits next_is more =
-    let size : length scan.unread ≡ min end (length block) - at = ap length unread_is ∙ length-drop at (take end block) ∙ ap (λ n. n - at) (length-take end block) in
+    let size : length scan.unread ≡ min end (length block) - at = ap length unread_is ∙ length-drop at (take end block)
+    ∙ ap (λ n. n - at) (length-take end block) in
     let within : at + len < end = omega (arith, is.within, size) in
-    let same : get_or scan.unread len 0 ≡ get_or block (at + len) 0 = ap (λ (l : List ℕ). get_or l len 0) unread_is ∙ get_or-drop at (take end block) len 0 ∙ get_or-take end block (at + len) 0 within in
-    let rest : drop (len + 1) scan.unread ≡ drop (at + (len + 1)) (take end block) = ap (drop (len + 1)) unread_is ∙ drop-drop (len + 1) at (take end block) in
+    let same : get_or scan.unread len 0 ≡ get_or block (at + len) 0 = ap (λ (l : List ℕ). get_or l len 0) unread_is
+    ∙ get_or-drop at (take end block) len 0 ∙ get_or-take end block (at + len) 0 within in
+    let rest : drop (len + 1) scan.unread ≡ drop (at + (len + 1)) (take end block) = ap (drop (len + 1)) unread_is
+    ∙ drop-drop (len + 1) at (take end block) in
     unread_front scan.lex len scan.unread is.begins is.letters is.within is.blank more
     ∙ rw (is.word_is, next_is, same, rest, lex_is) refl
 
 -- what is known of a window of the block is known of what is unread
-module _ (block : List ℕ) (at stop end len : ℕ) (before : at ≤ stop) (inside : stop ≤ end) (fits : end ≤ length block) (within : len < length (take (stop - at) (drop at block))) where
+module _ (block : List ℕ) (at stop end len : ℕ) (before : at ≤ stop) (inside : stop ≤ end) (fits : end ≤ length block) (within : len
+    < length (take (stop - at) (drop at block))) where
   window_length : length (take (stop - at) (drop at block)) ≡ stop - at
   window_length = length-take (stop - at) (drop at block) ∙ omega (arith, length-drop at block)
 
@@ -201,12 +239,14 @@ module _ (block : List ℕ) (at stop end len : ℕ) (before : at ≤ stop) (insi
       let size = window_length in
       let a : min (end - at) len ≡ len = omega arith in
       let b : min (stop - at) len ≡ len = omega arith in
-      ap (take len) unread_is ∙ sym (take_take len (end - at) (drop at block)) ∙ ap (λ n. take n (drop at block)) (a ∙ sym b) ∙ take_take len (stop - at) (drop at block)
+      ap (take len) unread_is ∙ sym (take_take len (end - at) (drop at block)) ∙ ap (λ n. take n (drop at block)) (a ∙ sym b)
+      ∙ take_take len (stop - at) (drop at block)
 
   pub window_index : (k : ℕ) → k ≤ len → get_or (drop at (take end block)) k 0 ≡ get_or (take (stop - at) (drop at block)) k 0
   window_index k below =
       let size = window_length in
-      ap (λ (l : List ℕ). get_or l k 0) unread_is ∙ get_or-take (end - at) (drop at block) k 0 (omega arith) ∙ sym (get_or-take (stop - at) (drop at block) k 0 (omega arith))
+      ap (λ (l : List ℕ). get_or l k 0) unread_is ∙ get_or-take (end - at) (drop at block) k 0 (omega arith)
+      ∙ sym (get_or-take (stop - at) (drop at block) k 0 (omega arith))
 
   pub in_window : at + len < stop
   in_window = let size = window_length in omega arith

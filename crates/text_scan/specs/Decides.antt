@@ -40,7 +40,8 @@ OnlyReads-then p q = record {
 }
 
 -- by the bytes that were taken
-pub Decides-by : (old new : Channel) (P : List ℕ → List ℕ → Type 0) (bytes : List ℕ) → new.taken ≡ old.taken ++ bytes → old.left ≡ bytes ++ new.left
+pub Decides-by : (old new : Channel) (P : List ℕ → List ℕ → Type 0) (bytes : List ℕ) → new.taken ≡ old.taken ++ bytes → old.left ≡ bytes
+    ++ new.left
     → ((more : List ℕ) → MayFollow new more → P (bytes ++ more) more) → Decides old new P
 Decides-by old new P bytes taken left holds =
     let same : gained old new ≡ bytes = ap (drop (length old.taken)) taken ∙ drop-append_seam old.taken bytes in
@@ -55,7 +56,8 @@ pub Decides-none : (channel : Channel) (P : List ℕ → List ℕ → Type 0) �
 Decides-none channel P holds = Decides-by channel channel P [] (sym (append-nil channel.taken)) refl (λ more _. holds more)
 
 -- what follows from it
-pub Decides-map : {old new : Channel} {P : List ℕ → List ℕ → Type 0} (Q : List ℕ → List ℕ → Type 0) → Decides old new P → ((bytes more : List ℕ) → P bytes more → Q bytes more) → Decides old new Q
+pub Decides-map : {old new : Channel} {P : List ℕ → List ℕ → Type 0} (Q : List ℕ → List ℕ → Type 0) → Decides old new P
+    → ((bytes more : List ℕ) → P bytes more → Q bytes more) → Decides old new Q
 Decides-map {old} {new} Q decides gives = record {
   taken = decides.taken;
   left = decides.left;
@@ -85,19 +87,23 @@ Decides-then {a} {b} {c} {P} {Q} R first second joins =
     let empty : h ++ c.left ≡ [] = sym second.left ∙ none in
     ap (λ (l : List ℕ). l ++ more) (front_nil h c.left empty) ∙ may (back_nil h c.left empty)
     in
-    subst (λ (l : List ℕ). R l more) (sym (append_assoc g h more)) (joins (g ++ (h ++ more)) (h ++ more) more (first.holds (h ++ more) follows) (second.holds more may)))
+    subst (λ (l : List ℕ). R l more) (sym (append_assoc g h more))
+    (joins (g ++ (h ++ more)) (h ++ more) more (first.holds (h ++ more) follows) (second.holds more may)))
 
 -- the bytes of one call after another
 pub gained-then : {a b c : Channel} {P Q : List ℕ → List ℕ → Type 0} → Decides a b P → Decides b c Q → gained a c ≡ gained a b ++ gained b c
 gained-then {a} {b} {c} first second =
-    ap (drop (length a.taken)) (second.taken ∙ ap (λ (l : List ℕ). l ++ gained b c) first.taken ∙ append_assoc a.taken (gained a b) (gained b c))
+    ap (drop (length a.taken)) (second.taken ∙ ap (λ (l : List ℕ). l ++ gained b c) first.taken
+    ∙ append_assoc a.taken (gained a b) (gained b c))
     ∙ drop-append_seam a.taken (gained a b ++ gained b c)
 
 -- what is said of the bytes of the first call with any behind them, and of those behind them
 pub front-then : {T : Type 0} {a b c : Channel} {P Q : List ℕ → List ℕ → Type 0} (f g h : List ℕ → T) → Decides a b P → Decides b c Q
-    → ((more : List ℕ) → f (gained a b ++ more) ≡ g more) → ((more : List ℕ) → g (gained b c ++ more) ≡ h more) → (more : List ℕ) → f (gained a c ++ more) ≡ h more
+    → ((more : List ℕ) → f (gained a b ++ more) ≡ g more) → ((more : List ℕ) → g (gained b c ++ more) ≡ h more) → (more : List ℕ)
+    → f (gained a c ++ more) ≡ h more
 front-then {T} {a} {b} {c} f g h first second old new more =
-    ap (λ (l : List ℕ). f (l ++ more)) (gained-then first second) ∙ ap f (append_assoc (gained a b) (gained b c) more) ∙ old (gained b c ++ more) ∙ new more
+    ap (λ (l : List ℕ). f (l ++ more)) (gained-then first second) ∙ ap f (append_assoc (gained a b) (gained b c) more)
+    ∙ old (gained b c ++ more) ∙ new more
 
 -- it holds of the whole text
 pub Decides-whole : {old new : Channel} {P : List ℕ → List ℕ → Type 0} → Decides old new P → P old.left new.left

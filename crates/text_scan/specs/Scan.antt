@@ -79,7 +79,8 @@ Gives (Err ReadFault) line before after = before ≡ after
 -- What the bytes that a call took give as the front of a longer text: the token is the first of their items, unless the
 -- end of the text ended it. Where a read failed, they gave none yet.
 abbrev pub GivesSoFar : Result (Option Word) ScanError → Scan → Scan → List ℕ → Type 0
-GivesSoFar (Ok (Some word)) old new bytes = is_reading new.status ≡ true → (more : List ℕ) → so_far old (bytes ++ more) ≡ next_word word (so_far new more)
+GivesSoFar (Ok (Some word)) old new bytes = is_reading new.status ≡ true → (more : List ℕ) → so_far old (bytes ++ more)
+    ≡ next_word word (so_far new more)
 GivesSoFar (Ok None) old new bytes = ⊤
 GivesSoFar (Err TooLong) old new bytes = ⊤
 GivesSoFar (Err ReadFault) old new bytes = so_far old bytes ≡ too_long new.lex.line

@@ -17,6 +17,7 @@ pub fn kept_word_law()
 
 /// A text within the limit without a long token gives its tokens and its end.
 pub fn short_text_law()
-    ensures { (comment limit : ℕ) (bytes : List ℕ) → length bytes ≤ limit → IsTrue (list_all (λ word. is_short word.bytes) (tokens comment bytes))
+    ensures { (comment limit : ℕ) (bytes : List ℕ) → length bytes ≤ limit
+        → IsTrue (list_all (λ word. is_short word.bytes) (tokens comment bytes))
         → items comment limit bytes ≡ words_then (tokens comment bytes) (the_end (end_line bytes)) }
 {}

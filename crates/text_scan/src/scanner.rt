@@ -1,5 +1,6 @@
 // The scanner: blocks of bytes from a source, cut into tokens byte by byte, up to a limit.
-ghost use Rattle.std.specs.Prelude.{◌≡◌, ◌≢◌, ℕ, ◌+◌, ◌^◌, ◌<◌, ◌≤◌, true, false, List, [], ◌++◌, length, None, Ok, Err, IsTrue, IfSome, IfOk, OnOk, OnErr, is_ok, if◌then◌else◌};
+ghost use Rattle.std.specs.Prelude.{◌≡◌, ◌≢◌, ℕ, ◌+◌, ◌^◌, ◌<◌, ◌≤◌, true, false, List, [], ◌++◌, length, None, Ok, Err, IsTrue, IfSome};
+ghost use Rattle.std.specs.Prelude.{IfOk, OnOk, OnErr, is_ok, if◌then◌else◌};
 ghost use Rattle.cnf_base.specs.Text.{has_bytes};
 ghost use Rattle.host_io.specs.Channel.{Rose};
 ghost use Rattle.text_scan.specs.declared.scanner.Status.TheVariants.{Reading, Ended, Overlong, Faulted};
@@ -233,7 +234,8 @@ impl Scanner {
         requires { self.old.status ≡ Reading }
         ensures gives { IsTrue S.tells → Decides (S.channel source.old) (S.channel source.new)
             (λ bytes more. Gives (given token.new result) self.new.line (ahead self.old bytes) (ahead self.new more)) }
-        ensures so_far { IsTrue S.tells → GivesSoFar (given token.new result) self.old self.new (gained (S.channel source.old) (S.channel source.new)) }
+        ensures so_far { IsTrue S.tells → GivesSoFar (given token.new result) self.old self.new
+            (gained (S.channel source.old) (S.channel source.new)) }
         ensures moves { Moves (given token.new result) self.old self.new }
         ensures fault { result ≡ Err ReadFault → Rose (S.channel source.old).faults (S.channel source.new).faults }
         ensures unfailed { result ≢ Err ReadFault → (S.channel source.new).faults ≡ (S.channel source.old).faults }

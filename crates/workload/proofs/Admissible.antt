@@ -8,7 +8,8 @@ use Rattle.schedule_plan.specs.declared.plan.Move.{Move}
 use Rattle.schedule_plan.specs.declared.plan.Move.TheVariants.{Push, And}
 use Rattle.schedule_plan.specs.Plan.{clause_has, clause_of_number, IsAdmissible, after_moves, no_stage}
 use Rattle.workload.specs.Board.{dominoes, board_clauses, board_formula}
-use Rattle.workload.specs.Schedule.{column_clauses, column_commands, conjoining, ending, moves_of, board_moves, quantifying, terms_in_column}
+use Rattle.workload.specs.Schedule.{column_clauses, column_commands, conjoining, ending, moves_of, board_moves, quantifying}
+use Rattle.workload.specs.Schedule.{terms_in_column}
 use Rattle.workload.proofs.Standing.{standing}
 use Rattle.workload.proofs.Scan.{IsScan, scan_moves, one_more, scan_is_admissible}
 use Rattle.workload.proofs.Steps.{conjoining_moves, quantifying_moves}
@@ -40,7 +41,8 @@ column_moves n column =
     let terms : ℕ = terms_in_column n column in
     let ends : List ℕ = ending n column in
     ap (λ (l : List Move). pushed ++ l)
-    (flat_map-append moves_of (conjoining terms) (quantifying ends) ∙ ap (λ (l : List Move). l ++ flat_map moves_of (quantifying ends)) (conjoining_moves terms)
+    (flat_map-append moves_of (conjoining terms) (quantifying ends)
+    ∙ ap (λ (l : List Move). l ++ flat_map moves_of (quantifying ends)) (conjoining_moves terms)
     ∙ ap (λ (l : List Move). replicate (terms - 1) And ++ l) (quantifying_moves ends))
 
 -- a list made column by column, in two steps and in one

@@ -19,7 +19,10 @@ at_two [] place other less small same = absurd (omega (arith, small))
 at_two (x ∷ xs) place zero less small same = absurd (omega (arith, less))
 at_two (x ∷ xs) zero (suc other) less small same =
     omega (arith, same_number (slice_index_or xs other 0) x same, at_place xs other (omega (arith, small)))
-at_two (x ∷ xs) (suc place) (suc other) less small same = omega (arith, at_two xs place other (omega (arith, less)) (omega (arith, small)) same)
+at_two (x ∷ xs) (suc place) (suc other) less small same = omega (
+  arith,
+  at_two xs place other (omega (arith, less)) (omega (arith, small)) same,
+)
 
 -- where a number stands that does
 found : (i : ℕ) (xs : List ℕ) → 0 < standing i xs → (place : ℕ) × (place < length xs) × (slice_index_or xs place 0 ≡ i)
@@ -36,12 +39,18 @@ found i (x ∷ xs) some =
 abbrev Once : List ℕ → Type 0
 Once xs = (i : ℕ) → standing i xs ≡ standing i (natural (length xs))
 
-inside : (xs : List ℕ) → Once xs → (place : ℕ) → place < length xs → (0 < slice_index_or xs place 0) × (slice_index_or xs place 0 ≤ length xs)
+inside : (xs : List ℕ) → Once xs → (place : ℕ) → place < length xs → (0 < slice_index_or xs place 0)
+    × (slice_index_or xs place 0 ≤ length xs)
 inside xs once place small =
     let value : ℕ = slice_index_or xs place 0 in (
       elim (cases_lt 0 value) [
         | inl some ↦ some
-        | inr none ↦ absurd (omega (arith, at_place xs place small, once value, standing_outside value (length xs) (inl (omega (arith, none)))))
+        | inr none ↦ absurd (omega (
+          arith,
+          at_place xs place small,
+          once value,
+          standing_outside value (length xs) (inl (omega (arith, none))),
+        ))
       ],
       elim (cases_lt (length xs) value) [
         | inl past ↦ absurd (omega (arith, at_place xs place small, once value, standing_outside value (length xs) (inr past)))
@@ -49,7 +58,8 @@ inside xs once place small =
       ],
     )
 
-not_twice : (xs : List ℕ) → Once xs → (place other : ℕ) → place < other → other < length xs → slice_index_or xs place 0 ≡ slice_index_or xs other 0 → ⊥
+not_twice : (xs : List ℕ) → Once xs → (place other : ℕ) → place < other → other < length xs → slice_index_or xs place 0
+    ≡ slice_index_or xs other 0 → ⊥
 not_twice xs once place other less small same =
     let value : ℕ = slice_index_or xs other 0 in
     let bounds = inside xs once other small in

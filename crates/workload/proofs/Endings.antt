@@ -1,5 +1,6 @@
 -- The dominoes that end in a column.
-use Rattle.std.proofs.Common.{◌≡◌, ℕ, zero, suc, ◌+◌, ◌-◌, ◌<◌, ◌≤◌, true, List, [], ◌∷◌, ◌++◌, length, refl, sym, ◌∙◌, ap, append_assoc, arith, inl, inr, length-append}
+use Rattle.std.proofs.Common.{◌≡◌, ℕ, zero, suc, ◌+◌, ◌-◌, ◌<◌, ◌≤◌, true, List, [], ◌∷◌, ◌++◌, length, refl, sym, ◌∙◌, ap, append_assoc}
+use Rattle.std.proofs.Common.{arith, inl, inr, length-append}
 use Rattle.std.specs.Prelude.{map, codes}
 use Rattle.std.specs.List.{flat_map}
 use Rattle.std.proofs.lemmas.Bool.{and_from, cases_lt}
@@ -25,13 +26,15 @@ written_append n some more =
     ∙ ap (flat_map spaced) (map-append (number n) (dominoes_of n some) (dominoes_of n more))
     ∙ flat_map-append spaced (map (number n) (dominoes_of n some)) (map (number n) (dominoes_of n more))
 
-pub written_next : (n row : ℕ) (at : ℕ → Domino) → 0 < row → written n (map at (natural (row - 1))) ++ written n (at row ∷ []) ≡ written n (map at (natural (row + 1 - 1)))
+pub written_next : (n row : ℕ) (at : ℕ → Domino) → 0 < row → written n (map at (natural (row - 1))) ++ written n (at row ∷ [])
+    ≡ written n (map at (natural (row + 1 - 1)))
 written_next n row at positive =
     sym (ap (λ l. flat_map spaced (map (number n) l)) (passing_next (is_domino n) at row positive)
     ∙ ap (flat_map spaced) (map-append (number n) (dominoes_of n (map at (natural (row - 1)))) (dominoes_of n (at row ∷ [])))
     ∙ flat_map-append spaced (map (number n) (dominoes_of n (map at (natural (row - 1))))) (map (number n) (dominoes_of n (at row ∷ []))))
 
-pub written_cut : (n row : ℕ) (at : ℕ → Domino) → 1 ≤ row → row ≤ n → (more : List ℕ) × (written n (map at (natural n)) ≡ (written n (map at (natural (row - 1))) ++ written n (at row ∷ [])) ++ more)
+pub written_cut : (n row : ℕ) (at : ℕ → Domino) → 1 ≤ row → row ≤ n → (more : List ℕ)
+    × (written n (map at (natural n)) ≡ (written n (map at (natural (row - 1))) ++ written n (at row ∷ [])) ++ more)
 written_cut n row at a b =
     let piece = cut n row a b in (
       written n (map at piece.more),
@@ -55,14 +58,17 @@ there_is n k at a b is =
     let front : List Domino = dominoes_of n (map at (natural (k - 1))) in
     omega (arith, ap length piece.1, length-append front (at k ∷ piece.0))
 
-some_down : (n column : ℕ) → 3 ≤ n → 1 ≤ column → column ≤ n → 0 < length (dominoes_of n (map (λ row. Down (square row column)) (natural n)))
+some_down : (n column : ℕ) → 3 ≤ n → 1 ≤ column → column ≤ n → 0
+    < length (dominoes_of n (map (λ row. Down (square row column)) (natural n)))
 some_down n column a b c =
     elim (cases_lt column n) [
       | inl inner ↦ there_is n 2 (λ row. Down (square row column)) (omega arith) (omega (arith, a))
-          (and_from (stays n (square 2 column)) (stays n (square 3 column)) (is_there n 2 column (omega arith) (omega (arith, a)) b c (omega (arith, b)) (omega (arith, a, inner)))
+          (and_from (stays n (square 2 column)) (stays n (square 3 column))
+          (is_there n 2 column (omega arith) (omega (arith, a)) b c (omega (arith, b)) (omega (arith, a, inner)))
           (is_there n 3 column (omega arith) a b c (omega (arith, b)) (omega (arith, a, inner))))
       | inr last ↦ there_is n 1 (λ row. Down (square row column)) (omega arith) (omega (arith, a))
-          (and_from (stays n (square 1 column)) (stays n (square 2 column)) (is_there n 1 column (omega arith) (omega (arith, a)) b c (omega (arith, a, last)) (omega (arith, a, c)))
+          (and_from (stays n (square 1 column)) (stays n (square 2 column))
+          (is_there n 1 column (omega arith) (omega (arith, a)) b c (omega (arith, a, last)) (omega (arith, a, c)))
           (is_there n 2 column (omega arith) (omega (arith, a)) b c (omega (arith, b)) (omega (arith, a, c))))
     ]
 
@@ -86,4 +92,5 @@ none_of_two (suc (suc (suc k))) a b = absurd (omega (arith, b))
 pub no_end : (n column : ℕ) → 2 ≤ n → n < 3 → 1 ≤ column → column ≤ n → flat_map command_line (quantifying (ending n column)) ≡ []
 no_end n column a b c d =
     let two : n ≡ 2 = omega (arith, a, b) in
-    ap (λ (m : ℕ). flat_map command_line (quantifying (ending m column))) two ∙ ap (λ l. flat_map command_line (quantifying l)) (none_of_two column c (omega (arith, d, two)))
+    ap (λ (m : ℕ). flat_map command_line (quantifying (ending m column))) two
+    ∙ ap (λ l. flat_map command_line (quantifying l)) (none_of_two column c (omega (arith, d, two)))

@@ -1,6 +1,7 @@
 -- What some squares weigh by rows they weigh by columns: a sum of sums may be taken in either order. So each number stands by
 -- columns as often as by rows.
-use Rattle.std.proofs.Common.{◌≡◌, ℕ, zero, suc, ◌+◌, Bool, true, false, cond, List, [], ◌∷◌, ◌++◌, length, refl, sym, ◌∙◌, ap, arith, length-append}
+use Rattle.std.proofs.Common.{◌≡◌, ℕ, zero, suc, ◌+◌, Bool, true, false, cond, List, [], ◌∷◌, ◌++◌, length, refl, sym, ◌∙◌, ap, arith}
+use Rattle.std.proofs.Common.{length-append}
 use Rattle.std.specs.Prelude.{map}
 use Rattle.std.specs.List.{filter, flat_map}
 use Rattle.std.proofs.lemmas.List.{map-append, append-nil}
@@ -8,7 +9,8 @@ use Rattle.std.proofs.lemmas.Grind.{flat_map-append}
 use Rattle.cnf_base.specs.Order.{natural}
 use Rattle.workload.specs.declared.square.Square.{Square}
 use Rattle.workload.specs.declared.square.Domino.TheVariants.{Across, Down}
-use Rattle.workload.specs.Board.{square, stays, row_squares, squares, column_squares, is_domino, dominoes_at, dominoes, number, board_clauses, down_first, column_order}
+use Rattle.workload.specs.Board.{square, stays, row_squares, squares, column_squares, is_domino, dominoes_at, dominoes, number}
+use Rattle.workload.specs.Board.{board_clauses, down_first, column_order}
 use Rattle.workload.specs.Schedule.{clause_numbers, column_clauses}
 use Rattle.workload.proofs.Steps.{filter_append}
 use Rattle.workload.proofs.Standing.{standing, standing_append}
@@ -50,7 +52,8 @@ length_adds = record { nothing = refl; both = λ xs ys. length-append xs ys }
 abbrev worth : (List ℕ → ℕ) → (Square → Bool) → (Square → List ℕ) → Square → ℕ
 worth w p at s = cond (p s) (w (at s)) 0
 
-alone_weighs : (w : List ℕ → ℕ) → Adds w → (p : Square → Bool) (at : Square → List ℕ) (s : Square) → w (flat_map at (filter p (s ∷ []))) ≡ worth w p at s
+alone_weighs : (w : List ℕ → ℕ) → Adds w → (p : Square → Bool) (at : Square → List ℕ) (s : Square) → w (flat_map at (filter p (s ∷ [])))
+    ≡ worth w p at s
 alone_weighs w adds p at s =
     elim (p s) as (λ b. w (flat_map at (cond b (s ∷ []) [])) ≡ cond b (w (at s)) 0) [
       | true ↦ ap w (append-nil (at s))
@@ -80,7 +83,8 @@ lines_weigh w adds at line (suc k) =
     ap (λ l. w (flat_map at l)) split ∙ joined_weigh w adds at (flat_map line (natural k)) (line (suc k))
     ∙ ap (λ (j : ℕ). j + w (flat_map at (line (suc k)))) (lines_weigh w adds at line k)
 
-by_columns : (w : List ℕ → ℕ) → Adds w → (n : ℕ) (at : Square → List ℕ) → w (flat_map at (flat_map (column_squares n) (natural n))) ≡ w (flat_map at (squares n))
+by_columns : (w : List ℕ → ℕ) → Adds w → (n : ℕ) (at : Square → List ℕ) → w (flat_map at (flat_map (column_squares n) (natural n)))
+    ≡ w (flat_map at (squares n))
 by_columns w adds n at =
     let value : ℕ → ℕ → ℕ = λ row column. worth w (stays n) at (square row column) in
     let columns : w (flat_map at (flat_map (column_squares n) (natural n))) ≡ total (λ column. total (λ row. value row column) n) n =
@@ -104,22 +108,27 @@ either_order w adds f x y true false = refl
 either_order w adds f x y false true = refl
 either_order w adds f x y false false = refl
 
-same_weight : (w : List ℕ → ℕ) → Adds w → (f g : Square → List ℕ) (some : List Square) → ((s : Square) → w (f s) ≡ w (g s)) → w (flat_map f some) ≡ w (flat_map g some)
+same_weight : (w : List ℕ → ℕ) → Adds w → (f g : Square → List ℕ) (some : List Square) → ((s : Square) → w (f s) ≡ w (g s))
+    → w (flat_map f some) ≡ w (flat_map g some)
 same_weight w adds f g [] same = refl
 same_weight w adds f g (s ∷ more) same =
     adds.both (f s) (flat_map f more) ∙ (λ i. same s i + same_weight w adds f g more same i) ∙ sym (adds.both (g s) (flat_map g more))
 
-flat_flat : {A : Type 0} (f : Square → List A) (line : ℕ → List Square) (some : List ℕ) → flat_map (λ j. flat_map f (line j)) some ≡ flat_map f (flat_map line some)
+flat_flat : {A : Type 0} (f : Square → List A) (line : ℕ → List Square) (some : List ℕ) → flat_map (λ j. flat_map f (line j)) some
+    ≡ flat_map f (flat_map line some)
 flat_flat f line [] = refl
-flat_flat f line (j ∷ more) = ap (λ l. flat_map f (line j) ++ l) (flat_flat f line more) ∙ sym (flat_map-append f (line j) (flat_map line more))
+flat_flat f line (j ∷ more) = ap (λ l. flat_map f (line j) ++ l) (flat_flat f line more)
+    ∙ sym (flat_map-append f (line j) (flat_map line more))
 
 order_weighs : (w : List ℕ → ℕ) → Adds w → (n : ℕ) → w (column_order n) ≡ w (natural (length (dominoes n)))
 order_weighs w adds n =
     let columns = flat_map (column_squares n) (natural n) in
     let by_row : Square → List ℕ = λ s. map (number n) (dominoes_at n s) in
     let by_column : Square → List ℕ = λ s. map (number n) (down_first n s) in
-    ap (λ l. w (map (number n) l)) (flat_flat (down_first n) (column_squares n) (natural n)) ∙ ap w (map_flat (number n) (down_first n) columns)
-    ∙ same_weight w adds by_column by_row columns (λ s. either_order w adds (number n) (Down s) (Across s) (is_domino n (Down s)) (is_domino n (Across s)))
+    ap (λ l. w (map (number n) l)) (flat_flat (down_first n) (column_squares n) (natural n))
+    ∙ ap w (map_flat (number n) (down_first n) columns)
+    ∙ same_weight w adds by_column by_row columns (λ s. either_order w adds (number n) (Down s) (Across s) (is_domino n (Down s))
+    (is_domino n (Across s)))
     ∙ by_columns w adds n by_row ∙ ap w (sym (map_flat (number n) (dominoes_at n) (squares n)) ∙ dominoes_in_rows n)
 
 length_natural : (k : ℕ) → length (natural k) ≡ k
@@ -134,5 +143,6 @@ length_of_columns n = order_weighs (λ xs. length xs) length_adds n ∙ length_n
 
 pub clauses_in_columns : (n i : ℕ) → standing i (flat_map (column_clauses n) (natural n)) ≡ standing i (natural (length (board_clauses n)))
 clauses_in_columns n i =
-    ap (standing i) (flat_flat (clause_numbers n) (column_squares n) (natural n)) ∙ by_columns (standing i) (standing_adds i) n (clause_numbers n)
+    ap (standing i) (flat_flat (clause_numbers n) (column_squares n) (natural n))
+    ∙ by_columns (standing i) (standing_adds i) n (clause_numbers n)
     ∙ ap (standing i) (clauses_in_rows n)

@@ -24,7 +24,8 @@ equal_dominoes (Down s) (Across t) same = absurd cc
 equal_dominoes (Down s) (Down t) same = ap (λ x. Down x) (equal_squares s t same)
 
 -- a domino stands at its number
-stands_there : (n : ℕ) (d default : Domino) → is_domino n d ≡ true → d ≡ get_or (dominoes n) (position_or_len (is_same d) (dominoes n)) default
+stands_there : (n : ℕ) (d default : Domino) → is_domino n d ≡ true → d
+    ≡ get_or (dominoes n) (position_or_len (is_same d) (dominoes n)) default
 unfolding number
 stands_there n d default is =
     let within = number_within n d is in

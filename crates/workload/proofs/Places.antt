@@ -1,5 +1,6 @@
 -- The clause of a number is one of the clauses of a square, among whose numbers it stands.
-use Rattle.std.proofs.Common.{◌≡◌, ℕ, zero, suc, ◌+◌, ◌-◌, ◌<◌, ◌≤◌, true, false, ◌||◌, cond, ℤ, pos, neg_ℤ, nat_abs, ◌⊎◌, List, [], ◌∷◌, ◌++◌, length, refl, sym, ◌∙◌, ap, subst, arith, inl, inr, eq-eqb}
+use Rattle.std.proofs.Common.{◌≡◌, ℕ, zero, suc, ◌+◌, ◌-◌, ◌<◌, ◌≤◌, true, false, ◌||◌, cond, ℤ, pos, neg_ℤ, nat_abs, ◌⊎◌, List, [], ◌∷◌}
+use Rattle.std.proofs.Common.{◌++◌, length, refl, sym, ◌∙◌, ap, subst, arith, inl, inr, eq-eqb}
 use Rattle.std.specs.Prelude.{map, ◌==◌, slice_index_or}
 use Rattle.std.specs.List.{flat_map, list_any}
 use Rattle.std.proofs.lemmas.Bool.{cases_eq, cases_lt, or_cases}
@@ -9,7 +10,8 @@ use Rattle.std.proofs.lemmas.Grind.{flat_map-append}
 use Rattle.cnf_base.specs.Order.{natural}
 use Rattle.schedule_plan.specs.Plan.{clause_has, clause_of_number}
 use Rattle.workload.specs.declared.square.Square.{Square}
-use Rattle.workload.specs.Board.{square, stays, front_of_row, row_squares, numbers, one_of, not_both, no_two_of, square_clauses, board_clauses, board_formula}
+use Rattle.workload.specs.Board.{square, stays, front_of_row, row_squares, numbers, one_of, not_both, no_two_of, square_clauses}
+use Rattle.workload.specs.Board.{board_clauses, board_formula}
 use Rattle.workload.specs.Schedule.{following, squares_before, clause_count, clause_numbers}
 use Rattle.workload.proofs.Standing.{standing}
 use Rattle.workload.proofs.Numbers.{cut_squares}
@@ -81,7 +83,8 @@ in_no_two_of x (v ∷ vs) has =
       | inr later ↦ standing_tail x v vs (in_no_two_of x vs later)
     ]
 
-in_some : (x : ℕ) (clauses : List (List ℤ)) (k : ℕ) → clause_has x (slice_index_or clauses k []) ≡ true → list_any (clause_has x) clauses ≡ true
+in_some : (x : ℕ) (clauses : List (List ℤ)) (k : ℕ) → clause_has x (slice_index_or clauses k []) ≡ true → list_any (clause_has x) clauses
+    ≡ true
 in_some x [] k has = absurd cc
 in_some x (c ∷ clauses) zero has = ap (λ b. b || list_any (clause_has x) clauses) has
 in_some x (c ∷ clauses) (suc k) has =
@@ -114,7 +117,8 @@ record Within (n i row column : ℕ) : Type 0 where
   pub ahead : i ≤ clause_count n (squares_before n (square row column)) + length (square_clauses n (square row column))
 
 of_square : (n i row column : ℕ) → Within n i row column
-    → clause_of_number (board_formula n) i ≡ slice_index_or (square_clauses n (square row column)) (i - 1 - clause_count n (squares_before n (square row column))) []
+    → clause_of_number (board_formula n) i ≡ slice_index_or (square_clauses n (square row column))
+    (i - 1 - clause_count n (squares_before n (square row column))) []
 of_square n i row column w =
     let s : Square = square row column in
     let piece = cut_squares n row column w.stays in
@@ -134,18 +138,24 @@ at_square n i row column w =
       stays = w.stays;
       counted = subst (λ l. 0 < standing i l) (is_following n s start (length (square_clauses n s)) refl refl)
           (standing_following i start (length (square_clauses n s)) w.behind w.ahead);
-      one_of_its = λ x has. in_square n x s (in_some x (square_clauses n s) (i - 1 - start) (ap (clause_has x) (sym (of_square n i row column w)) ∙ has));
+      one_of_its = λ x has. in_square n x s (in_some x (square_clauses n s) (i - 1 - start)
+          (ap (clause_has x) (sym (of_square n i row column w)) ∙ has));
     }
 
 -- along a row, and along the rows
-along_row : (n i row k : ℕ) → clause_count n (squares_before n (square row 1)) < i → i ≤ clause_count n (squares_before n (square row (k + 1))) → StandsAtSquare n i
+along_row : (n i row k : ℕ) → clause_count n (squares_before n (square row 1)) < i → i
+    ≤ clause_count n (squares_before n (square row (k + 1))) → StandsAtSquare n i
 along_row n i row zero a b = absurd (omega (arith, a, b))
 along_row n i row (suc k) a b =
     let here : Square = square row (suc k) in
     let step : k + 1 ≡ suc k = omega arith in
     elim (cases_lt (clause_count n (squares_before n here)) i) [
       | inl late ↦ elim (stays n here) as (λ there. stays n here ≡ there → StandsAtSquare n i) [
-        | true ↦ λ there. at_square n i row (suc k) (record { stays = there; behind = late; ahead = omega (arith, b, more_before n row (suc k) (omega arith) there) })
+        | true ↦ λ there. at_square n i row (suc k) (record {
+          stays = there;
+          behind = late;
+          ahead = omega (arith, b, more_before n row (suc k) (omega arith) there);
+        })
         | false ↦ λ out. absurd (omega (arith, b, late, same_before n row (suc k) (omega arith) out))
       ] refl
       | inr early ↦ along_row n i row k a (subst (λ (c : ℕ). i ≤ clause_count n (squares_before n (square row c))) (sym step) early)
@@ -158,7 +168,8 @@ above_next : (n k : ℕ) → above n (suc k) ≡ clause_count n (squares_before 
 above_next n k =
     let less : suc k - 1 ≡ k = omega arith in
     let whole : n + 1 - 1 ≡ n = omega arith in
-    ap (clause_count n) (flat_map-append (row_squares n) (natural k) (suc k ∷ []) ∙ ap (λ l. flat_map (row_squares n) (natural k) ++ l) (append-nil (row_squares n (suc k))))
+    ap (clause_count n) (flat_map-append (row_squares n) (natural k) (suc k ∷ [])
+    ∙ ap (λ l. flat_map (row_squares n) (natural k) ++ l) (append-nil (row_squares n (suc k))))
     ∙ (λ i. clause_count n (flat_map (row_squares n) (natural (sym less i)) ++ front_of_row n (suc k) (sym whole i)))
 
 along_rows : (n i k : ℕ) → 0 < i → i ≤ above n k → StandsAtSquare n i
@@ -166,7 +177,8 @@ along_rows n i zero a b = absurd (omega (arith, a, b))
 along_rows n i (suc k) a b =
     let less : suc k - 1 ≡ k = omega arith in
     elim (cases_lt (above n k) i) [
-      | inl late ↦ along_row n i (suc k) n (omega (arith, late, first_before n (suc k), ap (above n) less)) (omega (arith, b, above_next n k))
+      | inl late ↦ along_row n i (suc k) n (omega (arith, late, first_before n (suc k), ap (above n) less))
+          (omega (arith, b, above_next n k))
       | inr early ↦ along_rows n i k a early
     ]
 

@@ -1,5 +1,6 @@
 -- Row by row the numbers of the dominoes, and of the clauses, rise from 1.
-use Rattle.std.proofs.Common.{◌≡◌, ℕ, zero, suc, ◌+◌, ◌-◌, Bool, true, false, cond, List, [], ◌∷◌, ◌++◌, length, refl, sym, ◌∙◌, ap, arith, length-append}
+use Rattle.std.proofs.Common.{◌≡◌, ℕ, zero, suc, ◌+◌, ◌-◌, Bool, true, false, cond, List, [], ◌∷◌, ◌++◌, length, refl, sym, ◌∙◌, ap, arith}
+use Rattle.std.proofs.Common.{length-append}
 use Rattle.std.specs.Prelude.{map}
 use Rattle.std.specs.List.{filter, flat_map}
 use Rattle.std.proofs.lemmas.List.{map-append, append-nil}
@@ -8,7 +9,8 @@ use Rattle.cnf_base.specs.Order.{natural}
 use Rattle.workload.specs.declared.square.Square.{Square}
 use Rattle.workload.specs.declared.square.Domino.{Domino}
 use Rattle.workload.specs.declared.square.Domino.TheVariants.{Across, Down}
-use Rattle.workload.specs.Board.{square, stays, front_of_row, row_squares, squares, is_domino, dominoes_at, dominoes, number, square_clauses, board_clauses}
+use Rattle.workload.specs.Board.{square, stays, front_of_row, row_squares, squares, is_domino, dominoes_at, dominoes, number}
+use Rattle.workload.specs.Board.{square_clauses, board_clauses}
 use Rattle.workload.specs.Schedule.{squares_before, following, clause_numbers}
 use Rattle.workload.proofs.Steps.{filter_append, following_next, following_split}
 use Rattle.workload.proofs.Counts.{before}
@@ -52,7 +54,8 @@ one_square n row k start f g at from =
     let less : suc k - 1 ≡ k = omega arith in
     let size : length (flat_map f (squares_before n s)) ≡ here =
     ap (λ (c : ℕ). length (flat_map f (above ++ front_of_row n row c))) less ∙ ap length (flat_map-append f above (front_of_row n row k))
-    ∙ length-append (flat_map f above) (flat_map f (front_of_row n row k)) ∙ ap (λ (c : ℕ). c + length (flat_map f (front_of_row n row k))) (sym from) in
+    ∙ length-append (flat_map f above) (flat_map f (front_of_row n row k))
+    ∙ ap (λ (c : ℕ). c + length (flat_map f (front_of_row n row k))) (sym from) in
     elim (stays n s) as (λ b. stays n s ≡ b → flat_map g (cond b (s ∷ []) []) ≡ following here (length (flat_map f (cond b (s ∷ []) [])))) [
       | true ↦ λ there. append-nil (g s) ∙ at row (suc k) there ∙ (λ i. following (size i) (length (sym (append-nil (f s)) i)))
       | false ↦ λ out. refl
@@ -69,9 +72,11 @@ in_row n row (suc k) start f g at from =
 
 rows_more : (n k : ℕ) → flat_map (row_squares n) (natural (suc k)) ≡ flat_map (row_squares n) (natural k) ++ row_squares n (suc k)
 rows_more n k =
-    flat_map-append (row_squares n) (natural k) (suc k ∷ []) ∙ ap (λ l. flat_map (row_squares n) (natural k) ++ l) (append-nil (row_squares n (suc k)))
+    flat_map-append (row_squares n) (natural k) (suc k ∷ []) ∙ ap (λ l. flat_map (row_squares n) (natural k)
+    ++ l) (append-nil (row_squares n (suc k)))
 
-in_rows : {X : Type 0} (n k : ℕ) (f : Square → List X) (g : Square → List ℕ) → NumberedAt n f g → Numbered f g 0 (flat_map (row_squares n) (natural k))
+in_rows : {X : Type 0} (n k : ℕ) (f : Square → List X) (g : Square → List ℕ) → NumberedAt n f g
+    → Numbered f g 0 (flat_map (row_squares n) (natural k))
 in_rows n zero f g at = refl
 in_rows n (suc k) f g at =
     let rows : List Square = flat_map (row_squares n) (natural k) in
@@ -84,13 +89,15 @@ in_rows n (suc k) f g at =
 
 pub clauses_in_rows : (n : ℕ) → flat_map (clause_numbers n) (squares n) ≡ natural (length (board_clauses n))
 unfolding clause_numbers
-clauses_in_rows n = in_rows n n (square_clauses n) (clause_numbers n) (λ row column there. refl) ∙ following_natural (length (board_clauses n))
+clauses_in_rows n = in_rows n n (square_clauses n) (clause_numbers n) (λ row column there. refl)
+    ∙ following_natural (length (board_clauses n))
 
 -- the dominoes of a square
 down_follows : (n start : ℕ) (s : Square) → (is_domino n (Down s) ≡ true → number n (Down s) ≡ suc start)
     → map (number n) (filter (is_domino n) (Down s ∷ [])) ≡ following start (length (filter (is_domino n) (Down s ∷ [])))
 down_follows n start s value =
-    elim (is_domino n (Down s)) as (λ d. (d ≡ true → number n (Down s) ≡ suc start) → map (number n) (cond d (Down s ∷ []) []) ≡ following start (length (cond d (Down s ∷ []) []))) [
+    elim (is_domino n (Down s)) as (λ d. (d ≡ true → number n (Down s) ≡ suc start) → map (number n) (cond d (Down s ∷ []) [])
+    ≡ following start (length (cond d (Down s ∷ []) []))) [
       | true ↦ λ is. ap (λ (k : ℕ). k ∷ []) (is refl)
       | false ↦ λ is. refl
     ] value
@@ -101,7 +108,8 @@ own_follow n row column there =
     let start : ℕ = before n row column in
     let down : List Domino = filter (is_domino n) (Down s ∷ []) in
     let places : Bool → ℕ = λ b. start + cond b 2 1 in
-    elim (is_domino n (Across s)) as (λ a. is_domino n (Across s) ≡ a → map (number n) (cond a (Across s ∷ down) down) ≡ following start (length (cond a (Across s ∷ down) down))) [
+    elim (is_domino n (Across s)) as (λ a. is_domino n (Across s) ≡ a → map (number n) (cond a (Across s ∷ down) down)
+    ≡ following start (length (cond a (Across s ∷ down) down))) [
       | true ↦ λ is.
           let first : number n (Across s) ≡ suc start = omega (arith, number_across n row column there is) in
           let rest = down_follows n (suc start) s (λ d. omega (arith, number_down n row column there d ∙ ap places is)) in

@@ -34,7 +34,8 @@ abbrev pub terms_before : ℕ → ℕ
 terms_before column = cond (nat_le 2 column) 1 0
 
 abbrev pub scan_moves : (clauses ends : ℕ → List ℕ) → ℕ → List Move
-scan_moves clauses ends column = map Push (clauses column) ++ (replicate (length (clauses column) + terms_before column - 1) And ++ map Exists (ends column))
+scan_moves clauses ends column = map Push (clauses column) ++ (replicate (length (clauses column) + terms_before column - 1) And
+    ++ map Exists (ends column))
 
 -- one more column
 pub one_more : {A : Type 0} (f : ℕ → List A) (k : ℕ) → flat_map f (natural (suc k)) ≡ flat_map f (natural k) ++ f (suc k)
@@ -61,18 +62,22 @@ column_leads formula clauses ends columns k scan small stage high before =
     let own : List ℕ = clauses (suc k) in
     let quantified : List Move = map Exists (ends (suc k)) in
     let conjoined : ℕ = length (clauses (suc k)) + terms_before (suc k) - 1 in
-    let few : (i : ℕ) → standing i (up_to clauses (suc k)) ≤ standing i (up_to clauses columns) = λ i. fewer clauses i (suc k) (columns - suc k) columns (omega (arith, small)) in
+    let few : (i : ℕ) → standing i (up_to clauses (suc k)) ≤ standing i (up_to clauses columns) = λ i. fewer clauses i (suc k)
+    (columns - suc k) columns (omega (arith, small)) in
     let pushes = pushing formula stage own (λ i there. scan.within i (omega (arith, there, standing_more clauses i k, few i)))
     (λ i. omega (arith, before i, standing_more clauses i k, few i, scan.once i)) in
-    let conjoins = conjoining_all formula pushes.later conjoined (omega (arith, pushes.stacked, high, scan.some (suc k) (omega arith) small)) in
+    let conjoins = conjoining_all formula pushes.later conjoined
+    (omega (arith, pushes.stacked, high, scan.some (suc k) (omega arith) small)) in
     let now : (i : ℕ) → standing i conjoins.later.pushed ≡ standing i (up_to clauses (suc k)) =
     λ i. omega (arith, conjoins.pushed i, pushes.pushed i, before i, standing_more clauses i k) in
     let quantifies = quantifying_all formula conjoins.later (ends (suc k)) conjoins.stacked (scan.variables (suc k))
     (λ x i there positive within has. omega (arith, now i, scan.ended (suc k) x i (omega arith) small there positive within has)) in
     record {
       later = quantifies.later;
-      possible = append_possible formula stage pushes.later quantifies.later (map Push own) (replicate conjoined And ++ quantified) pushes.possible
-          (append_possible formula pushes.later conjoins.later quantifies.later (replicate conjoined And) quantified conjoins.possible quantifies.possible);
+      possible = append_possible formula stage pushes.later quantifies.later (map Push own) (replicate conjoined And
+          ++ quantified) pushes.possible
+          (append_possible formula pushes.later conjoins.later quantifies.later
+          (replicate conjoined And) quantified conjoins.possible quantifies.possible);
       stacked = quantifies.stacked;
       pushed = λ i. omega (arith, quantifies.pushed i, conjoins.pushed i, pushes.pushed i);
     }
@@ -82,7 +87,12 @@ one_before k = ap (λ b. cond b 1 0) (le-leb 2 (suc (suc k)) (omega arith))
 
 columns_lead : (formula : Formula) (clauses ends : ℕ → List ℕ) (columns k : ℕ) → IsScan formula clauses ends columns → k ≤ columns
     → LeadsTo formula no_stage (flat_map (scan_moves clauses ends) (natural k)) (up_to clauses k) (terms_before (suc k))
-columns_lead formula clauses ends columns zero scan small = record { later = no_stage; possible = refl; stacked = refl; pushed = λ i. omega arith }
+columns_lead formula clauses ends columns zero scan small = record {
+  later = no_stage;
+  possible = refl;
+  stacked = refl;
+  pushed = λ i. omega arith;
+}
 columns_lead formula clauses ends columns (suc k) scan small =
     let moves : ℕ → List Move = scan_moves clauses ends in
     let before = columns_lead formula clauses ends columns k scan (omega (arith, small)) in
@@ -90,7 +100,8 @@ columns_lead formula clauses ends columns (suc k) scan small =
     record {
       later = column.later;
       possible = ap (after_moves formula no_stage) (one_more moves k)
-          ∙ append_possible formula no_stage before.later column.later (flat_map moves (natural k)) (moves (suc k)) before.possible column.possible;
+          ∙ append_possible formula no_stage before.later column.later (flat_map moves (natural k))
+          (moves (suc k)) before.possible column.possible;
       stacked = omega (arith, column.stacked, one_before k);
       pushed = λ i. omega (arith, column.pushed i, before.pushed i, standing_more clauses i k);
     }
@@ -99,7 +110,8 @@ few_terms : (k : ℕ) → terms_before (suc k) ≤ 1
 few_terms zero = omega arith
 few_terms (suc k) = omega (arith, one_before k)
 
-pub scan_is_admissible : (formula : Formula) (clauses ends : ℕ → List ℕ) (columns : ℕ) → IsScan formula clauses ends columns → IsAdmissible formula (flat_map (scan_moves clauses ends) (natural columns))
+pub scan_is_admissible : (formula : Formula) (clauses ends : ℕ → List ℕ) (columns : ℕ) → IsScan formula clauses ends columns
+    → IsAdmissible formula (flat_map (scan_moves clauses ends) (natural columns))
 scan_is_admissible formula clauses ends columns scan =
     let all = columns_lead formula clauses ends columns columns scan (omega arith) in
     record {

@@ -47,7 +47,8 @@ it_stays n row column h = record {
   not_last = not_last n row column h;
 }
 
-pub is_there : (n row column : ℕ) → 1 ≤ row → row ≤ n → 1 ≤ column → column ≤ n → 2 < row + column → row + column < n + n → stays n (square row column) ≡ true
+pub is_there : (n row column : ℕ) → 1 ≤ row → row ≤ n → 1 ≤ column → column ≤ n → 2 < row + column → row + column < n + n
+    → stays n (square row column) ≡ true
 unfolding stays
 is_there n row column a b c d e f = grind (arith, nat_tests)
 
@@ -76,7 +77,8 @@ added false b d = 0
 abbrev pub alone : ℕ → ℕ → ℕ → List Domino
 alone n row column = flat_map (dominoes_at n) (filter (stays n) (square row column ∷ []))
 
-pub length_alone : (n row column : ℕ) (a b d : Bool) → stays n (square row column) ≡ a → stays n (square row (column + 1)) ≡ b → stays n (square (row + 1) column) ≡ d
+pub length_alone : (n row column : ℕ) (a b d : Bool) → stays n (square row column) ≡ a → stays n (square row (column + 1)) ≡ b
+    → stays n (square (row + 1) column) ≡ d
     → length (alone n row column) ≡ added a b d
 length_alone n row column true true true p q r = simp (p, q, r)
 length_alone n row column true true false p q r = simp (p, q, r)

@@ -30,6 +30,16 @@ pub standing_natural : (i k : ℕ) → 0 < i → i ≤ k → standing i (natural
 standing_natural i zero a b = absurd (omega (arith, a, b))
 standing_natural i (suc k) a b =
     elim (cases_eq (suc k) i) [
-      | inl same ↦ omega (arith, standing_append i (natural k) (suc k ∷ []), standing_outside i k (inr (omega (arith, same))), same_number i (suc k) same)
-      | inr differ ↦ omega (arith, standing_append i (natural k) (suc k ∷ []), standing_natural i k a (omega (arith, b, differ)), other_number i (suc k) differ)
+      | inl same ↦ omega (
+        arith,
+        standing_append i (natural k) (suc k ∷ []),
+        standing_outside i k (inr (omega (arith, same))),
+        same_number i (suc k) same,
+      )
+      | inr differ ↦ omega (
+        arith,
+        standing_append i (natural k) (suc k ∷ []),
+        standing_natural i k a (omega (arith, b, differ)),
+        other_number i (suc k) differ,
+      )
     ]

@@ -18,7 +18,8 @@ next (suc j) positive =
 
 pub flat_next : {A : Type 0} (f : ℕ → List A) (k : ℕ) → 0 < k → flat_map f (natural (k + 1 - 1)) ≡ flat_map f (natural (k - 1)) ++ f k
 flat_next f k positive =
-    ap (flat_map f) (next k positive) ∙ flat_map-append f (natural (k - 1)) (k ∷ []) ∙ ap (λ l. flat_map f (natural (k - 1)) ++ l) (append-nil (f k))
+    ap (flat_map f) (next k positive) ∙ flat_map-append f (natural (k - 1)) (k ∷ [])
+    ∙ ap (λ l. flat_map f (natural (k - 1)) ++ l) (append-nil (f k))
 
 pub filter_append : {X : Type 0} (p : X → Bool) (xs ys : List X) → filter p (xs ++ ys) ≡ filter p xs ++ filter p ys
 filter_append p [] ys = refl
@@ -29,9 +30,11 @@ filter_append p (x ∷ xs) ys =
     ]
 
 -- the items of a row that pass, up to the next one
-pub passing_next : {X : Type 0} (p : X → Bool) (g : ℕ → X) (k : ℕ) → 0 < k → filter p (map g (natural (k + 1 - 1))) ≡ filter p (map g (natural (k - 1))) ++ filter p (g k ∷ [])
+pub passing_next : {X : Type 0} (p : X → Bool) (g : ℕ → X) (k : ℕ) → 0 < k → filter p (map g (natural (k + 1 - 1)))
+    ≡ filter p (map g (natural (k - 1))) ++ filter p (g k ∷ [])
 passing_next p g k positive =
-    ap (λ l. filter p (map g l)) (next k positive) ∙ ap (filter p) (map-append g (natural (k - 1)) (k ∷ [])) ∙ filter_append p (map g (natural (k - 1))) (g k ∷ [])
+    ap (λ l. filter p (map g l)) (next k positive) ∙ ap (filter p) (map-append g (natural (k - 1)) (k ∷ []))
+    ∙ filter_append p (map g (natural (k - 1))) (g k ∷ [])
 
 pub one_passes : {X : Type 0} (p : X → Bool) (x : X) → p x ≡ true → filter p (x ∷ []) ≡ x ∷ []
 one_passes p x passes = ap (λ b. cond b (x ∷ []) []) passes
@@ -43,7 +46,8 @@ pub passed : {X A : Type 0} (f : X → List A) (p : X → Bool) (g : ℕ → X) 
     → flat_map f (filter p (map g (natural (k + 1 - 1)))) ≡ flat_map f (filter p (map g (natural (k - 1)))) ++ f (g k)
 passed f p g k positive passes =
     ap (flat_map f) (passing_next p g k positive ∙ ap (λ l. filter p (map g (natural (k - 1))) ++ l) (one_passes p (g k) passes))
-    ∙ flat_map-append f (filter p (map g (natural (k - 1)))) (g k ∷ []) ∙ ap (λ l. flat_map f (filter p (map g (natural (k - 1)))) ++ l) (append-nil (f (g k)))
+    ∙ flat_map-append f (filter p (map g (natural (k - 1)))) (g k ∷ [])
+    ∙ ap (λ l. flat_map f (filter p (map g (natural (k - 1)))) ++ l) (append-nil (f (g k)))
 
 pub skipped : {X A : Type 0} (f : X → List A) (p : X → Bool) (g : ℕ → X) (k : ℕ) → 0 < k → p (g k) ≡ false
     → flat_map f (filter p (map g (natural (k + 1 - 1)))) ≡ flat_map f (filter p (map g (natural (k - 1))))
@@ -66,15 +70,18 @@ pub conjoining_moves : (terms : ℕ) → flat_map moves_of (conjoining terms) �
 conjoining_moves zero = refl
 conjoining_moves (suc zero) = refl
 conjoining_moves (suc (suc k)) =
-    ap (λ b. flat_map moves_of (cond b (Conjoin (suc (suc k)) ∷ []) [])) (le-leb 2 (suc (suc k)) (omega arith)) ∙ append-nil (replicate (suc (suc k) - 1) And)
+    ap (λ b. flat_map moves_of (cond b (Conjoin (suc (suc k)) ∷ []) [])) (le-leb 2 (suc (suc k)) (omega arith))
+    ∙ append-nil (replicate (suc (suc k) - 1) And)
 
 pub quantifying_moves : (variables : List ℕ) → flat_map moves_of (quantifying variables) ≡ map Exists variables
 quantifying_moves [] = refl
 quantifying_moves (x ∷ more) = append-nil (map Exists (x ∷ more))
 
 pub following_split : (start one other : ℕ) → following start (one + other) ≡ following start one ++ following (start + one) other
-following_split start zero other = (λ i. following (let e : start ≡ start + 0 = omega arith in e i) (let f : 0 + other ≡ other = omega arith in f i))
+following_split start zero other = (λ i. following (let e : start ≡ start + 0 = omega arith in e i) (let f : 0 + other
+    ≡ other = omega arith in f i))
 following_split start (suc one) other =
     let count : suc one + other ≡ suc (one + other) = omega arith in
     let from : suc start + one ≡ start + suc one = omega arith in
-    ap (following start) count ∙ ap (λ l. suc start ∷ l) (following_split (suc start) one other ∙ ap (λ (k : ℕ). following (suc start) one ++ following k other) from)
+    ap (following start) count ∙ ap (λ l. suc start ∷ l) (following_split (suc start) one other
+    ∙ ap (λ (k : ℕ). following (suc start) one ++ following k other) from)

@@ -35,7 +35,8 @@ column_clauses n column = flat_map (clause_numbers n) (column_squares n column)
 -- the dominoes that lie in this column or end in it, in the column order
 abbrev pub ending_dominoes : ℕ → ℕ → List Domino
 ending_dominoes n column =
-    dominoes_of n (map (λ row. Across (square row (column - 1))) (natural n)) ++ dominoes_of n (map (λ row. Down (square row column)) (natural n))
+    dominoes_of n (map (λ row. Across (square row (column - 1))) (natural n))
+    ++ dominoes_of n (map (λ row. Down (square row column)) (natural n))
 
 abbrev pub ending : ℕ → ℕ → List ℕ
 ending n column = map (number n) (ending_dominoes n column)

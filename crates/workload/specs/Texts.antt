@@ -15,7 +15,8 @@ clause_line clause = flat_map literal_text clause ++ codes "0\n"
 
 abbrev pub cnf_text : Formula → List ℕ
 cnf_text formula =
-    codes "p cnf " ++ decimal formula.vars ++ codes " " ++ decimal (length formula.clauses) ++ codes "\n" ++ flat_map clause_line formula.clauses
+    codes "p cnf " ++ decimal formula.vars ++ codes " " ++ decimal (length formula.clauses) ++ codes "\n"
+    ++ flat_map clause_line formula.clauses
 
 -- the variables on one line, a space between two
 abbrev pub order_text : List ℕ → List ℕ

@@ -27,7 +27,10 @@ fn push_row(builder: &mut CnfBuilder, n: u32, row: u32) -> Result<(), OutOfMemor
     requires vars { builder.old.vars ≡ length (dominoes n) }
     requires few_vars { builder.old.vars ≤ 1000000 }
     requires few { length builder.old.clauses ≤ 1000000 }
-    ensures ok { OnOk result (builder.new ≡ record builder.old { clauses = builder.old.clauses ++ flat_map (square_clauses n) (row_squares n row) }) }
+    ensures ok { OnOk result (builder.new ≡ record builder.old {
+      clauses = builder.old.clauses
+          ++ flat_map (square_clauses n) (row_squares n row);
+    }) }
     ensures few { OnOk result (length builder.new.clauses ≤ length builder.old.clauses + 700) }
 {
     for column in 1..n + 1 {

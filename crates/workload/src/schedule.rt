@@ -11,7 +11,7 @@ ghost use Rattle.workload.specs.Texts.{schedule_text, command_line, spaced};
 
 use crate::cursor::{Cursor, first_cursor, terms_in_column};
 use crate::square::{Domino, Square, clause_count, is_domino, number, stays};
-use host_io::{Failed, Held, Sink, emit, emit_number, write_all};
+use host_io::{Failed, HeldBytes, Sink, emit, emit_number, write_all};
 
 /// Writes the column schedule of the board of n by n squares, n from 2 to 100. Where a write fails, a front of the text
 /// was written. Takes no memory.
@@ -21,12 +21,12 @@ pub fn write_columns<S: Sink>(sink: &mut S, n: u32) -> Result<(), Failed>
     ensures writes { WritesAll S.tells (S.channel sink.old) (S.channel sink.new) (schedule_text n) result }
     ensures beside { S.beside sink.new ≡ S.beside sink.old }
 {
-    let mut held = Held::new();
+    let mut held = HeldBytes::new();
     emit_columns(sink, &mut held, n)?;
     write_all(sink, held.as_slice())
 }
 
-fn emit_columns<S: Sink>(sink: &mut S, held: &mut Held, n: u32) -> Result<(), Failed>
+fn emit_columns<S: Sink>(sink: &mut S, held: &mut HeldBytes, n: u32) -> Result<(), Failed>
     requires least { 2 ≤ n }
     requires most { n ≤ 100 }
     ensures emits { Emits S.tells (S.channel sink.old) (S.channel sink.new) held.old.items held.new.items (schedule_text n) result }
@@ -42,7 +42,7 @@ fn emit_columns<S: Sink>(sink: &mut S, held: &mut Held, n: u32) -> Result<(), Fa
 // Puts the lines of a column.
 fn emit_column<S: Sink>(
     sink: &mut S,
-    held: &mut Held,
+    held: &mut HeldBytes,
     n: u32,
     column: u32,
     cursor: &mut Cursor,
@@ -51,7 +51,8 @@ fn emit_column<S: Sink>(
     requires most { n ≤ 100 }
     requires column { (0 < column) × (column ≤ n) }
     requires cursor { StandsAt n column cursor.old }
-    ensures emits { Emits S.tells (S.channel sink.old) (S.channel sink.new) held.old.items held.new.items (flat_map command_line (column_commands n column)) result }
+    ensures emits { Emits S.tells (S.channel sink.old) (S.channel sink.new) held.old.items held.new.items
+        (flat_map command_line (column_commands n column)) result }
     ensures beside { S.beside sink.new ≡ S.beside sink.old }
     ensures cursor { OnOk result (StandsAt n (column + 1) cursor.new) }
 {
@@ -65,7 +66,7 @@ fn emit_column<S: Sink>(
 // Puts the numbers of a column's clauses.
 fn emit_clauses<S: Sink>(
     sink: &mut S,
-    held: &mut Held,
+    held: &mut HeldBytes,
     n: u32,
     column: u32,
     cursor: &mut Cursor,
@@ -73,7 +74,8 @@ fn emit_clauses<S: Sink>(
     requires most { n ≤ 100 }
     requires column { (0 < column) × (column ≤ 100) }
     requires cursor { StandsAt n column cursor.old }
-    ensures emits { Emits S.tells (S.channel sink.old) (S.channel sink.new) held.old.items held.new.items (flat_map spaced (column_clauses n column)) result }
+    ensures emits { Emits S.tells (S.channel sink.old) (S.channel sink.new) held.old.items held.new.items
+        (flat_map spaced (column_clauses n column)) result }
     ensures beside { S.beside sink.new ≡ S.beside sink.old }
     ensures cursor { OnOk result (StandsAt n (column + 1) cursor.new) }
 {
@@ -89,12 +91,13 @@ fn emit_clauses<S: Sink>(
 
 fn emit_following<S: Sink>(
     sink: &mut S,
-    held: &mut Held,
+    held: &mut HeldBytes,
     start: u32,
     count: u32,
 ) -> Result<(), Failed>
     requires { start + count ≤ 1000000 }
-    ensures emits { Emits S.tells (S.channel sink.old) (S.channel sink.new) held.old.items held.new.items (flat_map spaced (following start count)) result }
+    ensures emits { Emits S.tells (S.channel sink.old) (S.channel sink.new) held.old.items held.new.items
+        (flat_map spaced (following start count)) result }
     ensures beside { S.beside sink.new ≡ S.beside sink.old }
 {
     for clause in start..start + count {
@@ -104,8 +107,9 @@ fn emit_following<S: Sink>(
 }
 
 // Puts the line that conjoins so many terms, where there are two.
-fn emit_conjoining<S: Sink>(sink: &mut S, held: &mut Held, terms: u32) -> Result<(), Failed>
-    ensures emits { Emits S.tells (S.channel sink.old) (S.channel sink.new) held.old.items held.new.items (flat_map command_line (conjoining terms)) result }
+fn emit_conjoining<S: Sink>(sink: &mut S, held: &mut HeldBytes, terms: u32) -> Result<(), Failed>
+    ensures emits { Emits S.tells (S.channel sink.old) (S.channel sink.new) held.old.items held.new.items
+        (flat_map command_line (conjoining terms)) result }
     ensures beside { S.beside sink.new ≡ S.beside sink.old }
 {
     if terms < 2 {
@@ -118,14 +122,15 @@ fn emit_conjoining<S: Sink>(sink: &mut S, held: &mut Held, terms: u32) -> Result
 // Puts the line that quantifies the dominoes that end in a column, where there is one.
 fn emit_quantifying<S: Sink>(
     sink: &mut S,
-    held: &mut Held,
+    held: &mut HeldBytes,
     n: u32,
     column: u32,
 ) -> Result<(), Failed>
     requires least { 2 ≤ n }
     requires most { n ≤ 100 }
     requires column { (0 < column) × (column ≤ n) }
-    ensures emits { Emits S.tells (S.channel sink.old) (S.channel sink.new) held.old.items held.new.items (flat_map command_line (quantifying (ending n column))) result }
+    ensures emits { Emits S.tells (S.channel sink.old) (S.channel sink.new) held.old.items held.new.items
+        (flat_map command_line (quantifying (ending n column))) result }
     ensures beside { S.beside sink.new ≡ S.beside sink.old }
 {
     if n < 3 {
@@ -137,10 +142,16 @@ fn emit_quantifying<S: Sink>(
 }
 
 // Puts the numbers of the dominoes that end in a column.
-fn emit_ending<S: Sink>(sink: &mut S, held: &mut Held, n: u32, column: u32) -> Result<(), Failed>
+fn emit_ending<S: Sink>(
+    sink: &mut S,
+    held: &mut HeldBytes,
+    n: u32,
+    column: u32,
+) -> Result<(), Failed>
     requires most { n ≤ 100 }
     requires column { (0 < column) × (column ≤ 100) }
-    ensures emits { Emits S.tells (S.channel sink.old) (S.channel sink.new) held.old.items held.new.items (flat_map spaced (ending n column)) result }
+    ensures emits { Emits S.tells (S.channel sink.old) (S.channel sink.new) held.old.items held.new.items
+        (flat_map spaced (ending n column)) result }
     ensures beside { S.beside sink.new ≡ S.beside sink.old }
 {
     for row in 1..n + 1 {
@@ -157,10 +168,16 @@ fn emit_ending<S: Sink>(sink: &mut S, held: &mut Held, n: u32, column: u32) -> R
 }
 
 // Puts a domino's number, where it is one.
-fn emit_domino<S: Sink>(sink: &mut S, held: &mut Held, n: u32, domino: Domino) -> Result<(), Failed>
+fn emit_domino<S: Sink>(
+    sink: &mut S,
+    held: &mut HeldBytes,
+    n: u32,
+    domino: Domino,
+) -> Result<(), Failed>
     requires most { n ≤ 100 }
     requires near { ((first_square domino).row ≤ 100) × ((first_square domino).column ≤ 100) }
-    ensures emits { Emits S.tells (S.channel sink.old) (S.channel sink.new) held.old.items held.new.items (flat_map spaced (map (number n) (dominoes_of n (domino ∷ [])))) result }
+    ensures emits { Emits S.tells (S.channel sink.old) (S.channel sink.new) held.old.items held.new.items
+        (flat_map spaced (map (number n) (dominoes_of n (domino ∷ [])))) result }
     ensures beside { S.beside sink.new ≡ S.beside sink.old }
 {
     if is_domino(n, domino) {

@@ -2,7 +2,8 @@
 ghost use Rattle.std.specs.Prelude.{◌≡◌, ◌+◌, ◌≤◌, ◌<◌, [], ◌∷◌, ◌++◌, map, length, IsTrue};
 ghost use Rattle.arrayvec.specs.ArrayVec.{array_vec_len};
 ghost use Rattle.std.specs.List.{flat_map};
-ghost use Rattle.workload.specs.Board.{square, stays, is_domino, first_square, number, numbers, dominoes_of, dominoes_at, square_clauses, dominoes};
+ghost use Rattle.workload.specs.Board.{square, stays, is_domino, first_square, number, numbers, dominoes_of, dominoes_at, square_clauses};
+ghost use Rattle.workload.specs.Board.{dominoes};
 ghost use Rattle.workload.specs.Schedule.{squares_before};
 
 use arrayvec::ArrayVec;

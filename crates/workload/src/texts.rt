@@ -6,7 +6,7 @@ ghost use Rattle.host_io.specs.Emitted.{Emits};
 ghost use Rattle.workload.specs.Texts.{cnf_text, clause_line, literal_text, order_text, spaced};
 
 use cnf_base::{Cnf, Lit};
-use host_io::{Failed, Held, Sink, emit, emit_number, write_all};
+use host_io::{Failed, HeldBytes, Sink, emit, emit_number, write_all};
 use schedule_plan::Order;
 
 /// Writes a formula in the DIMACS format. Where a write fails, a front of the text was written. Takes no memory.
@@ -14,12 +14,12 @@ pub fn write_cnf<S: Sink>(sink: &mut S, formula: &Cnf) -> Result<(), Failed>
     ensures writes { WritesAll S.tells (S.channel sink.old) (S.channel sink.new) (cnf_text formula.now) result }
     ensures beside { S.beside sink.new ≡ S.beside sink.old }
 {
-    let mut held = Held::new();
+    let mut held = HeldBytes::new();
     emit_cnf(sink, &mut held, formula)?;
     write_all(sink, held.as_slice())
 }
 
-fn emit_cnf<S: Sink>(sink: &mut S, held: &mut Held, formula: &Cnf) -> Result<(), Failed>
+fn emit_cnf<S: Sink>(sink: &mut S, held: &mut HeldBytes, formula: &Cnf) -> Result<(), Failed>
     ensures emits { Emits S.tells (S.channel sink.old) (S.channel sink.new) held.old.items held.new.items (cnf_text formula.now) result }
     ensures beside { S.beside sink.new ≡ S.beside sink.old }
 {
@@ -29,8 +29,9 @@ fn emit_cnf<S: Sink>(sink: &mut S, held: &mut Held, formula: &Cnf) -> Result<(),
     emit_clauses(sink, held, formula)
 }
 
-fn emit_clauses<S: Sink>(sink: &mut S, held: &mut Held, formula: &Cnf) -> Result<(), Failed>
-    ensures emits { Emits S.tells (S.channel sink.old) (S.channel sink.new) held.old.items held.new.items (flat_map clause_line formula.now.clauses) result }
+fn emit_clauses<S: Sink>(sink: &mut S, held: &mut HeldBytes, formula: &Cnf) -> Result<(), Failed>
+    ensures emits { Emits S.tells (S.channel sink.old) (S.channel sink.new) held.old.items held.new.items
+        (flat_map clause_line formula.now.clauses) result }
     ensures beside { S.beside sink.new ≡ S.beside sink.old }
 {
     for place in 0..formula.len() {
@@ -39,7 +40,7 @@ fn emit_clauses<S: Sink>(sink: &mut S, held: &mut Held, formula: &Cnf) -> Result
     Ok(())
 }
 
-fn emit_clause<S: Sink>(sink: &mut S, held: &mut Held, clause: &[Lit]) -> Result<(), Failed>
+fn emit_clause<S: Sink>(sink: &mut S, held: &mut HeldBytes, clause: &[Lit]) -> Result<(), Failed>
     ensures emits { Emits S.tells (S.channel sink.old) (S.channel sink.new) held.old.items held.new.items (clause_line clause.now) result }
     ensures beside { S.beside sink.new ≡ S.beside sink.old }
 {
@@ -47,8 +48,9 @@ fn emit_clause<S: Sink>(sink: &mut S, held: &mut Held, clause: &[Lit]) -> Result
     emit(sink, held, b"0\n")
 }
 
-fn emit_literals<S: Sink>(sink: &mut S, held: &mut Held, clause: &[Lit]) -> Result<(), Failed>
-    ensures emits { Emits S.tells (S.channel sink.old) (S.channel sink.new) held.old.items held.new.items (flat_map literal_text clause.now) result }
+fn emit_literals<S: Sink>(sink: &mut S, held: &mut HeldBytes, clause: &[Lit]) -> Result<(), Failed>
+    ensures emits { Emits S.tells (S.channel sink.old) (S.channel sink.new) held.old.items held.new.items
+        (flat_map literal_text clause.now) result }
     ensures beside { S.beside sink.new ≡ S.beside sink.old }
 {
     for literal in clause {
@@ -57,7 +59,7 @@ fn emit_literals<S: Sink>(sink: &mut S, held: &mut Held, clause: &[Lit]) -> Resu
     Ok(())
 }
 
-fn emit_literal<S: Sink>(sink: &mut S, held: &mut Held, literal: Lit) -> Result<(), Failed>
+fn emit_literal<S: Sink>(sink: &mut S, held: &mut HeldBytes, literal: Lit) -> Result<(), Failed>
     ensures emits { Emits S.tells (S.channel sink.old) (S.channel sink.new) held.old.items held.new.items (literal_text literal) result }
     ensures beside { S.beside sink.new ≡ S.beside sink.old }
 {
@@ -70,12 +72,12 @@ pub fn write_order<S: Sink>(sink: &mut S, order: &Order) -> Result<(), Failed>
     ensures writes { WritesAll S.tells (S.channel sink.old) (S.channel sink.new) (order_text order.now) result }
     ensures beside { S.beside sink.new ≡ S.beside sink.old }
 {
-    let mut held = Held::new();
+    let mut held = HeldBytes::new();
     emit_order(sink, &mut held, order.as_slice())?;
     write_all(sink, held.as_slice())
 }
 
-fn emit_order<S: Sink>(sink: &mut S, held: &mut Held, order: &[u32]) -> Result<(), Failed>
+fn emit_order<S: Sink>(sink: &mut S, held: &mut HeldBytes, order: &[u32]) -> Result<(), Failed>
     ensures emits { Emits S.tells (S.channel sink.old) (S.channel sink.new) held.old.items held.new.items (order_text order.now) result }
     ensures beside { S.beside sink.new ≡ S.beside sink.old }
 {
@@ -83,8 +85,9 @@ fn emit_order<S: Sink>(sink: &mut S, held: &mut Held, order: &[u32]) -> Result<(
     emit(sink, held, b"\n")
 }
 
-fn emit_row<S: Sink>(sink: &mut S, held: &mut Held, order: &[u32]) -> Result<(), Failed>
-    ensures emits { Emits S.tells (S.channel sink.old) (S.channel sink.new) held.old.items held.new.items (join_with_byte 32 (map decimal order.now)) result }
+fn emit_row<S: Sink>(sink: &mut S, held: &mut HeldBytes, order: &[u32]) -> Result<(), Failed>
+    ensures emits { Emits S.tells (S.channel sink.old) (S.channel sink.new) held.old.items held.new.items
+        (join_with_byte 32 (map decimal order.now)) result }
     ensures beside { S.beside sink.new ≡ S.beside sink.old }
 {
     if let Some((first, more)) = order.split_first() {
@@ -96,8 +99,13 @@ fn emit_row<S: Sink>(sink: &mut S, held: &mut Held, order: &[u32]) -> Result<(),
 }
 
 /// Puts numbers, each behind a space.
-pub fn emit_spaced<S: Sink>(sink: &mut S, held: &mut Held, numbers: &[u32]) -> Result<(), Failed>
-    ensures emits { Emits S.tells (S.channel sink.old) (S.channel sink.new) held.old.items held.new.items (flat_map spaced numbers.now) result }
+pub fn emit_spaced<S: Sink>(
+    sink: &mut S,
+    held: &mut HeldBytes,
+    numbers: &[u32],
+) -> Result<(), Failed>
+    ensures emits { Emits S.tells (S.channel sink.old) (S.channel sink.new) held.old.items held.new.items
+        (flat_map spaced numbers.now) result }
     ensures beside { S.beside sink.new ≡ S.beside sink.old }
 {
     for number in numbers {

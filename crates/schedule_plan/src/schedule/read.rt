@@ -1,5 +1,6 @@
 // A schedule, read line by line. A line is judged once it is ended.
-ghost use Rattle.std.specs.Prelude.{◌≡◌, ◌≢◌, ◌≤◌, ◌-◌, ◌∷◌, [], ℕ, List, map, replicate, length, true, false, Ok, Err, IsTrue, OnOk, OnErr, IfOk};
+ghost use Rattle.std.specs.Prelude.{◌≡◌, ◌≢◌, ◌≤◌, ◌-◌, ◌∷◌, [], ℕ, List, map, replicate, length, true, false, Ok, Err, IsTrue, OnOk};
+ghost use Rattle.std.specs.Prelude.{OnErr, IfOk};
 ghost use Rattle.host_io.specs.Channel.{Rose};
 ghost use Rattle.text_scan.specs.Decides.{gained, Decides, OnlyReads};
 ghost use Rattle.text_scan.specs.Items.{Items, the_end, too_long, next_word};
@@ -38,7 +39,8 @@ pub(crate) fn read_schedule<S: Source>(
         (λ bytes more. Answers result (schedule formula.now bytes)) }
     ensures fault { result ≡ Err ReadFault → Rose (S.channel source.old).faults (S.channel source.new).faults }
     ensures unfailed { result ≢ Err ReadFault → (S.channel source.new).faults ≡ (S.channel source.old).faults }
-    ensures undecided { IsTrue S.tells → result ≡ Err ReadFault → schedule_so_far formula.now (gained (S.channel source.old) (S.channel source.new)) ≡ overlong }
+    ensures undecided { IsTrue S.tells → result ≡ Err ReadFault → schedule_so_far formula.now
+        (gained (S.channel source.old) (S.channel source.new)) ≡ overlong }
     ensures admissible { IfOk result (IsAdmissible formula.now) }
     ensures reads { OnlyReads (S.channel source.old) (S.channel source.new) }
     ensures beside { S.beside source.new ≡ S.beside source.old }

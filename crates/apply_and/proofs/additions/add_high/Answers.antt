@@ -1,3 +1,4 @@
+-- What is left to show of `add_high`.
 use Rattle.std.proofs.Common.{◌≡◌, ◌≤◌, ◌∙◌, pos, neg_ℤ, ℕ, List, [], ◌∷◌, ℤ, true, arith, ap, sym, subst, Some}
 use Rattle.lrat_rules.specs.Strict.{RefutesStrictly}
 use Rattle.lrat_rules.specs.Chain.{literals_of}
@@ -17,13 +18,17 @@ three_of_four : 3 ≤ 4
 three_of_four = omega arith
 
 pub variable-requires : goal.variable-requires
-variable-requires g c = c.operand_law.ensures.level c.args.table.now.graph c.requires.sound.tied.reduced c.args.operands.now c.requires.split
+variable-requires g c = c.operand_law.ensures.level c.args.table.now.graph c.requires.sound.tied.reduced c.args.operands.now
+    c.requires.split
 
 pub just_part-requires : goal.just_part-requires
 just_part-requires g c =
     let graph = c.args.table.now.graph in
-    let o = c.args.operands.now in
-    (conjunction_atoms graph (cofactor_at High graph o.level o.u) (cofactor_at High graph o.level o.v) c.args.high.now.0, three_of_four, c.requires.side.justified)
+    let o = c.args.operands.now in (
+      conjunction_atoms graph (cofactor_at High graph o.level o.u) (cofactor_at High graph o.level o.v) c.args.high.now.0,
+      three_of_four,
+      c.requires.side.justified,
+    )
 
 pub and_high-hints-requires-clause-close : goal.and_high-hints-requires-clause-close
 and_high-hints-requires-clause-close g c =
@@ -32,17 +37,26 @@ and_high-hints-requires-clause-close g c =
     let o = c.args.operands.now in
     let tied = c.requires.sound.tied in
     let x = pos (variable_at graph o.level) in
-    let among : are_among (conjunction_atoms graph o.u o.v c.args.w) c.args.clause.now ≡ true = c.clause_law.ensures.among (conjunction_atoms graph o.u o.v c.args.w) c.args.clause.now c.requires.clause in
-    let long : c.as_slice.result.now ≡ neg_ℤ x ∷ c.args.clause.now = c.as_slice.ensures.literals ∙ c.behind-long.ensures ∙ ap (λ (l : ℤ). l ∷ c.args.clause.now) (c.negated.ensures ∙ ap neg_ℤ c.variable.ensures) in
-    let apart : are_apart (neg_ℤ x ∷ c.args.clause.now) ≡ true = high_apart c.literal_law.ensures c.operand_law.ensures graph tied.reduced tied.ordered live o c.requires.split c.args.w High c.args.high.now c.requires.side c.args.clause.now c.requires.clause among in
-    subst (λ (clause : List ℤ). PartsClose (literals_of clause) (c.up_part.result ∷ c.down_part.result ∷ c.down_part-2.result ∷ c.just_part.result ∷ [])) (sym long)
+    let among : are_among (conjunction_atoms graph o.u o.v c.args.w) c.args.clause.now
+    ≡ true = c.clause_law.ensures.among (conjunction_atoms graph o.u o.v c.args.w) c.args.clause.now c.requires.clause in
+    let long : c.as_slice.result.now ≡ neg_ℤ x ∷ c.args.clause.now = c.as_slice.ensures.literals ∙ c.behind-long.ensures
+    ∙ ap (λ (l : ℤ). l ∷ c.args.clause.now) (c.negated.ensures ∙ ap neg_ℤ c.variable.ensures) in
+    let apart : are_apart (neg_ℤ x ∷ c.args.clause.now) ≡ true =
+    high_apart c.literal_law.ensures c.operand_law.ensures graph tied.reduced tied.ordered live o c.requires.split c.args.w High
+    c.args.high.now c.requires.side c.args.clause.now c.requires.clause among in
+    subst (λ (clause : List ℤ). PartsClose (literals_of clause) (c.up_part.result ∷ c.down_part.result ∷ c.down_part-2.result
+    ∷ c.just_part.result ∷ [])) (sym long)
     (c.conjunction_law.ensures.high x (atom_of graph o.u) (atom_of graph o.v) (atom_of graph c.args.w)
-    (atom_of graph (cofactor_at High graph o.level o.u)) (atom_of graph (cofactor_at High graph o.level o.v)) (atom_of graph (cofactor_at High graph o.level c.args.w))
+    (atom_of graph (cofactor_at High graph o.level o.u)) (atom_of graph (cofactor_at High graph o.level o.v))
+    (atom_of graph (cofactor_at High graph o.level c.args.w))
     (neg_ℤ x ∷ c.args.clause.now) c.up_part.result c.down_part.result c.down_part-2.result c.just_part.result
-    (high_clause c.literal_law.ensures c.operand_law.ensures graph tied.reduced tied.ordered live o c.requires.split c.args.w High c.args.high.now c.requires.side c.args.clause.now c.requires.clause among)
+    (high_clause c.literal_law.ensures c.operand_law.ensures graph tied.reduced tied.ordered live o c.requires.split c.args.w High
+    c.args.high.now c.requires.side c.args.clause.now c.requires.clause among)
     (c.closing_law.ensures.consistent (neg_ℤ x ∷ c.args.clause.now) apart)
     c.up_part.ensures.up c.down_part.ensures.down c.down_part-2.ensures.down
-    (c.just_part.ensures.justifies _ (side_justified c.literal_law.ensures c.operand_law.ensures graph tied.reduced tied.ordered live o c.requires.split c.args.w High c.args.high.now c.requires.side c.args.clause.now c.requires.clause among)))
+    (c.just_part.ensures.justifies _
+    (side_justified c.literal_law.ensures c.operand_law.ensures graph tied.reduced tied.ordered live o c.requires.split c.args.w High
+    c.args.high.now c.requires.side c.args.clause.now c.requires.clause among)))
 
 pub justify-requires-clause-strict : goal.justify-requires-clause-strict
 justify-requires-clause-strict g c =
@@ -50,7 +64,8 @@ justify-requires-clause-strict g c =
     let same : c.as_slice-2.result.now ≡ c.as_slice.result.now = c.as_slice-2.ensures.literals ∙ sym c.as_slice.ensures.literals in
     subst (λ (clause : List ℤ). RefutesStrictly live clause c.as_slice-3.result.now) (sym same)
     (subst (λ (hints : List ℕ). RefutesStrictly live c.as_slice.result.now hints) (sym c.as_slice-3.ensures)
-    (c.greedy_law.ensures.refutes live c.as_slice.result.now (c.up_part.result ∷ c.down_part.result ∷ c.down_part-2.result ∷ c.just_part.result ∷ []) _ c.and_high-hints.ensures
+    (c.greedy_law.ensures.refutes live c.as_slice.result.now (c.up_part.result ∷ c.down_part.result ∷ c.down_part-2.result
+    ∷ c.just_part.result ∷ []) _ c.and_high-hints.ensures
     (c.up_part.ensures.live, (c.down_part.ensures.live, (c.down_part-2.ensures.live, (c.just_part.ensures.live, tt))))))
 
 pub justify-requires-clause-over_nodes : goal.justify-requires-clause-over_nodes
@@ -60,17 +75,22 @@ justify-requires-clause-over_nodes g c =
     let o = c.args.operands.now in
     let tied = c.requires.sound.tied in
     let x = pos (variable_at graph o.level) in
-    let among : are_among (conjunction_atoms graph o.u o.v c.args.w) c.args.clause.now ≡ true = c.clause_law.ensures.among (conjunction_atoms graph o.u o.v c.args.w) c.args.clause.now c.requires.clause in
-    let long : c.as_slice-2.result.now ≡ neg_ℤ x ∷ c.args.clause.now = c.as_slice-2.ensures.literals ∙ c.behind-long.ensures ∙ ap (λ (l : ℤ). l ∷ c.args.clause.now) (c.negated.ensures ∙ ap neg_ℤ c.variable.ensures) in
+    let among : are_among (conjunction_atoms graph o.u o.v c.args.w) c.args.clause.now
+    ≡ true = c.clause_law.ensures.among (conjunction_atoms graph o.u o.v c.args.w) c.args.clause.now c.requires.clause in
+    let long : c.as_slice-2.result.now ≡ neg_ℤ x ∷ c.args.clause.now = c.as_slice-2.ensures.literals ∙ c.behind-long.ensures
+    ∙ ap (λ (l : ℤ). l ∷ c.args.clause.now) (c.negated.ensures ∙ ap neg_ℤ c.variable.ensures) in
     subst (λ (clause : List ℤ). IsOverNodes graph clause) (sym long)
-    (high_over c.literal_law.ensures c.operand_law.ensures graph tied.reduced tied.ordered live o c.requires.split c.args.w High c.args.high.now c.requires.side c.args.clause.now c.requires.clause among)
+    (high_over c.literal_law.ensures c.operand_law.ensures graph tied.reduced tied.ordered live o c.requires.split c.args.w High
+    c.args.high.now c.requires.side c.args.clause.now c.requires.clause among)
 
 pub returns-clause-added : goal.returns-clause-added
 returns-clause-added g c =
     let old = c.args.table.now.book.state in
     let new = c.justify.new.self.book.state in
     let at = c.high_clause_law.ensures.added old new c.in_ok-id.id c.as_slice-2.result.now c.in_ok-id.ensures.added in
-    let same : c.new.result.clause ≡ c.as_slice-2.result.now = c.new.ensures.clause ∙ c.as_slice-4.ensures.literals ∙ sym c.as_slice-2.ensures.literals in (
-      c.new.ensures.clause ∙ c.as_slice-4.ensures.literals ∙ c.behind-long.ensures ∙ ap (λ (l : ℤ). l ∷ c.args.clause.now) (c.negated.ensures ∙ ap neg_ℤ c.variable.ensures),
+    let same : c.new.result.clause ≡ c.as_slice-2.result.now = c.new.ensures.clause ∙ c.as_slice-4.ensures.literals
+    ∙ sym c.as_slice-2.ensures.literals in (
+      c.new.ensures.clause ∙ c.as_slice-4.ensures.literals ∙ c.behind-long.ensures
+          ∙ ap (λ (l : ℤ). l ∷ c.args.clause.now) (c.negated.ensures ∙ ap neg_ℤ c.variable.ensures),
       ap (clause_at new.live) c.new.ensures.id ∙ at ∙ ap Some (sym same),
     )

@@ -1,3 +1,4 @@
+-- What is left to show of `add_low`.
 use Rattle.std.proofs.Common.{◌≡◌, ◌<◌, ◌≤◌, ◌+◌, ◌∙◌, pos, ℕ, List, [], ◌∷◌, true, arith, Some, Result, Ok, Err, ap, sym, subst}
 use Rattle.std.specs.Prelude.{IfOk}
 use Rattle.lrat_rules.specs.State.{clause_at}
@@ -26,23 +27,32 @@ and_low-hints-requires-clause-close g c =
     let live = c.args.table.now.book.state.live in
     let o = c.args.operands.now in
     let tied = c.requires.sound.tied in
-    let among : are_among (conjunction_atoms graph o.u o.v c.args.w) c.args.clause.now ≡ true = c.clause_law.ensures.among (conjunction_atoms graph o.u o.v c.args.w) c.args.clause.now c.requires.clause in
-    let variable : 0 < variable_at graph o.level = (tied.ordered.within o.level (c.operand_law.ensures.level graph tied.reduced o c.requires.split)).0 in
+    let among : are_among (conjunction_atoms graph o.u o.v c.args.w) c.args.clause.now
+    ≡ true = c.clause_law.ensures.among (conjunction_atoms graph o.u o.v c.args.w) c.args.clause.now c.requires.clause in
+    let variable : 0 < variable_at graph o.level = (tied.ordered.within o.level
+    (c.operand_law.ensures.level graph tied.reduced o c.requires.split)).0 in
     let nonzero : is_nonzero (pos (variable_at graph o.level)) ≡ true = nonzero_variable (variable_at graph o.level) variable in
     c.conjunction_law.ensures.low (pos (variable_at graph o.level)) (atom_of graph o.u) (atom_of graph o.v) (atom_of graph c.args.w)
-    (atom_of graph (cofactor_at Low graph o.level o.u)) (atom_of graph (cofactor_at Low graph o.level o.v)) (atom_of graph (cofactor_at Low graph o.level c.args.w))
+    (atom_of graph (cofactor_at Low graph o.level o.u)) (atom_of graph (cofactor_at Low graph o.level o.v))
+    (atom_of graph (cofactor_at Low graph o.level c.args.w))
     c.args.clause.now c.args.first c.up_part.result c.down_part.result c.down_part-2.result c.just_part.result
-    nonzero (high_clause c.literal_law.ensures c.operand_law.ensures graph tied.reduced tied.ordered live o c.requires.split c.args.w Low c.args.low.now c.requires.side c.args.clause.now c.requires.clause among ∙ ap Some (sym c.requires.first))
+    nonzero (high_clause c.literal_law.ensures c.operand_law.ensures graph tied.reduced tied.ordered live o c.requires.split c.args.w Low
+    c.args.low.now c.requires.side c.args.clause.now c.requires.clause among ∙ ap Some (sym c.requires.first))
     c.requires.clause
-    (c.closing_law.ensures.consistent c.args.clause.now (low_apart c.literal_law.ensures c.operand_law.ensures graph tied.reduced tied.ordered live o c.requires.split c.args.w Low c.args.low.now c.requires.side c.args.clause.now c.requires.clause among))
+    (c.closing_law.ensures.consistent c.args.clause.now
+    (low_apart c.literal_law.ensures c.operand_law.ensures graph tied.reduced tied.ordered live o c.requires.split c.args.w Low
+    c.args.low.now c.requires.side c.args.clause.now c.requires.clause among))
     c.up_part.ensures.up c.down_part.ensures.down c.down_part-2.ensures.down
-    (c.just_part.ensures.justifies _ (side_justified c.literal_law.ensures c.operand_law.ensures graph tied.reduced tied.ordered live o c.requires.split c.args.w Low c.args.low.now c.requires.side c.args.clause.now c.requires.clause among))
+    (c.just_part.ensures.justifies _
+    (side_justified c.literal_law.ensures c.operand_law.ensures graph tied.reduced tied.ordered live o c.requires.split c.args.w Low
+    c.args.low.now c.requires.side c.args.clause.now c.requires.clause among))
 
 pub justify-requires-clause-strict : goal.justify-requires-clause-strict
 justify-requires-clause-strict g c =
     let live = c.args.table.now.book.state.live in
     subst (λ (hints : List ℕ). RefutesStrictly live c.args.clause.now hints) (sym c.as_slice.ensures)
-    (c.greedy_law.ensures.refutes live c.args.clause.now (Some c.args.first ∷ c.up_part.result ∷ c.down_part.result ∷ c.down_part-2.result ∷ c.just_part.result ∷ []) _ c.and_low-hints.ensures
+    (c.greedy_law.ensures.refutes live c.args.clause.now (Some c.args.first ∷ c.up_part.result ∷ c.down_part.result ∷ c.down_part-2.result
+    ∷ c.just_part.result ∷ []) _ c.and_low-hints.ensures
     (c.requires.live, (c.up_part.ensures.live, (c.down_part.ensures.live, (c.down_part-2.ensures.live, (c.just_part.ensures.live, tt))))))
 
 pub justify-requires-clause-over_nodes : goal.justify-requires-clause-over_nodes
@@ -51,21 +61,27 @@ justify-requires-clause-over_nodes g c =
     let live = c.args.table.now.book.state.live in
     let o = c.args.operands.now in
     let tied = c.requires.sound.tied in
-    let among : are_among (conjunction_atoms graph o.u o.v c.args.w) c.args.clause.now ≡ true = c.clause_law.ensures.among (conjunction_atoms graph o.u o.v c.args.w) c.args.clause.now c.requires.clause in
-    low_over c.literal_law.ensures c.operand_law.ensures graph tied.reduced tied.ordered live o c.requires.split c.args.w Low c.args.low.now c.requires.side c.args.clause.now c.requires.clause among
+    let among : are_among (conjunction_atoms graph o.u o.v c.args.w) c.args.clause.now
+    ≡ true = c.clause_law.ensures.among (conjunction_atoms graph o.u o.v c.args.w) c.args.clause.now c.requires.clause in
+    low_over c.literal_law.ensures c.operand_law.ensures graph tied.reduced tied.ordered live o c.requires.split c.args.w Low c.args.low.now
+    c.requires.side c.args.clause.now c.requires.clause among
 
 pub just_part-requires : goal.just_part-requires
 just_part-requires g c =
     let graph = c.args.table.now.graph in
-    let o = c.args.operands.now in
-    (conjunction_atoms graph (cofactor_at Low graph o.level o.u) (cofactor_at Low graph o.level o.v) c.args.low.now.0, three_of_four, c.requires.side.justified)
+    let o = c.args.operands.now in (
+      conjunction_atoms graph (cofactor_at Low graph o.level o.u) (cofactor_at Low graph o.level o.v) c.args.low.now.0,
+      three_of_four,
+      c.requires.side.justified,
+    )
 
 pub returns-clause-added : goal.returns-clause-added
 returns-clause-added g c =
     let old = c.args.table.now.book.state in
     let new = c.justify.new.self.book.state in
     let clause = c.args.clause.now in
-    elim (c.justify.result) as (λ (r : Result ℕ TableError). IfOk r (λ id. (id ≡ old.top + 1) × (new ≡ with_next old clause)) → IfOk r (λ id. clause_at new.live id ≡ Some clause)) [
+    elim (c.justify.result) as (λ (r : Result ℕ TableError). IfOk r (λ id. (id ≡ old.top + 1) × (new ≡ with_next old clause))
+    → IfOk r (λ id. clause_at new.live id ≡ Some clause)) [
       | Ok id ↦ λ is. c.high_clause_law.ensures.added old new id clause is
       | Err error ↦ λ is. tt
     ] c.justify.ensures.added

@@ -11,14 +11,16 @@ returns g c =
       steps = call.steps;
       fits = λ whole. call.accounts.fits (whole_result c.work_off.result whole);
       others = λ list fits apart whole.
-          c.accounts_law.ensures.beside _ _ _ c.args.table.now c.work_off.new.table (entries c.args.cache.now) (entries c.work_off.new.cache) list _ _ c.requires.sound call.steps call.accounts fits apart
+          c.accounts_law.ensures.beside _ _ _ c.args.table.now c.work_off.new.table (entries c.args.cache.now)
+          (entries c.work_off.new.cache) list _ _ c.requires.sound call.steps call.accounts fits apart
           (whole_result c.work_off.result whole);
       named = λ whole. call.accounts.named (whole_result c.work_off.result whole);
       retires = call.accounts.retires;
       accounts = λ whole. call.accounts.accounts (whole_result c.work_off.result whole);
       unretired = call.unretired;
       price = λ us vs first second room.
-          c.price_law.ensures.whole c.args.table.now c.work_off.new.table c.args.cache.now.results c.work_off.new.cache.results c.args.u c.args.v us vs _ call.price first second room;
+          c.price_law.ensures.whole c.args.table.now c.work_off.new.table c.args.cache.now.results c.work_off.new.cache.results c.args.u
+          c.args.v us vs _ call.price first second room;
       known = answers.known;
       kept = call.kept;
       remembered = call.remembers.entries;

@@ -52,11 +52,13 @@ returns-clause-answers g c =
     let can = c.requires.can in
     let apart = c.in_default.ensures.conjoined in
     elim (c.look.result) as (λ (r : Option (Node × Just)). c.look.result ≡ r
-    → IfSome r (λ found. Answers g.S.Sink.tells g.S.Sink.channel g.S.Sink.beside table c.args.cache.now u v table c.look.new.self (Ok found))) [
+    → IfSome r (λ found. Answers g.S.Sink.tells g.S.Sink.channel g.S.Sink.beside table c.args.cache.now u v table c.look.new.self
+    (Ok found))) [
       | None ↦ λ is. tt
       | Some found ↦ λ is.
           let own = Conjunction u v found.0 found.1 in
-          let kept : Contains looked own = subst (λ (r : Option (Node × Just)). IfSome r (λ f. Contains looked (Conjunction u v f.0 f.1))) is c.look.ensures.found in
+          let kept : Contains looked own = subst (λ (r : Option (Node × Just)). IfSome r
+          (λ f. Contains looked (Conjunction u v f.0 f.1))) is c.look.ensures.found in
           let there = same_list.back own kept in record {
             call = record {
               conjoined = (can.fits.each own there).1;
@@ -64,9 +66,14 @@ returns-clause-answers g c =
               accounts = c.accounts_law.ensures.same table before looked _ can.sound same_list can.fits;
               unretired = λ id names. can.fits.unretired id (own, there, names);
               kept = λ differ first second. kept;
-              remembers = record { entries = λ entry had. inl (same_list.there entry had); no_fewer = c.look.ensures.looked.no_fewer; capacity = c.look.ensures.looked.capacity };
+              remembers = record {
+                entries = λ entry had. inl (same_list.there entry had);
+                no_fewer = c.look.ensures.looked.no_fewer;
+                capacity = c.look.ensures.looked.capacity;
+              };
               price = c.price_law.ensures.looked table c.args.cache.now.results c.look.new.self.results u v apart.1 apart.2
-                  (λ used front. subst (λ (r : Option (Node × Just)). MatchOption r (IsFalse (is_one used (u, v))) (λ f. StandInFront c.look.new.self (with_used used (u, v)))) is (c.look.ensures.used used front));
+                  (λ used front. subst (λ (r : Option (Node × Just)). MatchOption r (IsFalse (is_one used (u, v)))
+                  (λ f. StandInFront c.look.new.self (with_used used (u, v)))) is (c.look.ensures.used used front));
               made = c.subfunction_law.ensures.none_made table.graph (conjunction_of table.graph u v);
               reachable = c.reach_law.ensures.none_made table.graph found.0;
               lacks = λ error. absurd (no_error error);
@@ -86,7 +93,8 @@ returns-clause-unknown g c missed =
         first = apart.1;
         second = apart.2;
         none = λ w just there. no_found (w, just) (sym missed ∙ c.look.ensures.exact w just there);
-        unused = λ used front. subst (λ (r : Option (Node × Just)). MatchOption r (IsFalse (is_one used (c.args.u, c.args.v))) (λ f. StandInFront c.look.new.self (with_used used (c.args.u, c.args.v)))) missed
+        unused = λ used front. subst (λ (r : Option (Node × Just)). MatchOption r (IsFalse (is_one used (c.args.u, c.args.v)))
+            (λ f. StandInFront c.look.new.self (with_used used (c.args.u, c.args.v)))) missed
             (c.look.ensures.used used front);
       },
     )

@@ -1,3 +1,4 @@
+-- What the loops of `free_slots` keep.
 use Rattle.std.proofs.Common.{◌≡◌, ℕ, None, map, length, get_or}
 use Rattle.clause_ledger.specs.Slots.{clause_in}
 use Rattle.clause_ledger.proofs.chunk.free_slots.Given as goal

@@ -1,3 +1,4 @@
+-- What the loops of `start_clauses` keep.
 use Rattle.std.proofs.Common.{◌≡◌, take}
 use Rattle.lrat_rules.specs.State.{start}
 use Rattle.clause_ledger.proofs.ledger.start_clauses.Given as goal

@@ -1,3 +1,4 @@
+-- What the loops of `grow` keep.
 use Rattle.std.proofs.Common.{◌+◌, ◌-◌, ◌≤◌, length}
 use Rattle.clause_ledger.specs.Chunks.{IsGrown}
 use Rattle.clause_ledger.proofs.live.grow.Given as goal

@@ -1,3 +1,4 @@
+-- What the loops of `has_opposites` keep.
 use Rattle.clause_terms.proofs.Ordered.{NoneAmong}
 use Rattle.clause_terms.proofs.order.has_opposites.Given as goal
 

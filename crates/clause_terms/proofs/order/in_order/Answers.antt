@@ -1,3 +1,4 @@
+-- What is left to show of `in_order`.
 use Rattle.std.proofs.Common.{List, map, subst}
 use Rattle.std.specs.Prelude.{IsPermutation, ℤ}
 use Rattle.std.proofs.lemmas.List.Sorted.{IsPermutation-map}
@@ -12,6 +13,7 @@ returns g c =
     record {
       levels = of_levels_still graph _ _ moved c.in_ok-placed.ensures.levels;
       sorted = c.sort_by_level.ensures.sorted;
-      same = subst (λ (clause : List ℤ). IsPermutation clause (map (literal_at graph) c.sort_by_level.new.placed.items)) c.in_ok-placed.ensures.literals
+      same = subst (λ (clause : List ℤ). IsPermutation clause (map (literal_at graph) c.sort_by_level.new.placed.items))
+          c.in_ok-placed.ensures.literals
           (IsPermutation-map (literal_at graph) _ _ moved);
     }

@@ -1,3 +1,4 @@
+-- What is left to show of `place`.
 use Rattle.std.proofs.Common.{◌∙◌, sym, nat_abs}
 use Rattle.std.specs.Prelude.{nat_lt, nat_le}
 use Rattle.std.proofs.lemmas.Bool.{and_parts, ltb-true, leb-true}

@@ -1,3 +1,4 @@
+-- What the loops of `places` keep.
 use Rattle.std.proofs.Common.{◌≡◌, map, take}
 use Rattle.std.specs.Prelude.{IsTrue}
 use Rattle.clause_terms.specs.Placed.{literal_at, are_of_levels}

@@ -1,3 +1,4 @@
+-- What is left to show of `set_all_back`.
 use Rattle.std.proofs.Common.{◌≡◌, ◌+◌, ◌-◌, ◌<◌, ℕ, Contains, List, length, reverse, take, ap, sym, subst, arith}
 use Rattle.std.specs.Prelude.{slice_index_or}
 use Rattle.std.proofs.lemmas.List.{get_or_default}
@@ -30,7 +31,8 @@ back-preserved g c =
     let more : c.back.place ≡ place + 1 = omega arith in
     record {
       one_each = c.set_back.ensures.one_each;
-      rest = one_back graph c.table_law.ensures.reduced c.table_law.ensures.ordered trail place kept inside (get_or_default trail place kept (0, False) inside)
+      rest = one_back graph c.table_law.ensures.reduced c.table_law.ensures.ordered trail place kept inside
+          (get_or_default trail place kept (0, False) inside)
           before (assignment_of c.set_back.new.values.items) end c.set_back.ensures.set
           (subst (λ (n : ℕ). AreAlike (set_nodes_back graph before (reverse (take n trail))) end) more c.back.invariant.rest);
     }

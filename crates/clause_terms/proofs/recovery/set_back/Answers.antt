@@ -1,3 +1,4 @@
+-- What is left to show of `set_back`.
 use Rattle.std.proofs.Common.{◌≡◌, ◌-◌, ◌≤◌, ℕ, Bool, false, not, List, length, sym, ap, ◌∙◌, subst}
 use Rattle.std.specs.Prelude.{slice_set}
 use Rattle.cnf_base.specs.Truth.{assignment_of}
@@ -16,6 +17,8 @@ returns-clause-set g c =
     let cleared : List Bool = slice_set values (x - 1) false in
     let within : x ≤ length values = subst (λ (n : ℕ). x ≤ n) (sym c.requires.one_each) c.requires.within in
     let asked : c.value-is_true.result ≡ value_of graph (by_level graph.order (assignment_of cleared)) node =
-    c.value-is_true.ensures ∙ ap (λ (list : List Bool). value_of graph (by_level graph.order (assignment_of list)) node) c.as_slice.ensures.value in
-    subst (λ (t : Bool). AreAlike (assignment_of (slice_set cleared (x - 1) (not t))) (set_node_back graph (assignment_of values) (x, node))) (sym asked)
+    c.value-is_true.ensures
+    ∙ ap (λ (list : List Bool). value_of graph (by_level graph.order (assignment_of list)) node) c.as_slice.ensures.value in
+    subst (λ (t : Bool). AreAlike (assignment_of (slice_set cleared (x - 1) (not t)))
+    (set_node_back graph (assignment_of values) (x, node))) (sym asked)
     (set_in_place graph c.table_law.ensures.reduced c.table_law.ensures.ordered values x node c.requires.some within)

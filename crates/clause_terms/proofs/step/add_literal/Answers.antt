@@ -1,3 +1,4 @@
+-- What is left to show of `add_literal`.
 use Rattle.std.proofs.Common.{◌≡◌, Err, List, ◌∷◌, reverse, sym, ap, subst}
 use Rattle.hint_chain.specs.declared.unit.UnitPart.{UnitPart}
 use Rattle.node_table.specs.declared.error.TableError.TheVariants.{NodeLimit, OutOfMemory, WriteFault}
@@ -21,12 +22,16 @@ returns-clause-diagram g c = λ more before diagram.
     let placed = c.args.placed.now in
     let steps = c.in_ok-node.ensures.steps in
     let tied : IsTied table.graph table.book.state = steps.leaves.sound.tied in
-    let path : reverse c.push_part.new.path.items ≡ part_of table.graph placed (branch_of table.graph node) ∷ reverse c.args.path.now.items =
-    reverse_more c.args.path.now.items c.push_part.new.path.items c.part_of-part.result (part_of table.graph placed (branch_of table.graph node)) c.in_ok-push_part.ensures c.part_of-part.ensures in
+    let path : reverse c.push_part.new.path.items ≡ part_of table.graph placed (branch_of table.graph node)
+    ∷ reverse c.args.path.now.items =
+    reverse_more c.args.path.now.items c.push_part.new.path.items c.part_of-part.result
+    (part_of table.graph placed (branch_of table.graph node)) c.in_ok-push_part.ensures c.part_of-part.ensures in
     subst (λ (items : List UnitPart). IsDiagramOf table.graph table.book.state.live (placed ∷ more) node items) (sym path)
-    (added c.unit_path_law.ensures.last c.unit_path_law.ensures.on_top c.unit_path_law.ensures.kept c.cofactor_law.ensures c.growth_law.ensures
+    (added c.unit_path_law.ensures.last c.unit_path_law.ensures.on_top c.unit_path_law.ensures.kept c.cofactor_law.ensures
+    c.growth_law.ensures
     old.graph table.graph old.book.state.live table.book.state.live c.requires.sound.tied.reduced tied.reduced tied.ordered
-    steps.extends.nodes steps.extends.clauses tied.defined placed more before c.args.below node (reverse c.args.path.now.items) c.requires.level c.requires.below.stands c.requires.not_true diagram c.in_ok-node.ensures.children)
+    steps.extends.nodes steps.extends.clauses tied.defined placed more before c.args.below node
+    (reverse c.args.path.now.items) c.requires.level c.requires.below.stands c.requires.not_true diagram c.in_ok-node.ensures.children)
 
 pub returns-clause-steps : goal.returns-clause-steps
 returns-clause-steps g c = c.in_ok-node.ensures.steps
@@ -35,7 +40,8 @@ pub returns-in_err-node-clause-steps : goal.returns-in_err-node-clause-steps
 returns-in_err-node-clause-steps g c = steps_handed_on _ c.in_err-node.field-0.0 c.from_residual.ensures.1 c.in_err-node.ensures.steps
 
 pub returns-in_err-push_part-clause-steps : goal.returns-in_err-push_part-clause-steps
-returns-in_err-push_part-clause-steps g c = steps_handed_on _ OutOfMemory c.from_residual-in_err-push_part.ensures.1 (steps_kept c.in_ok-node.ensures.steps)
+returns-in_err-push_part-clause-steps g c = steps_handed_on _ OutOfMemory c.from_residual-in_err-push_part.ensures.1
+    (steps_kept c.in_ok-node.ensures.steps)
 
 pub returns-in_err-node-clause-lacks : goal.returns-in_err-node-clause-lacks
 returns-in_err-node-clause-lacks g c more value full =
@@ -57,7 +63,8 @@ pub returns-clause-none_added : goal.returns-clause-none_added
 returns-clause-none_added g c whole = c.in_ok-node.ensures.none_added no_error
 
 pub returns-in_err-node-clause-none_added : goal.returns-in_err-node-clause-none_added
-returns-in_err-node-clause-none_added g c whole = c.in_err-node.ensures.none_added (other_cause _ c.in_err-node.field-0.0 WriteFault c.from_residual.ensures.1 whole)
+returns-in_err-node-clause-none_added g c whole = c.in_err-node.ensures.none_added
+    (other_cause _ c.in_err-node.field-0.0 WriteFault c.from_residual.ensures.1 whole)
 
 pub returns-in_err-push_part-clause-none_added : goal.returns-in_err-push_part-clause-none_added
 returns-in_err-push_part-clause-none_added g c whole = c.in_ok-node.ensures.none_added no_error

@@ -1,3 +1,4 @@
+-- What is left to show of `take_literal`.
 use Rattle.std.proofs.Common.{◌≡◌, ◌+◌, List, ◌∷◌, drop, reverse, false, sym, subst}
 use Rattle.std.specs.Prelude.{IfOk, slice_index_or}
 use Rattle.std.proofs.lemmas.List.{drop_more}
@@ -18,43 +19,53 @@ add_literal-requires-clause-below g c =
     let graph = c.args.table.now.graph in
     below_first graph c.args.table.now.book.state.live (slice_index_or placed c.args.i no_placed).level
     (level_within graph placed c.args.i no_placed c.requires.index c.requires.levels) (drop (c.args.i + 1) placed)
-    (before_rest placed c.args.i no_placed c.requires.index c.requires.sorted (c.is_repeated.ensures.other c.if-is_repeated.false no_placed))
+    (before_rest placed c.args.i no_placed c.requires.index c.requires.sorted
+    (c.is_repeated.ensures.other c.if-is_repeated.false no_placed))
     c.args.below (reverse c.args.path.now.items) c.requires.diagram
 
 pub add_literal-requires-clause-not_true : goal.add_literal-requires-clause-not_true
 add_literal-requires-clause-not_true g c =
-    never_true c.args.table.now.graph c.args.table.now.book.state.live (drop (c.args.i + 1) c.args.placed.now) c.args.below (reverse c.args.path.now.items) c.requires.diagram
+    never_true c.args.table.now.graph c.args.table.now.book.state.live (drop (c.args.i + 1) c.args.placed.now) c.args.below
+    (reverse c.args.path.now.items) c.requires.diagram
 
 pub returns-then-is_repeated-clause-diagram : goal.returns-then-is_repeated-clause-diagram
 returns-then-is_repeated-clause-diagram g c =
     let same = c.is_repeated.ensures.same c.if-is_repeated.true no_placed in
-    skipped c.unit_path_law.ensures.same_set c.args.table.now.graph c.args.table.now.book.state.live c.args.placed.now c.args.i no_placed same.0 c.requires.signs same.1
+    skipped c.unit_path_law.ensures.same_set c.args.table.now.graph c.args.table.now.book.state.live c.args.placed.now c.args.i no_placed
+    same.0 c.requires.signs same.1
     c.args.below (reverse c.args.path.now.items) c.requires.diagram
 
 pub returns-clause-made : goal.returns-clause-made
 returns-clause-made g c =
     let placed = c.args.placed.now in
-    let rest : drop c.args.i placed ≡ slice_index_or placed c.args.i no_placed ∷ drop (c.args.i + 1) placed = drop_more placed c.args.i no_placed c.requires.index in
+    let rest : drop c.args.i placed ≡ slice_index_or placed c.args.i no_placed
+    ∷ drop (c.args.i + 1) placed = drop_more placed c.args.i no_placed c.requires.index in
     subst (λ (list : List Placed). MakesOnly c.args.table.now.graph c.add_literal.new.table.graph (placed_function list)) (sym rest)
     (c.add_literal.ensures.made (drop (c.args.i + 1) placed) c.requires.diagram.value)
 
 pub returns-clause-lacks : goal.returns-clause-lacks
 returns-clause-lacks g c full =
     let placed = c.args.placed.now in
-    let rest : drop c.args.i placed ≡ slice_index_or placed c.args.i no_placed ∷ drop (c.args.i + 1) placed = drop_more placed c.args.i no_placed c.requires.index in
+    let rest : drop c.args.i placed ≡ slice_index_or placed c.args.i no_placed
+    ∷ drop (c.args.i + 1) placed = drop_more placed c.args.i no_placed c.requires.index in
     subst (λ (list : List Placed). LacksPart c.add_literal.new.table.graph (placed_function list)) (sym rest)
     (c.add_literal.ensures.lacks (drop (c.args.i + 1) placed) c.requires.diagram.value full)
 
 pub returns-clause-diagram : goal.returns-clause-diagram
 returns-clause-diagram g c =
     let placed = c.args.placed.now in
-    let rest : drop c.args.i placed ≡ slice_index_or placed c.args.i no_placed ∷ drop (c.args.i + 1) placed = drop_more placed c.args.i no_placed c.requires.index in
-    let before = before_rest placed c.args.i no_placed c.requires.index c.requires.sorted (c.is_repeated.ensures.other c.if-is_repeated.false no_placed) in
-    subst (λ (list : List Placed). IfOk c.add_literal.result (λ node. IsDiagramOf c.add_literal.new.table.graph c.add_literal.new.table.book.state.live list node (reverse c.add_literal.new.path.items))) (sym rest)
+    let rest : drop c.args.i placed ≡ slice_index_or placed c.args.i no_placed
+    ∷ drop (c.args.i + 1) placed = drop_more placed c.args.i no_placed c.requires.index in
+    let before = before_rest placed c.args.i no_placed c.requires.index c.requires.sorted
+    (c.is_repeated.ensures.other c.if-is_repeated.false no_placed) in
+    subst (λ (list : List Placed). IfOk c.add_literal.result (λ node.
+    IsDiagramOf c.add_literal.new.table.graph c.add_literal.new.table.book.state.live list node (reverse c.add_literal.new.path.items)))
+    (sym rest)
     (c.add_literal.ensures.diagram (drop (c.args.i + 1) placed) before c.requires.diagram)
 
 pub returns-then-is_repeated-clause-made : goal.returns-then-is_repeated-clause-made
-returns-then-is_repeated-clause-made g c = c.subfunction_law.ensures.none_made c.args.table.now.graph (placed_function (drop c.args.i c.args.placed.now))
+returns-then-is_repeated-clause-made g c = c.subfunction_law.ensures.none_made c.args.table.now.graph
+    (placed_function (drop c.args.i c.args.placed.now))
 
 pub returns-then-is_repeated-clause-steps : goal.returns-then-is_repeated-clause-steps
 returns-then-is_repeated-clause-steps g c = c.steps_law.ensures.none c.args.table.now c.requires.sound

@@ -1,3 +1,4 @@
+-- What is left to show of `add_unit`.
 use Rattle.std.proofs.Common.{arith}
 use Rattle.node_table.specs.declared.error.TableError.TheVariants.{OutOfMemory}
 use Rattle.clause_terms.proofs.Handed.{steps_handed_on}

@@ -1,3 +1,4 @@
+-- What is left to show of `build`.
 use Rattle.std.proofs.Common.{◌∙◌, None, Err, ap, ◌-◌, drop, arith}
 use Rattle.node_table.specs.Value.{IsSubfunction}
 use Rattle.node_table.specs.declared.error.TableError.TheVariants.{NodeLimit, WriteFault}
@@ -23,10 +24,13 @@ returns-in_err-node-clause-made g c =
     let mid = c.literals.table in
     let new = c.take_literal.new.table in
     let part : IsSubfunction (placed_function placed) (placed_function (drop (c.literals.i - 1) placed)) =
-    later_part c.subfunction_law.ensures (c.literals.i - 1) placed (omega (arith, c.literals.invariant.within, c.literals-test.true)) c.requires.sorted c.requires.signs in
-    c.subfunction_law.ensures.made_further old.graph mid.graph new.graph c.literals.invariant.steps.leaves.sound.tied.reduced c.in_err-node.ensures.steps.extends.nodes
+    later_part c.subfunction_law.ensures (c.literals.i - 1) placed
+    (omega (arith, c.literals.invariant.within, c.literals-test.true)) c.requires.sorted c.requires.signs in
+    c.subfunction_law.ensures.made_further old.graph mid.graph new.graph c.literals.invariant.steps.leaves.sound.tied.reduced
+    c.in_err-node.ensures.steps.extends.nodes
     (placed_function placed) c.literals.invariant.made
-    (c.subfunction_law.ensures.made_for_part mid.graph new.graph (placed_function placed) (placed_function (drop (c.literals.i - 1) placed)) part c.in_err-node.ensures.made)
+    (c.subfunction_law.ensures.made_for_part mid.graph new.graph (placed_function placed)
+    (placed_function (drop (c.literals.i - 1) placed)) part c.in_err-node.ensures.made)
 
 pub literals-preserved : goal.literals-preserved
 literals-preserved g c =
@@ -36,14 +40,18 @@ literals-preserved g c =
     let new = c.take_literal.new.table in
     let channel = g.S.Sink.channel in
     let part : IsSubfunction (placed_function placed) (placed_function (drop (c.literals.i - 1) placed)) =
-    later_part c.subfunction_law.ensures (c.literals.i - 1) placed (omega (arith, c.literals.invariant.within, c.literals-test.true)) c.requires.sorted c.requires.signs in
+    later_part c.subfunction_law.ensures (c.literals.i - 1) placed
+    (omega (arith, c.literals.invariant.within, c.literals-test.true)) c.requires.sorted c.requires.signs in
     record {
       within = omega (arith, c.literals.invariant.within);
       diagram = c.in_ok-node.ensures.diagram;
-      made = c.subfunction_law.ensures.made_further old.graph mid.graph new.graph c.literals.invariant.steps.leaves.sound.tied.reduced c.in_ok-node.ensures.steps.extends.nodes
+      made = c.subfunction_law.ensures.made_further old.graph mid.graph new.graph c.literals.invariant.steps.leaves.sound.tied.reduced
+          c.in_ok-node.ensures.steps.extends.nodes
           (placed_function placed) c.literals.invariant.made
-          (c.subfunction_law.ensures.made_for_part mid.graph new.graph (placed_function placed) (placed_function (drop (c.literals.i - 1) placed)) part c.in_ok-node.ensures.made);
-      steps = c.steps_law.ensures.further (channel old.book.sink) (channel mid.book.sink) (channel new.book.sink) old mid new 0 0 None c.literals.invariant.steps c.in_ok-node.ensures.steps;
+          (c.subfunction_law.ensures.made_for_part mid.graph new.graph (placed_function placed)
+          (placed_function (drop (c.literals.i - 1) placed)) part c.in_ok-node.ensures.made);
+      steps = c.steps_law.ensures.further (channel old.book.sink) (channel mid.book.sink)
+          (channel new.book.sink) old mid new 0 0 None c.literals.invariant.steps c.in_ok-node.ensures.steps;
       none_added = λ id own. c.literals.invariant.none_added id (c.in_ok-node.ensures.none_added no_error id own);
       retired = c.in_ok-node.ensures.retired ∙ c.literals.invariant.retired;
       beside = c.in_ok-node.ensures.beside ∙ c.literals.invariant.beside;
@@ -53,8 +61,10 @@ pub returns-in_err-node-clause-lacks : goal.returns-in_err-node-clause-lacks
 returns-in_err-node-clause-lacks g c full =
     let placed = c.args.placed.now in
     let part : IsSubfunction (placed_function placed) (placed_function (drop (c.literals.i - 1) placed)) =
-    later_part c.subfunction_law.ensures (c.literals.i - 1) placed (omega (arith, c.literals.invariant.within, c.literals-test.true)) c.requires.sorted c.requires.signs in
-    lacked_whole c.subfunction_law.ensures c.take_literal.new.table.graph (placed_function placed) (placed_function (drop (c.literals.i - 1) placed)) part
+    later_part c.subfunction_law.ensures (c.literals.i - 1) placed
+    (omega (arith, c.literals.invariant.within, c.literals-test.true)) c.requires.sorted c.requires.signs in
+    lacked_whole c.subfunction_law.ensures c.take_literal.new.table.graph (placed_function placed)
+    (placed_function (drop (c.literals.i - 1) placed)) part
     (c.in_err-node.ensures.lacks (ap Err (came_from _ c.in_err-node.field-0.0 NodeLimit c.from_residual.ensures.1 full)))
 
 pub returns-in_err-node-clause-diagram : goal.returns-in_err-node-clause-diagram
@@ -77,4 +87,5 @@ returns-clause-none_added g c whole = c.literals.invariant.none_added
 
 pub returns-in_err-node-clause-none_added : goal.returns-in_err-node-clause-none_added
 returns-in_err-node-clause-none_added g c whole id own =
-    c.literals.invariant.none_added id (c.in_err-node.ensures.none_added (other_cause _ c.in_err-node.field-0.0 WriteFault c.from_residual.ensures.1 whole) id own)
+    c.literals.invariant.none_added id (c.in_err-node.ensures.none_added
+    (other_cause _ c.in_err-node.field-0.0 WriteFault c.from_residual.ensures.1 whole) id own)

@@ -1,3 +1,4 @@
+-- What the loops of `build` keep.
 use Rattle.std.proofs.Common.{◌≡◌, ◌≤◌, None, drop, length, reverse}
 use Rattle.node_table.specs.Made.{MakesOnly}
 use Rattle.node_table.specs.Progress.{Steps}

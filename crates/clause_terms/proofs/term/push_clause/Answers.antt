@@ -1,4 +1,6 @@
-use Rattle.std.proofs.Common.{◌≡◌, ◌∙◌, ℕ, ℤ, true, false, Option, None, Some, Err, is_some, refl, ap, List, [], ◌∷◌, inl, inr, sym, subst, arith}
+-- What is left to show of `push_clause`.
+use Rattle.std.proofs.Common.{◌≡◌, ◌∙◌, ℕ, ℤ, true, false, Option, None, Some, Err, is_some, refl, ap, List, [], ◌∷◌, inl, inr, sym, subst}
+use Rattle.std.proofs.Common.{arith}
 use Rattle.std.proofs.lemmas.Bool.{cases_lt}
 use Rattle.lrat_rules.specs.State.{clause_at}
 use Rattle.hint_chain.specs.declared.unit.UnitPart.{UnitPart}
@@ -39,14 +41,18 @@ no_fault is = cc
 pub returns-then-has_opposites-clause-term : goal.returns-then-has_opposites-clause-term
 returns-then-has_opposites-clause-term g c =
     let placed = c.as_slice.result.now in
-    let in_order : AreInOrder c.args.table.now.graph c.args.clause.now placed = subst (AreInOrder c.args.table.now.graph c.args.clause.now) (sym c.as_slice.ensures.value) c.in_ok-placed.ensures in
-    true_term c.args.table.now.graph c.table_law.ensures.ordered c.args.table.now.book.state.live c.args.clause.now placed in_order (c.has_opposites.ensures.holds c.if-has_opposites.true)
+    let in_order : AreInOrder c.args.table.now.graph c.args.clause.now placed = subst (AreInOrder c.args.table.now.graph c.args.clause.now)
+    (sym c.as_slice.ensures.value) c.in_ok-placed.ensures in
+    true_term c.args.table.now.graph c.table_law.ensures.ordered c.args.table.now.book.state.live c.args.clause.now placed in_order
+    (c.has_opposites.ensures.holds c.if-has_opposites.true)
 
 pub returns-in_err-node-clause-tautology : goal.returns-in_err-node-clause-tautology
 returns-in_err-node-clause-tautology g c tautology =
     let placed = c.as_slice.result.now in
-    let in_order : AreInOrder c.args.table.now.graph c.args.clause.now placed = subst (AreInOrder c.args.table.now.graph c.args.clause.now) (sym c.as_slice.ensures.value) c.in_ok-placed.ensures in
-    absurd (no_tautology c.args.table.now.graph c.table_law.ensures.ordered c.args.clause.now placed in_order (c.has_opposites.ensures.none c.if-has_opposites.false) tautology)
+    let in_order : AreInOrder c.args.table.now.graph c.args.clause.now placed = subst (AreInOrder c.args.table.now.graph c.args.clause.now)
+    (sym c.as_slice.ensures.value) c.in_ok-placed.ensures in
+    absurd (no_tautology c.args.table.now.graph c.table_law.ensures.ordered c.args.clause.now placed in_order
+    (c.has_opposites.ensures.none c.if-has_opposites.false) tautology)
 
 pub add_unit-requires-clause-path : goal.add_unit-requires-clause-path
 add_unit-requires-clause-path g c =
@@ -54,10 +60,13 @@ add_unit-requires-clause-path g c =
     let mid = c.build.new.table in
     let placed = c.as_slice-2.result.now in
     let clause = c.args.clause.now in
-    let in_order : AreInOrder old.graph clause placed = subst (AreInOrder old.graph clause) (sym c.as_slice-2.ensures.value) c.in_ok-placed.ensures in
+    let in_order : AreInOrder old.graph clause placed = subst (AreInOrder old.graph clause)
+    (sym c.as_slice-2.ensures.value) c.in_ok-placed.ensures in
     let steps = c.in_ok-node.ensures.steps in
-    subst (λ (path : List UnitPart). HasUnitPath mid.graph mid.book.state.live c.in_ok-node.node path c.args.input) (sym c.as_slice-3.ensures.value)
-    (unit_path c.unit_path_law.ensures.same_set mid.graph mid.book.state.live clause placed c.in_ok-node.node c.in_ok-node.path.items c.args.input
+    subst (λ (path : List UnitPart). HasUnitPath mid.graph mid.book.state.live c.in_ok-node.node path c.args.input)
+    (sym c.as_slice-3.ensures.value)
+    (unit_path c.unit_path_law.ensures.same_set mid.graph mid.book.state.live clause placed c.in_ok-node.node c.in_ok-node.path.items
+    c.args.input
     (still_in_order old.graph mid.graph steps.extends.nodes.order clause placed in_order) c.requires.some c.in_ok-node.ensures.diagram
     (steps.extends.clauses c.args.input clause c.requires.live))
 
@@ -65,7 +74,8 @@ pub returns-in_err-node-clause-made : goal.returns-in_err-node-clause-made
 returns-in_err-node-clause-made g c =
     let clause = c.args.clause.now in
     let placed = c.as_slice-2.result.now in
-    let in_order : AreInOrder c.args.table.now.graph clause placed = subst (AreInOrder c.args.table.now.graph clause) (sym c.as_slice-2.ensures.value) c.in_ok-placed.ensures in
+    let in_order : AreInOrder c.args.table.now.graph clause placed = subst (AreInOrder c.args.table.now.graph clause)
+    (sym c.as_slice-2.ensures.value) c.in_ok-placed.ensures in
     by_values c.args.table.now.graph c.build.new.table.graph (placed_function placed) (clause_function c.args.table.now.graph.order clause)
     (λ a. sym (same_function c.args.table.now.graph c.table_law.ensures.ordered clause placed in_order a))
     c.in_err-node.ensures.made
@@ -77,7 +87,8 @@ returns-in_err-id-clause-made g c =
     let placed = c.as_slice-2.result.now in
     let in_order : AreInOrder old clause placed = subst (AreInOrder old clause) (sym c.as_slice-2.ensures.value) c.in_ok-placed.ensures in
     subst (λ (new : Graph). MakesOnly old new (clause_function old.order clause)) (sym c.in_err-id.ensures.nodes)
-    (by_values old c.build.new.table.graph (placed_function placed) (clause_function old.order clause) (λ a. sym (same_function old c.table_law.ensures.ordered clause placed in_order a))
+    (by_values old c.build.new.table.graph (placed_function placed) (clause_function old.order clause)
+    (λ a. sym (same_function old c.table_law.ensures.ordered clause placed in_order a))
     c.in_ok-node.ensures.made)
 
 pub returns-clause-made : goal.returns-clause-made
@@ -87,14 +98,17 @@ returns-clause-made g c =
     let placed = c.as_slice-2.result.now in
     let in_order : AreInOrder old clause placed = subst (AreInOrder old clause) (sym c.as_slice-2.ensures.value) c.in_ok-placed.ensures in
     subst (λ (new : Graph). MakesOnly old new (clause_function old.order clause)) (sym c.in_ok-id.ensures.nodes)
-    (by_values old c.build.new.table.graph (placed_function placed) (clause_function old.order clause) (λ a. sym (same_function old c.table_law.ensures.ordered clause placed in_order a))
+    (by_values old c.build.new.table.graph (placed_function placed) (clause_function old.order clause)
+    (λ a. sym (same_function old c.table_law.ensures.ordered clause placed in_order a))
     c.in_ok-node.ensures.made)
 
 pub returns-in_err-id-clause-tautology : goal.returns-in_err-id-clause-tautology
 returns-in_err-id-clause-tautology g c tautology =
     let placed = c.as_slice.result.now in
-    let in_order : AreInOrder c.args.table.now.graph c.args.clause.now placed = subst (AreInOrder c.args.table.now.graph c.args.clause.now) (sym c.as_slice.ensures.value) c.in_ok-placed.ensures in
-    absurd (no_tautology c.args.table.now.graph c.table_law.ensures.ordered c.args.clause.now placed in_order (c.has_opposites.ensures.none c.if-has_opposites.false) tautology)
+    let in_order : AreInOrder c.args.table.now.graph c.args.clause.now placed = subst (AreInOrder c.args.table.now.graph c.args.clause.now)
+    (sym c.as_slice.ensures.value) c.in_ok-placed.ensures in
+    absurd (no_tautology c.args.table.now.graph c.table_law.ensures.ordered c.args.clause.now placed in_order
+    (c.has_opposites.ensures.none c.if-has_opposites.false) tautology)
 
 pub returns-clause-term : goal.returns-clause-term
 returns-clause-term g c =
@@ -105,21 +119,26 @@ returns-clause-term g c =
     let clause = c.args.clause.now in
     let node = c.in_ok-node.node in
     let id = c.in_ok-id.id in
-    let in_order : AreInOrder old.graph clause placed = subst (AreInOrder old.graph clause) (sym c.as_slice-2.ensures.value) c.in_ok-placed.ensures in
+    let in_order : AreInOrder old.graph clause placed = subst (AreInOrder old.graph clause)
+    (sym c.as_slice-2.ensures.value) c.in_ok-placed.ensures in
     let steps = c.in_ok-node.ensures.steps in
     let there = still_in_order old.graph mid.graph steps.extends.nodes.order clause placed in_order in
     let path : HasUnitPath mid.graph mid.book.state.live node c.in_ok-node.path.items c.args.input =
     unit_path c.unit_path_law.ensures.same_set mid.graph mid.book.state.live clause placed node c.in_ok-node.path.items c.args.input
     there c.requires.some c.in_ok-node.ensures.diagram (steps.extends.clauses c.args.input clause c.requires.live) in
     subst (λ (graph : Graph). IsTerm graph new.book.state.live (λ a. clause_holds a clause) node (Clause id)) (sym c.in_ok-id.ensures.nodes)
-    (clause_term mid.graph steps.leaves.sound.tied.ordered mid.book.state.live new.book.state.live clause placed node c.in_ok-node.path.items there c.in_ok-node.ensures.diagram path.branch path.stands id
-    (subst (λ (graph : Graph). IsJustified new.book.state.live (atom_of graph node ∷ []) (Clause id)) c.in_ok-id.ensures.nodes c.in_ok-id.ensures.proved))
+    (clause_term mid.graph steps.leaves.sound.tied.ordered mid.book.state.live new.book.state.live clause placed node
+    c.in_ok-node.path.items there c.in_ok-node.ensures.diagram path.branch path.stands id
+    (subst (λ (graph : Graph). IsJustified new.book.state.live (atom_of graph node
+    ∷ []) (Clause id)) c.in_ok-id.ensures.nodes c.in_ok-id.ensures.proved))
 
 pub returns-clause-tautology : goal.returns-clause-tautology
 returns-clause-tautology g c tautology =
     let placed = c.as_slice.result.now in
-    let in_order : AreInOrder c.args.table.now.graph c.args.clause.now placed = subst (AreInOrder c.args.table.now.graph c.args.clause.now) (sym c.as_slice.ensures.value) c.in_ok-placed.ensures in
-    absurd (no_tautology c.args.table.now.graph c.table_law.ensures.ordered c.args.clause.now placed in_order (c.has_opposites.ensures.none c.if-has_opposites.false) tautology)
+    let in_order : AreInOrder c.args.table.now.graph c.args.clause.now placed = subst (AreInOrder c.args.table.now.graph c.args.clause.now)
+    (sym c.as_slice.ensures.value) c.in_ok-placed.ensures in
+    absurd (no_tautology c.args.table.now.graph c.table_law.ensures.ordered c.args.clause.now placed in_order
+    (c.has_opposites.ensures.none c.if-has_opposites.false) tautology)
 
 pub returns-in_err-node-clause-lacks : goal.returns-in_err-node-clause-lacks
 returns-in_err-node-clause-lacks g c full =
@@ -127,7 +146,8 @@ returns-in_err-node-clause-lacks g c full =
     let clause = c.args.clause.now in
     let placed = c.as_slice-2.result.now in
     let in_order : AreInOrder old clause placed = subst (AreInOrder old clause) (sym c.as_slice-2.ensures.value) c.in_ok-placed.ensures in
-    lacked_by_values c.build.new.table.graph (placed_function placed) (clause_function old.order clause) (λ a. sym (same_function old c.table_law.ensures.ordered clause placed in_order a))
+    lacked_by_values c.build.new.table.graph (placed_function placed) (clause_function old.order clause)
+    (λ a. sym (same_function old c.table_law.ensures.ordered clause placed in_order a))
     (c.in_err-node.ensures.lacks (ap Err (came_from _ c.in_err-node.field-0.0 NodeLimit c.from_residual-in_err-node.ensures.1 full)))
 
 pub returns-clause-last : goal.returns-clause-last
@@ -148,13 +168,15 @@ pub returns-in_err-id-clause-last : goal.returns-in_err-id-clause-last
 returns-in_err-id-clause-last g c = no_answer _ c.in_err-id.field-0.0 _ c.from_residual-in_err-id.ensures.1
 
 pub returns-in_err-id-clause-lacks : goal.returns-in_err-id-clause-lacks
-returns-in_err-id-clause-lacks g c is = absurd (c.in_err-id.ensures.no_node_limit (ap Err (came_from _ c.in_err-id.field-0.0 NodeLimit c.from_residual-in_err-id.ensures.1 is)))
+returns-in_err-id-clause-lacks g c is = absurd (c.in_err-id.ensures.no_node_limit
+    (ap Err (came_from _ c.in_err-id.field-0.0 NodeLimit c.from_residual-in_err-id.ensures.1 is)))
 
 pub returns-in_err-id-clause-beside : goal.returns-in_err-id-clause-beside
 returns-in_err-id-clause-beside g c = c.in_err-id.ensures.beside ∙ c.in_ok-node.ensures.beside
 
 pub returns-then-has_opposites-clause-made : goal.returns-then-has_opposites-clause-made
-returns-then-has_opposites-clause-made g c = c.subfunction_law.ensures.none_made c.args.table.now.graph (clause_function c.args.table.now.graph.order c.args.clause.now)
+returns-then-has_opposites-clause-made g c = c.subfunction_law.ensures.none_made c.args.table.now.graph
+    (clause_function c.args.table.now.graph.order c.args.clause.now)
 
 pub returns-then-has_opposites-clause-lacks : goal.returns-then-has_opposites-clause-lacks
 returns-then-has_opposites-clause-lacks g c is = absurd (no_error is)
@@ -172,7 +194,8 @@ pub returns-in_err-placed-clause-last : goal.returns-in_err-placed-clause-last
 returns-in_err-placed-clause-last g c = no_answer _ OutOfMemory _ c.from_residual.ensures.1
 
 pub returns-in_err-placed-clause-made : goal.returns-in_err-placed-clause-made
-returns-in_err-placed-clause-made g c = c.subfunction_law.ensures.none_made c.args.table.now.graph (clause_function c.args.table.now.graph.order c.args.clause.now)
+returns-in_err-placed-clause-made g c = c.subfunction_law.ensures.none_made c.args.table.now.graph
+    (clause_function c.args.table.now.graph.order c.args.clause.now)
 
 pub returns-in_err-placed-clause-lacks : goal.returns-in_err-placed-clause-lacks
 returns-in_err-placed-clause-lacks g c is = absurd (memory_not_nodes _ c.from_residual.ensures.1 is)
@@ -224,7 +247,8 @@ returns-clause-alone g c id added =
           let within = (c.in_ok-id.ensures.steps.leaves.sound.tied.numbers id clause.0 clause.1).1 in
           let is : c.in_ok-id.id ≡ id = omega (arith, above, within, one.0, one.1) in
           inr (ap Clause is)
-      | inr within ↦ inl (c.in_ok-node.ensures.none_added no_error id (c.steps_law.ensures.was_added mid new c.in_ok-id.ensures.steps.extends id within added))
+      | inr within ↦ inl (c.in_ok-node.ensures.none_added no_error id
+          (c.steps_law.ensures.was_added mid new c.in_ok-id.ensures.steps.extends id within added))
     ]
 
 pub returns-clause-none_added : goal.returns-clause-none_added
@@ -256,7 +280,8 @@ returns-in_err-node-clause-alone g c = no_answer _ c.in_err-node.field-0.0 _ c.f
 
 pub returns-in_err-node-clause-none_added : goal.returns-in_err-node-clause-none_added
 returns-in_err-node-clause-none_added g c is =
-    c.in_err-node.ensures.none_added (λ torn. no_fault (sym (came_from _ c.in_err-node.field-0.0 NodeLimit c.from_residual-in_err-node.ensures.1 is) ∙ same_error torn))
+    c.in_err-node.ensures.none_added
+    (λ torn. no_fault (sym (came_from _ c.in_err-node.field-0.0 NodeLimit c.from_residual-in_err-node.ensures.1 is) ∙ same_error torn))
 
 pub returns-in_err-id-clause-own : goal.returns-in_err-id-clause-own
 returns-in_err-id-clause-own g c = no_answer _ c.in_err-id.field-0.0 _ c.from_residual-in_err-id.ensures.1
@@ -265,4 +290,5 @@ pub returns-in_err-id-clause-alone : goal.returns-in_err-id-clause-alone
 returns-in_err-id-clause-alone g c = no_answer _ c.in_err-id.field-0.0 _ c.from_residual-in_err-id.ensures.1
 
 pub returns-in_err-id-clause-none_added : goal.returns-in_err-id-clause-none_added
-returns-in_err-id-clause-none_added g c is = absurd (c.in_err-id.ensures.no_node_limit (ap Err (came_from _ c.in_err-id.field-0.0 NodeLimit c.from_residual-in_err-id.ensures.1 is)))
+returns-in_err-id-clause-none_added g c is = absurd (c.in_err-id.ensures.no_node_limit
+    (ap Err (came_from _ c.in_err-id.field-0.0 NodeLimit c.from_residual-in_err-id.ensures.1 is)))

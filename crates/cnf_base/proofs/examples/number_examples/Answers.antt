@@ -1,3 +1,4 @@
+-- What is left to show of `number_examples`.
 use Rattle.std.proofs.Common.{refl}
 use Rattle.cnf_base.proofs.examples.number_examples.Goals as goal
 

@@ -1,3 +1,4 @@
+-- What is left to show of `proof_example`.
 use Rattle.std.proofs.Common.{refl}
 use Rattle.cnf_base.proofs.examples.proof_example.Goals as goal
 

@@ -1,3 +1,4 @@
+-- What is left to show of `step_examples`.
 use Rattle.std.proofs.Common.{refl}
 use Rattle.std.specs.Fmt.{digits}
 use Rattle.cnf_base.proofs.examples.step_examples.Goals as goal

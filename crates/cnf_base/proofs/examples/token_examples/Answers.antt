@@ -1,3 +1,4 @@
+-- What is left to show of `token_examples`.
 use Rattle.std.proofs.Common.{refl}
 use Rattle.cnf_base.proofs.examples.token_examples.Goals as goal
 

@@ -1,3 +1,4 @@
+-- What is left to show of `number_laws`.
 use Rattle.cnf_base.proofs.NumberLemmas.{plain_number-decimal, signed_number-signed_decimal}
 use Rattle.cnf_base.proofs.laws.number_laws.Goals as goal
 

@@ -1,3 +1,4 @@
+-- What is left to show of `one_more_line_law`.
 use Rattle.cnf_base.proofs.ProofTextLemmas.{proof_lines-line, whole-line, line_ends-step, first_byte}
 use Rattle.cnf_base.proofs.laws.one_more_line_law.Goals as goal
 

@@ -1,3 +1,4 @@
+-- What is left to show of `step_line_law`.
 use Rattle.cnf_base.proofs.ProofTextLemmas.{words_of-line, step_of-words, step_of-line}
 use Rattle.cnf_base.proofs.laws.step_line_law.Goals as goal
 

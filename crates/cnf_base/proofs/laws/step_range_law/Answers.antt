@@ -1,3 +1,4 @@
+-- What is left to show of `step_range_law`.
 use Rattle.cnf_base.specs.declared.step.Step.TheVariants.{Delete}
 use Rattle.std.proofs.lemmas.Bool.{and_parts}
 use Rattle.cnf_base.proofs.ProofTextLemmas.{printable_of_words, addition_parts}

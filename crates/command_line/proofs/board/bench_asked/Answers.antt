@@ -1,3 +1,4 @@
+-- What is left to show of `bench_asked`.
 use Rattle.std.proofs.Common.{rules, None, Some, ◌≡◌, refl}
 use Rattle.clap.specs.Words.{found_of, rows_of}
 use Rattle.command_line.specs.Command.{Misuse, bench_means, limits_among}
@@ -7,7 +8,8 @@ use Rattle.command_line.proofs.board.bench_asked.Goals as goal
 pub returns-in_err-proof-clause-meant : goal.returns-in_err-proof-clause-meant
 returns-in_err-proof-clause-meant c =
     let means : bench_means (rows_of (found_of c.args.values.now)) ≡ Misuse =
-    bench_values c.args.values.now (Some c.in_ok-size.size) None (limits_among (rows_of (found_of c.args.values.now))) c.in_ok-size.ensures.given c.in_err-proof.ensures refl in
+    bench_values c.args.values.now (Some c.in_ok-size.size) None
+    (limits_among (rows_of (found_of c.args.values.now))) c.in_ok-size.ensures.given c.in_err-proof.ensures refl in
     search (rules, means)
 
 pub returns-clause-meant : goal.returns-clause-meant

@@ -1,3 +1,4 @@
+-- What is left to show of `size_among`.
 use Rattle.std.proofs.Common.{ap₂, codes, sym, ◌∙◌}
 use Rattle.command_line.specs.Command.{size_given}
 use Rattle.command_line.specs.Reading.{text_of}

@@ -1,3 +1,4 @@
+-- What is left to show of `bench_parser`.
 use Rattle.std.proofs.Common.{ap, ap₂, codes, ◌≡◌, ◌∙◌}
 use Rattle.std.proofs.lemmas.Result.{IfOk-weaker}
 use Rattle.std.specs.Prelude.{[], ◌∷◌}
@@ -17,5 +18,6 @@ returns-clause-app c =
 pub returns-clause-local : goal.returns-clause-local
 returns-clause-local c =
     IfOk-weaker c.with_limits.result _ _
-    (λ r same. same ∙ c.in_ok-command.ensures.globals ∙ stays _ _ c.proof_arg.ensures.local ∙ c.in_ok-with_board.ensures.local ∙ c.command-command.ensures.local)
+    (λ r same. same ∙ c.in_ok-command.ensures.globals ∙ stays _ _ c.proof_arg.ensures.local ∙ c.in_ok-with_board.ensures.local
+    ∙ c.command-command.ensures.local)
     c.with_limits.ensures.local

@@ -1,3 +1,4 @@
+-- What is left to show of `with_board`.
 use Rattle.std.proofs.Common.{ap, ap₂, codes, ◌≡◌, ◌∙◌}
 use Rattle.std.proofs.lemmas.Result.{IfOk-weaker}
 use Rattle.clap.specs.Words.{app_of, with_rule}
@@ -9,9 +10,11 @@ pub returns-clause-app : goal.returns-clause-app
 returns-clause-app c =
     let one_is : app_of c.in_ok-arg.field-0 ≡ with_rule (app_of c.args.command) (word_rule (codes "KIND")) =
     c.in_ok-arg.ensures.shape c.word_arg.ensures.local ∙ ap (with_rule (app_of c.args.command)) c.word_arg.ensures.rule in
-    IfOk-weaker c.arg-2.result _ _ (λ r adds. adds.shape c.word_arg-2.ensures.local ∙ ap₂ with_rule one_is c.word_arg-2.ensures.rule) c.arg-2.ensures
+    IfOk-weaker c.arg-2.result _ _ (λ r adds. adds.shape c.word_arg-2.ensures.local
+    ∙ ap₂ with_rule one_is c.word_arg-2.ensures.rule) c.arg-2.ensures
 
 pub returns-clause-local : goal.returns-clause-local
 returns-clause-local c =
     IfOk-weaker c.arg-2.result _ _
-    (λ r adds. adds.globals ∙ stays _ _ c.word_arg-2.ensures.local ∙ c.in_ok-arg.ensures.globals ∙ stays _ _ c.word_arg.ensures.local) c.arg-2.ensures
+    (λ r adds. adds.globals ∙ stays _ _ c.word_arg-2.ensures.local ∙ c.in_ok-arg.ensures.globals
+    ∙ stays _ _ c.word_arg.ensures.local) c.arg-2.ensures

@@ -1,3 +1,4 @@
+-- What is left to show of `limits_among`.
 use Rattle.std.proofs.Common.{◌∙◌, codes, sym}
 use Rattle.command_line.specs.Command.{limits_given}
 use Rattle.command_line.specs.Reading.{text_of}

@@ -1,3 +1,4 @@
+-- What is left to show of `check_parser`.
 use Rattle.std.proofs.Common.{ap₂, codes, ◌≡◌, ◌∙◌}
 use Rattle.std.proofs.lemmas.Result.{IfOk-weaker}
 use Rattle.clap.specs.Words.{app_of, new_app, with_rule}
@@ -11,7 +12,8 @@ returns-clause-app c =
     c.in_ok-arg.ensures.shape c.formula_arg.ensures.local ∙ ap₂ with_rule c.command.ensures.app c.formula_arg.ensures.rule in
     let two_are : app_of c.in_ok-arg-2.field-0 ≡ with_rule (with_rule (new_app (codes "check")) file_rule) proof_file_rule =
     c.in_ok-arg-2.ensures.shape c.proof_file_arg.ensures.local ∙ ap₂ with_rule one_is c.proof_file_arg.ensures.rule in
-    IfOk-weaker c.arg-3.result _ _ (λ r adds. adds.shape c.lax_arg.ensures.local ∙ ap₂ with_rule two_are c.lax_arg.ensures.rule) c.arg-3.ensures
+    IfOk-weaker c.arg-3.result _ _ (λ r adds. adds.shape c.lax_arg.ensures.local
+    ∙ ap₂ with_rule two_are c.lax_arg.ensures.rule) c.arg-3.ensures
 
 pub returns-clause-local : goal.returns-clause-local
 returns-clause-local c =

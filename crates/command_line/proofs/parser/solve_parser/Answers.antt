@@ -1,3 +1,4 @@
+-- What is left to show of `solve_parser`.
 use Rattle.std.proofs.Common.{ap, ap₂, codes, ◌≡◌, ◌∙◌}
 use Rattle.std.proofs.lemmas.Result.{IfOk-weaker}
 use Rattle.std.specs.Prelude.{[], ◌∷◌}
@@ -14,7 +15,8 @@ returns-clause-app c =
     c.in_ok-arg-2.ensures.shape c.proof_arg.ensures.local ∙ ap₂ with_rule one_is c.proof_arg.ensures.rule in
     let three_are : app_of c.in_ok-command.command ≡ with_rules (new_app (codes "solve")) (file_rule ∷ proof_rule ∷ lax_rule ∷ []) =
     c.in_ok-command.ensures.shape c.lax_arg.ensures.local ∙ ap₂ with_rule two_are c.lax_arg.ensures.rule in
-    let six_are : app_of c.in_ok-command-2.command ≡ with_rules (with_rules (new_app (codes "solve")) (file_rule ∷ proof_rule ∷ lax_rule ∷ [])) source_rules =
+    let six_are : app_of c.in_ok-command-2.command ≡ with_rules (with_rules (new_app (codes "solve")) (file_rule ∷ proof_rule ∷ lax_rule
+    ∷ [])) source_rules =
     c.in_ok-command-2.ensures.app ∙ ap (λ (a : App). with_rules a source_rules) three_are in
     IfOk-weaker c.with_limits.result _ _ (λ r is. is ∙ ap (λ (a : App). with_rules a limit_rules) six_are) c.with_limits.ensures.app
 

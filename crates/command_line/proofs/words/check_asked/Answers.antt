@@ -1,3 +1,4 @@
+-- What is left to show of `check_asked`.
 use Rattle.std.proofs.Common.{rules, ◌≡◌, ◌∙◌, ap, ap₂, sym, refl, codes}
 use Rattle.std.specs.Prelude.{Option}
 use Rattle.clap.specs.Words.{Text, first_value, found_of, rows_of}
@@ -16,5 +17,6 @@ returns-in_err-files-clause-meant c =
 
 pub returns-clause-meant : goal.returns-clause-meant
 returns-clause-meant c =
-    check_values c.args.values.now (text_of c.get_str.result) (text_of c.get_str-2.result) (text_of c.get_str-3.result) c.get_str.ensures c.get_str-2.ensures c.get_str-3.ensures
+    check_values c.args.values.now (text_of c.get_str.result) (text_of c.get_str-2.result)
+    (text_of c.get_str-3.result) c.get_str.ensures c.get_str-2.ensures c.get_str-3.ensures
     ∙ ap₂ to_check c.in_ok-files.ensures (sym c.mode_given-mode.ensures)

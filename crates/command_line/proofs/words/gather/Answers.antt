@@ -1,3 +1,4 @@
+-- What is left to show of `gather`.
 use Rattle.command_line.proofs.words.gather.Goals as goal
 
 pub returns-in-Ok : goal.returns-in-Ok

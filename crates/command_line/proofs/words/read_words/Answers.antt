@@ -1,3 +1,4 @@
+-- What is left to show of `read_words`.
 use Rattle.std.proofs.Common.{◌≡◌, Ok, Err, Some, map, sym, subst}
 use Rattle.std.proofs.lemmas.Result.{IfOk-weaker}
 use Rattle.std.specs.Prelude.{MatchResult}
@@ -15,10 +16,13 @@ returns-in-Ok-try_get_matches_from-clause-meant c =
     let words = map string_bytes c.args.words.now in
     let rows = subcommand_rows_of c.in-Ok-try_get_matches_from.matches in
     elim c.asked_of.result
-    as (λ r. MatchResult r (λ asked. taken_means rows ≡ Asks (command_of asked)) (λ refusal. (refusal ≡ Usage) × (taken_means rows ≡ Misuse))
+    as (λ r. MatchResult r (λ asked. taken_means rows ≡ Asks (command_of asked)) (λ refusal. (refusal ≡ Usage)
+    × (taken_means rows ≡ Misuse))
     → MatchResult r (λ asked. command words ≡ Some (command_of asked)) (IsRefusal words)) [
-      | Ok asked ↦ λ means. taken_command _ _ (taken _ c.in-Ok-try_get_matches_from.matches (Asks (command_of asked)) c.in-Ok.ensures parse.kinds parse.matches means)
-      | Err refusal ↦ λ means. subst (IsRefusal words) (sym means.0) (taken_misuse _ (taken _ c.in-Ok-try_get_matches_from.matches Misuse c.in-Ok.ensures parse.kinds parse.matches means.1))
+      | Ok asked ↦ λ means. taken_command _ _ (taken _ c.in-Ok-try_get_matches_from.matches
+          (Asks (command_of asked)) c.in-Ok.ensures parse.kinds parse.matches means)
+      | Err refusal ↦ λ means. subst (IsRefusal words) (sym means.0)
+          (taken_misuse _ (taken _ c.in-Ok-try_get_matches_from.matches Misuse c.in-Ok.ensures parse.kinds parse.matches means.1))
     ] c.asked_of.ensures.meant
 
 pub returns-in-Err-clause-meant : goal.returns-in-Err-clause-meant

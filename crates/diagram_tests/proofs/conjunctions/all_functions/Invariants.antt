@@ -1,3 +1,4 @@
+-- What the loops of `all_functions` keep.
 use Rattle.node_table.specs.Table.{IsSound}
 use Rattle.diagram_tests.proofs.conjunctions.all_functions.Given as goal
 

@@ -8,4 +8,5 @@ returns-clause-sound g c = settled_sound c.conjoin.new.table c.settle.new.self _
 
 pub returns-clause-fits : goal.returns-clause-fits
 returns-clause-fits g c =
-    settled_fits c.conjoin.new.table c.settle.new.self (entries c.conjoin.new.cache) c.settle.result c.entry_law.ensures c.settle.ensures.nodes c.settle.ensures.settled c.settle.ensures.stay c.in_ok-w.ensures.fits
+    settled_fits c.conjoin.new.table c.settle.new.self (entries c.conjoin.new.cache) c.settle.result c.entry_law.ensures
+    c.settle.ensures.nodes c.settle.ensures.settled c.settle.ensures.stay c.in_ok-w.ensures.fits

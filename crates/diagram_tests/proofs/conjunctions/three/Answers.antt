@@ -1,3 +1,4 @@
+-- What is left to show of `three`.
 use Rattle.diagram_tests.proofs.Orders.{three_order}
 use Rattle.diagram_tests.proofs.conjunctions.three.Goals as goal
 

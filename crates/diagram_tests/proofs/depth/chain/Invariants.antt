@@ -1,3 +1,4 @@
+-- What the loops of `chain` keep.
 use Rattle.node_table.specs.Table.{IsSound}
 use Rattle.diagram_tests.proofs.depth.chain.Given as goal
 

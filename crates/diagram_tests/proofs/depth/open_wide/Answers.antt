@@ -1,3 +1,4 @@
+-- What is left to show of `open_wide`.
 use Rattle.std.proofs.Common.{refl}
 use Rattle.std.specs.FinMap as map
 use Rattle.node_table.specs.Diagram.{Graph}

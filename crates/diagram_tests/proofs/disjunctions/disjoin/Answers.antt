@@ -1,3 +1,4 @@
+-- What is left to show of `disjoin`.
 use Rattle.node_table.specs.HandedOn.{no_error}
 use Rattle.diagram_tests.proofs.disjunctions.disjoin.Goals as goal
 

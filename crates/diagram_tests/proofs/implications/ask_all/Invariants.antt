@@ -1,3 +1,4 @@
+-- What the loops of `ask_all` keep.
 use Rattle.node_table.specs.Table.{IsSound}
 use Rattle.operations.specs.Entries.{Fits}
 use Rattle.imply.specs.Cache.{entries}

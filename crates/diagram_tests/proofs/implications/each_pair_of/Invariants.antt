@@ -1,3 +1,4 @@
+-- What the loops of `each_pair_of` keep.
 use Rattle.node_table.specs.Table.{IsSound}
 use Rattle.operations.specs.Entries.{Fits}
 use Rattle.imply.specs.Cache.{entries}

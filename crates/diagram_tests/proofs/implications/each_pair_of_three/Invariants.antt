@@ -1,3 +1,4 @@
+-- What the loops of `each_pair_of_three` keep.
 use Rattle.node_table.specs.Table.{IsSound}
 use Rattle.diagram_tests.proofs.implications.each_pair_of_three.Given as goal
 

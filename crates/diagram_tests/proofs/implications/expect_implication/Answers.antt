@@ -8,4 +8,5 @@ returns-clause-sound g c = settled_sound c.why_implied.new.table c.settle.new.se
 
 pub returns-clause-fits : goal.returns-clause-fits
 returns-clause-fits g c =
-    settled_fits c.why_implied.new.table c.settle.new.self (entries c.why_implied.new.cache) c.settle.result c.entry_law.ensures c.settle.ensures.nodes c.settle.ensures.settled c.settle.ensures.stay c.in_ok-answer.ensures.fits
+    settled_fits c.why_implied.new.table c.settle.new.self (entries c.why_implied.new.cache) c.settle.result c.entry_law.ensures
+    c.settle.ensures.nodes c.settle.ensures.settled c.settle.ensures.stay c.in_ok-answer.ensures.fits

@@ -1,3 +1,4 @@
+-- What is left to show of `why_implied`.
 use Rattle.node_table.specs.HandedOn.{no_error}
 use Rattle.diagram_tests.proofs.implications.why_implied.Goals as goal
 

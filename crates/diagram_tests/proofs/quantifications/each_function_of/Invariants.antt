@@ -1,3 +1,4 @@
+-- What the loops of `each_function_of` keep.
 use Rattle.node_table.specs.Table.{IsSound}
 use Rattle.operations.specs.Entries.{Fits}
 use Rattle.quantify.specs.ExistsCache.{both_caches}

@@ -1,3 +1,4 @@
+-- What is left to show of `no_quantifications`.
 use Rattle.std.proofs.Common.{List, ◌++◌, sym, subst}
 use Rattle.node_table.specs.Table.{TableState}
 use Rattle.operations.specs.Entries.{Entry, Fits}

@@ -1,3 +1,4 @@
+-- What the loops of `trail_of` keep.
 use Rattle.std.proofs.Common.{ℕ, ◌<◌, ◌≤◌, Contains}
 use Rattle.std.specs.Prelude.{IsTrue}
 use Rattle.node_table.specs.declared.node.Node.{Node}

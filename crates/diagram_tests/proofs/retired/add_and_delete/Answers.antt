@@ -10,7 +10,9 @@ justify-requires-2-clause-strict c =
     let old = c.args.table.now.book.state in
     let first = c.in_ok-first.first in
     let now : c.retire.new.self.book.state.live ≡ with_clause old.live (old.top + 1) [] =
-    ap (λ (t : TableState ProofText). t.book.state.live) c.retire.ensures.retired ∙ ap (λ (s : State). s.live) c.in_ok-first.ensures.added.1 in
+    ap (λ (t : TableState ProofText). t.book.state.live) c.retire.ensures.retired
+    ∙ ap (λ (s : State). s.live) c.in_ok-first.ensures.added.1 in
     let at : clause_at (with_clause old.live (old.top + 1) []) first ≡ Some [] =
-    c.live_law.ensures old.live (old.top + 1) first [] ∙ ap (λ b. cond b (Some []) (clause_at old.live first)) (eq-eqb first (old.top + 1) c.in_ok-first.ensures.added.0) in
+    c.live_law.ensures old.live (old.top + 1) first [] ∙ ap (λ b. cond b (Some []) (clause_at old.live first))
+    (eq-eqb first (old.top + 1) c.in_ok-first.ensures.added.0) in
     c.conflict_law.ensures c.retire.new.self.book.state.live [] first (ap (λ (l : Live). clause_at l first) now ∙ at)

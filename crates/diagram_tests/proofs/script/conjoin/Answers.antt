@@ -1,3 +1,4 @@
+-- What is left to show of `conjoin`.
 use Rattle.node_table.specs.HandedOn.{no_error}
 use Rattle.diagram_tests.proofs.script.conjoin.Goals as goal
 

@@ -1,3 +1,4 @@
+-- What the loops of `join_all` keep.
 use Rattle.node_table.specs.Table.{IsSound}
 use Rattle.operations.specs.Entries.{Fits}
 use Rattle.apply_and.specs.Cache.{entries}

@@ -1,3 +1,4 @@
+-- What the loops of `make_all` keep.
 use Rattle.node_table.specs.Table.{IsSound}
 use Rattle.diagram_tests.specs.Plain.{IsPlain}
 use Rattle.diagram_tests.proofs.script.make_all.Given as goal

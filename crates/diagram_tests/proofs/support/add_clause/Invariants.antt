@@ -1,3 +1,4 @@
+-- What the loops of `add_clause` keep.
 use Rattle.std.proofs.Common.{◌≡◌}
 use Rattle.diagram_tests.proofs.support.add_clause.Given as goal
 

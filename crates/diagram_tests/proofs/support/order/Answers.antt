@@ -1,3 +1,4 @@
+-- What is left to show of `order`.
 use Rattle.std.proofs.Common.{arith}
 use Rattle.diagram_tests.proofs.Orders.{two_order}
 use Rattle.diagram_tests.proofs.support.order.Goals as goal

@@ -1,3 +1,4 @@
+-- What is left to show of `sweep_and_make`.
 use Rattle.diagram_tests.proofs.Plainness.{plain_clear}
 use Rattle.diagram_tests.proofs.swept.sweep_and_make.Goals as goal
 

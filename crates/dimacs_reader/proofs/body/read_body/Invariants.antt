@@ -12,7 +12,8 @@ invariant-tokens g l = record {
   passed : IsTrue g.S.Source.tells → Decides (g.S.Source.channel l.fn.source) (g.S.Source.channel l.source)
       (λ bytes more. Passes l.fn.body.mode l.fn.body.count (ahead l.fn.scanner bytes) l.fn.body.draft (ahead l.scanner more) l.body.draft);
   front : IsTrue g.S.Source.tells → is_reading l.scanner.status ≡ true → (is_reading l.fn.scanner.status ≡ true)
-      × ((more : List ℕ) → body l.fn.body.mode (so_far l.fn.scanner (gained (g.S.Source.channel l.fn.source) (g.S.Source.channel l.source) ++ more)) l.fn.body.count l.fn.body.draft ≡ body l.fn.body.mode (so_far l.scanner more) l.fn.body.count l.body.draft);
+      × ((more : List ℕ) → body l.fn.body.mode (so_far l.fn.scanner (gained (g.S.Source.channel l.fn.source) (g.S.Source.channel l.source)
+      ++ more)) l.fn.body.count l.fn.body.draft ≡ body l.fn.body.mode (so_far l.scanner more) l.fn.body.count l.body.draft);
   count : l.body.count ≡ l.fn.body.count;
   mode : l.body.mode ≡ l.fn.body.mode;
   sound : is_faulted l.scanner.status ≡ false;

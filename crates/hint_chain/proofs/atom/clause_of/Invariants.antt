@@ -1,3 +1,4 @@
+-- What the loops of `clause_of` keep.
 use Rattle.std.proofs.Common.{◌≡◌, ◌≤◌, ◌++◌, length, drop}
 use Rattle.std.specs.Option.{option_map}
 use Rattle.hint_chain.specs.Atoms.{clause_of}

@@ -1,3 +1,4 @@
+-- What the loops of `greedy_hints` keep.
 use Rattle.std.proofs.Common.{◌≡◌, ◌≤◌, ◌+◌, length}
 use Rattle.lrat_rules.specs.Chain.{literals_of}
 use Rattle.hint_chain.specs.Greedy.{greedy}

@@ -1,3 +1,4 @@
+-- What is left to show of `clause_law`.
 use Rattle.hint_chain.proofs.AtomClauses.{are_among-clause_of, length-clause_of, given-clause_of}
 use Rattle.hint_chain.proofs.laws.clause_law.Goals as goal
 

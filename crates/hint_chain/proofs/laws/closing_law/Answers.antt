@@ -1,3 +1,4 @@
+-- What is left to show of `closing_law`.
 use Rattle.hint_chain.proofs.Sets.{IsConsistent-apart}
 use Rattle.hint_chain.proofs.ChildSteps.{closes-children, closes-behind}
 use Rattle.hint_chain.proofs.laws.closing_law.Goals as goal
@@ -9,4 +10,5 @@ pub returns-clause-closes : goal.returns-clause-closes
 returns-clause-closes c n children last consistent are closes = closes-children n children last consistent are closes
 
 pub returns-clause-behind : goal.returns-clause-behind
-returns-clause-behind c n literal first children last consistent leaves are closes = closes-behind n literal first children last consistent leaves are closes
+returns-clause-behind c n literal first children last consistent leaves are closes =
+    closes-behind n literal first children last consistent leaves are closes

@@ -1,3 +1,4 @@
+-- What is left to show of `conjunction_law`.
 use Rattle.hint_chain.proofs.AdditionsClose.{conjunction-high, conjunction-low}
 use Rattle.hint_chain.proofs.laws.conjunction_law.Goals as goal
 

@@ -1,3 +1,4 @@
+-- What is left to show of `following_unit_law`.
 use Rattle.hint_chain.proofs.UnitsRefute.{conjunction_unit-refutes, implication_unit-refutes}
 use Rattle.hint_chain.proofs.laws.following_unit_law.Goals as goal
 

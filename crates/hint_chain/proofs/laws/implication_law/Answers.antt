@@ -1,3 +1,4 @@
+-- What is left to show of `implication_law`.
 use Rattle.hint_chain.proofs.AdditionsClose.{implication-high, implication-low}
 use Rattle.hint_chain.proofs.laws.implication_law.Goals as goal
 

@@ -1,3 +1,4 @@
+-- What is left to show of `unit_law`.
 use Rattle.hint_chain.proofs.UnitsRefute.{unit-refutes}
 use Rattle.hint_chain.proofs.laws.unit_law.Goals as goal
 

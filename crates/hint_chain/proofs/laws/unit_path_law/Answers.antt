@@ -1,3 +1,4 @@
+-- What is left to show of `unit_path_law`.
 use Rattle.hint_chain.proofs.UnitPaths.{IsUnitPath-last, IsUnitPath-on_top, IsUnitPath-kept, IsUnitPath-same_set}
 use Rattle.hint_chain.proofs.laws.unit_path_law.Goals as goal
 

@@ -1,3 +1,4 @@
+-- What the loops of `unit_hints` keep.
 use Rattle.std.proofs.Common.{◌≡◌, ◌++◌, drop}
 use Rattle.hint_chain.specs.Units.{unit_list}
 use Rattle.hint_chain.proofs.unit.unit_hints.Given as goal

@@ -1,3 +1,4 @@
+-- What is left to show of `load`.
 use Rattle.std.proofs.Common.{rules}
 use Rattle.host_io.proofs.client.load.Goals as goal
 

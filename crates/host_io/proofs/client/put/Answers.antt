@@ -1,3 +1,4 @@
+-- What is left to show of `put`.
 use Rattle.std.proofs.Common.{◌∙◌, rules}
 use Rattle.host_io.specs.Channel.{Puts}
 use Rattle.host_io.proofs.Written.{carried, puts_whole}

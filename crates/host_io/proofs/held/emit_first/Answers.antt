@@ -1,3 +1,4 @@
+-- What is left to show of `emit_first`.
 use Rattle.host_io.proofs.Emitting.{alone}
 use Rattle.host_io.proofs.held.emit_first.Goals as goal
 

@@ -1,3 +1,4 @@
+-- What is left to show of `beside_kept`.
 use Rattle.host_io.proofs.Kept.{keeps_beside}
 use Rattle.host_io.proofs.law.beside_kept.Goals as goal
 

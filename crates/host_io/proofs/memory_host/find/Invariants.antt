@@ -1,3 +1,4 @@
+-- What the loops of `find` keep.
 use Rattle.std.proofs.Common.{◌≡◌, drop}
 use Rattle.host_io.specs.Memory.{stored}
 use Rattle.host_io.proofs.memory_host.find.Given as goal

@@ -1,3 +1,4 @@
+-- What the loops of `read_again` keep.
 use Rattle.std.specs.Io.KnownBytes.{Keeps}
 use Rattle.host_io.proofs.port.read_again.Given as goal
 

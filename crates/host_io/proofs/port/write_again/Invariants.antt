@@ -1,3 +1,4 @@
+-- What the loops of `write_again` keep.
 use Rattle.std.specs.Io.KnownBytes.{Keeps}
 use Rattle.host_io.proofs.port.write_again.Given as goal
 

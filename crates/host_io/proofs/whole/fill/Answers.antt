@@ -1,3 +1,4 @@
+-- What is left to show of `fill`.
 use Rattle.std.proofs.Common.{◌∙◌, sym}
 use Rattle.host_io.proofs.HasRead.{more_read, put_rest}
 use Rattle.host_io.proofs.whole.fill.Goals as goal

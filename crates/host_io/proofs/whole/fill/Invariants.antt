@@ -1,3 +1,4 @@
+-- What the loops of `fill` keep.
 use Rattle.std.proofs.Common.{◌≡◌, ◌-◌, length}
 use Rattle.host_io.proofs.HasRead.{HasRead}
 use Rattle.host_io.proofs.whole.fill.Given as goal

@@ -1,3 +1,4 @@
+-- What is left to show of `write_all`.
 use Rattle.std.proofs.Common.{◌∙◌, arith}
 use Rattle.std.proofs.lemmas.Grind.{common_steps}
 use Rattle.host_io.proofs.Written.{more_written}

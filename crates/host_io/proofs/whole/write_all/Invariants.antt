@@ -1,3 +1,4 @@
+-- What the loops of `write_all` keep.
 use Rattle.std.proofs.Common.{◌≡◌, ◌-◌, length}
 use Rattle.host_io.proofs.Written.{HasWritten}
 use Rattle.host_io.proofs.whole.write_all.Given as goal

@@ -1,3 +1,4 @@
+-- What is left to show of `twice_put`.
 use Rattle.std.proofs.Common.{rules}
 use Rattle.host_tests.proofs.by_value.twice_put.Goals as goal
 

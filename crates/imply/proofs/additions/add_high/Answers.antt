@@ -19,8 +19,11 @@ two_of_four = omega arith
 pub just_part-requires : goal.just_part-requires
 just_part-requires g c =
     let graph = c.args.table.now.graph in
-    let o = c.args.operands.now in
-    (implication_atoms graph (cofactor_at High graph o.level o.u) (cofactor_at High graph o.level o.v), two_of_four, c.requires.side.justified)
+    let o = c.args.operands.now in (
+      implication_atoms graph (cofactor_at High graph o.level o.u) (cofactor_at High graph o.level o.v),
+      two_of_four,
+      c.requires.side.justified,
+    )
 
 pub imply_high-hints-requires-clause-close : goal.imply_high-hints-requires-clause-close
 imply_high-hints-requires-clause-close g c =
@@ -28,14 +31,17 @@ imply_high-hints-requires-clause-close g c =
     let o = c.args.operands.now in
     let tied = c.requires.sound.tied in
     let x = pos (variable_at graph o.level) in
-    let long : c.as_slice.result.now ≡ neg_ℤ x ∷ c.args.clause.now = c.as_slice.ensures.literals ∙ c.behind-long.ensures ∙ ap (λ (l : ℤ). l ∷ c.args.clause.now) (c.negated.ensures ∙ ap neg_ℤ c.variable.ensures) in
-    subst (λ (clause : List ℤ). PartsClose (literals_of clause) (c.down_part.result ∷ c.up_part.result ∷ c.just_part.result ∷ [])) (sym long)
+    let long : c.as_slice.result.now ≡ neg_ℤ x ∷ c.args.clause.now = c.as_slice.ensures.literals ∙ c.behind-long.ensures
+    ∙ ap (λ (l : ℤ). l ∷ c.args.clause.now) (c.negated.ensures ∙ ap neg_ℤ c.variable.ensures) in
+    subst (λ (clause : List ℤ). PartsClose (literals_of clause) (c.down_part.result ∷ c.up_part.result ∷ c.just_part.result ∷ []))
+    (sym long)
     (c.implication_law.ensures.high x (atom_of graph o.u) (atom_of graph o.v)
     (atom_of graph (cofactor_at High graph o.level o.u)) (atom_of graph (cofactor_at High graph o.level o.v))
     (neg_ℤ x ∷ c.args.clause.now) c.down_part.result c.up_part.result c.just_part.result
     (high_clause c.literal_law.ensures c.operand_law.ensures graph tied.reduced o c.requires.split c.args.clause.now c.requires.clause)
     (c.closing_law.ensures.consistent (neg_ℤ x ∷ c.args.clause.now)
-    (high_apart c.literal_law.ensures c.operand_law.ensures graph tied.reduced o c.requires.split c.args.clause.now c.requires.clause tied.ordered))
+    (high_apart c.literal_law.ensures c.operand_law.ensures graph tied.reduced o c.requires.split c.args.clause.now c.requires.clause
+    tied.ordered))
     c.down_part.ensures.down c.up_part.ensures.up (c.just_part.ensures.justifies _ c.requires.side.justified))
 
 pub justify-requires-clause-strict : goal.justify-requires-clause-strict
@@ -44,7 +50,8 @@ justify-requires-clause-strict g c =
     let same : c.as_slice-2.result.now ≡ c.as_slice.result.now = c.as_slice-2.ensures.literals ∙ sym c.as_slice.ensures.literals in
     subst (λ (clause : List ℤ). RefutesStrictly live clause c.as_slice-3.result.now) (sym same)
     (subst (λ (hints : List ℕ). RefutesStrictly live c.as_slice.result.now hints) (sym c.as_slice-3.ensures)
-    (c.greedy_law.ensures.refutes live c.as_slice.result.now (c.down_part.result ∷ c.up_part.result ∷ c.just_part.result ∷ []) _ c.imply_high-hints.ensures
+    (c.greedy_law.ensures.refutes live c.as_slice.result.now (c.down_part.result ∷ c.up_part.result ∷ c.just_part.result
+    ∷ []) _ c.imply_high-hints.ensures
     (c.down_part.ensures.live, (c.up_part.ensures.live, (c.just_part.ensures.live, tt)))))
 
 pub justify-requires-clause-over_nodes : goal.justify-requires-clause-over_nodes
@@ -53,17 +60,21 @@ justify-requires-clause-over_nodes g c =
     let o = c.args.operands.now in
     let tied = c.requires.sound.tied in
     let x = pos (variable_at graph o.level) in
-    let long : c.as_slice-2.result.now ≡ neg_ℤ x ∷ c.args.clause.now = c.as_slice-2.ensures.literals ∙ c.behind-long.ensures ∙ ap (λ (l : ℤ). l ∷ c.args.clause.now) (c.negated.ensures ∙ ap neg_ℤ c.variable.ensures) in
+    let long : c.as_slice-2.result.now ≡ neg_ℤ x ∷ c.args.clause.now = c.as_slice-2.ensures.literals ∙ c.behind-long.ensures
+    ∙ ap (λ (l : ℤ). l ∷ c.args.clause.now) (c.negated.ensures ∙ ap neg_ℤ c.variable.ensures) in
     subst (λ (clause : List ℤ). IsOverNodes graph clause) (sym long)
-    (high_over c.literal_law.ensures c.operand_law.ensures graph tied.reduced o c.requires.split c.args.clause.now c.requires.clause tied.ordered)
+    (high_over c.literal_law.ensures c.operand_law.ensures graph tied.reduced o c.requires.split c.args.clause.now c.requires.clause
+    tied.ordered)
 
 pub returns-clause-clause : goal.returns-clause-clause
 returns-clause-clause g c =
     let old = c.args.table.now.book.state in
     let new = c.justify.new.self.book.state in
     let at = c.high_clause_law.ensures.added old new c.in_ok-id.id c.as_slice-2.result.now c.in_ok-id.ensures.added in
-    let same : c.new.result.clause ≡ c.as_slice-2.result.now = c.new.ensures.clause ∙ c.as_slice-4.ensures.literals ∙ sym c.as_slice-2.ensures.literals in (
-      c.new.ensures.clause ∙ c.as_slice-4.ensures.literals ∙ c.behind-long.ensures ∙ ap (λ (l : ℤ). l ∷ c.args.clause.now) (c.negated.ensures ∙ ap neg_ℤ c.variable.ensures),
+    let same : c.new.result.clause ≡ c.as_slice-2.result.now = c.new.ensures.clause ∙ c.as_slice-4.ensures.literals
+    ∙ sym c.as_slice-2.ensures.literals in (
+      c.new.ensures.clause ∙ c.as_slice-4.ensures.literals ∙ c.behind-long.ensures
+          ∙ ap (λ (l : ℤ). l ∷ c.args.clause.now) (c.negated.ensures ∙ ap neg_ℤ c.variable.ensures),
       ap (clause_at new.live) c.new.ensures.id ∙ at ∙ ap Some (sym same),
     )
 

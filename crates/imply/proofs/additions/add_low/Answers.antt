@@ -23,19 +23,23 @@ imply_low-hints-requires-clause-close g c =
     (atom_of graph (cofactor_at Low graph o.level o.u)) (atom_of graph (cofactor_at Low graph o.level o.v))
     c.args.clause.now c.args.first c.down_part.result c.up_part.result c.just_part.result
     (nonzero_variable (variable_at graph o.level) within.0)
-    (high_clause c.literal_law.ensures c.operand_law.ensures graph tied.reduced o c.requires.split c.args.clause.now c.requires.clause ∙ ap Some (sym c.requires.first))
+    (high_clause c.literal_law.ensures c.operand_law.ensures graph tied.reduced o c.requires.split c.args.clause.now c.requires.clause
+    ∙ ap Some (sym c.requires.first))
     c.requires.clause
-    (c.closing_law.ensures.consistent c.args.clause.now (low_apart c.literal_law.ensures c.operand_law.ensures graph tied.reduced o c.requires.split c.args.clause.now c.requires.clause))
+    (c.closing_law.ensures.consistent c.args.clause.now
+    (low_apart c.literal_law.ensures c.operand_law.ensures graph tied.reduced o c.requires.split c.args.clause.now c.requires.clause))
     c.down_part.ensures.down c.up_part.ensures.up (c.just_part.ensures.justifies _ c.requires.side.justified)
 
 pub justify-requires-clause-strict : goal.justify-requires-clause-strict
 justify-requires-clause-strict g c =
     let live = c.args.table.now.book.state.live in
     subst (λ (hints : List ℕ). RefutesStrictly live c.args.clause.now hints) (sym c.as_slice.ensures)
-    (c.greedy_law.ensures.refutes live c.args.clause.now (Some c.args.first ∷ c.down_part.result ∷ c.up_part.result ∷ c.just_part.result ∷ []) _ c.imply_low-hints.ensures
+    (c.greedy_law.ensures.refutes live c.args.clause.now (Some c.args.first ∷ c.down_part.result ∷ c.up_part.result ∷ c.just_part.result
+    ∷ []) _ c.imply_low-hints.ensures
     (c.requires.live, (c.down_part.ensures.live, (c.up_part.ensures.live, (c.just_part.ensures.live, tt)))))
 
 pub justify-requires-clause-over_nodes : goal.justify-requires-clause-over_nodes
 justify-requires-clause-over_nodes g c =
     let graph = c.args.table.now.graph in
-    low_over c.literal_law.ensures c.operand_law.ensures graph c.requires.sound.tied.reduced c.args.operands.now c.requires.split c.args.clause.now c.requires.clause
+    low_over c.literal_law.ensures c.operand_law.ensures graph c.requires.sound.tied.reduced c.args.operands.now c.requires.split
+    c.args.clause.now c.requires.clause

@@ -19,7 +19,8 @@ returns-in-Some-clause-answers g c =
     let found = c.in-Some.found in
     let plain = c.in-Some.ensures.plain in record {
       call = record {
-        decided = decided_plainly c.cofactor_law.ensures table.graph can.sound.tied.reduced table.book.state.live u v can.first can.second found plain;
+        decided = decided_plainly c.cofactor_law.ensures table.graph can.sound.tied.reduced table.book.state.live u v can.first can.second
+            found plain;
         steps = c.steps_law.ensures.at_most _ _ _ _ _ _ _ (omega arith) (c.steps_law.ensures.none table can.sound);
         nodes = refl;
         no_node_limit = no_limit found;
@@ -31,7 +32,8 @@ returns-in-Some-clause-answers g c =
         beside = refl;
       };
       known = λ just there.
-          let same = only_answer c.cofactor_law.ensures table.graph can.sound.tied.reduced table.book.state.live u v can.first can.second found just plain (can.fits.each (Implication u v just) there).1 in
+          let same = only_answer c.cofactor_law.ensures table.graph can.sound.tied.reduced table.book.state.live u v can.first can.second
+          found just plain (can.fits.each (Implication u v just) there).1 in
           (ap Ok same, refl, record { there = λ entry had. had; back = λ entry had. had });
       plain = λ answer is. (ap Ok (some_same found answer (c.in-Some.ensures.exact answer is)), refl, refl);
     }
@@ -71,9 +73,15 @@ returns-in-Some-look-clause-answers g c =
         no_node_limit = no_limit (Some just);
         accounts = c.accounts_law.ensures.same table before looked _ can.sound same_list can.fits;
         unretired = λ id is. can.fits.unretired id (own, there, some_same just (Clause id) (given_same (Some just) (Some (Clause id)) is));
-        kept = λ differ first second other is. subst (λ (j : Just). Contains looked (Implication u v j)) (some_same just other (given_same (Some just) (Some other) is)) look.found;
-        remembers = record { entries = λ entry had. inl (same_list.there entry had); no_fewer = look.looked.no_fewer; capacity = look.looked.capacity };
-        price = c.price_law.ensures.looked table c.args.cache.now.results c.look.new.self.results u v apart.1 apart.2 (λ used front. look.used used front);
+        kept = λ differ first second other is. subst (λ (j : Just). Contains looked (Implication u v j))
+            (some_same just other (given_same (Some just) (Some other) is)) look.found;
+        remembers = record {
+          entries = λ entry had. inl (same_list.there entry had);
+          no_fewer = look.looked.no_fewer;
+          capacity = look.looked.capacity;
+        };
+        price = c.price_law.ensures.looked table c.args.cache.now.results c.look.new.self.results u v apart.1 apart.2
+            (λ used front. look.used used front);
         beside = refl;
       };
       known = λ other had. (ap Ok (look.exact other had), refl, same_list);

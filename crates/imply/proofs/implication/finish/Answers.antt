@@ -20,9 +20,17 @@ use Rattle.imply.proofs.Refuted.{implied_both}
 use Rattle.imply.proofs.implication.finish.Goals as goal
 
 -- the step has found a justification
-found_by : {S : Type 0} (tells : Bool) (one other : Channel) (old mid : TableState S) (before : List Entry) (count : ℕ) (just : Just) → IsSound old → Fits old before → Steps tells one other old mid count None
+found_by : {S : Type 0} (tells : Bool) (one other : Channel) (old mid : TableState S) (before : List Entry) (count : ℕ) (just : Just)
+    → IsSound old → Fits old before → Steps tells one other old mid count None
     → RetiresNew old mid → GivesOne old mid just → HasFound old mid before just
-found_by tells one other old mid before count just sound fits steps retires gives = record { sound = sound; fits = fits; still = steps.leaves.sound; extends = steps.extends; retires = retires; gives = gives }
+found_by tells one other old mid before count just sound fits steps retires gives = record {
+  sound = sound;
+  fits = fits;
+  still = steps.leaves.sound;
+  extends = steps.extends;
+  retires = retires;
+  gives = gives;
+}
 
 pub returns-in_err-just : goal.returns-in_err-just
 returns-in_err-just g c =
@@ -33,12 +41,14 @@ returns-in_err-just g c =
     let new = c.justify.new.table in
     let came = c.in_err-just.field-0.0 in
     let done = c.in_err-just.ensures in
-    subst (λ (r : Answer). IsClosed g.S.Sink.tells g.S.Sink.channel g.S.Sink.beside old cache o new cache r) (sym (handed_on _ came came c.from_residual.ensures.1 refl)) (record {
+    subst (λ (r : Answer). IsClosed g.S.Sink.tells g.S.Sink.channel g.S.Sink.beside old cache o new cache r)
+    (sym (handed_on _ came came c.from_residual.ensures.1 refl)) (record {
       decided = tt;
       steps = done.steps;
       nodes = done.nodes;
       no_node_limit = λ is. done.no_node_limit (limit_came came is);
-      accounts = c.accounts_law.ensures.failed _ _ _ old new before _ _ c.requires.sound c.requires.fits done.steps done.retires (λ whole. done.gives (whole_error _ whole));
+      accounts = c.accounts_law.ensures.failed _ _ _ old new before _ _ c.requires.sound c.requires.fits done.steps done.retires
+          (λ whole. done.gives (whole_error _ whole));
       unretired = λ id is. absurd (failed_no_answer came (Some (Clause id)) is);
       kept = λ just is. absurd (failed_no_answer came (Some just) is);
       room = record { others = λ entry there. inl there; no_fewer = omega arith; capacity = refl };
@@ -49,13 +59,15 @@ returns-in_err-just g c =
 pub retire-requires-clause-own : goal.retire-requires-clause-own
 retire-requires-clause-own g c id is =
     let done = c.in_ok-just.ensures in
-    let has = found_by _ _ _ c.args.table.now c.justify.new.table (entries c.args.cache.now) _ c.in_ok-just.just c.requires.sound c.requires.fits done.steps done.retires (done.gives no_error) in
+    let has = found_by _ _ _ c.args.table.now c.justify.new.table
+    (entries c.args.cache.now) _ c.in_ok-just.just c.requires.sound c.requires.fits done.steps done.retires (done.gives no_error) in
     (c.accounts_law.ensures.found _ _ _ _ has).own id (c.in-Ok.ensures.kept.one.named id is)
 
 pub retire-requires-clause-unretired : goal.retire-requires-clause-unretired
 retire-requires-clause-unretired g c id is gone =
     let done = c.in_ok-just.ensures in
-    let has = found_by _ _ _ c.args.table.now c.justify.new.table (entries c.args.cache.now) _ c.in_ok-just.just c.requires.sound c.requires.fits done.steps done.retires (done.gives no_error) in
+    let has = found_by _ _ _ c.args.table.now c.justify.new.table
+    (entries c.args.cache.now) _ c.in_ok-just.just c.requires.sound c.requires.fits done.steps done.retires (done.gives no_error) in
     (c.accounts_law.ensures.found _ _ _ _ has).unretired id (c.in-Ok.ensures.kept.one.named id is) gone
 
 pub returns-in-Ok : goal.returns-in-Ok
@@ -73,22 +85,29 @@ returns-in-Ok g c =
     let one : RetiresOne g.S.Sink.tells g.S.Sink.channel mid new given = c.retire.ensures.one in
     let same : new.graph ≡ mid.graph = ap (λ (t : TableState g.row.S.Denot). t.graph) one.same in
     let nodes : AreNodes mid.graph o.u o.v = record {
-      first = c.growth_law.ensures.stands old.graph mid.graph done.steps.extends.nodes o.u (c.operand_law.ensures.first old.graph o c.requires.split);
-      second = c.growth_law.ensures.stands old.graph mid.graph done.steps.extends.nodes o.v (c.operand_law.ensures.second old.graph o c.requires.split);
+      first = c.growth_law.ensures.stands old.graph mid.graph done.steps.extends.nodes o.u
+          (c.operand_law.ensures.first old.graph o c.requires.split);
+      second = c.growth_law.ensures.stands old.graph mid.graph done.steps.extends.nodes o.v
+          (c.operand_law.ensures.second old.graph o c.requires.split);
     } in
     let law = c.steps_law.ensures in
-    let justified : IsJustified mid.book.state.live (implication_atoms old.graph o.u o.v) just = subst (λ (graph : Graph). IsJustified mid.book.state.live (implication_atoms graph o.u o.v) just) done.nodes done.justified in
-    let implied : Implied mid.graph mid.book.state.live o.u o.v just = subst (λ (graph : Graph). Implied graph mid.book.state.live o.u o.v just) (sym done.nodes)
-    (implied_both c.cofactor_law.ensures c.operand_law.ensures old.graph c.requires.sound.tied.reduced o c.requires.split old.book.state.live mid.book.state.live c.args.high.now c.args.low.now just c.requires.high c.requires.low justified) in
+    let justified : IsJustified mid.book.state.live (implication_atoms old.graph o.u o.v) just = subst
+    (λ (graph : Graph). IsJustified mid.book.state.live (implication_atoms graph o.u o.v) just) done.nodes done.justified in
+    let implied : Implied mid.graph mid.book.state.live o.u o.v just = subst
+    (λ (graph : Graph). Implied graph mid.book.state.live o.u o.v just) (sym done.nodes)
+    (implied_both c.cofactor_law.ensures c.operand_law.ensures old.graph c.requires.sound.tied.reduced o c.requires.split
+    old.book.state.live mid.book.state.live c.args.high.now c.args.low.now just c.requires.high c.requires.low justified) in
     let has = found_by _ _ _ old mid before _ just c.requires.sound c.requires.fits done.steps done.retires (done.gives no_error) in
-    let ended = c.accounts_law.ensures.kept _ _ old mid new before (entries after) (Implication o.u o.v just) given has (nodes, implied) kept.one one in record {
+    let ended = c.accounts_law.ensures.kept _ _ old mid new before (entries after) (Implication o.u o.v just) given has
+    (nodes, implied) kept.one one in record {
       decided = ended.right.1;
       steps = law.further _ _ _ _ _ _ 2 0 _ done.steps one.steps;
       nodes = same ∙ done.nodes;
       no_node_limit = no_limit (Some just);
       accounts = ended.accounts;
       unretired = λ id is. ended.unretired id (some_same just (Clause id) (given_same (Some just) (Some (Clause id)) is));
-      kept = λ other is. subst (λ (j : Just). Contains (entries after) (Implication o.u o.v j)) (some_same just other (given_same (Some just) (Some other) is)) kept.one.kept;
+      kept = λ other is. subst (λ (j : Just). Contains (entries after) (Implication o.u o.v j))
+          (some_same just other (given_same (Some just) (Some other) is)) kept.one.kept;
       room = kept.room;
       used = λ used front apart room none. kept.used used front apart room;
       beside = c.retire.ensures.beside ∙ done.beside;
@@ -109,7 +128,8 @@ returns-in-Err g c =
     let same : new.graph ≡ mid.graph = ap (λ (t : TableState g.row.S.Denot). t.graph) one.same in
     let law = c.steps_law.ensures in
     let has = found_by _ _ _ old mid before _ just c.requires.sound c.requires.fits done.steps done.retires (done.gives no_error) in
-    subst (λ (list : ImplyCache). IsClosed g.S.Sink.tells g.S.Sink.channel g.S.Sink.beside old cache o new list (Err OutOfMemory)) (sym c.in-Err.ensures.refused) (record {
+    subst (λ (list : ImplyCache). IsClosed g.S.Sink.tells g.S.Sink.channel g.S.Sink.beside old cache o new list (Err OutOfMemory))
+    (sym c.in-Err.ensures.refused) (record {
       decided = tt;
       steps = law.further _ _ _ _ _ _ 2 0 _ done.steps (law.further _ _ _ _ _ _ 0 0 _ one.steps (law.no_memory new one.steps.leaves.sound));
       nodes = same ∙ done.nodes;

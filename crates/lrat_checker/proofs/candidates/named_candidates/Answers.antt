@@ -1,3 +1,4 @@
+-- What is left to show of `named_candidates`.
 use Rattle.std.proofs.Common.{◌≡◌, ◌+◌, ◌≤◌, ◌&&◌, ℕ, true, nat_lt, sym, ◌∙◌, ap, arith}
 use Rattle.lrat_rules.specs.Addition.{is_candidate}
 use Rattle.lrat_checker.specs.Counts.{total}
@@ -13,9 +14,11 @@ loop-group-preserved c =
     let sum = λ (last : ℕ). total (named_where live c.args.pivot groups) (last + 1) in
     elim c.if-is_next.branch [
       | then-is_next w ↦
-          let next : (nat_lt c.loop-group.last c.group-item.result.id && is_candidate live c.args.pivot c.group-item.result.id) ≡ true = sym c.is_next.ensures ∙ w.if-is_next.true in
+          let next : (nat_lt c.loop-group.last c.group-item.result.id && is_candidate live c.args.pivot c.group-item.result.id)
+          ≡ true = sym c.is_next.ensures ∙ w.if-is_next.true in
           let named : c.loop-group.named + 1 ≤ sum c.group-item.result.id =
-          named_next live c.args.pivot groups c.loop-group.last c.loop-group.named c.loop-group.group-index c.group-item.result c.loop-group-test.true c.group-item.is next so_far.named in
+          named_next live c.args.pivot groups c.loop-group.last c.loop-group.named c.loop-group.group-index c.group-item.result
+          c.loop-group-test.true c.group-item.is next so_far.named in
           record {
             few = omega (arith, w.named-is, so_far.few);
             named = omega (arith, w.named-is, named, ap sum (w.last-is ∙ w.get-last.ensures));

@@ -1,3 +1,4 @@
+-- What the loops of `named_candidates` keep.
 use Rattle.std.proofs.Common.{◌+◌, ◌≤◌, ◌&&◌}
 use Rattle.lrat_rules.specs.Addition.{is_candidate}
 use Rattle.lrat_checker.specs.Counts.{total}

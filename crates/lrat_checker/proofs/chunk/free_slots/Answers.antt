@@ -1,3 +1,4 @@
+-- What is left to show of `free_slots`.
 use Rattle.std.proofs.Common.{◌≡◌, ℕ, zero, suc, None, [], map, get_or, refl, ◌∙◌, ap, arith, replicate}
 use Rattle.std.proofs.lemmas.List.{get_or_past}
 use Rattle.lrat_checker.specs.declared.slot.Slot.TheVariants.{Free}

@@ -1,3 +1,4 @@
+-- What is left to show of `enter_far`.
 use Rattle.std.proofs.Common.{◌≡◌, true, map, sym, ◌∙◌, ap, rules}
 use Rattle.std.specs.List.{list_all}
 use Rattle.std.specs.Map.Iter.{deref_pair}
@@ -11,12 +12,14 @@ pub loop-number-preserved : goal.loop-number-preserved
 loop-number-preserved c =
     let old = c.loop-number.holders in
     let new = c.enter.new.self in
-    let here : is_entered new c.in-Some.number.now c.in-Some.clause.now ≡ true = ap (is_entered new c.in-Some.number.now) (sym c.literals.ensures) ∙ c.in_ok-enter.ensures.entered in
+    let here : is_entered new c.in-Some.number.now c.in-Some.clause.now
+    ≡ true = ap (is_entered new c.in-Some.number.now) (sym c.literals.ensures) ∙ c.in_ok-enter.ensures.entered in
     record {
       kept = along c.loop-number.invariant.kept c.in_ok-enter.ensures.kept;
       entered =
           one_entry_more (is_entered new) c.loop-number.yielded (c.in-Some.number, c.in-Some.clause)
-          (all_weaker (λ entry. is_entered old entry.0 entry.1) (λ entry. is_entered new entry.0 entry.1) (λ entry h. entered_kept old new c.in_ok-enter.ensures.kept entry.0 entry.1 h)
+          (all_weaker (λ entry. is_entered old entry.0 entry.1) (λ entry. is_entered new entry.0 entry.1)
+          (λ entry h. entered_kept old new c.in_ok-enter.ensures.kept entry.0 entry.1 h)
           (map deref_pair c.loop-number.yielded) c.loop-number.invariant.entered)
           here;
     }

@@ -1,3 +1,4 @@
+-- What the loops of `enter_near` keep.
 use Rattle.std.proofs.Common.{◌≡◌, ℕ, ◌<◌, true}
 use Rattle.lrat_checker.specs.Clauses.{near_at}
 use Rattle.lrat_checker.specs.Holders.{KeepsAll, is_entered}

@@ -1,3 +1,4 @@
+-- What the loops of `far_settled` keep.
 use Rattle.std.proofs.Common.{◌≡◌, true, map}
 use Rattle.std.specs.List.{list_all}
 use Rattle.std.specs.Map.Iter.{deref_pair}

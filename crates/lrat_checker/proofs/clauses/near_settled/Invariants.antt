@@ -1,3 +1,4 @@
+-- What the loops of `near_settled` keep.
 use Rattle.std.proofs.Common.{◌≡◌, ℕ, ◌<◌, true}
 use Rattle.lrat_rules.specs.FalseLiterals.{set_of}
 use Rattle.lrat_checker.specs.Clauses.{near_at}

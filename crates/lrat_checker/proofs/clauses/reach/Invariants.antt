@@ -1,3 +1,4 @@
+-- What the loops of `reach` keep.
 use Rattle.std.proofs.Common.{◌≡◌, ℕ, ◌+◌, ◌-◌, length}
 use Rattle.lrat_checker.specs.Clauses.{near_at}
 use Rattle.lrat_checker.proofs.clauses.reach.Given as goal

@@ -1,3 +1,4 @@
+-- What is left to show of `group_fault`.
 use Rattle.std.proofs.Common.{◌≡◌, true, false, sym, rules}
 use Rattle.lrat_rules.specs.Addition.{holds_negated, is_blocked_by}
 use Rattle.lrat_rules.specs.FalseLiterals.{set_of}
@@ -19,5 +20,8 @@ pub returns-clause-fault : goal.returns-clause-fault
 returns-clause-fault c =
     let held : holds_negated c.args.pivot c.in-Some.clause.now ≡ true = search rules in
     let unblocked : is_blocked_by (set_of c.args.chain.now) c.args.pivot c.in-Some.clause.now ≡ false = search rules in
-    rw (group_fault-candidate c.args.live.now (set_of c.args.chain.now) c.args.pivot c.args.group.now _ c.in-Some.ensures held unblocked, ← c.as_slice.ensures)
+    rw (
+      group_fault-candidate c.args.live.now (set_of c.args.chain.now) c.args.pivot c.args.group.now _ c.in-Some.ensures held unblocked,
+      ← c.as_slice.ensures,
+    )
     c.candidate_fault.ensures.fault

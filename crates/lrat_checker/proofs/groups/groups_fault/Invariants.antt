@@ -1,3 +1,4 @@
+-- What the loops of `groups_fault` keep.
 use Rattle.std.proofs.Common.{◌≡◌, None, drop}
 use Rattle.std.specs.Prelude.{IsTrue}
 use Rattle.lrat_rules.specs.Addition.{groups_fault}
@@ -8,8 +9,10 @@ use Rattle.lrat_checker.proofs.groups.groups_fault.Given as goal
 -- what the rest gives is what the whole gives, and where the rest keeps literals, the whole does
 abbrev pub invariant-loop-group : goal.invariant-loop-group
 invariant-loop-group l = record {
-  rest : groups_fault l.live (set_of l.chain) l.pivot (drop l.group-index l.groups) ≡ groups_fault l.live (set_of l.fn.chain) l.pivot l.groups;
-  kept : IsTrue (groups_keep l.live (set_of l.chain) l.pivot (drop l.group-index l.groups)) → IsTrue (groups_keep l.live (set_of l.fn.chain) l.pivot l.groups);
+  rest : groups_fault l.live (set_of l.chain) l.pivot (drop l.group-index l.groups)
+      ≡ groups_fault l.live (set_of l.fn.chain) l.pivot l.groups;
+  kept : IsTrue (groups_keep l.live (set_of l.chain) l.pivot (drop l.group-index l.groups))
+      → IsTrue (groups_keep l.live (set_of l.fn.chain) l.pivot l.groups);
   same_set : set_of l.chain ≡ set_of l.fn.chain;
   no_group : before_of l.chain ≡ None;
 }

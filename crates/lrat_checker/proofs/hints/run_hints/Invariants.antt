@@ -1,3 +1,4 @@
+-- What the loops of `run_hints` keep.
 use Rattle.std.proofs.Common.{◌≡◌, drop}
 use Rattle.std.specs.Prelude.{IsTrue}
 use Rattle.lrat_rules.specs.Chain.{chain as chain_of}
@@ -9,6 +10,7 @@ use Rattle.lrat_checker.proofs.hints.run_hints.Given as goal
 abbrev pub invariant-loop-hint : goal.invariant-loop-hint
 invariant-loop-hint l = record {
   rest : chain_of l.live (set_of l.chain) (drop l.hint-index l.hints) ≡ chain_of l.live (set_of l.fn.chain) l.hints;
-  forced : IsTrue (forces_literal l.live (set_of l.chain) (drop l.hint-index l.hints)) → IsTrue (forces_literal l.live (set_of l.fn.chain) l.hints);
+  forced : IsTrue (forces_literal l.live (set_of l.chain) (drop l.hint-index l.hints))
+      → IsTrue (forces_literal l.live (set_of l.fn.chain) l.hints);
   same_group : before_of l.chain ≡ before_of l.fn.chain;
 }

@@ -1,3 +1,4 @@
+-- What the loops of `numbered` keep.
 use Rattle.std.proofs.Common.{◌≡◌, take}
 use Rattle.lrat_rules.specs.State.{start}
 use Rattle.lrat_checker.proofs.judge.numbered.Given as goal

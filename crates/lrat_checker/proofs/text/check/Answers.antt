@@ -10,12 +10,17 @@ use Rattle.lrat_checker.proofs.text.check.Goals as goal
 
 pub returns-clause-decides : goal.returns-clause-decides
 returns-clause-decides g c =
-    let whole : (bytes : List ℕ) → steps_verdict c.in_ok-judge.judge false (steps_ahead c.new-reader.result bytes) ≡ text_verdict c.args.formula.now.clauses bytes =
-    λ bytes. ap (steps_verdict c.in_ok-judge.judge false) (c.new-reader.ensures.steps bytes) ∙ ap (λ (s : State). steps_verdict s false (steps max_bytes bytes)) c.in_ok-judge.ensures in
-    λ told. Decides-map _ (c.judge_steps.ensures.decides told) (λ bytes more answers. subst (λ (verdict : Option Verdict). Answers c.judge_steps.result verdict) (whole bytes) answers)
+    let whole : (bytes : List ℕ) → steps_verdict c.in_ok-judge.judge false (steps_ahead c.new-reader.result bytes)
+    ≡ text_verdict c.args.formula.now.clauses bytes =
+    λ bytes. ap (steps_verdict c.in_ok-judge.judge false) (c.new-reader.ensures.steps bytes)
+    ∙ ap (λ (s : State). steps_verdict s false (steps max_bytes bytes)) c.in_ok-judge.ensures in
+    λ told. Decides-map _ (c.judge_steps.ensures.decides told) (λ bytes more answers. subst
+    (λ (verdict : Option Verdict). Answers c.judge_steps.result verdict) (whole bytes) answers)
 
 pub returns-clause-undecided : goal.returns-clause-undecided
 returns-clause-undecided g c =
-    let whole : (bytes : List ℕ) → steps_verdict c.in_ok-judge.judge false (so_far c.new-reader.result bytes) ≡ verdict_so_far c.args.formula.now.clauses bytes =
-    λ bytes. ap (steps_verdict c.in_ok-judge.judge false) (c.new-reader.ensures.so_far bytes) ∙ ap (λ (s : State). steps_verdict s false (steps_so_far bytes)) c.in_ok-judge.ensures in
+    let whole : (bytes : List ℕ) → steps_verdict c.in_ok-judge.judge false (so_far c.new-reader.result bytes)
+    ≡ verdict_so_far c.args.formula.now.clauses bytes =
+    λ bytes. ap (steps_verdict c.in_ok-judge.judge false) (c.new-reader.ensures.so_far bytes)
+    ∙ ap (λ (s : State). steps_verdict s false (steps_so_far bytes)) c.in_ok-judge.ensures in
     λ told is. sym (whole _) ∙ c.judge_steps.ensures.undecided told is

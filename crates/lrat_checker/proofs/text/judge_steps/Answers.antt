@@ -13,28 +13,33 @@ pub returns-in-Ok-None-clause-decides : goal.returns-in-Ok-None-clause-decides
 returns-in-Ok-None-clause-decides g c = λ told.
     Decides-then (λ bytes more. steps_verdict c.args.judge.now false (steps_ahead c.args.reader.now bytes) ≡ Some c.verdict_at_end.result)
     (c.steps.invariant.same told) (c.in-Ok-None.ensures.gives told)
-    (λ bytes middle more before gives. before ∙ at_end c.steps.judge c.steps.has_empty _ _ _ _ gives (ap (λ r. given c.next_into.new.step (Ok r)) c.in-Ok-None.field-0-is)
+    (λ bytes middle more before gives. before ∙ at_end c.steps.judge c.steps.has_empty _ _ _ _ gives
+    (ap (λ r. given c.next_into.new.step (Ok r)) c.in-Ok-None.field-0-is)
     ∙ ap Some (sym (c.verdict_at_end.ensures ∙ ap (end_verdict c.steps.has_empty) c.line.ensures)))
 
 pub returns-in-Err-clause-decides : goal.returns-in-Err-clause-decides
 returns-in-Err-clause-decides g c = λ told.
     Decides-then (λ bytes more. Answers c.answer_to.result (steps_verdict c.args.judge.now false (steps_ahead c.args.reader.now bytes)))
     (c.steps.invariant.same told) (c.in-Err.ensures.gives told)
-    (λ bytes middle more before gives. at_error c.steps.judge c.steps.has_empty _ _ _ _ gives _ before c.in-Err.error refl c.answer_to.result c.answer_to.ensures)
+    (λ bytes middle more before gives. at_error c.steps.judge c.steps.has_empty _ _ _ _ gives _ before c.in-Err.error refl
+    c.answer_to.result c.answer_to.ensures)
 
 pub returns-in-Err-clause-undecided : goal.returns-in-Err-clause-undecided
 returns-in-Err-clause-undecided g c = λ told is.
     let bytes : List ℕ = gained (g.S.Source.channel c.steps.source) (g.S.Source.channel c.next_into.new.source) in
     let failed : c.in-Err.error ≡ ReadFault = read_fault_alone c.in-Err.error (sym c.answer_to.ensures ∙ is) in
-    let none = fault_so_far _ c.steps.reader c.next_into.new.self bytes (c.in-Err.ensures.so_far told (ap is_reading c.steps.invariant.reading)) (ap Err failed) in
-    ap (λ l. steps_verdict c.args.judge.now false (so_far c.args.reader.now l)) (gained-then (c.steps.invariant.same told) (c.in-Err.ensures.gives told))
+    let none = fault_so_far _ c.steps.reader c.next_into.new.self bytes
+    (c.in-Err.ensures.so_far told (ap is_reading c.steps.invariant.reading)) (ap Err failed) in
+    ap (λ l. steps_verdict c.args.judge.now false (so_far c.args.reader.now l))
+    (gained-then (c.steps.invariant.same told) (c.in-Err.ensures.gives told))
     ∙ c.steps.invariant.so_far told none.0 bytes
     ∙ ap (steps_verdict c.steps.judge c.steps.has_empty) none.1
 
 pub returns-in-Err-clause-fault : goal.returns-in-Err-clause-fault
 returns-in-Err-clause-fault g c = λ is.
     subst (λ n. Rose n (g.S.Source.channel c.next_into.new.source).faults) c.steps.invariant.unfailed
-    (c.in-Err.ensures.fault (ap Err (read_fault_alone c.in-Err.error (sym c.answer_to.ensures ∙ is))) (ap is_reading c.steps.invariant.reading))
+    (c.in-Err.ensures.fault (ap Err (read_fault_alone c.in-Err.error (sym c.answer_to.ensures ∙ is)))
+    (ap is_reading c.steps.invariant.reading))
 
 pub returns-in-Err-clause-unfailed : goal.returns-in-Err-clause-unfailed
 returns-in-Err-clause-unfailed g c = λ differ.
@@ -50,16 +55,22 @@ steps-preserved g c =
       same = λ told.
           Decides-then _ (c.steps.invariant.same told) (c.in-Ok-Some.ensures.gives told)
           (λ bytes middle more before gives. before
-          ∙ at_good_step c.steps.judge c.steps.has_empty _ _ _ _ gives c.next_into.new.step c.in-Ok-Some.line c.step.new.self c.or_adds_empty-has_empty.result
+          ∙ at_good_step c.steps.judge c.steps.has_empty _ _ _ _ gives c.next_into.new.step c.in-Ok-Some.line c.step.new.self
+          c.or_adds_empty-has_empty.result
           (ap (λ r. given c.next_into.new.step (Ok r)) c.in-Ok-Some.field-0-is) is_good moved c.or_adds_empty-has_empty.ensures);
       memory = λ told.
           Decides-then _ (c.steps.invariant.memory told) (c.in-Ok-Some.ensures.gives told)
           (λ bytes middle more before gives wants. before
-          (later_wants c.steps.judge _ _ _ _ gives c.next_into.new.step c.in-Ok-Some.line c.step.new.self (ap (λ r. given c.next_into.new.step (Ok r)) c.in-Ok-Some.field-0-is) is_good moved wants));
+          (later_wants c.steps.judge _ _ _ _ gives c.next_into.new.step c.in-Ok-Some.line c.step.new.self
+          (ap (λ r. given c.next_into.new.step (Ok r)) c.in-Ok-Some.field-0-is) is_good moved wants));
       so_far = λ told scanning.
-          let good = good_so_far c.steps.judge c.steps.has_empty _ c.steps.reader c.next_into.new.self _ (c.in-Ok-Some.ensures.so_far told (ap is_reading c.steps.invariant.reading))
-          c.next_into.new.step c.in-Ok-Some.line c.step.new.self c.or_adds_empty-has_empty.result (ap (λ r. given c.next_into.new.step (Ok r)) c.in-Ok-Some.field-0-is) is_good moved c.or_adds_empty-has_empty.ensures scanning in
-          front-then (λ bytes. steps_verdict c.args.judge.now false (so_far c.args.reader.now bytes)) (λ bytes. steps_verdict c.steps.judge c.steps.has_empty (so_far c.steps.reader bytes))
+          let good = good_so_far c.steps.judge c.steps.has_empty _ c.steps.reader c.next_into.new.self _
+          (c.in-Ok-Some.ensures.so_far told (ap is_reading c.steps.invariant.reading))
+          c.next_into.new.step c.in-Ok-Some.line c.step.new.self c.or_adds_empty-has_empty.result
+          (ap (λ r. given c.next_into.new.step (Ok r)) c.in-Ok-Some.field-0-is) is_good moved c.or_adds_empty-has_empty.ensures scanning
+          in
+          front-then (λ bytes. steps_verdict c.args.judge.now false (so_far c.args.reader.now bytes))
+          (λ bytes. steps_verdict c.steps.judge c.steps.has_empty (so_far c.steps.reader bytes))
           (λ bytes. steps_verdict c.step.new.self c.or_adds_empty-has_empty.result (so_far c.next_into.new.self bytes))
           (c.steps.invariant.same told) (c.in-Ok-Some.ensures.gives told) (c.steps.invariant.so_far told good.0) good.1;
       reading = gave.reading;

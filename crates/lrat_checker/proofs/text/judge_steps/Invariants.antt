@@ -12,11 +12,14 @@ use Rattle.lrat_checker.proofs.text.judge_steps.Given as goal
 abbrev pub invariant-steps : goal.invariant-steps
 invariant-steps g l = record {
   same : IsTrue g.S.Source.tells → Decides (g.S.Source.channel l.fn.source) (g.S.Source.channel l.source)
-      (λ bytes more. steps_verdict l.fn.judge false (steps_ahead l.fn.reader bytes) ≡ steps_verdict l.judge l.has_empty (steps_ahead l.reader more));
+      (λ bytes more. steps_verdict l.fn.judge false (steps_ahead l.fn.reader bytes)
+      ≡ steps_verdict l.judge l.has_empty (steps_ahead l.reader more));
   memory : IsTrue g.S.Source.tells → Decides (g.S.Source.channel l.fn.source) (g.S.Source.channel l.source)
-      (λ bytes more. IsTrue (steps_may_want_memory l.judge (steps_ahead l.reader more)) → IsTrue (steps_may_want_memory l.fn.judge (steps_ahead l.fn.reader bytes)));
+      (λ bytes more. IsTrue (steps_may_want_memory l.judge (steps_ahead l.reader more))
+      → IsTrue (steps_may_want_memory l.fn.judge (steps_ahead l.fn.reader bytes)));
   so_far : IsTrue g.S.Source.tells → is_scanning l.reader.scan.status ≡ true → (more : List ℕ)
-      → steps_verdict l.fn.judge false (so_far l.fn.reader (gained (g.S.Source.channel l.fn.source) (g.S.Source.channel l.source) ++ more)) ≡ steps_verdict l.judge l.has_empty (so_far l.reader more);
+      → steps_verdict l.fn.judge false (so_far l.fn.reader (gained (g.S.Source.channel l.fn.source) (g.S.Source.channel l.source) ++ more))
+      ≡ steps_verdict l.judge l.has_empty (so_far l.reader more);
   reading : l.reader.status ≡ Reading;
   reads : OnlyReads (g.S.Source.channel l.fn.source) (g.S.Source.channel l.source);
   unfailed : (g.S.Source.channel l.source).faults ≡ (g.S.Source.channel l.fn.source).faults;

@@ -17,8 +17,10 @@ loop-literal-preserved c =
       | else-ne w ↦ rw w.if-ne.false w.trail-is
     ] in
     record {
-      front = front-pushed trail now literal c.ne.result step (length c.args.trail.now) c.loop-literal.invariant.longer ∙ c.loop-literal.invariant.front;
+      front = front-pushed trail now literal c.ne.result step (length c.args.trail.now) c.loop-literal.invariant.longer
+          ∙ c.loop-literal.invariant.front;
       longer = omega (arith, longer-pushed trail now literal c.ne.result step, c.loop-literal.invariant.longer);
-      others = others-pushed trail now literal c.ne.result step (literals_of c.args.trail.now) c.args.other_than c.args.clause.now c.loop-literal.literal-index
+      others = others-pushed trail now literal c.ne.result step (literals_of c.args.trail.now) c.args.other_than c.args.clause.now
+          c.loop-literal.literal-index
           c.loop-literal-test.true c.literal-item.is c.ne.ensures c.loop-literal.invariant.others;
     }

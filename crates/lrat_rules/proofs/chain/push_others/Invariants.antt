@@ -1,3 +1,4 @@
+-- What the loops of `push_others` keep.
 use Rattle.std.proofs.Common.{◌≡◌, ◌≤◌, ℤ, take, length}
 use Rattle.lrat_rules.specs.Chain.{literals_of}
 use Rattle.lrat_rules.specs.Pass.{with_others}

@@ -1,3 +1,4 @@
+-- What the loops of `effect_on` keep.
 use Rattle.std.proofs.Common.{◌≡◌}
 use Rattle.lrat_rules.specs.Chain.{literals_of, effect}
 use Rattle.lrat_rules.proofs.Passes.{effect_at}

@@ -1,3 +1,4 @@
+-- What is left to show of `effect_under`.
 use Rattle.std.proofs.Common.{◌≡◌, true, false, sym, ◌∙◌, rules}
 use Rattle.lrat_rules.specs.Chain.{literals_of}
 use Rattle.lrat_rules.proofs.Passes.{step_false, step_forced, step_other, pass_end}
@@ -11,14 +12,18 @@ loop-literal-preserved-then-contains c =
 pub returns-then-not-force : goal.returns-then-not-force
 returns-then-not-force c =
     let outside : literals_of c.args.trail.now c.literal-item.result ≡ false = search rules in
-    step_other _ _ _ _ _ c.loop-literal-test.true c.literal-item.is _ (sym c.force.ensures.alone ∙ c.if-not-force.true) outside c.loop-literal.invariant
+    step_other _ _ _ _ _ c.loop-literal-test.true c.literal-item.is _ (sym c.force.ensures.alone
+    ∙ c.if-not-force.true) outside c.loop-literal.invariant
 
 pub loop-literal-preserved : goal.loop-literal-preserved
 loop-literal-preserved c =
     let outside : literals_of c.args.trail.now c.literal-item.result ≡ false = search rules in
-    step_forced _ _ _ _ _ c.loop-literal-test.true c.literal-item.is _ _ c.force.ensures.forced (sym c.force.ensures.alone ∙ c.if-not-force.false) outside c.loop-literal.invariant
+    step_forced _ _ _ _ _ c.loop-literal-test.true c.literal-item.is _ _ c.force.ensures.forced (sym c.force.ensures.alone
+    ∙ c.if-not-force.false) outside c.loop-literal.invariant
 
 pub returns : goal.returns
 returns c =
-    c.effect_of_forced.ensures ∙ sym (pass_end (literals_of c.args.trail.now) c.args.clause.now c.loop-literal.literal-index c.loop-literal.forced c.loop-literal-test.false)
+    c.effect_of_forced.ensures
+    ∙ sym (pass_end (literals_of c.args.trail.now) c.args.clause.now c.loop-literal.literal-index c.loop-literal.forced
+    c.loop-literal-test.false)
     ∙ c.loop-literal.invariant

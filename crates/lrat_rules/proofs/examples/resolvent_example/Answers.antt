@@ -1,3 +1,4 @@
+-- What is left to show of `resolvent_example`.
 use Rattle.lrat_rules.proofs.Samples.{resolvent_good}
 use Rattle.lrat_rules.proofs.examples.resolvent_example.Goals as goal
 

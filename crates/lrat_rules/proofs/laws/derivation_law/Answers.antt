@@ -1,3 +1,4 @@
+-- What is left to show of `derivation_law`.
 use Rattle.lrat_rules.proofs.Derivations.{IsDerivation-one_more, text_of-one_more, Spells-IsWritten, Refutes-by_step, Refutes-live}
 use Rattle.lrat_rules.proofs.laws.derivation_law.Goals as goal
 

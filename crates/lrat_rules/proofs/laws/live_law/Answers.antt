@@ -1,3 +1,4 @@
+-- What is left to show of `live_law`.
 use Rattle.lrat_rules.proofs.Starts.{clause_at-with_clause}
 use Rattle.lrat_rules.proofs.laws.live_law.Goals as goal
 

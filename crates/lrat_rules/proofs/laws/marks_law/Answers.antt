@@ -1,3 +1,4 @@
+-- What is left to show of `marks_law`.
 use Rattle.lrat_rules.proofs.MarksAtStart.{in_use-start}
 use Rattle.lrat_rules.proofs.FewerMarks.{in_use-fewer}
 use Rattle.lrat_rules.proofs.laws.marks_law.Goals as goal

@@ -1,3 +1,4 @@
+-- What is left to show of `refuted_law`.
 use Rattle.lrat_rules.proofs.Refuted.{IsVerifiedRun-Refutes, Refutes-Spells}
 use Rattle.lrat_rules.proofs.laws.refuted_law.Goals as goal
 

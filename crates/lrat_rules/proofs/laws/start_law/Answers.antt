@@ -1,3 +1,4 @@
+-- What is left to show of `start_law`.
 use Rattle.lrat_rules.proofs.Starts.{clause_at-start-within, clause_at-start-zero, clause_at-start-above, start-append}
 use Rattle.lrat_rules.proofs.laws.start_law.Goals as goal
 

@@ -1,3 +1,4 @@
+-- What is left to show of `strict_addition_law`.
 use Rattle.lrat_rules.proofs.Strictness.{Closes-strict, fault-closes, live-strict}
 use Rattle.lrat_rules.specs.Chain.{literals_of}
 use Rattle.lrat_rules.proofs.laws.strict_addition_law.Goals as goal

@@ -1,4 +1,6 @@
-use Rattle.lrat_rules.proofs.SoundSteps.{SatisfiesLive-Closes, SatisfiesUpToPivot-fault, LivePass-without_clauses, LivePass-start, LiveHasNoZero-step, LiveHasNoZero-run, run-sound}
+-- What is left to show of `soundness_law`.
+use Rattle.lrat_rules.proofs.SoundSteps.{SatisfiesLive-Closes, SatisfiesUpToPivot-fault, LivePass-without_clauses, LivePass-start}
+use Rattle.lrat_rules.proofs.SoundSteps.{LiveHasNoZero-step, LiveHasNoZero-run, run-sound}
 use Rattle.lrat_rules.proofs.Refuted.{proof_lines_no_zero, LiveHasNoZero-start, unsatisfiable}
 use Rattle.lrat_rules.proofs.Derivations.{unsatisfiable_derived}
 use Rattle.cnf_base.specs.Truth.{clause_holds}

@@ -1,3 +1,4 @@
+-- What the loops of `clear_all` keep.
 use Rattle.std.proofs.Common.{◌≡◌, ◌&&◌, not, ℤ, take}
 use Rattle.lrat_rules.specs.Chain.{literals_of}
 use Rattle.lrat_rules.specs.Flags.{is_set, has_flag}

@@ -1,3 +1,4 @@
+-- What the loops of `fill` keep.
 use Rattle.std.proofs.Common.{◌≡◌, ◌≤◌, ℤ, take, vec_len, vec_capacity}
 use Rattle.lrat_rules.specs.Chain.{literals_of}
 use Rattle.lrat_rules.specs.Flags.{has_flag}

@@ -1,3 +1,4 @@
+-- What the loops of `reserve_all` keep.
 use Rattle.std.proofs.Common.{◌≡◌, ℤ, take}
 use Rattle.std.specs.Prelude.{IsTrue}
 use Rattle.lrat_rules.specs.Chain.{literals_of}

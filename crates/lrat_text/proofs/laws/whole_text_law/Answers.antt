@@ -10,5 +10,10 @@ use Rattle.lrat_text.proofs.laws.whole_text_law.Goals as goal
 pub returns : goal.returns
 returns c = λ limit bytes fits.
     let e : nat_le (length bytes) limit ≡ true = grind arith in
-    let keeps : IsKept = record { plain = c.kept_word_law.ensures.plain; signed = c.kept_word_law.ensures.signed; deletion = c.kept_word_law.ensures.deletion } in
-    rw e (lines_closed keeps (1 + length (pieces is_line_end bytes)) (the_end (end_line bytes)) (no_more (end_line bytes)) (at_end keeps (1 + length (pieces is_line_end bytes)) (end_line bytes)) (pieces is_line_end bytes) 1 refl)
+    let keeps : IsKept = record {
+      plain = c.kept_word_law.ensures.plain;
+      signed = c.kept_word_law.ensures.signed;
+      deletion = c.kept_word_law.ensures.deletion;
+    } in
+    rw e (lines_closed keeps (1 + length (pieces is_line_end bytes)) (the_end (end_line bytes)) (no_more (end_line bytes))
+    (at_end keeps (1 + length (pieces is_line_end bytes)) (end_line bytes)) (pieces is_line_end bytes) 1 refl)

@@ -1,6 +1,7 @@
+-- What is left to show of `emit_line`.
 use Rattle.std.proofs.Common.{◌≡◌, [], ◌∷◌, ◌++◌, ◌∙◌, ap, refl}
 use Rattle.std.specs.Prelude.{decimal}
-use Rattle.lrat_write.specs.LineText.{literals_text, ids_text, line_text}
+use Rattle.lrat_write.specs.LineText.{literals_text, ids_text, line_text, lead}
 use Rattle.host_io.proofs.Emitting.{in_turn, fails_within, same_text, from_second, from_third, from_fourth}
 use Rattle.lrat_write.proofs.line.emit_line.Goals as goal
 
@@ -8,33 +9,43 @@ pub returns-in_err-emit-clause-emits : goal.returns-in_err-emit-clause-emits
 returns-in_err-emit-clause-emits g c =
     let id : c.as_bytes.result.now ≡ decimal c.args.id = c.as_bytes.ensures.value ∙ c.format.ensures.text ∙ ap decimal c.get.ensures in
     let clause = literals_text c.args.clause.now in
-    let ids = ids_text c.args.lead.now c.args.ids.now in
-    fails_within (same_text c.in_err-emit.ensures.emits id) refl c.from_residual.ensures.0 (line_text c.args.id c.args.clause.now c.args.lead.now c.args.ids.now)
-    (clause ++ (32 ∷ 48 ∷ [] ++ (ids ++ 32 ∷ 48 ∷ 10 ∷ []))) c.emit.new.held.items (from_second (decimal c.args.id) clause (32 ∷ 48 ∷ []) ids (32 ∷ 48 ∷ 10 ∷ []))
+    let ids = ids_text (lead c.args.minus) c.args.ids.now in
+    fails_within (same_text c.in_err-emit.ensures.emits id) refl c.from_residual.ensures.0
+    (line_text c.args.id c.args.clause.now (lead c.args.minus) c.args.ids.now)
+    (clause ++ (32 ∷ 48 ∷ [] ++ (ids ++ 32 ∷ 48 ∷ 10 ∷ []))) c.emit.new.held.items
+    (from_second (decimal c.args.id) clause (32 ∷ 48 ∷ []) ids (32 ∷ 48 ∷ 10 ∷ []))
 
 pub returns-in_err-emit_literals-clause-emits : goal.returns-in_err-emit_literals-clause-emits
 returns-in_err-emit_literals-clause-emits g c =
     let id : c.as_bytes.result.now ≡ decimal c.args.id = c.as_bytes.ensures.value ∙ c.format.ensures.text ∙ ap decimal c.get.ensures in
-    let ids = ids_text c.args.lead.now c.args.ids.now in
-    fails_within (in_turn (same_text c.in_ok-emit.ensures.emits id) refl c.in_err-emit_literals.ensures.emits) refl c.from_residual-in_err-emit_literals.ensures.0
-    (line_text c.args.id c.args.clause.now c.args.lead.now c.args.ids.now)
-    (32 ∷ 48 ∷ [] ++ (ids ++ 32 ∷ 48 ∷ 10 ∷ [])) c.emit_literals.new.held.items (from_third (decimal c.args.id) (literals_text c.args.clause.now) (32 ∷ 48 ∷ []) ids (32 ∷ 48 ∷ 10 ∷ []))
+    let ids = ids_text (lead c.args.minus) c.args.ids.now in
+    fails_within (in_turn (same_text c.in_ok-emit.ensures.emits id) refl c.in_err-emit_literals.ensures.emits) refl
+    c.from_residual-in_err-emit_literals.ensures.0
+    (line_text c.args.id c.args.clause.now (lead c.args.minus) c.args.ids.now)
+    (32 ∷ 48 ∷ [] ++ (ids ++ 32 ∷ 48 ∷ 10 ∷ [])) c.emit_literals.new.held.items
+    (from_third (decimal c.args.id) (literals_text c.args.clause.now) (32 ∷ 48 ∷ []) ids (32 ∷ 48 ∷ 10 ∷ []))
 
 pub returns-in_err-emit-2-clause-emits : goal.returns-in_err-emit-2-clause-emits
 returns-in_err-emit-2-clause-emits g c =
     let id : c.as_bytes.result.now ≡ decimal c.args.id = c.as_bytes.ensures.value ∙ c.format.ensures.text ∙ ap decimal c.get.ensures in
-    let ids = ids_text c.args.lead.now c.args.ids.now in
-    fails_within (in_turn (in_turn (same_text c.in_ok-emit.ensures.emits id) refl c.in_ok-emit_literals.ensures.emits) refl c.in_err-emit-2.ensures.emits) refl c.from_residual-in_err-emit-2.ensures.0
-    (line_text c.args.id c.args.clause.now c.args.lead.now c.args.ids.now)
-    (ids ++ 32 ∷ 48 ∷ 10 ∷ []) c.emit-2.new.held.items (from_fourth (decimal c.args.id) (literals_text c.args.clause.now) (32 ∷ 48 ∷ []) ids (32 ∷ 48 ∷ 10 ∷ []))
+    let ids = ids_text (lead c.args.minus) c.args.ids.now in
+    fails_within (in_turn (in_turn (same_text c.in_ok-emit.ensures.emits id) refl c.in_ok-emit_literals.ensures.emits) refl
+    c.in_err-emit-2.ensures.emits) refl c.from_residual-in_err-emit-2.ensures.0
+    (line_text c.args.id c.args.clause.now (lead c.args.minus) c.args.ids.now)
+    (ids ++ 32 ∷ 48 ∷ 10 ∷ []) c.emit-2.new.held.items (from_fourth (decimal c.args.id) (literals_text c.args.clause.now) (32 ∷ 48
+    ∷ []) ids (32 ∷ 48 ∷ 10 ∷ []))
 
 pub returns-in_err-emit_ids-clause-emits : goal.returns-in_err-emit_ids-clause-emits
 returns-in_err-emit_ids-clause-emits g c =
     let id : c.as_bytes.result.now ≡ decimal c.args.id = c.as_bytes.ensures.value ∙ c.format.ensures.text ∙ ap decimal c.get.ensures in
-    fails_within (in_turn (in_turn (in_turn (same_text c.in_ok-emit.ensures.emits id) refl c.in_ok-emit_literals.ensures.emits) refl c.in_ok-emit-2.ensures.emits) refl c.in_err-emit_ids.ensures.emits)
-    refl c.from_residual-in_err-emit_ids.ensures.0 (line_text c.args.id c.args.clause.now c.args.lead.now c.args.ids.now) (32 ∷ 48 ∷ 10 ∷ []) c.emit_ids.new.held.items refl
+    fails_within (in_turn
+    (in_turn (in_turn (same_text c.in_ok-emit.ensures.emits id) refl c.in_ok-emit_literals.ensures.emits) refl
+    c.in_ok-emit-2.ensures.emits) refl c.in_err-emit_ids.ensures.emits)
+    refl c.from_residual-in_err-emit_ids.ensures.0 (line_text c.args.id c.args.clause.now (lead c.args.minus) c.args.ids.now) (32 ∷ 48 ∷ 10
+    ∷ []) c.emit_ids.new.held.items refl
 
 pub returns-clause-emits : goal.returns-clause-emits
 returns-clause-emits g c =
     let id : c.as_bytes.result.now ≡ decimal c.args.id = c.as_bytes.ensures.value ∙ c.format.ensures.text ∙ ap decimal c.get.ensures in
-    in_turn (in_turn (in_turn (in_turn (same_text c.in_ok-emit.ensures.emits id) refl c.in_ok-emit_literals.ensures.emits) refl c.in_ok-emit-2.ensures.emits) refl c.in_ok-emit_ids.ensures.emits) refl c.emit-3.ensures.emits
+    in_turn (in_turn (in_turn (in_turn (same_text c.in_ok-emit.ensures.emits id) refl c.in_ok-emit_literals.ensures.emits) refl
+    c.in_ok-emit-2.ensures.emits) refl c.in_ok-emit_ids.ensures.emits) refl c.emit-3.ensures.emits

@@ -1,3 +1,4 @@
+-- What is left to show of `write_add`.
 use Rattle.std.proofs.Common.{List, ℕ, subst}
 use Rattle.host_io.specs.Channel.{WritesAll}
 use Rattle.lrat_write.proofs.Lines.{line_text-add}
@@ -5,5 +6,6 @@ use Rattle.lrat_write.proofs.line.write_add.Goals as goal
 
 pub returns-clause-writes : goal.returns-clause-writes
 returns-clause-writes g c =
-    subst (λ (line : List ℕ). WritesAll g.S.Sink.tells (g.S.Sink.channel c.args.sink.now) (g.S.Sink.channel c.write_line.new.sink) line c.write_line.result)
+    subst (λ (line : List ℕ). WritesAll g.S.Sink.tells (g.S.Sink.channel c.args.sink.now)
+    (g.S.Sink.channel c.write_line.new.sink) line c.write_line.result)
     (line_text-add c.args.id c.args.clause.now c.args.hints.now) c.write_line.ensures.writes

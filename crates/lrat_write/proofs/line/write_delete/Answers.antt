@@ -1,21 +1,11 @@
-use Rattle.std.proofs.Common.{List, ℕ, Ok, Err, refl, subst}
+-- What is left to show of `write_delete`.
+use Rattle.std.proofs.Common.{List, ℕ, subst}
 use Rattle.host_io.specs.Channel.{WritesAll}
-use Rattle.host_io.specs.Emitted.{Emits}
-use Rattle.lrat_write.specs.LineText.{deletion_text}
-use Rattle.host_io.proofs.Emitting.{written_out, cut_before}
 use Rattle.lrat_write.proofs.Lines.{deletion_text-line}
 use Rattle.lrat_write.proofs.line.write_delete.Goals as goal
 
-pub returns-in_err-emit_deletion-clause-writes : goal.returns-in_err-emit_deletion-clause-writes
-returns-in_err-emit_deletion-clause-writes g c =
-    let empty = subst (λ (held : List ℕ). Emits g.S.Sink.tells (g.S.Sink.channel c.args.sink.now) (g.S.Sink.channel c.emit_deletion.new.sink) held c.emit_deletion.new.held.items
-    (deletion_text c.args.id c.args.ids.now) (Err c.in_err-emit_deletion.field-0.0)) c.new-rest.ensures c.in_err-emit_deletion.ensures.emits in
-    subst (λ (line : List ℕ). WritesAll g.S.Sink.tells (g.S.Sink.channel c.args.sink.now) (g.S.Sink.channel c.emit_deletion.new.sink) line c.from_residual.result)
-    (deletion_text-line c.args.id c.args.ids.now) (cut_before empty refl c.from_residual.ensures.0)
-
 pub returns-clause-writes : goal.returns-clause-writes
 returns-clause-writes g c =
-    let empty = subst (λ (held : List ℕ). Emits g.S.Sink.tells (g.S.Sink.channel c.args.sink.now) (g.S.Sink.channel c.emit_deletion.new.sink) held c.emit_deletion.new.held.items
-    (deletion_text c.args.id c.args.ids.now) (Ok tt)) c.new-rest.ensures c.in_ok-emit_deletion.ensures.emits in
-    subst (λ (line : List ℕ). WritesAll g.S.Sink.tells (g.S.Sink.channel c.args.sink.now) (g.S.Sink.channel c.write_all.new.sink) line c.write_all.result)
-    (deletion_text-line c.args.id c.args.ids.now) (written_out empty c.as_slice.ensures.value c.write_all.ensures.writes)
+    subst (λ (line : List ℕ). WritesAll g.S.Sink.tells (g.S.Sink.channel c.args.sink.now)
+    (g.S.Sink.channel c.write_deletion.new.sink) line c.write_deletion.result)
+    (deletion_text-line c.args.id c.args.ids.now) c.write_deletion.ensures.writes

@@ -1,3 +1,4 @@
+-- What is left to show of `write_one`.
 use Rattle.node_table.specs.HandedOn.{no_error}
 use Rattle.node_table.proofs.define.write_one.Goals as goal
 

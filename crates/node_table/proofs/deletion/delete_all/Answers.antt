@@ -1,3 +1,4 @@
+-- What is left to show of `delete_all`.
 use Rattle.std.proofs.Common.{refl}
 use Rattle.node_table.proofs.Deleting.{on_err}
 use Rattle.node_table.proofs.deletion.delete_all.Goals as goal
@@ -7,7 +8,12 @@ returns-in_err-delete-clause-torn g c =
     let own = c.in_err-delete.ensures in
     on_err c.from_residual.result (record {
       state = own.state;
-      cut = λ clauses proof added told. record { before = c.args.ledger.now.state; cut = own.cut clauses proof added told; among = λ id clause is. is; top = refl };
+      cut = λ clauses proof added told. record {
+        before = c.args.ledger.now.state;
+        cut = own.cut clauses proof added told;
+        among = λ id clause is. is;
+        top = refl;
+      };
       out_of_step = own.in_step;
       limit = own.limit;
       spare = own.spare;

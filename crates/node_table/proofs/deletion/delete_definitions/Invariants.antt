@@ -1,3 +1,4 @@
+-- What the loops of `delete_definitions` keep.
 use Rattle.std.proofs.Common.{◌≡◌}
 use Rattle.node_table.proofs.Deleting.{IsDeleting}
 use Rattle.node_table.proofs.deletion.delete_definitions.Given as goal

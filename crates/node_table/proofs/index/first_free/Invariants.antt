@@ -1,3 +1,4 @@
+-- What the loops of `first_free` keep.
 use Rattle.node_table.specs.Index.{AreTaken}
 use Rattle.node_table.proofs.index.first_free.Given as goal
 

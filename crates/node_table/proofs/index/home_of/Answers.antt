@@ -1,3 +1,4 @@
+-- What is left to show of `home_of`.
 use Rattle.std.proofs.Common.{◌*◌, ◌/◌, ◌%◌, ◌^◌, ap}
 use Rattle.node_table.specs.Index.{home_of}
 use Rattle.node_table.proofs.index.home_of.Goals as goal

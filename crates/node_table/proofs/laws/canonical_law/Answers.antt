@@ -1,3 +1,4 @@
+-- What is left to show of `canonical_law`.
 use Rattle.node_table.proofs.Canonical.{canonical}
 use Rattle.node_table.proofs.laws.canonical_law.Goals as goal
 

@@ -1,3 +1,4 @@
+-- What is left to show of `cofactor_law`.
 use Rattle.node_table.proofs.Canonical.{value-agree}
 use Rattle.node_table.proofs.Kept.{value-split, cofactors-below}
 use Rattle.node_table.proofs.laws.cofactor_law.Goals as goal

@@ -1,3 +1,4 @@
+-- What is left to show of `growth_law`.
 use Rattle.node_table.proofs.Grown.{KeepsNodes-further, is_node-kept, level_of-kept}
 use Rattle.node_table.proofs.Kept.{high_at-kept, low_at-kept, value-kept, atom_of-kept, IsJustified-kept}
 use Rattle.node_table.proofs.laws.growth_law.Goals as goal

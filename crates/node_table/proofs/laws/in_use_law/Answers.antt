@@ -1,3 +1,4 @@
+-- What is left to show of `in_use_law`.
 use Rattle.node_table.proofs.InUseSame.{in_use_nodes}
 use Rattle.node_table.proofs.laws.in_use_law.Goals as goal
 

@@ -1,3 +1,4 @@
+-- What is left to show of `kept_law`.
 use Rattle.node_table.proofs.KeptFrom.{KeepsFrom-all, KeepsFrom-further, stands-from, level_of-from, value-from, atom_of-from}
 use Rattle.node_table.proofs.laws.kept_law.Goals as goal
 

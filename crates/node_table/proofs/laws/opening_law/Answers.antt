@@ -1,3 +1,4 @@
+-- What is left to show of `opening_law`.
 use Rattle.node_table.proofs.Opened.{opened_tied}
 use Rattle.node_table.proofs.Retired.{AreRetired-none}
 use Rattle.node_table.proofs.laws.opening_law.Goals as goal

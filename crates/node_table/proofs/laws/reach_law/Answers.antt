@@ -1,4 +1,6 @@
-use Rattle.node_table.proofs.Reached.{Reaches-itself, Reaches-further, Reaches-high_at, Reaches-low_at, Reaches-kept, Reaches-back, ReachesNew-same, ReachesNew-joined}
+-- What is left to show of `reach_law`.
+use Rattle.node_table.proofs.Reached.{Reaches-itself, Reaches-further, Reaches-high_at, Reaches-low_at, Reaches-kept, Reaches-back}
+use Rattle.node_table.proofs.Reached.{ReachesNew-same, ReachesNew-joined}
 use Rattle.node_table.proofs.laws.reach_law.Goals as goal
 
 pub returns : goal.returns

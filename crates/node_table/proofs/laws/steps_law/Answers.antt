@@ -1,4 +1,6 @@
-use Rattle.node_table.proofs.Progressed.{Steps-none, Steps-no_memory, Steps-further, Steps-at_most, Continues-further, Extends-further, leaves_further}
+-- What is left to show of `steps_law`.
+use Rattle.node_table.proofs.Progressed.{Steps-none, Steps-no_memory, Steps-further, Steps-at_most, Continues-further, Extends-further}
+use Rattle.node_table.proofs.Progressed.{leaves_further}
 use Rattle.node_table.proofs.CallSteps.{IsAddedTo-kept, IsAddedTo-before}
 use Rattle.node_table.proofs.laws.steps_law.Goals as goal
 

@@ -1,4 +1,6 @@
-use Rattle.node_table.proofs.Subfunctions.{Subfunction-same, Subfunction-further, value-high_at, value-low_at, Subfunction-high_at, Subfunction-low_at, MakesOnly-same, MakesOnly-further, MakesOnly-part}
+-- What is left to show of `subfunction_law`.
+use Rattle.node_table.proofs.Subfunctions.{Subfunction-same, Subfunction-further, value-high_at, value-low_at, Subfunction-high_at}
+use Rattle.node_table.proofs.Subfunctions.{Subfunction-low_at, MakesOnly-same, MakesOnly-further, MakesOnly-part}
 use Rattle.node_table.proofs.laws.subfunction_law.Goals as goal
 
 pub returns : goal.returns

@@ -1,3 +1,4 @@
+-- What the loops of `remove_unmarked` keep.
 use Rattle.std.proofs.Common.{◌≡◌, ℕ, vec_capacity}
 use Rattle.node_table.specs.declared.stored.StoredNode.{StoredNode}
 use Rattle.node_table.proofs.Sweeping.{IsSweeping}

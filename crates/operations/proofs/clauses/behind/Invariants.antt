@@ -1,3 +1,4 @@
+-- What the loops of `behind` keep.
 use Rattle.std.proofs.Common.{◌≡◌, ◌∷◌, take}
 use Rattle.operations.proofs.clauses.behind.Given as goal
 

@@ -1,3 +1,4 @@
+-- What is left to show of `accounts_law`.
 use Rattle.operations.proofs.Accounts.{accounting}
 use Rattle.operations.proofs.laws.accounts_law.Goals as goal
 

@@ -1,3 +1,4 @@
+-- What is left to show of `budget_law`.
 use Rattle.operations.proofs.Budget.{budgeted}
 use Rattle.operations.proofs.laws.budget_law.Goals as goal
 

@@ -1,3 +1,4 @@
+-- What is left to show of `cache_law`.
 use Rattle.operations.proofs.Cached.{keeping}
 use Rattle.operations.proofs.laws.cache_law.Goals as goal
 

@@ -1,3 +1,4 @@
+-- What is left to show of `cache_turn_law`.
 use Rattle.operations.proofs.CacheTurns.{cache_turns}
 use Rattle.operations.proofs.laws.cache_turn_law.Goals as goal
 

@@ -1,3 +1,4 @@
+-- What is left to show of `entry_law`.
 use Rattle.operations.proofs.Kept.{fitting}
 use Rattle.operations.proofs.laws.entry_law.Goals as goal
 

@@ -1,3 +1,4 @@
+-- What is left to show of `operand_law`.
 use Rattle.operations.proofs.Splits.{splitting}
 use Rattle.operations.proofs.laws.operand_law.Goals as goal
 

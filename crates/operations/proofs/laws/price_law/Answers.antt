@@ -1,3 +1,4 @@
+-- What is left to show of `price_law`.
 use Rattle.operations.proofs.Price.{pricing}
 use Rattle.operations.proofs.laws.price_law.Goals as goal
 

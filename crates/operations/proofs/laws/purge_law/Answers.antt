@@ -1,3 +1,4 @@
+-- What is left to show of `purge_law`.
 use Rattle.operations.proofs.Purged.{purging}
 use Rattle.operations.proofs.laws.purge_law.Goals as goal
 

@@ -10,21 +10,25 @@ returns-in_err-parts-in-Ask g c =
     let ends = calls.ends c.args.table.now c.args.cache.now c.args.question in
     let error = c.in_err-parts-in-Ask.field-0.0 in
     handed ends c.ask.new.table c.ask.new.cache c.from_residual.result error c.from_residual.ensures.1
-    (ask_failed calls ends (reverse c.calls.frames.items) c.calls.table c.calls.cache c.calls.turn c.calls.invariant c.in-Ask.question c.in-Ask.is c.ask.new.table c.ask.new.cache error
+    (ask_failed calls ends (reverse c.calls.frames.items) c.calls.table c.calls.cache c.calls.turn c.calls.invariant c.in-Ask.question
+    c.in-Ask.is c.ask.new.table c.ask.new.cache error
     c.in_err-parts-in-Ask.ensures.answer)
 
 pub returns-in_err-push-in-Open : goal.returns-in_err-push-in-Open
 returns-in_err-push-in-Open g c =
     let calls = g.O.Operation.calls in
     let ends = calls.ends c.args.table.now c.args.cache.now c.args.question in
-    handed ends c.ask.new.table c.ask.new.cache c.from_residual-in_err-push-in-Open.result OutOfMemory c.from_residual-in_err-push-in-Open.ensures.1
-    (open_refused calls ends (reverse c.calls.frames.items) c.calls.table c.calls.cache c.calls.turn c.calls.invariant c.in-Ask.question c.in-Ask.is c.ask.new.table c.ask.new.cache
+    handed ends c.ask.new.table c.ask.new.cache c.from_residual-in_err-push-in-Open.result OutOfMemory
+    c.from_residual-in_err-push-in-Open.ensures.1
+    (open_refused calls ends (reverse c.calls.frames.items) c.calls.table c.calls.cache c.calls.turn c.calls.invariant c.in-Ask.question
+    c.in-Ask.is c.ask.new.table c.ask.new.cache
     c.in_ok-parts-in-Ask.field-0 c.in_ok-parts-in-Ask.ensures.answer c.in-Open.parts c.in-Open.is)
 
 pub calls-smaller-in-Open : goal.calls-smaller-in-Open
 calls-smaller-in-Open g c =
     let calls = g.O.Operation.calls in
-    open_smaller calls (calls.ends c.args.table.now c.args.cache.now c.args.question) (reverse c.calls.frames.items) c.calls.table c.calls.cache c.calls.turn c.calls.invariant c.in-Ask.question c.in-Ask.is
+    open_smaller calls (calls.ends c.args.table.now c.args.cache.now c.args.question)
+    (reverse c.calls.frames.items) c.calls.table c.calls.cache c.calls.turn c.calls.invariant c.in-Ask.question c.in-Ask.is
     c.ask.new.table c.ask.new.cache c.in_ok-parts-in-Ask.field-0 c.in_ok-parts-in-Ask.ensures.answer c.in-Open.parts c.in-Open.is
     (reverse c.push.new.frames.items) c.in_ok-push-in-Open.ensures c.high.result c.high.ensures c.in_ok-parts-in-Ask.ensures.levels
 
@@ -32,15 +36,20 @@ pub returns-in_err-push-in-Some-low : goal.returns-in_err-push-in-Some-low
 returns-in_err-push-in-Some-low g c =
     let calls = g.O.Operation.calls in
     let ends = calls.ends c.args.table.now c.args.cache.now c.args.question in
-    handed ends c.calls.table c.calls.cache c.from_residual-in_err-push-in-Some-low.result OutOfMemory c.from_residual-in_err-push-in-Some-low.ensures.1
-    (low_refused calls ends (reverse c.calls.frames.items) c.calls.table c.calls.cache c.calls.turn c.calls.invariant c.in-Answer.found c.in-Answer.is
-    c.in-Some.frame (reverse c.pop.new.frames.items) c.in-Some.ensures c.in-None.is c.in-Some-low.question (sym c.in-Some-low.is ∙ c.low.ensures))
+    handed ends c.calls.table c.calls.cache c.from_residual-in_err-push-in-Some-low.result OutOfMemory
+    c.from_residual-in_err-push-in-Some-low.ensures.1
+    (low_refused calls ends (reverse c.calls.frames.items) c.calls.table c.calls.cache c.calls.turn c.calls.invariant c.in-Answer.found
+    c.in-Answer.is
+    c.in-Some.frame (reverse c.pop.new.frames.items) c.in-Some.ensures c.in-None.is c.in-Some-low.question (sym c.in-Some-low.is
+    ∙ c.low.ensures))
 
 pub calls-smaller-in-Some-low : goal.calls-smaller-in-Some-low
 calls-smaller-in-Some-low g c =
     let calls = g.O.Operation.calls in
-    low_smaller calls (calls.ends c.args.table.now c.args.cache.now c.args.question) (reverse c.calls.frames.items) c.calls.table c.calls.cache c.calls.turn c.calls.invariant c.in-Answer.found c.in-Answer.is
-    c.in-Some.frame (reverse c.pop.new.frames.items) c.in-Some.ensures c.in-None.is c.in-Some-low.question (sym c.in-Some-low.is ∙ c.low.ensures)
+    low_smaller calls (calls.ends c.args.table.now c.args.cache.now c.args.question)
+    (reverse c.calls.frames.items) c.calls.table c.calls.cache c.calls.turn c.calls.invariant c.in-Answer.found c.in-Answer.is
+    c.in-Some.frame (reverse c.pop.new.frames.items) c.in-Some.ensures c.in-None.is c.in-Some-low.question (sym c.in-Some-low.is
+    ∙ c.low.ensures)
     (reverse c.push-in-Some-low.new.frames.items) c.in_ok-push-in-Some-low.ensures
 
 pub returns-in_err-close-in-Some-high : goal.returns-in_err-close-in-Some-high
@@ -48,6 +57,9 @@ returns-in_err-close-in-Some-high g c =
     let calls = g.O.Operation.calls in
     let ends = calls.ends c.args.table.now c.args.cache.now c.args.question in
     let error = c.in_err-close-in-Some-high.field-0.0 in
-    handed ends c.close.new.table c.close.new.cache c.from_residual-in_err-close-in-Some-high.result error c.from_residual-in_err-close-in-Some-high.ensures.1
-    (close_failed calls ends (reverse c.calls.frames.items) c.calls.table c.calls.cache c.calls.turn c.calls.invariant c.in-Answer.found c.in-Answer.is
-    c.in-Some.frame (reverse c.pop.new.frames.items) c.in-Some.ensures c.in-Some-high.high c.in-Some-high.is c.close.new.table c.close.new.cache error c.in_err-close-in-Some-high.ensures.closes)
+    handed ends c.close.new.table c.close.new.cache c.from_residual-in_err-close-in-Some-high.result error
+    c.from_residual-in_err-close-in-Some-high.ensures.1
+    (close_failed calls ends (reverse c.calls.frames.items) c.calls.table c.calls.cache c.calls.turn c.calls.invariant c.in-Answer.found
+    c.in-Answer.is
+    c.in-Some.frame (reverse c.pop.new.frames.items) c.in-Some.ensures c.in-Some-high.high c.in-Some-high.is c.close.new.table
+    c.close.new.cache error c.in_err-close-in-Some-high.ensures.closes)

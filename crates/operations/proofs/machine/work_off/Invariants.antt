@@ -6,7 +6,9 @@ use Rattle.operations.proofs.OpenCalls.{GoesOn, turns_next, turns_of}
 use Rattle.operations.proofs.machine.work_off.Given as goal
 
 abbrev pub invariant-calls : goal.invariant-calls
-invariant-calls g l = GoesOn g.O.Operation.calls (g.O.Operation.calls.ends l.fn.table l.fn.cache l.fn.question) (reverse l.frames.items) l.table l.cache l.turn
+invariant-calls g l = GoesOn g.O.Operation.calls (g.O.Operation.calls.ends l.fn.table l.fn.cache l.fn.question)
+    (reverse l.frames.items) l.table l.cache l.turn
 
 abbrev pub decreases-calls : goal.decreases-calls
-decreases-calls g l = turns_of g.O.Operation.calls (levels l.table.graph) (reverse l.frames.items) + turns_next g.O.Operation.calls l.table l.turn
+decreases-calls g l = turns_of g.O.Operation.calls (levels l.table.graph) (reverse l.frames.items)
+    + turns_next g.O.Operation.calls l.table l.turn

@@ -1,30 +1,52 @@
-use Rattle.std.proofs.Common.{◌≡◌, ◌≤◌, ℕ, length, sym, ap, ◌∙◌, arith, inl}
-use Rattle.hint_chain.specs.Atoms.{clause_of, down_clause}
+-- What is left to show of `down_part`.
+use Rattle.std.proofs.Common.{◌≡◌, List, [], ◌∷◌, Option, sym, ap, ◌∙◌, subst, inl}
+use Rattle.hint_chain.specs.declared.atom.Atom.TheVariants.{Of}
+use Rattle.hint_chain.specs.declared.part.Part.{Part}
+use Rattle.hint_chain.specs.Additions.{part_clause}
+use Rattle.hint_chain.specs.Atoms.{clause_of, neg_atom, down_clause}
+use Rattle.hint_chain.specs.Greedy.{IsLivePart}
 use Rattle.node_table.specs.Defined.{atom_of, clause_named}
 use Rattle.operations.specs.Sides.{false_literal, cofactor_at, down_of}
-use Rattle.operations.proofs.NodeParts.{down_given, nonzero_node, cofactor_stands}
+use Rattle.operations.proofs.NodeParts.{down_given, level_within, named_clause, named_live, nonzero_node, cofactor_stands}
+use Rattle.operations.proofs.parts.down_part.Given.{Over}
 use Rattle.operations.proofs.parts.down_part.Goals as goal
+use Rattle.operations.proofs.parts.down_part.Goals.{After-part_of}
 
-at_most_four : (n : ℕ) → n ≤ 3 → n ≤ 4
-at_most_four n three = omega arith
+pub false_literal-requires : goal.false_literal-requires
+false_literal-requires g c =
+    let branch = c.in-Some.ensures in
+    level_within c.args.table.now.graph c.requires.tied.reduced c.args.level c.args.node branch.0 branch.1 branch.2
 
-pub part_of-requires : goal.part_of-requires
-part_of-requires g c clause is =
+-- the atoms are those of the clause
+atoms : (g : Over) (c : After-part_of g) → clause_of (c.negated.result ∷ Of c.false_literal.result ∷ c.atom-child.result ∷ [])
+    ≡ clause_of (down_clause (atom_of c.args.table.now.graph c.args.node) (false_literal c.args.side c.args.table.now.graph c.args.level)
+    (atom_of c.args.table.now.graph (cofactor_at c.args.side c.args.table.now.graph c.args.level c.args.node)))
+atoms g c = λ i. clause_of ((c.negated.ensures ∙ ap neg_atom c.atom-own.ensures) i ∷ Of (c.false_literal.ensures i)
+    ∷ (c.atom-child.ensures ∙ ap (atom_of c.args.table.now.graph) c.cofactor.ensures) i ∷ [])
+
+-- which stands under the number
+given : (g : Over) (c : After-part_of g) → clause_named c.args.table.now.book.state.live c.down_id.result
+    ≡ clause_of (c.negated.result ∷ Of c.false_literal.result ∷ c.atom-child.result ∷ [])
+given g c =
     let graph = c.args.table.now.graph in
     let live = c.args.table.now.book.state.live in
     let branch = c.in-Some.ensures in
-    let atoms = down_clause (atom_of graph c.args.node) (false_literal c.args.side graph c.args.level) (atom_of graph (cofactor_at c.args.side graph c.args.level c.args.node)) in
-    let named : clause_named live c.down_id.result ≡ clause_of atoms =
-    ap (clause_named live) (c.down_id.ensures ∙ ap (down_of c.args.side) branch.3) ∙ down_given graph live c.args.level c.requires.tied.defined c.args.side c.args.node branch.0 branch.1 branch.2 in
-    at_most_four (length clause) (c.clause_law.ensures.short atoms clause (sym named ∙ is))
+    ap (clause_named live) (c.down_id.ensures ∙ ap (down_of c.args.side) branch.3)
+    ∙ down_given graph live c.args.level c.requires.tied.defined c.args.side c.args.node branch.0 branch.1 branch.2 ∙ sym (atoms g c)
 
 pub returns-in-Some-clause-down : goal.returns-in-Some-clause-down
 returns-in-Some-clause-down g c =
     let graph = c.args.table.now.graph in
     let live = c.args.table.now.book.state.live in
-    let branch = c.in-Some.ensures in
+    let own = (goal.at.returns-in-Some-clause-down g c).After-part_of in
     record {
-      nonzero = nonzero_node graph c.requires.tied.reduced (cofactor_at c.args.side graph c.args.level c.args.node) (cofactor_stands graph live c.args.level c.requires.tied.reduced c.args.side c.args.node c.requires.stands);
-      down = inl (c.part_of.ensures.clause ∙ ap (clause_named live) (c.down_id.ensures ∙ ap (down_of c.args.side) branch.3)
-          ∙ down_given graph live c.args.level c.requires.tied.defined c.args.side c.args.node branch.0 branch.1 branch.2);
+      nonzero = nonzero_node graph c.requires.tied.reduced (cofactor_at c.args.side graph c.args.level c.args.node)
+          (cofactor_stands graph live c.args.level c.requires.tied.reduced c.args.side c.args.node c.requires.stands);
+      down = inl (ap part_clause c.part_of.ensures ∙ named_clause live c.down_id.result _ (given g own) ∙ atoms g own);
     }
+
+pub returns-in-Some-clause-live : goal.returns-in-Some-clause-live
+returns-in-Some-clause-live g c =
+    let live = c.args.table.now.book.state.live in
+    subst (λ (part : Option Part). IsLivePart live part) (sym c.part_of.ensures)
+    (named_live live c.down_id.result _ (given g (goal.at.returns-in-Some-clause-live g c).After-part_of))

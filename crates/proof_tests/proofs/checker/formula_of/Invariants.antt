@@ -3,4 +3,9 @@ use Rattle.std.proofs.Common.{◌≡◌, length, []}
 use Rattle.proof_tests.proofs.checker.formula_of.Given as goal
 
 abbrev pub invariant-loop-clause : goal.invariant-loop-clause
-invariant-loop-clause g l = record { vars : l.formula.vars ≡ 4; count : length l.formula.clauses ≡ l.clause-index; ended : l.formula.begun ≡ [] }
+invariant-loop-clause g l = record {
+  vars : l.formula.vars ≡ 4;
+  count : length l.formula.clauses ≡ l.clause-index;
+  ended : l.formula.begun
+      ≡ [];
+}

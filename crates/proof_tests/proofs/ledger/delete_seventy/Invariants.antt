@@ -1,3 +1,4 @@
+-- What the loops of `delete_seventy` keep.
 use Rattle.std.proofs.Common.{IsTrue}
 use Rattle.proof_tests.proofs.ledger.delete_seventy.Given as goal
 

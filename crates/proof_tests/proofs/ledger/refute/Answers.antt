@@ -4,7 +4,8 @@ use Rattle.lrat_rules.specs.State.{State, Live, clause_at}
 use Rattle.lrat_rules.specs.Strict.{RefutesStrictly}
 use Rattle.proof_tests.proofs.ledger.refute.Goals as goal
 
-one_then_two : (live : Live) → clause_at live 1 ≡ Some (pos 1 ∷ []) → clause_at live 2 ≡ Some (negsuc 0 ∷ []) → RefutesStrictly live [] (1 ∷ 2 ∷ [])
+one_then_two : (live : Live) → clause_at live 1 ≡ Some (pos 1 ∷ []) → clause_at live 2 ≡ Some (negsuc 0 ∷ [])
+    → RefutesStrictly live [] (1 ∷ 2 ∷ [])
 one_then_two live one two = record { strict = rw (one, two) }
 
 pub add-requires-clause-strict : goal.add-requires-clause-strict

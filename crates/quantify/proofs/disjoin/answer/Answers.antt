@@ -31,7 +31,12 @@ returns-in-Some-clause-answers g c =
       disjoined = found;
       reachable = c.reach_law.ensures.none_made table.graph w;
       kept = λ differ first second. absurd (not_plain table.graph u v w differ first second c.in-Some.ensures.plain);
-      known = λ other there. (ap Ok (only_disjunction c.canonical_law.ensures table.graph can.sound.tied.reduced u v w other found (can.fits.each (Disjunction u v other) there).1), refl, have_same list);
+      known = λ other there. (
+        ap Ok (only_disjunction c.canonical_law.ensures table.graph can.sound.tied.reduced u v w other found
+            (can.fits.each (Disjunction u v other) there).1),
+        refl,
+        have_same list,
+      );
       plain = λ other plain. (ap Ok (same_some w other (c.in-Some.ensures.exact other plain)), refl, refl);
     }
 
@@ -47,12 +52,15 @@ returns-clause-answers g c =
     let can = c.requires.can in
     let apart = c.in_default.ensures.disjoined in
     let inner = apart table.graph can.first can.second in
-    elim (c.look.result) as (λ (r : Option Node). c.look.result ≡ r → IfSome r (λ w. Disjoins g.S.Sink.tells g.S.Sink.channel g.S.Sink.beside table cache u v table after (Ok w))) [
+    elim (c.look.result) as (λ (r : Option Node). c.look.result ≡ r
+    → IfSome r (λ w. Disjoins g.S.Sink.tells g.S.Sink.channel g.S.Sink.beside table cache u v table after (Ok w))) [
       | None ↦ λ is. tt
       | Some w ↦ λ is.
-          let kept : Contains (disjunctions after) (Disjunction u v w) = subst (λ (r : Option Node). IfSome r (λ x. Contains (disjunctions after) (Disjunction u v x))) is c.look.ensures.found in
+          let kept : Contains (disjunctions after) (Disjunction u v w) = subst
+          (λ (r : Option Node). IfSome r (λ x. Contains (disjunctions after) (Disjunction u v x))) is c.look.ensures.found in
           let there = looked.same.back (Disjunction u v w) kept in record {
-            runs = runs_none c.steps_law.ensures c.subfunction_law.ensures table list (disjunction_of table.graph u v) can.sound (disjunctions after)
+            runs = runs_none c.steps_law.ensures c.subfunction_law.ensures table list (disjunction_of table.graph u v) can.sound
+                (disjunctions after)
                 (fits_same c.entry_law.ensures table list (disjunctions after) looked.same can.fits) w;
             remembers = remembers_looked disjunction cache.results after.results looked;
             disjoined = (can.fits.each (Disjunction u v w) there).1;

@@ -29,15 +29,18 @@ returns-then-level-own g c =
     let u = c.args.u in
     let level = c.args.level in
     let can = c.requires.can in
-    let found = quantified_below c.cofactor_law.ensures table.graph can.sound.tied.reduced level u (record { stands = can.stands; below = omega (arith, c.if-level-own.true, c.level_of-own.ensures) }) in record {
-      runs = runs_none c.steps_law.ensures c.subfunction_law.ensures table (both_caches cache ors) (quantification_of table.graph u level) can.sound (both_caches cache ors) can.fits u;
+    let found = quantified_below c.cofactor_law.ensures table.graph can.sound.tied.reduced level u
+    (record { stands = can.stands; below = omega (arith, c.if-level-own.true, c.level_of-own.ensures) }) in record {
+      runs = runs_none c.steps_law.ensures c.subfunction_law.ensures table (both_caches cache ors)
+          (quantification_of table.graph u level) can.sound (both_caches cache ors) can.fits u;
       remembers = remembers_all quantification cache.results;
       remembers_ors = remembers_all disjunction ors.results;
       quantified = found;
       reachable = c.reach_law.ensures.none_made table.graph u;
       kept = λ at. absurd (omega (arith, at, c.if-level-own.true, c.level_of-own.ensures));
       known = λ other there. (
-        ap Ok (only_quantification c.canonical_law.ensures table.graph can.sound.tied.reduced u level u other found (can.fits.each (Quantification u level other) (Contains-append_left (quantifications cache) (disjunctions ors) _ there)).1),
+        ap Ok (only_quantification c.canonical_law.ensures table.graph can.sound.tied.reduced u level u other found
+            (can.fits.each (Quantification u level other) (Contains-append_left (quantifications cache) (disjunctions ors) _ there)).1),
         refl,
         have_same (quantifications cache),
         refl,
@@ -57,7 +60,8 @@ returns-in-Some g c =
     let looked = c.in-Some.ensures.looked in
     let w = c.in-Some.w in
     let there = looked.same.back (Quantification u level w) c.in-Some.ensures.found in record {
-      runs = runs_none c.steps_law.ensures c.subfunction_law.ensures table (both_caches cache ors) (quantification_of table.graph u level) can.sound (both_caches after ors)
+      runs = runs_none c.steps_law.ensures c.subfunction_law.ensures table (both_caches cache ors)
+          (quantification_of table.graph u level) can.sound (both_caches after ors)
           (looked_part c.entry_law.ensures table cache ors can.fits after looked.same) w;
       remembers = remembers_looked quantification cache.results after.results looked;
       remembers_ors = remembers_all disjunction ors.results;
@@ -78,13 +82,17 @@ returns-then-own-level g c = (
 )
 
 pub disjoin_children-requires-clause-missed : goal.disjoin_children-requires-clause-missed
-disjoin_children-requires-clause-missed g c w there = no_found w (c.in_default.ensures.exact w (subst (λ (cache : ExistsCache). Contains (quantifications cache) (Quantification c.args.u c.args.level w)) (c.in_default.ensures.missed refl) there))
+disjoin_children-requires-clause-missed g c w there = no_found w
+    (c.in_default.ensures.exact w (subst (λ (cache : ExistsCache). Contains (quantifications cache)
+    (Quantification c.args.u c.args.level w)) (c.in_default.ensures.missed refl) there))
 
 pub returns-in_err-w : goal.returns-in_err-w
 returns-in_err-w g c =
     let old = c.args.table.now in
     let came = c.in_err-w.field-0.0 in
-    subst (λ (r : Result (Option Node) TableError). IsAnswered g.S.Sink.tells g.S.Sink.channel g.S.Sink.beside old c.args.cache.now c.args.ors.now c.args.u c.args.level c.disjoin_children.new.table c.disjoin_children.new.cache
+    subst (λ (r : Result (Option Node) TableError). IsAnswered g.S.Sink.tells g.S.Sink.channel g.S.Sink.beside old c.args.cache.now
+    c.args.ors.now c.args.u c.args.level c.disjoin_children.new.table c.disjoin_children.new.cache
     c.disjoin_children.new.ors r) (sym (handed_on _ came came c.from_residual.ensures.1 refl))
-    (subst (λ (cache : ExistsCache). Quantifies g.S.Sink.tells g.S.Sink.channel g.S.Sink.beside old cache c.args.ors.now c.args.u c.args.level c.disjoin_children.new.table c.disjoin_children.new.cache
+    (subst (λ (cache : ExistsCache). Quantifies g.S.Sink.tells g.S.Sink.channel g.S.Sink.beside old cache c.args.ors.now c.args.u
+    c.args.level c.disjoin_children.new.table c.disjoin_children.new.cache
     c.disjoin_children.new.ors (Err came)) (c.in_default.ensures.missed refl) c.in_err-w.ensures)

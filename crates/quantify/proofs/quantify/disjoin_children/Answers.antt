@@ -32,8 +32,10 @@ returns-in_err-w g c =
     let done = c.in_err-w.ensures in
     let came = c.in_err-w.field-0.0 in
     let children = c.cofactors-high.ensures in
-    let at = quantification_by c.cofactor_law.ensures old.graph can.sound.tied.reduced level u can.stands c.requires.at can.within c.cofactors-high.result.0 c.cofactors-high.result.1 children.high children.low in
-    let own : Runs g.S.Sink.tells g.S.Sink.channel g.S.Sink.beside old (disjunctions ors) (quantification_of old.graph u level) new (disjunctions c.or.new.cache) (Err came) = record {
+    let at = quantification_by c.cofactor_law.ensures old.graph can.sound.tied.reduced level u can.stands c.requires.at can.within
+    c.cofactors-high.result.0 c.cofactors-high.result.1 children.high children.low in
+    let own : Runs g.S.Sink.tells g.S.Sink.channel g.S.Sink.beside old (disjunctions ors) (quantification_of old.graph u level) new
+    (disjunctions c.or.new.cache) (Err came) = record {
       steps = done.steps;
       retired = done.retired;
       none_added = done.none_added;
@@ -42,8 +44,10 @@ returns-in_err-w g c =
       lacks = λ is. subst (LacksPart new.graph) at (done.lacks is);
       beside = done.beside;
     } in
-    subst (λ (r : Answer). Quantifies g.S.Sink.tells g.S.Sink.channel g.S.Sink.beside old cache ors u level new cache c.or.new.cache r) (sym (handed_on _ came came c.from_residual.ensures.1 refl)) (record {
-      runs = runs_beside c.entry_law.ensures old can.sound cache ors can.fits (quantification_of old.graph u level) new c.or.new.cache (Err came) own;
+    subst (λ (r : Answer). Quantifies g.S.Sink.tells g.S.Sink.channel g.S.Sink.beside old cache ors u level new cache c.or.new.cache r)
+    (sym (handed_on _ came came c.from_residual.ensures.1 refl)) (record {
+      runs = runs_beside c.entry_law.ensures old can.sound cache ors can.fits (quantification_of old.graph u level) new c.or.new.cache
+          (Err came) own;
       remembers = remembers_all quantification cache.results;
       remembers_ors = record { entries = done.remembered; no_fewer = done.no_fewer; capacity = done.capacity };
       quantified = tt;
@@ -65,8 +69,10 @@ returns-in_err-keep g c =
     let done = c.in_ok-w.ensures in
     let w = c.in_ok-w.w in
     let children = c.cofactors-high.ensures in
-    let at = quantification_by c.cofactor_law.ensures old.graph can.sound.tied.reduced level u can.stands c.requires.at can.within c.cofactors-high.result.0 c.cofactors-high.result.1 children.high children.low in
-    let own : Runs g.S.Sink.tells g.S.Sink.channel g.S.Sink.beside old (disjunctions ors) (quantification_of old.graph u level) new (disjunctions c.or.new.cache) (Ok w) = record {
+    let at = quantification_by c.cofactor_law.ensures old.graph can.sound.tied.reduced level u can.stands c.requires.at can.within
+    c.cofactors-high.result.0 c.cofactors-high.result.1 children.high children.low in
+    let own : Runs g.S.Sink.tells g.S.Sink.channel g.S.Sink.beside old (disjunctions ors) (quantification_of old.graph u level) new
+    (disjunctions c.or.new.cache) (Ok w) = record {
       steps = done.steps;
       retired = done.retired;
       none_added = done.none_added;
@@ -75,12 +81,17 @@ returns-in_err-keep g c =
       lacks = λ is. subst (LacksPart new.graph) at (done.lacks is);
       beside = done.beside;
     } in
-    let first = runs_beside c.entry_law.ensures old can.sound cache ors can.fits (quantification_of old.graph u level) new c.or.new.cache (Ok w) own in
+    let first = runs_beside c.entry_law.ensures old can.sound cache ors can.fits (quantification_of old.graph u level) new c.or.new.cache
+    (Ok w) own in
     let list = both_caches cache c.or.new.cache in
-    subst (λ (r : Answer). Quantifies g.S.Sink.tells g.S.Sink.channel g.S.Sink.beside old cache ors u level new c.keep.new.self c.or.new.cache r) (sym (handed_on _ OutOfMemory OutOfMemory c.from_residual-in_err-keep.ensures.1 refl))
-    (subst (λ (after : ExistsCache). Quantifies g.S.Sink.tells g.S.Sink.channel g.S.Sink.beside old cache ors u level new after c.or.new.cache (Err OutOfMemory)) (sym c.in_err-keep.ensures.refused) (record {
-      runs = runs_further c.steps_law.ensures c.subfunction_law.ensures old (both_caches cache ors) (quantification_of old.graph u level) new list (Err OutOfMemory) new list w first
-          (runs_refused c.steps_law.ensures c.subfunction_law.ensures new list (quantification_of old.graph u level) first.steps.leaves.sound list (first.fits no_error));
+    subst (λ (r : Answer). Quantifies g.S.Sink.tells g.S.Sink.channel g.S.Sink.beside old cache ors u level new c.keep.new.self
+    c.or.new.cache r) (sym (handed_on _ OutOfMemory OutOfMemory c.from_residual-in_err-keep.ensures.1 refl))
+    (subst (λ (after : ExistsCache). Quantifies g.S.Sink.tells g.S.Sink.channel g.S.Sink.beside old cache ors u level new after
+    c.or.new.cache (Err OutOfMemory)) (sym c.in_err-keep.ensures.refused) (record {
+      runs = runs_further c.steps_law.ensures c.subfunction_law.ensures old (both_caches cache ors)
+          (quantification_of old.graph u level) new list (Err OutOfMemory) new list w first
+          (runs_refused c.steps_law.ensures c.subfunction_law.ensures new list
+          (quantification_of old.graph u level) first.steps.leaves.sound list (first.fits no_error));
       remembers = remembers_all quantification cache.results;
       remembers_ors = record { entries = done.remembered; no_fewer = done.no_fewer; capacity = done.capacity };
       quantified = tt;
@@ -102,8 +113,10 @@ returns g c =
     let done = c.in_ok-w.ensures in
     let w = c.in_ok-w.w in
     let children = c.cofactors-high.ensures in
-    let at = quantification_by c.cofactor_law.ensures old.graph can.sound.tied.reduced level u can.stands c.requires.at can.within c.cofactors-high.result.0 c.cofactors-high.result.1 children.high children.low in
-    let own : Runs g.S.Sink.tells g.S.Sink.channel g.S.Sink.beside old (disjunctions ors) (quantification_of old.graph u level) new (disjunctions c.or.new.cache) (Ok w) = record {
+    let at = quantification_by c.cofactor_law.ensures old.graph can.sound.tied.reduced level u can.stands c.requires.at can.within
+    c.cofactors-high.result.0 c.cofactors-high.result.1 children.high children.low in
+    let own : Runs g.S.Sink.tells g.S.Sink.channel g.S.Sink.beside old (disjunctions ors) (quantification_of old.graph u level) new
+    (disjunctions c.or.new.cache) (Ok w) = record {
       steps = done.steps;
       retired = done.retired;
       none_added = done.none_added;
@@ -112,18 +125,24 @@ returns g c =
       lacks = λ is. subst (LacksPart new.graph) at (done.lacks is);
       beside = done.beside;
     } in
-    let first = runs_beside c.entry_law.ensures old can.sound cache ors can.fits (quantification_of old.graph u level) new c.or.new.cache (Ok w) own in
+    let first = runs_beside c.entry_law.ensures old can.sound cache ors can.fits (quantification_of old.graph u level) new c.or.new.cache
+    (Ok w) own in
     let list = both_caches cache c.or.new.cache in
     let after = c.keep.new.self in
     let kept = c.in_ok-keep.ensures.kept in
     let found_children : Disjoined new.graph (high_at old.graph level u) (low_at old.graph level u) w =
-    subst (λ (n : Node). Disjoined new.graph n (low_at old.graph level u) w) children.high (subst (λ (n : Node). Disjoined new.graph c.cofactors-high.result.0 n w) children.low done.disjoined) in
-    let found = quantified_disjoined c.cofactor_law.ensures c.growth_law.ensures old.graph new.graph can.sound.tied.reduced done.steps.extends.nodes level u can.stands c.requires.at can.within w found_children in
+    subst (λ (n : Node). Disjoined new.graph n (low_at old.graph level u) w) children.high
+    (subst (λ (n : Node). Disjoined new.graph c.cofactors-high.result.0 n w) children.low done.disjoined) in
+    let found = quantified_disjoined c.cofactor_law.ensures c.growth_law.ensures old.graph new.graph can.sound.tied.reduced
+    done.steps.extends.nodes level u can.stands c.requires.at can.within w found_children in
     let stands = c.growth_law.ensures.stands old.graph new.graph done.steps.extends.nodes u can.stands in
     let fits = kept_part c.entry_law.ensures new cache c.or.new.cache (first.fits no_error) after u w level (stands, found) kept in record {
-      runs = runs_further c.steps_law.ensures c.subfunction_law.ensures old (both_caches cache ors) (quantification_of old.graph u level) new (both_caches after c.or.new.cache) (Ok w) new list w first
-          (runs_none c.steps_law.ensures c.subfunction_law.ensures new list (quantification_of old.graph u level) first.steps.leaves.sound (both_caches after c.or.new.cache) fits w);
-      remembers = c.cache_law.ensures.makes_room quantification cache.results cache.results after.results (u, level) c.requires.missed (remembers_all quantification cache.results) kept.room;
+      runs = runs_further c.steps_law.ensures c.subfunction_law.ensures old (both_caches cache ors)
+          (quantification_of old.graph u level) new (both_caches after c.or.new.cache) (Ok w) new list w first
+          (runs_none c.steps_law.ensures c.subfunction_law.ensures new list (quantification_of old.graph u level) first.steps.leaves.sound
+          (both_caches after c.or.new.cache) fits w);
+      remembers = c.cache_law.ensures.makes_room quantification cache.results cache.results after.results (u, level) c.requires.missed
+          (remembers_all quantification cache.results) kept.room;
       remembers_ors = record { entries = done.remembered; no_fewer = done.no_fewer; capacity = done.capacity };
       quantified = found;
       reachable = done.reachable;

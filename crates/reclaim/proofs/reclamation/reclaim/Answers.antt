@@ -1,3 +1,4 @@
+-- What is left to show of `reclaim`.
 use Rattle.std.proofs.Common.{Option, Some, refl, ap, sym, subst}
 use Rattle.node_table.specs.declared.error.TableError.{TableError}
 use Rattle.node_table.specs.HandedOn.{handed_on}
@@ -20,7 +21,8 @@ sweep-requires-clause-clear g c =
       gone = c.settle.ensures.gone;
       stay = c.settle.ensures.stay;
     } in
-    clear_two c.entry_law.ensures c.purge_law.ensures c.args.table.now one two c.args.roots.now c.in_ok-marks.marks (g.P.Purge.entries c.args.caches.now) (g.P.Purge.entries c.purge.new.self)
+    clear_two c.entry_law.ensures c.purge_law.ensures c.args.table.now one two c.args.roots.now c.in_ok-marks.marks
+    (g.P.Purge.entries c.args.caches.now) (g.P.Purge.entries c.purge.new.self)
     c.requires.sound c.requires.fits c.in_ok-marks.ensures.reached c.in_ok-marks.ensures.marks c.purge.ensures.purged settled c.requires.may
 
 pub returns-in_err-count-clause-leaves : goal.returns-in_err-count-clause-leaves
@@ -31,9 +33,12 @@ returns-in_err-count-clause-leaves g c =
     let two = c.settle.new.self in
     let new = c.sweep.new.self in
     let came = c.in_err-count.field-0.0 in
-    let so_far = c.steps_law.ensures.go_on (channel old.book.sink) (channel one.book.sink) (channel two.book.sink) old one two c.purge.ensures.steps.leaves c.in_ok-settle.ensures.leaves in
-    subst (λ (error : Option TableError). Leaves g.S.Sink.tells (channel old.book.sink) (channel new.book.sink) old new error) (sym (ap error_of (handed_on _ came came c.from_residual-in_err-count.ensures.1 refl)))
-    (c.steps_law.ensures.leave (channel old.book.sink) (channel two.book.sink) (channel new.book.sink) old two new (Some came) so_far c.in_err-count.ensures.leaves)
+    let so_far = c.steps_law.ensures.go_on (channel old.book.sink) (channel one.book.sink)
+    (channel two.book.sink) old one two c.purge.ensures.steps.leaves c.in_ok-settle.ensures.leaves in
+    subst (λ (error : Option TableError). Leaves g.S.Sink.tells (channel old.book.sink) (channel new.book.sink) old new error)
+    (sym (ap error_of (handed_on _ came came c.from_residual-in_err-count.ensures.1 refl)))
+    (c.steps_law.ensures.leave (channel old.book.sink) (channel two.book.sink) (channel new.book.sink) old two new
+    (Some came) so_far c.in_err-count.ensures.leaves)
 
 pub returns-clause-reclaims : goal.returns-clause-reclaims
 returns-clause-reclaims g c =
@@ -60,7 +65,8 @@ returns-clause-reclaims g c =
       inputs = c.in_ok-count.ensures.leaves.inputs;
       top = c.sweep.ensures.top;
     } in
-    reclaims c.entry_law.ensures c.purge_law.ensures c.args.table.now one two c.args.roots.now c.in_ok-marks.marks (g.P.Purge.entries c.args.caches.now) (g.P.Purge.entries c.purge.new.self)
+    reclaims c.entry_law.ensures c.purge_law.ensures c.args.table.now one two c.args.roots.now c.in_ok-marks.marks
+    (g.P.Purge.entries c.args.caches.now) (g.P.Purge.entries c.purge.new.self)
     c.requires.sound c.requires.fits c.in_ok-marks.ensures.reached c.in_ok-marks.ensures.marks c.purge.ensures.purged settled new swept
 
 pub returns-clause-leaves : goal.returns-clause-leaves
@@ -70,5 +76,7 @@ returns-clause-leaves g c =
     let one = c.purge.new.table in
     let two = c.settle.new.self in
     let new = c.sweep.new.self in
-    let so_far = c.steps_law.ensures.go_on (channel old.book.sink) (channel one.book.sink) (channel two.book.sink) old one two c.purge.ensures.steps.leaves c.in_ok-settle.ensures.leaves in
-    c.steps_law.ensures.go_on (channel old.book.sink) (channel two.book.sink) (channel new.book.sink) old two new so_far c.in_ok-count.ensures.leaves
+    let so_far = c.steps_law.ensures.go_on (channel old.book.sink) (channel one.book.sink)
+    (channel two.book.sink) old one two c.purge.ensures.steps.leaves c.in_ok-settle.ensures.leaves in
+    c.steps_law.ensures.go_on (channel old.book.sink) (channel two.book.sink)
+    (channel new.book.sink) old two new so_far c.in_ok-count.ensures.leaves

@@ -1,3 +1,4 @@
+-- What the loops of `bucket_moves` keep.
 use Rattle.std.proofs.Common.{◌≡◌, ◌++◌, All, length, reverse}
 use Rattle.schedule_plan.specs.Bucket.{bucket}
 use Rattle.schedule_plan.specs.Forest.{IsItem, moves_to_all}

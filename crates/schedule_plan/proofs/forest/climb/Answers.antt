@@ -1,3 +1,4 @@
+-- What is left to show of `climb`.
 use Rattle.std.proofs.Common.{ℕ, ◌≡◌, ◌+◌, length, set, Some, arith, sym, subst}
 use Rattle.schedule_plan.proofs.Climb.{IsClimbed, IsClimbing, place_at, climb_first, climb_next, climb_root, climb_last, climbed_all}
 use Rattle.schedule_plan.proofs.ItemFacts.{items_of, item_facts, sorted_facts}
@@ -15,23 +16,28 @@ pub climbing-preserved-in-Some : goal.climbing-preserved-in-Some
 climbing-preserved-in-Some c =
     let s = items_of c.args.formula.now c.args.order.now c.args.occurrences.now c.args.buckets.now in
     let place = place_at c.args.occurrences.now c.occurrences.one-index in
-    subst (λ (m : ℕ). IsClimbing s c.occurrences.one-index c.occurrences.buckets c.occurrences.above c.climbing.buckets (set c.climbing.above c.climbing.item (Some (m + place))) c.in-Some.next)
+    subst (λ (m : ℕ). IsClimbing s c.occurrences.one-index c.occurrences.buckets c.occurrences.above c.climbing.buckets
+    (set c.climbing.above c.climbing.item (Some (m + place))) c.in-Some.next)
     (sym c.len-clauses.ensures)
-    (climb_next s c.occurrences.one-index c.occurrences.buckets c.occurrences.above c.climbing.buckets c.climbing.above c.climbing.item c.in-Some.next
+    (climb_next s c.occurrences.one-index c.occurrences.buckets c.occurrences.above c.climbing.buckets c.climbing.above c.climbing.item
+    c.in-Some.next
     (item_facts c.args.formula.now c.args.order.now c.args.occurrences.now c.args.buckets.now c.requires.sound c.requires.fresh)
     (sorted_facts c.args.formula.now c.args.order.now c.args.occurrences.now c.args.buckets.now c.requires.occurrences)
-    c.occurrences-test.true c.occurrences.invariant c.climbing.invariant (omega (arith, c.climbing-test.true, c.len-clauses.ensures)) c.in-Some.is).1
+    c.occurrences-test.true c.occurrences.invariant c.climbing.invariant
+    (omega (arith, c.climbing-test.true, c.len-clauses.ensures)) c.in-Some.is).1
 
 pub climbing-preserved : goal.climbing-preserved
 climbing-preserved c =
     let s = items_of c.args.formula.now c.args.order.now c.args.occurrences.now c.args.buckets.now in
     let place = place_at c.args.occurrences.now c.occurrences.one-index in
-    subst (λ (m : ℕ). IsClimbing s c.occurrences.one-index c.occurrences.buckets c.occurrences.above (set c.climbing.buckets c.climbing.item place) (set c.climbing.above c.climbing.item (Some (m + place))) (m + place))
+    subst (λ (m : ℕ). IsClimbing s c.occurrences.one-index c.occurrences.buckets c.occurrences.above
+    (set c.climbing.buckets c.climbing.item place) (set c.climbing.above c.climbing.item (Some (m + place))) (m + place))
     (sym c.len-clauses.ensures)
     (climb_root s c.occurrences.one-index c.occurrences.buckets c.occurrences.above c.climbing.buckets c.climbing.above c.climbing.item
     (item_facts c.args.formula.now c.args.order.now c.args.occurrences.now c.args.buckets.now c.requires.sound c.requires.fresh)
     (sorted_facts c.args.formula.now c.args.order.now c.args.occurrences.now c.args.buckets.now c.requires.occurrences)
-    c.occurrences-test.true c.occurrences.invariant c.climbing.invariant (omega (arith, c.climbing-test.true, c.len-clauses.ensures)) c.in-None.is)
+    c.occurrences-test.true c.occurrences.invariant c.climbing.invariant
+    (omega (arith, c.climbing-test.true, c.len-clauses.ensures)) c.in-None.is)
 
 pub occurrences-preserved : goal.occurrences-preserved
 occurrences-preserved c =

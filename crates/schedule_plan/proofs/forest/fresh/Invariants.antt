@@ -1,3 +1,4 @@
+-- What the loops of `fresh` keep.
 use Rattle.std.proofs.Common.{length}
 use Rattle.schedule_plan.proofs.Fresh.{IsFreshAfter}
 use Rattle.schedule_plan.proofs.forest.fresh.Given as goal

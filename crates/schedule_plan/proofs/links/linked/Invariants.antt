@@ -1,3 +1,4 @@
+-- What the loops of `linked` keep.
 use Rattle.std.proofs.Common.{◌≡◌, ℕ, ◌<◌, length, slice_index, slice_index_or, None}
 use Rattle.schedule_plan.specs.Forest.{last_of}
 use Rattle.schedule_plan.proofs.links.linked.Given as goal

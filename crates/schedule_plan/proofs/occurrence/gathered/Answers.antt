@@ -1,3 +1,4 @@
+-- What is left to show of `gathered`.
 use Rattle.std.proofs.Common.{ℤ, nat_abs, List, length, arith, sym, ap, ◌∙◌, ◌+◌, ◌-◌, ◌≡◌, suc, subst}
 use Rattle.std.specs.Prelude.{IsTrue, nat_lt, slice_index_or, []}
 use Rattle.std.specs.List.{list_all}
@@ -10,4 +11,5 @@ add_clause-requires c =
     let same : suc c.loop-clause.clause - 1 ≡ c.loop-clause.clause + 1 - 1 = omega arith in
     subst (λ (clause : List ℤ). IsTrue (list_all (λ (literal : ℤ). nat_lt (nat_abs literal) (length c.args.places.now)) clause))
     (ap (λ n. slice_index_or formula.clauses n []) same ∙ sym c.clause.ensures)
-    (literals_within formula c.loop-clause.clause (length c.args.places.now) c.formula_law.ensures.literals (omega (arith, c.loop-clause-test.true, c.len-clause-end.ensures)) c.requires)
+    (literals_within formula c.loop-clause.clause (length c.args.places.now) c.formula_law.ensures.literals
+    (omega (arith, c.loop-clause-test.true, c.len-clause-end.ensures)) c.requires)

@@ -1,3 +1,4 @@
+-- What the loops of `gathered` keep.
 use Rattle.std.proofs.Common.{◌≡◌}
 use Rattle.schedule_plan.specs.Forest.{occurrences_of}
 use Rattle.schedule_plan.proofs.occurrence.gathered.Given as goal

@@ -1,3 +1,4 @@
+-- What the loops of `places` keep.
 use Rattle.std.proofs.Common.{◌≡◌, ℕ, ◌<◌, ◌+◌, length, slice_index, slice_index_or}
 use Rattle.schedule_plan.proofs.occurrence.places.Given as goal
 

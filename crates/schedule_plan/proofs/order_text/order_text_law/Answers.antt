@@ -1,3 +1,4 @@
+-- What is left to show of `order_text_law`.
 use Rattle.std.specs.Prelude.{[]}
 use Rattle.text_scan.specs.Items.{items}
 use Rattle.schedule_plan.specs.OrderText.{max_bytes}

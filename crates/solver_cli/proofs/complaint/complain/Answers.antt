@@ -1,3 +1,4 @@
+-- What is left to show of `complain`.
 use Rattle.std.proofs.Common.{◌∙◌, rules}
 use Rattle.host_io.proofs.Written.{carried}
 use Rattle.solver_cli.specs.Phases.{Complains}

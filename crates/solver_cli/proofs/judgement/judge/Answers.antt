@@ -1,3 +1,4 @@
+-- What is left to show of `judge`.
 use Rattle.std.proofs.Common.{rules}
 use Rattle.solver_cli.proofs.Judging.{unopened, judged}
 use Rattle.solver_cli.proofs.judgement.judge.Goals as goal

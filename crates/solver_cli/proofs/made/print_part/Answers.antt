@@ -1,3 +1,4 @@
+-- What is left to show of `print_part`.
 use Rattle.std.proofs.Common.{rules}
 use Rattle.solver_cli.proofs.Puts.{cut_short}
 use Rattle.solver_cli.proofs.made.print_part.Goals as goal

@@ -1,3 +1,4 @@
+-- What is left to show of `put_part`.
 use Rattle.std.proofs.Common.{rules}
 use Rattle.solver_cli.proofs.made.put_part.Goals as goal
 

@@ -1,3 +1,4 @@
+-- What is left to show of `natural_order`.
 use Rattle.std.proofs.Common.{length, ap, ◌∙◌}
 use Rattle.solver_cli.proofs.Decided.{length_natural}
 use Rattle.solver_cli.proofs.order.natural_order.Goals as goal

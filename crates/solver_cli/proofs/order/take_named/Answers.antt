@@ -1,3 +1,4 @@
+-- What is left to show of `take_named`.
 use Rattle.std.proofs.Common.{rules, refl}
 use Rattle.solver_cli.proofs.Reading.{unopened, taken}
 use Rattle.solver_cli.proofs.order.take_named.Goals as goal

@@ -1,10 +1,12 @@
+-- What is left to show of `make`.
 use Rattle.std.proofs.Common.{rules, refl}
 use Rattle.solver_cli.proofs.Answering.{file_uncreated, written}
 use Rattle.solver_cli.proofs.program.make.Goals as goal
 
 pub returns-then-is_err-clause-came : goal.returns-then-is_err-clause-came
 returns-then-is_err-clause-came g c =
-    file_uncreated (g.H.Host.channel c.args.host.now) (g.H.Host.channel c.create.new.self) c.create.ensures.opens (search rules) c.create.ensures.kept.others
+    file_uncreated (g.H.Host.channel c.args.host.now) (g.H.Host.channel c.create.new.self) c.create.ensures.opens
+    (search rules) c.create.ensures.kept.others
 
 pub returns-in-Ok-put_part-clause-came : goal.returns-in-Ok-put_part-clause-came
 returns-in-Ok-put_part-clause-came g c =

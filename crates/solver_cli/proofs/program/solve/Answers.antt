@@ -1,3 +1,4 @@
+-- What is left to show of `solve`.
 use Rattle.std.proofs.Common.{refl, ◌∙◌}
 use Rattle.host_io.specs.declared.role.Role.TheVariants.{Err as ErrRole}
 use Rattle.solver_cli.specs.Stages.{task_of}
@@ -13,8 +14,10 @@ returns-in-Err-take_order-clause-came g c =
 
 pub returns-in-Err-take_plan-clause-came : goal.returns-in-Err-take_plan-clause-came
 returns-in-Err-take_plan-clause-came g c =
-    unplanned (g.H.Host.channel c.args.host.now) (g.H.Host.channel c.take_formula.new.host) (g.H.Host.channel c.take_order.new.host) (g.H.Host.channel c.take_plan.new.host)
-    (g.H.Host.files c.args.host.now) (g.H.Host.files c.take_formula.new.host) (g.H.Host.files c.take_order.new.host) (g.H.Host.files c.take_plan.new.host)
+    unplanned (g.H.Host.channel c.args.host.now) (g.H.Host.channel c.take_formula.new.host) (g.H.Host.channel c.take_order.new.host)
+    (g.H.Host.channel c.take_plan.new.host)
+    (g.H.Host.files c.args.host.now) (g.H.Host.files c.take_formula.new.host) (g.H.Host.files c.take_order.new.host)
+    (g.H.Host.files c.take_plan.new.host)
     (record {
       took = record { takes = c.in-Ok.ensures.takes; kept = c.in-Ok.ensures.kept };
       orders = order_of c.vars.ensures c.in-Ok-take_order.ensures.takes;
@@ -52,4 +55,5 @@ returns-clause-files g c =
 
 pub returns-clause-error : goal.returns-clause-error
 returns-clause-error g c =
-    c.answer.ensures.inputs.error ∙ c.in-Ok-take_plan.ensures.kept.others ErrRole refl ∙ c.in-Ok-take_order.ensures.kept.others ErrRole refl ∙ c.in-Ok.ensures.kept.others ErrRole refl
+    c.answer.ensures.inputs.error ∙ c.in-Ok-take_plan.ensures.kept.others ErrRole refl ∙ c.in-Ok-take_order.ensures.kept.others ErrRole refl
+    ∙ c.in-Ok.ensures.kept.others ErrRole refl

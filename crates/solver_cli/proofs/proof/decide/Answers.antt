@@ -1,3 +1,4 @@
+-- What is left to show of `decide`.
 use Rattle.solver_cli.proofs.Decided.{written}
 use Rattle.solver_cli.proofs.proof.decide.Goals as goal
 

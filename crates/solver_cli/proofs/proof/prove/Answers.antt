@@ -1,3 +1,4 @@
+-- What is left to show of `prove`.
 use Rattle.std.proofs.Common.{rules}
 use Rattle.solver_cli.proofs.proof.prove.Goals as goal
 

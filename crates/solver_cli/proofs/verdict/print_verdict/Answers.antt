@@ -1,3 +1,4 @@
+-- What is left to show of `print_verdict`.
 use Rattle.std.proofs.Common.{rules}
 use Rattle.solver_cli.proofs.Puts.{cut_short}
 use Rattle.solver_cli.proofs.verdict.print_verdict.Goals as goal

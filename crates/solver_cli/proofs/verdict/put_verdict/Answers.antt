@@ -1,3 +1,4 @@
+-- What is left to show of `put_verdict`.
 use Rattle.std.proofs.Common.{rules}
 use Rattle.solver_cli.proofs.verdict.put_verdict.Goals as goal
 

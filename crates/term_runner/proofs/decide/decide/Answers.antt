@@ -1,3 +1,4 @@
+-- What is left to show of `decide`.
 use Rattle.std.proofs.Common.{rules, ℕ, List, length, reverse, sym, subst, ◌∙◌, arith}
 use Rattle.node_table.specs.Diagram.{levels}
 use Rattle.node_table.specs.declared.node.Node.{Node}
@@ -16,10 +17,13 @@ use Rattle.term_runner.proofs.decide.decide.Goals.{After-are_tautologies}
 pub returns-then-are_tautologies-clause-found : goal.returns-then-are_tautologies-clause-found
 returns-then-are_tautologies-clause-found g c =
     let formula = c.args.formula.now in
-    tautologies_recovered formula c.args.table.now.graph c.args.plan.now c.requires.plan c.table_law.ensures.ordered c.formula_law.ensures.literals c.requires.ready.vars
-    (λ a. all_hold formula a (tautologies_satisfied a formula.vars formula.clauses c.formula_law.ensures.literals (sym c.are_tautologies.ensures ∙ c.if-are_tautologies.true)))
+    tautologies_recovered formula c.args.table.now.graph c.args.plan.now c.requires.plan c.table_law.ensures.ordered
+    c.formula_law.ensures.literals c.requires.ready.vars
+    (λ a. all_hold formula a (tautologies_satisfied a formula.vars formula.clauses c.formula_law.ensures.literals
+    (sym c.are_tautologies.ensures ∙ c.if-are_tautologies.true)))
     c.in_ok-model.model
-    (subst (λ (trail : List (ℕ × Node)). IsRecoveredFrom c.args.table.now.graph True (reverse trail) c.in_ok-model.model) c.new.ensures c.in_ok-model.ensures.recovered)
+    (subst (λ (trail : List (ℕ × Node)). IsRecoveredFrom c.args.table.now.graph True
+    (reverse trail) c.in_ok-model.model) c.new.ensures c.in_ok-model.ensures.recovered)
 
 pub returns-then-are_tautologies-clause-leaves : goal.returns-then-are_tautologies-clause-leaves
 returns-then-are_tautologies-clause-leaves g c = (c.steps_law.ensures.none c.args.table.now c.requires.ready.sound).leaves
@@ -37,7 +41,9 @@ pub returns-clause-beside : goal.returns-clause-beside
 returns-clause-beside g c = c.run_moves.ensures.beside
 
 -- nothing was added to the formula's clauses
-none_there : (g : Over) (c : After-are_tautologies g) (width price : ℕ) → IsPaid (levels c.args.table.now.graph) c.args.table.now.inputs (length c.args.plan.now) c.args.capacity width price c.args.table.now.book.state
+none_there : (g : Over) (c : After-are_tautologies g) (width price : ℕ)
+    → IsPaid (levels c.args.table.now.graph) c.args.table.now.inputs
+    (length c.args.plan.now) c.args.capacity width price c.args.table.now.book.state
 none_there g c width price =
     let table = c.args.table.now in
     let sound = c.requires.ready.sound in
@@ -50,11 +56,15 @@ none_there g c width price =
     }
 
 pub returns-then-are_tautologies-clause-paid : goal.returns-then-are_tautologies-clause-paid
-returns-then-are_tautologies-clause-paid g c width price has is = none_there g (goal.at.returns-then-are_tautologies-clause-paid g c).After-are_tautologies width price
+returns-then-are_tautologies-clause-paid g c width price has is = none_there g
+    (goal.at.returns-then-are_tautologies-clause-paid g c).After-are_tautologies width price
 
 pub returns-in_err-model-clause-paid : goal.returns-in_err-model-clause-paid
 returns-in_err-model-clause-paid g c width price has is =
-    kind_of_memory g.S.Sink.tells (g.S.Sink.channel c.args.table.now.book.sink) (g.S.Sink.channel c.args.table.now.book.sink) c.args.table.now c.args.table.now (IsPaid (levels c.args.table.now.graph) c.args.table.now.inputs (length c.args.plan.now) c.args.capacity width price) _ (search rules)
+    kind_of_memory g.S.Sink.tells (g.S.Sink.channel c.args.table.now.book.sink)
+    (g.S.Sink.channel c.args.table.now.book.sink) c.args.table.now c.args.table.now
+    (IsPaid (levels c.args.table.now.graph) c.args.table.now.inputs (length c.args.plan.now) c.args.capacity width price) _
+    (search rules)
     (none_there g (goal.at.returns-in_err-model-clause-paid g c).After-are_tautologies width price)
 
 pub returns-clause-paid : goal.returns-clause-paid

@@ -1,3 +1,4 @@
+-- What is left to show of `width_example`.
 use Rattle.term_runner.proofs.WidthExamples.{one_at_least, one_at_most}
 use Rattle.term_runner.proofs.examples.width_example.Goals as goal
 

@@ -1,3 +1,4 @@
+-- What is left to show of `refute`.
 use Rattle.std.proofs.Common.{◌≡◌, ◌≢◌, Bool, List, Option, Result, Ok, Err, ap, sym, subst}
 use Rattle.std.specs.Prelude.{IfErr}
 use Rattle.clause_ledger.specs.Book.{Book}
@@ -9,7 +10,8 @@ use Rattle.term_runner.specs.Opened.{Leads}
 use Rattle.term_runner.proofs.OneLine.{added_leads}
 use Rattle.term_runner.proofs.finish.refute.Goals as goal
 
-same_state : {S : Type 0} (old new : Book S) (result : Result (Option (List Bool)) TableError) → IfErr result (λ e. e ≢ WriteFault → new ≡ old) → IfErr result (λ e. e ≢ WriteFault → new.state ≡ old.state)
+same_state : {S : Type 0} (old new : Book S) (result : Result (Option (List Bool)) TableError)
+    → IfErr result (λ e. e ≢ WriteFault → new ≡ old) → IfErr result (λ e. e ≢ WriteFault → new.state ≡ old.state)
 same_state {S} old new (Ok found) refused = tt
 same_state {S} old new (Err error) refused = λ whole. ap (λ (b : Book S). b.state) (refused whole)
 
@@ -18,7 +20,8 @@ returns-clause-ends g c formula order moves limits opened first has some =
     let added = c.add_empty-found.ensures in
     let old = c.args.ledger.now in
     let new = c.add_empty-found.new.ledger in
-    let leads = added_leads c.marks_law.ensures.start c.start_law.ensures.appended c.start_law.ensures.none_above c.lean_law.ensures.few g.S.Sink.tells (g.S.Sink.channel old.sink) (g.S.Sink.channel new.sink) c.args.number old new c.add_empty-found.result
+    let leads = added_leads c.marks_law.ensures.start c.start_law.ensures.appended c.start_law.ensures.none_above c.lean_law.ensures.few
+    g.S.Sink.tells (g.S.Sink.channel old.sink) (g.S.Sink.channel new.sink) c.args.number old new c.add_empty-found.result
     (record {
       found = added.found;
       refutes = added.refutes;
@@ -36,4 +39,5 @@ returns-clause-ends g c formula order moves limits opened first has some =
     })
     formula order moves limits opened first has some in
     c.finish.ensures.ends (g.S.Sink.channel old.sink) formula order moves limits
-    (subst (λ (o : Result Outcome RunError). Leads g.S.Sink.tells (g.S.Sink.channel old.sink) (g.S.Sink.channel new.sink) formula order moves limits new o) (sym c.outcome_of.ensures) leads)
+    (subst (λ (o : Result Outcome RunError). Leads g.S.Sink.tells (g.S.Sink.channel old.sink)
+    (g.S.Sink.channel new.sink) formula order moves limits new o) (sym c.outcome_of.ensures) leads)

@@ -1,6 +1,7 @@
+-- What is left to show of `replace_last`.
 use Rattle.std.proofs.Common.{List, [], ◌∷◌, ◌∙◌, reverse, ap, arith}
 use Rattle.std.proofs.lemmas.List.{reverse-append}
-use Rattle.term_runner.specs.declared.held.Held.{Held}
+use Rattle.term_runner.specs.declared.held.HeldTerm.{HeldTerm}
 use Rattle.term_runner.proofs.Stacks.{one_shorter, rest_left, some_there}
 use Rattle.term_runner.proofs.held.replace_last.Goals as goal
 
@@ -13,8 +14,9 @@ push_reserved-requires c =
 
 pub returns : goal.returns
 returns c last rest at =
-    let held : Held = record { node = c.args.node; unit = c.args.unit } in
+    let held : HeldTerm = record { node = c.args.node; unit = c.args.unit } in
     let there = some_there c.args.stack.now.items last rest at in
     let some = c.pop.ensures.variant.1 (omega (arith, c.args.stack.now.ok, there)) in
     ap reverse c.push_reserved.ensures.items ∙ reverse-append c.pop.new.self.items (held ∷ [])
-    ∙ ap (λ (list : List Held). held ∷ list) (rest_left c.args.stack.now.items c.pop.new.self.items c.pop.result c.pop.ensures.items some last rest at)
+    ∙ ap (λ (list : List HeldTerm). held
+    ∷ list) (rest_left c.args.stack.now.items c.pop.new.self.items c.pop.result c.pop.ensures.items some last rest at)

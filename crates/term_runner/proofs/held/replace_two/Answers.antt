@@ -1,3 +1,4 @@
+-- What is left to show of `replace_two`.
 use Rattle.std.proofs.Common.{◌∷◌, arith}
 use Rattle.term_runner.proofs.Stacks.{rest_left, some_there}
 use Rattle.term_runner.proofs.held.replace_two.Goals as goal
@@ -16,4 +17,5 @@ pub returns : goal.returns
 returns c last second rest at =
     let there = some_there c.args.stack.now.items last (second ∷ rest) at in
     let some = c.pop.ensures.variant.1 (omega (arith, c.args.stack.now.ok, there)) in
-    c.replace_last.ensures second rest (rest_left c.args.stack.now.items c.pop.new.self.items c.pop.result c.pop.ensures.items some last (second ∷ rest) at)
+    c.replace_last.ensures second rest (rest_left c.args.stack.now.items c.pop.new.self.items c.pop.result c.pop.ensures.items some last
+    (second ∷ rest) at)

@@ -1,4 +1,5 @@
-use Rattle.std.proofs.Common.{◌≡◌, ℕ, false, List, ◌∷◌, Contains, zero, suc, reverse, refl, ap, sym, subst, arith, inl, inr}
+-- What is left to show of `carry_out`.
+use Rattle.std.proofs.Common.{◌≡◌, ℕ, false, List, ◌∷◌, Contains, zero, reverse, refl, ap, sym, subst, arith, inl, inr}
 use Rattle.node_table.specs.Made.{LacksPart}
 use Rattle.schedule_plan.specs.Plan.{Stage, Term, input, both, some_value}
 use Rattle.term_runner.specs.Width.{term_function, top_function}
@@ -16,10 +17,12 @@ use Rattle.term_runner.proofs.Trails.{kept_grown}
 use Rattle.term_runner.proofs.moves.carry_out.Goals as goal
 
 pub push-requires-clause-from_one : goal.push-requires-clause-from_one
-push-requires-clause-from_one g c = (push_of c.args.formula.now c.requires.possible.0 c.requires.possible.1 c.args.step c.in-Push.number c.in-Push.is c.requires.possible.3).from_one
+push-requires-clause-from_one g c = (push_of c.args.formula.now c.requires.possible.0 c.requires.possible.1 c.args.step c.in-Push.number
+    c.in-Push.is c.requires.possible.3).from_one
 
 pub push-requires-clause-to_len : goal.push-requires-clause-to_len
-push-requires-clause-to_len g c = (push_of c.args.formula.now c.requires.possible.0 c.requires.possible.1 c.args.step c.in-Push.number c.in-Push.is c.requires.possible.3).to_len
+push-requires-clause-to_len g c = (push_of c.args.formula.now c.requires.possible.0 c.requires.possible.1 c.args.step c.in-Push.number
+    c.in-Push.is c.requires.possible.3).to_len
 
 pub push-requires-clause-ready : goal.push-requires-clause-ready
 push-requires-clause-ready g c = (all_entries c.args.caches.now, c.requires.ready)
@@ -29,12 +32,15 @@ returns-in-Push-clause-held g c stage next at is =
     let move = push_of c.args.formula.now stage next c.args.step c.in-Push.number c.in-Push.is is in
     let old = c.args.table.now in
     let new = c.push.new.table in
-    if_ok c.push.result (λ refuted. refuted ≡ false → AreHeld c.args.formula.now new.graph new.book.state.live (reverse c.push.new.stack.items) (input c.in-Push.number ∷ stage.stack))
+    if_ok c.push.result (λ refuted. refuted ≡ false → AreHeld c.args.formula.now new.graph new.book.state.live
+    (reverse c.push.new.stack.items) (input c.in-Push.number ∷ stage.stack))
     (λ refuted. refuted ≡ false → IsAt c.args.formula.now new.graph new.book.state.live c.push.new.stack.items c.args.trail.now next)
     (λ refuted held no_end. record {
-      held = subst (λ (terms : List Term). AreHeld c.args.formula.now new.graph new.book.state.live (reverse c.push.new.stack.items) terms) (sym move.stack) (held no_end);
+      held = subst (λ (terms : List Term). AreHeld c.args.formula.now new.graph new.book.state.live (reverse c.push.new.stack.items) terms)
+          (sym move.stack) (held no_end);
       kept = subst (AreKept c.args.formula.now new.graph (reverse c.args.trail.now)) (sym move.trail)
-          (kept_grown c.growth_law.ensures c.args.formula.now old.graph new.graph c.requires.ready.sound.tied.reduced c.push.ensures.steps.extends.nodes (reverse c.args.trail.now) stage.trail at.kept);
+          (kept_grown c.growth_law.ensures c.args.formula.now old.graph new.graph c.requires.ready.sound.tied.reduced
+          c.push.ensures.steps.extends.nodes (reverse c.args.trail.now) stage.trail at.kept);
     })
     (c.push.ensures.held stage.stack at.held)
 
@@ -44,9 +50,11 @@ returns-in-Push-clause-ready g c whole =
     let new = c.push.new.table in
     let steps = c.push.ensures.steps in
     let sound = (went_on _ _ _ old new c.push.result steps.leaves whole).sound in
-    let kept = c.entry_law.ensures.kept old new (all_entries c.args.caches.now) c.requires.ready.sound sound steps.extends c.requires.ready.fits
+    let kept = c.entry_law.ensures.kept old new (all_entries c.args.caches.now) c.requires.ready.sound sound steps.extends
+    c.requires.ready.fits
     (λ id named gone. c.requires.ready.fits.unretired id named (subst (λ (list : List ℕ). Contains list id) c.push.ensures.retired gone)) in
-    ready_after c.args.formula.now old new (all_entries c.args.caches.now) (all_entries c.args.caches.now) c.requires.ready sound steps.extends kept
+    ready_after c.args.formula.now old new (all_entries c.args.caches.now)
+    (all_entries c.args.caches.now) c.requires.ready sound steps.extends kept
 
 pub conjoin-requires-clause-two : goal.conjoin-requires-clause-two
 conjoin-requires-clause-two g c =
@@ -57,7 +65,8 @@ conjoin-requires-clause-two g c =
       move.one,
       move.other,
       move.rest,
-      subst (λ (terms : List Term). AreHeld c.args.formula.now old.graph old.book.state.live (reverse c.args.stack.now.items) terms) move.before c.requires.possible.2.held,
+      subst (λ (terms : List Term). AreHeld c.args.formula.now old.graph old.book.state.live
+          (reverse c.args.stack.now.items) terms) move.before c.requires.possible.2.held,
     )
 
 pub returns-in-And-clause-held : goal.returns-in-And-clause-held
@@ -65,22 +74,27 @@ returns-in-And-clause-held g c stage next at is =
     let move = and_of c.args.formula.now stage next c.args.step c.in-And.is is in
     let old = c.args.table.now in
     let new = c.conjoin.new.table in
-    if_ok c.conjoin.result (λ refuted. refuted ≡ false → AreHeld c.args.formula.now new.graph new.book.state.live (reverse c.conjoin.new.stack.items) (both move.one move.other ∷ move.rest))
+    if_ok c.conjoin.result (λ refuted. refuted ≡ false → AreHeld c.args.formula.now new.graph new.book.state.live
+    (reverse c.conjoin.new.stack.items) (both move.one move.other ∷ move.rest))
     (λ refuted. refuted ≡ false → IsAt c.args.formula.now new.graph new.book.state.live c.conjoin.new.stack.items c.args.trail.now next)
     (λ refuted held no_end. record {
-      held = subst (λ (terms : List Term). AreHeld c.args.formula.now new.graph new.book.state.live (reverse c.conjoin.new.stack.items) terms) (sym move.after) (held no_end);
+      held = subst (λ (terms : List Term). AreHeld c.args.formula.now new.graph new.book.state.live
+          (reverse c.conjoin.new.stack.items) terms) (sym move.after) (held no_end);
       kept = subst (AreKept c.args.formula.now new.graph (reverse c.args.trail.now)) (sym move.trail)
-          (kept_grown c.growth_law.ensures c.args.formula.now old.graph new.graph c.requires.ready.sound.tied.reduced c.conjoin.ensures.steps.extends.nodes (reverse c.args.trail.now) stage.trail at.kept);
+          (kept_grown c.growth_law.ensures c.args.formula.now old.graph new.graph c.requires.ready.sound.tied.reduced
+          c.conjoin.ensures.steps.extends.nodes (reverse c.args.trail.now) stage.trail at.kept);
     })
     (c.conjoin.ensures.held c.args.formula.now move.one move.other move.rest
-    (subst (λ (terms : List Term). AreHeld c.args.formula.now old.graph old.book.state.live (reverse c.args.stack.now.items) terms) move.before at.held))
+    (subst (λ (terms : List Term). AreHeld c.args.formula.now old.graph old.book.state.live
+    (reverse c.args.stack.now.items) terms) move.before at.held))
 
 pub returns-in-And-clause-ready : goal.returns-in-And-clause-ready
 returns-in-And-clause-ready g c whole =
     let old = c.args.table.now in
     let new = c.conjoin.new.table in
     let steps = c.conjoin.ensures.steps in
-    ready_after c.args.formula.now old new (all_entries c.args.caches.now) (all_entries c.conjoin.new.caches) c.requires.ready (went_on _ _ _ old new c.conjoin.result steps.leaves whole).sound steps.extends (c.conjoin.ensures.fits whole)
+    ready_after c.args.formula.now old new (all_entries c.args.caches.now) (all_entries c.conjoin.new.caches) c.requires.ready
+    (went_on _ _ _ old new c.conjoin.result steps.leaves whole).sound steps.extends (c.conjoin.ensures.fits whole)
 
 pub returns-in-Push-clause-made : goal.returns-in-Push-clause-made
 returns-in-Push-clause-made g c stage next at is =
@@ -88,29 +102,35 @@ returns-in-Push-clause-made g c stage next at is =
     let old = c.args.table.now.graph in
     let new = c.push.new.table.graph in
     subst (λ (terms : List Term). KeepsOrMakes old new (top_function c.args.formula.now old.order terms)) (sym move.stack)
-    (keeps_or_makes c.growth_law.ensures old new (term_function c.args.formula.now old.order (input c.in-Push.number)) c.requires.ready.sound.tied.reduced c.push.ensures.steps.extends.nodes c.push.ensures.made)
+    (keeps_or_makes c.growth_law.ensures old new (term_function c.args.formula.now old.order
+    (input c.in-Push.number)) c.requires.ready.sound.tied.reduced c.push.ensures.steps.extends.nodes c.push.ensures.made)
 
 pub returns-in-Push-clause-lacks : goal.returns-in-Push-clause-lacks
 returns-in-Push-clause-lacks g c stage next at is limit =
     let move = push_of c.args.formula.now stage next c.args.step c.in-Push.number c.in-Push.is is in
-    subst (λ (terms : List Term). LacksPart c.push.new.table.graph (top_function c.args.formula.now c.args.table.now.graph.order terms)) (sym move.stack) (c.push.ensures.lacks limit)
+    subst (λ (terms : List Term). LacksPart c.push.new.table.graph (top_function c.args.formula.now c.args.table.now.graph.order terms))
+    (sym move.stack) (c.push.ensures.lacks limit)
 
 pub returns-in-And-clause-made : goal.returns-in-And-clause-made
 returns-in-And-clause-made g c stage next at is =
     let move = and_of c.args.formula.now stage next c.args.step c.in-And.is is in
     let old = c.args.table.now in
     let new = c.conjoin.new.table.graph in
-    let two = subst (λ (terms : List Term). AreHeld c.args.formula.now old.graph old.book.state.live (reverse c.args.stack.now.items) terms) move.before at.held in
+    let two = subst (λ (terms : List Term). AreHeld c.args.formula.now old.graph old.book.state.live
+    (reverse c.args.stack.now.items) terms) move.before at.held in
     subst (λ (terms : List Term). KeepsOrMakes old.graph new (top_function c.args.formula.now old.graph.order terms)) (sym move.after)
-    (keeps_or_makes c.growth_law.ensures old.graph new (term_function c.args.formula.now old.graph.order (both move.one move.other)) c.requires.ready.sound.tied.reduced c.conjoin.ensures.steps.extends.nodes
+    (keeps_or_makes c.growth_law.ensures old.graph new (term_function c.args.formula.now old.graph.order
+    (both move.one move.other)) c.requires.ready.sound.tied.reduced c.conjoin.ensures.steps.extends.nodes
     (c.conjoin.ensures.made c.args.formula.now move.one move.other move.rest two))
 
 pub returns-in-And-clause-lacks : goal.returns-in-And-clause-lacks
 returns-in-And-clause-lacks g c stage next at is limit =
     let move = and_of c.args.formula.now stage next c.args.step c.in-And.is is in
     let old = c.args.table.now in
-    let two = subst (λ (terms : List Term). AreHeld c.args.formula.now old.graph old.book.state.live (reverse c.args.stack.now.items) terms) move.before at.held in
-    subst (λ (terms : List Term). LacksPart c.conjoin.new.table.graph (top_function c.args.formula.now old.graph.order terms)) (sym move.after)
+    let two = subst (λ (terms : List Term). AreHeld c.args.formula.now old.graph old.book.state.live
+    (reverse c.args.stack.now.items) terms) move.before at.held in
+    subst (λ (terms : List Term). LacksPart c.conjoin.new.table.graph (top_function c.args.formula.now old.graph.order terms))
+    (sym move.after)
     (c.conjoin.ensures.lacks c.args.formula.now move.one move.other move.rest two limit)
 
 pub returns-in-Push-clause-refuted : goal.returns-in-Push-clause-refuted
@@ -140,21 +160,25 @@ returns-in-And-clause-own g c = c.conjoin.ensures.own
 pub quantify_out-requires-clause-one : goal.quantify_out-requires-clause-one
 quantify_out-requires-clause-one g c =
     let stage = c.requires.possible.0 in
-    let move = exists_of c.args.formula.now stage c.requires.possible.1 c.args.step c.in-Exists.variable c.in-Exists.is c.requires.possible.3 in
+    let move = exists_of c.args.formula.now stage c.requires.possible.1 c.args.step c.in-Exists.variable c.in-Exists.is
+    c.requires.possible.3 in
     let old = c.args.table.now in (
       c.args.formula.now,
       move.top,
       move.rest,
-      subst (λ (terms : List Term). AreHeld c.args.formula.now old.graph old.book.state.live (reverse c.args.stack.now.items) terms) move.stacked c.requires.possible.2.held,
+      subst (λ (terms : List Term). AreHeld c.args.formula.now old.graph old.book.state.live
+          (reverse c.args.stack.now.items) terms) move.stacked c.requires.possible.2.held,
     )
 
 pub quantify_out-requires-clause-from_one : goal.quantify_out-requires-clause-from_one
 quantify_out-requires-clause-from_one g c =
-    (exists_of c.args.formula.now c.requires.possible.0 c.requires.possible.1 c.args.step c.in-Exists.variable c.in-Exists.is c.requires.possible.3).above
+    (exists_of c.args.formula.now c.requires.possible.0 c.requires.possible.1 c.args.step c.in-Exists.variable c.in-Exists.is
+    c.requires.possible.3).above
 
 pub quantify_out-requires-clause-to_levels : goal.quantify_out-requires-clause-to_levels
 quantify_out-requires-clause-to_levels g c =
-    let within = (exists_of c.args.formula.now c.requires.possible.0 c.requires.possible.1 c.args.step c.in-Exists.variable c.in-Exists.is c.requires.possible.3).within in
+    let within = (exists_of c.args.formula.now c.requires.possible.0 c.requires.possible.1 c.args.step c.in-Exists.variable c.in-Exists.is
+    c.requires.possible.3).within in
     omega (arith, within, c.requires.ready.vars)
 
 pub returns-in-Exists-clause-held : goal.returns-in-Exists-clause-held
@@ -164,12 +188,15 @@ returns-in-Exists-clause-held g c stage next at is =
     let move = exists_of formula stage next c.args.step x c.in-Exists.is is in
     let old = c.args.table.now in
     let new = c.quantify_out.new.table in
-    let held = subst (λ (terms : List Term). AreHeld formula old.graph old.book.state.live (reverse c.args.stack.now.items) terms) move.stacked at.held in
-    both_ok c.quantify_out.result (λ refuted. refuted ≡ false → AreHeld formula new.graph new.book.state.live (reverse c.quantify_out.new.stack.items) (some_value x move.top ∷ move.rest))
+    let held = subst (λ (terms : List Term). AreHeld formula old.graph old.book.state.live
+    (reverse c.args.stack.now.items) terms) move.stacked at.held in
+    both_ok c.quantify_out.result (λ refuted. refuted ≡ false → AreHeld formula new.graph new.book.state.live
+    (reverse c.quantify_out.new.stack.items) (some_value x move.top ∷ move.rest))
     (λ refuted. AreKept formula new.graph (reverse c.quantify_out.new.trail) ((x, move.top) ∷ stage.trail))
     (λ refuted. refuted ≡ false → IsAt formula new.graph new.book.state.live c.quantify_out.new.stack.items c.quantify_out.new.trail next)
     (λ refuted are kept no_end.
-    subst (IsAt formula new.graph new.book.state.live c.quantify_out.new.stack.items c.quantify_out.new.trail) (sym move.after) (record { held = are no_end; kept = kept }))
+    subst (IsAt formula new.graph new.book.state.live c.quantify_out.new.stack.items c.quantify_out.new.trail) (sym move.after)
+    (record { held = are no_end; kept = kept }))
     (c.quantify_out.ensures.held formula move.top move.rest held)
     (c.quantify_out.ensures.kept formula move.top move.rest stage.trail held at.kept)
 
@@ -178,7 +205,8 @@ returns-in-Exists-clause-ready g c whole =
     let old = c.args.table.now in
     let new = c.quantify_out.new.table in
     let steps = c.quantify_out.ensures.steps in
-    ready_after c.args.formula.now old new (all_entries c.args.caches.now) (all_entries c.quantify_out.new.caches) c.requires.ready (went_on _ _ _ old new c.quantify_out.result steps.leaves whole).sound steps.extends
+    ready_after c.args.formula.now old new (all_entries c.args.caches.now) (all_entries c.quantify_out.new.caches) c.requires.ready
+    (went_on _ _ _ old new c.quantify_out.result steps.leaves whole).sound steps.extends
     (c.quantify_out.ensures.fits whole)
 
 pub returns-in-Exists-clause-made : goal.returns-in-Exists-clause-made
@@ -188,9 +216,11 @@ returns-in-Exists-clause-made g c stage next at is =
     let move = exists_of formula stage next c.args.step x c.in-Exists.is is in
     let old = c.args.table.now in
     let new = c.quantify_out.new.table.graph in
-    let held = subst (λ (terms : List Term). AreHeld formula old.graph old.book.state.live (reverse c.args.stack.now.items) terms) move.stacked at.held in
+    let held = subst (λ (terms : List Term). AreHeld formula old.graph old.book.state.live
+    (reverse c.args.stack.now.items) terms) move.stacked at.held in
     subst (λ (s : Stage). KeepsOrMakes old.graph new (top_function formula old.graph.order s.stack)) (sym move.after)
-    (keeps_or_makes c.growth_law.ensures old.graph new (term_function formula old.graph.order (some_value x move.top)) c.requires.ready.sound.tied.reduced c.quantify_out.ensures.steps.extends.nodes
+    (keeps_or_makes c.growth_law.ensures old.graph new (term_function formula old.graph.order
+    (some_value x move.top)) c.requires.ready.sound.tied.reduced c.quantify_out.ensures.steps.extends.nodes
     (c.quantify_out.ensures.made formula move.top move.rest held))
 
 pub returns-in-Exists-clause-lacks : goal.returns-in-Exists-clause-lacks
@@ -199,8 +229,10 @@ returns-in-Exists-clause-lacks g c stage next at is limit =
     let x = c.in-Exists.variable in
     let move = exists_of formula stage next c.args.step x c.in-Exists.is is in
     let old = c.args.table.now in
-    let held = subst (λ (terms : List Term). AreHeld formula old.graph old.book.state.live (reverse c.args.stack.now.items) terms) move.stacked at.held in
-    subst (λ (s : Stage). LacksPart c.quantify_out.new.table.graph (top_function formula old.graph.order s.stack)) (sym move.after) (c.quantify_out.ensures.lacks formula move.top move.rest held limit)
+    let held = subst (λ (terms : List Term). AreHeld formula old.graph old.book.state.live
+    (reverse c.args.stack.now.items) terms) move.stacked at.held in
+    subst (λ (s : Stage). LacksPart c.quantify_out.new.table.graph (top_function formula old.graph.order s.stack)) (sym move.after)
+    (c.quantify_out.ensures.lacks formula move.top move.rest held limit)
 
 pub returns-in-Exists-clause-refuted : goal.returns-in-Exists-clause-refuted
 returns-in-Exists-clause-refuted g c = c.quantify_out.ensures.refuted
@@ -237,16 +269,20 @@ returns-in-Push-clause-at_again g c stage at is =
     let old = c.args.table.now in
     let new = c.push.new.table in
     let extends = c.push.ensures.steps.extends in
-    at_still c.growth_law.ensures c.args.formula.now old.graph new.graph c.requires.ready.sound.tied.reduced extends.nodes old.book.state.live new.book.state.live extends.clauses stage
-    c.args.stack.now.items c.push.new.stack.items c.args.trail.now c.args.trail.now (c.push.ensures.unchanged (failed_limit c.push.result is)) refl at
+    at_still c.growth_law.ensures c.args.formula.now old.graph new.graph c.requires.ready.sound.tied.reduced extends.nodes
+    old.book.state.live new.book.state.live extends.clauses stage
+    c.args.stack.now.items c.push.new.stack.items c.args.trail.now c.args.trail.now
+    (c.push.ensures.unchanged (failed_limit c.push.result is)) refl at
 
 pub returns-in-And-clause-at_again : goal.returns-in-And-clause-at_again
 returns-in-And-clause-at_again g c stage at is =
     let old = c.args.table.now in
     let new = c.conjoin.new.table in
     let extends = c.conjoin.ensures.steps.extends in
-    at_still c.growth_law.ensures c.args.formula.now old.graph new.graph c.requires.ready.sound.tied.reduced extends.nodes old.book.state.live new.book.state.live extends.clauses stage
-    c.args.stack.now.items c.conjoin.new.stack.items c.args.trail.now c.args.trail.now (c.conjoin.ensures.unchanged (failed_limit c.conjoin.result is)) refl at
+    at_still c.growth_law.ensures c.args.formula.now old.graph new.graph c.requires.ready.sound.tied.reduced extends.nodes
+    old.book.state.live new.book.state.live extends.clauses stage
+    c.args.stack.now.items c.conjoin.new.stack.items c.args.trail.now c.args.trail.now
+    (c.conjoin.ensures.unchanged (failed_limit c.conjoin.result is)) refl at
 
 pub returns-in-Exists-clause-at_again : goal.returns-in-Exists-clause-at_again
 returns-in-Exists-clause-at_again g c stage at is =
@@ -254,7 +290,8 @@ returns-in-Exists-clause-at_again g c stage at is =
     let new = c.quantify_out.new.table in
     let extends = c.quantify_out.ensures.steps.extends in
     let unchanged = c.quantify_out.ensures.unchanged (failed_limit c.quantify_out.result is) in
-    at_still c.growth_law.ensures c.args.formula.now old.graph new.graph c.requires.ready.sound.tied.reduced extends.nodes old.book.state.live new.book.state.live extends.clauses stage
+    at_still c.growth_law.ensures c.args.formula.now old.graph new.graph c.requires.ready.sound.tied.reduced extends.nodes
+    old.book.state.live new.book.state.live extends.clauses stage
     c.args.stack.now.items c.quantify_out.new.stack.items c.args.trail.now c.quantify_out.new.trail unchanged.0 unchanged.1 at
 
 pub returns-in-Push-clause-nodes : goal.returns-in-Push-clause-nodes
@@ -284,10 +321,13 @@ returns-in-And-clause-pairs g c stage next at is width room most =
     let old = c.args.table.now in
     let order = old.graph.order in
     let move = and_of formula stage next c.args.step c.in-And.is is in
-    let two = subst (λ (terms : List Term). AreHeld formula old.graph old.book.state.live (reverse c.args.stack.now.items) terms) move.before at.held in
+    let two = subst (λ (terms : List Term). AreHeld formula old.graph old.book.state.live
+    (reverse c.args.stack.now.items) terms) move.before at.held in
     c.conjoin.ensures.pairs formula move.one move.other move.rest two width room
-    (few_of_term formula order stage next move.one (inl (subst (λ (terms : List Term). Contains terms move.one) (sym move.before) (in_front move.other move.one move.rest))) width most)
-    (few_of_term formula order stage next move.other (inl (subst (λ (terms : List Term). Contains terms move.other) (sym move.before) (zero, omega arith, refl))) width most)
+    (few_of_term formula order stage next move.one (inl (subst (λ (terms : List Term). Contains terms move.one) (sym move.before)
+    (in_front move.other move.one move.rest))) width most)
+    (few_of_term formula order stage next move.other (inl (subst (λ (terms : List Term). Contains terms move.other) (sym move.before)
+    (zero, omega arith, refl))) width most)
 
 pub returns-in-Exists-clause-pairs : goal.returns-in-Exists-clause-pairs
 returns-in-Exists-clause-pairs g c stage next at is width room most =
@@ -296,7 +336,11 @@ returns-in-Exists-clause-pairs g c stage next at is width room most =
     let old = c.args.table.now in
     let order = old.graph.order in
     let move = exists_of formula stage next c.args.step x c.in-Exists.is is in
-    let held = subst (λ (terms : List Term). AreHeld formula old.graph old.book.state.live (reverse c.args.stack.now.items) terms) move.stacked at.held in
+    let held = subst (λ (terms : List Term). AreHeld formula old.graph old.book.state.live
+    (reverse c.args.stack.now.items) terms) move.stacked at.held in
     c.quantify_out.ensures.pairs formula move.top move.rest held width room
-    (few_of_term formula order stage next move.top (inl (subst (λ (terms : List Term). Contains terms move.top) (sym move.stacked) (zero, omega arith, refl))) width most)
-    (few_of_term formula order stage next (some_value x move.top) (inr (inr (result_is (some_value x move.top) move.rest next.stack (some_value x move.top) (ap (λ (s : Stage). s.stack) move.after) refl))) width most)
+    (few_of_term formula order stage next move.top (inl (subst (λ (terms : List Term). Contains terms move.top) (sym move.stacked)
+    (zero, omega arith, refl))) width most)
+    (few_of_term formula order stage next (some_value x move.top)
+    (inr (inr (result_is (some_value x move.top) move.rest next.stack (some_value x move.top)
+    (ap (λ (s : Stage). s.stack) move.after) refl))) width most)

@@ -1,4 +1,6 @@
-use Rattle.std.proofs.Common.{◌≡◌, ◌∙◌, ◌+◌, ◌*◌, ◌<◌, ℕ, Bool, List, [], ◌∷◌, Contains, length, reverse, None, Some, Result, Err, ap, sym, subst, arith, inl, inr}
+-- What is left to show of `conjoin`.
+use Rattle.std.proofs.Common.{◌≡◌, ◌∙◌, ◌+◌, ◌*◌, ◌<◌, ℕ, Bool, List, [], ◌∷◌, Contains, length, reverse, None, Some, Result, Err, ap, sym}
+use Rattle.std.proofs.Common.{subst, arith, inl, inr}
 use Rattle.operations.specs.Accounts.{none_whole, whole_result}
 use Rattle.term_runner.specs.Caches.{HaveRoom, all_entries}
 use Rattle.operations.specs.Budget.{most_additions}
@@ -9,7 +11,7 @@ use Rattle.cnf_base.specs.Formula.{Formula}
 use Rattle.term_runner.specs.Width.{HasAtMost, term_function}
 use Rattle.node_table.specs.Table.{TableState, AddsAtMost, IsAddedTo}
 use Rattle.node_table.specs.Value.{value_of}
-use Rattle.term_runner.specs.declared.held.Held.{Held}
+use Rattle.term_runner.specs.declared.held.HeldTerm.{HeldTerm}
 use Rattle.term_runner.specs.Held.{AreHeld, HasUnits}
 use Rattle.node_table.specs.declared.error.TableError.TheVariants.{NodeLimit, WriteFault}
 use Rattle.node_table.specs.declared.error.TableError.{TableError}
@@ -20,7 +22,8 @@ use Rattle.term_runner.proofs.Planned.{both_function, node_function}
 use Rattle.term_runner.proofs.Leaving.{limit_left, limit_whole, steps_handed, went_on}
 use Rattle.term_runner.proofs.Stacks.{held_kept, held_one_kept, few_left, false_refutes, conjunction_kept}
 use Rattle.term_runner.proofs.Giving.{two_give, units_behind}
-use Rattle.term_runner.proofs.Replaced.{first_unit, free_after, later_unit, none_retired, one_more_retired, unit_left, units_replaced, RetiresUnits}
+use Rattle.term_runner.proofs.Replaced.{first_unit, free_after, later_unit, none_retired, one_more_retired, unit_left, units_replaced}
+use Rattle.term_runner.proofs.Replaced.{RetiresUnits}
 use Rattle.term_runner.proofs.Units.{not_both}
 use Rattle.term_runner.proofs.moves.conjoin.Given.{Over}
 use Rattle.term_runner.proofs.moves.conjoin.Goals as goal
@@ -30,38 +33,43 @@ pub unreachable-requires : goal.unreachable-requires
 unreachable-requires g c =
     let two = c.requires.two in
     few_left two.0 c.args.table.now.graph c.args.table.now.book.state.live c.args.stack.now.items
-    (subst (λ (s : List Held). length s < 2) c.as_slice.ensures.value c.in_default.ensures) two.1 two.2 two.3 two.4
+    (subst (λ (s : List HeldTerm). length s < 2) c.as_slice.ensures.value c.in_default.ensures) two.1 two.2 two.3 two.4
 
 pub and-requires-clause-first : goal.and-requires-clause-first
 and-requires-clause-first g c =
     let old = c.args.table.now in
     let rest = c.in-Some.ensures.0 in
-    let items : reverse c.args.stack.now.items ≡ c.in-Some.v ∷ c.in-Some.u ∷ rest = ap reverse (sym c.as_slice.ensures.value) ∙ c.in-Some.ensures.1 in
+    let items : reverse c.args.stack.now.items ≡ c.in-Some.v ∷ c.in-Some.u ∷ rest = ap reverse (sym c.as_slice.ensures.value)
+    ∙ c.in-Some.ensures.1 in
     let two = c.requires.two in
-    let held = subst (λ (s : List Held). AreHeld two.0 old.graph old.book.state.live s (two.2 ∷ two.1 ∷ two.3)) items two.4 in
+    let held = subst (λ (s : List HeldTerm). AreHeld two.0 old.graph old.book.state.live s (two.2 ∷ two.1 ∷ two.3)) items two.4 in
     held.1.0.is.stands
 
 pub and-requires-clause-second : goal.and-requires-clause-second
 and-requires-clause-second g c =
     let old = c.args.table.now in
     let rest = c.in-Some.ensures.0 in
-    let items : reverse c.args.stack.now.items ≡ c.in-Some.v ∷ c.in-Some.u ∷ rest = ap reverse (sym c.as_slice.ensures.value) ∙ c.in-Some.ensures.1 in
+    let items : reverse c.args.stack.now.items ≡ c.in-Some.v ∷ c.in-Some.u ∷ rest = ap reverse (sym c.as_slice.ensures.value)
+    ∙ c.in-Some.ensures.1 in
     let two = c.requires.two in
-    let held = subst (λ (s : List Held). AreHeld two.0 old.graph old.book.state.live s (two.2 ∷ two.1 ∷ two.3)) items two.4 in
+    let held = subst (λ (s : List HeldTerm). AreHeld two.0 old.graph old.book.state.live s (two.2 ∷ two.1 ∷ two.3)) items two.4 in
     held.0.is.stands
 
 pub unit_of-requires : goal.unit_of-requires
 unit_of-requires g c =
     let old = c.args.table.now in
     let rest = c.in-Some.ensures.0 in
-    let items : reverse c.args.stack.now.items ≡ c.in-Some.v ∷ c.in-Some.u ∷ rest = ap reverse (sym c.as_slice.ensures.value) ∙ c.in-Some.ensures.1 in
+    let items : reverse c.args.stack.now.items ≡ c.in-Some.v ∷ c.in-Some.u ∷ rest = ap reverse (sym c.as_slice.ensures.value)
+    ∙ c.in-Some.ensures.1 in
     let two = c.requires.two in
-    let held = subst (λ (s : List Held). AreHeld two.0 old.graph old.book.state.live s (two.2 ∷ two.1 ∷ two.3)) items two.4 in
+    let held = subst (λ (s : List HeldTerm). AreHeld two.0 old.graph old.book.state.live s (two.2 ∷ two.1 ∷ two.3)) items two.4 in
     let mid = c.and.new.table in
     let extends = c.in_ok-node.ensures.steps.extends in
     let reduced = c.requires.sound.tied.reduced in
-    let first = held_one_kept c.growth_law.ensures old.graph mid.graph reduced extends.nodes old.book.state.live mid.book.state.live extends.clauses two.0 c.in-Some.u two.1 held.1.0 in
-    let second = held_one_kept c.growth_law.ensures old.graph mid.graph reduced extends.nodes old.book.state.live mid.book.state.live extends.clauses two.0 c.in-Some.v two.2 held.0 in
+    let first = held_one_kept c.growth_law.ensures old.graph mid.graph reduced extends.nodes old.book.state.live mid.book.state.live
+    extends.clauses two.0 c.in-Some.u two.1 held.1.0 in
+    let second = held_one_kept c.growth_law.ensures old.graph mid.graph reduced extends.nodes old.book.state.live mid.book.state.live
+    extends.clauses two.0 c.in-Some.v two.2 held.0 in
     record {
       sound = c.in_ok-node.ensures.steps.leaves.sound;
       first = first.is.stands;
@@ -77,21 +85,24 @@ pub retire_unit-requires : goal.retire_unit-requires
 retire_unit-requires g c =
     let old = c.args.table.now in
     let rest = c.in-Some.ensures.0 in
-    let items : reverse c.args.stack.now.items ≡ c.in-Some.v ∷ c.in-Some.u ∷ rest = ap reverse (sym c.as_slice.ensures.value) ∙ c.in-Some.ensures.1 in
+    let items : reverse c.args.stack.now.items ≡ c.in-Some.v ∷ c.in-Some.u ∷ rest = ap reverse (sym c.as_slice.ensures.value)
+    ∙ c.in-Some.ensures.1 in
     let mid = c.and.new.table in
     let new = c.unit_of.new.table in
     let before = all_entries c.args.caches.now in
     let after = all_entries c.and.new.self in
     let found = c.in_ok-node.ensures in
     let unit = c.in_ok-unit.ensures in
-    let has = subst (λ (s : List Held). HasUnits old before s) items c.requires.own in
-    let gives = two_give old mid new before after c.in-Some.u c.in-Some.v rest c.in_ok-unit.unit c.requires.sound found.steps.leaves.sound has found.keeps (found.accounts no_error)
+    let has = subst (λ (s : List HeldTerm). HasUnits old before s) items c.requires.own in
+    let gives = two_give old mid new before after c.in-Some.u c.in-Some.v rest c.in_ok-unit.unit c.requires.sound found.steps.leaves.sound
+    has found.keeps (found.accounts no_error)
     found.steps.leaves.no_less unit.steps.leaves.no_less unit.retired unit.alone unit.given unit.added in
     let all = c.steps_law.ensures.extend old mid new found.steps.extends unit.steps.extends in
     record {
       sound = unit.steps.leaves.sound;
       added = λ id is.
-          c.steps_law.ensures.added old new c.requires.sound unit.steps.leaves.sound all id (has.added id (later_unit c.in-Some.v (c.in-Some.u ∷ rest) id (first_unit c.in-Some.u rest id is)));
+          c.steps_law.ensures.added old new c.requires.sound unit.steps.leaves.sound all id
+          (has.added id (later_unit c.in-Some.v (c.in-Some.u ∷ rest) id (first_unit c.in-Some.u rest id is)));
       unretired = λ id is gone.
           free_after old new before after (c.in-Some.v ∷ c.in-Some.u ∷ rest) c.requires.sound has gives.retires gives.named id
           (later_unit c.in-Some.v (c.in-Some.u ∷ rest) id (first_unit c.in-Some.u rest id is)) (inl gone);
@@ -101,15 +112,17 @@ pub retire_unit-requires-2 : goal.retire_unit-requires-2
 retire_unit-requires-2 g c =
     let old = c.args.table.now in
     let rest = c.in-Some.ensures.0 in
-    let items : reverse c.args.stack.now.items ≡ c.in-Some.v ∷ c.in-Some.u ∷ rest = ap reverse (sym c.as_slice.ensures.value) ∙ c.in-Some.ensures.1 in
+    let items : reverse c.args.stack.now.items ≡ c.in-Some.v ∷ c.in-Some.u ∷ rest = ap reverse (sym c.as_slice.ensures.value)
+    ∙ c.in-Some.ensures.1 in
     let mid = c.and.new.table in
     let new = c.unit_of.new.table in
     let before = all_entries c.args.caches.now in
     let after = all_entries c.and.new.self in
     let found = c.in_ok-node.ensures in
     let unit = c.in_ok-unit.ensures in
-    let has = subst (λ (s : List Held). HasUnits old before s) items c.requires.own in
-    let gives = two_give old mid new before after c.in-Some.u c.in-Some.v rest c.in_ok-unit.unit c.requires.sound found.steps.leaves.sound has found.keeps (found.accounts no_error)
+    let has = subst (λ (s : List HeldTerm). HasUnits old before s) items c.requires.own in
+    let gives = two_give old mid new before after c.in-Some.u c.in-Some.v rest c.in_ok-unit.unit c.requires.sound found.steps.leaves.sound
+    has found.keeps (found.accounts no_error)
     found.steps.leaves.no_less unit.steps.leaves.no_less unit.retired unit.alone unit.given unit.added in
     let third = c.retire_unit.new.table in
     let all = c.steps_law.ensures.extend old mid new found.steps.extends unit.steps.extends in
@@ -118,10 +131,12 @@ retire_unit-requires-2 g c =
       sound = c.retire_unit.ensures.steps.leaves.sound;
       added = λ id is.
           subst (λ (table : TableState g.row.S.Denot). IsAddedTo table id) (sym once.same)
-          (c.steps_law.ensures.added old new c.requires.sound unit.steps.leaves.sound all id (has.added id (first_unit c.in-Some.v (c.in-Some.u ∷ rest) id is)));
+          (c.steps_law.ensures.added old new c.requires.sound unit.steps.leaves.sound all id
+          (has.added id (first_unit c.in-Some.v (c.in-Some.u ∷ rest) id is)));
       unretired = λ id is gone. elim (once.only id gone) [
         | inl was ↦
-            free_after old new before after (c.in-Some.v ∷ c.in-Some.u ∷ rest) c.requires.sound has gives.retires gives.named id (first_unit c.in-Some.v (c.in-Some.u ∷ rest) id is) (inl was)
+            free_after old new before after (c.in-Some.v ∷ c.in-Some.u
+            ∷ rest) c.requires.sound has gives.retires gives.named id (first_unit c.in-Some.v (c.in-Some.u ∷ rest) id is) (inl was)
         | inr this ↦ has.apart.0 id is (first_unit c.in-Some.u rest id this.0)
       ];
     }
@@ -130,72 +145,88 @@ pub replace_two-requires : goal.replace_two-requires
 replace_two-requires g c =
     let old = c.args.table.now in
     let rest = c.in-Some.ensures.0 in
-    let items : reverse c.args.stack.now.items ≡ c.in-Some.v ∷ c.in-Some.u ∷ rest = ap reverse (sym c.as_slice.ensures.value) ∙ c.in-Some.ensures.1 in
+    let items : reverse c.args.stack.now.items ≡ c.in-Some.v ∷ c.in-Some.u ∷ rest = ap reverse (sym c.as_slice.ensures.value)
+    ∙ c.in-Some.ensures.1 in
     (c.in-Some.v, c.in-Some.u, rest, items)
 
 pub returns-clause-held : goal.returns-clause-held
 returns-clause-held g c formula one other terms are no_end =
     let old = c.args.table.now in
     let rest = c.in-Some.ensures.0 in
-    let items : reverse c.args.stack.now.items ≡ c.in-Some.v ∷ c.in-Some.u ∷ rest = ap reverse (sym c.as_slice.ensures.value) ∙ c.in-Some.ensures.1 in
+    let items : reverse c.args.stack.now.items ≡ c.in-Some.v ∷ c.in-Some.u ∷ rest = ap reverse (sym c.as_slice.ensures.value)
+    ∙ c.in-Some.ensures.1 in
     let mid = c.and.new.table in
     let new = c.unit_of.new.table in
     let before = all_entries c.args.caches.now in
     let after = all_entries c.and.new.self in
     let found = c.in_ok-node.ensures in
     let unit = c.in_ok-unit.ensures in
-    let has = subst (λ (s : List Held). HasUnits old before s) items c.requires.own in
-    let gives = two_give old mid new before after c.in-Some.u c.in-Some.v rest c.in_ok-unit.unit c.requires.sound found.steps.leaves.sound has found.keeps (found.accounts no_error)
+    let has = subst (λ (s : List HeldTerm). HasUnits old before s) items c.requires.own in
+    let gives = two_give old mid new before after c.in-Some.u c.in-Some.v rest c.in_ok-unit.unit c.requires.sound found.steps.leaves.sound
+    has found.keeps (found.accounts no_error)
     found.steps.leaves.no_less unit.steps.leaves.no_less unit.retired unit.alone unit.given unit.added in
     let third = c.retire_unit.new.table in
     let last = c.retire_unit-2.new.table in
     let retires : RetiresUnits new last (c.in-Some.v ∷ c.in-Some.u ∷ []) c.in_ok-unit.unit =
     one_more_retired new third last (c.in-Some.u ∷ []) c.in-Some.v c.in_ok-unit.unit
-    (one_more_retired new new third [] c.in-Some.u c.in_ok-unit.unit (none_retired new c.in_ok-unit.unit) c.retire_unit.ensures.retired) c.retire_unit-2.ensures.retired in
+    (one_more_retired new new third [] c.in-Some.u c.in_ok-unit.unit
+    (none_retired new c.in_ok-unit.unit) c.retire_unit.ensures.retired) c.retire_unit-2.ensures.retired in
     let extends = found.steps.extends in
     let more = unit.steps.extends in
     let all = c.steps_law.ensures.extend old mid new extends more in
     let reduced = c.requires.sound.tied.reduced in
     let w = c.in_ok-node.node in
-    let result : Held = record { node = w; unit = c.in_ok-unit.unit } in
-    let held = subst (λ (s : List Held). AreHeld formula old.graph old.book.state.live s (other ∷ one ∷ terms)) items are in
-    let first = held_one_kept c.growth_law.ensures old.graph mid.graph reduced extends.nodes old.book.state.live mid.book.state.live extends.clauses formula c.in-Some.u one held.1.0 in
-    let second = held_one_kept c.growth_law.ensures old.graph mid.graph reduced extends.nodes old.book.state.live mid.book.state.live extends.clauses formula c.in-Some.v other held.0 in
+    let result : HeldTerm = record { node = w; unit = c.in_ok-unit.unit } in
+    let held = subst (λ (s : List HeldTerm). AreHeld formula old.graph old.book.state.live s (other ∷ one ∷ terms)) items are in
+    let first = held_one_kept c.growth_law.ensures old.graph mid.graph reduced extends.nodes old.book.state.live mid.book.state.live
+    extends.clauses formula c.in-Some.u one held.1.0 in
+    let second = held_one_kept c.growth_law.ensures old.graph mid.graph reduced extends.nodes old.book.state.live mid.book.state.live
+    extends.clauses formula c.in-Some.v other held.0 in
     let at_new : AreHeld formula new.graph new.book.state.live (result ∷ rest) (both one other ∷ terms) = (
-      conjunction_kept c.growth_law.ensures mid.graph new.graph found.steps.leaves.sound.tied.reduced more.nodes mid.book.state.live new.book.state.live more.clauses unit.nodes formula c.in-Some.u c.in-Some.v w
-          c.in_ok-node.just c.in_ok-unit.unit one other first second found.conjoined unit.unit (λ is. not_both c.is_same.result (c.is_same.ensures.1 is) c.if-is_same.false),
-      held_kept c.growth_law.ensures old.graph new.graph reduced all.nodes old.book.state.live new.book.state.live all.clauses formula rest terms held.1.1,
+      conjunction_kept c.growth_law.ensures mid.graph new.graph found.steps.leaves.sound.tied.reduced more.nodes mid.book.state.live
+          new.book.state.live more.clauses unit.nodes formula c.in-Some.u c.in-Some.v w
+          c.in_ok-node.just c.in_ok-unit.unit one other first second found.conjoined unit.unit
+          (λ is. not_both c.is_same.result (c.is_same.ensures.1 is) c.if-is_same.false),
+      held_kept c.growth_law.ensures old.graph new.graph reduced all.nodes old.book.state.live new.book.state.live all.clauses formula rest
+          terms held.1.1,
     ) in
-    subst (λ (s : List Held). AreHeld formula last.graph last.book.state.live s (both one other ∷ terms)) (sym (c.replace_two.ensures c.in-Some.v c.in-Some.u rest items))
-    (subst (λ (t : TableState g.row.S.Denot). AreHeld formula t.graph t.book.state.live (result ∷ rest) (both one other ∷ terms)) (sym retires.same) at_new)
+    subst (λ (s : List HeldTerm). AreHeld formula last.graph last.book.state.live s (both one other ∷ terms))
+    (sym (c.replace_two.ensures c.in-Some.v c.in-Some.u rest items))
+    (subst (λ (t : TableState g.row.S.Denot). AreHeld formula t.graph t.book.state.live (result ∷ rest) (both one other ∷ terms))
+    (sym retires.same) at_new)
 
 pub returns-clause-own : goal.returns-clause-own
 returns-clause-own g c no_end =
     let old = c.args.table.now in
     let rest = c.in-Some.ensures.0 in
-    let items : reverse c.args.stack.now.items ≡ c.in-Some.v ∷ c.in-Some.u ∷ rest = ap reverse (sym c.as_slice.ensures.value) ∙ c.in-Some.ensures.1 in
+    let items : reverse c.args.stack.now.items ≡ c.in-Some.v ∷ c.in-Some.u ∷ rest = ap reverse (sym c.as_slice.ensures.value)
+    ∙ c.in-Some.ensures.1 in
     let mid = c.and.new.table in
     let new = c.unit_of.new.table in
     let before = all_entries c.args.caches.now in
     let after = all_entries c.and.new.self in
     let found = c.in_ok-node.ensures in
     let unit = c.in_ok-unit.ensures in
-    let has = subst (λ (s : List Held). HasUnits old before s) items c.requires.own in
-    let gives = two_give old mid new before after c.in-Some.u c.in-Some.v rest c.in_ok-unit.unit c.requires.sound found.steps.leaves.sound has found.keeps (found.accounts no_error)
+    let has = subst (λ (s : List HeldTerm). HasUnits old before s) items c.requires.own in
+    let gives = two_give old mid new before after c.in-Some.u c.in-Some.v rest c.in_ok-unit.unit c.requires.sound found.steps.leaves.sound
+    has found.keeps (found.accounts no_error)
     found.steps.leaves.no_less unit.steps.leaves.no_less unit.retired unit.alone unit.given unit.added in
     let third = c.retire_unit.new.table in
     let last = c.retire_unit-2.new.table in
     let retires : RetiresUnits new last (c.in-Some.v ∷ c.in-Some.u ∷ []) c.in_ok-unit.unit =
     one_more_retired new third last (c.in-Some.u ∷ []) c.in-Some.v c.in_ok-unit.unit
-    (one_more_retired new new third [] c.in-Some.u c.in_ok-unit.unit (none_retired new c.in_ok-unit.unit) c.retire_unit.ensures.retired) c.retire_unit-2.ensures.retired in
+    (one_more_retired new new third [] c.in-Some.u c.in_ok-unit.unit
+    (none_retired new c.in_ok-unit.unit) c.retire_unit.ensures.retired) c.retire_unit-2.ensures.retired in
     let all = c.steps_law.ensures.extend old mid new found.steps.extends unit.steps.extends in
-    subst (λ (s : List Held). HasUnits last after s) (sym (c.replace_two.ensures c.in-Some.v c.in-Some.u rest items))
-    (units_replaced g.S.Sink.tells g.S.Sink.channel c.steps_law.ensures old new last before after (c.in-Some.v ∷ c.in-Some.u ∷ []) rest (record { node = c.in_ok-node.node; unit = c.in_ok-unit.unit })
+    subst (λ (s : List HeldTerm). HasUnits last after s) (sym (c.replace_two.ensures c.in-Some.v c.in-Some.u rest items))
+    (units_replaced g.S.Sink.tells g.S.Sink.channel c.steps_law.ensures old new last before after (c.in-Some.v ∷ c.in-Some.u
+    ∷ []) rest (record { node = c.in_ok-node.node; unit = c.in_ok-unit.unit })
     c.requires.sound unit.steps.leaves.sound all has gives retires)
 
 pub returns-then-is_same-clause-refuted : goal.returns-then-is_same-clause-refuted
 returns-then-is_same-clause-refuted g c is =
-    false_refutes c.and.new.table.graph c.unit_of.new.table.book.state.live c.in_ok-node.node c.in_ok-unit.unit (c.is_same.ensures.0 c.if-is_same.true) c.in_ok-unit.ensures.unit
+    false_refutes c.and.new.table.graph c.unit_of.new.table.book.state.live c.in_ok-node.node c.in_ok-unit.unit
+    (c.is_same.ensures.0 c.if-is_same.true) c.in_ok-unit.ensures.unit
 
 pub returns-then-is_same-clause-steps : goal.returns-then-is_same-clause-steps
 returns-then-is_same-clause-steps g c =
@@ -204,7 +235,8 @@ returns-then-is_same-clause-steps g c =
     let new = c.unit_of.new.table in
     let channel = g.S.Sink.channel in
     let most = most_additions (levels old.graph) in
-    let two = c.steps_law.ensures.further (channel old.book.sink) (channel mid.book.sink) (channel new.book.sink) old mid new most 1 None c.in_ok-node.ensures.steps c.in_ok-unit.ensures.steps in
+    let two = c.steps_law.ensures.further (channel old.book.sink) (channel mid.book.sink)
+    (channel new.book.sink) old mid new most 1 None c.in_ok-node.ensures.steps c.in_ok-unit.ensures.steps in
     two
 
 pub returns-clause-steps : goal.returns-clause-steps
@@ -214,26 +246,32 @@ returns-clause-steps g c =
     let new = c.unit_of.new.table in
     let channel = g.S.Sink.channel in
     let most = most_additions (levels old.graph) in
-    let two = c.steps_law.ensures.further (channel old.book.sink) (channel mid.book.sink) (channel new.book.sink) old mid new most 1 None c.in_ok-node.ensures.steps c.in_ok-unit.ensures.steps in
+    let two = c.steps_law.ensures.further (channel old.book.sink) (channel mid.book.sink)
+    (channel new.book.sink) old mid new most 1 None c.in_ok-node.ensures.steps c.in_ok-unit.ensures.steps in
     let third = c.retire_unit.new.table in
     let last = c.retire_unit-2.new.table in
-    let three = c.steps_law.ensures.further (channel old.book.sink) (channel new.book.sink) (channel third.book.sink) old new third (most + 1) 0 None two c.retire_unit.ensures.steps in
-    let four = c.steps_law.ensures.further (channel old.book.sink) (channel third.book.sink) (channel last.book.sink) old third last (most + 1 + 0) 0 None three c.retire_unit-2.ensures.steps in
-    c.steps_law.ensures.at_most (channel old.book.sink) (channel last.book.sink) old last (most + 1 + 0 + 0) (most + 1) None (omega arith) four
+    let three = c.steps_law.ensures.further (channel old.book.sink) (channel new.book.sink) (channel third.book.sink) old new third (most
+    + 1) 0 None two c.retire_unit.ensures.steps in
+    let four = c.steps_law.ensures.further (channel old.book.sink) (channel third.book.sink) (channel last.book.sink) old third last (most
+    + 1 + 0) 0 None three c.retire_unit-2.ensures.steps in
+    c.steps_law.ensures.at_most (channel old.book.sink) (channel last.book.sink) old last (most + 1 + 0 + 0) (most
+    + 1) None (omega arith) four
 
 pub returns-then-is_same-clause-fits : goal.returns-then-is_same-clause-fits
 returns-then-is_same-clause-fits g c whole =
     let old = c.args.table.now in
     let rest = c.in-Some.ensures.0 in
-    let items : reverse c.args.stack.now.items ≡ c.in-Some.v ∷ c.in-Some.u ∷ rest = ap reverse (sym c.as_slice.ensures.value) ∙ c.in-Some.ensures.1 in
+    let items : reverse c.args.stack.now.items ≡ c.in-Some.v ∷ c.in-Some.u ∷ rest = ap reverse (sym c.as_slice.ensures.value)
+    ∙ c.in-Some.ensures.1 in
     let mid = c.and.new.table in
     let new = c.unit_of.new.table in
     let before = all_entries c.args.caches.now in
     let after = all_entries c.and.new.self in
     let found = c.in_ok-node.ensures in
     let unit = c.in_ok-unit.ensures in
-    let has = subst (λ (s : List Held). HasUnits old before s) items c.requires.own in
-    let gives = two_give old mid new before after c.in-Some.u c.in-Some.v rest c.in_ok-unit.unit c.requires.sound found.steps.leaves.sound has found.keeps (found.accounts no_error)
+    let has = subst (λ (s : List HeldTerm). HasUnits old before s) items c.requires.own in
+    let gives = two_give old mid new before after c.in-Some.u c.in-Some.v rest c.in_ok-unit.unit c.requires.sound found.steps.leaves.sound
+    has found.keeps (found.accounts no_error)
     found.steps.leaves.no_less unit.steps.leaves.no_less unit.retired unit.alone unit.given unit.added in
     let kept = found.keeps.fits none_whole in
     let fits = c.entry_law.ensures.kept mid new after found.steps.leaves.sound unit.steps.leaves.sound unit.steps.extends kept
@@ -244,21 +282,24 @@ pub returns-clause-fits : goal.returns-clause-fits
 returns-clause-fits g c whole =
     let old = c.args.table.now in
     let rest = c.in-Some.ensures.0 in
-    let items : reverse c.args.stack.now.items ≡ c.in-Some.v ∷ c.in-Some.u ∷ rest = ap reverse (sym c.as_slice.ensures.value) ∙ c.in-Some.ensures.1 in
+    let items : reverse c.args.stack.now.items ≡ c.in-Some.v ∷ c.in-Some.u ∷ rest = ap reverse (sym c.as_slice.ensures.value)
+    ∙ c.in-Some.ensures.1 in
     let mid = c.and.new.table in
     let new = c.unit_of.new.table in
     let before = all_entries c.args.caches.now in
     let after = all_entries c.and.new.self in
     let found = c.in_ok-node.ensures in
     let unit = c.in_ok-unit.ensures in
-    let has = subst (λ (s : List Held). HasUnits old before s) items c.requires.own in
-    let gives = two_give old mid new before after c.in-Some.u c.in-Some.v rest c.in_ok-unit.unit c.requires.sound found.steps.leaves.sound has found.keeps (found.accounts no_error)
+    let has = subst (λ (s : List HeldTerm). HasUnits old before s) items c.requires.own in
+    let gives = two_give old mid new before after c.in-Some.u c.in-Some.v rest c.in_ok-unit.unit c.requires.sound found.steps.leaves.sound
+    has found.keeps (found.accounts no_error)
     found.steps.leaves.no_less unit.steps.leaves.no_less unit.retired unit.alone unit.given unit.added in
     let third = c.retire_unit.new.table in
     let last = c.retire_unit-2.new.table in
     let retires : RetiresUnits new last (c.in-Some.v ∷ c.in-Some.u ∷ []) c.in_ok-unit.unit =
     one_more_retired new third last (c.in-Some.u ∷ []) c.in-Some.v c.in_ok-unit.unit
-    (one_more_retired new new third [] c.in-Some.u c.in_ok-unit.unit (none_retired new c.in_ok-unit.unit) c.retire_unit.ensures.retired) c.retire_unit-2.ensures.retired in
+    (one_more_retired new new third [] c.in-Some.u c.in_ok-unit.unit
+    (none_retired new c.in_ok-unit.unit) c.retire_unit.ensures.retired) c.retire_unit-2.ensures.retired in
     let kept = found.keeps.fits none_whole in
     let fits = c.entry_law.ensures.kept mid new after found.steps.leaves.sound unit.steps.leaves.sound unit.steps.extends kept
     (λ id named gone. kept.unretired id named (subst (λ (list : List ℕ). Contains list id) unit.retired gone)) in
@@ -274,25 +315,33 @@ pub returns-then-is_same-clause-made : goal.returns-then-is_same-clause-made
 returns-then-is_same-clause-made g c formula one other terms are =
     let old = c.args.table.now in
     let rest = c.in-Some.ensures.0 in
-    let items : reverse c.args.stack.now.items ≡ c.in-Some.v ∷ c.in-Some.u ∷ rest = ap reverse (sym c.as_slice.ensures.value) ∙ c.in-Some.ensures.1 in
-    let held = subst (λ (s : List Held). AreHeld formula old.graph old.book.state.live s (other ∷ one ∷ terms)) items are in
+    let items : reverse c.args.stack.now.items ≡ c.in-Some.v ∷ c.in-Some.u ∷ rest = ap reverse (sym c.as_slice.ensures.value)
+    ∙ c.in-Some.ensures.1 in
+    let held = subst (λ (s : List HeldTerm). AreHeld formula old.graph old.book.state.live s (other ∷ one ∷ terms)) items are in
     let tied = c.requires.sound.tied in
-    let function = both_function old.graph tied.reduced tied.ordered formula old.book.state.live c.in-Some.u.node c.in-Some.v.node c.in-Some.u.unit c.in-Some.v.unit one other held.1.0.is held.0.is in
-    subst (λ (graph : Graph). MakesOnly old.graph graph (term_function formula old.graph.order (both one other))) (sym c.in_ok-unit.ensures.nodes)
+    let function = both_function old.graph tied.reduced tied.ordered formula old.book.state.live c.in-Some.u.node c.in-Some.v.node
+    c.in-Some.u.unit c.in-Some.v.unit one other held.1.0.is held.0.is in
+    subst (λ (graph : Graph). MakesOnly old.graph graph (term_function formula old.graph.order (both one other)))
+    (sym c.in_ok-unit.ensures.nodes)
     (subst (MakesOnly old.graph c.and.new.table.graph) function c.in_ok-node.ensures.made)
 
 pub returns-clause-made : goal.returns-clause-made
 returns-clause-made g c formula one other terms are =
     let old = c.args.table.now in
     let rest = c.in-Some.ensures.0 in
-    let items : reverse c.args.stack.now.items ≡ c.in-Some.v ∷ c.in-Some.u ∷ rest = ap reverse (sym c.as_slice.ensures.value) ∙ c.in-Some.ensures.1 in
-    let held = subst (λ (s : List Held). AreHeld formula old.graph old.book.state.live s (other ∷ one ∷ terms)) items are in
+    let items : reverse c.args.stack.now.items ≡ c.in-Some.v ∷ c.in-Some.u ∷ rest = ap reverse (sym c.as_slice.ensures.value)
+    ∙ c.in-Some.ensures.1 in
+    let held = subst (λ (s : List HeldTerm). AreHeld formula old.graph old.book.state.live s (other ∷ one ∷ terms)) items are in
     let tied = c.requires.sound.tied in
-    let function = both_function old.graph tied.reduced tied.ordered formula old.book.state.live c.in-Some.u.node c.in-Some.v.node c.in-Some.u.unit c.in-Some.v.unit one other held.1.0.is held.0.is in
-    let at_new = subst (λ (graph : Graph). MakesOnly old.graph graph (term_function formula old.graph.order (both one other))) (sym c.in_ok-unit.ensures.nodes)
+    let function = both_function old.graph tied.reduced tied.ordered formula old.book.state.live c.in-Some.u.node c.in-Some.v.node
+    c.in-Some.u.unit c.in-Some.v.unit one other held.1.0.is held.0.is in
+    let at_new = subst (λ (graph : Graph). MakesOnly old.graph graph (term_function formula old.graph.order (both one other)))
+    (sym c.in_ok-unit.ensures.nodes)
     (subst (MakesOnly old.graph c.and.new.table.graph) function c.in_ok-node.ensures.made) in
-    let at_third = subst (λ (t : TableState g.row.S.Denot). MakesOnly old.graph t.graph (term_function formula old.graph.order (both one other))) (sym c.retire_unit.ensures.retired.same) at_new in
-    subst (λ (t : TableState g.row.S.Denot). MakesOnly old.graph t.graph (term_function formula old.graph.order (both one other))) (sym c.retire_unit-2.ensures.retired.same) at_third
+    let at_third = subst (λ (t : TableState g.row.S.Denot). MakesOnly old.graph t.graph
+    (term_function formula old.graph.order (both one other))) (sym c.retire_unit.ensures.retired.same) at_new in
+    subst (λ (t : TableState g.row.S.Denot). MakesOnly old.graph t.graph (term_function formula old.graph.order (both one other)))
+    (sym c.retire_unit-2.ensures.retired.same) at_third
 
 pub returns-then-is_same-clause-lacks : goal.returns-then-is_same-clause-lacks
 returns-then-is_same-clause-lacks g c formula one other terms are is =
@@ -320,7 +369,8 @@ pub returns-in_err-node-clause-own : goal.returns-in_err-node-clause-own
 returns-in_err-node-clause-own g c = no_answer _ c.in_err-node.field-0.0 _ c.from_residual.ensures.1
 
 pub returns-in_err-unit-clause-held : goal.returns-in_err-unit-clause-held
-returns-in_err-unit-clause-held g c formula one other terms are = no_answer _ c.in_err-unit.field-0.0 _ c.from_residual-in_err-unit.ensures.1
+returns-in_err-unit-clause-held g c formula one other terms are =
+    no_answer _ c.in_err-unit.field-0.0 _ c.from_residual-in_err-unit.ensures.1
 
 pub returns-in_err-unit-clause-refuted : goal.returns-in_err-unit-clause-refuted
 returns-in_err-unit-clause-refuted g c = no_answer _ c.in_err-unit.field-0.0 _ c.from_residual-in_err-unit.ensures.1
@@ -333,31 +383,38 @@ returns-in_err-node-clause-steps g c =
     let old = c.args.table.now in
     let mid = c.and.new.table in
     steps_handed _ _ _ old mid _ _ c.in_err-node.field-0.0 c.from_residual.ensures.1
-    (c.steps_law.ensures.at_most _ _ old mid (most_additions (levels old.graph)) (most_additions (levels old.graph) + 1) _ (omega arith) c.in_err-node.ensures.steps)
+    (c.steps_law.ensures.at_most _ _ old mid (most_additions (levels old.graph)) (most_additions (levels old.graph)
+    + 1) _ (omega arith) c.in_err-node.ensures.steps)
 
 pub returns-in_err-node-clause-fits : goal.returns-in_err-node-clause-fits
 returns-in_err-node-clause-fits g c whole =
-    c.in_err-node.ensures.keeps.fits (whole_result {T = Bool} (Err c.in_err-node.field-0.0) (other_cause _ c.in_err-node.field-0.0 WriteFault c.from_residual.ensures.1 whole))
+    c.in_err-node.ensures.keeps.fits (whole_result {T = Bool} (Err c.in_err-node.field-0.0)
+    (other_cause _ c.in_err-node.field-0.0 WriteFault c.from_residual.ensures.1 whole))
 
 pub returns-in_err-node-clause-made : goal.returns-in_err-node-clause-made
 returns-in_err-node-clause-made g c formula one other terms are =
     let old = c.args.table.now in
     let rest = c.in-Some.ensures.0 in
-    let items : reverse c.args.stack.now.items ≡ c.in-Some.v ∷ c.in-Some.u ∷ rest = ap reverse (sym c.as_slice.ensures.value) ∙ c.in-Some.ensures.1 in
-    let held = subst (λ (s : List Held). AreHeld formula old.graph old.book.state.live s (other ∷ one ∷ terms)) items are in
+    let items : reverse c.args.stack.now.items ≡ c.in-Some.v ∷ c.in-Some.u ∷ rest = ap reverse (sym c.as_slice.ensures.value)
+    ∙ c.in-Some.ensures.1 in
+    let held = subst (λ (s : List HeldTerm). AreHeld formula old.graph old.book.state.live s (other ∷ one ∷ terms)) items are in
     let tied = c.requires.sound.tied in
-    let function = both_function old.graph tied.reduced tied.ordered formula old.book.state.live c.in-Some.u.node c.in-Some.v.node c.in-Some.u.unit c.in-Some.v.unit one other held.1.0.is held.0.is in
+    let function = both_function old.graph tied.reduced tied.ordered formula old.book.state.live c.in-Some.u.node c.in-Some.v.node
+    c.in-Some.u.unit c.in-Some.v.unit one other held.1.0.is held.0.is in
     subst (MakesOnly old.graph c.and.new.table.graph) function c.in_err-node.ensures.made
 
 pub returns-in_err-node-clause-lacks : goal.returns-in_err-node-clause-lacks
 returns-in_err-node-clause-lacks g c formula one other terms are is =
     let old = c.args.table.now in
     let rest = c.in-Some.ensures.0 in
-    let items : reverse c.args.stack.now.items ≡ c.in-Some.v ∷ c.in-Some.u ∷ rest = ap reverse (sym c.as_slice.ensures.value) ∙ c.in-Some.ensures.1 in
-    let held = subst (λ (s : List Held). AreHeld formula old.graph old.book.state.live s (other ∷ one ∷ terms)) items are in
+    let items : reverse c.args.stack.now.items ≡ c.in-Some.v ∷ c.in-Some.u ∷ rest = ap reverse (sym c.as_slice.ensures.value)
+    ∙ c.in-Some.ensures.1 in
+    let held = subst (λ (s : List HeldTerm). AreHeld formula old.graph old.book.state.live s (other ∷ one ∷ terms)) items are in
     let tied = c.requires.sound.tied in
-    let function = both_function old.graph tied.reduced tied.ordered formula old.book.state.live c.in-Some.u.node c.in-Some.v.node c.in-Some.u.unit c.in-Some.v.unit one other held.1.0.is held.0.is in
-    subst (LacksPart c.and.new.table.graph) function (c.in_err-node.ensures.lacks (ap Err (came_from _ c.in_err-node.field-0.0 NodeLimit c.from_residual.ensures.1 is)))
+    let function = both_function old.graph tied.reduced tied.ordered formula old.book.state.live c.in-Some.u.node c.in-Some.v.node
+    c.in-Some.u.unit c.in-Some.v.unit one other held.1.0.is held.0.is in
+    subst (LacksPart c.and.new.table.graph) function (c.in_err-node.ensures.lacks
+    (ap Err (came_from _ c.in_err-node.field-0.0 NodeLimit c.from_residual.ensures.1 is)))
 
 pub returns-in_err-node-clause-beside : goal.returns-in_err-node-clause-beside
 returns-in_err-node-clause-beside g c =
@@ -371,8 +428,10 @@ returns-in_err-unit-clause-steps g c =
     let first = g.S.Sink.channel old.book.sink in
     let second = g.S.Sink.channel mid.book.sink in
     let third = g.S.Sink.channel new.book.sink in
-    steps_handed g.S.Sink.tells first third old new (most_additions (levels old.graph) + 1) _ c.in_err-unit.field-0.0 c.from_residual-in_err-unit.ensures.1
-    (c.steps_law.ensures.further first second third old mid new (most_additions (levels old.graph)) 1 (Some c.in_err-unit.field-0.0) c.in_ok-node.ensures.steps c.in_err-unit.ensures.steps)
+    steps_handed g.S.Sink.tells first third old new (most_additions (levels old.graph)
+    + 1) _ c.in_err-unit.field-0.0 c.from_residual-in_err-unit.ensures.1
+    (c.steps_law.ensures.further first second third old mid new (most_additions (levels old.graph)) 1
+    (Some c.in_err-unit.field-0.0) c.in_ok-node.ensures.steps c.in_err-unit.ensures.steps)
 
 pub returns-in_err-unit-clause-fits : goal.returns-in_err-unit-clause-fits
 returns-in_err-unit-clause-fits g c whole =
@@ -380,25 +439,31 @@ returns-in_err-unit-clause-fits g c whole =
     let new = c.unit_of.new.table in
     let kept = c.in_ok-node.ensures.keeps.fits none_whole in
     let came = c.in_err-unit.field-0.0 in
-    let torn : ◌≡◌ {A = Result Just TableError} (Err came) (Err WriteFault) → ⊥ = other_cause _ came WriteFault c.from_residual-in_err-unit.ensures.1 whole in
+    let torn : ◌≡◌ {A = Result Just TableError} (Err came) (Err WriteFault)
+    → ⊥ = other_cause _ came WriteFault c.from_residual-in_err-unit.ensures.1 whole in
     let sound = (went_on _ _ _ mid new (Err came) c.in_err-unit.ensures.steps.leaves torn).sound in
-    c.entry_law.ensures.kept mid new (all_entries c.and.new.self) c.in_ok-node.ensures.steps.leaves.sound sound c.in_err-unit.ensures.steps.extends kept
+    c.entry_law.ensures.kept mid new (all_entries c.and.new.self) c.in_ok-node.ensures.steps.leaves.sound sound
+    c.in_err-unit.ensures.steps.extends kept
     (λ id named gone. kept.unretired id named (subst (λ (list : List ℕ). Contains list id) c.in_err-unit.ensures.retired gone))
 
 pub returns-in_err-unit-clause-made : goal.returns-in_err-unit-clause-made
 returns-in_err-unit-clause-made g c formula one other terms are =
     let old = c.args.table.now in
     let rest = c.in-Some.ensures.0 in
-    let items : reverse c.args.stack.now.items ≡ c.in-Some.v ∷ c.in-Some.u ∷ rest = ap reverse (sym c.as_slice.ensures.value) ∙ c.in-Some.ensures.1 in
-    let held = subst (λ (s : List Held). AreHeld formula old.graph old.book.state.live s (other ∷ one ∷ terms)) items are in
+    let items : reverse c.args.stack.now.items ≡ c.in-Some.v ∷ c.in-Some.u ∷ rest = ap reverse (sym c.as_slice.ensures.value)
+    ∙ c.in-Some.ensures.1 in
+    let held = subst (λ (s : List HeldTerm). AreHeld formula old.graph old.book.state.live s (other ∷ one ∷ terms)) items are in
     let tied = c.requires.sound.tied in
-    let function = both_function old.graph tied.reduced tied.ordered formula old.book.state.live c.in-Some.u.node c.in-Some.v.node c.in-Some.u.unit c.in-Some.v.unit one other held.1.0.is held.0.is in
-    subst (λ (graph : Graph). MakesOnly old.graph graph (term_function formula old.graph.order (both one other))) (sym c.in_err-unit.ensures.nodes)
+    let function = both_function old.graph tied.reduced tied.ordered formula old.book.state.live c.in-Some.u.node c.in-Some.v.node
+    c.in-Some.u.unit c.in-Some.v.unit one other held.1.0.is held.0.is in
+    subst (λ (graph : Graph). MakesOnly old.graph graph (term_function formula old.graph.order (both one other)))
+    (sym c.in_err-unit.ensures.nodes)
     (subst (MakesOnly old.graph c.and.new.table.graph) function c.in_ok-node.ensures.made)
 
 pub returns-in_err-unit-clause-lacks : goal.returns-in_err-unit-clause-lacks
 returns-in_err-unit-clause-lacks g c formula one other terms are is =
-    absurd (c.in_err-unit.ensures.no_node_limit (ap Err (came_from _ c.in_err-unit.field-0.0 NodeLimit c.from_residual-in_err-unit.ensures.1 is)))
+    absurd (c.in_err-unit.ensures.no_node_limit
+    (ap Err (came_from _ c.in_err-unit.field-0.0 NodeLimit c.from_residual-in_err-unit.ensures.1 is)))
 
 pub returns-in_err-unit-clause-beside : goal.returns-in_err-unit-clause-beside
 returns-in_err-unit-clause-beside g c =
@@ -413,12 +478,15 @@ returns-in_err-node-clause-again g c is =
     let whole = limit_whole came limit in
     let found = c.in_err-node.ensures in
     let sound = (limit_left g.S.Sink.tells g.S.Sink.channel old mid came limit found.steps.leaves).0.sound in
-    units_behind g.S.Sink.tells g.S.Sink.channel c.steps_law.ensures old mid (all_entries c.args.caches.now) (all_entries c.and.new.self) (reverse c.args.stack.now.items) c.requires.sound sound
-    found.steps.extends c.requires.own found.keeps.retires (found.keeps.named whole) (found.accounts (λ torn. whole (ap Some (same_error torn))))
+    units_behind g.S.Sink.tells g.S.Sink.channel c.steps_law.ensures old mid (all_entries c.args.caches.now) (all_entries c.and.new.self)
+    (reverse c.args.stack.now.items) c.requires.sound sound
+    found.steps.extends c.requires.own found.keeps.retires (found.keeps.named whole)
+    (found.accounts (λ torn. whole (ap Some (same_error torn))))
 
 pub returns-in_err-unit-clause-again : goal.returns-in_err-unit-clause-again
 returns-in_err-unit-clause-again g c is =
-    absurd (c.in_err-unit.ensures.no_node_limit (ap Err (came_from _ c.in_err-unit.field-0.0 NodeLimit c.from_residual-in_err-unit.ensures.1 is)))
+    absurd (c.in_err-unit.ensures.no_node_limit
+    (ap Err (came_from _ c.in_err-unit.field-0.0 NodeLimit c.from_residual-in_err-unit.ensures.1 is)))
 
 pub returns-then-is_same-clause-again : goal.returns-then-is_same-clause-again
 returns-then-is_same-clause-again g c is = absurd (no_error is)
@@ -428,35 +496,46 @@ returns-clause-again g c is = absurd (no_error is)
 
 -- the conjunction of two terms of few parts
 pairs_found : (g : Over) (c : After-and g) (formula : Formula) (one other : Term) (terms : List Term)
-    → AreHeld formula c.args.table.now.graph c.args.table.now.book.state.live (reverse c.args.stack.now.items) (other ∷ one ∷ terms) → (width : ℕ) → HaveRoom c.args.caches.now width
-    → HasAtMost (term_function formula c.args.table.now.graph.order one) width → HasAtMost (term_function formula c.args.table.now.graph.order other) width
+    → AreHeld formula c.args.table.now.graph c.args.table.now.book.state.live (reverse c.args.stack.now.items) (other ∷ one ∷ terms)
+    → (width : ℕ) → HaveRoom c.args.caches.now width
+    → HasAtMost (term_function formula c.args.table.now.graph.order one) width
+    → HasAtMost (term_function formula c.args.table.now.graph.order other) width
     → AddsAtMost (2 * (width * width)) c.args.table.now c.and.new.table
 pairs_found g c formula one other terms are width room few_one few_other =
     let old = c.args.table.now in
     let rest = c.in-Some.ensures.0 in
-    let items : reverse c.args.stack.now.items ≡ c.in-Some.v ∷ c.in-Some.u ∷ rest = ap reverse (sym c.as_slice.ensures.value) ∙ c.in-Some.ensures.1 in
-    let held = subst (λ (s : List Held). AreHeld formula old.graph old.book.state.live s (other ∷ one ∷ terms)) items are in
+    let items : reverse c.args.stack.now.items ≡ c.in-Some.v ∷ c.in-Some.u ∷ rest = ap reverse (sym c.as_slice.ensures.value)
+    ∙ c.in-Some.ensures.1 in
+    let held = subst (λ (s : List HeldTerm). AreHeld formula old.graph old.book.state.live s (other ∷ one ∷ terms)) items are in
     let tied = c.requires.sound.tied in
     let first = held.1.0.is in
     let second = held.0.is in
-    adds_pairs c.subfunction_law.ensures c.canonical_law.ensures old c.and.new.table tied.reduced c.in-Some.u.node c.in-Some.v.node first.stands second.stands c.args.caches.now width room
-    (at_most_same (term_function formula old.graph.order one) (λ a. value_of old.graph a c.in-Some.u.node) (λ a. sym (node_function old.graph tied.reduced tied.ordered formula c.in-Some.u.node one first.stands first.value a)) width few_one)
-    (at_most_same (term_function formula old.graph.order other) (λ a. value_of old.graph a c.in-Some.v.node) (λ a. sym (node_function old.graph tied.reduced tied.ordered formula c.in-Some.v.node other second.stands second.value a)) width few_other)
+    adds_pairs c.subfunction_law.ensures c.canonical_law.ensures old c.and.new.table tied.reduced c.in-Some.u.node c.in-Some.v.node
+    first.stands second.stands c.args.caches.now width room
+    (at_most_same (term_function formula old.graph.order one) (λ a. value_of old.graph a c.in-Some.u.node)
+    (λ a. sym (node_function old.graph tied.reduced tied.ordered formula c.in-Some.u.node one first.stands first.value a)) width
+    few_one)
+    (at_most_same (term_function formula old.graph.order other) (λ a. value_of old.graph a c.in-Some.v.node)
+    (λ a. sym (node_function old.graph tied.reduced tied.ordered formula c.in-Some.v.node other second.stands second.value a)) width
+    few_other)
     c.and.ensures.price
 
 pub returns-in_err-node-clause-pairs : goal.returns-in_err-node-clause-pairs
 returns-in_err-node-clause-pairs g c formula one other terms are width room few_one few_other =
-    let own = pairs_found g (goal.at.returns-in_err-node-clause-pairs g c).After-and formula one other terms are width room few_one few_other in
+    let own = pairs_found g (goal.at.returns-in_err-node-clause-pairs g c).After-and formula one other terms are width room few_one
+    few_other in
     omega (arith, own)
 
 pub returns-in_err-unit-clause-pairs : goal.returns-in_err-unit-clause-pairs
 returns-in_err-unit-clause-pairs g c formula one other terms are width room few_one few_other =
-    let own = pairs_found g (goal.at.returns-in_err-unit-clause-pairs g c).After-and formula one other terms are width room few_one few_other in
+    let own = pairs_found g (goal.at.returns-in_err-unit-clause-pairs g c).After-and formula one other terms are width room few_one
+    few_other in
     omega (arith, own, c.in_err-unit.ensures.steps.adds)
 
 pub returns-then-is_same-clause-pairs : goal.returns-then-is_same-clause-pairs
 returns-then-is_same-clause-pairs g c formula one other terms are width room few_one few_other =
-    let own = pairs_found g (goal.at.returns-then-is_same-clause-pairs g c).After-and formula one other terms are width room few_one few_other in
+    let own = pairs_found g (goal.at.returns-then-is_same-clause-pairs g c).After-and formula one other terms are width room few_one
+    few_other in
     omega (arith, own, c.in_ok-unit.ensures.steps.adds)
 
 pub returns-clause-pairs : goal.returns-clause-pairs

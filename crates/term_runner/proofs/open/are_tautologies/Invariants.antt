@@ -1,3 +1,4 @@
+-- What the loops of `are_tautologies` keep.
 use Rattle.std.proofs.Common.{◌≡◌, true, take}
 use Rattle.std.specs.List.{list_all}
 use Rattle.term_runner.specs.Clauses.{is_tautology}

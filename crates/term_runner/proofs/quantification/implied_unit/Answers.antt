@@ -1,3 +1,4 @@
+-- What is left to show of `implied_unit`.
 use Rattle.std.proofs.Common.{◌≡◌, ◌⊎◌, ◌*◌, ℕ, [], ◌∷◌, arith, inl, inr, subst, ◌∙◌}
 use Rattle.node_table.specs.declared.node.Just.TheVariants.{Clause}
 use Rattle.node_table.specs.Diagram.{Graph, levels}
@@ -28,8 +29,10 @@ pub unreachable-requires : goal.unreachable-requires
 unreachable-requires g c =
     let mid = c.implies.new.table in
     let u = c.args.u.now.node in
-    let refuted : IsRefuted mid.graph u c.args.w = subst (IsDecided mid.graph mid.book.state.live u c.args.w) c.in_default.is c.in_ok-just.ensures.decided in
-    let before : IsRefuted c.args.table.now.graph u c.args.w = subst (λ (graph : Graph). IsRefuted graph u c.args.w) c.implies.ensures.nodes refuted in
+    let refuted : IsRefuted mid.graph u c.args.w = subst (IsDecided mid.graph mid.book.state.live u c.args.w) c.in_default.is
+    c.in_ok-just.ensures.decided in
+    let before : IsRefuted c.args.table.now.graph u c.args.w = subst
+    (λ (graph : Graph). IsRefuted graph u c.args.w) c.implies.ensures.nodes refuted in
     not_both _ (c.requires.implied before.values before.holds) before.fails
 
 pub unit_of_implied-requires : goal.unit_of_implied-requires
@@ -43,15 +46,18 @@ unit_of_implied-requires g c =
       first = c.growth_law.ensures.stands old.graph mid.graph extends.nodes u.node c.requires.first;
       second = c.growth_law.ensures.stands old.graph mid.graph extends.nodes c.args.w c.requires.second;
       first_open = c.requires.some;
-      first_unit = justified_kept c.growth_law.ensures old.graph mid.graph c.requires.sound.tied.reduced extends.nodes old.book.state.live mid.book.state.live extends.clauses u.node c.requires.first u.unit c.requires.unit;
+      first_unit = justified_kept c.growth_law.ensures old.graph mid.graph c.requires.sound.tied.reduced extends.nodes old.book.state.live
+          mid.book.state.live extends.clauses u.node c.requires.first u.unit c.requires.unit;
       implied = subst (IsDecided mid.graph mid.book.state.live u.node c.args.w) c.in-Some.is c.in_ok-just.ensures.decided;
     }
 
 pub returns-clause-unit : goal.returns-clause-unit
 returns-clause-unit g c =
     let new = c.unit_of_implied.new.table in
-    if_ok c.unit_of_implied.result (λ unit. IsJustified new.book.state.live (atom_of c.implies.new.table.graph c.args.w ∷ []) unit) (λ unit. IsJustified new.book.state.live (atom_of c.args.table.now.graph c.args.w ∷ []) unit)
-    (λ unit proved. subst (λ (graph : Graph). IsJustified new.book.state.live (atom_of graph c.args.w ∷ []) unit) c.implies.ensures.nodes proved) c.unit_of_implied.ensures.unit
+    if_ok c.unit_of_implied.result (λ unit. IsJustified new.book.state.live (atom_of c.implies.new.table.graph c.args.w ∷ []) unit)
+    (λ unit. IsJustified new.book.state.live (atom_of c.args.table.now.graph c.args.w ∷ []) unit)
+    (λ unit proved. subst (λ (graph : Graph). IsJustified new.book.state.live (atom_of graph c.args.w
+    ∷ []) unit) c.implies.ensures.nodes proved) c.unit_of_implied.ensures.unit
 
 pub returns-clause-own : goal.returns-clause-own
 returns-clause-own g c =
@@ -62,10 +68,13 @@ returns-clause-own g c =
     let kept = all_entries c.implies.new.self in
     let u = c.args.u.now.unit in
     let own : (id : ℕ) → u ≡ Clause id → IsAccounted mid kept id → ⊥ = λ id is.
-    unaccounted_after old mid (all_entries c.args.caches.now) kept id (unit_within old c.requires.sound (atom_of old.graph c.args.u.now.node) u id c.requires.unit is) (c.requires.own id is)
+    unaccounted_after old mid (all_entries c.args.caches.now) kept id
+    (unit_within old c.requires.sound (atom_of old.graph c.args.u.now.node) u id c.requires.unit is) (c.requires.own id is)
     done.keeps.retires (done.keeps.named none_whole) in
-    if_ok c.unit_of_implied.result (λ unit. (unit ≡ u) ⊎ IsNewJust mid.book.state new.book.state unit) (λ unit. (id : ℕ) → unit ≡ Clause id → IsAccounted new kept id → ⊥)
-    (λ unit given. unit_own mid new kept u u unit done.steps.leaves.sound (done.keeps.fits none_whole) c.unit_of_implied.ensures.retired own own (elim given [ inl is ↦ inl is | inr came ↦ inr (inr came) ]))
+    if_ok c.unit_of_implied.result (λ unit. (unit ≡ u) ⊎ IsNewJust mid.book.state new.book.state unit) (λ unit. (id : ℕ) → unit ≡ Clause id
+    → IsAccounted new kept id → ⊥)
+    (λ unit given. unit_own mid new kept u u unit done.steps.leaves.sound
+    (done.keeps.fits none_whole) c.unit_of_implied.ensures.retired own own (elim given [ inl is ↦ inl is | inr came ↦ inr (inr came) ]))
     c.unit_of_implied.ensures.given
 
 pub returns-clause-nodes : goal.returns-clause-nodes
@@ -74,7 +83,8 @@ returns-clause-nodes g c = c.unit_of_implied.ensures.nodes ∙ c.implies.ensures
 pub returns-clause-steps : goal.returns-clause-steps
 returns-clause-steps g c =
     let old = c.args.table.now in
-    c.steps_law.ensures.further _ _ _ old c.implies.new.table c.unit_of_implied.new.table (most_additions (levels old.graph)) 1 _ c.in_ok-just.ensures.steps c.unit_of_implied.ensures.steps
+    c.steps_law.ensures.further _ _ _ old c.implies.new.table c.unit_of_implied.new.table
+    (most_additions (levels old.graph)) 1 _ c.in_ok-just.ensures.steps c.unit_of_implied.ensures.steps
 
 pub returns-clause-keeps : goal.returns-clause-keeps
 returns-clause-keeps g c =
@@ -85,7 +95,9 @@ returns-clause-keeps g c =
     let steps = c.unit_of_implied.ensures.steps in
     let kept = all_entries c.implies.new.self in
     keeps_further old mid new (all_entries c.args.caches.now) kept kept _ done.steps.extends steps.extends done.keeps
-    (keeps_all c.entry_law.ensures mid new kept _ done.steps.leaves.sound (λ whole. (went_on _ _ _ mid new c.unit_of_implied.result steps.leaves (whole_error c.unit_of_implied.result whole)).sound) steps.extends c.unit_of_implied.ensures.retired
+    (keeps_all c.entry_law.ensures mid new kept _ done.steps.leaves.sound
+    (λ whole. (went_on _ _ _ mid new c.unit_of_implied.result steps.leaves (whole_error c.unit_of_implied.result whole)).sound)
+    steps.extends c.unit_of_implied.ensures.retired
     (done.keeps.fits none_whole))
 
 pub returns-clause-no_node_limit : goal.returns-clause-no_node_limit
@@ -105,24 +117,32 @@ returns-clause-gives g c =
     let u = c.args.u.now in
     let given = c.unit_of_implied.ensures in
     let free : (id : ℕ) → u.unit ≡ Clause id → IsAccounted mid after id → ⊥ = λ id is.
-    unaccounted_after old mid before after id (unit_within old c.requires.sound (atom_of old.graph u.node) u.unit id c.requires.unit is) (c.requires.own id is)
+    unaccounted_after old mid before after id (unit_within old c.requires.sound (atom_of old.graph u.node) u.unit id c.requires.unit is)
+    (c.requires.own id is)
     done.keeps.retires (done.keeps.named none_whole) in
     both_ok c.unit_of_implied.result
     (λ unit. (unit ≡ u.unit) ⊎ IsNewJust mid.book.state new.book.state unit)
-    (λ unit. ((unit ≡ u.unit) ⊎ ((id : ℕ) → unit ≡ Clause id → IsAddedTo new id)) × ((id : ℕ) → IsAddedTo new id → IsAddedTo mid id ⊎ (unit ≡ Clause id)))
+    (λ unit. ((unit ≡ u.unit) ⊎ ((id : ℕ) → unit ≡ Clause id → IsAddedTo new id))
+    × ((id : ℕ) → IsAddedTo new id → IsAddedTo mid id ⊎ (unit ≡ Clause id)))
     (λ unit. GivesUnit old new before after (u ∷ []) unit)
-    (λ unit one two. one_give old mid new before after u unit done.steps.leaves.sound free done.keeps (done.accounts no_error) done.steps.leaves.no_less given.steps.extends.numbers.no_less given.retired two.1 one two.0)
+    (λ unit one two. one_give old mid new before after u unit done.steps.leaves.sound free done.keeps
+    (done.accounts no_error) done.steps.leaves.no_less given.steps.extends.numbers.no_less given.retired two.1 one two.0)
     given.given
     (both_ok c.unit_of_implied.result
-    (λ unit. (unit ≡ u.unit) ⊎ ((id : ℕ) → unit ≡ Clause id → IsAddedTo new id)) (λ unit. (id : ℕ) → IsAddedTo new id → IsAddedTo mid id ⊎ (unit ≡ Clause id))
-    (λ unit. ((unit ≡ u.unit) ⊎ ((id : ℕ) → unit ≡ Clause id → IsAddedTo new id)) × ((id : ℕ) → IsAddedTo new id → IsAddedTo mid id ⊎ (unit ≡ Clause id)))
+    (λ unit. (unit ≡ u.unit) ⊎ ((id : ℕ) → unit ≡ Clause id → IsAddedTo new id)) (λ unit. (id : ℕ) → IsAddedTo new id → IsAddedTo mid id
+    ⊎ (unit ≡ Clause id))
+    (λ unit. ((unit ≡ u.unit) ⊎ ((id : ℕ) → unit ≡ Clause id → IsAddedTo new id))
+    × ((id : ℕ) → IsAddedTo new id → IsAddedTo mid id ⊎ (unit ≡ Clause id)))
     (λ unit one two. (one, two)) given.added given.alone)
 
 -- the implication adds no more than two clauses for each pair of parts
-pairs_found : (g : Over) (c : After-implies g) (width : ℕ) → HaveRoom c.args.caches.now width → HasAtMost (λ a. value_of c.args.table.now.graph a c.args.u.now.node) width
-    → HasAtMost (λ a. value_of c.args.table.now.graph a c.args.w) width → AddsAtMost (2 * (width * width)) c.args.table.now c.implies.new.table
+pairs_found : (g : Over) (c : After-implies g) (width : ℕ) → HaveRoom c.args.caches.now width
+    → HasAtMost (λ a. value_of c.args.table.now.graph a c.args.u.now.node) width
+    → HasAtMost (λ a. value_of c.args.table.now.graph a c.args.w) width
+    → AddsAtMost (2 * (width * width)) c.args.table.now c.implies.new.table
 pairs_found g c width room few_u few_w =
-    adds_pairs c.subfunction_law.ensures c.canonical_law.ensures c.args.table.now c.implies.new.table c.requires.sound.tied.reduced c.args.u.now.node c.args.w c.requires.first c.requires.second c.args.caches.now width room
+    adds_pairs c.subfunction_law.ensures c.canonical_law.ensures c.args.table.now c.implies.new.table c.requires.sound.tied.reduced
+    c.args.u.now.node c.args.w c.requires.first c.requires.second c.args.caches.now width room
     few_u few_w c.implies.ensures.price
 
 pub returns-in_err-just-clause-pairs : goal.returns-in_err-just-clause-pairs

@@ -1,4 +1,6 @@
-use Rattle.std.proofs.Common.{◌≡◌, ◌∙◌, ◌+◌, ◌*◌, ◌<◌, ℕ, zero, Bool, List, [], ◌∷◌, length, reverse, None, Err, refl, ap, sym, subst, arith, inl, inr}
+-- What is left to show of `quantify_out`.
+use Rattle.std.proofs.Common.{◌≡◌, ◌∙◌, ◌+◌, ◌*◌, ◌<◌, ℕ, zero, Bool, List, [], ◌∷◌, length, reverse, None, Err, refl, ap, sym, subst}
+use Rattle.std.proofs.Common.{arith, inl, inr}
 use Rattle.std.specs.Prelude.{slice_index_or}
 use Rattle.node_table.specs.declared.error.TableError.TheVariants.{NodeLimit, WriteFault}
 use Rattle.node_table.specs.Diagram.{levels, variable_at}
@@ -12,7 +14,7 @@ use Rattle.cnf_base.specs.Formula.{Formula}
 use Rattle.term_runner.specs.Caches.{HaveRoom, all_entries}
 use Rattle.node_table.specs.Table.{TableState, AddsAtMost}
 use Rattle.node_table.specs.Value.{value_of}
-use Rattle.term_runner.specs.declared.held.Held.{Held}
+use Rattle.term_runner.specs.declared.held.HeldTerm.{HeldTerm}
 use Rattle.term_runner.specs.Held.{AreHeld, AreKept, HasUnits}
 use Rattle.term_runner.proofs.Leaving.{limit_left, limit_whole, steps_handed}
 use Rattle.term_runner.proofs.Giving.{units_behind}
@@ -30,7 +32,7 @@ use Rattle.term_runner.proofs.quantification.quantify_out.Goals.{After-weaken}
 pub unreachable-requires : goal.unreachable-requires
 unreachable-requires g c =
     let one = c.requires.one in
-    let few = subst (λ (s : List Held). length s < 1) c.as_slice.ensures.value c.in_default.ensures in
+    let few = subst (λ (s : List HeldTerm). length s < 1) c.as_slice.ensures.value c.in_default.ensures in
     none_left one.0 c.args.table.now.graph c.args.table.now.book.state.live c.args.stack.now.items (omega (arith, few)) one.1 one.2 one.3
 
 pub unreachable-requires-in_default-level : goal.unreachable-requires-in_default-level
@@ -44,8 +46,8 @@ weaken-requires g c =
     let rest = c.in-Some.ensures.0 in
     let items : reverse c.args.stack.now.items ≡ c.in-Some.u ∷ rest = ap reverse (sym c.as_slice.ensures.value) ∙ c.in-Some.ensures.1 in
     let one = c.requires.one in
-    let top = subst (λ (s : List Held). AreHeld one.0 old.graph old.book.state.live s (one.1 ∷ one.2)) items one.3 in
-    let has = subst (λ (s : List Held). HasUnits old (all_entries c.args.caches.now) s) items c.requires.own in
+    let top = subst (λ (s : List HeldTerm). AreHeld one.0 old.graph old.book.state.live s (one.1 ∷ one.2)) items one.3 in
+    let has = subst (λ (s : List HeldTerm). HasUnits old (all_entries c.args.caches.now) s) items c.requires.own in
     record {
       sound = c.requires.sound;
       stands = top.0.is.stands;
@@ -65,11 +67,13 @@ retire_unit-requires g c =
     let before = all_entries c.args.caches.now in
     let after = all_entries c.weaken.new.caches in
     let done = c.in_ok-held.ensures in
-    let has = subst (λ (s : List Held). HasUnits old before s) items c.requires.own in
+    let has = subst (λ (s : List HeldTerm). HasUnits old before s) items c.requires.own in
     record {
       sound = done.steps.leaves.sound;
-      added = λ id is. c.steps_law.ensures.added old new c.requires.sound done.steps.leaves.sound done.steps.extends id (has.added id (first_unit c.in-Some.u rest id is));
-      unretired = λ id is gone. free_after old new before after (c.in-Some.u ∷ rest) c.requires.sound has done.gives.retires done.gives.named id (first_unit c.in-Some.u rest id is) (inl gone);
+      added = λ id is. c.steps_law.ensures.added old new c.requires.sound done.steps.leaves.sound done.steps.extends id
+          (has.added id (first_unit c.in-Some.u rest id is));
+      unretired = λ id is gone. free_after old new before after (c.in-Some.u
+          ∷ rest) c.requires.sound has done.gives.retires done.gives.named id (first_unit c.in-Some.u rest id is) (inl gone);
     }
 
 pub replace_last-requires : goal.replace_last-requires
@@ -88,24 +92,33 @@ returns-clause-held g c formula term terms are no_end =
     let before = all_entries c.args.caches.now in
     let after = all_entries c.weaken.new.caches in
     let done = c.in_ok-held.ensures in
-    let has = subst (λ (s : List Held). HasUnits old before s) items c.requires.own in
+    let has = subst (λ (s : List HeldTerm). HasUnits old before s) items c.requires.own in
     let last = c.retire_unit.new.table in
     let retires : RetiresUnits new last (c.in-Some.u ∷ []) c.in_ok-held.held.unit =
-    one_more_retired new new last [] c.in-Some.u c.in_ok-held.held.unit (none_retired new c.in_ok-held.held.unit) c.retire_unit.ensures.retired in
-    let top = subst (λ (s : List Held). AreHeld formula old.graph old.book.state.live s (term ∷ terms)) items are in
+    one_more_retired new new last [] c.in-Some.u c.in_ok-held.held.unit
+    (none_retired new c.in_ok-held.held.unit) c.retire_unit.ensures.retired in
+    let top = subst (λ (s : List HeldTerm). AreHeld formula old.graph old.book.state.live s (term ∷ terms)) items are in
     let extends = done.steps.extends in
     let reduced = c.requires.sound.tied.reduced in
     let result = c.in_ok-held.held in
-    let up = held_one_kept c.growth_law.ensures old.graph new.graph reduced extends.nodes old.book.state.live new.book.state.live extends.clauses formula c.in-Some.u term top.0 in
-    let within : c.in-Some-level.level < levels new.graph = subst (λ (order : List ℕ). c.in-Some-level.level < length order) (sym extends.nodes.order) c.in-Some-level.ensures.0 in
-    let at : variable_at new.graph c.in-Some-level.level ≡ c.args.variable = ap (λ (order : List ℕ). slice_index_or order c.in-Some-level.level 0) extends.nodes.order ∙ c.in-Some-level.ensures.1 in
+    let up = held_one_kept c.growth_law.ensures old.graph new.graph reduced extends.nodes old.book.state.live new.book.state.live
+    extends.clauses formula c.in-Some.u term top.0 in
+    let within : c.in-Some-level.level < levels new.graph = subst (λ (order : List ℕ). c.in-Some-level.level
+    < length order) (sym extends.nodes.order) c.in-Some-level.ensures.0 in
+    let at : variable_at new.graph c.in-Some-level.level ≡ c.args.variable = ap
+    (λ (order : List ℕ). slice_index_or order c.in-Some-level.level 0) extends.nodes.order ∙ c.in-Some-level.ensures.1 in
     let at_new : AreHeld formula new.graph new.book.state.live (result ∷ rest) (some_value c.args.variable term ∷ terms) = (
-      quantified_held new.graph done.steps.leaves.sound.tied.reduced done.steps.leaves.sound.tied.ordered c.in-Some-level.level c.args.variable within at formula new.book.state.live c.in-Some.u term
-          result.node result.unit up done.quantified done.unit (λ is. not_both c.is_same.result (c.is_same.ensures.1 is) c.if-is_same.false),
-      held_kept c.growth_law.ensures old.graph new.graph reduced extends.nodes old.book.state.live new.book.state.live extends.clauses formula rest terms top.1,
+      quantified_held new.graph done.steps.leaves.sound.tied.reduced done.steps.leaves.sound.tied.ordered c.in-Some-level.level
+          c.args.variable within at formula new.book.state.live c.in-Some.u term
+          result.node result.unit up done.quantified done.unit (λ is. not_both c.is_same.result
+          (c.is_same.ensures.1 is) c.if-is_same.false),
+      held_kept c.growth_law.ensures old.graph new.graph reduced extends.nodes old.book.state.live new.book.state.live extends.clauses
+          formula rest terms top.1,
     ) in
-    subst (λ (s : List Held). AreHeld formula last.graph last.book.state.live s (some_value c.args.variable term ∷ terms)) (sym (c.replace_last.ensures c.in-Some.u rest items))
-    (subst (λ (t : TableState g.row.S.Denot). AreHeld formula t.graph t.book.state.live (result ∷ rest) (some_value c.args.variable term ∷ terms)) (sym retires.same) at_new)
+    subst (λ (s : List HeldTerm). AreHeld formula last.graph last.book.state.live s (some_value c.args.variable term ∷ terms))
+    (sym (c.replace_last.ensures c.in-Some.u rest items))
+    (subst (λ (t : TableState g.row.S.Denot). AreHeld formula t.graph t.book.state.live (result ∷ rest) (some_value c.args.variable term
+    ∷ terms)) (sym retires.same) at_new)
 
 pub returns-then-is_same-clause-kept : goal.returns-then-is_same-clause-kept
 returns-then-is_same-clause-kept g c formula term terms quantified are kept =
@@ -116,8 +129,9 @@ returns-then-is_same-clause-kept g c formula term terms quantified are kept =
     let extends = c.in_ok-held.ensures.steps.extends in
     let reduced = c.requires.sound.tied.reduced in
     let x = c.args.variable in
-    let top = subst (λ (s : List Held). AreHeld formula old.graph old.book.state.live s (term ∷ terms)) items are in
-    let up = held_one_kept c.growth_law.ensures old.graph new.graph reduced extends.nodes old.book.state.live new.book.state.live extends.clauses formula c.in-Some.u term top.0 in
+    let top = subst (λ (s : List HeldTerm). AreHeld formula old.graph old.book.state.live s (term ∷ terms)) items are in
+    let up = held_one_kept c.growth_law.ensures old.graph new.graph reduced extends.nodes old.book.state.live new.book.state.live
+    extends.clauses formula c.in-Some.u term top.0 in
     kept_pushed formula new.graph c.args.trail.now c.push.new.self (x, c.in-Some.u.node) (x, term) quantified c.in_ok-push.ensures.ok
     (record { variable = refl; stands = up.is.stands; value = up.is.value })
     (kept_grown c.growth_law.ensures formula old.graph new.graph reduced extends.nodes (reverse c.args.trail.now) quantified kept)
@@ -131,9 +145,11 @@ returns-clause-kept g c formula term terms quantified are kept =
     let extends = c.in_ok-held.ensures.steps.extends in
     let reduced = c.requires.sound.tied.reduced in
     let x = c.args.variable in
-    let top = subst (λ (s : List Held). AreHeld formula old.graph old.book.state.live s (term ∷ terms)) items are in
-    let up = held_one_kept c.growth_law.ensures old.graph new.graph reduced extends.nodes old.book.state.live new.book.state.live extends.clauses formula c.in-Some.u term top.0 in
-    subst (λ (t : TableState g.row.S.Denot). AreKept formula t.graph (reverse c.push.new.self) ((x, term) ∷ quantified)) (sym c.retire_unit.ensures.retired.same)
+    let top = subst (λ (s : List HeldTerm). AreHeld formula old.graph old.book.state.live s (term ∷ terms)) items are in
+    let up = held_one_kept c.growth_law.ensures old.graph new.graph reduced extends.nodes old.book.state.live new.book.state.live
+    extends.clauses formula c.in-Some.u term top.0 in
+    subst (λ (t : TableState g.row.S.Denot). AreKept formula t.graph (reverse c.push.new.self) ((x, term) ∷ quantified))
+    (sym c.retire_unit.ensures.retired.same)
     (kept_pushed formula new.graph c.args.trail.now c.push.new.self (x, c.in-Some.u.node) (x, term) quantified c.in_ok-push.ensures.ok
     (record { variable = refl; stands = up.is.stands; value = up.is.value })
     (kept_grown c.growth_law.ensures formula old.graph new.graph reduced extends.nodes (reverse c.args.trail.now) quantified kept))
@@ -153,11 +169,12 @@ returns-clause-own g c no_end =
     let before = all_entries c.args.caches.now in
     let after = all_entries c.weaken.new.caches in
     let done = c.in_ok-held.ensures in
-    let has = subst (λ (s : List Held). HasUnits old before s) items c.requires.own in
+    let has = subst (λ (s : List HeldTerm). HasUnits old before s) items c.requires.own in
     let last = c.retire_unit.new.table in
     let retires : RetiresUnits new last (c.in-Some.u ∷ []) c.in_ok-held.held.unit =
-    one_more_retired new new last [] c.in-Some.u c.in_ok-held.held.unit (none_retired new c.in_ok-held.held.unit) c.retire_unit.ensures.retired in
-    subst (λ (s : List Held). HasUnits last after s) (sym (c.replace_last.ensures c.in-Some.u rest items))
+    one_more_retired new new last [] c.in-Some.u c.in_ok-held.held.unit
+    (none_retired new c.in_ok-held.held.unit) c.retire_unit.ensures.retired in
+    subst (λ (s : List HeldTerm). HasUnits last after s) (sym (c.replace_last.ensures c.in-Some.u rest items))
     (units_replaced g.S.Sink.tells g.S.Sink.channel c.steps_law.ensures old new last before after (c.in-Some.u ∷ []) rest c.in_ok-held.held
     c.requires.sound done.steps.leaves.sound done.steps.extends has done.gives retires)
 
@@ -166,8 +183,10 @@ returns-clause-steps g c =
     let old = c.args.table.now in
     let new = c.weaken.new.table in
     let last = c.retire_unit.new.table in
-    c.steps_law.ensures.at_most _ _ old last (most_additions (levels old.graph) + 1 + 0) (most_additions (levels old.graph) + 1) None (omega arith)
-    (c.steps_law.ensures.further _ _ _ old new last (most_additions (levels old.graph) + 1) 0 None c.in_ok-held.ensures.steps c.retire_unit.ensures.steps)
+    c.steps_law.ensures.at_most _ _ old last (most_additions (levels old.graph) + 1 + 0) (most_additions (levels old.graph)
+    + 1) None (omega arith)
+    (c.steps_law.ensures.further _ _ _ old new last (most_additions (levels old.graph)
+    + 1) 0 None c.in_ok-held.ensures.steps c.retire_unit.ensures.steps)
 
 pub returns-then-is_same-clause-steps : goal.returns-then-is_same-clause-steps
 returns-then-is_same-clause-steps g c =
@@ -186,14 +205,15 @@ returns-clause-fits g c whole =
     let before = all_entries c.args.caches.now in
     let after = all_entries c.weaken.new.caches in
     let done = c.in_ok-held.ensures in
-    let has = subst (λ (s : List Held). HasUnits old before s) items c.requires.own in
+    let has = subst (λ (s : List HeldTerm). HasUnits old before s) items c.requires.own in
     let last = c.retire_unit.new.table in
     let once = c.retire_unit.ensures in
     let fits = done.keeps.fits none_whole in
     c.entry_law.ensures.kept new last after done.steps.leaves.sound once.steps.leaves.sound once.steps.extends fits
     (λ id named gone. elim (once.retired.only id gone) [
       | inl was ↦ fits.unretired id named was
-      | inr this ↦ free_after old new before after (c.in-Some.u ∷ rest) c.requires.sound has done.gives.retires done.gives.named id (first_unit c.in-Some.u rest id this.0) (inr named)
+      | inr this ↦ free_after old new before after (c.in-Some.u ∷ rest) c.requires.sound has done.gives.retires done.gives.named id
+          (first_unit c.in-Some.u rest id this.0) (inr named)
     ])
 
 pub returns-then-is_same-clause-made : goal.returns-then-is_same-clause-made
@@ -201,10 +221,11 @@ returns-then-is_same-clause-made g c formula term terms are =
     let old = c.args.table.now in
     let rest = c.in-Some.ensures.0 in
     let items : reverse c.args.stack.now.items ≡ c.in-Some.u ∷ rest = ap reverse (sym c.as_slice.ensures.value) ∙ c.in-Some.ensures.1 in
-    let top = subst (λ (s : List Held). AreHeld formula old.graph old.book.state.live s (term ∷ terms)) items are in
+    let top = subst (λ (s : List HeldTerm). AreHeld formula old.graph old.book.state.live s (term ∷ terms)) items are in
     let tied = c.requires.sound.tied in
     let level = c.in-Some-level in
-    let function = quantified_function old.graph tied.reduced tied.ordered level.level c.args.variable level.ensures.0 level.ensures.1 formula term c.in-Some.u.node top.0.is.stands top.0.is.value in
+    let function = quantified_function old.graph tied.reduced tied.ordered level.level c.args.variable level.ensures.0 level.ensures.1
+    formula term c.in-Some.u.node top.0.is.stands top.0.is.value in
     subst (MakesOnly old.graph c.weaken.new.table.graph) function c.in_ok-held.ensures.made
 
 pub returns-clause-made : goal.returns-clause-made
@@ -212,11 +233,13 @@ returns-clause-made g c formula term terms are =
     let old = c.args.table.now in
     let rest = c.in-Some.ensures.0 in
     let items : reverse c.args.stack.now.items ≡ c.in-Some.u ∷ rest = ap reverse (sym c.as_slice.ensures.value) ∙ c.in-Some.ensures.1 in
-    let top = subst (λ (s : List Held). AreHeld formula old.graph old.book.state.live s (term ∷ terms)) items are in
+    let top = subst (λ (s : List HeldTerm). AreHeld formula old.graph old.book.state.live s (term ∷ terms)) items are in
     let tied = c.requires.sound.tied in
     let level = c.in-Some-level in
-    let function = quantified_function old.graph tied.reduced tied.ordered level.level c.args.variable level.ensures.0 level.ensures.1 formula term c.in-Some.u.node top.0.is.stands top.0.is.value in
-    subst (λ (t : TableState g.row.S.Denot). MakesOnly old.graph t.graph (term_function formula old.graph.order (some_value c.args.variable term))) (sym c.retire_unit.ensures.retired.same)
+    let function = quantified_function old.graph tied.reduced tied.ordered level.level c.args.variable level.ensures.0 level.ensures.1
+    formula term c.in-Some.u.node top.0.is.stands top.0.is.value in
+    subst (λ (t : TableState g.row.S.Denot). MakesOnly old.graph t.graph
+    (term_function formula old.graph.order (some_value c.args.variable term))) (sym c.retire_unit.ensures.retired.same)
     (subst (MakesOnly old.graph c.weaken.new.table.graph) function c.in_ok-held.ensures.made)
 
 pub returns-then-is_same-clause-lacks : goal.returns-then-is_same-clause-lacks
@@ -244,21 +267,24 @@ pub returns-in_err-held-clause-own : goal.returns-in_err-held-clause-own
 returns-in_err-held-clause-own g c = no_answer _ c.in_err-held.field-0.0 _ c.from_residual.ensures.1
 
 pub returns-in_err-held-clause-steps : goal.returns-in_err-held-clause-steps
-returns-in_err-held-clause-steps g c = steps_handed _ _ _ c.args.table.now c.weaken.new.table _ _ c.in_err-held.field-0.0 c.from_residual.ensures.1 c.in_err-held.ensures.steps
+returns-in_err-held-clause-steps g c = steps_handed _ _ _ c.args.table.now c.weaken.new.table _ _ c.in_err-held.field-0.0
+    c.from_residual.ensures.1 c.in_err-held.ensures.steps
 
 pub returns-in_err-held-clause-fits : goal.returns-in_err-held-clause-fits
 returns-in_err-held-clause-fits g c whole =
-    c.in_err-held.ensures.keeps.fits (whole_result {T = Bool} (Err c.in_err-held.field-0.0) (other_cause _ c.in_err-held.field-0.0 WriteFault c.from_residual.ensures.1 whole))
+    c.in_err-held.ensures.keeps.fits (whole_result {T = Bool} (Err c.in_err-held.field-0.0)
+    (other_cause _ c.in_err-held.field-0.0 WriteFault c.from_residual.ensures.1 whole))
 
 pub returns-in_err-held-clause-made : goal.returns-in_err-held-clause-made
 returns-in_err-held-clause-made g c formula term terms are =
     let old = c.args.table.now in
     let rest = c.in-Some.ensures.0 in
     let items : reverse c.args.stack.now.items ≡ c.in-Some.u ∷ rest = ap reverse (sym c.as_slice.ensures.value) ∙ c.in-Some.ensures.1 in
-    let top = subst (λ (s : List Held). AreHeld formula old.graph old.book.state.live s (term ∷ terms)) items are in
+    let top = subst (λ (s : List HeldTerm). AreHeld formula old.graph old.book.state.live s (term ∷ terms)) items are in
     let tied = c.requires.sound.tied in
     let level = c.in-Some-level in
-    let function = quantified_function old.graph tied.reduced tied.ordered level.level c.args.variable level.ensures.0 level.ensures.1 formula term c.in-Some.u.node top.0.is.stands top.0.is.value in
+    let function = quantified_function old.graph tied.reduced tied.ordered level.level c.args.variable level.ensures.0 level.ensures.1
+    formula term c.in-Some.u.node top.0.is.stands top.0.is.value in
     subst (MakesOnly old.graph c.weaken.new.table.graph) function c.in_err-held.ensures.made
 
 pub returns-in_err-held-clause-lacks : goal.returns-in_err-held-clause-lacks
@@ -266,21 +292,24 @@ returns-in_err-held-clause-lacks g c formula term terms are is =
     let old = c.args.table.now in
     let rest = c.in-Some.ensures.0 in
     let items : reverse c.args.stack.now.items ≡ c.in-Some.u ∷ rest = ap reverse (sym c.as_slice.ensures.value) ∙ c.in-Some.ensures.1 in
-    let top = subst (λ (s : List Held). AreHeld formula old.graph old.book.state.live s (term ∷ terms)) items are in
+    let top = subst (λ (s : List HeldTerm). AreHeld formula old.graph old.book.state.live s (term ∷ terms)) items are in
     let tied = c.requires.sound.tied in
     let level = c.in-Some-level in
-    let function = quantified_function old.graph tied.reduced tied.ordered level.level c.args.variable level.ensures.0 level.ensures.1 formula term c.in-Some.u.node top.0.is.stands top.0.is.value in
-    subst (LacksPart c.weaken.new.table.graph) function (c.in_err-held.ensures.lacks (ap Err (came_from _ c.in_err-held.field-0.0 NodeLimit c.from_residual.ensures.1 is)))
+    let function = quantified_function old.graph tied.reduced tied.ordered level.level c.args.variable level.ensures.0 level.ensures.1
+    formula term c.in-Some.u.node top.0.is.stands top.0.is.value in
+    subst (LacksPart c.weaken.new.table.graph) function (c.in_err-held.ensures.lacks
+    (ap Err (came_from _ c.in_err-held.field-0.0 NodeLimit c.from_residual.ensures.1 is)))
 
 pub returns-in_err-push-clause-made : goal.returns-in_err-push-clause-made
 returns-in_err-push-clause-made g c formula term terms are =
     let old = c.args.table.now in
     let rest = c.in-Some.ensures.0 in
     let items : reverse c.args.stack.now.items ≡ c.in-Some.u ∷ rest = ap reverse (sym c.as_slice.ensures.value) ∙ c.in-Some.ensures.1 in
-    let top = subst (λ (s : List Held). AreHeld formula old.graph old.book.state.live s (term ∷ terms)) items are in
+    let top = subst (λ (s : List HeldTerm). AreHeld formula old.graph old.book.state.live s (term ∷ terms)) items are in
     let tied = c.requires.sound.tied in
     let level = c.in-Some-level in
-    let function = quantified_function old.graph tied.reduced tied.ordered level.level c.args.variable level.ensures.0 level.ensures.1 formula term c.in-Some.u.node top.0.is.stands top.0.is.value in
+    let function = quantified_function old.graph tied.reduced tied.ordered level.level c.args.variable level.ensures.0 level.ensures.1
+    formula term c.in-Some.u.node top.0.is.stands top.0.is.value in
     subst (MakesOnly old.graph c.weaken.new.table.graph) function c.in_ok-held.ensures.made
 
 pub returns-in_err-held-clause-again : goal.returns-in_err-held-clause-again
@@ -291,7 +320,8 @@ returns-in_err-held-clause-again g c is =
     let limit = came_from _ came NodeLimit c.from_residual.ensures.1 is in
     let found = c.in_err-held.ensures in
     let sound = (limit_left g.S.Sink.tells g.S.Sink.channel old new came limit found.steps.leaves).0.sound in
-    units_behind g.S.Sink.tells g.S.Sink.channel c.steps_law.ensures old new (all_entries c.args.caches.now) (all_entries c.weaken.new.caches) (reverse c.args.stack.now.items) c.requires.sound sound
+    units_behind g.S.Sink.tells g.S.Sink.channel c.steps_law.ensures old new (all_entries c.args.caches.now)
+    (all_entries c.weaken.new.caches) (reverse c.args.stack.now.items) c.requires.sound sound
     found.steps.extends c.requires.own found.keeps.retires (found.keeps.named (limit_whole came limit)) (found.accounts (ap Err limit))
 
 pub returns-then-is_same-clause-again : goal.returns-then-is_same-clause-again
@@ -302,19 +332,24 @@ returns-clause-again g c is = absurd (no_error is)
 
 -- what the quantification of a term of few parts adds
 pairs_found : (g : Over) (c : After-weaken g) (formula : Formula) (term : Term) (terms : List Term)
-    → AreHeld formula c.args.table.now.graph c.args.table.now.book.state.live (reverse c.args.stack.now.items) (term ∷ terms) → (width : ℕ) → HaveRoom c.args.caches.now width
-    → HasAtMost (term_function formula c.args.table.now.graph.order term) width → HasAtMost (term_function formula c.args.table.now.graph.order (some_value c.args.variable term)) width
+    → AreHeld formula c.args.table.now.graph c.args.table.now.book.state.live (reverse c.args.stack.now.items) (term ∷ terms) → (width : ℕ)
+    → HaveRoom c.args.caches.now width
+    → HasAtMost (term_function formula c.args.table.now.graph.order term) width
+    → HasAtMost (term_function formula c.args.table.now.graph.order (some_value c.args.variable term)) width
     → AddsAtMost (2 * (width * width) + 1) c.args.table.now c.weaken.new.table
 pairs_found g c formula term terms are width room few_term few_some =
     let old = c.args.table.now in
     let rest = c.in-Some.ensures.0 in
     let items : reverse c.args.stack.now.items ≡ c.in-Some.u ∷ rest = ap reverse (sym c.as_slice.ensures.value) ∙ c.in-Some.ensures.1 in
-    let top = subst (λ (s : List Held). AreHeld formula old.graph old.book.state.live s (term ∷ terms)) items are in
+    let top = subst (λ (s : List HeldTerm). AreHeld formula old.graph old.book.state.live s (term ∷ terms)) items are in
     let tied = c.requires.sound.tied in
     let level = c.in-Some-level in
-    let function = quantified_function old.graph tied.reduced tied.ordered level.level c.args.variable level.ensures.0 level.ensures.1 formula term c.in-Some.u.node top.0.is.stands top.0.is.value in
+    let function = quantified_function old.graph tied.reduced tied.ordered level.level c.args.variable level.ensures.0 level.ensures.1
+    formula term c.in-Some.u.node top.0.is.stands top.0.is.value in
     c.weaken.ensures.pairs width room
-    (at_most_same (term_function formula old.graph.order term) (λ a. value_of old.graph a c.in-Some.u.node) (λ a. sym (node_function old.graph tied.reduced tied.ordered formula c.in-Some.u.node term top.0.is.stands top.0.is.value a)) width few_term)
+    (at_most_same (term_function formula old.graph.order term) (λ a. value_of old.graph a c.in-Some.u.node)
+    (λ a. sym (node_function old.graph tied.reduced tied.ordered formula c.in-Some.u.node term top.0.is.stands top.0.is.value a)) width
+    few_term)
     (subst (λ f. HasAtMost f width) (sym function) few_some)
 
 pub returns-in_err-held-clause-pairs : goal.returns-in_err-held-clause-pairs

@@ -1,3 +1,4 @@
+-- What is left to show of `give_back`.
 use Rattle.std.proofs.Common.{◌≡◌, ◌∙◌, List, Contains, reverse, sym, subst}
 use Rattle.node_table.specs.declared.node.Node.{Node}
 use Rattle.reclaim.specs.Reclaimed.{MayReclaim, Reclaims}
@@ -9,16 +10,20 @@ use Rattle.term_runner.proofs.reclamation.give_back.Goals as goal
 pub reclaim-requires-clause-roots : goal.reclaim-requires-clause-roots
 reclaim-requires-clause-roots g c root there =
     let table = c.args.table.now in
-    let same : c.as_slice.result.now ≡ held_nodes c.args.stack.now c.args.trail.now = ◌∙◌ {c = held_nodes c.args.stack.now c.args.trail.now} c.as_slice.ensures.value c.in_ok-roots.ensures in
-    roots_stand c.args.formula.now table.graph table.book.state.live c.args.stack.now c.args.trail.now c.requires.possible.0 c.requires.possible.1 root (subst (λ (roots : List Node). Contains roots root) same there)
+    let same : c.as_slice.result.now ≡ held_nodes c.args.stack.now c.args.trail.now =
+    ◌∙◌ {c = held_nodes c.args.stack.now c.args.trail.now} c.as_slice.ensures.value c.in_ok-roots.ensures in
+    roots_stand c.args.formula.now table.graph table.book.state.live c.args.stack.now c.args.trail.now c.requires.possible.0
+    c.requires.possible.1 root (subst (λ (roots : List Node). Contains roots root) same there)
 
 pub reclaim-requires-clause-may : goal.reclaim-requires-clause-may
 reclaim-requires-clause-may g c =
     let table = c.args.table.now in
     let entries = all_entries c.args.caches.now in
-    let same : c.as_slice.result.now ≡ held_nodes c.args.stack.now c.args.trail.now = ◌∙◌ {c = held_nodes c.args.stack.now c.args.trail.now} c.as_slice.ensures.value c.in_ok-roots.ensures in
+    let same : c.as_slice.result.now ≡ held_nodes c.args.stack.now c.args.trail.now =
+    ◌∙◌ {c = held_nodes c.args.stack.now c.args.trail.now} c.as_slice.ensures.value c.in_ok-roots.ensures in
     subst (λ (roots : List Node). MayReclaim table entries roots) (sym same)
-    (may_reclaim c.args.formula.now table entries c.args.stack.now c.args.trail.now c.requires.possible.0 c.requires.ready c.formula_law.ensures.literals c.requires.own c.requires.possible.1)
+    (may_reclaim c.args.formula.now table entries c.args.stack.now c.args.trail.now c.requires.possible.0 c.requires.ready
+    c.formula_law.ensures.literals c.requires.own c.requires.possible.1)
 
 pub returns-clause-at : goal.returns-clause-at
 returns-clause-at g c =
@@ -26,13 +31,16 @@ returns-clause-at g c =
     let new = c.reclaim.new.table in
     let before = all_entries c.args.caches.now in
     let after = all_entries c.reclaim.new.caches in
-    let same : c.as_slice.result.now ≡ held_nodes c.args.stack.now c.args.trail.now = ◌∙◌ {c = held_nodes c.args.stack.now c.args.trail.now} c.as_slice.ensures.value c.in_ok-roots.ensures in
+    let same : c.as_slice.result.now ≡ held_nodes c.args.stack.now c.args.trail.now =
+    ◌∙◌ {c = held_nodes c.args.stack.now c.args.trail.now} c.as_slice.ensures.value c.in_ok-roots.ensures in
     let reclaims = subst (λ (roots : List Node). Reclaims old new roots before after) same c.in_ok-reclaim.ensures.reclaims in
-    at_reclaimed c.growth_law.ensures c.args.formula.now old new c.args.stack.now c.args.trail.now before after c.in_ok-reclaim.ensures.leaves.sound reclaims c.requires.own
+    at_reclaimed c.growth_law.ensures c.args.formula.now old new c.args.stack.now c.args.trail.now before after
+    c.in_ok-reclaim.ensures.leaves.sound reclaims c.requires.own
 
 pub returns-clause-own : goal.returns-clause-own
 returns-clause-own g c =
-    units_reclaimed c.args.table.now c.reclaim.new.table c.as_slice.result.now (all_entries c.args.caches.now) (all_entries c.reclaim.new.caches) c.in_ok-reclaim.ensures.reclaims (reverse c.args.stack.now) c.requires.own
+    units_reclaimed c.args.table.now c.reclaim.new.table c.as_slice.result.now (all_entries c.args.caches.now)
+    (all_entries c.reclaim.new.caches) c.in_ok-reclaim.ensures.reclaims (reverse c.args.stack.now) c.requires.own
 
 pub returns-clause-reached : goal.returns-clause-reached
 returns-clause-reached g c =
@@ -40,6 +48,8 @@ returns-clause-reached g c =
     let new = c.reclaim.new.table in
     let before = all_entries c.args.caches.now in
     let after = all_entries c.reclaim.new.caches in
-    let same : c.as_slice.result.now ≡ held_nodes c.args.stack.now c.args.trail.now = ◌∙◌ {c = held_nodes c.args.stack.now c.args.trail.now} c.as_slice.ensures.value c.in_ok-roots.ensures in
+    let same : c.as_slice.result.now ≡ held_nodes c.args.stack.now c.args.trail.now =
+    ◌∙◌ {c = held_nodes c.args.stack.now c.args.trail.now} c.as_slice.ensures.value c.in_ok-roots.ensures in
     let reclaims = subst (λ (roots : List Node). Reclaims old new roots before after) same c.in_ok-reclaim.ensures.reclaims in
-    leaves_reached c.growth_law.ensures c.args.formula.now old new c.args.stack.now c.args.trail.now before after c.in_ok-reclaim.ensures.leaves.sound reclaims c.reach_law.ensures c.requires.possible.0 c.requires.possible.1
+    leaves_reached c.growth_law.ensures c.args.formula.now old new c.args.stack.now c.args.trail.now before after
+    c.in_ok-reclaim.ensures.leaves.sound reclaims c.reach_law.ensures c.requires.possible.0 c.requires.possible.1

@@ -4,7 +4,7 @@ use Rattle.node_table.specs.declared.error.TableError.TheVariants.{NodeLimit}
 use Rattle.node_table.specs.Diagram.{Graph}
 use Rattle.node_table.specs.HandedOn.{came_from}
 use Rattle.node_table.specs.Table.{live_nodes}
-use Rattle.term_runner.specs.declared.held.Held.{Held}
+use Rattle.term_runner.specs.declared.held.HeldTerm.{HeldTerm}
 use Rattle.term_runner.specs.Held.{IsAt}
 use Rattle.term_runner.specs.Width.{top_function}
 use Rattle.term_runner.specs.Nodes.{KeepsOrMakes}
@@ -16,27 +16,32 @@ use Rattle.term_runner.proofs.reclamation.take_move.Goals as goal
 
 pub returns-in_err-refuted-clause-full : goal.returns-in_err-refuted-clause-full
 returns-in_err-refuted-clause-full g c stage next at is limit =
-    c.in_err-refuted.ensures.full stage next at is (ap Err (came_from _ c.in_err-refuted.field-0.0 NodeLimit c.from_residual.ensures.1 limit))
+    c.in_err-refuted.ensures.full stage next at is
+    (ap Err (came_from _ c.in_err-refuted.field-0.0 NodeLimit c.from_residual.ensures.1 limit))
 
 pub give_back-requires-clause-possible : goal.give_back-requires-clause-possible
 give_back-requires-clause-possible g c =
     let table = c.try_twice.new.table in
     let possible = c.requires.possible in (
       possible.1,
-      subst (λ (stack : List Held). IsAt c.args.formula.now table.graph table.book.state.live stack c.try_twice.new.trail possible.1) (sym c.as_slice.ensures.value)
+      subst (λ (stack : List HeldTerm). IsAt c.args.formula.now table.graph table.book.state.live stack c.try_twice.new.trail possible.1)
+          (sym c.as_slice.ensures.value)
           (c.in_ok-refuted.ensures.held possible.0 possible.1 possible.2 possible.3 c.if-refuted.false),
     )
 
 pub returns-in_err-left-clause-made : goal.returns-in_err-left-clause-made
 returns-in_err-left-clause-made g c stage next at is =
-    subst (λ (graph : Graph). KeepsOrMakes c.args.table.now.graph graph (top_function c.args.formula.now c.args.table.now.graph.order next.stack)) (sym c.in_err-left.ensures.kept) (c.try_twice.ensures.made stage next at is)
+    subst (λ (graph : Graph). KeepsOrMakes c.args.table.now.graph graph
+    (top_function c.args.formula.now c.args.table.now.graph.order next.stack)) (sym c.in_err-left.ensures.kept)
+    (c.try_twice.ensures.made stage next at is)
 
 pub returns-clause-made : goal.returns-clause-made
 returns-clause-made g c stage next at is =
     let function = top_function c.args.formula.now c.args.table.now.graph.order next.stack in
     let mid = c.try_twice.new.table.graph in
     let new = c.give_back.new.table.graph in
-    made_behind c.args.table.now.graph mid new new (held_nodes c.as_slice.result.now c.try_twice.new.trail) function (c.try_twice.ensures.made stage next at is) c.in_ok-left.ensures.reached (none_made new function)
+    made_behind c.args.table.now.graph mid new new (held_nodes c.as_slice.result.now c.try_twice.new.trail) function
+    (c.try_twice.ensures.made stage next at is) c.in_ok-left.ensures.reached (none_made new function)
 
 pub returns-clause-left : goal.returns-clause-left
 returns-clause-left g c stage next at is ok =
@@ -45,14 +50,17 @@ returns-clause-left g c stage next at is ok =
     let new = c.give_back.new.table in
     let stack = c.as_slice.result.now in
     let trail = c.try_twice.new.trail in
-    let moved = subst (λ (s : List Held). IsAt formula mid.graph mid.book.state.live s trail next) (sym c.as_slice.ensures.value) (c.in_ok-refuted.ensures.held stage next at is c.if-refuted.false) in
+    let moved = subst (λ (s : List HeldTerm). IsAt formula mid.graph mid.book.state.live s trail next) (sym c.as_slice.ensures.value)
+    (c.in_ok-refuted.ensures.held stage next at is c.if-refuted.false) in
     let so_far = c.steps_law.ensures.go_on _ _ _ c.args.table.now mid new c.in_ok-refuted.ensures.leaves c.in_ok-left.ensures.leaves in
-    let were = were_left formula mid.graph new.graph new.book.state.live stack trail next c.args.table.now.graph.order _ (c.in_ok-left.ensures.at next moved) c.in_ok-left.ensures.reached so_far.order c.in_ok-left.ensures.count in
+    let were = were_left formula mid.graph new.graph new.book.state.live stack trail next c.args.table.now.graph.order _
+    (c.in_ok-left.ensures.at next moved) c.in_ok-left.ensures.reached so_far.order c.in_ok-left.ensures.count in
     inr (inr were)
 
 pub returns-in_err-left-clause-few : goal.returns-in_err-left-clause-few
 returns-in_err-left-clause-few g c stage next at is width most =
-    subst (λ (graph : Graph). AddsFew (live_nodes c.args.table.now.graph) (live_nodes graph) width) (sym c.in_err-left.ensures.kept) (c.try_twice.ensures.few stage next at is width most)
+    subst (λ (graph : Graph). AddsFew (live_nodes c.args.table.now.graph) (live_nodes graph) width) (sym c.in_err-left.ensures.kept)
+    (c.try_twice.ensures.few stage next at is width most)
 
 pub returns-clause-few : goal.returns-clause-few
 returns-clause-few g c stage next at is width most =
@@ -61,10 +69,13 @@ returns-clause-few g c stage next at is width most =
     let new = c.give_back.new.table in
     let stack = c.as_slice.result.now in
     let trail = c.try_twice.new.trail in
-    let moved = subst (λ (s : List Held). IsAt formula mid.graph mid.book.state.live s trail next) (sym c.as_slice.ensures.value) (c.in_ok-refuted.ensures.held stage next at is c.if-refuted.false) in
+    let moved = subst (λ (s : List HeldTerm). IsAt formula mid.graph mid.book.state.live s trail next) (sym c.as_slice.ensures.value)
+    (c.in_ok-refuted.ensures.held stage next at is c.if-refuted.false) in
     let so_far = c.steps_law.ensures.go_on _ _ _ c.args.table.now mid new c.in_ok-refuted.ensures.leaves c.in_ok-left.ensures.leaves in
-    let were = were_left formula mid.graph new.graph new.book.state.live stack trail next c.args.table.now.graph.order _ (c.in_ok-left.ensures.at next moved) c.in_ok-left.ensures.reached so_far.order c.in_ok-left.ensures.count in
-    let left = few_left c.subfunction_law.ensures c.canonical_law.ensures formula c.args.table.now.graph.order c.requires.ready.sound.tied.ordered stage next next (in_hand_behind formula stage next c.args.step is) _ were width most in
+    let were = were_left formula mid.graph new.graph new.book.state.live stack trail next c.args.table.now.graph.order _
+    (c.in_ok-left.ensures.at next moved) c.in_ok-left.ensures.reached so_far.order c.in_ok-left.ensures.count in
+    let left = few_left c.subfunction_law.ensures c.canonical_law.ensures formula c.args.table.now.graph.order
+    c.requires.ready.sound.tied.ordered stage next next (in_hand_behind formula stage next c.args.step is) _ were width most in
     inr (omega (arith, left, c.in_ok-left.ensures.count))
 
 pub returns-in_err-left-clause-price : goal.returns-in_err-left-clause-price

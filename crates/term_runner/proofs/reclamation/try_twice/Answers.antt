@@ -6,7 +6,7 @@ use Rattle.node_table.specs.Made.{LacksPart}
 use Rattle.node_table.specs.Progress.{Continues, error_of}
 use Rattle.node_table.specs.Table.{live_nodes}
 use Rattle.schedule_plan.specs.Plan.{Stage, after_move}
-use Rattle.term_runner.specs.declared.held.Held.{Held}
+use Rattle.term_runner.specs.declared.held.HeldTerm.{HeldTerm}
 use Rattle.term_runner.specs.Held.{IsAt}
 use Rattle.term_runner.specs.Price.{AddsFew, IsMovePrice}
 use Rattle.term_runner.specs.Width.{HoldsAtMost, top_function}
@@ -27,20 +27,27 @@ module _ (g : Over) (c : After-try_move-in-Err g) where
   at_limit = c.is_node_limit.ensures.0 c.if-is_node_limit.true
 
   -- what the reclamation left of the run
-  at_mid : (stage : Stage) → IsAt c.args.formula.now c.args.table.now.graph c.args.table.now.book.state.live c.args.stack.now.items c.args.trail.now stage
-      → IsAt c.args.formula.now c.give_back.new.table.graph c.give_back.new.table.book.state.live c.try_move.new.stack.items c.try_move.new.trail stage
+  at_mid : (stage : Stage)
+      → IsAt c.args.formula.now c.args.table.now.graph c.args.table.now.book.state.live c.args.stack.now.items c.args.trail.now stage
+      → IsAt c.args.formula.now c.give_back.new.table.graph c.give_back.new.table.book.state.live c.try_move.new.stack.items
+      c.try_move.new.trail stage
   at_mid stage at =
       let one = c.try_move.new.table in
       let mid = c.give_back.new.table in
-      subst (λ (stack : List Held). IsAt c.args.formula.now mid.graph mid.book.state.live stack c.try_move.new.trail stage) c.as_slice.ensures.value
+      subst (λ (stack : List HeldTerm). IsAt c.args.formula.now mid.graph mid.book.state.live stack c.try_move.new.trail stage)
+      c.as_slice.ensures.value
       (c.in_ok-left-in-Err.ensures.at stage
-      (subst (λ (stack : List Held). IsAt c.args.formula.now one.graph one.book.state.live stack c.try_move.new.trail stage) (sym c.as_slice.ensures.value) (c.in-Err.ensures.at_again stage at (ap Err at_limit))))
+      (subst (λ (stack : List HeldTerm). IsAt c.args.formula.now one.graph one.book.state.live stack c.try_move.new.trail stage)
+      (sym c.as_slice.ensures.value) (c.in-Err.ensures.at_again stage at (ap Err at_limit))))
 
-  reached_mid : LeavesReached c.try_move.new.table.graph c.give_back.new.table.graph (held_nodes c.try_move.new.stack.items c.try_move.new.trail)
+  reached_mid : LeavesReached c.try_move.new.table.graph c.give_back.new.table.graph
+      (held_nodes c.try_move.new.stack.items c.try_move.new.trail)
   reached_mid =
-      subst (λ (stack : List Held). LeavesReached c.try_move.new.table.graph c.give_back.new.table.graph (held_nodes stack c.try_move.new.trail)) c.as_slice.ensures.value c.in_ok-left-in-Err.ensures.reached
+      subst (λ (stack : List HeldTerm). LeavesReached c.try_move.new.table.graph c.give_back.new.table.graph
+      (held_nodes stack c.try_move.new.trail)) c.as_slice.ensures.value c.in_ok-left-in-Err.ensures.reached
 
-  continues_mid : Continues g.S.Sink.tells (g.S.Sink.channel c.args.table.now.book.sink) (g.S.Sink.channel c.give_back.new.table.book.sink) c.args.table.now c.give_back.new.table
+  continues_mid : Continues g.S.Sink.tells (g.S.Sink.channel c.args.table.now.book.sink)
+      (g.S.Sink.channel c.give_back.new.table.book.sink) c.args.table.now c.give_back.new.table
   continues_mid =
       let channel = g.S.Sink.channel in
       let old = c.args.table.now in
@@ -50,18 +57,23 @@ module _ (g : Over) (c : After-try_move-in-Err g) where
       (limit_left g.S.Sink.tells channel old one c.in-Err.e at_limit c.in-Err.ensures.leaves).0 c.in_ok-left-in-Err.ensures.leaves
 
   -- the second try's nodes, over the order at the start
-  made_last : (stage next : Stage) (at : IsAt c.args.formula.now c.args.table.now.graph c.args.table.now.book.state.live c.args.stack.now.items c.args.trail.now stage)
+  made_last : (stage next : Stage)
+      (at : IsAt c.args.formula.now c.args.table.now.graph c.args.table.now.book.state.live c.args.stack.now.items c.args.trail.now stage)
       → after_move c.args.formula.now stage c.args.step ≡ Some next
-      → KeepsOrMakes c.give_back.new.table.graph c.try_move-in-Err.new.table.graph (top_function c.args.formula.now c.args.table.now.graph.order next.stack)
+      → KeepsOrMakes c.give_back.new.table.graph c.try_move-in-Err.new.table.graph
+      (top_function c.args.formula.now c.args.table.now.graph.order next.stack)
   made_last stage next at is =
-      subst (λ (order : List ℕ). KeepsOrMakes c.give_back.new.table.graph c.try_move-in-Err.new.table.graph (top_function c.args.formula.now order next.stack)) continues_mid.order
+      subst (λ (order : List ℕ). KeepsOrMakes c.give_back.new.table.graph c.try_move-in-Err.new.table.graph
+      (top_function c.args.formula.now order next.stack)) continues_mid.order
       (c.try_move-in-Err.ensures.made stage next (at_mid stage at) is)
 
-  abbrev left_mid : (stage : Stage) → IsAt c.args.formula.now c.args.table.now.graph c.args.table.now.book.state.live c.args.stack.now.items c.args.trail.now stage
+  abbrev left_mid : (stage : Stage)
+      → IsAt c.args.formula.now c.args.table.now.graph c.args.table.now.book.state.live c.args.stack.now.items c.args.trail.now stage
       → WereLeft c.args.formula.now c.args.table.now.graph.order stage c.in_ok-left-in-Err.field-0
   left_mid stage at =
       let mid = c.give_back.new.table in
-      were_left c.args.formula.now c.try_move.new.table.graph mid.graph mid.book.state.live c.try_move.new.stack.items c.try_move.new.trail stage c.args.table.now.graph.order _
+      were_left c.args.formula.now c.try_move.new.table.graph mid.graph mid.book.state.live c.try_move.new.stack.items c.try_move.new.trail
+      stage c.args.table.now.graph.order _
       (at_mid stage at) reached_mid continues_mid.order c.in_ok-left-in-Err.ensures.count
 
 pub returns-in-Ok-clause-held : goal.returns-in-Ok-clause-held
@@ -69,7 +81,9 @@ returns-in-Ok-clause-held g c = c.in-Ok.ensures.held
 
 pub returns-in_err-left-in-Err-clause-made : goal.returns-in_err-left-in-Err-clause-made
 returns-in_err-left-in-Err-clause-made g c stage next at is =
-    subst (λ (graph : Graph). KeepsOrMakes c.args.table.now.graph graph (top_function c.args.formula.now c.args.table.now.graph.order next.stack)) (sym c.in_err-left-in-Err.ensures.kept) (c.try_move.ensures.made stage next at is)
+    subst (λ (graph : Graph). KeepsOrMakes c.args.table.now.graph graph
+    (top_function c.args.formula.now c.args.table.now.graph.order next.stack)) (sym c.in_err-left-in-Err.ensures.kept)
+    (c.try_move.ensures.made stage next at is)
 
 pub returns-in_ok-left-in-Err-clause-held : goal.returns-in_ok-left-in-Err-clause-held
 returns-in_ok-left-in-Err-clause-held g c stage next at is = c.try_move-in-Err.ensures.held stage next (at_mid g c stage at) is
@@ -80,16 +94,20 @@ returns-in_ok-left-in-Err-clause-leaves g c =
     let old = c.args.table.now in
     let mid = c.give_back.new.table in
     let new = c.try_move-in-Err.new.table in
-    c.steps_law.ensures.leave (channel old.book.sink) (channel mid.book.sink) (channel new.book.sink) old mid new (error_of c.try_move-in-Err.result) (continues_mid g c) c.try_move-in-Err.ensures.leaves
+    c.steps_law.ensures.leave (channel old.book.sink) (channel mid.book.sink) (channel new.book.sink) old mid new
+    (error_of c.try_move-in-Err.result) (continues_mid g c) c.try_move-in-Err.ensures.leaves
 
 pub returns-in_ok-left-in-Err-clause-made : goal.returns-in_ok-left-in-Err-clause-made
 returns-in_ok-left-in-Err-clause-made g c stage next at is =
-    made_behind c.args.table.now.graph c.try_move.new.table.graph c.give_back.new.table.graph c.try_move-in-Err.new.table.graph (held_nodes c.try_move.new.stack.items c.try_move.new.trail)
-    (top_function c.args.formula.now c.args.table.now.graph.order next.stack) (c.try_move.ensures.made stage next at is) (reached_mid g c) (made_last g c stage next at is)
+    made_behind c.args.table.now.graph c.try_move.new.table.graph c.give_back.new.table.graph c.try_move-in-Err.new.table.graph
+    (held_nodes c.try_move.new.stack.items c.try_move.new.trail)
+    (top_function c.args.formula.now c.args.table.now.graph.order next.stack) (c.try_move.ensures.made stage next at is) (reached_mid g c)
+    (made_last g c stage next at is)
 
 pub returns-in_ok-left-in-Err-clause-lacks : goal.returns-in_ok-left-in-Err-clause-lacks
 returns-in_ok-left-in-Err-clause-lacks g c stage next at is limit =
-    subst (λ (order : List ℕ). LacksPart c.try_move-in-Err.new.table.graph (top_function c.args.formula.now order next.stack)) (continues_mid g c).order
+    subst (λ (order : List ℕ). LacksPart c.try_move-in-Err.new.table.graph (top_function c.args.formula.now order next.stack))
+    (continues_mid g c).order
     (c.try_move-in-Err.ensures.lacks stage next (at_mid g c stage at) is limit)
 
 pub returns-in_ok-left-in-Err-clause-full : goal.returns-in_ok-left-in-Err-clause-full
@@ -98,20 +116,26 @@ returns-in_ok-left-in-Err-clause-full g c stage next at is limit = (left_mid g c
 pub returns-in_ok-left-in-Err-clause-left : goal.returns-in_ok-left-in-Err-clause-left
 returns-in_ok-left-in-Err-clause-left g c stage at = inr (left_mid g c stage at)
 
-module _ (g : Over) (c : After-try_move g) (stage next : Stage) (at : IsAt c.args.formula.now c.args.table.now.graph c.args.table.now.book.state.live c.args.stack.now.items c.args.trail.now stage)
-    (is : after_move c.args.formula.now stage c.args.step ≡ Some next) (width : ℕ) (most : HoldsAtMost c.args.formula.now c.args.table.now.graph.order stage next width) where
+module _ (g : Over) (c : After-try_move g) (stage next : Stage)
+    (at : IsAt c.args.formula.now c.args.table.now.graph c.args.table.now.book.state.live c.args.stack.now.items c.args.trail.now stage)
+    (is : after_move c.args.formula.now stage c.args.step ≡ Some next) (width : ℕ)
+    (most : HoldsAtMost c.args.formula.now c.args.table.now.graph.order stage next width) where
   -- the first try takes half of the price
-  once : (size price : ℕ) → HaveSize c.args.caches.now size → IsMovePrice (levels c.args.table.now.graph) size width price → 2 * c.try_move.new.table.book.state.top ≤ 2 * c.args.table.now.book.state.top + price
+  once : (size price : ℕ) → HaveSize c.args.caches.now size → IsMovePrice (levels c.args.table.now.graph) size width price → 2
+      * c.try_move.new.table.book.state.top ≤ 2 * c.args.table.now.book.state.top + price
   once size price have paid =
       let own = c.try_move.ensures in
-      tried c.canonical_law.ensures c.args.formula.now c.args.table.now.graph.order stage next c.args.step is c.args.table.now c.try_move.new.table
-      g.S.Sink.tells _ _ _ own.leaves own.nodes (own.made stage next at is) width most (levels c.args.table.now.graph) size price refl paid own.adds
+      tried c.canonical_law.ensures c.args.formula.now c.args.table.now.graph.order stage next c.args.step is c.args.table.now
+      c.try_move.new.table
+      g.S.Sink.tells _ _ _ own.leaves own.nodes (own.made stage next at is) width most
+      (levels c.args.table.now.graph) size price refl paid own.adds
       (λ room. own.pairs stage next at is width (record { size = size; have = have; room = room }) most)
 
   once_few : AddsFew (live_nodes c.args.table.now.graph) (live_nodes c.try_move.new.table.graph) width
   once_few =
       let own = c.try_move.ensures in
-      inl (tried_few c.canonical_law.ensures c.args.formula.now c.args.table.now.graph.order stage next c.args.step is c.args.table.now c.try_move.new.table
+      inl (tried_few c.canonical_law.ensures c.args.formula.now c.args.table.now.graph.order stage next c.args.step is c.args.table.now
+      c.try_move.new.table
       g.S.Sink.tells _ _ _ own.leaves own.nodes (own.made stage next at is) width most)
 
 pub returns-in-Ok-clause-price : goal.returns-in-Ok-clause-price
@@ -132,7 +156,8 @@ returns-in-Err-2-clause-few g c = once_few g (goal.at.returns-in-Err-2-clause-fe
 
 pub returns-in_err-left-in-Err-clause-price : goal.returns-in_err-left-in-Err-clause-price
 returns-in_err-left-in-Err-clause-price g c stage next at is size width price have paid most =
-    let first = once g (goal.at.returns-in_err-left-in-Err-clause-price g c).After-try_move stage next at is width most size price have paid in
+    let first = once g (goal.at.returns-in_err-left-in-Err-clause-price g c).After-try_move stage next at is width most size price have paid
+    in
     omega (arith, first, c.give_back.ensures.top)
 
 pub returns-in_err-left-in-Err-clause-few : goal.returns-in_err-left-in-Err-clause-few
@@ -148,10 +173,13 @@ returns-in_ok-left-in-Err-clause-price g c stage next at is size width price hav
     let new = c.try_move-in-Err.new.table in
     let own = c.try_move-in-Err.ensures in
     let order = (continues_mid g c).order in
-    let first = once g (goal.at.returns-in_ok-left-in-Err-clause-price g c).After-try_move stage next at is width most size price have paid in
-    let second = tried c.canonical_law.ensures formula old.graph.order stage next c.args.step is mid new g.S.Sink.tells _ _ _ own.leaves own.nodes (made_last g c stage next at is) width most
+    let first = once g (goal.at.returns-in_ok-left-in-Err-clause-price g c).After-try_move stage next at is width most size price have paid
+    in
+    let second = tried c.canonical_law.ensures formula old.graph.order stage next c.args.step is mid new g.S.Sink.tells _ _ _ own.leaves
+    own.nodes (made_last g c stage next at is) width most
     (levels old.graph) size price (ap length order) paid own.adds
-    (λ room. own.pairs stage next (at_mid g c stage at) is width (record { size = size; have = c.give_back.ensures.sizes ∙ c.try_move.ensures.sizes ∙ have; room = room })
+    (λ room. own.pairs stage next (at_mid g c stage at) is width
+    (record { size = size; have = c.give_back.ensures.sizes ∙ c.try_move.ensures.sizes ∙ have; room = room })
     (subst (λ (o : List ℕ). HoldsAtMost formula o stage next width) (sym order) most)) in
     omega (arith, first, second, c.give_back.ensures.top)
 
@@ -162,6 +190,8 @@ returns-in_ok-left-in-Err-clause-few g c stage next at is width most =
     let mid = c.give_back.new.table in
     let new = c.try_move-in-Err.new.table in
     let own = c.try_move-in-Err.ensures in
-    let second = tried_few c.canonical_law.ensures formula old.graph.order stage next c.args.step is mid new g.S.Sink.tells _ _ _ own.leaves own.nodes (made_last g c stage next at is) width most in
-    let left = few_left c.subfunction_law.ensures c.canonical_law.ensures formula old.graph.order c.requires.ready.sound.tied.ordered stage next stage (in_hand_before stage next) _ (left_mid g c stage at) width most in
+    let second = tried_few c.canonical_law.ensures formula old.graph.order stage next c.args.step is mid new g.S.Sink.tells _ _ _ own.leaves
+    own.nodes (made_last g c stage next at is) width most in
+    let left = few_left c.subfunction_law.ensures c.canonical_law.ensures formula old.graph.order c.requires.ready.sound.tied.ordered stage
+    next stage (in_hand_before stage next) _ (left_mid g c stage at) width most in
     inr (omega (arith, second, left, c.in_ok-left-in-Err.ensures.count))

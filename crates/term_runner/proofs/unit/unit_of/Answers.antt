@@ -1,3 +1,4 @@
+-- What is left to show of `unit_of`.
 use Rattle.std.proofs.Common.{◌≡◌, ◌≢◌, ◌⊎◌, ℕ, [], ◌∷◌, subst, inl, inr}
 use Rattle.node_table.specs.declared.node.Just.{Just}
 use Rattle.node_table.specs.Defined.{atom_of}
@@ -14,26 +15,33 @@ pub unreachable-requires : goal.unreachable-requires
 unreachable-requires g c =
     let wu : c.args.w ≢ c.args.u.now.node = λ is. not_both c.is_same.result (c.is_same.ensures.1 is) c.if-is_same.false in
     let wv : c.args.w ≢ c.args.v.now.node = λ is. not_both c.is_same-2.result (c.is_same-2.ensures.1 is) c.if-is_same-2.false in
-    first_named c.canonical_law.ensures c.args.table.now.graph c.requires.sound.tied.reduced c.args.table.now.book.state.live c.args.u.now.node c.args.v.now.node c.args.w c.args.just.now
-    c.requires.first c.requires.second c.requires.conjoined c.requires.first_open c.requires.second_open wu wv c.args.u.now.unit c.requires.first_unit c.in_default.ensures
+    first_named c.canonical_law.ensures c.args.table.now.graph c.requires.sound.tied.reduced c.args.table.now.book.state.live
+    c.args.u.now.node c.args.v.now.node c.args.w c.args.just.now
+    c.requires.first c.requires.second c.requires.conjoined c.requires.first_open c.requires.second_open wu wv c.args.u.now.unit
+    c.requires.first_unit c.in_default.ensures
 
 pub unreachable-requires-in_default-clause_id : goal.unreachable-requires-in_default-clause_id
 unreachable-requires-in_default-clause_id g c =
     let wu : c.args.w ≢ c.args.u.now.node = λ is. not_both c.is_same.result (c.is_same.ensures.1 is) c.if-is_same.false in
     let wv : c.args.w ≢ c.args.v.now.node = λ is. not_both c.is_same-2.result (c.is_same-2.ensures.1 is) c.if-is_same-2.false in
-    second_named c.canonical_law.ensures c.args.table.now.graph c.requires.sound.tied.reduced c.args.table.now.book.state.live c.args.u.now.node c.args.v.now.node c.args.w c.args.just.now
-    c.requires.first c.requires.second c.requires.conjoined c.requires.first_open c.requires.second_open wu wv c.args.v.now.unit c.requires.second_unit c.in_default-clause_id.ensures
+    second_named c.canonical_law.ensures c.args.table.now.graph c.requires.sound.tied.reduced c.args.table.now.book.state.live
+    c.args.u.now.node c.args.v.now.node c.args.w c.args.just.now
+    c.requires.first c.requires.second c.requires.conjoined c.requires.first_open c.requires.second_open wu wv c.args.v.now.unit
+    c.requires.second_unit c.in_default-clause_id.ensures
 
 pub unreachable-requires-in_default-clause_id-2 : goal.unreachable-requires-in_default-clause_id-2
 unreachable-requires-in_default-clause_id-2 g c =
     let wu : c.args.w ≢ c.args.u.now.node = λ is. not_both c.is_same.result (c.is_same.ensures.1 is) c.if-is_same.false in
     let wv : c.args.w ≢ c.args.v.now.node = λ is. not_both c.is_same-2.result (c.is_same-2.ensures.1 is) c.if-is_same-2.false in
-    just_named c.canonical_law.ensures c.args.table.now.graph c.requires.sound.tied.reduced c.args.table.now.book.state.live c.args.u.now.node c.args.v.now.node c.args.w c.args.just.now
-    c.requires.first c.requires.second c.requires.conjoined c.requires.first_open c.requires.second_open wu wv c.in_default-clause_id-2.ensures
+    just_named c.canonical_law.ensures c.args.table.now.graph c.requires.sound.tied.reduced c.args.table.now.book.state.live
+    c.args.u.now.node c.args.v.now.node c.args.w c.args.just.now
+    c.requires.first c.requires.second c.requires.conjoined c.requires.first_open c.requires.second_open wu wv
+    c.in_default-clause_id-2.ensures
 
 pub add_unit-requires-clause-not_true : goal.add_unit-requires-clause-not_true
 add_unit-requires-clause-not_true g c =
-    not_true c.canonical_law.ensures c.args.table.now.graph c.requires.sound.tied.reduced c.args.table.now.book.state.live c.args.u.now.node c.args.v.now.node c.args.w c.args.just.now
+    not_true c.canonical_law.ensures c.args.table.now.graph c.requires.sound.tied.reduced c.args.table.now.book.state.live c.args.u.now.node
+    c.args.v.now.node c.args.w c.args.just.now
     c.requires.first c.requires.second c.requires.conjoined (λ is. not_both c.is_same.result (c.is_same.ensures.1 is) c.if-is_same.false)
 
 pub add_unit-requires-clause-strict : goal.add_unit-requires-clause-strict
@@ -42,12 +50,15 @@ add_unit-requires-clause-strict g c =
     let wv : c.args.w ≢ c.args.v.now.node = λ is. not_both c.is_same-2.result (c.is_same-2.ensures.1 is) c.if-is_same-2.false in
     let graph = c.args.table.now.graph in
     let live = c.args.table.now.book.state.live in
-    unit_refuted c.canonical_law.ensures graph c.requires.sound.tied.reduced live c.args.u.now.node c.args.v.now.node c.args.w c.args.just.now
+    unit_refuted c.canonical_law.ensures graph c.requires.sound.tied.reduced live c.args.u.now.node c.args.v.now.node c.args.w
+    c.args.just.now
     c.requires.first c.requires.second c.requires.conjoined c.requires.first_open c.requires.second_open wu wv
-    c.clause_law.ensures.among c.clause_law.ensures.given c.following_unit_law.ensures.conjunction c.in-Some.first c.in-Some-clause_id.second c.in-Some-clause_id-2.both
+    c.clause_law.ensures.among c.clause_law.ensures.given c.following_unit_law.ensures.conjunction c.in-Some.first
+    c.in-Some-clause_id.second c.in-Some-clause_id-2.both
     (subst (λ (j : Just). IsJustified live (atom_of graph c.args.u.now.node ∷ []) j) c.in-Some.ensures c.requires.first_unit)
     (subst (λ (j : Just). IsJustified live (atom_of graph c.args.v.now.node ∷ []) j) c.in-Some-clause_id.ensures c.requires.second_unit)
-    (subst (λ (j : Just). IsJustified live (conjunction_atoms graph c.args.u.now.node c.args.v.now.node c.args.w) j) c.in-Some-clause_id-2.ensures c.requires.conjoined.justified)
+    (subst (λ (j : Just). IsJustified live (conjunction_atoms graph c.args.u.now.node c.args.v.now.node c.args.w) j)
+    c.in-Some-clause_id-2.ensures c.requires.conjoined.justified)
 
 pub returns-then-is_same-clause-number : goal.returns-then-is_same-clause-number
 returns-then-is_same-clause-number g c differ other = absurd (differ (c.is_same.ensures.0 c.if-is_same.true))
@@ -70,7 +81,8 @@ returns-clause-added g c =
     let new = c.add_unit.new.table in
     let u = c.args.u.now.unit in
     let v = c.args.v.now.unit in
-    if_ok c.add_unit.result (λ unit. (id : ℕ) → unit ≡ Clause id → IsAddedTo new id) (λ unit. (unit ≡ u) ⊎ ((unit ≡ v) ⊎ ((id : ℕ) → unit ≡ Clause id → IsAddedTo new id)))
+    if_ok c.add_unit.result (λ unit. (id : ℕ) → unit ≡ Clause id → IsAddedTo new id) (λ unit. (unit ≡ u)
+    ⊎ ((unit ≡ v) ⊎ ((id : ℕ) → unit ≡ Clause id → IsAddedTo new id)))
     (λ unit stands. inr (inr stands)) c.add_unit.ensures.added
 
 pub returns-clause-alone : goal.returns-clause-alone

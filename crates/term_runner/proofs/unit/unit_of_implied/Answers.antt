@@ -1,3 +1,4 @@
+-- What is left to show of `unit_of_implied`.
 use Rattle.std.proofs.Common.{◌≡◌, ◌≢◌, ◌⊎◌, ℕ, [], ◌∷◌, refl, sym, subst, inl, inr}
 use Rattle.node_table.specs.declared.node.Node.{Node}
 use Rattle.node_table.specs.declared.node.Node.TheVariants.{True}
@@ -16,14 +17,17 @@ pub unreachable-requires : goal.unreachable-requires
 unreachable-requires g c =
     let wu : c.args.w ≢ c.args.u.now.node = λ is. not_both c.is_same.result (c.is_same.ensures.1 is) c.if-is_same.false in
     let open_w : c.args.w ≢ True = λ is. not_both c.is_same-2.result (c.is_same-2.ensures.1 is) c.if-is_same-2.false in
-    implying_named c.canonical_law.ensures c.args.table.now.graph c.requires.sound.tied.reduced c.args.table.now.book.state.live c.args.u.now.node c.args.w c.args.just.now
-    c.requires.first c.requires.second c.requires.implied c.requires.first_open wu open_w c.args.u.now.unit c.requires.first_unit c.in_default.ensures
+    implying_named c.canonical_law.ensures c.args.table.now.graph c.requires.sound.tied.reduced c.args.table.now.book.state.live
+    c.args.u.now.node c.args.w c.args.just.now
+    c.requires.first c.requires.second c.requires.implied c.requires.first_open wu open_w c.args.u.now.unit c.requires.first_unit
+    c.in_default.ensures
 
 pub unreachable-requires-in_default-clause_id : goal.unreachable-requires-in_default-clause_id
 unreachable-requires-in_default-clause_id g c =
     let wu : c.args.w ≢ c.args.u.now.node = λ is. not_both c.is_same.result (c.is_same.ensures.1 is) c.if-is_same.false in
     let open_w : c.args.w ≢ True = λ is. not_both c.is_same-2.result (c.is_same-2.ensures.1 is) c.if-is_same-2.false in
-    implication_named c.canonical_law.ensures c.args.table.now.graph c.requires.sound.tied.reduced c.args.table.now.book.state.live c.args.u.now.node c.args.w c.args.just.now
+    implication_named c.canonical_law.ensures c.args.table.now.graph c.requires.sound.tied.reduced c.args.table.now.book.state.live
+    c.args.u.now.node c.args.w c.args.just.now
     c.requires.first c.requires.second c.requires.implied c.requires.first_open wu open_w c.in_default-clause_id.ensures
 
 pub add_unit-requires-clause-not_true : goal.add_unit-requires-clause-not_true
@@ -37,16 +41,19 @@ add_unit-requires-clause-strict g c =
     let live = c.args.table.now.book.state.live in
     implied_refuted c.canonical_law.ensures graph c.requires.sound.tied.reduced live c.args.u.now.node c.args.w c.args.just.now
     c.requires.first c.requires.second c.requires.implied c.requires.first_open wu open_w
-    c.clause_law.ensures.among c.clause_law.ensures.given c.following_unit_law.ensures.implication c.in-Some.first c.in-Some-clause_id.implication
+    c.clause_law.ensures.among c.clause_law.ensures.given c.following_unit_law.ensures.implication c.in-Some.first
+    c.in-Some-clause_id.implication
     (subst (λ (j : Just). IsJustified live (atom_of graph c.args.u.now.node ∷ []) j) c.in-Some.ensures c.requires.first_unit)
-    (subst (λ (j : Just). IsJustified live (implication_atoms graph c.args.u.now.node c.args.w) j) c.in-Some-clause_id.ensures c.requires.implied.justified)
+    (subst (λ (j : Just). IsJustified live (implication_atoms graph c.args.u.now.node c.args.w) j) c.in-Some-clause_id.ensures
+    c.requires.implied.justified)
 
 pub returns-then-is_same-clause-number : goal.returns-then-is_same-clause-number
 returns-then-is_same-clause-number g c differ other = absurd (differ (c.is_same.ensures.0 c.if-is_same.true))
 
 pub returns-then-is_same-2-clause-unit : goal.returns-then-is_same-2-clause-unit
 returns-then-is_same-2-clause-unit g c =
-    subst (λ (n : Node). IsJustified c.args.table.now.book.state.live (atom_of c.args.table.now.graph n ∷ []) Trivial) (sym (c.is_same-2.ensures.0 c.if-is_same-2.true)) refl
+    subst (λ (n : Node). IsJustified c.args.table.now.book.state.live (atom_of c.args.table.now.graph n ∷ []) Trivial)
+    (sym (c.is_same-2.ensures.0 c.if-is_same-2.true)) refl
 
 pub returns-then-is_same-2-clause-given : goal.returns-then-is_same-2-clause-given
 returns-then-is_same-2-clause-given g c = inr (λ id is. absurd (no_clause id is))
@@ -67,7 +74,8 @@ pub returns-clause-added : goal.returns-clause-added
 returns-clause-added g c =
     let new = c.add_unit.new.table in
     let u = c.args.u.now.unit in
-    if_ok c.add_unit.result (λ unit. (id : ℕ) → unit ≡ Clause id → IsAddedTo new id) (λ unit. (unit ≡ u) ⊎ ((id : ℕ) → unit ≡ Clause id → IsAddedTo new id))
+    if_ok c.add_unit.result (λ unit. (id : ℕ) → unit ≡ Clause id → IsAddedTo new id) (λ unit. (unit ≡ u)
+    ⊎ ((id : ℕ) → unit ≡ Clause id → IsAddedTo new id))
     (λ unit stands. inr stands) c.add_unit.ensures.added
 
 pub returns-clause-alone : goal.returns-clause-alone

@@ -8,7 +8,8 @@ use Rattle.text_scan.proofs.number.number_at_front.Goals as goal
 pub returns-then-bytes-ne45 : goal.returns-then-bytes-ne45
 returns-then-bytes-ne45 c =
     let is = c.in_ok-value.ensures in
-    rw (to_z_pos w64 c.in_ok-value.value (omega (arith, is.small))) (plain_at_front c.args.bytes.now c.in_ok-value.value c.in_ok-value.len is)
+    rw (to_z_pos w64 c.in_ok-value.value (omega (arith, is.small)))
+    (plain_at_front c.args.bytes.now c.in_ok-value.value c.in_ok-value.len is)
 
 pub returns : goal.returns
 returns c =

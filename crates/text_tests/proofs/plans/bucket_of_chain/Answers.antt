@@ -1,3 +1,4 @@
+-- What is left to show of `bucket_of_chain`.
 use Rattle.std.proofs.Common.{◌≡◌, ℕ, zero, suc, List, [], ◌∷◌, length, refl, ap, ◌∙◌, arith, length-append}
 use Rattle.cnf_base.specs.Order.{natural}
 use Rattle.text_tests.proofs.plans.bucket_of_chain.Goals as goal

@@ -1,3 +1,4 @@
+-- What is left to show of `board_moves`.
 use Rattle.std.proofs.Common.{◌≡◌, ℕ, ◌-◌, ◌++◌, List, ap, sym, ◌∙◌, append_assoc, arith}
 use Rattle.std.specs.Prelude.{map, replicate}
 use Rattle.std.specs.List.{flat_map}
@@ -24,9 +25,11 @@ loop-column-preserved c =
     record {
       moves = c.in_ok-push_ending.ensures ∙ ap (λ (l : List Move). l ++ ends) (c.in_ok-push_ands.ensures
           ∙ ap (λ (k : ℕ). c.push_clauses.new.moves.items ++ replicate (k - 1) And) c.terms_in_column.ensures.value
-          ∙ ap (λ (l : List Move). l ++ ands) (c.in_ok-push_clauses.ensures.moves ∙ ap (λ (l : List Move). l ++ pushes) c.loop-column.invariant.moves))
+          ∙ ap (λ (l : List Move). l ++ ands) (c.in_ok-push_clauses.ensures.moves
+          ∙ ap (λ (l : List Move). l ++ pushes) c.loop-column.invariant.moves))
           ∙ append_assoc (old ++ pushes) ands ends ∙ append_assoc old pushes (ands ++ ends)
           ∙ ap (λ (l : List Move). old ++ l) (sym commands)
-          ∙ sym (ap (flat_map moves_of) (flat_next (column_commands n) column (omega arith)) ∙ flat_map-append moves_of (flat_map (column_commands n) (natural (column - 1))) (column_commands n column));
+          ∙ sym (ap (flat_map moves_of) (flat_next (column_commands n) column (omega arith))
+          ∙ flat_map-append moves_of (flat_map (column_commands n) (natural (column - 1))) (column_commands n column));
       cursor = c.in_ok-push_clauses.ensures.cursor;
     }

@@ -1,3 +1,4 @@
+-- What the loops of `board_moves` keep.
 use Rattle.std.proofs.Common.{◌≡◌, ◌-◌}
 use Rattle.std.specs.List.{flat_map}
 use Rattle.cnf_base.specs.Order.{natural}

@@ -1,3 +1,4 @@
+-- What is left to show of `column_order`.
 use Rattle.std.proofs.Common.{ℕ, ◌-◌, ◌++◌, List, ap, sym, ◌∙◌, arith}
 use Rattle.std.specs.Prelude.{map}
 use Rattle.std.specs.List.{flat_map}

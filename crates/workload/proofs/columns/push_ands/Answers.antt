@@ -1,3 +1,4 @@
+-- What is left to show of `push_ands`.
 use Rattle.std.proofs.Common.{◌≡◌, ℕ, suc, ◌+◌, ◌-◌, ◌∷◌, [], ◌++◌, List, ap, sym, ◌∙◌, append_assoc, arith}
 use Rattle.std.specs.Prelude.{replicate}
 use Rattle.schedule_plan.specs.declared.plan.Move.{Move}

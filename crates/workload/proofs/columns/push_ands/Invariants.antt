@@ -1,3 +1,4 @@
+-- What the loops of `push_ands` keep.
 use Rattle.std.proofs.Common.{◌≡◌, ◌++◌}
 use Rattle.std.specs.Prelude.{replicate}
 use Rattle.schedule_plan.specs.declared.plan.Move.TheVariants.{And}

@@ -1,3 +1,4 @@
+-- What the loops of `push_column` keep.
 use Rattle.std.proofs.Common.{◌≡◌, ◌-◌, ◌++◌}
 use Rattle.std.specs.Prelude.{map}
 use Rattle.std.specs.List.{filter, flat_map}
@@ -7,4 +8,5 @@ use Rattle.workload.proofs.columns.push_column.Given as goal
 
 abbrev pub invariant-loop-row : goal.invariant-loop-row
 invariant-loop-row l =
-    l.order.items ≡ l.fn.order.items ++ map (number l.n) (flat_map (down_first l.n) (filter (stays l.n) (map (λ row. square row l.column) (natural (l.row - 1)))))
+    l.order.items ≡ l.fn.order.items
+    ++ map (number l.n) (flat_map (down_first l.n) (filter (stays l.n) (map (λ row. square row l.column) (natural (l.row - 1)))))

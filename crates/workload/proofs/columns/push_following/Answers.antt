@@ -1,3 +1,4 @@
+-- What is left to show of `push_following`.
 use Rattle.std.proofs.Common.{◌≡◌, ℕ, suc, ◌+◌, ◌-◌, ◌∷◌, [], ◌++◌, List, ap, sym, ◌∙◌, append_assoc, arith}
 use Rattle.std.specs.Prelude.{map}
 use Rattle.std.proofs.lemmas.List.{map-append}
@@ -12,8 +13,10 @@ loop-clause-preserved c =
     let count : ℕ = c.loop-clause.clause - c.args.start in
     let one_more : c.loop-clause.clause + 1 - c.args.start ≡ suc count = omega arith in
     let number : suc (c.args.start + count) ≡ c.loop-clause.clause + 1 = omega arith in
-    let pushes : map Push (following c.args.start (c.loop-clause.clause + 1 - c.args.start)) ≡ map Push (following c.args.start count) ++ Push (c.loop-clause.clause + 1) ∷ [] =
-    ap (λ (k : ℕ). map Push (following c.args.start k)) one_more ∙ ap (map Push) (following_next c.args.start count ∙ ap (λ (k : ℕ). following c.args.start count ++ k ∷ []) number)
+    let pushes : map Push (following c.args.start (c.loop-clause.clause + 1 - c.args.start)) ≡ map Push (following c.args.start count)
+    ++ Push (c.loop-clause.clause + 1) ∷ [] =
+    ap (λ (k : ℕ). map Push (following c.args.start k)) one_more
+    ∙ ap (map Push) (following_next c.args.start count ∙ ap (λ (k : ℕ). following c.args.start count ++ k ∷ []) number)
     ∙ map-append Push (following c.args.start count) ((c.loop-clause.clause + 1) ∷ []) in
     c.in_ok-push.ensures.items ∙ ap (λ (l : List Move). l ++ Push (c.loop-clause.clause + 1) ∷ []) c.loop-clause.invariant
     ∙ append_assoc c.args.moves.now.items (map Push (following c.args.start count)) (Push (c.loop-clause.clause + 1) ∷ [])

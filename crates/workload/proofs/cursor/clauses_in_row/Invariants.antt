@@ -1,3 +1,4 @@
+-- What the loops of `clauses_in_row` keep.
 use Rattle.std.proofs.Common.{◌≡◌, ◌-◌, ◌*◌, ◌≤◌}
 use Rattle.workload.specs.Board.{front_of_row}
 use Rattle.workload.specs.Schedule.{clause_count}

@@ -1,3 +1,4 @@
+-- What is left to show of `first_cursor`.
 use Rattle.std.proofs.Common.{◌≡◌, ℕ, ◌+◌, ◌-◌, ◌≤◌, List, length, get_or, ap, sym, ◌∙◌, subst, arith, inl, inr, length-append}
 use Rattle.std.specs.Prelude.{slice_set}
 use Rattle.std.specs.List.{flat_map}
@@ -19,10 +20,12 @@ loop-row-preserved c =
     let new : List ℕ = slice_set old row c.loop-row.count in
     let own : get_or new row 0 ≡ c.loop-row.count = get_or-set_same old row c.loop-row.count 0 (omega (arith, c.loop-row.invariant.rows)) in
     let other = λ (r : ℕ) (differ : r ≡ row → ⊥). get_or-set_other old row r c.loop-row.count 0 differ in
-    let rows : clause_count n (flat_map (row_squares n) (natural (row + 1 - 1))) ≡ clause_count n (flat_map (row_squares n) (natural (row - 1))) + clause_count n (row_squares n row) =
+    let rows : clause_count n (flat_map (row_squares n) (natural (row + 1 - 1)))
+    ≡ clause_count n (flat_map (row_squares n) (natural (row - 1))) + clause_count n (row_squares n row) =
     ap (clause_count n) (flat_next (row_squares n) row (omega arith))
     ∙ ap length (flat_map-append (square_clauses n) (flat_map (row_squares n) (natural (row - 1))) (row_squares n row))
-    ∙ length-append (flat_map (square_clauses n) (flat_map (row_squares n) (natural (row - 1)))) (flat_map (square_clauses n) (row_squares n row)) in
+    ∙ length-append (flat_map (square_clauses n) (flat_map (row_squares n) (natural (row - 1))))
+    (flat_map (square_clauses n) (row_squares n row)) in
     record {
       rows = length-set old row c.loop-row.count ∙ c.loop-row.invariant.rows;
       count = omega (arith, rows, c.loop-row.invariant.count, c.clauses_in_row-count.ensures.value);
@@ -32,7 +35,8 @@ loop-row-preserved c =
         | inr differ ↦ omega (arith, other r differ, c.loop-row.invariant.small r a (omega (arith, b, differ)))
       ];
       done = λ r a b. elim (cases_eq r row) [
-        | inl same ↦ subst (λ (k : ℕ). get_or new k 0 ≡ clause_count n (squares_before n (square k 1))) (sym same) (own ∙ c.loop-row.invariant.count ∙ sym (first_before n row))
+        | inl same ↦ subst (λ (k : ℕ). get_or new k 0 ≡ clause_count n (squares_before n (square k 1))) (sym same) (own
+            ∙ c.loop-row.invariant.count ∙ sym (first_before n row))
         | inr differ ↦ other r differ ∙ c.loop-row.invariant.done r a (omega (arith, b, differ))
       ];
     }

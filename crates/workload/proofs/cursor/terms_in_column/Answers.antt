@@ -1,3 +1,4 @@
+-- What is left to show of `terms_in_column`.
 use Rattle.std.proofs.Common.{ℕ, ◌-◌, length, ap, sym, ◌∙◌, arith, length-append}
 use Rattle.std.specs.Prelude.{map}
 use Rattle.std.specs.List.{filter, flat_map}
@@ -21,7 +22,14 @@ loop-row-preserved c =
           let step = ap length (passed (clause_numbers n) (stays n) at row (omega arith) (sym c.stays.ensures ∙ b.if-stays.true))
           ∙ length-append (flat_map (clause_numbers n) (filter (stays n) (map at (natural (row - 1))))) (clause_numbers n s) in
           record {
-            count = omega (arith, step, length_clause_numbers n s, b.count-is, c.loop-row.invariant.count, b.clause_count-count.ensures.value);
+            count = omega (
+              arith,
+              step,
+              length_clause_numbers n s,
+              b.count-is,
+              c.loop-row.invariant.count,
+              b.clause_count-count.ensures.value,
+            );
             few = omega (arith, b.count-is, c.loop-row.invariant.few, b.clause_count-count.ensures.range);
           }
       | else-stays b ↦

@@ -1,3 +1,4 @@
+-- What is left to show of `formula`.
 use Rattle.std.proofs.Common.{ℕ, ℤ, ◌-◌, ◌++◌, List, ap, sym, ◌∙◌, arith}
 use Rattle.std.specs.List.{flat_map}
 use Rattle.std.proofs.lemmas.Grind.{flat_map-append}
@@ -16,7 +17,8 @@ loop-row-preserved c =
     record {
       vars = vars ∙ inv.vars;
       clauses = ap (λ d. d.clauses) is ∙ ap (λ (l : List (List ℤ)). l ++ flat_map (square_clauses n) (row_squares n row)) inv.clauses
-          ∙ sym (ap (flat_map (square_clauses n)) (flat_next (row_squares n) row (omega arith)) ∙ flat_map-append (square_clauses n) (flat_map (row_squares n) (natural (row - 1))) (row_squares n row));
+          ∙ sym (ap (flat_map (square_clauses n)) (flat_next (row_squares n) row (omega arith))
+          ∙ flat_map-append (square_clauses n) (flat_map (row_squares n) (natural (row - 1))) (row_squares n row));
       few_vars = omega (arith, vars, inv.few_vars);
       begun = ap (λ d. d.begun) is ∙ inv.begun;
       few = omega (arith, inv.few, c.in_ok-push_row.ensures.few);

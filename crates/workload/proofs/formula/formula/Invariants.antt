@@ -1,3 +1,4 @@
+-- What the loops of `formula` keep.
 use Rattle.std.proofs.Common.{◌≡◌, ◌-◌, ◌*◌, ◌≤◌, [], length}
 use Rattle.std.specs.List.{flat_map}
 use Rattle.cnf_base.specs.Order.{natural}

@@ -1,3 +1,4 @@
+-- What the loops of `push_no_two_of` keep.
 use Rattle.std.proofs.Common.{◌≡◌, ◌+◌, ◌*◌, ◌≤◌, [], ◌++◌, length, drop}
 use Rattle.workload.specs.Board.{no_two_of}
 use Rattle.workload.proofs.formula.push_no_two_of.Given as goal

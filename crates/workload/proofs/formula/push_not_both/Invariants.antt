@@ -1,3 +1,4 @@
+-- What the loops of `push_not_both` keep.
 use Rattle.std.proofs.Common.{◌≡◌, ◌+◌, ◌≤◌, ◌++◌, length, take}
 use Rattle.std.specs.Prelude.{map}
 use Rattle.workload.specs.Board.{not_both}

@@ -1,3 +1,4 @@
+-- What the loops of `push_one_of` keep.
 use Rattle.std.proofs.Common.{◌≡◌, take}
 use Rattle.workload.specs.Board.{one_of}
 use Rattle.workload.proofs.formula.push_one_of.Given as goal

@@ -1,3 +1,4 @@
+-- What is left to show of `push_row`.
 use Rattle.std.proofs.Common.{◌≡◌, ℕ, ℤ, ◌-◌, ◌++◌, List, length, ap, sym, ◌∙◌, append_assoc, arith}
 use Rattle.std.specs.List.{flat_map}
 use Rattle.workload.specs.declared.square.Square.{Square}
@@ -21,16 +22,20 @@ loop-column-preserved c =
             vars = ap (λ d. d.vars) is ∙ inv.vars;
             clauses = ap (λ d. d.clauses) is ∙ ap (λ (l : List (List ℤ)). l ++ square_clauses n s) inv.clauses
                 ∙ append_assoc c.args.builder.now.clauses old (square_clauses n s)
-                ∙ ap (λ (l : List (List ℤ)). c.args.builder.now.clauses ++ l) (sym (passed (square_clauses n) (stays n) at column (omega arith) (sym c.stays.ensures ∙ b.if-stays.true)));
+                ∙ ap (λ (l : List (List ℤ)). c.args.builder.now.clauses
+                ++ l) (sym (passed (square_clauses n) (stays n) at column (omega arith) (sym c.stays.ensures ∙ b.if-stays.true)));
             begun = ap (λ d. d.begun) is ∙ inv.begun;
-            few = let new : length c.if-stays.builder.clauses ≡ length b.push_square.new.builder.clauses = ap (λ d. length d.clauses) b.builder-is in
+            few = let new : length c.if-stays.builder.clauses ≡ length b.push_square.new.builder.clauses = ap
+                (λ d. length d.clauses) b.builder-is in
                 omega (arith, new, inv.few, b.in_ok-push_square.ensures.few);
           }
       | else-stays b ↦ record {
         vars = ap (λ d. d.vars) b.builder-is ∙ inv.vars;
         clauses = ap (λ d. d.clauses) b.builder-is ∙ inv.clauses
-            ∙ ap (λ (l : List (List ℤ)). c.args.builder.now.clauses ++ l) (sym (skipped (square_clauses n) (stays n) at column (omega arith) (sym c.stays.ensures ∙ b.if-stays.false)));
+            ∙ ap (λ (l : List (List ℤ)). c.args.builder.now.clauses
+            ++ l) (sym (skipped (square_clauses n) (stays n) at column (omega arith) (sym c.stays.ensures ∙ b.if-stays.false)));
         begun = ap (λ d. d.begun) b.builder-is ∙ inv.begun;
-        few = let new : length c.if-stays.builder.clauses ≡ length c.loop-column.builder.clauses = ap (λ d. length d.clauses) b.builder-is in omega (arith, new, inv.few);
+        few = let new : length c.if-stays.builder.clauses ≡ length c.loop-column.builder.clauses = ap
+            (λ d. length d.clauses) b.builder-is in omega (arith, new, inv.few);
       }
     ]

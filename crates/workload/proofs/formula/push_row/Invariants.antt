@@ -1,3 +1,4 @@
+-- What the loops of `push_row` keep.
 use Rattle.std.proofs.Common.{◌≡◌, ◌+◌, ◌-◌, ◌*◌, ◌≤◌, [], ◌++◌, length}
 use Rattle.std.specs.List.{flat_map}
 use Rattle.workload.specs.Board.{square_clauses, front_of_row}

@@ -1,3 +1,4 @@
+-- What is left to show of `board`.
 use Rattle.std.proofs.Common.{subst, sym, ap, ◌≡◌, List, length, ◌∙◌}
 use Rattle.cnf_base.specs.Order.{IsOrder}
 use Rattle.cnf_base.specs.Formula.{Formula}
@@ -15,7 +16,8 @@ of_variables-order-requires c = subst IsOrder (sym c.in_ok-column_order.ensures)
 pub returns-clause-is_order : goal.returns-clause-is_order
 returns-clause-is_order c =
     let order : c.of_variables-order.result ≡ column_order c.args.n = c.of_variables-order.ensures ∙ c.in_ok-column_order.ensures in
-    let is : IsOrder (column_order c.args.n) × (length (column_order c.args.n) ≡ (board_formula c.args.n).vars) = column_order_is_order c.args.n in
+    let is : IsOrder (column_order c.args.n) × (length (column_order c.args.n)
+    ≡ (board_formula c.args.n).vars) = column_order_is_order c.args.n in
     (subst IsOrder (sym order) is.0, ap length order ∙ is.1 ∙ ap (λ (f : Formula). f.vars) (sym c.in_ok-cnf.ensures))
 
 pub returns-clause-admissible : goal.returns-clause-admissible

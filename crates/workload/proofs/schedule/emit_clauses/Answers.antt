@@ -1,3 +1,4 @@
+-- What is left to show of `emit_clauses`.
 use Rattle.std.proofs.Common.{◌≡◌, ℕ, ◌+◌, ◌-◌, ◌∷◌, ◌++◌, List, ap, sym, ◌∙◌, append_assoc, subst, refl, get_or, arith}
 use Rattle.std.specs.Prelude.{map}
 use Rattle.std.specs.List.{filter, flat_map}
@@ -23,12 +24,15 @@ so_far n row column = flat_map (clause_numbers n) (filter (stays n) (map (λ r. 
 abbrev rest : ℕ → List Square → List ℕ
 rest n more = flat_map (clause_numbers n) more
 
-whole : (n row column : ℕ) (more : List Square) → filter (stays n) (map (λ r. square r column) (natural n)) ≡ filter (stays n) (map (λ r. square r column) (natural (row - 1))) ++ square row column ∷ more
-    → flat_map spaced (column_clauses n column) ≡ (flat_map spaced (so_far n row column) ++ flat_map spaced (clause_numbers n (square row column))) ++ flat_map spaced (rest n more)
+whole : (n row column : ℕ) (more : List Square) → filter (stays n) (map (λ r. square r column) (natural n))
+    ≡ filter (stays n) (map (λ r. square r column) (natural (row - 1))) ++ square row column ∷ more
+    → flat_map spaced (column_clauses n column) ≡ (flat_map spaced (so_far n row column)
+    ++ flat_map spaced (clause_numbers n (square row column))) ++ flat_map spaced (rest n more)
 whole n row column more is =
     let own : List ℕ = clause_numbers n (square row column) in
     ap (λ l. flat_map spaced (flat_map (clause_numbers n) l)) is
-    ∙ ap (flat_map spaced) (flat_map-append (clause_numbers n) (filter (stays n) (map (λ r. square r column) (natural (row - 1)))) (square row column ∷ more))
+    ∙ ap (flat_map spaced) (flat_map-append (clause_numbers n) (filter (stays n) (map (λ r. square r column) (natural (row - 1))))
+    (square row column ∷ more))
     ∙ flat_map-append spaced (so_far n row column) (own ++ rest n more)
     ∙ ap (λ (l : List ℕ). flat_map spaced (so_far n row column) ++ l) (flat_map-append spaced own (rest n more))
     ∙ sym (append_assoc (flat_map spaced (so_far n row column)) (flat_map spaced own) (flat_map spaced (rest n more)))
@@ -40,9 +44,12 @@ returns-in_err-emit_following-clause-emits g c =
     let s : Square = square row c.args.column in
     let cut = cut_column n row c.args.column (sym c.stays.ensures ∙ c.if-stays.true) in
     let own : following (get_or c.loop-row.cursor row 0) c.clause_count-count.result ≡ clause_numbers n s =
-    is_following n s (get_or c.loop-row.cursor row 0) c.clause_count-count.result (c.loop-row.invariant.cursor.below row (omega arith) (omega arith) (omega arith)) c.clause_count-count.ensures.value in
-    fails_within (in_turn c.loop-row.invariant.emits refl (same_text c.in_err-emit_following.ensures.emits (ap (flat_map spaced) own))) refl c.from_residual.ensures.0
-    (flat_map spaced (column_clauses n c.args.column)) (flat_map spaced (rest n cut.0)) c.emit_following.new.held.items (whole n row c.args.column cut.0 cut.1)
+    is_following n s (get_or c.loop-row.cursor row 0) c.clause_count-count.result
+    (c.loop-row.invariant.cursor.below row (omega arith) (omega arith) (omega arith)) c.clause_count-count.ensures.value in
+    fails_within (in_turn c.loop-row.invariant.emits refl (same_text c.in_err-emit_following.ensures.emits (ap (flat_map spaced) own))) refl
+    c.from_residual.ensures.0
+    (flat_map spaced (column_clauses n c.args.column)) (flat_map spaced (rest n cut.0)) c.emit_following.new.held.items
+    (whole n row c.args.column cut.0 cut.1)
 
 pub loop-row-preserved : goal.loop-row-preserved
 loop-row-preserved g c =
@@ -55,26 +62,33 @@ loop-row-preserved g c =
       | then-stays+in_ok-emit_following b ↦
           let there = sym c.stays.ensures ∙ b.if-stays.true in
           let own : following (get_or c.loop-row.cursor row 0) b.clause_count-count.result ≡ clause_numbers n s =
-          is_following n s (get_or c.loop-row.cursor row 0) b.clause_count-count.result (w.below row (omega arith) (omega arith) (omega arith)) b.clause_count-count.ensures.value in
-          let emitted = same_text (in_turn c.loop-row.invariant.emits refl (same_text b.in_ok-emit_following.ensures.emits (ap (flat_map spaced) own)))
-          (sym (ap (flat_map spaced) (passed (clause_numbers n) (stays n) at row (omega arith) there) ∙ flat_map-append spaced (so_far n row c.args.column) (clause_numbers n s))) in
+          is_following n s (get_or c.loop-row.cursor row 0) b.clause_count-count.result
+          (w.below row (omega arith) (omega arith) (omega arith)) b.clause_count-count.ensures.value in
+          let emitted = same_text (in_turn c.loop-row.invariant.emits refl
+          (same_text b.in_ok-emit_following.ensures.emits (ap (flat_map spaced) own)))
+          (sym (ap (flat_map spaced) (passed (clause_numbers n) (stays n) at row (omega arith) there)
+          ∙ flat_map-append spaced (so_far n row c.args.column) (clause_numbers n s))) in
           record {
             emits = rw (b.sink-is, b.held-is) emitted;
             beside = ap g.S.Sink.beside b.sink-is ∙ b.in_ok-emit_following.ensures.beside ∙ c.loop-row.invariant.beside;
             cursor = subst (StandsWithin n (row + 1) c.args.column) (sym b.cursor-is)
-                (goes_on n row c.args.column c.loop-row.cursor b.clause_count-count.result c.requires.most (omega arith) (omega arith) c.requires.column.0 there b.clause_count-count.ensures.value b.clause_count-count.ensures.range w);
+                (goes_on n row c.args.column c.loop-row.cursor b.clause_count-count.result c.requires.most (omega arith)
+                (omega arith) c.requires.column.0 there b.clause_count-count.ensures.value b.clause_count-count.ensures.range w);
           }
       | else-stays b ↦
           let out = sym c.stays.ensures ∙ b.if-stays.false in
-          let emitted = same_text c.loop-row.invariant.emits (ap (flat_map spaced) (sym (skipped (clause_numbers n) (stays n) at row (omega arith) out))) in
+          let emitted = same_text c.loop-row.invariant.emits (ap (flat_map spaced)
+          (sym (skipped (clause_numbers n) (stays n) at row (omega arith) out))) in
           record {
             emits = rw (b.sink-is, b.held-is) emitted;
             beside = ap g.S.Sink.beside b.sink-is ∙ c.loop-row.invariant.beside;
-            cursor = subst (StandsWithin n (row + 1) c.args.column) (sym b.cursor-is) (stays_out n row c.args.column c.loop-row.cursor (omega arith) (omega arith) c.requires.column.0 out w);
+            cursor = subst (StandsWithin n (row + 1) c.args.column) (sym b.cursor-is)
+                (stays_out n row c.args.column c.loop-row.cursor (omega arith) (omega arith) c.requires.column.0 out w);
           }
     ]
 
 pub returns-clause-emits : goal.returns-clause-emits
 returns-clause-emits g c =
     let all : c.loop-row.row - 1 ≡ c.args.n = omega arith in
-    same_text c.loop-row.invariant.emits (ap (λ (k : ℕ). flat_map spaced (flat_map (clause_numbers c.args.n) (filter (stays c.args.n) (map (λ r. square r c.args.column) (natural k))))) all)
+    same_text c.loop-row.invariant.emits (ap (λ (k : ℕ). flat_map spaced
+    (flat_map (clause_numbers c.args.n) (filter (stays c.args.n) (map (λ r. square r c.args.column) (natural k))))) all)

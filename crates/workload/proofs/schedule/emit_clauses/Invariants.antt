@@ -1,3 +1,4 @@
+-- What the loops of `emit_clauses` keep.
 use Rattle.std.proofs.Common.{◌≡◌, ◌-◌, Ok}
 use Rattle.std.specs.Prelude.{map}
 use Rattle.std.specs.List.{filter, flat_map}
@@ -12,7 +13,8 @@ use Rattle.workload.proofs.schedule.emit_clauses.Given as goal
 abbrev pub invariant-loop-row : goal.invariant-loop-row
 invariant-loop-row g l = record {
   emits : Emits g.S.Sink.tells (g.S.Sink.channel l.fn.sink) (g.S.Sink.channel l.sink) l.fn.held.items l.held.items
-      (flat_map spaced (flat_map (clause_numbers l.n) (filter (stays l.n) (map (λ row. square row l.column) (natural (l.row - 1)))))) (Ok tt);
+      (flat_map spaced (flat_map (clause_numbers l.n) (filter (stays l.n) (map (λ row. square row l.column) (natural (l.row - 1))))))
+      (Ok tt);
   beside : g.S.Sink.beside l.sink ≡ g.S.Sink.beside l.fn.sink;
   cursor : StandsWithin l.n l.row l.column l.cursor;
 }

@@ -1,3 +1,4 @@
+-- What is left to show of `emit_column`.
 use Rattle.std.proofs.Common.{◌≡◌, ℕ, ◌++◌, List, ap, sym, ◌∙◌, append_assoc, refl}
 use Rattle.std.specs.Prelude.{codes}
 use Rattle.std.specs.List.{flat_map}
@@ -16,23 +17,27 @@ joins n column = flat_map command_line (conjoining (terms_in_column n column))
 abbrev lasts : ℕ → ℕ → List ℕ
 lasts n column = flat_map command_line (quantifying (ending n column))
 
-whole : (n column : ℕ) → flat_map command_line (column_commands n column) ≡ (((codes "c" ++ numbers n column) ++ codes "\n") ++ joins n column) ++ lasts n column
+whole : (n column : ℕ) → flat_map command_line (column_commands n column)
+    ≡ (((codes "c" ++ numbers n column) ++ codes "\n") ++ joins n column) ++ lasts n column
 whole n column =
-    ap (λ (l : List ℕ). ((codes "c" ++ numbers n column) ++ codes "\n") ++ l) (flat_map-append command_line (conjoining (terms_in_column n column)) (quantifying (ending n column)))
+    ap (λ (l : List ℕ). ((codes "c" ++ numbers n column) ++ codes "\n")
+    ++ l) (flat_map-append command_line (conjoining (terms_in_column n column)) (quantifying (ending n column)))
     ∙ sym (append_assoc ((codes "c" ++ numbers n column) ++ codes "\n") (joins n column) (lasts n column))
 
 pub returns-in_err-emit-clause-emits : goal.returns-in_err-emit-clause-emits
 returns-in_err-emit-clause-emits g c =
     let n : ℕ = c.args.n in
     let k : ℕ = c.args.column in
-    fails_within c.in_err-emit.ensures.emits refl c.from_residual.ensures.0 (flat_map command_line (column_commands n k)) (numbers n k ++ (codes "\n" ++ (joins n k ++ lasts n k))) c.emit.new.held.items
+    fails_within c.in_err-emit.ensures.emits refl c.from_residual.ensures.0 (flat_map command_line (column_commands n k)) (numbers n k
+    ++ (codes "\n" ++ (joins n k ++ lasts n k))) c.emit.new.held.items
     (whole n k ∙ from_second (codes "c") (numbers n k) (codes "\n") (joins n k) (lasts n k))
 
 pub returns-in_err-emit_clauses-clause-emits : goal.returns-in_err-emit_clauses-clause-emits
 returns-in_err-emit_clauses-clause-emits g c =
     let n : ℕ = c.args.n in
     let k : ℕ = c.args.column in
-    fails_within (in_turn c.in_ok-emit.ensures.emits refl c.in_err-emit_clauses.ensures.emits) refl c.from_residual-in_err-emit_clauses.ensures.0
+    fails_within (in_turn c.in_ok-emit.ensures.emits refl c.in_err-emit_clauses.ensures.emits) refl
+    c.from_residual-in_err-emit_clauses.ensures.0
     (flat_map command_line (column_commands n k)) (codes "\n" ++ (joins n k ++ lasts n k)) c.emit_clauses.new.held.items
     (whole n k ∙ from_third (codes "c") (numbers n k) (codes "\n") (joins n k) (lasts n k))
 
@@ -40,7 +45,8 @@ pub returns-in_err-emit-2-clause-emits : goal.returns-in_err-emit-2-clause-emits
 returns-in_err-emit-2-clause-emits g c =
     let n : ℕ = c.args.n in
     let k : ℕ = c.args.column in
-    fails_within (in_turn (in_turn c.in_ok-emit.ensures.emits refl c.in_ok-emit_clauses.ensures.emits) refl c.in_err-emit-2.ensures.emits) refl c.from_residual-in_err-emit-2.ensures.0
+    fails_within (in_turn (in_turn c.in_ok-emit.ensures.emits refl c.in_ok-emit_clauses.ensures.emits) refl c.in_err-emit-2.ensures.emits)
+    refl c.from_residual-in_err-emit-2.ensures.0
     (flat_map command_line (column_commands n k)) (joins n k ++ lasts n k) c.emit-2.new.held.items
     (whole n k ∙ from_fourth (codes "c") (numbers n k) (codes "\n") (joins n k) (lasts n k))
 
@@ -49,13 +55,18 @@ returns-in_err-emit_conjoining-clause-emits g c =
     let n : ℕ = c.args.n in
     let k : ℕ = c.args.column in
     let terms = ap (λ (t : ℕ). flat_map command_line (conjoining t)) c.terms_in_column.ensures.value in
-    fails_within (in_turn (in_turn (in_turn c.in_ok-emit.ensures.emits refl c.in_ok-emit_clauses.ensures.emits) refl c.in_ok-emit-2.ensures.emits) refl (same_text c.in_err-emit_conjoining.ensures.emits terms))
-    refl c.from_residual-in_err-emit_conjoining.ensures.0 (flat_map command_line (column_commands n k)) (lasts n k) c.emit_conjoining.new.held.items (whole n k)
+    fails_within (in_turn
+    (in_turn (in_turn c.in_ok-emit.ensures.emits refl c.in_ok-emit_clauses.ensures.emits) refl c.in_ok-emit-2.ensures.emits) refl
+    (same_text c.in_err-emit_conjoining.ensures.emits terms))
+    refl c.from_residual-in_err-emit_conjoining.ensures.0 (flat_map command_line (column_commands n k))
+    (lasts n k) c.emit_conjoining.new.held.items (whole n k)
 
 pub returns-clause-emits : goal.returns-clause-emits
 returns-clause-emits g c =
     let n : ℕ = c.args.n in
     let k : ℕ = c.args.column in
     let terms = ap (λ (t : ℕ). flat_map command_line (conjoining t)) c.terms_in_column.ensures.value in
-    same_text (in_turn (in_turn (in_turn (in_turn c.in_ok-emit.ensures.emits refl c.in_ok-emit_clauses.ensures.emits) refl c.in_ok-emit-2.ensures.emits) refl (same_text c.in_ok-emit_conjoining.ensures.emits terms))
+    same_text (in_turn (in_turn
+    (in_turn (in_turn c.in_ok-emit.ensures.emits refl c.in_ok-emit_clauses.ensures.emits) refl c.in_ok-emit-2.ensures.emits) refl
+    (same_text c.in_ok-emit_conjoining.ensures.emits terms))
     refl c.emit_quantifying.ensures.emits) (sym (whole n k))

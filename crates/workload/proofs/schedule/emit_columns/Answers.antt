@@ -1,3 +1,4 @@
+-- What is left to show of `emit_columns`.
 use Rattle.std.proofs.Common.{ℕ, ◌-◌, ◌∷◌, ◌++◌, List, ap, sym, ◌∙◌, append_assoc, refl, arith}
 use Rattle.std.specs.List.{flat_map}
 use Rattle.std.proofs.lemmas.Grind.{flat_map-append}
@@ -17,10 +18,12 @@ returns-in_err-emit_column-clause-emits g c =
     let old : List Command = flat_map (column_commands n) (natural (k - 1)) in
     let own : List Command = column_commands n k in
     let more : List Command = flat_map (column_commands n) piece.more in
-    fails_within (in_turn c.loop-column.invariant.emits refl c.in_err-emit_column.ensures.emits) refl c.from_residual.ensures.0 (schedule_text n) (flat_map command_line more) c.emit_column.new.held.items
+    fails_within (in_turn c.loop-column.invariant.emits refl c.in_err-emit_column.ensures.emits) refl c.from_residual.ensures.0
+    (schedule_text n) (flat_map command_line more) c.emit_column.new.held.items
     (ap (λ l. flat_map command_line (flat_map (column_commands n) l)) piece.parts
     ∙ ap (flat_map command_line) (flat_map-append (column_commands n) (natural (k - 1)) (k ∷ piece.more))
-    ∙ flat_map-append command_line old (own ++ more) ∙ ap (λ (l : List ℕ). flat_map command_line old ++ l) (flat_map-append command_line own more)
+    ∙ flat_map-append command_line old (own ++ more) ∙ ap (λ (l : List ℕ). flat_map command_line old
+    ++ l) (flat_map-append command_line own more)
     ∙ sym (append_assoc (flat_map command_line old) (flat_map command_line own) (flat_map command_line more)))
 
 pub loop-column-preserved : goal.loop-column-preserved
@@ -29,7 +32,8 @@ loop-column-preserved g c =
     let k : ℕ = c.loop-column.column in
     record {
       emits = same_text (in_turn c.loop-column.invariant.emits refl c.in_ok-emit_column.ensures.emits)
-          (sym (ap (flat_map command_line) (flat_next (column_commands n) k (omega arith)) ∙ flat_map-append command_line (flat_map (column_commands n) (natural (k - 1))) (column_commands n k)));
+          (sym (ap (flat_map command_line) (flat_next (column_commands n) k (omega arith))
+          ∙ flat_map-append command_line (flat_map (column_commands n) (natural (k - 1))) (column_commands n k)));
       beside = c.in_ok-emit_column.ensures.beside ∙ c.loop-column.invariant.beside;
       cursor = c.in_ok-emit_column.ensures.cursor;
     }

@@ -1,3 +1,4 @@
+-- What the loops of `emit_columns` keep.
 use Rattle.std.proofs.Common.{◌≡◌, ◌-◌, Ok}
 use Rattle.std.specs.List.{flat_map}
 use Rattle.cnf_base.specs.Order.{natural}
@@ -9,7 +10,8 @@ use Rattle.workload.proofs.schedule.emit_columns.Given as goal
 
 abbrev pub invariant-loop-column : goal.invariant-loop-column
 invariant-loop-column g l = record {
-  emits : Emits g.S.Sink.tells (g.S.Sink.channel l.fn.sink) (g.S.Sink.channel l.sink) l.fn.held.items l.held.items (flat_map command_line (flat_map (column_commands l.n) (natural (l.column - 1)))) (Ok tt);
+  emits : Emits g.S.Sink.tells (g.S.Sink.channel l.fn.sink) (g.S.Sink.channel l.sink) l.fn.held.items l.held.items
+      (flat_map command_line (flat_map (column_commands l.n) (natural (l.column - 1)))) (Ok tt);
   beside : g.S.Sink.beside l.sink ≡ g.S.Sink.beside l.fn.sink;
   cursor : StandsAt l.n l.column l.cursor;
 }

@@ -1,3 +1,4 @@
+-- What is left to show of `emit_conjoining`.
 use Rattle.std.proofs.Common.{◌≡◌, ℕ, ◌≤◌, [], ◌∷◌, ◌++◌, cond, ap, sym, ◌∙◌, refl, arith}
 use Rattle.std.specs.Prelude.{codes, decimal}
 use Rattle.std.specs.List.{flat_map}
@@ -10,11 +11,14 @@ use Rattle.workload.proofs.schedule.emit_conjoining.Goals as goal
 
 line : (terms : ℕ) → 2 ≤ terms → flat_map command_line (conjoining terms) ≡ (codes "a " ++ decimal terms) ++ codes "\n"
 line terms enough =
-    ap (λ b. flat_map command_line (cond b (Conjoin terms ∷ []) [])) (le-leb 2 terms enough) ∙ append-nil ((codes "a " ++ decimal terms) ++ codes "\n")
+    ap (λ b. flat_map command_line (cond b (Conjoin terms ∷ []) [])) (le-leb 2 terms enough)
+    ∙ append-nil ((codes "a " ++ decimal terms) ++ codes "\n")
 
 pub returns-in_err-emit_number-clause-emits : goal.returns-in_err-emit_number-clause-emits
 returns-in_err-emit_number-clause-emits g c =
-    fails_within c.in_err-emit_number.ensures.emits refl c.from_residual.ensures.0 (flat_map command_line (conjoining c.args.terms)) (codes "\n") c.emit_number.new.held.items (line c.args.terms (omega arith))
+    fails_within c.in_err-emit_number.ensures.emits refl c.from_residual.ensures.0 (flat_map command_line (conjoining c.args.terms))
+    (codes "\n") c.emit_number.new.held.items (line c.args.terms (omega arith))
 
 pub returns-clause-emits : goal.returns-clause-emits
-returns-clause-emits g c = same_text (in_turn c.in_ok-emit_number.ensures.emits refl c.emit.ensures.emits) (sym (line c.args.terms (omega arith)))
+returns-clause-emits g c = same_text (in_turn c.in_ok-emit_number.ensures.emits refl c.emit.ensures.emits)
+    (sym (line c.args.terms (omega arith)))

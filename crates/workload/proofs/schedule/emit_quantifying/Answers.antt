@@ -1,3 +1,4 @@
+-- What is left to show of `emit_quantifying`.
 use Rattle.std.proofs.Common.{◌++◌, refl, sym, arith}
 use Rattle.std.specs.Prelude.{codes}
 use Rattle.std.specs.List.{flat_map}
@@ -9,20 +10,27 @@ use Rattle.workload.proofs.schedule.emit_quantifying.Goals as goal
 
 pub returns-then-n-lt3-clause-emits : goal.returns-then-n-lt3-clause-emits
 returns-then-n-lt3-clause-emits g c =
-    same_text (nothing (g.S.Sink.channel c.args.sink.now) c.args.held.now.items) (sym (no_end c.args.n c.args.column c.requires.least c.if-n-lt3.true c.requires.column.0 c.requires.column.1))
+    same_text (nothing (g.S.Sink.channel c.args.sink.now) c.args.held.now.items)
+    (sym (no_end c.args.n c.args.column c.requires.least c.if-n-lt3.true c.requires.column.0 c.requires.column.1))
 
 pub returns-in_err-emit-clause-emits : goal.returns-in_err-emit-clause-emits
 returns-in_err-emit-clause-emits g c =
-    let line = quantify_line (ending c.args.n c.args.column) (some_end c.args.n c.args.column (omega arith) c.requires.column.0 c.requires.column.1) in
-    fails_within c.in_err-emit.ensures.emits refl c.from_residual.ensures.0 (flat_map command_line (quantifying (ending c.args.n c.args.column))) (flat_map spaced (ending c.args.n c.args.column) ++ codes "\n") c.emit.new.held.items line
+    let line = quantify_line (ending c.args.n c.args.column) (some_end c.args.n c.args.column
+    (omega arith) c.requires.column.0 c.requires.column.1) in
+    fails_within c.in_err-emit.ensures.emits refl c.from_residual.ensures.0
+    (flat_map command_line (quantifying (ending c.args.n c.args.column))) (flat_map spaced (ending c.args.n c.args.column)
+    ++ codes "\n") c.emit.new.held.items line
 
 pub returns-in_err-emit_ending-clause-emits : goal.returns-in_err-emit_ending-clause-emits
 returns-in_err-emit_ending-clause-emits g c =
-    let line = quantify_line (ending c.args.n c.args.column) (some_end c.args.n c.args.column (omega arith) c.requires.column.0 c.requires.column.1) in
-    fails_within (in_turn c.in_ok-emit.ensures.emits refl c.in_err-emit_ending.ensures.emits) refl c.from_residual-in_err-emit_ending.ensures.0
+    let line = quantify_line (ending c.args.n c.args.column) (some_end c.args.n c.args.column
+    (omega arith) c.requires.column.0 c.requires.column.1) in
+    fails_within (in_turn c.in_ok-emit.ensures.emits refl c.in_err-emit_ending.ensures.emits) refl
+    c.from_residual-in_err-emit_ending.ensures.0
     (flat_map command_line (quantifying (ending c.args.n c.args.column))) (codes "\n") c.emit_ending.new.held.items line
 
 pub returns-clause-emits : goal.returns-clause-emits
 returns-clause-emits g c =
-    let line = quantify_line (ending c.args.n c.args.column) (some_end c.args.n c.args.column (omega arith) c.requires.column.0 c.requires.column.1) in
+    let line = quantify_line (ending c.args.n c.args.column) (some_end c.args.n c.args.column
+    (omega arith) c.requires.column.0 c.requires.column.1) in
     same_text (in_turn (in_turn c.in_ok-emit.ensures.emits refl c.in_ok-emit_ending.ensures.emits) refl c.emit-2.ensures.emits) (sym line)

@@ -1,3 +1,4 @@
+-- What is left to show of `dominoes_before`.
 use Rattle.std.proofs.Common.{◌≡◌, ℕ, ◌+◌, ◌-◌, ◌*◌, ◌≤◌, arith, subst, sym}
 use Rattle.std.proofs.Math.Nat.{mul-le-mul}
 use Rattle.workload.proofs.Squares.{Stays, it_stays}
@@ -5,7 +6,8 @@ use Rattle.workload.proofs.Counts.{before, before_upper, before_last}
 use Rattle.workload.proofs.square.dominoes_before.Goals as goal
 
 there : (n row column : ℕ) → n ≤ 100 → Stays n row column → (row - 1) * (2 * n - 1) ≤ 19701
-there n row column small s = mul-le-mul {n₁ = row - 1} {m₁ = 2 * n - 1} {n₂ = 99} {m₂ = 199} (omega (arith, small, s.row_to)) (omega (arith, small))
+there n row column small s = mul-le-mul {n₁ = row - 1} {m₁ = 2 * n - 1} {n₂ = 99} {m₂ = 199} (omega (arith, small, s.row_to))
+    (omega (arith, small))
 
 last : (n row column : ℕ) → row ≡ n → Stays n row column → before n row column + 3 ≡ (row - 1) * (2 * n - 1) + (column - 1)
 last n row column is s =

@@ -1,3 +1,4 @@
+-- What is left to show of `number_down`.
 use Rattle.std.proofs.Common.{ℕ, ◌+◌, Bool, cond, ap, ◌∙◌, sym, arith}
 use Rattle.std.proofs.lemmas.Bool.{and_parts}
 use Rattle.workload.specs.declared.square.Square.{Square}

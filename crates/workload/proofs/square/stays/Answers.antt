@@ -1,3 +1,4 @@
+-- What is left to show of `stays`.
 use Rattle.std.proofs.Common.{arith}
 use Rattle.std.proofs.lemmas.Bool.Decides.{nat_tests}
 use Rattle.workload.specs.Board.{stays}

@@ -1,3 +1,4 @@
+-- What is left to show of `variable_count`.
 use Rattle.std.proofs.Common.{sym}
 use Rattle.workload.proofs.Counts.{all_dominoes}
 use Rattle.workload.proofs.square.variable_count.Goals as goal

@@ -1,3 +1,4 @@
+-- What is left to show of `emit_clause`.
 use Rattle.std.proofs.Common.{refl}
 use Rattle.std.specs.Prelude.{codes}
 use Rattle.workload.specs.Texts.{clause_line}
@@ -6,7 +7,8 @@ use Rattle.workload.proofs.texts.emit_clause.Goals as goal
 
 pub returns-in_err-emit_literals-clause-emits : goal.returns-in_err-emit_literals-clause-emits
 returns-in_err-emit_literals-clause-emits g c =
-    fails_within c.in_err-emit_literals.ensures.emits refl c.from_residual.ensures.0 (clause_line c.args.clause.now) (codes "0\n") c.emit_literals.new.held.items refl
+    fails_within c.in_err-emit_literals.ensures.emits refl c.from_residual.ensures.0 (clause_line c.args.clause.now)
+    (codes "0\n") c.emit_literals.new.held.items refl
 
 pub returns-clause-emits : goal.returns-clause-emits
 returns-clause-emits g c = in_turn c.in_ok-emit_literals.ensures.emits refl c.emit.ensures.emits

@@ -1,3 +1,4 @@
+-- What is left to show of `emit_clauses`.
 use Rattle.std.proofs.Common.{◌≡◌, ◌+◌, ◌-◌, ℕ, ℤ, List, [], get_or, ◌∙◌, ap, refl, arith}
 use Rattle.std.specs.List.{flat_map}
 use Rattle.std.proofs.lemmas.List.{take_all}
@@ -10,8 +11,10 @@ same clauses place = let e : place + 1 - 1 ≡ place = omega arith in ap (λ (k 
 
 pub returns-in_err-emit_clause-clause-emits : goal.returns-in_err-emit_clause-clause-emits
 returns-in_err-emit_clause-clause-emits g c =
-    fails_at clause_line c.args.formula.now.clauses c.loop-place.place [] c.emit_clause.new.held.items (omega arith) c.loop-place.invariant.0
-    (ap clause_line (c.clause.ensures ∙ same c.args.formula.now.clauses c.loop-place.place)) c.in_err-emit_clause.ensures.emits refl c.from_residual.ensures.0
+    fails_at clause_line c.args.formula.now.clauses c.loop-place.place [] c.emit_clause.new.held.items
+    (omega arith) c.loop-place.invariant.0
+    (ap clause_line (c.clause.ensures ∙ same c.args.formula.now.clauses c.loop-place.place)) c.in_err-emit_clause.ensures.emits refl
+    c.from_residual.ensures.0
 
 pub loop-place-preserved : goal.loop-place-preserved
 loop-place-preserved g c = (
@@ -21,4 +24,5 @@ loop-place-preserved g c = (
 )
 
 pub returns-clause-emits : goal.returns-clause-emits
-returns-clause-emits g c = same_text c.loop-place.invariant.0 (ap (flat_map clause_line) (take_all c.loop-place.place c.args.formula.now.clauses (omega arith)))
+returns-clause-emits g c = same_text c.loop-place.invariant.0 (ap (flat_map clause_line)
+    (take_all c.loop-place.place c.args.formula.now.clauses (omega arith)))

@@ -1,3 +1,4 @@
+-- What is left to show of `write_cnf`.
 use Rattle.std.proofs.Common.{List, ℕ, Ok, Err, refl, subst}
 use Rattle.host_io.specs.Emitted.{Emits}
 use Rattle.workload.specs.Texts.{cnf_text}
@@ -6,12 +7,14 @@ use Rattle.workload.proofs.texts.write_cnf.Goals as goal
 
 pub returns-in_err-emit_cnf-clause-writes : goal.returns-in_err-emit_cnf-clause-writes
 returns-in_err-emit_cnf-clause-writes g c =
-    let empty = subst (λ (held : List ℕ). Emits g.S.Sink.tells (g.S.Sink.channel c.args.sink.now) (g.S.Sink.channel c.emit_cnf.new.sink) held c.emit_cnf.new.held.items
+    let empty = subst (λ (held : List ℕ). Emits g.S.Sink.tells (g.S.Sink.channel c.args.sink.now)
+    (g.S.Sink.channel c.emit_cnf.new.sink) held c.emit_cnf.new.held.items
     (cnf_text c.args.formula.now) (Err c.in_err-emit_cnf.field-0.0)) c.new-held.ensures c.in_err-emit_cnf.ensures.emits in
     cut_before empty refl c.from_residual.ensures.0
 
 pub returns-clause-writes : goal.returns-clause-writes
 returns-clause-writes g c =
-    let empty = subst (λ (held : List ℕ). Emits g.S.Sink.tells (g.S.Sink.channel c.args.sink.now) (g.S.Sink.channel c.emit_cnf.new.sink) held c.emit_cnf.new.held.items
+    let empty = subst (λ (held : List ℕ). Emits g.S.Sink.tells (g.S.Sink.channel c.args.sink.now)
+    (g.S.Sink.channel c.emit_cnf.new.sink) held c.emit_cnf.new.held.items
     (cnf_text c.args.formula.now) (Ok tt)) c.new-held.ensures c.in_ok-emit_cnf.ensures.emits in
     written_out empty c.as_slice.ensures.value c.write_all.ensures.writes

@@ -12,14 +12,18 @@ pub returns-in-None-clause-kept : goal.returns-in-None-clause-kept
 returns-in-None-clause-kept c =
     let found = c.args.found.now in
     let value : Found = record { node = found.0; clause = c.number_of.result } in
-    subst (λ (just : Just). KeepsEntry entry_of same_pair c.args.self.now.results c.keep.new.self (c.args.u, c.args.v) (Conjunction c.args.u c.args.v found.0 just) None) c.number_of.ensures
-    (c.cache_law.ensures.kept entry_of tells_pairs c.args.self.now.results c.keep.new.self c.len.ensures.bounded c.len-2.ensures.bounded (c.args.u, c.args.v) value c.in-Ok.ensures.entries c.in-Ok.ensures.found None
+    subst (λ (just : Just). KeepsEntry entry_of same_pair c.args.self.now.results c.keep.new.self (c.args.u, c.args.v)
+    (Conjunction c.args.u c.args.v found.0 just) None) c.number_of.ensures
+    (c.cache_law.ensures.kept entry_of tells_pairs c.args.self.now.results c.keep.new.self c.len.ensures.bounded c.len-2.ensures.bounded
+    (c.args.u, c.args.v) value c.in-Ok.ensures.entries c.in-Ok.ensures.found None
     (rw (sym c.in-Ok.ensures.handed_back, c.in-None.is) refl))
 
 pub returns-in-Some-clause-kept : goal.returns-in-Some-clause-kept
 returns-in-Some-clause-kept c =
     let found = c.args.found.now in
     let value : Found = record { node = found.0; clause = c.number_of.result } in
-    subst (λ (just : Just). KeepsEntry entry_of same_pair c.args.self.now.results c.keep.new.self (c.args.u, c.args.v) (Conjunction c.args.u c.args.v found.0 just) c.id_of.result) c.number_of.ensures
-    (c.cache_law.ensures.kept entry_of tells_pairs c.args.self.now.results c.keep.new.self c.len.ensures.bounded c.len-2.ensures.bounded (c.args.u, c.args.v) value c.in-Ok.ensures.entries c.in-Ok.ensures.found c.id_of.result
+    subst (λ (just : Just). KeepsEntry entry_of same_pair c.args.self.now.results c.keep.new.self (c.args.u, c.args.v)
+    (Conjunction c.args.u c.args.v found.0 just) c.id_of.result) c.number_of.ensures
+    (c.cache_law.ensures.kept entry_of tells_pairs c.args.self.now.results c.keep.new.self c.len.ensures.bounded c.len-2.ensures.bounded
+    (c.args.u, c.args.v) value c.in-Ok.ensures.entries c.in-Ok.ensures.found c.id_of.result
     (rw (sym c.in-Ok.ensures.handed_back, c.in-Some.is) c.id_of.ensures))

@@ -15,7 +15,8 @@ turns-init g c = record {
 pub turn-requires-clause-may : goal.turn-requires-clause-may
 turn-requires-clause-may g c last is =
     let within : c.turns.counter < length c.args.self.now.results.entries = omega (arith, c.turns-test.true, c.len-end.ensures.number) in
-    c.table_turn_law.ensures.may entry_of c.args.marks.now c.args.table.now c.turns.table c.args.self.now.results c.turns.self.results c.turns.counter last
+    c.table_turn_law.ensures.may entry_of c.args.marks.now c.args.table.now c.turns.table c.args.self.now.results c.turns.self.results
+    c.turns.counter last
     tells_pairs c.len-end.ensures.bounded within c.requires.fits c.turns.invariant.cache c.turns.invariant.table is
 
 pub turns-preserved : goal.turns-preserved
@@ -23,9 +24,11 @@ turns-preserved g c =
     let within : c.turns.counter < length c.args.self.now.results.entries = omega (arith, c.turns-test.true, c.len-end.ensures.number) in
     record {
       few = omega (arith, within);
-      cache = c.cache_turn_law.ensures.turn entry_of c.args.marks.now c.args.self.now.results c.turns.self.results c.turn.new.self.results c.turns.counter
+      cache = c.cache_turn_law.ensures.turn entry_of c.args.marks.now c.args.self.now.results c.turns.self.results c.turn.new.self.results
+          c.turns.counter
           c.len-end.ensures.bounded within c.turns.invariant.cache c.turn.ensures.cache;
-      table = c.table_turn_law.ensures.turn entry_of c.args.marks.now c.args.table.now c.turns.table c.turn.new.table c.args.self.now.results c.turns.self.results c.turns.counter
+      table = c.table_turn_law.ensures.turn entry_of c.args.marks.now c.args.table.now c.turns.table c.turn.new.table
+          c.args.self.now.results c.turns.self.results c.turns.counter
           tells_pairs c.len-end.ensures.bounded within c.requires.fits c.turns.invariant.cache c.turns.invariant.table c.turn.ensures.table;
       beside = c.turn.ensures.beside ∙ c.turns.invariant.beside;
     }

@@ -1,3 +1,4 @@
+-- What the loops of `AndCache::purge` keep.
 use Rattle.std.proofs.Common.{◌≡◌, ◌≤◌, length}
 use Rattle.operations.specs.Turns.{HadTurns, HaveRetired}
 use Rattle.apply_and.specs.Cache.{entry_of}

@@ -18,9 +18,17 @@ use Rattle.apply_and.proofs.Calls.{Answer, memory_no_limit}
 use Rattle.apply_and.proofs.conjoin.AndOperationOperation.close.Goals as goal
 
 -- the step of the node has found a result
-found_by : {S : Type 0} (tells : Bool) (one other : Channel) (old mid : TableState S) (before : List Entry) (count : ℕ) (just : Just) → IsSound old → Fits old before → Steps tells one other old mid count None
+found_by : {S : Type 0} (tells : Bool) (one other : Channel) (old mid : TableState S) (before : List Entry) (count : ℕ) (just : Just)
+    → IsSound old → Fits old before → Steps tells one other old mid count None
     → RetiresNew old mid → GivesOne old mid just → HasFound old mid before just
-found_by tells one other old mid before count just sound fits steps retires gives = record { sound = sound; fits = fits; still = steps.leaves.sound; extends = steps.extends; retires = retires; gives = gives }
+found_by tells one other old mid before count just sound fits steps retires gives = record {
+  sound = sound;
+  fits = fits;
+  still = steps.leaves.sound;
+  extends = steps.extends;
+  retires = retires;
+  gives = gives;
+}
 
 pub returns-in_err-found-clause-closes : goal.returns-in_err-found-clause-closes
 returns-in_err-found-clause-closes g c =
@@ -31,10 +39,12 @@ returns-in_err-found-clause-closes g c =
     let new = c.finish.new.table in
     let came = c.in_err-found.field-0.0 in
     let done = c.in_err-found.ensures in
-    subst (λ (r : Answer). Closes g.S.Sink.tells g.S.Sink.channel g.S.Sink.beside old cache o c.args.high.now c.args.low.now new cache r) (sym (handed_on _ came came c.from_residual.ensures.1 refl)) (record {
+    subst (λ (r : Answer). Closes g.S.Sink.tells g.S.Sink.channel g.S.Sink.beside old cache o c.args.high.now c.args.low.now new cache r)
+    (sym (handed_on _ came came c.from_residual.ensures.1 refl)) (record {
       conjoined = tt;
       steps = done.steps;
-      accounts = c.accounts_law.ensures.failed _ _ _ old new before _ _ c.requires.sound c.requires.fits done.steps done.retires (λ whole. done.gives (whole_error _ whole));
+      accounts = c.accounts_law.ensures.failed _ _ _ old new before _ _ c.requires.sound c.requires.fits done.steps done.retires
+          (λ whole. done.gives (whole_error _ whole));
       unretired = tt;
       kept = tt;
       room = record { others = λ entry there. inl there; no_fewer = omega arith; capacity = refl };
@@ -49,13 +59,15 @@ returns-in_err-found-clause-closes g c =
 pub retire-requires-clause-own : goal.retire-requires-clause-own
 retire-requires-clause-own g c id is =
     let done = c.in_ok-found.ensures in
-    let has = found_by _ _ _ c.args.table.now c.finish.new.table (entries c.args.cache.now) _ c.in_ok-found.found.1 c.requires.sound c.requires.fits done.steps done.retires (done.gives no_error) in
+    let has = found_by _ _ _ c.args.table.now c.finish.new.table
+    (entries c.args.cache.now) _ c.in_ok-found.found.1 c.requires.sound c.requires.fits done.steps done.retires (done.gives no_error) in
     (c.accounts_law.ensures.found _ _ _ _ has).own id (c.in-Ok.ensures.kept.one.named id is)
 
 pub retire-requires-clause-unretired : goal.retire-requires-clause-unretired
 retire-requires-clause-unretired g c id is gone =
     let done = c.in_ok-found.ensures in
-    let has = found_by _ _ _ c.args.table.now c.finish.new.table (entries c.args.cache.now) _ c.in_ok-found.found.1 c.requires.sound c.requires.fits done.steps done.retires (done.gives no_error) in
+    let has = found_by _ _ _ c.args.table.now c.finish.new.table
+    (entries c.args.cache.now) _ c.in_ok-found.found.1 c.requires.sound c.requires.fits done.steps done.retires (done.gives no_error) in
     (c.accounts_law.ensures.found _ _ _ _ has).unretired id (c.in-Ok.ensures.kept.one.named id is) gone
 
 pub returns-in-Ok-clause-closes : goal.returns-in-Ok-clause-closes
@@ -74,12 +86,15 @@ returns-in-Ok-clause-closes g c =
     let one : RetiresOne g.S.Sink.tells g.S.Sink.channel mid new given = c.retire.ensures.one in
     let same : new.graph ≡ mid.graph = ap (λ (t : TableState g.row.S.Denot). t.graph) one.same in
     let nodes : AreNodes mid.graph o.u o.v = record {
-      first = c.growth_law.ensures.stands old.graph mid.graph done.steps.extends.nodes o.u (c.operand_law.ensures.first old.graph o c.requires.split);
-      second = c.growth_law.ensures.stands old.graph mid.graph done.steps.extends.nodes o.v (c.operand_law.ensures.second old.graph o c.requires.split);
+      first = c.growth_law.ensures.stands old.graph mid.graph done.steps.extends.nodes o.u
+          (c.operand_law.ensures.first old.graph o c.requires.split);
+      second = c.growth_law.ensures.stands old.graph mid.graph done.steps.extends.nodes o.v
+          (c.operand_law.ensures.second old.graph o c.requires.split);
     } in
     let law = c.steps_law.ensures in
     let has = found_by _ _ _ old mid before _ found.1 c.requires.sound c.requires.fits done.steps done.retires (done.gives no_error) in
-    let ended = c.accounts_law.ensures.kept _ _ old mid new before (entries after) (Conjunction o.u o.v found.0 found.1) given has (nodes, done.conjoined) kept.one one in record {
+    let ended = c.accounts_law.ensures.kept _ _ old mid new before (entries after) (Conjunction o.u o.v found.0 found.1) given has
+    (nodes, done.conjoined) kept.one one in record {
       conjoined = ended.right.1;
       steps = law.further _ _ _ _ _ _ 2 0 _ done.steps one.steps;
       accounts = ended.accounts;
@@ -109,7 +124,8 @@ returns-in-Err-clause-closes g c =
     let same : new.graph ≡ mid.graph = ap (λ (t : TableState g.row.S.Denot). t.graph) one.same in
     let law = c.steps_law.ensures in
     let has = found_by _ _ _ old mid before _ found.1 c.requires.sound c.requires.fits done.steps done.retires (done.gives no_error) in
-    subst (λ (list : AndCache). Closes g.S.Sink.tells g.S.Sink.channel g.S.Sink.beside old cache o c.args.high.now c.args.low.now new list (Err OutOfMemory)) (sym c.in-Err.ensures.refused) (record {
+    subst (λ (list : AndCache). Closes g.S.Sink.tells g.S.Sink.channel g.S.Sink.beside old cache o c.args.high.now c.args.low.now new list
+    (Err OutOfMemory)) (sym c.in-Err.ensures.refused) (record {
       conjoined = tt;
       steps = law.further _ _ _ _ _ _ 2 0 _ done.steps (law.further _ _ _ _ _ _ 0 0 _ one.steps (law.no_memory new one.steps.leaves.sound));
       accounts = c.accounts_law.ensures.refused _ _ old mid new before found.1 given _ has c.clause_of.ensures one;

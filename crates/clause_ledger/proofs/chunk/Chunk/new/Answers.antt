@@ -1,3 +1,4 @@
+-- What is left to show of `Chunk::new`.
 use Rattle.std.proofs.Common.{map, sym}
 use Rattle.clause_ledger.specs.Slots.{clause_in}
 use Rattle.clause_ledger.proofs.Counts.{clauses-blank}

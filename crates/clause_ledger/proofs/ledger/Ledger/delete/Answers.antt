@@ -1,3 +1,4 @@
+-- What is left to show of `Ledger::delete`.
 use Rattle.std.proofs.Common.{◌≡◌, ◌≤◌, ◌++◌, take, refl, sym, ◌∙◌, ap, subst, arith}
 use Rattle.cnf_base.specs.declared.step.Step.TheVariants.{Delete}
 use Rattle.cnf_base.specs.ProofText.{max_id, line_of_step}

@@ -1,3 +1,4 @@
+-- What is left to show of `LiveClauses::remove`.
 use Rattle.std.proofs.Common.{List, subst, ◌≡◌, ◌<◌, ◌≤◌, ◌/◌, length, sym, ◌∙◌, ap, arith}
 use Rattle.std.specs.FinMap as map
 use Rattle.clause_ledger.specs.Chunks.{Places, AreChunks, Stored, live_of}
@@ -30,4 +31,5 @@ returns-else-index-len-clause-state c =
 pub invariant_of-self : goal.invariant_of-self
 invariant_of-self c =
     subst (λ (l : List Places). AreChunks l c.self.inside.top) (sym c.clear.ensures.1)
-    (AreChunks-cleared c.self.inside.chunks.items c.self.inside.top c.get-number.result c.clear.ensures.0 c.self.invariant (omega (arith, c.if-index-len.true, c.len.ensures)) c.clear.ensures.2)
+    (AreChunks-cleared c.self.inside.chunks.items c.self.inside.top c.get-number.result c.clear.ensures.0 c.self.invariant
+    (omega (arith, c.if-index-len.true, c.len.ensures)) c.clear.ensures.2)

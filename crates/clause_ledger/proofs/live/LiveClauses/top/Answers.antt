@@ -1,3 +1,4 @@
+-- What is left to show of `LiveClauses::top`.
 use Rattle.std.proofs.Common.{sym, ◌∙◌, subst}
 use Rattle.clause_ledger.specs.Chunks.{Stored}
 use Rattle.clause_ledger.proofs.Kept.{AreNumbers}

@@ -1,3 +1,4 @@
+-- What is left to show of `Cnf::formula_law`.
 use Rattle.cnf_base.proofs.FlatFormula.{formula-stored}
 use Rattle.cnf_base.proofs.formula.Cnf.formula_law.Goals as goal
 

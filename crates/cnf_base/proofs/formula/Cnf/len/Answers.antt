@@ -1,3 +1,4 @@
+-- What is left to show of `Cnf::len`.
 use Rattle.std.proofs.Common.{◌∙◌, sym, ap, length}
 use Rattle.cnf_base.proofs.FlatFormula.{length-stored}
 use Rattle.cnf_base.proofs.formula.Cnf.len.Goals as goal

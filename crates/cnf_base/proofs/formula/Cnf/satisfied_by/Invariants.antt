@@ -1,3 +1,4 @@
+-- What the loops of `Cnf::satisfied_by` keep.
 use Rattle.std.proofs.Common.{◌≡◌, true, take}
 use Rattle.std.specs.List.{list_all}
 use Rattle.cnf_base.specs.Truth.{clause_holds, assignment_of}

@@ -1,3 +1,4 @@
+-- What the loops of `InlineLiterals::from_slice` keep.
 use Rattle.std.proofs.Common.{◌≡◌, take}
 use Rattle.hint_chain.proofs.inline.InlineLiterals.from_slice.Given as goal
 

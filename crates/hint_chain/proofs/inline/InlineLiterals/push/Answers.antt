@@ -1,3 +1,4 @@
+-- What is left to show of `InlineLiterals::push`.
 use Rattle.std.proofs.Common.{◌<◌, rules}
 use Rattle.hint_chain.proofs.Padding.{IsPadded-set}
 use Rattle.hint_chain.proofs.inline.InlineLiterals.push.Goals as goal

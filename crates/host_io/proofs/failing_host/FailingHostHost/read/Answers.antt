@@ -1,3 +1,4 @@
+-- What is left to show of `FailingHostHost::read`.
 use Rattle.std.proofs.Common.{◌≡◌, ◌<◌, ◌≤◌, length, take, ap, ◌∙◌, arith}
 use Rattle.std.proofs.lemmas.List.{length-take-le}
 use Rattle.host_io.proofs.Parts.{reads_front_part}
@@ -9,5 +10,6 @@ returns-clause-reads c =
     let within : c.min-count.result ≤ length c.args.buf.now = grind arith in
     let long : length (take c.min-count.result c.args.buf.now) ≡ c.min-count.result = length-take-le _ _ within in
     let fits : length (take c.min-count.result c.args.buf.now) ≤ length c.args.buf.now = omega arith in
-    let some : 0 < length c.args.buf.now → 0 < length (take c.min-count.result c.args.buf.now) = λ more. grind (arith, c.self.invariant.0, more) in
+    let some : 0 < length c.args.buf.now → 0 < length (take c.min-count.result c.args.buf.now) = λ more. grind
+    (arith, c.self.invariant.0, more) in
     rw (← base) (reads_front_part _ _ _ _ _ c.read.new.buf _ _ c.read.auto.buf fits some c.read.ensures.reads)

@@ -1,3 +1,4 @@
+-- What is left to show of `FailingHostHost::write`.
 use Rattle.std.proofs.Common.{◌≡◌, ◌<◌, ◌≤◌, length, ap, ◌∙◌, arith}
 use Rattle.host_io.proofs.Parts.{writes_front_part}
 use Rattle.host_io.proofs.failing_host.FailingHostHost.write.Goals as goal

@@ -1,3 +1,4 @@
+-- What is left to show of `HostSinkSink::flush`.
 use Rattle.host_io.proofs.Kept.{rest_kept}
 use Rattle.host_io.proofs.host_sink.HostSinkSink.flush.Goals as goal
 

@@ -1,3 +1,4 @@
+-- What is left to show of `MemoryHostHost::create`.
 use Rattle.std.proofs.Common.{inr}
 use Rattle.host_io.proofs.Unopened.{opens_not}
 use Rattle.host_io.proofs.memory_host.MemoryHostHost.create.Goals as goal

@@ -1,3 +1,4 @@
+-- What is left to show of `MemoryHostHost::open_read`.
 use Rattle.std.proofs.Common.{inl}
 use Rattle.host_io.proofs.Unopened.{opens_not}
 use Rattle.host_io.proofs.memory_host.MemoryHostHost.open_read.Goals as goal

@@ -12,32 +12,39 @@ pub returns-in-None-clause-exact : goal.returns-in-None-clause-exact
 returns-in-None-clause-exact c just there =
     let found = c.cache_law.ensures.finds entry_of c.args.self.now.results c.len.ensures.bounded _ there in
     let own = tells_pair found.0 c.args.u c.args.v just found.2 in
-    let nothing = c.in-None.ensures.value ∙ subst (λ (key : Pair). lookup (same_pair key) c.args.self.now.results.entries ≡ Some found.0.1) own.0 found.1 in
+    let nothing = c.in-None.ensures.value ∙ subst (λ (key : Pair). lookup (same_pair key) c.args.self.now.results.entries
+    ≡ Some found.0.1) own.0 found.1 in
     cc
 
 pub returns-in-None-clause-looked : goal.returns-in-None-clause-looked
-returns-in-None-clause-looked c = c.cache_law.ensures.looked entry_of c.args.self.now.results c.look.new.self (c.args.u, c.args.v) c.look.ensures.entries
+returns-in-None-clause-looked c = c.cache_law.ensures.looked entry_of c.args.self.now.results c.look.new.self
+    (c.args.u, c.args.v) c.look.ensures.entries
 
 pub returns-in-None-clause-missed : goal.returns-in-None-clause-missed
 returns-in-None-clause-missed c none =
     ap (λ (results : Cache Pair ℕ). record c.args.self.now { results = results })
-    (c.cache_law.ensures.unchanged c.args.self.now.results c.look.new.self (c.args.u, c.args.v) c.look.ensures.entries (sym c.in-None.ensures.value))
+    (c.cache_law.ensures.unchanged c.args.self.now.results c.look.new.self (c.args.u, c.args.v) c.look.ensures.entries
+    (sym c.in-None.ensures.value))
 
 pub returns-in-None-clause-used : goal.returns-in-None-clause-used
-returns-in-None-clause-used c pairs used = c.cache_law.ensures.missed c.args.self.now.results pairs (c.args.u, c.args.v) used (sym c.in-None.ensures.value)
+returns-in-None-clause-used c pairs used = c.cache_law.ensures.missed c.args.self.now.results pairs (c.args.u, c.args.v) used
+    (sym c.in-None.ensures.value)
 
 pub returns-in-Some-clause-looked : goal.returns-in-Some-clause-looked
-returns-in-Some-clause-looked c = c.cache_law.ensures.looked entry_of c.args.self.now.results c.look.new.self (c.args.u, c.args.v) c.look.ensures.entries
+returns-in-Some-clause-looked c = c.cache_law.ensures.looked entry_of c.args.self.now.results c.look.new.self
+    (c.args.u, c.args.v) c.look.ensures.entries
 
 pub returns-in-Some-clause-found : goal.returns-in-Some-clause-found
 returns-in-Some-clause-found c = rw c.just_of.ensures ((returns-in-Some-clause-looked c).same.there _
-    (c.cache_law.ensures.found entry_of tells_pairs c.args.self.now.results (c.args.u, c.args.v) c.in-Some.number (sym c.in-Some.ensures.value)))
+    (c.cache_law.ensures.found entry_of tells_pairs c.args.self.now.results (c.args.u, c.args.v) c.in-Some.number
+    (sym c.in-Some.ensures.value)))
 
 pub returns-in-Some-clause-exact : goal.returns-in-Some-clause-exact
 returns-in-Some-clause-exact c just there =
     let found = c.cache_law.ensures.finds entry_of c.args.self.now.results c.len.ensures.bounded _ there in
     let own = tells_pair found.0 c.args.u c.args.v just found.2 in
-    let both = c.in-Some.ensures.value ∙ subst (λ (key : Pair). lookup (same_pair key) c.args.self.now.results.entries ≡ Some found.0.1) own.0 found.1 in
+    let both = c.in-Some.ensures.value ∙ subst (λ (key : Pair). lookup (same_pair key) c.args.self.now.results.entries
+    ≡ Some found.0.1) own.0 found.1 in
     let same : c.in-Some.number ≡ found.0.1 = cc in
     ap Some (c.just_of.ensures ∙ ap just_numbered same ∙ own.1)
 

@@ -1,3 +1,4 @@
+-- What the loops of `ImplyCache::purge` keep.
 use Rattle.std.proofs.Common.{◌≡◌, ◌≤◌, length}
 use Rattle.operations.specs.Turns.{HadTurns, HaveRetired}
 use Rattle.imply.specs.Cache.{entry_of}

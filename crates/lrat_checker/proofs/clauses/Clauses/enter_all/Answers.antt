@@ -25,11 +25,14 @@ returns c =
     let last = c.enter_far.new.holders in
     let kept = place_kept second last c.in_ok-enter_far.ensures.kept in
     let stands : (id : ℕ) → clause_at live id ≡ stands_at near far id = stands_live (stands_at near far) top c.self.invariant.beyond in
-    let found : option_copied c.near_clause.result ≡ near top = c.near_clause.ensures ∙ ap (λ l. near_at l top) c.as_slice-chunks.ensures.value in
-    let at_top : passes_at (is_entered last) top (near top) ≡ true = ap (passes_at (is_entered last) top) (sym found) ∙ kept top (option_copied c.near_clause.result) c.in_ok-enter_place.ensures.entered in
+    let found : option_copied c.near_clause.result ≡ near top = c.near_clause.ensures
+    ∙ ap (λ l. near_at l top) c.as_slice-chunks.ensures.value in
+    let at_top : passes_at (is_entered last) top (near top) ≡ true = ap (passes_at (is_entered last) top) (sym found)
+    ∙ kept top (option_copied c.near_clause.result) c.in_ok-enter_place.ensures.entered in
     let in_chunks : (id : ℕ) → id < c.saturating_mul-places.result → passes_at (is_entered last) id (near id) ≡ true =
     λ id lt. kept id (near id) (place_kept first second c.in_ok-enter_place.ensures.kept id (near id)
-    (ap (λ l. passes_at (is_entered first) id (near_at l id)) (sym c.as_slice-chunks.ensures.value) ∙ c.in_ok-enter_near.ensures.entered id lt)) in
+    (ap (λ l. passes_at (is_entered first) id (near_at l id)) (sym c.as_slice-chunks.ensures.value)
+    ∙ c.in_ok-enter_near.ensures.entered id lt)) in
     let near_entered : (id : ℕ) → passes_at (is_entered last) id (near id) ≡ true = λ id.
     elim (cases_lt id c.saturating_mul-places.result) [
       | inl lt ↦ in_chunks id lt
@@ -37,11 +40,13 @@ returns c =
         | inl same ↦ ap (λ k. passes_at (is_entered last) k (near k)) same ∙ at_top
         | inr other ↦ elim (cases_lt top id) [
           | inl beyond ↦ ap (passes_at (is_entered last) id) (near_none near far top id c.self.invariant beyond)
-          | inr within ↦ ap (passes_at (is_entered last) id) (near_beyond chunks id (omega (arith, le, within, other, c.saturating_mul-places.ensures, ap length c.as_slice-chunks.ensures.value)))
+          | inr within ↦ ap (passes_at (is_entered last) id) (near_beyond chunks id
+              (omega (arith, le, within, other, c.saturating_mul-places.ensures, ap length c.as_slice-chunks.ensures.value)))
         ]
       ]
     ] in
     let index : IsIndexOf last live = record {
-      found = λ id. ap (passes_at (is_entered last) id) (stands id) ∙ both_pass (is_entered last) id (near id) (far id) (near_entered id) (c.in_ok-enter_far.ensures.entered id);
+      found = λ id. ap (passes_at (is_entered last) id) (stands id)
+          ∙ both_pass (is_entered last) id (near id) (far id) (near_entered id) (c.in_ok-enter_far.ensures.entered id);
     } in
     rw (← c.self.view_is) index

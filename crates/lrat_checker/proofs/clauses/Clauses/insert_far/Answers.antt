@@ -1,3 +1,4 @@
+-- What is left to show of `Clauses::insert_far`.
 use Rattle.std.proofs.Common.{◌≡◌, ℕ, None, Some, nat_eq, refl, ◌∙◌, ap, arith}
 use Rattle.std.specs.Prelude.{if◌then◌else◌, ◌==◌}
 use Rattle.std.specs.HashMap.{get}
@@ -17,8 +18,11 @@ returns-clause-ok c =
     let top = c.self.inside.top in
     let top' = c.max-self-inside.result in
     let far_is : (n : ℕ) → far' n ≡ (if n == number then Some clause else far n) =
-    λ n. c.in_ok-insert.ensures.updates.0 n ∙ turned number n _ (far n) ∙ ap (λ l. if n == number then Some l else far n) c.in_ok-clause.ensures in
-    let after = stored_changed near far near' far' number None (Some clause) top top' c.self.invariant c.clear.ensures.places far_is (λ no. cc) (omega (arith, c.max-self-inside.ensures))
+    λ n. c.in_ok-insert.ensures.updates.0 n ∙ turned number n _ (far n)
+    ∙ ap (λ l. if n == number then Some l else far n) c.in_ok-clause.ensures in
+    let after = stored_changed near far near' far' number None (Some clause) top top' c.self.invariant c.clear.ensures.places far_is
+    (λ no. cc) (omega (arith, c.max-self-inside.ensures))
     (λ lt. absurd (omega (arith, lt, c.max-self-inside.ensures))) in
     live_inserted near far near' far' number None (Some clause) top top' c.self.invariant c.clear.ensures.places far_is after clause refl
-    ∙ ap (λ (live : Live). with_clause live number clause) c.self.view_is ∙ ap (λ n. with_clause c.args.self.now n clause) c.get-number.ensures
+    ∙ ap (λ (live : Live). with_clause live number clause) c.self.view_is
+    ∙ ap (λ n. with_clause c.args.self.now n clause) c.get-number.ensures

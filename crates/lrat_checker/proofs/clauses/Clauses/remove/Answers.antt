@@ -1,3 +1,4 @@
+-- What is left to show of `Clauses::remove`.
 use Rattle.std.proofs.Common.{◌≡◌, ℕ, None, true, nat_eq, is_some, refl, sym, ◌∙◌, ap, arith}
 use Rattle.std.specs.Prelude.{if◌then◌else◌, ◌==◌}
 use Rattle.std.specs.HashMap.{get}
@@ -16,8 +17,10 @@ returns-then-not-clear c =
     let near' = near_at c.clear.new.chunks.items in
     let far' = get nat_eq c.remove.new.self in
     let top = c.self.inside.top in
-    let far_is : (n : ℕ) → far' n ≡ (if n == number then None else far n) = λ n. c.remove.ensures.updates.0 n ∙ turned number n None (far n) in
-    let after = stored_changed near far near' far' number None None top top c.self.invariant c.clear.ensures.places far_is (λ _. refl) (omega arith) (λ _. refl) in
+    let far_is : (n : ℕ) → far' n ≡ (if n == number then None else far n) = λ n. c.remove.ensures.updates.0 n
+    ∙ turned number n None (far n) in
+    let after = stored_changed near far near' far' number None None top top c.self.invariant c.clear.ensures.places far_is (λ _. refl)
+    (omega arith) (λ _. refl) in
     let removed = live_removed near far near' far' number None None top top c.self.invariant c.clear.ensures.places far_is after refl in
     let is : c.match-remove.self ≡ _ =
     elim c.match-remove.branch [ in-Some-1 w ↦ w.self-is | in-None-1 w ↦ w.self-is ] in
@@ -32,6 +35,7 @@ returns-else-not-clear c =
     let top = c.self.inside.top in
     let some : is_some (near number) ≡ true = sym c.clear.ensures.taken ∙ c.if-not-clear.false in
     let far_is : (n : ℕ) → far n ≡ (if n == number then None else far n) = absent far number (c.self.invariant.apart number some) in
-    let after = stored_changed near far near' far number None None top top c.self.invariant c.clear.ensures.places far_is (λ _. refl) (omega arith) (λ _. refl) in
+    let after = stored_changed near far near' far number None None top top c.self.invariant c.clear.ensures.places far_is (λ _. refl)
+    (omega arith) (λ _. refl) in
     live_removed near far near' far number None None top top c.self.invariant c.clear.ensures.places far_is after refl
     ∙ ap (λ (live : Live). finmap.remove live number) c.self.view_is ∙ ap (finmap.remove c.args.self.now) c.get-number.ensures

@@ -1,3 +1,4 @@
+-- What the loops of `Counts::enter` keep.
 use Rattle.std.proofs.Common.{◌≡◌, ℤ, ◌+◌, take}
 use Rattle.lrat_checker.specs.Counts.{count_of, times_in}
 use Rattle.lrat_checker.proofs.counts.Counts.enter.Given as goal

@@ -1,3 +1,4 @@
+-- What the loops of `Holders::enter` keep.
 use Rattle.std.proofs.Common.{◌≡◌, true, take}
 use Rattle.lrat_checker.specs.Holders.{KeepsAll, is_entered}
 use Rattle.lrat_checker.proofs.holders.Holders.enter.Given as goal

@@ -1,3 +1,4 @@
+-- What the loops of `Holders::leave` keep.
 use Rattle.std.specs.FinMap as map
 use Rattle.lrat_checker.specs.Holders.{KeepsAllLive}
 use Rattle.lrat_checker.proofs.holders.Holders.leave.Given as goal

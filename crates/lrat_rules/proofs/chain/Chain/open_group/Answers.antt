@@ -1,3 +1,4 @@
+-- What is left to show of `Chain::open_group`.
 use Rattle.std.proofs.Common.{refl}
 use Rattle.lrat_rules.specs.FalseLiterals.{set_of}
 use Rattle.lrat_rules.proofs.chain.Chain.open_group.Goals as goal

@@ -18,33 +18,66 @@ use Rattle.lrat_text.proofs.reader.StepReader.read_on.Goals as goal
 use Rattle.lrat_text.proofs.reader.StepReader.read_on.Goals.{else-is_open-via-then-is_open+else-line, else-is_open-via-else-is_open}
 
 pub returns-then-line-clause-gives : goal.returns-then-line-clause-gives
-returns-then-line-clause-gives g c = let stands = Stands-same (c.in-None.ensures.none refl) (Stands-on c.tokens.invariant.stands c.in_ok-take_numbers.ensures.ok) in λ told.
-    let old : Reader = record { scan = c.next_into.new.self; draft = c.self.inside.draft; status = c.self.inside.status; line = c.self.inside.line } in
+returns-then-line-clause-gives g c = let stands = Stands-same (c.in-None.ensures.none refl)
+    (Stands-on c.tokens.invariant.stands c.in_ok-take_numbers.ensures.ok) in λ told.
+    let old : Reader = record {
+      scan = c.next_into.new.self;
+      draft = c.self.inside.draft;
+      status = c.self.inside.status;
+      line = c.self.inside.line;
+    } in
     let gives = rw c.in-Ok-true.field-0-test at (c.in-Ok-true.ensures.gives told) in
     let begun : is_open c.self.inside.draft ≡ true = sym c.is_open.ensures ∙ c.if-is_open.true in
     let differs : (c.self.inside.draft.line == c.next_into.new.token.line) ≡ false = grind (arith, nat_tests) in
-    call_gives (given c.give_before.new.step c.give_before.result) c.args.self.now c.number_of_another_line.new.self c.give_before.new.self c.requires (stands.same told) gives
-    (λ middle more q. rw (← c.self.view_is, q) (before_gives (given c.give_before.new.step c.give_before.result) c.next_into.new.token old c.give_before.new.self c.give_before.ensures begun differs more))
+    call_gives (given c.give_before.new.step c.give_before.result) c.args.self.now c.number_of_another_line.new.self c.give_before.new.self
+    c.requires (stands.same told) gives
+    (λ middle more q. rw (← c.self.view_is, q)
+    (before_gives (given c.give_before.new.step c.give_before.result) c.next_into.new.token old c.give_before.new.self
+    c.give_before.ensures begun differs more))
 
 pub returns-in-Ok-false-clause-gives : goal.returns-in-Ok-false-clause-gives
-returns-in-Ok-false-clause-gives g c = let stands = Stands-same (c.in-None.ensures.none refl) (Stands-on c.tokens.invariant.stands c.in_ok-take_numbers.ensures.ok) in λ told.
-    let old : Reader = record { scan = c.next_into.new.self; draft = c.self.inside.draft; status = c.self.inside.status; line = c.self.inside.line } in
+returns-in-Ok-false-clause-gives g c = let stands = Stands-same (c.in-None.ensures.none refl)
+    (Stands-on c.tokens.invariant.stands c.in_ok-take_numbers.ensures.ok) in λ told.
+    let old : Reader = record {
+      scan = c.next_into.new.self;
+      draft = c.self.inside.draft;
+      status = c.self.inside.status;
+      line = c.self.inside.line;
+    } in
     let gives = rw c.in-Ok-false.field-0-test at (c.in-Ok-false.ensures.gives told) in
     let end = c.give_at_end.ensures in
-    call_gives (given c.give_at_end.new.step c.give_at_end.result) c.args.self.now c.number_of_another_line.new.self c.give_at_end.new.self c.requires (stands.same told) gives
-    (λ middle more q. rw (← c.self.view_is, q.0) (end_gives (given c.give_at_end.new.step c.give_at_end.result) old c.give_at_end.new.self end.last (λ h. ap (given c.give_at_end.new.step) (end.ended h)) end.stopped more q.1))
+    call_gives (given c.give_at_end.new.step c.give_at_end.result) c.args.self.now c.number_of_another_line.new.self c.give_at_end.new.self
+    c.requires (stands.same told) gives
+    (λ middle more q. rw (← c.self.view_is, q.0)
+    (end_gives (given c.give_at_end.new.step c.give_at_end.result) old c.give_at_end.new.self end.last
+    (λ h. ap (given c.give_at_end.new.step) (end.ended h)) end.stopped more q.1))
 
 pub returns-in-Err-TooLong-clause-gives : goal.returns-in-Err-TooLong-clause-gives
-returns-in-Err-TooLong-clause-gives g c = let stands = Stands-same (c.in-None.ensures.none refl) (Stands-on c.tokens.invariant.stands c.in_ok-take_numbers.ensures.ok) in λ told.
-    let old : Reader = record { scan = c.next_into.new.self; draft = c.self.inside.draft; status = c.self.inside.status; line = c.self.inside.line } in
+returns-in-Err-TooLong-clause-gives g c = let stands = Stands-same (c.in-None.ensures.none refl)
+    (Stands-on c.tokens.invariant.stands c.in_ok-take_numbers.ensures.ok) in λ told.
+    let old : Reader = record {
+      scan = c.next_into.new.self;
+      draft = c.self.inside.draft;
+      status = c.self.inside.status;
+      line = c.self.inside.line;
+    } in
     let gives = rw c.in-Err-TooLong.field-0-is at (c.in-Err-TooLong.ensures.gives told) in
     let limit = c.give_at_limit.ensures in
-    call_gives (given c.give_at_limit.new.step c.give_at_limit.result) c.args.self.now c.number_of_another_line.new.self c.give_at_limit.new.self c.requires (stands.same told) gives
-    (λ middle more q. rw (← c.self.view_is, q.0) (limit_gives (given c.give_at_limit.new.step c.give_at_limit.result) old c.give_at_limit.new.self limit.last (λ h. ap (given c.give_at_limit.new.step) (limit.over h)) limit.stopped more q.1))
+    call_gives (given c.give_at_limit.new.step c.give_at_limit.result) c.args.self.now c.number_of_another_line.new.self
+    c.give_at_limit.new.self c.requires (stands.same told) gives
+    (λ middle more q. rw (← c.self.view_is, q.0)
+    (limit_gives (given c.give_at_limit.new.step c.give_at_limit.result) old c.give_at_limit.new.self limit.last
+    (λ h. ap (given c.give_at_limit.new.step) (limit.over h)) limit.stopped more q.1))
 
 pub tokens-preserved : goal.tokens-preserved
-tokens-preserved g c = let stands = Stands-same (c.in-None.ensures.none refl) (Stands-on c.tokens.invariant.stands c.in_ok-take_numbers.ensures.ok) in
-    let old : Reader = record { scan = c.next_into.new.self; draft = c.self.inside.draft; status = c.self.inside.status; line = c.self.inside.line } in
+tokens-preserved g c = let stands = Stands-same (c.in-None.ensures.none refl)
+    (Stands-on c.tokens.invariant.stands c.in_ok-take_numbers.ensures.ok) in
+    let old : Reader = record {
+      scan = c.next_into.new.self;
+      draft = c.self.inside.draft;
+      status = c.self.inside.status;
+      line = c.self.inside.line;
+    } in
     let joined : c.else-is_open.self ≡ old =
     elim c.else-is_open.branch [ else-is_open-via-then-is_open+else-line w ↦ w.self-is | else-is_open-via-else-is_open w ↦ w.self-is ] in
     let same : is_open c.self.inside.draft ≡ true → (c.self.inside.draft.line == c.next_into.new.token.line) ≡ true =
@@ -53,12 +86,19 @@ tokens-preserved g c = let stands = Stands-same (c.in-None.ensures.none refl) (S
       | else-is_open-via-else-is_open w ↦ λ h. cc
     ] in
     let moves = rw c.in-Ok-true.field-0-test at c.in-Ok-true.ensures.moves in
-    let taken : c.take.new.self ≡ record { scan = c.next_into.new.self; draft = with_token c.self.inside.draft c.next_into.new.token; status = c.self.inside.status; line = c.self.inside.line } =
+    let taken : c.take.new.self ≡ record {
+      scan = c.next_into.new.self;
+      draft = with_token c.self.inside.draft c.next_into.new.token;
+      status = c.self.inside.status;
+      line = c.self.inside.line;
+    } =
     c.in_ok-take-in-Ok-true.ensures.ok
-    ∙ ap (λ (r : Reader). record { scan = r.scan; draft = with_token r.draft c.next_into.new.token; status = r.status; line = r.line }) joined in
+    ∙ ap (λ (r : Reader). record { scan = r.scan; draft = with_token r.draft c.next_into.new.token; status = r.status; line = r.line })
+    joined in
     let small : open_count c.take.new.self.draft ≤ 1 = open_small c.take.new.self.draft in
     let after : fuel c.take.new.self.scan ≡ fuel c.next_into.new.self = ap (λ (r : Reader). fuel r.scan) taken in
-    let before : fuel c.self.inside.scanner ≡ fuel c.number_of_another_line.new.self.scan = ap (λ (r : Reader). fuel r.scan) c.self.view_is in
+    let before : fuel c.self.inside.scanner ≡ fuel c.number_of_another_line.new.self.scan = ap
+    (λ (r : Reader). fuel r.scan) c.self.view_is in
     let new_scanning : is_scanning c.take.new.self.scan.status ≡ true → is_scanning c.next_into.new.self.status ≡ true =
     λ reading. ap (λ (r : Reader). is_scanning r.scan.status) (sym taken) ∙ reading in
     let scanning : is_scanning c.take.new.self.scan.status ≡ true → is_scanning c.self.inside.scanner.status ≡ true =
@@ -69,17 +109,22 @@ tokens-preserved g c = let stands = Stands-same (c.in-None.ensures.none refl) (S
       stands = record {
         same = λ told.
             let gives = rw c.in-Ok-true.field-0-test at (c.in-Ok-true.ensures.gives told) in
-            Decides-then (λ bytes more. drafted (ahead c.args.self.now.scan bytes) c.args.self.now.draft ≡ drafted (ahead c.take.new.self.scan more) c.take.new.self.draft)
+            Decides-then (λ bytes more. drafted (ahead c.args.self.now.scan bytes) c.args.self.now.draft
+            ≡ drafted (ahead c.take.new.self.scan more) c.take.new.self.draft)
             (stands.same told) gives
-            (λ bytes middle more p q. p ∙ ap (λ (r : Reader). drafted (ahead r.scan middle) r.draft) (sym c.self.view_is) ∙ ap (λ is. drafted is c.self.inside.draft) q
-            ∙ token_goes c.self.inside.draft c.next_into.new.token (ahead c.next_into.new.self more) same ∙ ap (λ (r : Reader). drafted (ahead r.scan more) r.draft) (sym taken));
+            (λ bytes middle more p q. p ∙ ap (λ (r : Reader). drafted (ahead r.scan middle) r.draft) (sym c.self.view_is)
+            ∙ ap (λ is. drafted is c.self.inside.draft) q
+            ∙ token_goes c.self.inside.draft c.next_into.new.token (ahead c.next_into.new.self more) same
+            ∙ ap (λ (r : Reader). drafted (ahead r.scan more) r.draft) (sym taken));
         scanning = λ reading. stands.scanning (old_scanning reading);
         so_far = λ told reading.
             let token = rw c.in-Ok-true.field-0-test at (c.in-Ok-true.ensures.so_far told (scanning reading)) in
             let gives = c.in-Ok-true.ensures.gives told in
             front-then (so_far c.args.self.now) (so_far c.number_of_another_line.new.self) (so_far c.take.new.self)
             (stands.same told) gives (stands.so_far told (old_scanning reading))
-            (λ more. ap (λ (r : Reader). drafted (broken_off (scan_so_far r.scan (gained (g.S.Source.channel c.tokens.source) (g.S.Source.channel c.next_into.new.source) ++ more))) r.draft) (sym c.self.view_is)
+            (λ more. ap (λ (r : Reader). drafted (broken_off (scan_so_far r.scan
+            (gained (g.S.Source.channel c.tokens.source) (g.S.Source.channel c.next_into.new.source) ++ more))) r.draft)
+            (sym c.self.view_is)
             ∙ ap (λ is. drafted (broken_off is) c.self.inside.draft) (token (new_scanning reading) more)
             ∙ token_goes c.self.inside.draft c.next_into.new.token (broken_off (scan_so_far c.next_into.new.self more)) same
             ∙ ap (λ (r : Reader). drafted (broken_off (scan_so_far r.scan more)) r.draft) (sym taken));
@@ -93,45 +138,65 @@ tokens-preserved g c = let stands = Stands-same (c.in-None.ensures.none refl) (S
     }
 
 pub returns-in-Err-ReadFault-clause-gives : goal.returns-in-Err-ReadFault-clause-gives
-returns-in-Err-ReadFault-clause-gives g c = let stands = Stands-same (c.in-None.ensures.none refl) (Stands-on c.tokens.invariant.stands c.in_ok-take_numbers.ensures.ok) in λ told. Decides-then (λ bytes more. ⊤) (stands.same told) (c.in-Err-ReadFault.ensures.gives told) (λ bytes middle more p q. tt)
+returns-in-Err-ReadFault-clause-gives g c = let stands = Stands-same (c.in-None.ensures.none refl)
+    (Stands-on c.tokens.invariant.stands c.in_ok-take_numbers.ensures.ok) in
+    λ told. Decides-then (λ bytes more. ⊤) (stands.same told) (c.in-Err-ReadFault.ensures.gives told) (λ bytes middle more p q. tt)
 
 pub returns-then-line-clause-so_far : goal.returns-then-line-clause-so_far
-returns-then-line-clause-so_far g c = let stands = Stands-same (c.in-None.ensures.none refl) (Stands-on c.tokens.invariant.stands c.in_ok-take_numbers.ensures.ok) in λ told.
-    let old : Reader = record { scan = c.next_into.new.self; draft = c.self.inside.draft; status = c.self.inside.status; line = c.self.inside.line } in
+returns-then-line-clause-so_far g c = let stands = Stands-same (c.in-None.ensures.none refl)
+    (Stands-on c.tokens.invariant.stands c.in_ok-take_numbers.ensures.ok) in λ told.
+    let old : Reader = record {
+      scan = c.next_into.new.self;
+      draft = c.self.inside.draft;
+      status = c.self.inside.status;
+      line = c.self.inside.line;
+    } in
     let begun : is_open c.self.inside.draft ≡ true = sym c.is_open.ensures ∙ c.if-is_open.true in
     let differs : (c.self.inside.draft.line == c.next_into.new.token.line) ≡ false = grind (arith, nat_tests) in
     let inside : is_scanning c.next_into.new.self.status ≡ true → is_scanning c.self.inside.scanner.status ≡ true =
     λ reading. scanned c.self.inside.scanner c.next_into.new.self c.in-Ok-true.ensures.stopped_scanner reading in
     let scanning : is_scanning c.next_into.new.self.status ≡ true → is_scanning c.number_of_another_line.new.self.scan.status ≡ true =
     λ reading. ap (λ (r : Reader). is_scanning r.scan.status) (sym c.self.view_is) ∙ inside reading in
-    before_so_far (given c.give_before.new.step c.give_before.result) c.next_into.new.token c.args.self.now old c.give_before.new.self (gained (g.S.Source.channel c.args.source.now) (g.S.Source.channel c.next_into.new.source))
+    before_so_far (given c.give_before.new.step c.give_before.result) c.next_into.new.token c.args.self.now old c.give_before.new.self
+    (gained (g.S.Source.channel c.args.source.now) (g.S.Source.channel c.next_into.new.source))
     c.give_before.ensures begun differs (λ reading. stands.scanning (scanning reading)) (λ reading.
     let token = rw c.in-Ok-true.field-0-test at (c.in-Ok-true.ensures.so_far told (inside reading)) in
-    front-then (so_far c.args.self.now) (so_far c.number_of_another_line.new.self) (λ more. drafted (next_word c.next_into.new.token (broken_off (scan_so_far c.next_into.new.self more))) c.self.inside.draft)
+    front-then (so_far c.args.self.now) (so_far c.number_of_another_line.new.self)
+    (λ more. drafted (next_word c.next_into.new.token (broken_off (scan_so_far c.next_into.new.self more))) c.self.inside.draft)
     (stands.same told) (c.in-Ok-true.ensures.gives told) (stands.so_far told (scanning reading))
-    (λ more. ap (λ (r : Reader). drafted (broken_off (scan_so_far r.scan (gained (g.S.Source.channel c.tokens.source) (g.S.Source.channel c.next_into.new.source) ++ more))) r.draft) (sym c.self.view_is)
+    (λ more. ap (λ (r : Reader). drafted (broken_off (scan_so_far r.scan
+    (gained (g.S.Source.channel c.tokens.source) (g.S.Source.channel c.next_into.new.source) ++ more))) r.draft) (sym c.self.view_is)
     ∙ ap (λ is. drafted (broken_off is) c.self.inside.draft) (token reading more)))
 
 pub returns-in-Ok-false-clause-so_far : goal.returns-in-Ok-false-clause-so_far
-returns-in-Ok-false-clause-so_far g c = let stands = Stands-same (c.in-None.ensures.none refl) (Stands-on c.tokens.invariant.stands c.in_ok-take_numbers.ensures.ok) in λ told.
+returns-in-Ok-false-clause-so_far g c = let stands = Stands-same (c.in-None.ensures.none refl)
+    (Stands-on c.tokens.invariant.stands c.in_ok-take_numbers.ensures.ok) in λ told.
     let moves = rw c.in-Ok-false.field-0-test at c.in-Ok-false.ensures.moves in
-    let stopped : is_scanning c.give_at_end.new.self.scan.status ≡ false = ap (λ (s : Scan). is_scanning s.status) c.give_at_end.ensures.same_scan ∙ ap is_scanning moves in
-    stopped_so_far (given c.give_at_end.new.step c.give_at_end.result) c.args.self.now c.give_at_end.new.self _ stopped (λ e. c.give_at_end.ensures.unfailed (given_err c.give_at_end.new.step c.give_at_end.result ReadFault e))
+    let stopped : is_scanning c.give_at_end.new.self.scan.status
+    ≡ false = ap (λ (s : Scan). is_scanning s.status) c.give_at_end.ensures.same_scan ∙ ap is_scanning moves in
+    stopped_so_far (given c.give_at_end.new.step c.give_at_end.result) c.args.self.now c.give_at_end.new.self _ stopped
+    (λ e. c.give_at_end.ensures.unfailed (given_err c.give_at_end.new.step c.give_at_end.result ReadFault e))
 
 pub returns-in-Err-TooLong-clause-so_far : goal.returns-in-Err-TooLong-clause-so_far
-returns-in-Err-TooLong-clause-so_far g c = let stands = Stands-same (c.in-None.ensures.none refl) (Stands-on c.tokens.invariant.stands c.in_ok-take_numbers.ensures.ok) in λ told.
+returns-in-Err-TooLong-clause-so_far g c = let stands = Stands-same (c.in-None.ensures.none refl)
+    (Stands-on c.tokens.invariant.stands c.in_ok-take_numbers.ensures.ok) in λ told.
     let moves = rw c.in-Err-TooLong.field-0-is at c.in-Err-TooLong.ensures.moves in
-    let stopped : is_scanning c.give_at_limit.new.self.scan.status ≡ false = ap (λ (s : Scan). is_scanning s.status) c.give_at_limit.ensures.same_scan ∙ ap is_scanning moves in
-    stopped_so_far (given c.give_at_limit.new.step c.give_at_limit.result) c.args.self.now c.give_at_limit.new.self _ stopped (λ e. c.give_at_limit.ensures.unfailed (given_err c.give_at_limit.new.step c.give_at_limit.result ReadFault e))
+    let stopped : is_scanning c.give_at_limit.new.self.scan.status
+    ≡ false = ap (λ (s : Scan). is_scanning s.status) c.give_at_limit.ensures.same_scan ∙ ap is_scanning moves in
+    stopped_so_far (given c.give_at_limit.new.step c.give_at_limit.result) c.args.self.now c.give_at_limit.new.self _ stopped
+    (λ e. c.give_at_limit.ensures.unfailed (given_err c.give_at_limit.new.step c.give_at_limit.result ReadFault e))
 
 pub returns-in-Err-ReadFault-clause-so_far : goal.returns-in-Err-ReadFault-clause-so_far
-returns-in-Err-ReadFault-clause-so_far g c = let stands = Stands-same (c.in-None.ensures.none refl) (Stands-on c.tokens.invariant.stands c.in_ok-take_numbers.ensures.ok) in λ told.
+returns-in-Err-ReadFault-clause-so_far g c = let stands = Stands-same (c.in-None.ensures.none refl)
+    (Stands-on c.tokens.invariant.stands c.in_ok-take_numbers.ensures.ok) in λ told.
     let bytes : List ℕ = gained (g.S.Source.channel c.tokens.source) (g.S.Source.channel c.next_into.new.source) in
     let reading : c.self.inside.status ≡ Reading = ap (λ (r : Reader). r.status) c.self.view_is ∙ stands.status in
-    let failed : answer c.next_into.new.token c.next_into.result ≡ Err ScanFault = ap (answer c.next_into.new.token) (c.in-Err-ReadFault.is ∙ ap Err c.in-Err-ReadFault.field-0-is) in
+    let failed : answer c.next_into.new.token c.next_into.result
+    ≡ Err ScanFault = ap (answer c.next_into.new.token) (c.in-Err-ReadFault.is ∙ ap Err c.in-Err-ReadFault.field-0-is) in
     let inside : is_scanning c.self.inside.scanner.status ≡ true =
     scanned_fault c.self.inside.scanner (c.self.invariant reading) (λ stopped. sym (c.next_into.ensures.stopped_answer stopped) ∙ failed) in
-    let scanning : is_scanning c.number_of_another_line.new.self.scan.status ≡ true = ap (λ (r : Reader). is_scanning r.scan.status) (sym c.self.view_is) ∙ inside in
+    let scanning : is_scanning c.number_of_another_line.new.self.scan.status
+    ≡ true = ap (λ (r : Reader). is_scanning r.scan.status) (sym c.self.view_is) ∙ inside in
     let none = rw c.in-Err-ReadFault.field-0-is at (c.in-Err-ReadFault.ensures.so_far told inside) in (
       stands.scanning scanning,
       ap (so_far c.args.self.now) (gained-then (stands.same told) (c.in-Err-ReadFault.ensures.gives told))
@@ -147,14 +212,20 @@ returns-in-Some-clause-gives g c = λ told.
     let begins = c.in-Some.ensures.some in
     let settles = rw (read_back c.in-Some.number begins.took.small) at c.give_before_number.ensures in
     let answered = given c.give_before_number.new.step c.give_before_number.result in
-    call_gives answered c.args.self.now c.take_numbers.new.self c.give_before_number.new.self c.requires (stands.same told) (Decides-none (g.S.Source.channel c.tokens.source) (λ bytes more. bytes ≡ more) (λ more. refl))
-    (λ middle more q. subst (λ bytes. Gives answered c.give_before_number.new.self.line (drafted (ahead c.take_numbers.new.self.scan bytes) c.take_numbers.new.self.draft) (steps_ahead c.give_before_number.new.self more)) (sym q)
-    (number_gives c.in-Some.number c.take_numbers.new.self c.number_of_another_line.new.self c.give_before_number.new.self begins answered settles more))
+    call_gives answered c.args.self.now c.take_numbers.new.self c.give_before_number.new.self c.requires (stands.same told)
+    (Decides-none (g.S.Source.channel c.tokens.source) (λ bytes more. bytes ≡ more) (λ more. refl))
+    (λ middle more q. subst (λ bytes. Gives answered c.give_before_number.new.self.line
+    (drafted (ahead c.take_numbers.new.self.scan bytes) c.take_numbers.new.self.draft) (steps_ahead c.give_before_number.new.self more))
+    (sym q)
+    (number_gives c.in-Some.number c.take_numbers.new.self c.number_of_another_line.new.self c.give_before_number.new.self begins answered
+    settles more))
 
 pub returns-in-Some-clause-so_far : goal.returns-in-Some-clause-so_far
 returns-in-Some-clause-so_far g c = λ told.
     let stands = Stands-on c.tokens.invariant.stands c.in_ok-take_numbers.ensures.ok in
     let begins = c.in-Some.ensures.some in
     let settles = rw (read_back c.in-Some.number begins.took.small) at c.give_before_number.ensures in
-    number_so_far c.in-Some.number c.take_numbers.new.self c.number_of_another_line.new.self c.give_before_number.new.self begins (given c.give_before_number.new.step c.give_before_number.result) settles
-    c.args.self.now (gained (g.S.Source.channel c.args.source.now) (g.S.Source.channel c.tokens.source)) stands.scanning (stands.so_far told)
+    number_so_far c.in-Some.number c.take_numbers.new.self c.number_of_another_line.new.self c.give_before_number.new.self begins
+    (given c.give_before_number.new.step c.give_before_number.result) settles
+    c.args.self.now (gained (g.S.Source.channel c.args.source.now) (g.S.Source.channel c.tokens.source)) stands.scanning
+    (stands.so_far told)

@@ -7,8 +7,18 @@ use Rattle.lrat_text.proofs.reader.StepReader.take_numbers.Goals as goal
 
 pub numbers-preserved : goal.numbers-preserved
 numbers-preserved c =
-    let old : Reader = record { scan = c.self-in-numbers.inside.scanner; draft = c.self-in-numbers.inside.draft; status = c.self-in-numbers.inside.status; line = c.self-in-numbers.inside.line } in
-    let new : Reader = record { scan = c.number_on.new.self; draft = c.take_number.new.self; status = c.self-in-numbers.inside.status; line = c.self-in-numbers.inside.line } in
+    let old : Reader = record {
+      scan = c.self-in-numbers.inside.scanner;
+      draft = c.self-in-numbers.inside.draft;
+      status = c.self-in-numbers.inside.status;
+      line = c.self-in-numbers.inside.line;
+    } in
+    let new : Reader = record {
+      scan = c.number_on.new.self;
+      draft = c.take_number.new.self;
+      status = c.self-in-numbers.inside.status;
+      line = c.self-in-numbers.inside.line;
+    } in
     let begun : is_open old.draft ≡ true = ap (λ (r : Reader). is_open r.draft) c.self-in-numbers.view_is ∙ c.numbers.invariant.begun
     ∙ ap (λ (r : Reader). is_open r.draft) (sym c.self.view_is) ∙ sym c.is_open.ensures ∙ c.if-not-is_open.false in
     let took = rw c.line.ensures at c.in-Some.ensures.took in

@@ -1,3 +1,4 @@
+-- What is left to show of `Diagram::branch_at`.
 use Rattle.std.proofs.Common.{Option, Some, sym, ◌∙◌, ap}
 use Rattle.std.specs.Option.{option_map}
 use Rattle.node_table.specs.declared.stored.StoredNode.{StoredNode}

@@ -1,3 +1,4 @@
+-- What is left to show of `Diagram::len`.
 use Rattle.std.proofs.Common.{sym, ◌∙◌, ap}
 use Rattle.std.specs.FinMap as map
 use Rattle.node_table.specs.Diagram.{Graph}

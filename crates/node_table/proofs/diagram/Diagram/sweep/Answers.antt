@@ -1,3 +1,4 @@
+-- What is left to show of `Diagram::sweep`.
 use Rattle.std.proofs.Common.{◌≡◌, ◌+◌, ℕ, Bool, List, ◌++◌, length, ap, sym, subst, ◌∙◌, arith}
 use Rattle.std.specs.Prelude.{nat_eq, IsPermutation}
 use Rattle.std.specs.FinMap as map
@@ -23,10 +24,13 @@ sort_falling-requires c =
     (distinct_free c.self.invariant.1 (apart_reduced inside.order.items inside.nodes c.self.invariant.0.reduced) c.by_key.result.now)
 
 kept : (c : goal.After-rebuild) → KeepsMarked c.args.marks.now c.self.inside.nodes c.remove_unmarked-count.new.nodes
-kept c = subst (λ (marks : List Bool). KeepsMarked marks c.self.inside.nodes c.remove_unmarked-count.new.nodes) c.by_key.ensures c.remove_unmarked-count.ensures.kept
+kept c = subst (λ (marks : List Bool). KeepsMarked marks c.self.inside.nodes c.remove_unmarked-count.new.nodes) c.by_key.ensures
+    c.remove_unmarked-count.ensures.kept
 
-given : (c : goal.After-rebuild) → c.remove_unmarked-count.new.freed.items ≡ c.self.inside.free.items ++ freed c.args.marks.now c.self.inside.nodes
-given c = c.remove_unmarked-count.ensures.freed ∙ ap (λ (marks : List Bool). c.self.inside.free.items ++ freed marks c.self.inside.nodes) c.by_key.ensures
+given : (c : goal.After-rebuild) → c.remove_unmarked-count.new.freed.items ≡ c.self.inside.free.items
+    ++ freed c.args.marks.now c.self.inside.nodes
+given c = c.remove_unmarked-count.ensures.freed ∙ ap (λ (marks : List Bool). c.self.inside.free.items
+    ++ freed marks c.self.inside.nodes) c.by_key.ensures
 
 pub rebuild-requires-clause-room : goal.rebuild-requires-clause-room
 rebuild-requires-clause-room c =
@@ -42,13 +46,23 @@ invariant_of-self c =
     let permutation : IsPermutation (inside.free.items ++ freed marks inside.nodes) sorted =
     subst (λ (list : List ℕ). IsPermutation list sorted) (c.as_mut_slice.ensures.value ∙ given c) c.sort_falling.ensures.permutation in
     let many = length_permutation c.as_mut_slice.result.now sorted c.sort_falling.ensures.permutation in
-    let list : items.items ≡ sorted = with_items_is removed.new.freed sorted (omega (arith, many, ap length c.as_mut_slice.ensures.value, removed.new.freed.ok.0)) in
+    let list : items.items ≡ sorted = with_items_is removed.new.freed sorted
+    (omega (arith, many, ap length c.as_mut_slice.ensures.value, removed.new.freed.ok.0)) in
     let fewer : slab_len removed.new.nodes + length (freed marks inside.nodes) ≡ slab_len inside.nodes =
-    omega (arith, removed.ensures.count, removed.ensures.added, ap length (given c), length-append inside.free.items (freed marks inside.nodes)) in (
-      IsStored-swept marks inside.nodes removed.new.nodes (kept c) inside.order.items inside.places.items inside.index c.rebuild.new.self c.self.invariant.0
+    omega (
+      arith,
+      removed.ensures.count,
+      removed.ensures.added,
+      ap length (given c),
+      length-append inside.free.items (freed marks inside.nodes),
+    ) in (
+      IsStored-swept marks inside.nodes removed.new.nodes (kept c) inside.order.items inside.places.items inside.index c.rebuild.new.self
+          c.self.invariant.0
           (subst (λ (g : Graph). AreMarks g marks) (sym c.self.view_is) c.requires.marks) removed.ensures.fewer c.rebuild.ensures,
       subst (λ (l : List ℕ). HasVariables (length inside.order.items) inside.next l removed.new.freed.cap removed.new.nodes) (sym list)
-          (HasVariables-swept c.self.invariant.1 (apart_reduced inside.order.items inside.nodes c.self.invariant.0.reduced) marks sorted removed.new.nodes (kept c) permutation c.sort_falling.ensures.falling fewer removed.new.freed.cap (omega (arith, removed.ensures.capacity))),
+          (HasVariables-swept c.self.invariant.1 (apart_reduced inside.order.items inside.nodes c.self.invariant.0.reduced) marks sorted
+          removed.new.nodes (kept c) permutation c.sort_falling.ensures.falling fewer removed.new.freed.cap
+          (omega (arith, removed.ensures.capacity))),
     )
 
 pub returns-clause-swept : goal.returns-clause-swept

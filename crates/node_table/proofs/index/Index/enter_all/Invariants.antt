@@ -1,3 +1,4 @@
+-- What the loops of `Index::enter_all` keep.
 use Rattle.std.proofs.Common.{length}
 use Rattle.node_table.proofs.IndexKeys.{IsPartOf}
 use Rattle.node_table.proofs.index.Index.enter_all.Given as goal

@@ -1,3 +1,4 @@
+-- What the loops of `Index::find` keep.
 use Rattle.node_table.proofs.IndexKeys.{IsPassed}
 use Rattle.node_table.proofs.index.Index.find.Given as goal
 

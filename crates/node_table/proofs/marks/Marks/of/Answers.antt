@@ -1,11 +1,15 @@
-use Rattle.std.proofs.Common.{◌≡◌, ◌+◌, ◌-◌, ◌++◌, ℕ, Bool, false, List, [], length, get_or, take, replicate, None, true, rules, sym, ap, ◌∙◌, subst, arith}
+-- What is left to show of `Marks::of`.
+use Rattle.std.proofs.Common.{◌≡◌, ◌+◌, ◌-◌, ◌++◌, ℕ, Bool, false, List, [], length, get_or, take, replicate, None, true, rules, sym, ap}
+use Rattle.std.proofs.Common.{◌∙◌, subst, arith}
 use Rattle.std.proofs.lemmas.List.{nil_from_length, take_all, take_more}
 use Rattle.std.proofs.lemmas.List.Elements.{Contains-get_or}
 use Rattle.node_table.specs.declared.node.Node.{Node}
 use Rattle.node_table.specs.declared.node.Node.TheVariants.{False}
 use Rattle.node_table.specs.Diagram.{Graph, branch_at, is_node}
 use Rattle.node_table.specs.Marking.{Marking, marking, with_node}
-use Rattle.node_table.proofs.Marked.{AreMarked, AreMarked-more, AreMarks-from, AreReached-from, IsMarking, IsMarking-node, IsMarking-start, IsMarking-step, has_mark, have_marks, left-less, root_is_reached, with_children-stays, with_node-marks, with_node-stays}
+use Rattle.node_table.proofs.Marked.{AreMarked, AreMarked-more, AreMarks-from, AreReached-from, IsMarking, IsMarking-node, IsMarking-start}
+use Rattle.node_table.proofs.Marked.{IsMarking-step, has_mark, have_marks, left-less, root_is_reached, with_children-stays, with_node-marks}
+use Rattle.node_table.proofs.Marked.{with_node-stays}
 use Rattle.node_table.proofs.marks.Marks.of.Goals as goal
 
 all_false : (count : ℕ) (items : List Bool) (len : ℕ) → items ≡ [] → len ≡ 0
@@ -24,14 +28,16 @@ roots-init c =
     let marks : c.resize.new.self.items ≡ replicate c.key_end.result false =
     filled ∙ all_false c.key_end.result c.new-marked.result.items _ c.new-marked.ensures.items c.new-marked.ensures.len in
     record {
-      known = subst (IsMarking graph roots None) (λ i. marking (sym marks i) (sym c.new-waiting.ensures.items i)) (IsMarking-start graph roots c.key_end.result c.key_end.ensures);
+      known = subst (IsMarking graph roots None) (λ i. marking (sym marks i) (sym c.new-waiting.ensures.items i))
+          (IsMarking-start graph roots c.key_end.result c.key_end.ensures);
       roots = λ node among. absurd (omega (arith, among.1));
     }
 
 pub mark_node-requires : goal.mark_node-requires
 mark_node-requires c =
     let roots = c.args.roots.now in
-    has_mark c.args.diagram.now roots None (marking c.roots.marked.items c.roots.waiting.items) c.roots.invariant.known (get_or roots c.roots.root-index False)
+    has_mark c.args.diagram.now roots None (marking c.roots.marked.items c.roots.waiting.items) c.roots.invariant.known
+    (get_or roots c.roots.root-index False)
     (c.requires.roots _ (Contains-get_or roots c.roots.root-index False c.roots-test.true))
 
 pub roots-preserved : goal.roots-preserved
@@ -48,9 +54,11 @@ roots-preserved c =
     let made = c.in_ok-mark_node.ensures in
     let all : AreMarked (with_node root now).marks (take (index + 1) roots) =
     subst (AreMarked (with_node root now).marks) (sym (take_more roots index False c.roots-test.true))
-    (AreMarked-more (with_node root now).marks (take index roots) root (λ node is. with_node-stays root now has node (c.roots.invariant.roots node is)) (with_node-marks root now has)) in
+    (AreMarked-more (with_node root now).marks (take index roots) root
+    (λ node is. with_node-stays root now has node (c.roots.invariant.roots node is)) (with_node-marks root now has)) in
     record {
-      known = subst (IsMarking graph roots None) (sym made) (IsMarking-node graph roots None now known root stands (root_is_reached graph roots root among));
+      known = subst (IsMarking graph roots None) (sym made) (IsMarking-node graph roots None now known root stands
+          (root_is_reached graph roots root among));
       roots = subst (λ (m : Marking). AreMarked m.marks (take (index + 1) roots)) (sym made) all;
     }
 
@@ -62,12 +70,14 @@ nodes-init c = record {
 
 pub mark_children-requires : goal.mark_children-requires
 mark_children-requires c =
-    have_marks c.args.diagram.now c.args.roots.now c.diagram_law.ensures.reduced None (marking c.nodes.marked.items c.nodes.waiting.items) c.nodes.invariant.known c.in-Some.key
+    have_marks c.args.diagram.now c.args.roots.now c.diagram_law.ensures.reduced None
+    (marking c.nodes.marked.items c.nodes.waiting.items) c.nodes.invariant.known c.in-Some.key
 
 pub nodes-smaller : goal.nodes-smaller
 nodes-smaller c =
     let graph = c.args.diagram.now in
-    let has = have_marks graph c.args.roots.now c.diagram_law.ensures.reduced None (marking c.nodes.marked.items c.nodes.waiting.items) c.nodes.invariant.known c.in-Some.key in
+    let has = have_marks graph c.args.roots.now c.diagram_law.ensures.reduced None
+    (marking c.nodes.marked.items c.nodes.waiting.items) c.nodes.invariant.known c.in-Some.key in
     left-less c.nodes.marked.items c.nodes.waiting.items c.pop.new.self.items c.in-Some.key (branch_at graph c.in-Some.key)
     (marking c.mark_children.new.marked.items c.mark_children.new.waiting.items) c.in-Some.ensures.items has c.in_ok-mark_children.ensures
 
@@ -83,15 +93,18 @@ nodes-preserved c =
     let made = c.in_ok-mark_children.ensures in
     record {
       known = subst (IsMarking graph roots None) (sym made)
-          (IsMarking-step graph roots reduced marks c.pop.new.self.items key (subst (λ (waits : List ℕ). IsMarking graph roots None (marking marks waits)) c.in-Some.ensures.items known));
+          (IsMarking-step graph roots reduced marks c.pop.new.self.items key
+          (subst (λ (waits : List ℕ). IsMarking graph roots None (marking marks waits)) c.in-Some.ensures.items known));
       roots = subst (λ (m : Marking). AreMarked m.marks roots) (sym made)
-          (λ node is. with_children-stays (branch_at graph key) (marking marks c.pop.new.self.items) has node (c.nodes.invariant.roots node is));
+          (λ node is. with_children-stays (branch_at graph key) (marking marks c.pop.new.self.items) has node
+          (c.nodes.invariant.roots node is));
     }
 
 -- in the end no key waits
 ended : (graph : Graph) (roots : List Node) (marks : List Bool) (waits : List ℕ) → length waits ≡ 0
     → IsMarking graph roots None (marking marks waits) → IsMarking graph roots None (marking marks [])
-ended graph roots marks waits none known = subst (λ (list : List ℕ). IsMarking graph roots None (marking marks list)) (nil_from_length waits none) known
+ended graph roots marks waits none known = subst (λ (list : List ℕ). IsMarking graph roots None (marking marks list))
+    (nil_from_length waits none) known
 
 pub returns-clause-reached : goal.returns-clause-reached
 returns-clause-reached c =

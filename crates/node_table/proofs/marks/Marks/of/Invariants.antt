@@ -1,3 +1,4 @@
+-- What the loops of `Marks::of` keep.
 use Rattle.std.proofs.Common.{take, None}
 use Rattle.node_table.specs.Marking.{marking}
 use Rattle.node_table.proofs.Marked.{IsMarking, AreMarked, left}

@@ -1,3 +1,4 @@
+-- What is left to show of `Table::justify`.
 use Rattle.std.proofs.Common.{◌∙◌, ◌+◌, ℕ, List, Option, Some, Contains, is_some, sym, ap, subst}
 use Rattle.std.specs.Prelude.{vec_capacity}
 use Rattle.lrat_rules.specs.State.{State, clause_at}
@@ -29,8 +30,10 @@ invariant_of-self-in-Ok g c =
       c.self.invariant.0,
       c.self.invariant.1,
       λ _.
-          subst (λ (s : State). HavePlaces inside.diagram s.live inside.inputs (inside.places + 1) (vec_capacity c.reserve_place.new.retired)) (sym c.in-Ok.ensures.added.1)
-          (HavePlaces-next inside.diagram inside.ledger.state c.args.clause.now inside.inputs inside.places (vec_capacity inside.retired) (vec_capacity c.reserve_place.new.retired)
+          subst (λ (s : State). HavePlaces inside.diagram s.live inside.inputs (inside.places
+          + 1) (vec_capacity c.reserve_place.new.retired)) (sym c.in-Ok.ensures.added.1)
+          (HavePlaces-next inside.diagram inside.ledger.state c.args.clause.now inside.inputs inside.places (vec_capacity inside.retired)
+          (vec_capacity c.reserve_place.new.retired)
           c.reserve_place.ensures.no_less c.in_ok-reserve_place.ensures.room (c.self.invariant.2 is.in_step)),
       c.self.invariant.3,
     )
@@ -40,25 +43,31 @@ returns-in-Ok-clause-own g c =
     let inside = c.self.inside in
     let is = sound g (goal.at.returns-in-Ok-clause-own g c).After-add in
     subst (λ (s : State). IsAdded inside.diagram s.live inside.inputs c.in-Ok.id) (sym c.in-Ok.ensures.added.1)
-    (subst (IsAdded inside.diagram _ inside.inputs) (sym c.in-Ok.ensures.added.0) (added_next inside.diagram inside.ledger.state is.tied inside.inputs is.inputs c.args.clause.now))
+    (subst (IsAdded inside.diagram _ inside.inputs) (sym c.in-Ok.ensures.added.0)
+    (added_next inside.diagram inside.ledger.state is.tied inside.inputs is.inputs c.args.clause.now))
 
 pub returns-in-Ok-clause-unretired : goal.returns-in-Ok-clause-unretired
 returns-in-Ok-clause-unretired g c among =
     let inside = c.self.inside in
     let is = sound g (goal.at.returns-in-Ok-clause-unretired g c).After-add in
-    let there : Contains inside.retired.items c.in-Ok.id = subst (λ (ids : List ℕ). Contains ids c.in-Ok.id) c.reserve_place.ensures.items among in
-    not_next inside.diagram inside.ledger.state is.tied (ap (λ (n : ℕ). is_some (clause_at inside.ledger.state.live n)) (sym c.in-Ok.ensures.added.0) ∙ (is.retired.each c.in-Ok.id there).stands)
+    let there : Contains inside.retired.items c.in-Ok.id = subst
+    (λ (ids : List ℕ). Contains ids c.in-Ok.id) c.reserve_place.ensures.items among in
+    not_next inside.diagram inside.ledger.state is.tied (ap (λ (n : ℕ). is_some (clause_at inside.ledger.state.live n))
+    (sym c.in-Ok.ensures.added.0) ∙ (is.retired.each c.in-Ok.id there).stands)
 
 -- the steps, as the ledger answered
 steps : (g : Over) (c : After-add g)
     → Steps g.S.Sink.tells (g.S.Sink.channel c.args.self.now.book.sink) (g.S.Sink.channel c.add.new.self.sink) c.args.self.now
-    (table_of (record { max_nodes = c.self.inside.max_nodes; inputs = c.self.inside.inputs; retired = c.reserve_place.new.retired.items }) c.self.inside.diagram c.add.new.self) 1 (told c.add.result)
+    (table_of (record { max_nodes = c.self.inside.max_nodes; inputs = c.self.inside.inputs; retired = c.reserve_place.new.retired.items })
+    c.self.inside.diagram c.add.new.self) 1 (told c.add.result)
 steps g c =
     let inside = c.self.inside in
     let new = c.add.new.self in
-    let over : IsOverNodes inside.diagram c.args.clause.now = subst {A = TableState g.row.S.Denot} (λ t. IsOverNodes t.graph c.args.clause.now) (sym c.self.view_is) c.requires.over_nodes in
+    let over : IsOverNodes inside.diagram c.args.clause.now = subst {A = TableState g.row.S.Denot}
+    (λ t. IsOverNodes t.graph c.args.clause.now) (sym c.self.view_is) c.requires.over_nodes in
     let own = c.add.ensures in
-    let answers : Answers g.S.Sink.tells g.S.Sink.channel inside.ledger new c.args.clause.now (next_line inside.ledger.state c.args.clause.now c.args.hints.now) c.add.result = record {
+    let answers : Answers g.S.Sink.tells g.S.Sink.channel inside.ledger new c.args.clause.now
+    (next_line inside.ledger.state c.args.clause.now c.args.hints.now) c.add.result = record {
       added = own.added;
       kept = own.kept;
       in_step = own.in_step;
@@ -73,23 +82,30 @@ steps g c =
       unfailed = own.unfailed;
       only_writes = own.only_writes;
     } in
-    let all = justify_steps g.S.Sink.tells g.S.Sink.channel (aside g c) inside.diagram inside.ledger new c.args.clause.now _ (sound g c) over c.self.invariant.1 c.marks_law.ensures.fewer c.add.result answers in
+    let all = justify_steps g.S.Sink.tells g.S.Sink.channel (aside g c) inside.diagram inside.ledger new c.args.clause.now _
+    (sound g c) over c.self.invariant.1 c.marks_law.ensures.fewer c.add.result answers in
     subst (λ (ids : List ℕ). Steps g.S.Sink.tells (g.S.Sink.channel c.args.self.now.book.sink) (g.S.Sink.channel new.sink) c.args.self.now
-    (table_of (record { max_nodes = inside.max_nodes; inputs = inside.inputs; retired = ids }) inside.diagram new) 1 (told c.add.result)) (sym c.reserve_place.ensures.items)
-    (subst {A = TableState g.row.S.Denot} (λ t. Steps g.S.Sink.tells (g.S.Sink.channel t.book.sink) (g.S.Sink.channel new.sink) t (table_of (aside g c) inside.diagram new) 1 (told c.add.result)) c.self.view_is all)
+    (table_of (record { max_nodes = inside.max_nodes; inputs = inside.inputs; retired = ids }) inside.diagram new) 1 (told c.add.result))
+    (sym c.reserve_place.ensures.items)
+    (subst {A = TableState g.row.S.Denot} (λ t. Steps g.S.Sink.tells (g.S.Sink.channel t.book.sink) (g.S.Sink.channel new.sink) t
+    (table_of (aside g c) inside.diagram new) 1 (told c.add.result)) c.self.view_is all)
 
 pub returns-in-Ok-clause-steps : goal.returns-in-Ok-clause-steps
 returns-in-Ok-clause-steps g c =
     let inside = c.self.inside in
     let new = c.add.new.self in
-    subst (λ (e : Option TableError). Steps g.S.Sink.tells (g.S.Sink.channel c.args.self.now.book.sink) (g.S.Sink.channel new.sink) c.args.self.now
-    (table_of (record { max_nodes = inside.max_nodes; inputs = inside.inputs; retired = c.reserve_place.new.retired.items }) inside.diagram new) 1 e) (ap told c.in-Ok.is)
+    subst (λ (e : Option TableError). Steps g.S.Sink.tells (g.S.Sink.channel c.args.self.now.book.sink)
+    (g.S.Sink.channel new.sink) c.args.self.now
+    (table_of (record { max_nodes = inside.max_nodes; inputs = inside.inputs; retired = c.reserve_place.new.retired.items }) inside.diagram
+    new) 1 e) (ap told c.in-Ok.is)
     (steps g (goal.at.returns-in-Ok-clause-steps g c).After-add)
 
 pub returns-in-Err-clause-steps : goal.returns-in-Err-clause-steps
 returns-in-Err-clause-steps g c =
     let inside = c.self.inside in
     let new = c.add.new.self in
-    subst (λ (e : Option TableError). Steps g.S.Sink.tells (g.S.Sink.channel c.args.self.now.book.sink) (g.S.Sink.channel new.sink) c.args.self.now
-    (table_of (record { max_nodes = inside.max_nodes; inputs = inside.inputs; retired = c.reserve_place.new.retired.items }) inside.diagram new) 1 e) (ap told c.in-Err.is ∙ ap Some (sym c.from.ensures))
+    subst (λ (e : Option TableError). Steps g.S.Sink.tells (g.S.Sink.channel c.args.self.now.book.sink)
+    (g.S.Sink.channel new.sink) c.args.self.now
+    (table_of (record { max_nodes = inside.max_nodes; inputs = inside.inputs; retired = c.reserve_place.new.retired.items }) inside.diagram
+    new) 1 e) (ap told c.in-Err.is ∙ ap Some (sym c.from.ensures))
     (steps g (goal.at.returns-in-Err-clause-steps g c).After-add)

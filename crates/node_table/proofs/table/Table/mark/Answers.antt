@@ -1,3 +1,4 @@
+-- What is left to show of `Table::mark`.
 use Rattle.std.proofs.Common.{◌∙◌, ap}
 use Rattle.node_table.specs.Diagram.{is_node}
 use Rattle.node_table.specs.Table.{TableState}

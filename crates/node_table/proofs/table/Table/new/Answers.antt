@@ -1,3 +1,4 @@
+-- What is left to show of `Table::new`.
 use Rattle.std.proofs.Common.{◌≡◌, ℤ, List, Option, Some, None, is_some, true, false, nat_cmp, refl, ap, arith}
 use Rattle.std.specs.Prelude.{vec_capacity}
 use Rattle.std.specs.FinMap as map

@@ -1,3 +1,4 @@
+-- What is left to show of `Table::node`.
 use Rattle.std.proofs.Common.{refl, inl}
 use Rattle.node_table.proofs.Outcome.{outcome_children, outcome_given}
 use Rattle.node_table.proofs.Progressed.{Steps-none}
@@ -5,10 +6,12 @@ use Rattle.node_table.specs.HandedOn.{no_error}
 use Rattle.node_table.proofs.table.Table.node.Goals as goal
 
 pub returns-clause-children : goal.returns-clause-children
-returns-clause-children g c = outcome_children c.args.self.now c.make.new.self c.args.level c.args.high c.args.low _ c.make.result c.make.ensures.made
+returns-clause-children g c = outcome_children c.args.self.now c.make.new.self c.args.level c.args.high c.args.low _ c.make.result
+    c.make.ensures.made
 
 pub returns-clause-given : goal.returns-clause-given
-returns-clause-given g c whole = outcome_given c.args.self.now c.make.new.self c.args.level c.args.high c.args.low _ c.make.result c.make.ensures.made c.make.ensures.refused whole
+returns-clause-given g c whole = outcome_given c.args.self.now c.make.new.self c.args.level c.args.high c.args.low _ c.make.result
+    c.make.ensures.made c.make.ensures.refused whole
 
 pub returns-clause-steps : goal.returns-clause-steps
 returns-clause-steps g c = c.make.ensures.steps
@@ -29,7 +32,8 @@ pub returns-clause-torn : goal.returns-clause-torn
 returns-clause-torn g c = c.make.ensures.torn
 
 pub returns-then-same_node-clause-steps : goal.returns-then-same_node-clause-steps
-returns-then-same_node-clause-steps g c = Steps-none g.S.Sink.tells (g.S.Sink.channel c.args.self.now.book.sink) c.args.self.now c.requires.sound
+returns-then-same_node-clause-steps g c = Steps-none g.S.Sink.tells
+    (g.S.Sink.channel c.args.self.now.book.sink) c.args.self.now c.requires.sound
 
 pub returns-then-same_node-clause-only : goal.returns-then-same_node-clause-only
 returns-then-same_node-clause-only g c key b at = inl at

@@ -1,3 +1,4 @@
+-- What is left to show of `Table::settle`.
 use Rattle.std.proofs.Common.{◌≡◌, ◌∙◌, ◌-◌, ℕ, List, [], Contains, None, Some, length, true, sym, ap, subst, arith}
 use Rattle.std.specs.Prelude.{vec_capacity}
 use Rattle.lrat_rules.specs.State.{State, clause_at, without_clauses}
@@ -27,7 +28,8 @@ sound g c = subst {A = TableState g.row.S.Denot} (λ t. IsSound t) (sym c.self.v
 pub delete-requires-clause-live : goal.delete-requires-clause-live
 delete-requires-clause-live g c =
     let inside = c.self.inside in
-    let is : IsSound (table_of (record { max_nodes = inside.max_nodes; inputs = inside.inputs; retired = inside.retired.items }) inside.diagram inside.ledger) =
+    let is : IsSound (table_of (record { max_nodes = inside.max_nodes; inputs = inside.inputs; retired = inside.retired.items })
+    inside.diagram inside.ledger) =
     subst {A = TableState g.row.S.Denot} (λ t. IsSound t) (sym c.self.view_is) c.requires.sound in
     subst (λ (ids : List ℕ). are_added 0 inside.ledger.state.live ids ≡ true) (sym c.as_slice.ensures.value)
     (retired_added inside.diagram inside.ledger.state.live inside.inputs inside.retired.items is.retired 0 (omega arith))
@@ -36,22 +38,28 @@ pub overflow_sub-self : goal.overflow_sub-self
 overflow_sub-self g c =
     let inside = c.self.inside in
     let is = sound g (goal.at.overflow_sub-self g c).After-delete in
-    let few = retired_few inside.diagram inside.ledger.state.live inside.inputs inside.places (vec_capacity inside.retired) inside.retired.items (c.self.invariant.2 is.in_step) is.retired in
+    let few = retired_few inside.diagram inside.ledger.state.live inside.inputs inside.places
+    (vec_capacity inside.retired) inside.retired.items (c.self.invariant.2 is.in_step) is.retired in
     omega (arith, few, c.len.ensures, inside.retired.ok.0)
 
 gone : (g : Over) (c : After-delete g) (id : ℕ) → Contains c.args.self.now.retired id → clause_at c.delete.new.self.state.live id ≡ None
 gone g c id among =
     let inside = c.self.inside in
-    let there : Contains inside.retired.items id = subst {A = TableState g.row.S.Denot} (λ t. Contains t.retired id) (sym c.self.view_is) among in
-    ap (λ (s : State). clause_at s.live id) c.delete.ensures.state ∙ ap (λ (ids : List ℕ). clause_at (without_clauses inside.ledger.state.live ids) id) c.as_slice.ensures.value
+    let there : Contains inside.retired.items id = subst {A = TableState g.row.S.Denot} (λ t. Contains t.retired id)
+    (sym c.self.view_is) among in
+    ap (λ (s : State). clause_at s.live id) c.delete.ensures.state
+    ∙ ap (λ (ids : List ℕ). clause_at (without_clauses inside.ledger.state.live ids) id) c.as_slice.ensures.value
     ∙ settled_gone inside.ledger.state.live inside.retired.items id there
 
-stay : (g : Over) (c : After-delete g) (id : ℕ) → (Contains c.args.self.now.retired id → ⊥) → clause_at c.delete.new.self.state.live id ≡ clause_at c.args.self.now.book.state.live id
+stay : (g : Over) (c : After-delete g) (id : ℕ) → (Contains c.args.self.now.retired id → ⊥) → clause_at c.delete.new.self.state.live id
+    ≡ clause_at c.args.self.now.book.state.live id
 stay g c id out =
     let inside = c.self.inside in
     let is = sound g c in
-    let not_there : Contains inside.retired.items id → ⊥ = λ among. out (subst {A = TableState g.row.S.Denot} (λ t. Contains t.retired id) c.self.view_is among) in
-    ap (λ (s : State). clause_at s.live id) c.delete.ensures.state ∙ ap (λ (ids : List ℕ). clause_at (without_clauses inside.ledger.state.live ids) id) c.as_slice.ensures.value
+    let not_there : Contains inside.retired.items id → ⊥ = λ among. out
+    (subst {A = TableState g.row.S.Denot} (λ t. Contains t.retired id) c.self.view_is among) in
+    ap (λ (s : State). clause_at s.live id) c.delete.ensures.state
+    ∙ ap (λ (ids : List ℕ). clause_at (without_clauses inside.ledger.state.live ids) id) c.as_slice.ensures.value
     ∙ settled_stays inside.diagram inside.ledger.state inside.inputs inside.retired.items is.tied is.retired id not_there
     ∙ ap (λ (t : TableState g.row.S.Denot). clause_at t.book.state.live id) c.self.view_is
 
@@ -63,13 +71,17 @@ invariant_of-self g c =
       c.self.invariant.0,
       c.self.invariant.1,
       λ _.
-          let settled = HavePlaces-settled inside.diagram inside.ledger.state.live c.delete.new.self.state.live inside.inputs inside.places (vec_capacity inside.retired) inside.retired.items
+          let settled = HavePlaces-settled inside.diagram inside.ledger.state.live c.delete.new.self.state.live inside.inputs inside.places
+          (vec_capacity inside.retired) inside.retired.items
           (c.self.invariant.2 is.in_step) is.retired
           (λ id among. gone g after id (subst {A = TableState g.row.S.Denot} (λ t. Contains t.retired id) c.self.view_is among))
-          (λ id out. stay g after id (λ among. out (subst {A = TableState g.row.S.Denot} (λ t. Contains t.retired id) (sym c.self.view_is) among))
+          (λ id out. stay g after id (λ among. out (subst {A = TableState g.row.S.Denot} (λ t. Contains t.retired id)
+          (sym c.self.view_is) among))
           ∙ sym (ap (λ (t : TableState g.row.S.Denot). clause_at t.book.state.live id) c.self.view_is)) in
-          subst (λ (n : ℕ). HavePlaces inside.diagram c.delete.new.self.state.live inside.inputs n (vec_capacity c.clear.new.self)) (ap (λ (n : ℕ). inside.places - n) (sym (c.len.ensures ∙ inside.retired.ok.0)))
-          (subst (λ (n : ℕ). HavePlaces inside.diagram c.delete.new.self.state.live inside.inputs (inside.places - length inside.retired.items) n) (sym c.clear.ensures.capacity) settled),
+          subst (λ (n : ℕ). HavePlaces inside.diagram c.delete.new.self.state.live inside.inputs n (vec_capacity c.clear.new.self))
+          (ap (λ (n : ℕ). inside.places - n) (sym (c.len.ensures ∙ inside.retired.ok.0)))
+          (subst (λ (n : ℕ). HavePlaces inside.diagram c.delete.new.self.state.live inside.inputs
+          (inside.places - length inside.retired.items) n) (sym c.clear.ensures.capacity) settled),
       c.self.invariant.3,
     )
 
@@ -85,8 +97,11 @@ returns-in-Err-clause-gone g c = gone g (goal.at.returns-in-Err-clause-gone g c)
 pub returns-in-Err-clause-stay : goal.returns-in-Err-clause-stay
 returns-in-Err-clause-stay g c = stay g (goal.at.returns-in-Err-clause-stay g c).After-delete
 
-state_is : (g : Over) (c : After-delete g) → c.delete.new.self.state ≡ without_retired (table_of (aside g c) c.self.inside.diagram c.self.inside.ledger)
-state_is g c = c.delete.ensures.state ∙ ap (λ (ids : List ℕ). record { live = without_clauses c.self.inside.ledger.state.live ids; top = c.self.inside.ledger.state.top }) c.as_slice.ensures.value
+state_is : (g : Over) (c : After-delete g) → c.delete.new.self.state
+    ≡ without_retired (table_of (aside g c) c.self.inside.diagram c.self.inside.ledger)
+state_is g c = c.delete.ensures.state
+    ∙ ap (λ (ids : List ℕ). record { live = without_clauses c.self.inside.ledger.state.live ids; top = c.self.inside.ledger.state.top })
+    c.as_slice.ensures.value
 
 pub returns-in-Ok-clause-leaves : goal.returns-in-Ok-clause-leaves
 returns-in-Ok-clause-leaves g c =
@@ -94,10 +109,14 @@ returns-in-Ok-clause-leaves g c =
     let new = c.delete.new.self in
     let after = (goal.at.returns-in-Ok-clause-leaves g c).After-delete in
     let own = c.in-Ok.ensures in
-    let on = settled_on g.S.Sink.tells g.S.Sink.channel (aside g after) inside.diagram inside.ledger new (sound g after) (state_is g after) own.limit own.only_writes own.in_step
-    (λ clauses proof added. own.kept clauses proof (subst (λ (ids : List ℕ). are_added (length clauses) inside.ledger.state.live ids ≡ true) (sym c.as_slice.ensures.value) added)) own.unfailed in
-    subst (λ (ids : List ℕ). Continues g.S.Sink.tells (g.S.Sink.channel c.args.self.now.book.sink) (g.S.Sink.channel new.sink) c.args.self.now
-    (table_of (record { max_nodes = inside.max_nodes; inputs = inside.inputs; retired = ids }) inside.diagram new)) (sym c.clear.ensures.items)
+    let on = settled_on g.S.Sink.tells g.S.Sink.channel (aside g after) inside.diagram inside.ledger new (sound g after)
+    (state_is g after) own.limit own.only_writes own.in_step
+    (λ clauses proof added. own.kept clauses proof (subst (λ (ids : List ℕ). are_added (length clauses) inside.ledger.state.live ids
+    ≡ true) (sym c.as_slice.ensures.value) added)) own.unfailed in
+    subst (λ (ids : List ℕ). Continues g.S.Sink.tells (g.S.Sink.channel c.args.self.now.book.sink)
+    (g.S.Sink.channel new.sink) c.args.self.now
+    (table_of (record { max_nodes = inside.max_nodes; inputs = inside.inputs; retired = ids }) inside.diagram new))
+    (sym c.clear.ensures.items)
     (subst {A = TableState g.row.S.Denot} (λ t. Continues g.S.Sink.tells (g.S.Sink.channel t.book.sink) (g.S.Sink.channel new.sink) t
     (table_of (record { max_nodes = inside.max_nodes; inputs = inside.inputs; retired = [] }) inside.diagram new)) c.self.view_is on)
 
@@ -107,10 +126,15 @@ returns-in-Err-clause-leaves g c =
     let new = c.delete.new.self in
     let after = (goal.at.returns-in-Err-clause-leaves g c).After-delete in
     let own = c.in-Err.ensures in
-    let torn = settled_torn g.S.Sink.tells g.S.Sink.channel (aside g after) inside.diagram inside.ledger new (sound g after) (state_is g after) own.limit own.only_writes
-    (subst (λ (ids : List ℕ). IsTorn g.S.Sink.tells (g.S.Sink.channel inside.ledger.sink) (g.S.Sink.channel new.sink) (deletion_line inside.ledger.state ids)) c.as_slice.ensures.value own.write_fault.1)
-    (λ clauses proof added told. own.cut clauses proof (subst (λ (ids : List ℕ). are_added (length clauses) inside.ledger.state.live ids ≡ true) (sym c.as_slice.ensures.value) added) told)
+    let torn = settled_torn g.S.Sink.tells g.S.Sink.channel (aside g after) inside.diagram inside.ledger new (sound g after)
+    (state_is g after) own.limit own.only_writes
+    (subst (λ (ids : List ℕ). IsTorn g.S.Sink.tells (g.S.Sink.channel inside.ledger.sink) (g.S.Sink.channel new.sink)
+    (deletion_line inside.ledger.state ids)) c.as_slice.ensures.value own.write_fault.1)
+    (λ clauses proof added told. own.cut clauses proof (subst (λ (ids : List ℕ). are_added (length clauses) inside.ledger.state.live ids
+    ≡ true) (sym c.as_slice.ensures.value) added) told)
     own.in_step c.marks_law.ensures.fewer c.self.invariant.1 in
     let cause : WriteFault ≡ c.from.result = ap table_error (sym own.write_fault.0) ∙ sym c.from.ensures in
-    subst (λ (e : TableError). Leaves g.S.Sink.tells (g.S.Sink.channel c.args.self.now.book.sink) (g.S.Sink.channel new.sink) c.args.self.now (table_of (aside g after) inside.diagram new) (Some e)) cause
-    (subst {A = TableState g.row.S.Denot} (λ t. BreaksOff g.S.Sink.tells (g.S.Sink.channel t.book.sink) (g.S.Sink.channel new.sink) t (table_of (aside g after) inside.diagram new)) c.self.view_is torn)
+    subst (λ (e : TableError). Leaves g.S.Sink.tells (g.S.Sink.channel c.args.self.now.book.sink)
+    (g.S.Sink.channel new.sink) c.args.self.now (table_of (aside g after) inside.diagram new) (Some e)) cause
+    (subst {A = TableState g.row.S.Denot} (λ t. BreaksOff g.S.Sink.tells (g.S.Sink.channel t.book.sink) (g.S.Sink.channel new.sink) t
+    (table_of (aside g after) inside.diagram new)) c.self.view_is torn)

@@ -1,3 +1,4 @@
+-- What is left to show of `Table::sweep`.
 use Rattle.std.proofs.Common.{◌≡◌, ◌≤◌, ◌∙◌, ℕ, Some, sym, ap, subst, arith}
 use Rattle.std.specs.Prelude.{vec_capacity}
 use Rattle.lrat_rules.specs.State.{clause_at}
@@ -28,7 +29,8 @@ marks_are g c = subst {A = TableState g.row.S.Denot} (λ t. AreMarks t.graph c.a
 pub delete_definitions-requires-clause-defined : goal.delete_definitions-requires-clause-defined
 delete_definitions-requires-clause-defined g c =
     let inside = c.self.inside in
-    let is : IsSound (table_of (record { max_nodes = inside.max_nodes; inputs = inside.inputs; retired = inside.retired.items }) inside.diagram inside.ledger) =
+    let is : IsSound (table_of (record { max_nodes = inside.max_nodes; inputs = inside.inputs; retired = inside.retired.items })
+    inside.diagram inside.ledger) =
     subst {A = TableState g.row.S.Denot} (λ t. IsSound t) (sym c.self.view_is) c.requires.sound in
     is.tied.defined
 
@@ -44,9 +46,11 @@ invariant_of-self g c =
       c.self.invariant.0,
       omega (arith, c.self.invariant.1, c.sweep.ensures.count),
       λ _.
-          swept_places inside.diagram c.sweep.new.self c.args.marks.now are c.sweep.ensures.swept inside.ledger.state c.delete_definitions.new.ledger.state is.tied left
+          swept_places inside.diagram c.sweep.new.self c.args.marks.now are c.sweep.ensures.swept inside.ledger.state
+          c.delete_definitions.new.ledger.state is.tied left
           inside.inputs inside.places (vec_capacity inside.retired) (c.self.invariant.2 is.in_step),
-      swept_numbered inside.diagram c.sweep.new.self c.args.marks.now are c.sweep.ensures.swept inside.ledger.state c.delete_definitions.new.ledger.state is.tied left inside.inputs c.self.invariant.3,
+      swept_numbered inside.diagram c.sweep.new.self c.args.marks.now are c.sweep.ensures.swept inside.ledger.state
+          c.delete_definitions.new.ledger.state is.tied left inside.inputs c.self.invariant.3,
     )
 
 pub returns-in-Ok-clause-leaves : goal.returns-in-Ok-clause-leaves
@@ -57,10 +61,17 @@ returns-in-Ok-clause-leaves g c =
     let own = c.in-Ok.ensures in
     let clear : AreClear inside.diagram c.args.marks.now inside.ledger.state.live =
     subst {A = TableState g.row.S.Denot} (λ t. AreClear t.graph c.args.marks.now t.book.state.live) (sym c.self.view_is) c.requires.clear in
-    let left : AreLeft inside.diagram c.args.marks.now inside.ledger.state new.state = record { gone = own.gone; stay = own.stay; among = own.among; top = own.top } in
-    let on = sweep_on g.S.Sink.tells g.S.Sink.channel (aside g after) inside.diagram inside.ledger new (sound g after) c.self.invariant.3 own.top own.limit own.only_writes
+    let left : AreLeft inside.diagram c.args.marks.now inside.ledger.state new.state = record {
+      gone = own.gone;
+      stay = own.stay;
+      among = own.among;
+      top = own.top;
+    } in
+    let on = sweep_on g.S.Sink.tells g.S.Sink.channel (aside g after) inside.diagram inside.ledger new
+    (sound g after) c.self.invariant.3 own.top own.limit own.only_writes
     c.sweep.new.self c.args.marks.now (marks_are g after) c.sweep.ensures.swept clear left own.in_step own.kept own.unfailed in
-    subst {A = TableState g.row.S.Denot} (λ t. Continues g.S.Sink.tells (g.S.Sink.channel t.book.sink) (g.S.Sink.channel new.sink) t (table_of (aside g after) c.sweep.new.self new)) c.self.view_is on
+    subst {A = TableState g.row.S.Denot} (λ t. Continues g.S.Sink.tells (g.S.Sink.channel t.book.sink) (g.S.Sink.channel new.sink) t
+    (table_of (aside g after) c.sweep.new.self new)) c.self.view_is on
 
 pub returns-in-Err-clause-leaves : goal.returns-in-Err-clause-leaves
 returns-in-Err-clause-leaves g c =
@@ -68,17 +79,22 @@ returns-in-Err-clause-leaves g c =
     let new = c.delete_definitions.new.ledger in
     let after = (goal.at.returns-in-Err-clause-leaves g c).After-delete_definitions in
     let own = c.in-Err.ensures in
-    let torn = sweep_torn g.S.Sink.tells g.S.Sink.channel (aside g after) inside.diagram inside.ledger new (sound g after) c.self.invariant.3 own.top own.limit own.only_writes
+    let torn = sweep_torn g.S.Sink.tells g.S.Sink.channel (aside g after) inside.diagram inside.ledger new
+    (sound g after) c.self.invariant.3 own.top own.limit own.only_writes
     own.among own.rose own.cut own.in_step c.marks_law.ensures.fewer c.self.invariant.1 in
     let cause : WriteFault ≡ c.from.result = ap table_error (sym own.error) ∙ sym c.from.ensures in
-    subst (λ (e : TableError). Leaves g.S.Sink.tells (g.S.Sink.channel c.args.self.now.book.sink) (g.S.Sink.channel new.sink) c.args.self.now (table_of (aside g after) inside.diagram new) (Some e)) cause
-    (subst {A = TableState g.row.S.Denot} (λ t. BreaksOff g.S.Sink.tells (g.S.Sink.channel t.book.sink) (g.S.Sink.channel new.sink) t (table_of (aside g after) inside.diagram new)) c.self.view_is torn)
+    subst (λ (e : TableError). Leaves g.S.Sink.tells (g.S.Sink.channel c.args.self.now.book.sink)
+    (g.S.Sink.channel new.sink) c.args.self.now (table_of (aside g after) inside.diagram new) (Some e)) cause
+    (subst {A = TableState g.row.S.Denot} (λ t. BreaksOff g.S.Sink.tells (g.S.Sink.channel t.book.sink) (g.S.Sink.channel new.sink) t
+    (table_of (aside g after) inside.diagram new)) c.self.view_is torn)
 
 -- a clause of the formula defines no node
-formula_stays : (g : Over) (c : After-delete_definitions g) → (id : ℕ) → id ≤ c.self.inside.inputs → DefinesUnmarked c.self.inside.diagram c.args.marks.now id → ⊥
+formula_stays : (g : Over) (c : After-delete_definitions g) → (id : ℕ) → id ≤ c.self.inside.inputs
+    → DefinesUnmarked c.self.inside.diagram c.args.marks.now id → ⊥
 formula_stays g c id few d =
     let tied = (sound g c).tied in
-    let above = defines_above c.self.inside.diagram c.args.marks.now c.self.inside.ledger.state.live tied.reduced tied.defined c.self.inside.inputs c.self.invariant.3 id d in
+    let above = defines_above c.self.inside.diagram c.args.marks.now c.self.inside.ledger.state.live tied.reduced tied.defined
+    c.self.inside.inputs c.self.invariant.3 id d in
     omega (arith, few, above)
 
 pub returns-in-Ok-clause-formula : goal.returns-in-Ok-clause-formula
@@ -101,9 +117,16 @@ returns-in-Ok-clause-none_added g c =
     let new = c.delete_definitions.new.ledger in
     let after = (goal.at.returns-in-Ok-clause-none_added g c).After-delete_definitions in
     let own = c.in-Ok.ensures in
-    let left : AreLeft inside.diagram c.args.marks.now inside.ledger.state new.state = record { gone = own.gone; stay = own.stay; among = own.among; top = own.top } in
-    subst {A = TableState g.row.S.Denot} (λ t. (id : ℕ) → IsAddedTo (table_of (aside g after) c.sweep.new.self new) id → IsAddedTo t id) c.self.view_is
-    (λ id added. was_added inside.diagram c.sweep.new.self c.args.marks.now (marks_are g after) c.sweep.ensures.swept inside.ledger.state new.state (sound g after).tied left inside.inputs id added)
+    let left : AreLeft inside.diagram c.args.marks.now inside.ledger.state new.state = record {
+      gone = own.gone;
+      stay = own.stay;
+      among = own.among;
+      top = own.top;
+    } in
+    subst {A = TableState g.row.S.Denot} (λ t. (id : ℕ) → IsAddedTo (table_of (aside g after) c.sweep.new.self new) id
+    → IsAddedTo t id) c.self.view_is
+    (λ id added. was_added inside.diagram c.sweep.new.self c.args.marks.now
+    (marks_are g after) c.sweep.ensures.swept inside.ledger.state new.state (sound g after).tied left inside.inputs id added)
 
 pub returns-in-Ok-clause-top : goal.returns-in-Ok-clause-top
 returns-in-Ok-clause-top g c = c.in-Ok.ensures.top ∙ ap (λ (t : TableState g.row.S.Denot). t.book.state.top) c.self.view_is

@@ -12,16 +12,19 @@ use Rattle.quantify.proofs.Keys.{tells_pair, tells_pairs}
 use Rattle.quantify.proofs.or_cache.OrCache.look.Goals as goal
 
 pub returns-clause-looked : goal.returns-clause-looked
-returns-clause-looked c = c.cache_law.ensures.looked disjunction c.args.self.now.results c.look.new.self (c.args.u, c.args.v) c.look.ensures.entries
+returns-clause-looked c = c.cache_law.ensures.looked disjunction c.args.self.now.results c.look.new.self
+    (c.args.u, c.args.v) c.look.ensures.entries
 
 pub returns-clause-missed : goal.returns-clause-missed
 returns-clause-missed c none =
     ap (λ (results : Cache Pair Node). record c.args.self.now { results = results })
-    (c.cache_law.ensures.unchanged c.args.self.now.results c.look.new.self (c.args.u, c.args.v) c.look.ensures.entries (sym c.look.ensures.value ∙ none))
+    (c.cache_law.ensures.unchanged c.args.self.now.results c.look.new.self (c.args.u, c.args.v) c.look.ensures.entries
+    (sym c.look.ensures.value ∙ none))
 
 pub returns-clause-found : goal.returns-clause-found
 returns-clause-found c =
-    elim (c.look.result) as (λ (r : Option Node). c.look.result ≡ r → IfSome r (λ w. Contains (listed disjunction c.look.new.self) (Disjunction c.args.u c.args.v w))) [
+    elim (c.look.result) as (λ (r : Option Node). c.look.result ≡ r
+    → IfSome r (λ w. Contains (listed disjunction c.look.new.self) (Disjunction c.args.u c.args.v w))) [
       | None ↦ λ is. tt
       | Some w ↦ λ is.
           (returns-clause-looked c).same.there _
@@ -32,4 +35,5 @@ pub returns-clause-exact : goal.returns-clause-exact
 returns-clause-exact c w there =
     let found = c.cache_law.ensures.finds disjunction c.args.self.now.results c.len.ensures.bounded _ there in
     let own = tells_pair found.0 c.args.u c.args.v w found.2 in
-    c.look.ensures.value ∙ subst (λ (key : Pair). lookup (same_pair key) c.args.self.now.results.entries ≡ Some found.0.1) own.0 found.1 ∙ ap Some own.1
+    c.look.ensures.value ∙ subst (λ (key : Pair). lookup (same_pair key) c.args.self.now.results.entries ≡ Some found.0.1) own.0 found.1
+    ∙ ap Some own.1

@@ -1,3 +1,4 @@
+-- What the loops of `OrCache::purge` keep.
 use Rattle.std.proofs.Common.{◌≤◌, length}
 use Rattle.operations.specs.Turns.{HadTurns}
 use Rattle.quantify.specs.OrCache.{disjunction}

@@ -13,11 +13,13 @@ use Rattle.quantify.proofs.quantify.ExistsOperationOperation.close.Goals as goal
 
 pub join-requires-clause-high : goal.join-requires-clause-high
 join-requires-clause-high g c =
-    high_found_below c.cofactor_law.ensures c.args.table.now.graph c.requires.sound.tied.reduced c.args.parts.now c.requires.above c.args.high.now c.args.low.now c.requires.on_high c.requires.on_low
+    high_found_below c.cofactor_law.ensures c.args.table.now.graph c.requires.sound.tied.reduced c.args.parts.now c.requires.above
+    c.args.high.now c.args.low.now c.requires.on_high c.requires.on_low
 
 pub join-requires-clause-low : goal.join-requires-clause-low
 join-requires-clause-low g c =
-    low_found_below c.cofactor_law.ensures c.args.table.now.graph c.requires.sound.tied.reduced c.args.parts.now c.requires.above c.args.high.now c.args.low.now c.requires.on_high c.requires.on_low
+    low_found_below c.cofactor_law.ensures c.args.table.now.graph c.requires.sound.tied.reduced c.args.parts.now c.requires.above
+    c.args.high.now c.args.low.now c.requires.on_high c.requires.on_low
 
 pub returns-in_err-w-clause-closes : goal.returns-in_err-w-clause-closes
 returns-in_err-w-clause-closes g c =
@@ -28,16 +30,18 @@ returns-in_err-w-clause-closes g c =
     let ors = c.args.caches.now.ors.now in
     let list = both_caches cache ors in
     let came = c.in_err-w.field-0.0 in
-    let sides = quantification_sides c.cofactor_law.ensures old.graph c.requires.sound.tied.reduced p c.requires.above c.args.high.now c.args.low.now c.requires.on_high c.requires.on_low in (
-      subst (λ (r : Answer). Closes g.S.Sink.tells g.S.Sink.channel g.S.Sink.beside old cache ors p c.args.high.now c.args.low.now new cache ors r) (sym (handed_on _ came came c.from_residual.ensures.1 refl)) (record {
-        runs = c.in_err-w.ensures.runs list (quantification_of old.graph p.node p.level) c.requires.fits sides;
-        room = makes_no_room quantification cache.results (p.node, p.level);
-        same_ors = refl;
-        quantified = tt;
-        kept = tt;
-        children = tt;
-        reachable = tt;
-      }),
+    let sides = quantification_sides c.cofactor_law.ensures old.graph c.requires.sound.tied.reduced p c.requires.above c.args.high.now
+    c.args.low.now c.requires.on_high c.requires.on_low in (
+      subst (λ (r : Answer). Closes g.S.Sink.tells g.S.Sink.channel g.S.Sink.beside old cache ors p c.args.high.now c.args.low.now new cache
+          ors r) (sym (handed_on _ came came c.from_residual.ensures.1 refl)) (record {
+            runs = c.in_err-w.ensures.runs list (quantification_of old.graph p.node p.level) c.requires.fits sides;
+            room = makes_no_room quantification cache.results (p.node, p.level);
+            same_ors = refl;
+            quantified = tt;
+            kept = tt;
+            children = tt;
+            reachable = tt;
+          }),
       record { exists = refl; ors = refl },
     )
 
@@ -53,13 +57,18 @@ returns-in_err-keep-clause-closes g c =
     let ors = c.args.caches.now.ors.now in
     let list = both_caches cache ors in
     let function = quantification_of old.graph p.node p.level in
-    let sides = quantification_sides c.cofactor_law.ensures old.graph c.requires.sound.tied.reduced p c.requires.above c.args.high.now c.args.low.now c.requires.on_high c.requires.on_low in
+    let sides = quantification_sides c.cofactor_law.ensures old.graph c.requires.sound.tied.reduced p c.requires.above c.args.high.now
+    c.args.low.now c.requires.on_high c.requires.on_low in
     let first = c.in_ok-w.ensures.runs list function c.requires.fits sides in (
-      subst (λ (r : Answer). Closes g.S.Sink.tells g.S.Sink.channel g.S.Sink.beside old cache ors p c.args.high.now c.args.low.now new c.keep.new.self ors r)
+      subst (λ (r : Answer). Closes g.S.Sink.tells g.S.Sink.channel g.S.Sink.beside old cache ors p c.args.high.now c.args.low.now new
+          c.keep.new.self ors r)
           (sym (handed_on _ OutOfMemory OutOfMemory c.from_residual-in_err-keep.ensures.1 refl))
-          (subst (λ (after : ExistsCache). Closes g.S.Sink.tells g.S.Sink.channel g.S.Sink.beside old cache ors p c.args.high.now c.args.low.now new after ors (Err OutOfMemory)) (sym c.in_err-keep.ensures.refused) (record {
-            runs = runs_further c.steps_law.ensures c.subfunction_law.ensures old list function new list (Err OutOfMemory) new list c.in_ok-w.w first
-                (runs_refused c.steps_law.ensures c.subfunction_law.ensures new list function first.steps.leaves.sound list (first.fits no_error));
+          (subst (λ (after : ExistsCache). Closes g.S.Sink.tells g.S.Sink.channel g.S.Sink.beside old cache ors p c.args.high.now
+          c.args.low.now new after ors (Err OutOfMemory)) (sym c.in_err-keep.ensures.refused) (record {
+            runs = runs_further c.steps_law.ensures c.subfunction_law.ensures old list function new list
+                (Err OutOfMemory) new list c.in_ok-w.w first
+                (runs_refused c.steps_law.ensures c.subfunction_law.ensures new list function first.steps.leaves.sound list
+                (first.fits no_error));
             room = makes_no_room quantification cache.results (p.node, p.level);
             same_ors = refl;
             quantified = tt;
@@ -87,15 +96,19 @@ returns-clause-closes g c =
     let kept = c.in_ok-keep.ensures.kept in
     let reduced = c.requires.sound.tied.reduced in
     let function = quantification_of old.graph p.node p.level in
-    let sides = quantification_sides c.cofactor_law.ensures old.graph reduced p c.requires.above c.args.high.now c.args.low.now c.requires.on_high c.requires.on_low in
+    let sides = quantification_sides c.cofactor_law.ensures old.graph reduced p c.requires.above c.args.high.now c.args.low.now
+    c.requires.on_high c.requires.on_low in
     let first = joined.runs list function c.requires.fits sides in
     let keeps = first.steps.extends.nodes in
-    let found = quantified_joined c.growth_law.ensures old.graph new.graph reduced keeps p c.requires.above c.args.high.now c.args.low.now w joined.children (joined.value function sides) in
+    let found = quantified_joined c.growth_law.ensures old.graph new.graph reduced keeps p c.requires.above c.args.high.now c.args.low.now w
+    joined.children (joined.value function sides) in
     let stands = c.growth_law.ensures.stands old.graph new.graph keeps p.node c.requires.above.stands in
     let fits = kept_part c.entry_law.ensures new cache ors (first.fits no_error) after p.node w p.level (stands, found) kept in (
       record {
-        runs = runs_further c.steps_law.ensures c.subfunction_law.ensures old list function new (both_caches after ors) (Ok w) new list w first
-            (runs_none c.steps_law.ensures c.subfunction_law.ensures new list function first.steps.leaves.sound (both_caches after ors) fits w);
+        runs = runs_further c.steps_law.ensures c.subfunction_law.ensures old list function new (both_caches after ors)
+            (Ok w) new list w first
+            (runs_none c.steps_law.ensures c.subfunction_law.ensures new list function first.steps.leaves.sound
+            (both_caches after ors) fits w);
         room = kept.room;
         same_ors = refl;
         quantified = found;

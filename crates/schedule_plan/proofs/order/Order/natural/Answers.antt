@@ -1,3 +1,4 @@
+-- What is left to show of `Order::natural`.
 use Rattle.std.proofs.Common.{sym, subst}
 use Rattle.cnf_base.specs.Order.{IsOrder}
 use Rattle.schedule_plan.proofs.Naturals.{natural_is_order}

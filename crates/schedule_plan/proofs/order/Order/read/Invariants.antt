@@ -13,7 +13,8 @@ invariant-tokens g l = record {
   passed : IsTrue g.S.Source.tells → Decides (g.S.Source.channel l.fn.source) (g.S.Source.channel l.source)
       (λ bytes more. Passes l.fn.vars (items 35 max_bytes bytes) (ahead l.scanner more) l.front.numbers);
   so_far : IsTrue g.S.Source.tells → is_reading l.scanner.status ≡ true
-      → (more : List ℕ) → order_of (items_of_front 35 (gained (g.S.Source.channel l.fn.source) (g.S.Source.channel l.source) ++ more)) l.fn.vars [] ≡ order_of (so_far l.scanner more) l.fn.vars l.front.numbers;
+      → (more : List ℕ) → order_of (items_of_front 35 (gained (g.S.Source.channel l.fn.source) (g.S.Source.channel l.source)
+      ++ more)) l.fn.vars [] ≡ order_of (so_far l.scanner more) l.fn.vars l.front.numbers;
   vars : l.front.vars ≡ l.fn.vars;
   sound : is_faulted l.scanner.status ≡ false;
   reads : OnlyReads (g.S.Source.channel l.fn.source) (g.S.Source.channel l.source);

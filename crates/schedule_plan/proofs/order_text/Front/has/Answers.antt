@@ -1,3 +1,4 @@
+-- What is left to show of `Front::has`.
 use Rattle.std.proofs.Common.{sym, ◌∙◌, arith}
 use Rattle.std.proofs.lemmas.Bool.{le-ltb}
 use Rattle.schedule_plan.proofs.OrderFront.{behind_flags}

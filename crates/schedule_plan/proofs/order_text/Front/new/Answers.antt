@@ -1,3 +1,4 @@
+-- What is left to show of `Front::new`.
 use Rattle.schedule_plan.proofs.OrderFront.{no_numbers}
 use Rattle.schedule_plan.proofs.order_text.Front.new.Goals as goal
 

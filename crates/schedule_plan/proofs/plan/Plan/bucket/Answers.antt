@@ -1,3 +1,4 @@
+-- What is left to show of `Plan::bucket`.
 use Rattle.std.proofs.Common.{◌<◌, length, arith, sym, ap, subst}
 use Rattle.std.specs.Prelude.{slice_index}
 use Rattle.schedule_plan.specs.Plan.{IsAdmissible}
@@ -9,7 +10,8 @@ use Rattle.schedule_plan.proofs.plan.Plan.bucket.Goals as goal
 pub linked-requires-clause-within : goal.linked-requires-clause-within
 linked-requires-clause-within c item within =
     let right = c.in_ok-buckets.ensures in
-    let small : item < item_count c.args.formula.now c.args.order.now = omega (arith, within, ap length c.as_slice-2.ensures.value, right.count) in
+    let small : item < item_count c.args.formula.now c.args.order.now = omega
+    (arith, within, ap length c.as_slice-2.ensures.value, right.count) in
     omega (
       arith,
       ap (λ list. slice_index list item) c.as_slice-2.ensures.value,

@@ -1,3 +1,4 @@
+-- What is left to show of `Plan::conjoin`.
 use Rattle.std.proofs.Common.{ap, sym, ◌∙◌, subst, length, arith, ◌≡◌}
 use Rattle.schedule_plan.specs.Plan.{IsAdmissible, conjoin}
 use Rattle.schedule_plan.proofs.Admissible.{conjoin_is_admissible}

@@ -1,3 +1,4 @@
+-- What the loops of `Plan::conjoin` keep.
 use Rattle.std.proofs.Common.{◌≡◌}
 use Rattle.schedule_plan.specs.Plan.{conjoin}
 use Rattle.schedule_plan.proofs.plan.Plan.conjoin.Given as goal

@@ -17,13 +17,16 @@ tokens-preserved g c =
     record {
       same = λ told.
           let gives = rw c.in-Ok-Some.field-0-is at (c.in-Ok-Some.ensures.gives told) in
-          Decides-then (λ bytes more. drafted formula (items 35 max_bytes bytes) no_draft [] ≡ drafted formula (ahead c.next.new.self more) c.take_token.new.line c.take_token.new.judge.moves.items)
+          Decides-then (λ bytes more. drafted formula (items 35 max_bytes bytes) no_draft []
+          ≡ drafted formula (ahead c.next.new.self more) c.take_token.new.line c.take_token.new.judge.moves.items)
           (c.tokens.invariant.same told) gives
-          (λ bytes middle more p q. p ∙ ap (λ is. drafted formula is c.tokens.line c.tokens.judge.moves.items) q ∙ c.in_ok-take_token-in-Ok-Some.ensures.goes (ahead c.next.new.self more));
+          (λ bytes middle more p q. p ∙ ap (λ is. drafted formula is c.tokens.line c.tokens.judge.moves.items) q
+          ∙ c.in_ok-take_token-in-Ok-Some.ensures.goes (ahead c.next.new.self more));
       front = λ told reads.
           let before = was_reading c.tokens.scanner c.next.new.self c.next.ensures.stopped_scanner reads in
           let token = rw c.in-Ok-Some.field-0-is at (c.in-Ok-Some.ensures.so_far told before) in
-          front-then (λ l. drafted formula (broken_off (items_of_front 35 l)) no_draft []) (λ l. drafted formula (broken_off (so_far c.tokens.scanner l)) c.tokens.line c.tokens.judge.moves.items)
+          front-then (λ l. drafted formula (broken_off (items_of_front 35 l)) no_draft [])
+          (λ l. drafted formula (broken_off (so_far c.tokens.scanner l)) c.tokens.line c.tokens.judge.moves.items)
           (λ l. drafted formula (broken_off (so_far c.next.new.self l)) c.take_token.new.line c.take_token.new.judge.moves.items)
           (c.tokens.invariant.same told) (c.in-Ok-Some.ensures.gives told) (c.tokens.invariant.front told before)
           (λ more. ap (λ is. drafted formula (broken_off is) c.tokens.line c.tokens.judge.moves.items) (token reads more)
@@ -37,7 +40,8 @@ tokens-preserved g c =
 
 -- a failed read says nothing of the text
 pub returns-in-Err-ReadFault-clause-decides : goal.returns-in-Err-ReadFault-clause-decides
-returns-in-Err-ReadFault-clause-decides g c = λ told. Decides-then (λ bytes more. Unit {0}) (c.tokens.invariant.same told) (c.in-Err-ReadFault.ensures.gives told) (λ bytes middle more p q. tt)
+returns-in-Err-ReadFault-clause-decides g c = λ told. Decides-then (λ bytes more. Unit {0}) (c.tokens.invariant.same told)
+    (c.in-Err-ReadFault.ensures.gives told) (λ bytes middle more p q. tt)
 
 pub returns-in_err-take_token-in-Ok-Some-clause-decides : goal.returns-in_err-take_token-in-Ok-Some-clause-decides
 returns-in_err-take_token-in-Ok-Some-clause-decides g c = λ told.
@@ -78,8 +82,11 @@ returns-in-Err-ReadFault-clause-undecided g c = λ told failed.
     let law = c.formula_law.ensures in
     let fault = rw c.in-Err-ReadFault.field-0-is at c.in-Err-ReadFault.ensures.stopped_answer in
     let none = rw c.in-Err-ReadFault.field-0-is at (c.in-Err-ReadFault.ensures.so_far told) in
-    let last = undecided_at formula c.tokens.scanner c.next.new.self (gained (g.S.Source.channel c.tokens.source) (g.S.Source.channel c.next.new.source))
+    let last = undecided_at formula c.tokens.scanner c.next.new.self
+    (gained (g.S.Source.channel c.tokens.source) (g.S.Source.channel c.next.new.source))
     c.tokens.line c.tokens.judge.moves.items c.tokens.invariant.sound fault none in
-    sym (drafted_same formula law.count law.vars (broken_off (items_of_front 35 (gained (g.S.Source.channel c.args.source.now) (g.S.Source.channel c.next.new.source)))))
-    ∙ ap (λ l. drafted formula (broken_off (items_of_front 35 l)) no_draft []) (gained-then (c.tokens.invariant.same told) (c.in-Err-ReadFault.ensures.gives told))
+    sym (drafted_same formula law.count law.vars (broken_off (items_of_front 35
+    (gained (g.S.Source.channel c.args.source.now) (g.S.Source.channel c.next.new.source)))))
+    ∙ ap (λ l. drafted formula (broken_off (items_of_front 35 l)) no_draft [])
+    (gained-then (c.tokens.invariant.same told) (c.in-Err-ReadFault.ensures.gives told))
     ∙ c.tokens.invariant.front told last.0 (gained (g.S.Source.channel c.tokens.source) (g.S.Source.channel c.next.new.source)) ∙ last.1

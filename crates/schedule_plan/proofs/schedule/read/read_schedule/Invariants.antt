@@ -11,9 +11,11 @@ use Rattle.schedule_plan.proofs.schedule.read.read_schedule.Given as goal
 abbrev pub invariant-tokens : goal.invariant-tokens
 invariant-tokens g l = record {
   same : IsTrue g.S.Source.tells → Decides (g.S.Source.channel l.fn.source) (g.S.Source.channel l.source)
-      (λ bytes more. drafted l.formula (items 35 max_bytes bytes) no_draft [] ≡ drafted l.formula (ahead l.scanner more) l.line l.judge.moves.items);
+      (λ bytes more. drafted l.formula (items 35 max_bytes bytes) no_draft []
+      ≡ drafted l.formula (ahead l.scanner more) l.line l.judge.moves.items);
   front : IsTrue g.S.Source.tells → is_reading l.scanner.status ≡ true
-      → (more : List ℕ) → drafted l.formula (broken_off (items_of_front 35 (gained (g.S.Source.channel l.fn.source) (g.S.Source.channel l.source) ++ more))) no_draft []
+      → (more : List ℕ) → drafted l.formula (broken_off (items_of_front 35
+      (gained (g.S.Source.channel l.fn.source) (g.S.Source.channel l.source) ++ more))) no_draft []
       ≡ drafted l.formula (broken_off (so_far l.scanner more)) l.line l.judge.moves.items;
   stands : Stands l.formula l.judge;
   sound : is_faulted l.scanner.status ≡ false;

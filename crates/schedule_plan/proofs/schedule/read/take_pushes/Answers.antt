@@ -1,3 +1,4 @@
+-- What is left to show of `take_pushes`.
 use Rattle.std.proofs.Common.{◌+◌, map, drop, ap, ◌∙◌}
 use Rattle.std.specs.Prelude.{slice_index_or}
 use Rattle.schedule_plan.specs.declared.plan.Move.TheVariants.{Push}
@@ -12,7 +13,9 @@ returns-in_err-push-clause-takes c =
     let number = slice_index_or c.args.numbers.now c.numbers.number-index 0 in
     let more = map Push (drop (c.numbers.number-index + 1) c.args.numbers.now) in
     let error = error_is c.from_residual.result c.in_err-push.field-0.0 c.from_residual.ensures.1 in
-    takes_error c.from_residual.result c.in_err-push.field-0.0 _ _ c.args.line c.push.new.self.moves.items c.push.new.self.moves.items error c.in_err-push.ensures.takes
+    takes_error c.from_residual.result c.in_err-push.field-0.0 _ _ c.args.line c.push.new.self.moves.items c.push.new.self.moves.items error
+    c.in_err-push.ensures.takes
     (λ kind fails. c.numbers.invariant.rest
-    ∙ ap (λ l. taken formula c.numbers.judge.moves.items (map Push l)) (drop_first c.args.numbers.now c.numbers.number-index 0 c.numbers-test.true)
+    ∙ ap (λ l. taken formula c.numbers.judge.moves.items (map Push l))
+    (drop_first c.args.numbers.now c.numbers.number-index 0 c.numbers-test.true)
     ∙ taken_refused formula c.numbers.judge.moves.items (Push number) more kind fails)

@@ -1,3 +1,4 @@
+-- What the loops of `take_variables` keep.
 use Rattle.std.proofs.Common.{◌≡◌, map, drop}
 use Rattle.schedule_plan.specs.declared.plan.Move.TheVariants.{Exists}
 use Rattle.schedule_plan.specs.ScheduleText.{taken}
@@ -7,5 +8,6 @@ use Rattle.schedule_plan.proofs.schedule.read.take_variables.Given as goal
 abbrev pub invariant-variables : goal.invariant-variables
 invariant-variables l = record {
   stands : Stands l.formula l.judge;
-  rest : taken l.formula l.fn.judge.moves.items (map Exists l.numbers) ≡ taken l.formula l.judge.moves.items (map Exists (drop l.number-index l.numbers));
+  rest : taken l.formula l.fn.judge.moves.items (map Exists l.numbers)
+      ≡ taken l.formula l.judge.moves.items (map Exists (drop l.number-index l.numbers));
 }

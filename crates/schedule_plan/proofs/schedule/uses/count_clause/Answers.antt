@@ -1,3 +1,4 @@
+-- What is left to show of `count_clause`.
 use Rattle.std.proofs.Common.{◌≡◌, ◌<◌, ◌≤◌, ℤ, nat_abs, true, take, length, ap, sym, subst, ◌∙◌, arith}
 use Rattle.std.specs.Prelude.{nat_lt}
 use Rattle.std.proofs.lemmas.Bool.{ltb-true}
@@ -15,8 +16,15 @@ counted-requires c =
     let size = length c.args.uses.now.items in
     let at : nat_lt (nat_abs c.literal-item.result) size ≡ true =
     ap (λ (l : ℤ). nat_lt (nat_abs l) size) c.literal-item.is
-    ∙ AllPass-from_list_all (λ (l : ℤ). nat_lt (nat_abs l) size) c.args.clause.now c.requires.within c.literals.literal-index c.literal-item.result c.literals-test.true in
-    let within : x < length c.literals.uses.items = omega (arith, ltb-true (nat_abs c.literal-item.result) size at, c.var-variable.ensures.value, c.literals.invariant.count) in
+    ∙ AllPass-from_list_all (λ (l : ℤ). nat_lt (nat_abs l) size) c.args.clause.now c.requires.within c.literals.literal-index
+    c.literal-item.result c.literals-test.true in
+    let within : x < length c.literals.uses.items = omega (
+      arith,
+      ltb-true (nat_abs c.literal-item.result) size at,
+      c.var-variable.ensures.value,
+      c.literals.invariant.count,
+    ) in
     subst (λ (u : Use). u.to_come ≤ 10000001)
     (sym (c.index.ensures ∙ get_or_default c.literals.uses.items x c.index.result.now no_use within ∙ c.literals.invariant.uses x))
-    (counted_small c.args.mark (clause_has x (take c.literals.literal-index c.args.clause.now)) (use_at c.args.uses.now.items x) (c.requires.few x))
+    (counted_small c.args.mark (clause_has x (take c.literals.literal-index c.args.clause.now)) (use_at c.args.uses.now.items x)
+    (c.requires.few x))

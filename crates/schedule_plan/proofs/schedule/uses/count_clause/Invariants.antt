@@ -1,3 +1,4 @@
+-- What the loops of `count_clause` keep.
 use Rattle.std.proofs.Common.{◌≡◌, ℕ, length, take}
 use Rattle.schedule_plan.specs.ScheduleState.{counted, changed, use_at}
 use Rattle.schedule_plan.proofs.schedule.uses.count_clause.Given as goal

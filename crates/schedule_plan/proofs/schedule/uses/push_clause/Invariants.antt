@@ -1,3 +1,4 @@
+-- What the loops of `push_clause` keep.
 use Rattle.std.proofs.Common.{◌≡◌, ℕ, length, take}
 use Rattle.schedule_plan.specs.ScheduleState.{with_push, changed, use_at}
 use Rattle.schedule_plan.proofs.schedule.uses.push_clause.Given as goal

@@ -1,3 +1,4 @@
+-- What is left to show of `Caches::few_law`.
 use Rattle.std.proofs.Common.{◌≡◌, arith}
 use Rattle.apply_and.specs.Cache.{entries as conjunctions, most_entries as most_conjunctions}
 use Rattle.imply.specs.Cache.{entries as implications, most_entries as most_implications}
@@ -11,5 +12,6 @@ returns c size have =
     let caches = c.args.self.now in
     let ands : most_conjunctions caches.ands ≡ size = cc in
     let own : most_implications caches.implications ≡ size = cc in
-    named_few (conjunctions caches.ands) (implications caches.implications) (both_caches caches.quantifications caches.ors) (both_unnamed caches.quantifications caches.ors) size
+    named_few (conjunctions caches.ands) (implications caches.implications) (both_caches caches.quantifications caches.ors)
+    (both_unnamed caches.quantifications caches.ors) size
     (omega (arith, c.few_law.ensures, ands)) (omega (arith, c.few_law-2.ensures, own))

@@ -9,4 +9,5 @@ returns-clause-took c = took_line c.take_number.result c.args.self.now c.take_nu
 
 pub returns-clause-past : goal.returns-clause-past
 returns-clause-past c =
-    took_past c.take_number.result c.args.self.now c.take_number.new.self c.args.line (λ same. c.if-line.false (c.line.ensures ∙ ap (λ (scan : Scan). scan.lex.line) c.self.view_is ∙ same)) c.take_number.ensures.took
+    took_past c.take_number.result c.args.self.now c.take_number.new.self c.args.line
+    (λ same. c.if-line.false (c.line.ensures ∙ ap (λ (scan : Scan). scan.lex.line) c.self.view_is ∙ same)) c.take_number.ensures.took

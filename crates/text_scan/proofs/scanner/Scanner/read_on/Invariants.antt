@@ -8,8 +8,10 @@ use Rattle.text_scan.proofs.scanner.Scanner.read_on.Given as goal
 
 abbrev pub invariant-turns : goal.invariant-turns
 invariant-turns g l = record {
-  same : IsTrue g.S.Source.tells → Decides (g.S.Source.channel l.fn.source) (g.S.Source.channel l.source) (λ bytes more. ahead l.fn.self bytes ≡ ahead l.self more);
-  front : IsTrue g.S.Source.tells → (more : List ℕ) → so_far l.fn.self (gained (g.S.Source.channel l.fn.source) (g.S.Source.channel l.source) ++ more) ≡ so_far l.self more;
+  same : IsTrue g.S.Source.tells → Decides (g.S.Source.channel l.fn.source) (g.S.Source.channel l.source)
+      (λ bytes more. ahead l.fn.self bytes ≡ ahead l.self more);
+  front : IsTrue g.S.Source.tells → (more : List ℕ) → so_far l.fn.self
+      (gained (g.S.Source.channel l.fn.source) (g.S.Source.channel l.source) ++ more) ≡ so_far l.self more;
   status : l.self.status ≡ Reading;
   line : l.self.line ≡ l.fn.self.line;
   room : l.self.room ≤ l.fn.self.room;

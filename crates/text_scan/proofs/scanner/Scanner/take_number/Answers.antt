@@ -11,14 +11,21 @@ pub returns-clause-took : goal.returns-clause-took
 returns-clause-took c = let s = c.self.inside in
     let fits : s.end ≤ length s.block = omega (arith, c.self.invariant.size, c.self.invariant.in_block) in
     let is = c.in_ok-number.ensures in
-    let same : to_z w64 (of_z w64 c.in_ok-number.number) ≡ c.in_ok-number.number = to_z-of_z w64 c.in_ok-number.number (small_fits c.in_ok-number.number is.small) in
+    let same : to_z w64 (of_z w64 c.in_ok-number.number) ≡ c.in_ok-number.number = to_z-of_z w64 c.in_ok-number.number
+    (small_fits c.in_ok-number.number is.small) in
     let reading : c.args.self.now.status ≡ Reading = c.requires in
     let status : s.status ≡ Reading = ap (λ (scan : Scan). scan.status) c.self.view_is ∙ reading in
     let room : c.args.self.now.room ≡ s.room - s.at = sym (ap (λ (scan : Scan). scan.room) c.self.view_is) in
-    let runs = block_run c.args.self.now s.lexer s.block s.at s.end s.room c.in_ok-number.len (record { bytes = take 65 (take c.in_ok-number.len c.args.self.now.unread); line = c.args.self.now.lex.line }) c.pass_word.new.self is.ahead
-    (sym (ap (λ (scan : Scan). scan.lex) c.self.view_is)) (sym (ap (λ (scan : Scan). scan.unread) c.self.view_is)) (sym (ap (λ (scan : Scan). scan.room) c.self.view_is)) fits c.pass_word.ensures in
-    let fronts = block_front c.args.self.now s.lexer s.block s.at s.end c.in_ok-number.len (record { bytes = take 65 (take c.in_ok-number.len c.args.self.now.unread); line = c.args.self.now.lex.line }) c.pass_word.new.self is.ahead
-    (sym (ap (λ (scan : Scan). scan.lex) c.self.view_is)) (sym (ap (λ (scan : Scan). scan.unread) c.self.view_is)) fits c.pass_word.ensures in
+    let runs = block_run c.args.self.now s.lexer s.block s.at s.end s.room c.in_ok-number.len
+    (record { bytes = take 65 (take c.in_ok-number.len c.args.self.now.unread); line = c.args.self.now.lex.line }) c.pass_word.new.self
+    is.ahead
+    (sym (ap (λ (scan : Scan). scan.lex) c.self.view_is)) (sym (ap (λ (scan : Scan). scan.unread) c.self.view_is))
+    (sym (ap (λ (scan : Scan). scan.room) c.self.view_is)) fits c.pass_word.ensures in
+    let fronts = block_front c.args.self.now s.lexer s.block s.at s.end c.in_ok-number.len
+    (record { bytes = take 65 (take c.in_ok-number.len c.args.self.now.unread); line = c.args.self.now.lex.line }) c.pass_word.new.self
+    is.ahead
+    (sym (ap (λ (scan : Scan). scan.lex) c.self.view_is)) (sym (ap (λ (scan : Scan). scan.unread) c.self.view_is)) fits c.pass_word.ensures
+    in
     rw same (record {
       word = record { bytes = take 65 (take c.in_ok-number.len c.args.self.now.unread); line = c.args.self.now.lex.line };
       number_is = is.number_is;

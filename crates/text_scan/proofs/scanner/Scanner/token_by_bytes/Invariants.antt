@@ -7,7 +7,8 @@ use Rattle.text_scan.proofs.scanner.Scanner.token_by_bytes.Given as goal
 abbrev pub invariant-loop-self : goal.invariant-loop-self
 invariant-loop-self l = record {
   block : IsBlock l.self-inside.block l.self-inside.at l.self-inside.stop l.self-inside.end l.self-inside.room l.self-inside.lexer.line;
-  turn : IsTurn l.fn.self l.self-inside.lexer (l.self-inside.room - l.self-inside.at) (drop l.self-inside.at (take l.self-inside.end l.self-inside.block));
+  turn : IsTurn l.fn.self l.self-inside.lexer (l.self-inside.room - l.self-inside.at)
+      (drop l.self-inside.at (take l.self-inside.end l.self-inside.block));
   status : l.self-inside.status ≡ l.fn.self.status;
   line : l.self-inside.line ≡ l.fn.self.line;
 }

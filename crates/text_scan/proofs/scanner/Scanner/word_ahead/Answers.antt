@@ -24,6 +24,7 @@ returns c = let s = c.self.inside in
       blank = ap is_blank (index len (omega arith)) ∙ c.letters-len.ensures.blank within;
       under = omega (arith, there, c.self.invariant.stop_is);
       line_fits = omega (arith, there, c.self.invariant.stop_is, c.self.invariant.line_fits);
-      word_is = c.put_front.ensures ∙ ap (λ n. record { bytes = take 65 (take len (take (s.stop - s.at) (drop s.at s.block))); line = n }) c.line.ensures
+      word_is = c.put_front.ensures
+          ∙ ap (λ n. record { bytes = take 65 (take len (take (s.stop - s.at) (drop s.at s.block))); line = n }) c.line.ensures
           ∙ ap (λ (l : List ℕ). record { bytes = take 65 l; line = s.lexer.line }) (sym front);
     })

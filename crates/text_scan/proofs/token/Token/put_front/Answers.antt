@@ -8,4 +8,5 @@ returns c =
     let least : min 72 (min c.args.len 65) ≡ min c.args.len 65 = omega arith in
     rw (c.copy_from_slice.ensures.after, c.min-self-inside.ensures)
     (ap (λ (l : List ℕ). record { bytes = l; line = c.args.line })
-    (sym (take_take (min c.args.len 65) 72 c.args.front.now) ∙ ap (λ n. take n c.args.front.now) least ∙ take_take 65 c.args.len c.args.front.now))
+    (sym (take_take (min c.args.len 65) 72 c.args.front.now) ∙ ap (λ n. take n c.args.front.now) least
+    ∙ take_take 65 c.args.len c.args.front.now))

@@ -1,3 +1,4 @@
+-- What is left to show of `Judge::conjoin`.
 use Rattle.std.proofs.Common.{◌≡◌, ◌+◌, ◌-◌, ◌≤◌, suc, length, refl, ap, sym, ◌∙◌, arith}
 use Rattle.std.specs.Prelude.{replicate}
 use Rattle.schedule_plan.specs.declared.plan.Move.TheVariants.{And}

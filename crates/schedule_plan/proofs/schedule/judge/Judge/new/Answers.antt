@@ -1,4 +1,6 @@
-use Rattle.std.proofs.Common.{ℕ, ℤ, List, ◌≡◌, ◌+◌, ◌-◌, ◌≤◌, suc, length, reverse, zero, false, nat_abs, inl, inr, refl, ap, sym, subst, ◌∙◌, arith, rules}
+-- What is left to show of `Judge::new`.
+use Rattle.std.proofs.Common.{ℕ, ℤ, List, ◌≡◌, ◌+◌, ◌-◌, ◌≤◌, suc, length, reverse, zero, false, nat_abs, inl, inr, refl, ap, sym, subst}
+use Rattle.std.proofs.Common.{◌∙◌, arith, rules}
 use Rattle.std.specs.Prelude.{IsTrue, nat_lt, slice_index_or, [], replicate}
 use Rattle.std.specs.List.{list_all}
 use Rattle.std.proofs.lemmas.List.{length-replicate}
@@ -22,11 +24,20 @@ count_clause-requires-clause-few c = λ x.
     let formula = c.args.formula.now in
     let uses = c.loop-clause.uses.items in
     let inside : x ≤ formula.vars → (use_at uses x).to_come ≤ 10000000 = λ small.
-    omega (arith, (c.loop-clause.invariant.uses x small).0, to_come_small (holds formula x) [] c.loop-clause.clause, c.formula_law.ensures.count, c.loop-clause-test.true, c.len-clause-end.ensures) in
+    omega (
+      arith,
+      (c.loop-clause.invariant.uses x small).0,
+      to_come_small (holds formula x) [] c.loop-clause.clause,
+      c.formula_law.ensures.count,
+      c.loop-clause-test.true,
+      c.len-clause-end.ensures,
+    ) in
     elim (cases_order x (formula.vars + 1)) [
-      | inl same ↦ subst (λ (u : Use). u.to_come ≤ 10000000) (sym (get_or-eq_default uses no_use {n = x} (omega (arith, same, c.loop-clause.invariant.count)))) (omega arith)
+      | inl same ↦ subst (λ (u : Use). u.to_come ≤ 10000000) (sym
+          (get_or-eq_default uses no_use {n = x} (omega (arith, same, c.loop-clause.invariant.count)))) (omega arith)
       | inr (inl before) ↦ inside (omega (arith, before))
-      | inr (inr behind) ↦ subst (λ (u : Use). u.to_come ≤ 10000000) (sym (get_or-eq_default uses no_use {n = x} (omega (arith, behind, c.loop-clause.invariant.count)))) (omega arith)
+      | inr (inr behind) ↦ subst (λ (u : Use). u.to_come ≤ 10000000)
+          (sym (get_or-eq_default uses no_use {n = x} (omega (arith, behind, c.loop-clause.invariant.count)))) (omega arith)
     ]
 
 pub count_clause-requires-clause-within : goal.count_clause-requires-clause-within
@@ -37,14 +48,26 @@ count_clause-requires-clause-within c =
     let same : suc n - 1 ≡ n + 1 - 1 = omega arith in
     subst (λ (clause : List ℤ). IsTrue (list_all (λ (literal : ℤ). nat_lt (nat_abs literal) size) clause))
     (ap (λ k. slice_index_or formula.clauses k []) same ∙ sym c.clause.ensures)
-    (literals_within formula n size c.formula_law.ensures.literals (omega (arith, c.loop-clause-test.true, c.len-clause-end.ensures)) c.loop-clause.invariant.count)
+    (literals_within formula n size c.formula_law.ensures.literals
+    (omega (arith, c.loop-clause-test.true, c.len-clause-end.ensures)) c.loop-clause.invariant.count)
 
 pub returns-clause-stands : goal.returns-clause-stands
 returns-clause-stands c =
     let formula = c.args.formula.now in
     let count = length formula.clauses in
-    let judge : Judge = record { moves = c.new.result; uses = c.loop-clause.uses; flags = c.in_ok-vec.field-0; starts = c.new-2.result; pushes = 0 } in
-    let all : c.loop-clause.clause ≡ count = omega (arith, c.loop-clause-test.false, c.loop-clause.auto.clause-end, c.len-clause-end.ensures) in
+    let judge : Judge = record {
+      moves = c.new.result;
+      uses = c.loop-clause.uses;
+      flags = c.in_ok-vec.field-0;
+      starts = c.new-2.result;
+      pushes = 0;
+    } in
+    let all : c.loop-clause.clause ≡ count = omega (
+      arith,
+      c.loop-clause-test.false,
+      c.loop-clause.auto.clause-end,
+      c.len-clause-end.ensures,
+    ) in
     let earliest : ℕ → ℕ = λ x. (use_at c.loop-clause.uses.items x).earliest in
     let flags : c.in_ok-vec.field-0.items ≡ replicate (c.len.result + 1) false = search rules in
     record {

@@ -1,3 +1,4 @@
+-- What the loops of `Judge::new` keep.
 use Rattle.std.proofs.Common.{◌≡◌, ℕ, ◌+◌, ◌≤◌, [], length}
 use Rattle.schedule_plan.specs.ScheduleState.{use_at, to_come, holds, never}
 use Rattle.schedule_plan.proofs.schedule.judge.Judge.new.Given as goal

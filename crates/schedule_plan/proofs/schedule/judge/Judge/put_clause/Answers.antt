@@ -1,3 +1,4 @@
+-- What is left to show of `Judge::put_clause`.
 use Rattle.std.proofs.Common.{ℕ, ℤ, List, ◌≡◌, ◌+◌, ◌-◌, suc, length, nat_abs, refl, ap, sym, subst, ◌∙◌, arith}
 use Rattle.std.specs.Prelude.{IsTrue, nat_lt, slice_index_or, [], ◌∷◌, true}
 use Rattle.std.specs.List.{list_all}
@@ -16,9 +17,11 @@ push_clause-requires c =
     let count : length c.args.self.now.uses.items ≡ formula.vars + 1 = c.requires.stands.at.use_count in
     let same : suc n - 1 ≡ c.args.number - 1 = omega arith in
     record {
-      within = subst (λ (clause : List ℤ). IsTrue (list_all (λ (literal : ℤ). nat_lt (nat_abs literal) (length c.args.self.now.uses.items)) clause))
+      within = subst (λ (clause : List ℤ). IsTrue (list_all (λ (literal : ℤ). nat_lt (nat_abs literal)
+          (length c.args.self.now.uses.items)) clause))
           (ap (λ k. slice_index_or formula.clauses k []) same ∙ sym c.clause.ensures)
-          (literals_within formula n (length c.args.self.now.uses.items) c.formula_law.ensures.literals (omega (arith, c.requires.from_one, c.requires.to_len)) count);
+          (literals_within formula n (length c.args.self.now.uses.items) c.formula_law.ensures.literals
+          (omega (arith, c.requires.from_one, c.requires.to_len)) count);
     }
 
 pub returns-clause-stands : goal.returns-clause-stands
@@ -39,7 +42,8 @@ returns-clause-stands c =
       stage = record { stack = input c.args.number ∷ stage.stack; pushed = c.args.number ∷ stage.pushed; trail = stage.trail };
       at = push_at formula old new stage c.args.number c.formula_law.ensures.count at c.requires.from_one c.requires.to_len
           (sym (at.flags c.args.number c.requires.from_one c.requires.to_len) ∙ c.requires.fresh)
-          (push_step formula stage c.args.number c.requires.from_one c.requires.to_len (sym (at.flags c.args.number c.requires.from_one c.requires.to_len) ∙ c.requires.fresh))
+          (push_step formula stage c.args.number c.requires.from_one c.requires.to_len
+          (sym (at.flags c.args.number c.requires.from_one c.requires.to_len) ∙ c.requires.fresh))
           c.in_ok-push-2.ensures.items c.push_clause.ensures.count
           (λ x. c.push_clause.ensures.uses x
           ∙ ap (λ l. changed (with_push (c.len.result + 1 + old.pushes) old.pushes) l old.uses.items x) c.clause.ensures

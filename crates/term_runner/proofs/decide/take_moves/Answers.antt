@@ -1,0 +1,397 @@
+-- What is left to show of `take_moves`.
+use Rattle.std.proofs.Common.{rules, ◌≡◌, ℕ, suc, ◌+◌, ◌*◌, ◌≤◌, true, List, Option, length, take, reverse, None, Some, Ok, Err, refl, ap}
+use Rattle.std.proofs.Common.{sym, ◌∙◌, subst, arith, inl, inr}
+use Rattle.std.proofs.Math.Nat.{mul-le-mul_right}
+use Rattle.std.specs.List.{slice_get}
+use Rattle.cnf_base.specs.Formula.{Formula}
+use Rattle.node_table.specs.declared.node.Node.{Node}
+use Rattle.node_table.specs.Diagram.{is_node, levels}
+use Rattle.node_table.specs.Value.{by_level, value_of}
+use Rattle.node_table.specs.declared.error.TableError.TheVariants.{NodeLimit}
+use Rattle.node_table.specs.declared.error.TableError.{TableError}
+use Rattle.node_table.specs.Progress.{Leaves}
+use Rattle.node_table.specs.Table.{live_nodes}
+use Rattle.operations.specs.Entries.{Entry}
+use Rattle.schedule_plan.specs.declared.plan.Move.{Move}
+use Rattle.schedule_plan.specs.Plan.{Stage, after_move, after_moves, no_stage}
+use Rattle.term_runner.specs.Price.{IsLeanAtEnd, IsMovePrice, IsPaid, most_nodes}
+use Rattle.term_runner.specs.Width.{HasWidth, HoldsAtMost}
+use Rattle.term_runner.specs.Nodes.{RunsShort}
+use Rattle.term_runner.specs.Opened.{LeavesKind}
+use Rattle.term_runner.specs.Held.{IsReady, top_node}
+use Rattle.term_runner.specs.Recovered.{IsRecovered}
+use Rattle.node_table.specs.HandedOn.{no_error, came_from, no_answer}
+use Rattle.term_runner.proofs.Stacks.{top_stands, top_value}
+use Rattle.term_runner.proofs.Between.{at_first, at_last, next_at, some_at}
+use Rattle.term_runner.specs.Caches.{all_entries}
+use Rattle.term_runner.proofs.Giving.{units_none}
+use Rattle.term_runner.proofs.Least.{recovered}
+use Rattle.term_runner.proofs.Trails.{are_variables, kept_there}
+use Rattle.term_runner.proofs.Leaving.{error_handed, memory_left}
+use Rattle.term_runner.proofs.InHand.{in_hand_before, short_at_limit}
+use Rattle.term_runner.proofs.Planned.{moved_on}
+use Rattle.term_runner.proofs.Few.{added_between, has_added, held_length}
+use Rattle.term_runner.proofs.FewLeft.{few_left, in_hand_behind}
+use Rattle.term_runner.proofs.Paid.{kind_of_memory, lean_here, paid_behind}
+use Rattle.term_runner.proofs.Priced.{moved_few, no_nodes, one_more, tidy_few}
+use Rattle.term_runner.proofs.decide.take_moves.Given.{Over}
+use Rattle.term_runner.proofs.decide.take_moves.Goals as goal
+use Rattle.term_runner.proofs.decide.take_moves.Goals.{After-few_law-2, After-take_move}
+
+pub unreachable-requires : goal.unreachable-requires
+unreachable-requires g c = some_at c.args.plan.now c.moves.i (omega (arith, c.moves-test.true, c.len-i-end.ensures)) (sym c.get.ensures
+    ∙ c.in_default.is)
+
+pub moves-init : goal.moves-init
+moves-init g c =
+    let formula = c.args.formula.now in
+    let table = c.args.table.now in
+    record {
+      few = omega arith;
+      tidy = inl (let none = no_nodes table.graph c.requires.empty in omega (arith, none));
+      left = λ width has. omega arith;
+      price = λ width price has is. omega arith;
+      size = c.requires.size;
+      between = at_first formula c.args.plan.now table.graph table.book.state.live c.new-stack.result.items c.new-trail.result
+          (search rules) (search rules);
+      ready = subst (λ (kept : List Entry). IsReady formula table kept) (sym c.requires.no_entries) c.requires.ready;
+      settled = c.requires.settled;
+      own = units_none table (all_entries c.args.caches.now) c.new-stack.result.items c.requires.ready.sound c.requires.fresh
+          (search rules);
+      continues = (c.steps_law.ensures.none table c.requires.ready.sound).leaves;
+      beside = refl;
+    }
+
+pub take_move-requires-clause-ready : goal.take_move-requires-clause-ready
+take_move-requires-clause-ready g c = c.moves.invariant.ready
+
+pub take_move-requires-clause-settled : goal.take_move-requires-clause-settled
+take_move-requires-clause-settled g c = c.moves.invariant.settled
+
+pub take_move-requires-clause-own : goal.take_move-requires-clause-own
+take_move-requires-clause-own g c = c.moves.invariant.own
+
+pub take_move-requires-clause-possible : goal.take_move-requires-clause-possible
+take_move-requires-clause-possible g c =
+    let between = c.moves.invariant.between in
+    let at : slice_get c.args.plan.now c.moves.i ≡ Some c.in-Some.step = sym c.get.ensures ∙ c.in-Some.is in
+    let next = next_at c.args.formula.now c.args.plan.now c.moves.i c.moves.table.graph c.moves.table.book.state.live c.moves.stack.items
+    c.moves.trail c.requires.plan.last c.in-Some.step c.requires.plan.possible at between in
+    (between.stage, next.next, between.at, next.is)
+
+-- at each move of the plan no more parts are in hand than its width says
+at_move : (formula : Formula) (plan : List Move) (order : List ℕ) (i : ℕ) (step : Move) (before after : Stage) → slice_get plan i
+    ≡ Some step → after_moves formula no_stage (take i plan) ≡ Some before
+    → after_move formula before step ≡ Some after → (width : ℕ) → HasWidth formula order plan width
+    → HoldsAtMost formula order before after width
+at_move formula plan order i step before after at reached leads width has more =
+    has (record {
+      count = i;
+      before = before;
+      after = after;
+      move = record { step = step; is = at; reached = reached; leads = leads };
+      more = more;
+    })
+
+-- a move gives so many numbers, however it ended
+near_by : (g : Over) (c : After-take_move g) (width price : ℕ)
+    → HasWidth c.args.formula.now c.args.table.now.graph.order c.args.plan.now width
+    → IsMovePrice (levels c.args.table.now.graph) c.args.capacity width price
+    → c.take_move.new.table.book.state.top ≤ c.moves.table.book.state.top + price
+near_by g c width price has is =
+    let formula = c.args.formula.now in
+    let plan = c.args.plan.now in
+    let table = c.moves.table in
+    let between = c.moves.invariant.between in
+    let order = c.moves.invariant.continues.order in
+    let at : slice_get plan c.moves.i ≡ Some c.in-Some.step = sym c.get.ensures ∙ c.in-Some.is in
+    let next = next_at formula plan c.moves.i table.graph table.book.state.live c.moves.stack.items c.moves.trail c.requires.plan.last
+    c.in-Some.step c.requires.plan.possible at between in
+    let most : HoldsAtMost formula table.graph.order between.stage next.next width =
+    subst (λ (o : List ℕ). HoldsAtMost formula o between.stage next.next width) (sym order)
+    (at_move formula plan c.args.table.now.graph.order c.moves.i c.in-Some.step between.stage next.next at between.front next.is width has)
+    in
+    c.take_move.ensures.price between.stage next.next between.at next.is c.args.capacity width price c.moves.invariant.size
+    (subst (λ (vars : ℕ). IsMovePrice vars c.args.capacity width price) (sym (ap length order)) is) most
+
+-- and all so far
+so_far : (g : Over) (c : After-take_move g) (width price : ℕ)
+    → HasWidth c.args.formula.now c.args.table.now.graph.order c.args.plan.now width
+    → IsMovePrice (levels c.args.table.now.graph) c.args.capacity width price
+    → c.take_move.new.table.book.state.top ≤ c.args.table.now.book.state.top + (c.moves.i + 1) * price
+so_far g c width price has is =
+    let own = near_by g c width price has is in
+    let before = c.moves.invariant.price width price has is in
+    omega (arith, own, before, one_more c.moves.i price)
+
+-- all moves' price is no less than that of some
+within_all : (few all price first last : ℕ) → few ≤ all → last ≤ first + few * price → last ≤ first + all * price
+within_all few all price first last small own = let more : few * price ≤ all * price = mul-le-mul_right price small in
+    omega (arith, own, more)
+
+pub moves-preserved : goal.moves-preserved
+moves-preserved g c =
+    let between = c.moves.invariant.between in
+    let at : slice_get c.args.plan.now c.moves.i ≡ Some c.in-Some.step = sym c.get.ensures ∙ c.in-Some.is in
+    let next = next_at c.args.formula.now c.args.plan.now c.moves.i c.moves.table.graph c.moves.table.book.state.live c.moves.stack.items
+    c.moves.trail c.requires.plan.last c.in-Some.step c.requires.plan.possible at between in
+    let moved : after_moves c.args.formula.now no_stage (take (suc c.moves.i) c.args.plan.now)
+    ≡ Some next.next = moved_on c.args.formula.now c.args.plan.now c.moves.i c.in-Some.step no_stage between.stage next.next at
+    between.front next.is in
+    let shift : suc c.moves.i ≡ c.moves.i + 1 = omega arith in
+    let front : after_moves c.args.formula.now no_stage (take (c.moves.i + 1) c.args.plan.now)
+    ≡ Some next.next = subst (λ (n : ℕ). after_moves c.args.formula.now no_stage (take n c.args.plan.now)
+    ≡ Some next.next) shift moved in
+    record {
+      few = omega (arith, c.moves-test.true, c.len-i-end.ensures);
+      price = λ width price has is. so_far g (goal.at.moves-preserved g c).After-take_move width price has is;
+      size = c.in_ok-take_move.ensures.sizes ∙ c.moves.invariant.size;
+      tidy = c.in_ok-take_move.ensures.tidy (ap Ok c.if-branch.false);
+      left = λ width has.
+          let before = c.moves.table in
+          let most = at_move c.args.formula.now c.args.plan.now c.args.table.now.graph.order c.moves.i c.in-Some.step between.stage
+          next.next at between.front next.is width has in
+          let most_here = subst (λ (o : List ℕ). HoldsAtMost c.args.formula.now o between.stage next.next width)
+          (sym c.moves.invariant.continues.order) most in
+          let ordered = c.moves.invariant.ready.sound.tied.ordered in
+          elim (c.in_ok-take_move.ensures.left between.stage next.next between.at next.is (ap Ok c.if-branch.false)) [
+            | inl same ↦ subst (λ (n : ℕ). n ≤ width) (sym same) (c.moves.invariant.left width has)
+            | inr were ↦ elim were [
+              | inl here ↦ few_left c.subfunction_law.ensures c.canonical_law.ensures c.args.formula.now before.graph.order ordered
+                  between.stage next.next between.stage (in_hand_before between.stage next.next) _ here width most_here
+              | inr behind ↦
+                  few_left c.subfunction_law.ensures c.canonical_law.ensures c.args.formula.now before.graph.order ordered between.stage
+                  next.next next.next
+                  (in_hand_behind c.args.formula.now between.stage next.next c.in-Some.step next.is) _ behind width most_here
+            ]
+          ];
+      between = record {
+        stage = next.next;
+        front = front;
+        rest = next.rest ∙ sym c.requires.plan.possible;
+        at = c.in_ok-take_move.ensures.held between.stage next.next between.at next.is c.if-branch.false;
+      };
+      ready = c.in_ok-take_move.ensures.ready;
+      settled = c.in_ok-take_move.ensures.settled (ap Ok c.if-branch.false);
+      own = c.in_ok-take_move.ensures.own c.if-branch.false;
+      continues = c.steps_law.ensures.go_on _ _ _ c.args.table.now c.moves.table c.take_move.new.table c.moves.invariant.continues
+          c.in_ok-take_move.ensures.leaves;
+      beside = c.in_ok-take_move.ensures.beside ∙ c.moves.invariant.beside;
+    }
+
+pub recover-requires-clause-node : goal.recover-requires-clause-node
+recover-requires-clause-node g c =
+    let table = c.moves.table in
+    let held = at_last c.args.formula.now c.args.plan.now c.moves.i table.graph table.book.state.live c.moves.stack.items c.moves.trail
+    c.requires.plan.last (omega (arith, c.moves-test.false, c.len-i-end.ensures)) c.requires.plan.possible c.moves.invariant.between in
+    subst (λ (n : Node). is_node table.graph n ≡ true) (sym (c.top.ensures ∙ (λ k. top_node (reverse (c.as_slice.ensures.value k)))))
+    (top_stands c.args.formula.now table.graph table.book.state.live (reverse c.moves.stack.items) c.requires.plan.last.stack held.held).0
+
+pub recover-requires-clause-some : goal.recover-requires-clause-some
+recover-requires-clause-some g c is =
+    let table = c.moves.table in
+    let held = at_last c.args.formula.now c.args.plan.now c.moves.i table.graph table.book.state.live c.moves.stack.items c.moves.trail
+    c.requires.plan.last (omega (arith, c.moves-test.false, c.len-i-end.ensures)) c.requires.plan.possible c.moves.invariant.between in
+    (top_stands c.args.formula.now table.graph table.book.state.live (reverse c.moves.stack.items) c.requires.plan.last.stack held.held).1
+    (sym (c.top.ensures ∙ (λ k. top_node (reverse (c.as_slice.ensures.value k)))) ∙ is)
+
+pub recover-requires-clause-nodes : goal.recover-requires-clause-nodes
+recover-requires-clause-nodes g c kept there =
+    let table = c.moves.table in
+    let formula = c.args.formula.now in
+    let held = at_last formula c.args.plan.now c.moves.i table.graph table.book.state.live c.moves.stack.items c.moves.trail
+    c.requires.plan.last (omega (arith, c.moves-test.false, c.len-i-end.ensures)) c.requires.plan.possible c.moves.invariant.between in
+    (kept_there formula table.graph c.moves.trail c.requires.plan.last.trail held.kept
+    (are_variables formula c.args.plan.now no_stage c.requires.plan.last c.requires.plan.possible tt) kept there).stands
+
+pub recover-requires-clause-variables : goal.recover-requires-clause-variables
+recover-requires-clause-variables g c kept there =
+    let table = c.moves.table in
+    let formula = c.args.formula.now in
+    let held = at_last formula c.args.plan.now c.moves.i table.graph table.book.state.live c.moves.stack.items c.moves.trail
+    c.requires.plan.last (omega (arith, c.moves-test.false, c.len-i-end.ensures)) c.requires.plan.possible c.moves.invariant.between in
+    let is = kept_there formula table.graph c.moves.trail c.requires.plan.last.trail held.kept
+    (are_variables formula c.args.plan.now no_stage c.requires.plan.last c.requires.plan.possible tt) kept there in
+    (is.above, omega (arith, is.within, c.moves.invariant.ready.vars))
+
+pub returns-clause-found : goal.returns-clause-found
+returns-clause-found g c =
+    let table = c.moves.table in
+    let formula = c.args.formula.now in
+    let held = at_last formula c.args.plan.now c.moves.i table.graph table.book.state.live c.moves.stack.items c.moves.trail
+    c.requires.plan.last (omega (arith, c.moves-test.false, c.len-i-end.ensures)) c.requires.plan.possible c.moves.invariant.between in
+    subst (λ (order : List ℕ). IsRecovered formula order c.args.plan.now c.in_ok-model.model) c.moves.invariant.continues.order
+    (recovered formula table.graph c.args.plan.now c.requires.plan c.formula_law.ensures.literals c.moves.invariant.ready.vars c.top.result
+    (λ a. (λ k. value_of table.graph (by_level table.graph.order a)
+    ((c.top.ensures ∙ (λ m. top_node (reverse (c.as_slice.ensures.value m)))) k))
+    ∙ top_value formula table.graph table.book.state.live (reverse c.moves.stack.items) c.requires.plan.last.stack held.held
+    c.requires.plan.one_term a)
+    (reverse c.moves.trail) held.kept c.in_ok-model.model c.in_ok-model.ensures.recovered)
+
+pub returns-clause-leaves : goal.returns-clause-leaves
+returns-clause-leaves g c = c.moves.invariant.continues
+
+pub returns-clause-short : goal.returns-clause-short
+returns-clause-short g c is = absurd (no_error is)
+
+pub returns-clause-beside : goal.returns-clause-beside
+returns-clause-beside g c = c.moves.invariant.beside
+
+pub returns-in_err-take_move-clause-found : goal.returns-in_err-take_move-clause-found
+returns-in_err-take_move-clause-found g c = no_answer _ c.in_err-take_move.field-0.0 _ c.from_residual.ensures.1
+
+pub returns-in_err-take_move-clause-leaves : goal.returns-in_err-take_move-clause-leaves
+returns-in_err-take_move-clause-leaves g c =
+    let old = c.args.table.now in
+    let mid = c.moves.table in
+    let new = c.take_move.new.table in
+    let channel = g.S.Sink.channel in
+    subst (λ (error : Option TableError). Leaves g.S.Sink.tells (channel old.book.sink) (channel new.book.sink) old new error)
+    (sym (error_handed _ c.in_err-take_move.field-0.0 c.from_residual.ensures.1))
+    (c.steps_law.ensures.leave (channel old.book.sink) (channel mid.book.sink) (channel new.book.sink) old mid new
+    (Some c.in_err-take_move.field-0.0) c.moves.invariant.continues c.in_err-take_move.ensures.leaves)
+
+pub returns-in_err-take_move-clause-short : goal.returns-in_err-take_move-clause-short
+returns-in_err-take_move-clause-short g c is =
+    let formula = c.args.formula.now in
+    let plan = c.args.plan.now in
+    let order = c.args.table.now.graph.order in
+    let new = c.take_move.new.table.graph in
+    let between = c.moves.invariant.between in
+    let at : slice_get plan c.moves.i ≡ Some c.in-Some.step = sym c.get.ensures ∙ c.in-Some.is in
+    let next = next_at formula plan c.moves.i c.moves.table.graph c.moves.table.book.state.live c.moves.stack.items c.moves.trail
+    c.requires.plan.last c.in-Some.step c.requires.plan.possible at between in
+    let limit = ap Err (came_from _ c.in_err-take_move.field-0.0 NodeLimit c.from_residual.ensures.1 is) in
+    let same_order = c.moves.invariant.continues.order in
+    let full = c.in_err-take_move.ensures.full between.stage next.next between.at next.is limit in
+    let lacks = c.in_err-take_move.ensures.lacks between.stage next.next between.at next.is limit in
+    subst (λ (o : List ℕ). RunsShort formula o plan new) same_order
+    (short_at_limit c.subfunction_law.ensures formula c.moves.table.graph.order c.moves.invariant.ready.sound.tied.ordered plan c.moves.i
+    between.stage next.next
+    (record { step = c.in-Some.step; is = at; reached = between.front; leads = next.is }) c.take_move.new.left full.0 new full.1 lacks)
+
+pub returns-in_err-take_move-clause-beside : goal.returns-in_err-take_move-clause-beside
+returns-in_err-take_move-clause-beside g c = c.in_err-take_move.ensures.beside ∙ c.moves.invariant.beside
+
+pub returns-then-branch-clause-leaves : goal.returns-then-branch-clause-leaves
+returns-then-branch-clause-leaves g c =
+    c.steps_law.ensures.go_on _ _ _ c.args.table.now c.moves.table c.take_move.new.table c.moves.invariant.continues
+    c.in_ok-take_move.ensures.leaves
+
+pub returns-then-branch-clause-beside : goal.returns-then-branch-clause-beside
+returns-then-branch-clause-beside g c = c.in_ok-take_move.ensures.beside ∙ c.moves.invariant.beside
+
+pub returns-in_err-model-clause-leaves : goal.returns-in_err-model-clause-leaves
+returns-in_err-model-clause-leaves g c =
+    let old = c.args.table.now in
+    let new = c.moves.table in
+    let channel = g.S.Sink.channel in
+    memory_left g.S.Sink.tells (channel old.book.sink) (channel new.book.sink) old new _ (search rules) c.moves.invariant.continues
+
+-- the nodes behind a move, however it ended
+nodes_so_far : (g : Over) (c : After-take_move g) (width : ℕ)
+    → HasWidth c.args.formula.now c.args.table.now.graph.order c.args.plan.now width → live_nodes c.take_move.new.table.graph
+    ≤ most_nodes width
+nodes_so_far g c width has =
+    let formula = c.args.formula.now in
+    let plan = c.args.plan.now in
+    let table = c.moves.table in
+    let between = c.moves.invariant.between in
+    let at : slice_get plan c.moves.i ≡ Some c.in-Some.step = sym c.get.ensures ∙ c.in-Some.is in
+    let next = next_at formula plan c.moves.i table.graph table.book.state.live c.moves.stack.items c.moves.trail c.requires.plan.last
+    c.in-Some.step c.requires.plan.possible at between in
+    let most : HoldsAtMost formula table.graph.order between.stage next.next width =
+    subst (λ (o : List ℕ). HoldsAtMost formula o between.stage next.next width) (sym c.moves.invariant.continues.order)
+    (at_move formula plan c.args.table.now.graph.order c.moves.i c.in-Some.step between.stage next.next at between.front next.is width has)
+    in
+    moved_few (live_nodes table.graph) (live_nodes c.take_move.new.table.graph) c.moves.left width c.moves.invariant.tidy
+    (c.moves.invariant.left width has)
+    (c.take_move.ensures.few between.stage next.next between.at next.is width most)
+
+-- a move that was taken keeps within the price, however it ended
+paid_so_far : (g : Over) (c : After-take_move g) (width price : ℕ)
+    → HasWidth c.args.formula.now c.args.table.now.graph.order c.args.plan.now width
+    → IsMovePrice (levels c.args.table.now.graph) c.args.capacity width price
+    → (error : Option TableError) → Leaves g.S.Sink.tells (g.S.Sink.channel c.moves.table.book.sink)
+    (g.S.Sink.channel c.take_move.new.table.book.sink) c.moves.table c.take_move.new.table error
+    → LeavesKind g.S.Sink.tells (g.S.Sink.channel c.args.table.now.book.sink)
+    (g.S.Sink.channel c.take_move.new.table.book.sink) c.args.table.now c.take_move.new.table
+    (IsPaid (levels c.args.table.now.graph) c.args.table.now.inputs (length c.args.plan.now) c.args.capacity width price) error
+paid_so_far g c width price has is error leaves =
+    let first = c.args.table.now in
+    let mid = c.moves.table in
+    let new = c.take_move.new.table in
+    let added =
+    added_between c.args.formula.now c.args.plan.now c.moves.i mid (all_entries c.moves.caches) c.moves.stack.items c.moves.trail (2
+    * c.args.capacity) (c.few_law.ensures c.args.capacity c.moves.invariant.size)
+    c.moves.invariant.settled c.moves.invariant.own c.moves.invariant.between in
+    let all = within_all (c.moves.i + 1) (length c.args.plan.now) price first.book.state.top new.book.state.top
+    (omega (arith, c.moves-test.true, c.len-i-end.ensures)) (so_far g c width price has is) in
+    paid_behind c.lean_law.ensures.lean c.in_use_law.ensures g.S.Sink.tells _ _ _ first mid new c.moves.invariant.continues c.args.capacity
+    (2 * c.args.capacity + length (reverse c.moves.stack.items)) (length c.args.plan.now) width price
+    added.0 (omega (arith, added.1, c.requires.ready.counted)) (omega (arith, all, c.requires.fresh)) (near_by g c width price has is)
+    (nodes_so_far g c width has) error leaves
+
+pub returns-in_err-take_move-clause-paid : goal.returns-in_err-take_move-clause-paid
+returns-in_err-take_move-clause-paid g c width price has is =
+    let first = c.args.table.now in
+    let new = c.take_move.new.table in
+    let kind = IsPaid (levels first.graph) first.inputs (length c.args.plan.now) c.args.capacity width price in
+    subst (λ (error : Option TableError). LeavesKind g.S.Sink.tells (g.S.Sink.channel first.book.sink)
+    (g.S.Sink.channel new.book.sink) first new kind error) (sym (error_handed _ c.in_err-take_move.field-0.0 c.from_residual.ensures.1))
+    (paid_so_far g (goal.at.returns-in_err-take_move-clause-paid g c).After-take_move width price has is
+    (Some c.in_err-take_move.field-0.0) c.in_err-take_move.ensures.leaves)
+
+pub returns-then-branch-clause-paid : goal.returns-then-branch-clause-paid
+returns-then-branch-clause-paid g c width price has is = paid_so_far g
+    (goal.at.returns-then-branch-clause-paid g c).After-take_move width price has is None c.in_ok-take_move.ensures.leaves
+
+-- behind the last move
+paid_at_last : (g : Over) (c : After-few_law-2 g) (width price : ℕ)
+    → HasWidth c.args.formula.now c.args.table.now.graph.order c.args.plan.now width
+    → IsMovePrice (levels c.args.table.now.graph) c.args.capacity width price
+    → IsPaid (levels c.args.table.now.graph) c.args.table.now.inputs
+    (length c.args.plan.now) c.args.capacity width price c.moves.table.book.state
+paid_at_last g c width price has is =
+    let first = c.args.table.now in
+    let mid = c.moves.table in
+    let added =
+    added_between c.args.formula.now c.args.plan.now c.moves.i mid (all_entries c.moves.caches) c.moves.stack.items c.moves.trail (2
+    * c.args.capacity) (c.few_law-2.ensures c.args.capacity c.moves.invariant.size)
+    c.moves.invariant.settled c.moves.invariant.own c.moves.invariant.between in
+    let all = within_all c.moves.i (length c.args.plan.now) price first.book.state.top mid.book.state.top c.moves.invariant.few
+    (c.moves.invariant.price width price has is) in
+    let few = tidy_few (live_nodes mid.graph) c.moves.left width c.moves.invariant.tidy (c.moves.invariant.left width has) in
+    paid_behind c.lean_law.ensures.lean c.in_use_law.ensures g.S.Sink.tells _ _ _ first mid mid c.moves.invariant.continues c.args.capacity
+    (2 * c.args.capacity + length (reverse c.moves.stack.items)) (length c.args.plan.now) width price
+    added.0 (omega (arith, added.1, c.requires.ready.counted)) (omega (arith, all, c.requires.fresh)) (omega arith)
+    (omega (arith, few)) None (c.steps_law.ensures.none mid c.moves.invariant.ready.sound).leaves
+
+pub returns-in_err-model-clause-paid : goal.returns-in_err-model-clause-paid
+returns-in_err-model-clause-paid g c width price has is =
+    kind_of_memory g.S.Sink.tells (g.S.Sink.channel c.args.table.now.book.sink)
+    (g.S.Sink.channel c.moves.table.book.sink) c.args.table.now c.moves.table
+    (IsPaid (levels c.args.table.now.graph) c.args.table.now.inputs (length c.args.plan.now) c.args.capacity width price) _
+    (search rules)
+    (paid_at_last g (goal.at.returns-in_err-model-clause-paid g c).After-few_law-2 width price has is)
+
+pub returns-clause-paid : goal.returns-clause-paid
+returns-clause-paid g c width price has is = paid_at_last g (goal.at.returns-clause-paid g c).After-few_law-2 width price has is
+
+pub returns-clause-lean : goal.returns-clause-lean
+returns-clause-lean g c some =
+    let formula = c.args.formula.now in
+    let first = c.args.table.now in
+    let table = c.moves.table in
+    let so_far = c.moves.invariant.continues in
+    let held = at_last formula c.args.plan.now c.moves.i table.graph table.book.state.live c.moves.stack.items c.moves.trail
+    c.requires.plan.last (omega (arith, c.moves-test.false, c.len-i-end.ensures)) c.requires.plan.possible c.moves.invariant.between in
+    let one = held_length formula table.graph table.book.state.live (reverse c.moves.stack.items) c.requires.plan.last.stack held.held in
+    let added = has_added table (all_entries c.moves.caches) (reverse c.moves.stack.items) (2
+    * c.args.capacity) (c.few_law-2.ensures c.args.capacity c.moves.invariant.size) c.moves.invariant.settled c.moves.invariant.own in
+    let own = lean_here c.lean_law.ensures.lean table c.moves.invariant.ready.sound (2 * c.args.capacity
+    + length (reverse c.moves.stack.items)) added in
+    let more : IsLeanAtEnd (levels table.graph) table.inputs c.args.capacity table.book.state = omega
+    (arith, own, one, c.requires.plan.one_term) in
+    subst (λ (vars : ℕ). IsLeanAtEnd vars first.inputs c.args.capacity table.book.state) (ap length so_far.order)
+    (subst (λ (inputs : ℕ). IsLeanAtEnd (levels table.graph) inputs c.args.capacity table.book.state) so_far.inputs more)
