@@ -12,7 +12,7 @@ use Rattle.dimacs_reader.specs.Cnf.{CnfText, formula}
 use Rattle.solver_cli.specs.declared.status.Status.{Status}
 use Rattle.solver_cli.specs.declared.status.Status.TheVariants.{WriteFault, OutOfMemory}
 use Rattle.solver_cli.specs.ErrorText.{is_answer}
-use Rattle.command_line.specs.Command.{Command, ToSolve, ToCheck, ToMake, Solve, Check, Make, formula_file, Meaning, AsksOver, AsksHelp}
+use Rattle.command_line.specs.Command.{Command, ToSolve, ToCheck, ToMake, Solve, Check, Make, formula_file, Meaning, Asks, AsksHelp}
 use Rattle.command_line.specs.Command.{Misuse, IsOneOf, MayMean, CanOnlyMean, meanings, only_command, command}
 use Rattle.solver_cli.specs.ExitCode.{status_of_run}
 use Rattle.solver_cli.specs.Headline.{decides}
@@ -87,29 +87,29 @@ not_unasked {asked = asked} here none = apart (sym here ∙ none) where
 
 -- words that give a command can mean nothing else
 only_this : (meanings : List Meaning) (asked : Command) (meaning : Meaning) → only_command meanings ≡ Some asked → IsOneOf meaning meanings
-    → meaning ≡ AsksOver asked
+    → meaning ≡ Asks asked
 only_this [] asked meaning e is = absurd is
-only_this (AsksOver one ∷ []) asked meaning e (inl same) = same ∙ inner e where
-  inner : {a b : Command} → ◌≡◌ {A = Option Command} (Some a) (Some b) → AsksOver a ≡ AsksOver b
+only_this (Asks one ∷ []) asked meaning e (inl same) = same ∙ inner e where
+  inner : {a b : Command} → ◌≡◌ {A = Option Command} (Some a) (Some b) → Asks a ≡ Asks b
   inner e = cc
-only_this (AsksOver one ∷ []) asked meaning e (inr none) = absurd none
-only_this (AsksOver one ∷ more ∷ others) asked meaning e is = cc
+only_this (Asks one ∷ []) asked meaning e (inr none) = absurd none
+only_this (Asks one ∷ more ∷ others) asked meaning e is = cc
 only_this (AsksHelp ∷ more) asked meaning e is = cc
 only_this (Misuse ∷ more) asked meaning e is = cc
 
-this_one : (meanings : List Meaning) (asked : Command) → only_command meanings ≡ Some asked → IsOneOf (AsksOver asked) meanings
+this_one : (meanings : List Meaning) (asked : Command) → only_command meanings ≡ Some asked → IsOneOf (Asks asked) meanings
 this_one [] asked e = cc
-this_one (AsksOver one ∷ []) asked e = inl (inner e) where
-  inner : {a b : Command} → ◌≡◌ {A = Option Command} (Some a) (Some b) → AsksOver b ≡ AsksOver a
+this_one (Asks one ∷ []) asked e = inl (inner e) where
+  inner : {a b : Command} → ◌≡◌ {A = Option Command} (Some a) (Some b) → Asks b ≡ Asks a
   inner e = cc
-this_one (AsksOver one ∷ more ∷ others) asked e = cc
+this_one (Asks one ∷ more ∷ others) asked e = cc
 this_one (AsksHelp ∷ more) asked e = cc
 this_one (Misuse ∷ more) asked e = cc
 
-misuse_apart : {asked : Command} → Misuse ≡ AsksOver asked → ⊥
+misuse_apart : {asked : Command} → Misuse ≡ Asks asked → ⊥
 misuse_apart e = cc
 
-help_apart : {asked : Command} → AsksHelp ≡ AsksOver asked → ⊥
+help_apart : {asked : Command} → AsksHelp ≡ Asks asked → ⊥
 help_apart e = cc
 
 pub no_misuse : (words : List (List ℕ)) {asked : Command} → command words ≡ Some asked → MayMean words Misuse → ⊥
@@ -119,10 +119,10 @@ pub no_help : (words : List (List ℕ)) {asked : Command} → command words ≡ 
 no_help words {asked = asked} e is = help_apart (only_this (meanings words) asked AsksHelp e is)
 
 pub only_misuse : (words : List (List ℕ)) {asked : Command} → command words ≡ Some asked → CanOnlyMean words Misuse → ⊥
-only_misuse words {asked = asked} e only = misuse_apart (sym (only (AsksOver asked) (this_one (meanings words) asked e)))
+only_misuse words {asked = asked} e only = misuse_apart (sym (only (Asks asked) (this_one (meanings words) asked e)))
 
 pub only_help : (words : List (List ℕ)) {asked : Command} → command words ≡ Some asked → CanOnlyMean words AsksHelp → ⊥
-only_help words {asked = asked} e only = help_apart (sym (only (AsksOver asked) (this_one (meanings words) asked e)))
+only_help words {asked = asked} e only = help_apart (sym (only (Asks asked) (this_one (meanings words) asked e)))
 
 pub same_formula : {text : CnfText} {problem other : Formula} → text ≡ formula problem → text ≡ formula other → problem ≡ other
 same_formula e d = inner _ _ (sym e ∙ d) where
