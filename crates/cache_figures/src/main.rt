@@ -4,7 +4,7 @@
 
 mod keys;
 
-use keys::{Found, Pair, fill};
+use keys::{FigureResult, Pair, fill};
 use op_cache::Bounded;
 use std::{env, io};
 
@@ -21,7 +21,7 @@ fn main(rt: HostRuntime) -> io::Result<()> {
     let _program = words.next();
     let capacity = number(words.next()).max(1);
     let entries = number(words.next());
-    let mut map: Bounded<Pair, Found> = match Bounded::new(rt.alloc(), capacity) {
+    let mut map: Bounded<Pair, FigureResult> = match Bounded::new(rt.alloc(), capacity) {
         Ok(map) => map,
         Err(_) => return println!(rt; "out of memory"),
     };

@@ -6,8 +6,8 @@ use Rattle.std.proofs.lemmas.List.{get_or_past, length-set}
 use Rattle.std.proofs.lemmas.List.Sums.{sum_by-set, sum_by-cons}
 use Rattle.std.specs.Prelude.{is_some, count_by}
 use Rattle.std.specs.Option.{option_copied}
-use Rattle.clause_ledger.specs.declared.slot.Slot.{Slot}
-use Rattle.clause_ledger.specs.declared.slot.Slot.TheVariants.{Free}
+use Rattle.clause_ledger.specs.declared.slot.ClauseSlot.{ClauseSlot}
+use Rattle.clause_ledger.specs.declared.slot.ClauseSlot.TheVariants.{Free}
 use Rattle.clause_ledger.specs.Slots.{clause_in}
 use Rattle.clause_ledger.specs.Chunks.{Place, Places, IsBlank, IsCleared}
 use Rattle.clause_ledger.proofs.Chunks.{set_at}
@@ -51,7 +51,7 @@ clauses-blank (None ∷ places) blank = clauses-blank places (λ i. blank (suc i
 clauses-blank (Some clause ∷ places) blank = let no : Some clause ≡ None = blank 0 in cc
 
 -- one free slot more
-pub blank_more : (slots : List Slot) → IsBlank (map clause_in slots) → IsBlank (map clause_in (slots ++ Free ∷ []))
+pub blank_more : (slots : List ClauseSlot) → IsBlank (map clause_in slots) → IsBlank (map clause_in (slots ++ Free ∷ []))
 blank_more [] blank zero = refl
 blank_more [] blank (suc i) = get_or_past [] i None (omega arith)
 blank_more (slot ∷ slots) blank zero = blank 0

@@ -2,3 +2,4 @@ pub mod Kept
 pub mod Chunks
 pub mod Counts
 pub mod Deleted
+pub mod Spans

@@ -1,22 +1,22 @@
 // A chunk of slots for 64 consecutive clause numbers. It counts its clauses, so that it is seen at once when the last one
 // is gone.
-ghost use Rattle.std.specs.Prelude.{◌≡◌, ◌<◌, ℕ, IfOk, IsTrue, None, map, length, set, slice_index_or, is_some};
+ghost use Rattle.std.specs.Prelude.{◌≡◌, ◌<◌, ℕ, IfOk, IsTrue, None, map, length, set, slice_index_or, is_some, count_by};
 ghost use Rattle.std.specs.Option.{option_copied};
 ghost use Rattle.clause_ledger.specs.Slots.{clause_in};
 ghost use Rattle.clause_ledger.specs.Chunks.{IsBlank, IsCleared};
 
-use crate::slot::Slot;
+use crate::slot::ClauseSlot;
 use cnf_base::{Lit, OutOfMemory};
 use std::alloc::Global;
 use std::marker::Model;
 
 #[derive(Debug, Drop)]
-pub struct Chunk {
-    slots: Vec<Slot>,
+pub struct OpenChunk {
+    slots: Vec<ClauseSlot>,
     live: usize,
 }
 
-impl Model for Chunk {
+impl Model for OpenChunk {
     ghost use Rattle.std.specs.Prelude.{◌≡◌, map, is_some, count_by};
     ghost use Rattle.clause_ledger.specs.Slots.{clause_in};
     ghost use Rattle.clause_ledger.specs.Chunks.{Places, places_code};
@@ -30,13 +30,13 @@ impl Model for Chunk {
     ghost invariant = { λ chunk. chunk.live ≡ count_by is_some (map clause_in chunk.slots.items) };
 }
 
-impl Chunk {
+impl OpenChunk {
     /// 64 places without a clause.
-    pub fn new(alloc: Global) -> Result<Chunk, OutOfMemory>
+    pub fn new(alloc: Global) -> Result<OpenChunk, OutOfMemory>
         ensures size { IfOk result (λ chunk. length chunk ≡ 64) }
         ensures blank { IfOk result (λ chunk. IsBlank chunk) }
     {
-        Ok(Chunk {
+        Ok(OpenChunk {
             slots: free_slots(alloc)?,
             live: 0,
         })
@@ -52,8 +52,22 @@ impl Chunk {
         }
     }
 
+    /// The number of places.
+    pub fn len(&self) -> usize
+        ensures { result ≡ length self.now }
+    {
+        self.slots.len()
+    }
+
+    /// The number of clauses.
+    pub fn live(&self) -> usize
+        ensures { result ≡ count_by is_some self.now }
+    {
+        self.live
+    }
+
     /// Puts a clause into a free place.
-    pub fn put(&mut self, place: usize, slot: Slot)
+    pub fn put(&mut self, place: usize, slot: ClauseSlot)
         requires place { place < length self.old }
         requires free { slice_index_or self.old place None ≡ None }
         requires clause { IsTrue (is_some (clause_in slot)) }
@@ -70,7 +84,7 @@ impl Chunk {
         if self.clause(place).is_none() {
             return;
         }
-        self.slots[place] = Slot::Free;
+        self.slots[place] = ClauseSlot::Free;
         self.live -= 1;
         if may_shrink && self.live == 0 {
             self.slots = Vec::new(alloc);
@@ -78,13 +92,13 @@ impl Chunk {
     }
 }
 
-fn free_slots(alloc: Global) -> Result<Vec<Slot>, OutOfMemory>
+fn free_slots(alloc: Global) -> Result<Vec<ClauseSlot>, OutOfMemory>
     ensures size { IfOk result (λ slots. length slots.items ≡ 64) }
     ensures free { IfOk result (λ slots. (i : ℕ) → slice_index_or (map clause_in slots.items) i None ≡ None) }
 {
     let mut slots = Vec::with_capacity(alloc, 64)?;
     for _ in 0..64usize {
-        slots.push(Slot::Free)?;
+        slots.push(ClauseSlot::Free)?;
     }
     Ok(slots)
 }

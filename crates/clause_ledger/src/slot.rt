@@ -13,7 +13,7 @@ use std::alloc::Global;
 
 /// Nothing, or a clause by its length.
 #[derive(Debug, Drop)]
-pub enum Slot {
+pub enum ClauseSlot {
     Free,
     Empty,
     Unit([Lit; 1]),
@@ -23,11 +23,11 @@ pub enum Slot {
     Long(Box<Vec<Lit>>),
 }
 
-const _: () = prove!(size_of::<Slot>() == 24);
+const _: () = prove!(size_of::<ClauseSlot>() == 24);
 
-impl Slot {
+impl ClauseSlot {
     /// A slot with a clause. Only a clause of more than four literals needs memory.
-    pub fn of(alloc: Global, clause: &[Lit]) -> Result<Slot, OutOfMemory>
+    pub fn of(alloc: Global, clause: &[Lit]) -> Result<ClauseSlot, OutOfMemory>
         ensures ok { IfOk result (λ slot. clause_in slot ≡ Some clause.now) }
         ensures short { OnErr result (4 < length clause.now) }
         ensures range { OnOk result (IsTrue (list_all (is_literal_of max_literal) clause.now)) }
@@ -43,19 +43,19 @@ impl Slot {
         ensures { option_copied result ≡ clause_in self.now }
     {
         match self {
-            Slot::Free => None,
-            Slot::Empty => Some(&[]),
-            Slot::Unit(literals) => Some(literals.as_slice()),
-            Slot::Binary(literals) => Some(literals.as_slice()),
-            Slot::Ternary(literals) => Some(literals.as_slice()),
-            Slot::Quaternary(literals) => Some(literals.as_slice()),
-            Slot::Long(literals) => Some(literals.as_slice()),
+            ClauseSlot::Free => None,
+            ClauseSlot::Empty => Some(&[]),
+            ClauseSlot::Unit(literals) => Some(literals.as_slice()),
+            ClauseSlot::Binary(literals) => Some(literals.as_slice()),
+            ClauseSlot::Ternary(literals) => Some(literals.as_slice()),
+            ClauseSlot::Quaternary(literals) => Some(literals.as_slice()),
+            ClauseSlot::Long(literals) => Some(literals.as_slice()),
         }
     }
 }
 
 // A clause of at most four literals.
-fn short(clause: &[Lit]) -> Slot
+fn short(clause: &[Lit]) -> ClauseSlot
     requires { length clause.now ≤ 4 }
     ensures value { clause_in result ≡ Some clause.now }
     ensures range { IsTrue (list_all (is_literal_of max_literal) clause.now) }
@@ -63,25 +63,25 @@ fn short(clause: &[Lit]) -> Slot
     match clause {
         [a] => {
             let _range = a.var();
-            Slot::Unit([*a])
+            ClauseSlot::Unit([*a])
         }
         [a, b] => {
             let _range = (a.var(), b.var());
-            Slot::Binary([*a, *b])
+            ClauseSlot::Binary([*a, *b])
         }
         [a, b, c] => {
             let _range = (a.var(), b.var(), c.var());
-            Slot::Ternary([*a, *b, *c])
+            ClauseSlot::Ternary([*a, *b, *c])
         }
         [a, b, c, d] => {
             let _range = (a.var(), b.var(), c.var(), d.var());
-            Slot::Quaternary([*a, *b, *c, *d])
+            ClauseSlot::Quaternary([*a, *b, *c, *d])
         }
-        _ => Slot::Empty,
+        _ => ClauseSlot::Empty,
     }
 }
 
-fn long(alloc: Global, clause: &[Lit]) -> Result<Slot, OutOfMemory>
+fn long(alloc: Global, clause: &[Lit]) -> Result<ClauseSlot, OutOfMemory>
     ensures ok { IfOk result (λ slot. clause_in slot ≡ Some clause.now) }
     ensures range { OnOk result (IsTrue (list_all (is_literal_of max_literal) clause.now)) }
 {
@@ -89,7 +89,7 @@ fn long(alloc: Global, clause: &[Lit]) -> Result<Slot, OutOfMemory>
     literals.reserve(clause.len())?;
     copy(&mut literals, clause);
     match Box::new(alloc, literals) {
-        Ok(literals) => Ok(Slot::Long(literals)),
+        Ok(literals) => Ok(ClauseSlot::Long(literals)),
         Err(_) => Err(OutOfMemory),
     }
 }

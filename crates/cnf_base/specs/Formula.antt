@@ -2,6 +2,7 @@
 use Rattle.std.specs.Prelude.{ℕ, zero, suc, ◌≤◌, ◌<◌, ◌^◌, Bool, ◌&&◌, ℤ, List, [], ◌∷◌, length, nat_le, slice_range, slice_index, IsTrue}
 use Rattle.std.specs.List.{list_all}
 use Rattle.cnf_base.specs.Truth.{is_literal_of, AreClausesOf}
+use Rattle.cnf_base.specs.Limits.{max_clauses, max_vars}
 
 -- how many variables it has, and its clauses as they stand
 pub record Formula : Type 0 where
@@ -10,8 +11,8 @@ pub record Formula : Type 0 where
 
 -- the limits of the DIMACS profile, and that its literals are of its variables
 pub record IsFormula (formula : Formula) : Type 0 where
-  pub vars : formula.vars ≤ 1000000
-  pub count : length formula.clauses ≤ 10000000
+  pub vars : formula.vars ≤ max_vars
+  pub count : length formula.clauses ≤ max_clauses
   pub literals : AreClausesOf formula.vars formula.clauses
 
 -- a formula that is being built: its ended clauses, and the literals of the one that was begun
@@ -43,7 +44,7 @@ are_ends start (end ∷ ends) limit = nat_le start end && are_ends end ends limi
 -- a row of literals with its ends, within the limits, its literals of these variables
 pub record IsStored (vars : ℕ) (literals : List ℤ) (ends : List ℕ) : Type 0 where
   pub in_order : IsTrue (are_ends 0 ends (length literals))
-  pub few_vars : vars ≤ 1000000
-  pub few_ends : length ends ≤ 10000000
+  pub few_vars : vars ≤ max_vars
+  pub few_ends : length ends ≤ max_clauses
   pub few_literals : length literals < 2 ^ 32
   pub of_vars : IsTrue (list_all (is_literal_of vars) literals)

@@ -5,3 +5,4 @@ pub mod Text
 pub mod ProofText
 pub mod Cut
 pub mod Order
+pub mod Limits

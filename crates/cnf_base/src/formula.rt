@@ -4,6 +4,7 @@ ghost use Rattle.std.specs.Prelude.{slice_range};
 ghost use Rattle.std.specs.List.{list_all};
 ghost use Rattle.cnf_base.specs.Truth.{literal_holds, clause_holds, assignment_of};
 ghost use Rattle.cnf_base.specs.Formula.{IsFormula, start_at};
+ghost use Rattle.cnf_base.specs.Limits.{max_clauses, max_vars};
 
 use crate::literal::Lit;
 use crate::memory::OutOfMemory;
@@ -139,7 +140,7 @@ impl Model for CnfBuilder {
 impl CnfBuilder {
     /// An empty formula of so many variables.
     pub fn new(alloc: Global, vars: u32) -> Self
-        requires { vars ≤ 1000000 }
+        requires { vars ≤ max_vars }
         ensures { result ≡ record { vars = vars; clauses = []; begun = [] } }
     {
         CnfBuilder {
@@ -165,7 +166,7 @@ impl CnfBuilder {
 
     /// Ends the clause that was begun, or adds an empty one where there is none.
     pub fn end_clause(&mut self) -> Result<(), OutOfMemory>
-        requires { length self.old.clauses < 10000000 }
+        requires { length self.old.clauses < max_clauses }
         ensures ok { OnOk result (self.new ≡ record {
           vars = self.old.vars;
           clauses = self.old.clauses ++ self.old.begun

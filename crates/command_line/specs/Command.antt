@@ -9,6 +9,7 @@ use Rattle.clap.specs.Words.{Row, Text, first_of, fault_of, subcommand_of}
 use Rattle.clap.specs.declared.error.ErrorKind.{ErrorKind}
 use Rattle.clap.specs.declared.error.ErrorKind.TheVariants as kind
 use Rattle.cnf_base.specs.Number.{numeral_value}
+use Rattle.cnf_base.specs.Limits.{most_entries_allowed, most_nodes_allowed}
 use Rattle.dimacs_reader.specs.declared.mode.Mode.{Mode}
 use Rattle.dimacs_reader.specs.declared.mode.Mode.TheVariants.{Strict, Lax}
 use Rattle.schedule_plan.specs.Limits.{most_ids}
@@ -166,8 +167,8 @@ limits_with _ _ _ = None
 -- the limits that `--max-nodes`, `--max-ids` and `--cache` give
 abbrev pub limits_given : Option Text → Option Text → Option Text → Option Limits
 limits_given nodes ids entries =
-    limits_with (number_given 0 default_limits.max_nodes 100000000 nodes) (number_given 0 default_limits.max_ids most_ids ids)
-    (number_given 1 default_limits.cache 100000000 entries)
+    limits_with (number_given 0 default_limits.max_nodes most_nodes_allowed nodes) (number_given 0 default_limits.max_ids most_ids ids)
+    (number_given 1 default_limits.cache most_entries_allowed entries)
 
 -- the size that words give behind the word `board`
 abbrev pub size_given : Option Text → Option Text → Option ℕ

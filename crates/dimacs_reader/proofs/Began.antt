@@ -8,8 +8,8 @@ use Rattle.cnf_base.specs.Text.{Word}
 use Rattle.text_scan.specs.Capped.{capped}
 use Rattle.text_scan.specs.Items.{Items, the_end, too_long, next_word}
 use Rattle.text_scan.specs.Scan.{Scan, so_far, is_reading, is_faulted, Gives, GivesSoFar, last_answer}
-use Rattle.text_scan.specs.declared.scanner.Status.{Status}
-use Rattle.text_scan.specs.declared.scanner.Status.TheVariants.{Reading, Ended, Overlong, Faulted}
+use Rattle.text_scan.specs.declared.scanner.ScanStatus.{ScanStatus}
+use Rattle.text_scan.specs.declared.scanner.ScanStatus.TheVariants.{Reading, Ended, Overlong, Faulted}
 use Rattle.text_scan.specs.declared.scanner.ScanError.{ScanError}
 use Rattle.text_scan.specs.declared.scanner.ScanError.TheVariants.{ReadFault as ScanFault, TooLong as ScanTooLong}
 use Rattle.dimacs_reader.specs.declared.error.CnfError.{CnfError}
@@ -21,7 +21,7 @@ use Rattle.dimacs_reader.specs.Cnf.{CnfText, overlong, max_vars, max_clauses, bo
 use Rattle.dimacs_reader.specs.Header.{HasCount, HasVars, HasFormat, HasHeader, Begins, BeginsSoFar}
 
 -- A scanner that met a failed read was reading.
-failed_status : (status : Status) → is_faulted status ≡ false → (is_reading status ≡ false
+failed_status : (status : ScanStatus) → is_faulted status ≡ false → (is_reading status ≡ false
     → ◌≡◌ {A = Result (Option Word) ScanError} (Err ScanFault) (last_answer status)) → is_reading status ≡ true
 failed_status Reading sound last = refl
 failed_status Ended sound last = let same = last refl in cc

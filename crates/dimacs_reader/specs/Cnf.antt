@@ -15,17 +15,9 @@ use Rattle.dimacs_reader.specs.declared.error.CnfKind.TheVariants.{NoHeader, Bad
 use Rattle.dimacs_reader.specs.declared.error.CnfKind.TheVariants.{ClauseMissing, NoEndingZero, Limit}
 use Rattle.dimacs_reader.specs.declared.mode.Mode.{Mode}
 use Rattle.dimacs_reader.specs.declared.mode.Mode.TheVariants.{Strict, Lax}
+pub use Rattle.cnf_base.specs.Limits.{max_bytes, max_clauses, max_vars}
 
--- the limits of the profile
-abbrev pub max_bytes : ℕ
-max_bytes = 4000000000
-
-abbrev pub max_vars : ℕ
-max_vars = 1000000
-
-abbrev pub max_clauses : ℕ
-max_clauses = 10000000
-
+-- the most literals of a formula
 abbrev pub max_literals : ℕ
 max_literals = 100000000
 

@@ -13,10 +13,7 @@ use Rattle.lrat_checker.specs.declared.verdict.Verdict.{Verdict}
 use Rattle.lrat_checker.specs.declared.verdict.Verdict.TheVariants.{Verified, Refused}
 use Rattle.lrat_checker.specs.declared.verdict.CheckError.{CheckError}
 use Rattle.lrat_checker.specs.declared.verdict.CheckError.TheVariants.{ReadFault, TooLong, OutOfMemory}
-
--- how many bytes of a proof are looked at
-abbrev pub max_bytes : ℕ
-max_bytes = 4000000000
+pub use Rattle.cnf_base.specs.Limits.{max_bytes}
 
 -- at the end, on this line: verified where some step added the empty clause
 abbrev pub end_verdict : Bool → ℕ → Verdict

@@ -2,7 +2,7 @@
 ghost use Rattle.std.specs.Prelude.{◌≡◌, ◌≢◌, ◌||◌, false, None, Err, IsTrue};
 ghost use Rattle.host_io.specs.Channel.{Rose};
 ghost use Rattle.text_scan.specs.Decides.{gained, Decides, OnlyReads};
-ghost use Rattle.lrat_text.specs.declared.reader.Status.TheVariants.{Reading};
+ghost use Rattle.lrat_text.specs.declared.reader.ReaderStatus.TheVariants.{Reading};
 ghost use Rattle.lrat_text.specs.Reader.{steps_ahead, so_far};
 ghost use Rattle.lrat_rules.specs.Run.{step_adds_empty};
 ghost use Rattle.lrat_checker.specs.declared.verdict.CheckError.TheVariants.{ReadFault, OutOfMemory};

@@ -12,7 +12,7 @@ ghost use Rattle.lrat_rules.specs.FalseLiterals.{set_of, before_of, is_open, set
 
 use crate::effect::effect_under;
 use crate::outcome::Effect;
-use crate::trail::Trail;
+use crate::trail::FalseTrail;
 use cnf_base::{Lit, OutOfMemory};
 use std::alloc::Global;
 use std::marker::Model;
@@ -20,7 +20,7 @@ use std::marker::Model;
 /// The literals that are false in an addition's chain of hints.
 #[derive(Debug, Drop)]
 pub struct Chain {
-    trail: Trail,
+    trail: FalseTrail,
     opened: Option<usize>,
 }
 
@@ -41,7 +41,7 @@ impl Chain {
         ensures set { IfOk result (λ chain. set_of chain ≡ literals_of clause.now) }
         ensures no_group { IfOk result (λ chain. before_of chain ≡ None) }
     {
-        let mut trail = Trail::new(alloc);
+        let mut trail = FalseTrail::new(alloc);
         trail.restart(clause)?;
         Ok(Chain {
             trail,
@@ -125,14 +125,14 @@ impl Chain {
 }
 
 // A candidate's literal that isn't the pivot's negation, and has its own negation among the false ones.
-fn blocks(trail: &Trail, negated_pivot: Lit, literal: Lit) -> bool
+fn blocks(trail: &FalseTrail, negated_pivot: Lit, literal: Lit) -> bool
     ensures { result ≡ (not (int_eq literal negated_pivot) && literals_of trail.now (neg_ℤ literal)) }
 {
     literal != negated_pivot && trail.contains(literal.negated())
 }
 
 // Puts the literals of a clause other than one on a trail. After a refusal some may stand behind the old ones.
-fn push_others(trail: &mut Trail, clause: &[Lit], other_than: Lit) -> Result<(), OutOfMemory>
+fn push_others(trail: &mut FalseTrail, clause: &[Lit], other_than: Lit) -> Result<(), OutOfMemory>
     ensures front { take (length trail.old) trail.new ≡ trail.old }
     ensures longer { length trail.old ≤ length trail.new }
     ensures ok { OnOk result (literals_of trail.new ≡ with_others (literals_of trail.old) other_than clause.now) }

@@ -5,7 +5,7 @@ ghost use Rattle.lrat_rules.specs.Chain.{literals_of, effect};
 ghost use Rattle.lrat_rules.specs.Pass.{effect_of_forced, forced_with, agrees};
 
 use crate::outcome::Effect;
-use crate::trail::Trail;
+use crate::trail::FalseTrail;
 use cnf_base::Lit;
 
 /// The effect of a hint's clause where these literals are false.
@@ -25,7 +25,7 @@ pub fn effect_on(literals: &[Lit], clause: &[Lit]) -> Effect
 }
 
 /// The same where those of a trail are false.
-pub fn effect_under(trail: &Trail, clause: &[Lit]) -> Effect
+pub fn effect_under(trail: &FalseTrail, clause: &[Lit]) -> Effect
     ensures { result ≡ effect (literals_of trail.now) clause.now }
 {
     let mut forced = None;

@@ -13,12 +13,12 @@ use std::marker::Model;
 
 /// Literals, each once, in the order in which they came.
 #[derive(Drop)]
-pub struct Trail {
+pub struct FalseTrail {
     literals: Vec<Lit>,
     flags: Flags,
 }
 
-impl Model for Trail {
+impl Model for FalseTrail {
     ghost use Rattle.std.specs.Prelude.{List, ℤ};
     ghost use Rattle.lrat_rules.specs.Trail.{IsTrail};
 
@@ -29,11 +29,11 @@ impl Model for Trail {
     ghost invariant = { λ t. IsTrail t.flags t.literals.items };
 }
 
-impl Trail {
-    pub fn new(alloc: Global) -> Trail
+impl FalseTrail {
+    pub fn new(alloc: Global) -> FalseTrail
         ensures { result ≡ [] }
     {
-        Trail {
+        FalseTrail {
             literals: Vec::new(alloc),
             flags: Flags::new(alloc),
         }
@@ -90,7 +90,7 @@ impl Trail {
     }
 }
 
-impl fmt::Debug for Trail {
+impl fmt::Debug for FalseTrail {
     fn fmt<W: fmt::Write>(&self, f: &mut fmt::Formatter<W>) -> fmt::Result {
         f.debug_list().entries(&self.literals).finish()
     }
@@ -115,6 +115,7 @@ fn add(literals: &mut Vec<Lit>, flags: &mut Flags, literal: Lit)
 }
 
 // Reserves the flags of a clause's literals.
+#[inline(always)]
 fn reserve_all(flags: &mut Flags, clause: &[Lit]) -> Result<(), OutOfMemory>
     ensures same { (x : ℤ) → is_set flags.new x ≡ is_set flags.old x }
     ensures ok { OnOk result ((x : ℤ) → IsTrue (literals_of clause.now x) → IsTrue (has_flag flags.new x)) }
@@ -126,6 +127,7 @@ fn reserve_all(flags: &mut Flags, clause: &[Lit]) -> Result<(), OutOfMemory>
     Ok(())
 }
 
+#[inline(always)]
 fn clear_all(flags: &mut Flags, literals: &[Lit])
     ensures cleared { (x : ℤ) → is_set flags.new x ≡ (not (literals_of literals.now x) && is_set flags.old x) }
     ensures flags { (x : ℤ) → has_flag flags.new x ≡ has_flag flags.old x }
@@ -136,6 +138,7 @@ fn clear_all(flags: &mut Flags, literals: &[Lit])
 }
 
 // Puts a clause's literals on an empty trail. The room was reserved.
+#[inline(always)]
 fn fill(literals: &mut Vec<Lit>, flags: &mut Flags, clause: &[Lit])
     requires empty { literals.old.items ≡ [] }
     requires trail { IsTrail flags.old literals.old.items }

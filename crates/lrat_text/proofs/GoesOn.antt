@@ -1,7 +1,7 @@
 -- Numbers that are taken from the scanner at once say what their tokens say.
 use Rattle.std.proofs.Common.{◌≡◌, ℕ, zero, suc, ◌≤◌, Bool, true, false, ℤ, pos, negsuc, w64, to_z, of_z, List, [], ◌∷◌, ◌++◌, Option, Some}
 use Rattle.std.proofs.Common.{None, ◌==◌, if◌then◌else◌, refl, sym, ◌∙◌, ap, subst, arith}
-use Rattle.lrat_text.specs.declared.reader.Status.TheVariants.{Reading}
+use Rattle.lrat_text.specs.declared.reader.ReaderStatus.TheVariants.{Reading}
 use Rattle.std.specs.Prelude.{Result, ◌+◌, IsTrue, nat_abs, min}
 use Rattle.std.specs.Option.{option_map, option_and_then}
 use Rattle.std.proofs.lemmas.Bool.Decides.{nat_tests}
@@ -45,16 +45,9 @@ negative_pos None n h = cc
 negative_pos (Some zero) n h = cc
 negative_pos (Some (suc v)) n h = cc
 
-pos_pos : (value : Option ℕ) (n : ℕ) → option_map pos value ≡ Some (pos n) → value ≡ Some n
-pos_pos None n h = cc
-pos_pos (Some v) n h = cc
-
 pos_negative : (value : Option ℕ) (n : ℕ) → option_map pos value ≡ Some (negsuc n) → ⊥
 pos_negative None n h = cc
 pos_negative (Some v) n h = cc
-
-minus_numeral : (bytes : List ℕ) → numeral_value (45 ∷ bytes) ≡ None
-minus_numeral bytes = refl
 
 plain_value : (bytes : List ℕ) (number : ℤ) → signed_value bytes ≡ Some number → option_map pos (numeral_value bytes) ≡ unsigned number
 plain_value [] number is = cc
@@ -148,18 +141,6 @@ GoesOn-number number old new took begun draft status line =
       line = line;
       less = omega (arith, took.gave.less);
     }
-
-pub GoesOn-same : (reader : Reader) → GoesOn reader reader
-GoesOn-same reader = record {
-  steps = λ more. refl;
-  so_far = λ more. refl;
-  scanning = refl;
-  faulted = refl;
-  begun = refl;
-  status = refl;
-  line = refl;
-  less = omega arith;
-}
 
 pub GoesOn-then : {a b c : Reader} → GoesOn a b → GoesOn b c → GoesOn a c
 GoesOn-then p q = record {

@@ -11,7 +11,7 @@ use Rattle.text_scan.specs.Scan.{ahead}
 use Rattle.text_scan.specs.Decides.{Decides, Decides-then}
 use Rattle.lrat_text.specs.declared.error.StepError.{StepError}
 use Rattle.lrat_text.specs.declared.error.StepError.TheVariants.{Syntax, ReadFault, TooLong, OutOfMemory}
-use Rattle.lrat_text.specs.declared.reader.Status.TheVariants.{Reading, Ended, Failed}
+use Rattle.lrat_text.specs.declared.reader.ReaderStatus.TheVariants.{Reading, Ended, Failed}
 use Rattle.lrat_text.specs.Steps.{Steps, overlong, next_step, step_then}
 use Rattle.lrat_text.specs.Draft.{DraftLine, no_draft, draft_of_word, with_token, is_open, judged, drafted}
 use Rattle.lrat_text.specs.Reader.{Reader, Gives, Settles, steps_in, steps_ahead, open_count, is_under}

@@ -5,7 +5,7 @@ use Rattle.std.proofs.lemmas.Bool.Decides.{nat_tests}
 use Rattle.cnf_base.specs.declared.step.Step.{Step}
 use Rattle.cnf_base.specs.Text.{Word}
 use Rattle.text_scan.specs.Items.{too_long, next_word}
-use Rattle.text_scan.specs.declared.scanner.Status.TheVariants.{Reading as Scanning, Ended as ScanEnded, Overlong, Faulted}
+use Rattle.text_scan.specs.declared.scanner.ScanStatus.TheVariants.{Reading as Scanning, Ended as ScanEnded, Overlong, Faulted}
 use Rattle.text_scan.specs.declared.scanner.ScanError.TheVariants.{ReadFault as ScanFault}
 use Rattle.text_scan.specs.Scan.{Scan, so_far as scan_so_far, is_reading as is_scanning, is_faulted, last_answer as last_scanned}
 use Rattle.lrat_text.specs.declared.error.StepError.{StepError}

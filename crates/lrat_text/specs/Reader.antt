@@ -5,8 +5,8 @@ use Rattle.cnf_base.specs.declared.step.Step.{Step}
 use Rattle.text_scan.specs.Scan.{Scan, TookNumber, ahead, so_far as scan_so_far, is_reading as is_scanning, is_faulted, fuel as scan_fuel}
 use Rattle.lrat_text.specs.declared.error.StepError.{StepError}
 use Rattle.lrat_text.specs.declared.error.StepError.TheVariants.{Syntax, ReadFault, TooLong, OutOfMemory}
-use Rattle.lrat_text.specs.declared.reader.Status.{Status}
-use Rattle.lrat_text.specs.declared.reader.Status.TheVariants.{Reading, Ended, Failed}
+use Rattle.lrat_text.specs.declared.reader.ReaderStatus.{ReaderStatus}
+use Rattle.lrat_text.specs.declared.reader.ReaderStatus.TheVariants.{Reading, Ended, Failed}
 use Rattle.lrat_text.specs.Steps.{Steps, no_more, overlong, no_step, next_step, broken_off}
 use Rattle.lrat_text.specs.Draft.{DraftLine, is_open, judged, drafted}
 
@@ -14,11 +14,11 @@ use Rattle.lrat_text.specs.Draft.{DraftLine, is_open, judged, drafted}
 pub record Reader : Type 0 where
   pub scan : Scan
   pub draft : DraftLine
-  pub status : Status
+  pub status : ReaderStatus
   pub line : ℕ
 
 -- the steps that are still to be given, where these bytes follow those taken
-abbrev pub steps_in : Status → Reader → List ℕ → Steps
+abbrev pub steps_in : ReaderStatus → Reader → List ℕ → Steps
 steps_in Reading reader more = drafted (ahead reader.scan more) reader.draft
 steps_in Ended reader more = no_more reader.line
 steps_in (Failed (Syntax line)) reader more = no_step line
@@ -33,7 +33,7 @@ steps_ahead reader more = steps_in reader.status reader more
 abbrev pub so_far : Reader → List ℕ → Steps
 so_far reader more = drafted (broken_off (scan_so_far reader.scan more)) reader.draft
 
-abbrev pub is_reading : Status → Bool
+abbrev pub is_reading : ReaderStatus → Bool
 is_reading Reading = true
 is_reading Ended = false
 is_reading (Failed error) = false
@@ -42,7 +42,7 @@ is_reading (Failed error) = false
 abbrev pub open_count : DraftLine → ℕ
 open_count draft = if is_open draft then 1 else 0
 
-abbrev pub fuel_in : Status → Reader → ℕ
+abbrev pub fuel_in : ReaderStatus → Reader → ℕ
 fuel_in Reading reader = scan_fuel reader.scan + open_count reader.draft
 fuel_in Ended reader = 0
 fuel_in (Failed error) reader = 0
@@ -91,7 +91,7 @@ Moves (Ok None) old new = new.status ≡ Ended
 Moves (Err error) old new = (new.status ≡ Failed error) × (new.line ≡ old.line)
 
 -- the answer of a reader that has stopped
-abbrev pub last_answer : Status → Result (Option (Step × ℕ)) StepError
+abbrev pub last_answer : ReaderStatus → Result (Option (Step × ℕ)) StepError
 last_answer Reading = Ok None
 last_answer Ended = Ok None
 last_answer (Failed error) = Err error

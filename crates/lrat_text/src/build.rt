@@ -4,8 +4,8 @@ ghost use Rattle.std.specs.Prelude.{length, Option, None, Some, Ok, OnOk, OnErr,
 ghost use Rattle.std.specs.List.{list_all};
 ghost use Rattle.std.specs.Option.{option_map};
 ghost use Rattle.cnf_base.specs.Truth.{is_literal_of};
-ghost use Rattle.cnf_base.specs.ProofText.{max_id, max_literal, is_id, is_hint, is_zero, split_at, given_if, hints_before_group, groups_of};
 ghost use Rattle.cnf_base.specs.ProofText.{addition_of};
+ghost use Rattle.cnf_base.specs.ProofText.{max_id, max_literal, is_id, is_hint, is_zero, split_at, given_if, hints_before_group, groups_of};
 ghost use Rattle.lrat_text.specs.Numbers.{addition_by, deletion_from, deletion_with};
 
 use crate::lists::Lists;
@@ -26,17 +26,30 @@ fn is_zero_at(numbers: &[i64], place: usize) -> bool
     numbers[place] == 0
 }
 
-// Where the first zero stands.
-fn first_zero(numbers: &[i64]) -> Option<usize>
-    ensures split { split_at is_zero numbers.now ≡ option_map (λ n. (take n numbers.now, drop (n + 1) numbers.now)) result }
-    ensures within { IfSome result (λ n. n < length numbers.now) }
+// Where the first zero stands, and whether the numbers before it have at most this magnitude. No test of a number before it
+// is a branch but the one for zero.
+fn first_zero(numbers: &[i64], most: u64) -> Option<(usize, bool)>
+    ensures split { split_at is_zero numbers.now
+        ≡ option_map (λ found. (take found.0 numbers.now, drop (found.0 + 1) numbers.now)) result }
+    ensures within { IfSome result (λ found. found.0 < length numbers.now) }
+    ensures fits { IfSome result (λ found. found.1 ≡ list_all (is_literal_of most) (take found.0 numbers.now)) }
 {
+    let mut fits = true;
     for place in 0..numbers.len() {
         if is_zero_at(numbers, place) {
-            return Some(place);
+            return Some((place, fits));
         }
+        fits &= is_within(numbers[place], most);
     }
     None
+}
+
+#[inline(always)]
+fn is_within(number: i64, most: u64) -> bool
+    ensures { result ≡ is_literal_of most number }
+{
+    let magnitude = number.unsigned_abs();
+    magnitude > 0 && magnitude <= most
 }
 
 #[inline(always)]
@@ -44,33 +57,6 @@ fn is_id(id: u64) -> bool
     ensures { result ≡ is_id id }
 {
     id > 0 && id <= MAX_ID
-}
-
-#[inline(always)]
-fn is_hint(hint: i64) -> bool
-    ensures { result ≡ is_hint hint }
-{
-    is_id(hint.unsigned_abs())
-}
-
-#[inline(always)]
-fn is_literal(literal: i64) -> bool
-    ensures { result ≡ is_literal_of max_literal literal }
-{
-    let magnitude = literal.unsigned_abs();
-    magnitude > 0 && magnitude <= MAX_LITERAL
-}
-
-fn are_hints(hints: &[i64]) -> bool
-    ensures { result ≡ list_all is_hint hints.now }
-{
-    hints.iter().all(|hint| is_hint(*hint))
-}
-
-fn are_literals(literals: &[i64]) -> bool
-    ensures { result ≡ list_all (is_literal_of max_literal) literals.now }
-{
-    literals.iter().all(|literal| is_literal(*literal))
 }
 
 // The list becomes the clause of these literals.
@@ -173,35 +159,42 @@ pub fn put_addition(
     ensures step { IfOk result (λ is_step. addition_by id numbers.now ≡ given_if is_step step.new) }
     ensures memory { OnErr result (IsTrue (is_some (addition_by id numbers.now))) }
 {
-    let Some(end) = first_zero(numbers) else {
+    let Some((end, are_literals)) = first_zero(numbers, MAX_LITERAL) else {
         return Ok(false);
     };
     let rest = &numbers[end + 1..];
-    let Some(hints_end) = first_zero(rest) else {
+    let Some((hints_end, are_hints)) = first_zero(rest, MAX_ID) else {
         return Ok(false);
     };
     put_addition_of(
         lists,
         id,
         &numbers[..end],
+        are_literals,
         &rest[..hints_end],
+        are_hints,
         &rest[hints_end + 1..],
         step,
     )
 }
 
+// The same of numbers that are parted, of which it is known whether they are good.
 fn put_addition_of(
     lists: &mut Lists,
     id: u64,
     literals: &[i64],
+    are_literals: bool,
     hints: &[i64],
+    are_hints: bool,
     rest: &[i64],
     step: &mut Step,
 ) -> Result<bool, OutOfMemory>
+    requires literals { are_literals ≡ list_all (is_literal_of max_literal) literals.now }
+    requires hints { are_hints ≡ list_all is_hint hints.now }
     ensures step { IfOk result (λ is_step. addition_of id literals.now (hints.now, rest.now) ≡ given_if is_step step.new) }
     ensures memory { OnErr result (IsTrue (is_some (addition_of id literals.now (hints.now, rest.now)))) }
 {
-    if !(is_id(id) && are_literals(literals) && are_hints(hints) && rest.is_empty()) {
+    if !(is_id(id) && are_literals && are_hints && rest.is_empty()) {
         return Ok(false);
     }
     // The lists of an addition are filled where they stand.
@@ -236,23 +229,32 @@ pub fn put_deletion(
     ensures step { IfOk result (λ is_step. deletion_from id numbers.now ≡ given_if is_step step.new) }
     ensures memory { OnErr result (IsTrue (is_some (deletion_from id numbers.now))) }
 {
-    let Some(end) = first_zero(numbers) else {
+    let Some((end, are_ids)) = first_zero(numbers, MAX_ID) else {
         return Ok(false);
     };
-    put_deletion_with(lists, id, &numbers[..end], &numbers[end + 1..], step)
+    put_deletion_with(
+        lists,
+        id,
+        &numbers[..end],
+        are_ids,
+        &numbers[end + 1..],
+        step,
+    )
 }
 
 fn put_deletion_with(
     lists: &mut Lists,
     id: u64,
     ids: &[i64],
+    are_ids: bool,
     rest: &[i64],
     step: &mut Step,
 ) -> Result<bool, OutOfMemory>
+    requires { are_ids ≡ list_all is_hint ids.now }
     ensures step { IfOk result (λ is_step. deletion_with id (ids.now, rest.now) ≡ given_if is_step step.new) }
     ensures memory { OnErr result (IsTrue (is_some (deletion_with id (ids.now, rest.now)))) }
 {
-    if !(id <= MAX_ID && are_hints(ids) && rest.is_empty()) {
+    if !(id <= MAX_ID && are_ids && rest.is_empty()) {
         return Ok(false);
     }
     if let Step::Delete {

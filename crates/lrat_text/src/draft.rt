@@ -158,13 +158,28 @@ impl Draft {
         ensures ok { OnOk result (self.new ≡ draft_with_number self.old number) }
         ensures kept { OnErr result (IsTrue (has_numbers self.new)) }
     {
+        // Most numbers are of additions.
+        if self.kind == Kind::Adds || self.kind == Kind::Begun {
+            self.kind = Kind::Adds;
+            return self.put_number(number);
+        }
+        self.take_rare_number(number)
+    }
+
+    // The same of any line. It stands apart, so that the loop over an addition's numbers stays small.
+    #[cold]
+    #[inline(never)]
+    fn take_rare_number(&mut self, number: i64) -> Result<(), OutOfMemory>
+        ensures ok { OnOk result (self.new ≡ draft_with_number self.old number) }
+        ensures kept { OnErr result (IsTrue (has_numbers self.new)) }
+    {
         match self.kind {
             Kind::Empty => Ok(()),
             Kind::Begun => {
                 self.kind = Kind::Adds;
-                self.put(Some(number))
+                self.put_number(number)
             }
-            Kind::Adds => self.put(Some(number)),
+            Kind::Adds => self.put_number(number),
             Kind::Deletes => self.put(unsigned(number)),
         }
     }
@@ -177,11 +192,25 @@ impl Draft {
     {
         match number {
             None => self.broken = true,
-            Some(number) => {
-                if !self.broken {
-                    self.numbers.push(number)?;
-                }
-            }
+            Some(number) => self.put_number(number)?,
+        }
+        Ok(())
+    }
+
+    // One number more, unless a token was none. Mostly there is room for it.
+    #[inline(always)]
+    fn put_number(&mut self, number: i64) -> Result<(), OutOfMemory>
+        ensures ok { OnOk result (self.new ≡ draft_as self.old self.old.kind (with_given self.old.numbers (Some number))) }
+        ensures memory { OnErr result (IsTrue (is_some (with_given self.old.numbers (Some number)))) }
+        ensures kept { OnErr result (IsTrue (has_numbers self.new)) }
+    {
+        if self.broken {
+            return Ok(());
+        }
+        if self.numbers.len() < self.numbers.capacity() {
+            self.numbers.push_reserved(number);
+        } else {
+            self.numbers.push(number)?;
         }
         Ok(())
     }

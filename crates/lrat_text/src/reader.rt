@@ -3,7 +3,7 @@ ghost use Rattle.std.specs.Prelude.{◌≡◌, ◌≢◌, ℕ, ◌+◌, ◌^◌,
 ghost use Rattle.host_io.specs.Channel.{Rose};
 ghost use Rattle.text_scan.specs.Decides.{gained, Decides, OnlyReads};
 ghost use Rattle.lrat_text.specs.declared.error.StepError.TheVariants.{ReadFault, TooLong, OutOfMemory};
-ghost use Rattle.lrat_text.specs.declared.reader.Status.TheVariants.{Reading, Ended, Failed};
+ghost use Rattle.lrat_text.specs.declared.reader.ReaderStatus.TheVariants.{Reading, Ended, Failed};
 ghost use Rattle.lrat_text.specs.Steps.{steps, steps_so_far};
 ghost use Rattle.lrat_text.specs.Draft.{no_draft, draft_of_number, draft_of_word, has_numbers, is_open, with_token};
 ghost use Rattle.lrat_text.specs.Reader.{given, Gives, GivesSoFar, Moves, steps_ahead, so_far, is_reading, last_answer, is_under};
@@ -20,7 +20,7 @@ use text_scan::{ScanError, Scanner, Token};
 
 /// Whether a reader still reads, and else what it answers from now on.
 #[derive(Clone, Copy, Debug, PartialEq, Eq)]
-enum Status {
+enum ReaderStatus {
     Reading,
     Ended,
     Failed(StepError),
@@ -32,14 +32,14 @@ pub struct StepReader {
     scanner: Scanner,
     draft: Draft,
     lists: Lists,
-    status: Status,
+    status: ReaderStatus,
     line: u64,
 }
 
 impl Model for StepReader {
     ghost use Rattle.std.specs.Prelude.{◌≡◌, false};
     ghost use Rattle.text_scan.specs.Scan.{is_faulted};
-    ghost use Rattle.lrat_text.specs.declared.reader.Status.TheVariants.{Reading};
+    ghost use Rattle.lrat_text.specs.declared.reader.ReaderStatus.TheVariants.{Reading};
     ghost use Rattle.lrat_text.specs.Reader.{Reader};
 
     ghost Value = { Reader };
@@ -62,7 +62,7 @@ impl StepReader {
             scanner: Scanner::new(b'c', limit),
             draft: Draft::new(alloc),
             lists: Lists::new(alloc),
-            status: Status::Reading,
+            status: ReaderStatus::Reading,
             line: 1,
         }
     }
@@ -136,9 +136,9 @@ impl StepReader {
         ensures beside { S.beside source.new ≡ S.beside source.old }
     {
         match self.status {
-            Status::Reading => self.read_on(source, step),
-            Status::Ended => Ok(None),
-            Status::Failed(error) => Err(error),
+            ReaderStatus::Reading => self.read_on(source, step),
+            ReaderStatus::Ended => Ok(None),
+            ReaderStatus::Failed(error) => Err(error),
         }
     }
 
@@ -159,13 +159,13 @@ impl StepReader {
         ensures reads { OnlyReads (S.channel source.old) (S.channel source.new) }
         ensures beside { S.beside source.new ≡ S.beside source.old }
     {
-        let mut token = Token::blank();
         'tokens: loop {
             self.take_numbers()?;
             match self.number_of_another_line() {
                 Some(number) => return self.give_before_number(number, step),
                 None => {}
             }
+            let mut token = Token::blank();
             match self.scanner.next_into(source, &mut token) {
                 Ok(true) => {
                     if self.draft.is_open() && self.draft.line() != token.line() {
@@ -176,7 +176,7 @@ impl StepReader {
                 Ok(false) => return self.give_at_end(step),
                 Err(ScanError::TooLong) => return self.give_at_limit(step),
                 Err(ScanError::ReadFault) => {
-                    self.status = Status::Failed(StepError::ReadFault);
+                    self.status = ReaderStatus::Failed(StepError::ReadFault);
                     return Err(StepError::ReadFault);
                 }
             }
@@ -269,7 +269,7 @@ impl StepReader {
         ensures stopped { is_open self.old.draft ≡ false → self.new ≡ record self.old { status = Ended; line = self.old.scan.line } }
     {
         if !self.draft.is_open() {
-            self.status = Status::Ended;
+            self.status = ReaderStatus::Ended;
             self.line = self.scanner.line();
             return Ok(None);
         }
@@ -316,7 +316,7 @@ impl StepReader {
         ensures same { result ≡ error }
         ensures stopped { self.new ≡ record self.old { status = Failed error } }
     {
-        self.status = Status::Failed(error);
+        self.status = ReaderStatus::Failed(error);
         error
     }
 }

@@ -18,3 +18,4 @@ pub mod Laws
 pub mod HandedOn
 pub mod Refused
 pub mod Marking
+pub mod NodeHash

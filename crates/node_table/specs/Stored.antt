@@ -5,6 +5,7 @@ use Rattle.std.specs.Prelude.{Option, None, Some}
 use Rattle.std.specs.FinMap as map
 use Rattle.slab.specs.Slab.{Slab, get, slab_len}
 use Rattle.cnf_base.specs.ProofText.{max_id}
+use Rattle.cnf_base.specs.Limits.{max_vars, most_nodes_allowed}
 use Rattle.node_table.specs.declared.node.Node.{Node}
 use Rattle.node_table.specs.declared.node.Node.TheVariants.{False, True, Inner}
 use Rattle.node_table.specs.declared.node.Branch.{Branch}
@@ -33,7 +34,7 @@ child_of node = record { word = word_of_node node }
 abbrev pub HasSmallKey : Node → Type 0
 HasSmallKey False = Unit {0}
 HasSmallKey True = Unit {0}
-HasSmallKey (Inner key) = key.index < 100000000
+HasSmallKey (Inner key) = key.index < most_nodes_allowed
 
 -- the number of two halves
 abbrev pub number_of : Halves → ℕ
@@ -67,11 +68,11 @@ pub record ArePlaces (order places : List ℕ) : Type 0 where
 -- index finds them.
 pub record IsStored (order places : List ℕ) (index : Index) (nodes : Slab StoredNode) : Type 0 where
   pub ordered : IsOrder order
-  pub few_levels : length order ≤ 1000000
-  pub few_nodes : slab_len nodes ≤ 100000000
+  pub few_levels : length order ≤ max_vars
+  pub few_nodes : slab_len nodes ≤ most_nodes_allowed
   pub inverse : ArePlaces order places
   pub reduced : IsReduced (graph_of order nodes.slots)
-  pub small_keys : (key : ℕ) (node : StoredNode) → get nodes key ≡ Some node → key < 100000000
+  pub small_keys : (key : ℕ) (node : StoredNode) → get nodes key ≡ Some node → key < most_nodes_allowed
   pub firsts : (key : ℕ) (node : StoredNode) → get nodes key ≡ Some node → number_of node.first ≤ max_id + 1
   pub indexed : IsIndexOf index nodes
 

@@ -5,6 +5,7 @@ ghost use Rattle.std.specs.Prelude.{vec_capacity, IsTrue};
 ghost use Rattle.std.specs.FinMap as map;
 ghost use Rattle.cnf_base.specs.Truth.{assignment_of};
 ghost use Rattle.cnf_base.specs.ProofText.{max_id};
+ghost use Rattle.cnf_base.specs.Limits.{max_vars, most_nodes_allowed};
 ghost use Rattle.node_table.specs.Diagram.{Graph, IsOrder, IsReduced, IsBelow, IsNew, IsWanted, branch_at, branch_of, is_node, levels};
 ghost use Rattle.node_table.specs.Diagram.{variable_at};
 ghost use Rattle.node_table.specs.Value.{value_of, by_level, IsChosen};
@@ -60,7 +61,7 @@ impl Diagram {
     /// No node, over the variables 1, 2, .. in this order.
     pub fn new(alloc: Global, order: &[u32]) -> Result<Diagram, OutOfMemory>
         requires order { IsOrder order.now }
-        requires few { length order.now ≤ 1000000 }
+        requires few { length order.now ≤ max_vars }
         ensures { IfOk result (λ diagram. diagram ≡ record { order = order.now; nodes = map.empty }) }
     {
         let places = places_of(alloc, order)?;
@@ -80,7 +81,7 @@ impl Diagram {
     pub fn diagram_law(&self)
         ensures reduced { IsReduced self.now }
         ensures ordered { IsOrder self.now.order }
-        ensures few_levels { levels self.now ≤ 1000000 }
+        ensures few_levels { levels self.now ≤ max_vars }
     {
         let _ = &self.order;
     }
@@ -88,7 +89,7 @@ impl Diagram {
     /// The variables, the top one first.
     pub fn order(&self) -> &[u32]
         ensures value { result.now ≡ self.now.order }
-        ensures few { levels self.now ≤ 1000000 }
+        ensures few { levels self.now ≤ max_vars }
     {
         self.order.as_slice()
     }
@@ -106,6 +107,7 @@ impl Diagram {
     }
 
     /// How many levels there are.
+    #[inline(always)]
     pub fn levels(&self) -> u32
         ensures { result ≡ levels self.now }
     {
@@ -113,15 +115,17 @@ impl Diagram {
     }
 
     /// The variable of a level.
+    #[inline(always)]
     pub fn variable(&self, level: u32) -> u32
         requires { level < levels self.now }
         ensures value { result ≡ variable_at self.now level }
-        ensures range { (0 < result) × (result ≤ levels self.now) × (levels self.now ≤ 1000000) }
+        ensures range { (0 < result) × (result ≤ levels self.now) × (levels self.now ≤ max_vars) }
     {
         self.order.as_slice()[level as usize]
     }
 
     /// What a node puts into a clause.
+    #[inline(always)]
     pub fn atom(&self, node: Node) -> Atom
         ensures { result ≡ atom_of self.now node }
     {
@@ -133,6 +137,7 @@ impl Diagram {
     }
 
     // The literal of an inner node, and nothing for a name that isn't in use.
+    #[inline(always)]
     fn inner_atom(&self, node: Node) -> Atom
         ensures { result ≡ atom_in (branch_of self.now node) }
     {
@@ -158,6 +163,7 @@ impl Diagram {
     }
 
     /// The inner node of this name; None for a constant.
+    #[inline(always)]
     pub fn branch(&self, node: Node) -> Option<Branch>
         ensures branch { result ≡ branch_of self.now node }
         ensures first { IfSome result (λ branch. branch.first ≤ max_id + 1) }
@@ -169,6 +175,7 @@ impl Diagram {
     }
 
     // The inner node under a key.
+    #[inline(always)]
     fn branch_at(&self, key: u32) -> Option<Branch>
         ensures branch { result ≡ branch_at self.now key }
         ensures first { IfSome result (λ branch. branch.first ≤ max_id + 1) }
@@ -211,7 +218,7 @@ impl Diagram {
         requires high { IsBelow self.old level high }
         requires low { IsBelow self.old level low }
         requires wanted { IsWanted self.old level high low }
-        requires few { map.len self.old.nodes < 100000000 }
+        requires few { map.len self.old.nodes < most_nodes_allowed }
         requires first { first ≤ max_id + 1 }
         ensures ok { IfOk result (λ made. IsNew self.old self.new made.0.index
             (record { level = level; variable = made.1; high = high; low = low; first = first })) }
@@ -281,6 +288,7 @@ impl Diagram {
 }
 
 /// The literal of a variable.
+#[inline(always)]
 pub fn positive(variable: u32) -> Lit
     requires { (0 < variable) × (variable ≤ 2147483647) }
     ensures { result ≡ pos variable }
@@ -322,7 +330,7 @@ fn is_true(values: &[bool], variable: u32) -> bool
 // The place of each variable in the order.
 fn places_of(alloc: Global, order: &[u32]) -> Result<Vec<u32>, OutOfMemory>
     requires order { IsOrder order.now }
-    requires few { length order.now ≤ 1000000 }
+    requires few { length order.now ≤ max_vars }
     ensures { IfOk result (λ places. ArePlaces order.now places.items) }
 {
     let mut places = Vec::new(alloc);

@@ -141,6 +141,7 @@ impl fmt::Debug for Index {
 }
 
 // Where the search for a triple begins.
+#[inline(always)]
 fn home_of(
     hasher: BuildHasherDefault<FoldHasher>,
     size: usize,
@@ -157,6 +158,7 @@ fn home_of(
 }
 
 // The place so many steps on from the home; behind the last place comes the first one.
+#[inline(always)]
 fn place_at(size: usize, home: usize, steps: usize) -> usize
     requires home { home < size }
     requires steps { steps < size }
@@ -169,6 +171,7 @@ fn place_at(size: usize, home: usize, steps: usize) -> usize
 }
 
 // Whether the node of this key has this level and these children.
+#[inline(always)]
 fn is_triple_at(nodes: &Slab<StoredNode>, key: u32, level: u32, high: Child, low: Child) -> bool
     ensures yes { IsTrue result → (node : Stored) × (get nodes.now key ≡ Some node) × IsTriple node level high low }
     ensures no { IsFalse result → (node : Stored) → get nodes.now key ≡ Some node → IsTriple node level high low → ⊥ }

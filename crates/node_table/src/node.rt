@@ -1,5 +1,9 @@
 // Nodes of diagrams, named by keys. (Bryant: Graph-Based Algorithms for Boolean Function Manipulation, 1986.)
+ghost use Rattle.std.specs.Prelude.{◌≡◌};
+ghost use Rattle.node_table.specs.NodeHash.{hash_word};
+
 use cnf_base::Id;
+use std::hash::{Hash, Hasher};
 
 /// Names an inner node of a table.
 #[derive(Clone, Copy, Debug, PartialEq, Eq, Hash)]
@@ -8,12 +12,40 @@ pub struct NodeKey {
 }
 
 /// The diagram of a Boolean function, by its top node. Equal nodes of a table are equal functions.
-#[derive(Clone, Copy, Debug, PartialEq, Eq, Hash)]
+#[derive(Clone, Copy, Debug, PartialEq, Eq)]
 pub enum Node {
     False,
     True,
     /// Decides by a variable.
     Inner(NodeKey),
+}
+
+// A node is hashed as one number, so that a pair takes two steps.
+impl Hash for Node {
+    ghost use Rattle.std.specs.Hash as fed;
+    ghost use Rattle.std.specs.Cmp.Rules.{hashing};
+    ghost use Rattle.std.proofs.Common.{rules};
+    ghost use Rattle.node_table.specs.NodeHash.{hash_word};
+
+    ghost hash_input = { λ node. fed.u32 (hash_word node) };
+
+    ghost respects_eq = { Prim.search (hashing, rules) };
+
+    #[inline(always)]
+    fn hash<H: Hasher>(&self, state: &mut H) {
+        state.write_u32(hash_word(*self));
+    }
+}
+
+#[inline(always)]
+fn hash_word(node: Node) -> u32
+    ensures { result ≡ hash_word node }
+{
+    match node {
+        Node::False => u32::MAX,
+        Node::True => u32::MAX - 1,
+        Node::Inner(key) => key.index,
+    }
 }
 
 /// The numbers of a node's defining clauses, where they exist: from the high and the low child up to the node, and from

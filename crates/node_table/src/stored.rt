@@ -47,6 +47,7 @@ impl Child {
     }
 
     /// The node of the word.
+    #[inline(always)]
     pub fn node(self) -> Node
         ensures { result ≡ node_of_word self.word }
     {
@@ -70,6 +71,7 @@ impl Halves {
     }
 
     /// The number of the two words.
+    #[inline(always)]
     pub fn number(self) -> u64
         ensures { result ≡ number_of self }
     {
@@ -94,6 +96,7 @@ impl StoredNode {
     }
 
     /// The node of the words.
+    #[inline(always)]
     pub fn branch(&self) -> Branch
         ensures { result ≡ branch_in self.now }
     {

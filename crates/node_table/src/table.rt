@@ -6,6 +6,7 @@ ghost use Rattle.std.specs.Prelude.{length, vec_capacity};
 ghost use Rattle.std.specs.Option.{option_copied, option_map};
 ghost use Rattle.std.specs.FinMap as map;
 ghost use Rattle.cnf_base.specs.Truth.{assignment_of, AreClausesOf};
+ghost use Rattle.cnf_base.specs.Limits.{max_vars, most_nodes_allowed};
 ghost use Rattle.lrat_rules.specs.State.{clause_at, start};
 ghost use Rattle.lrat_rules.specs.Strict.{RefutesStrictly};
 ghost use Rattle.clause_ledger.specs.Book.{IsTorn, deletion_line, next_line, with_next};
@@ -55,6 +56,7 @@ pub struct Table<S: Sink + Drop> {
 
 impl<S: Sink + Drop> Model for Table<S> {
     ghost use Rattle.std.specs.Prelude.{◌≤◌, IsTrue, vec_capacity};
+    ghost use Rattle.cnf_base.specs.Limits.{most_nodes_allowed};
     ghost use Rattle.node_table.specs.Table.{TableState, table_code, live_nodes};
     ghost use Rattle.node_table.specs.Places.{HavePlaces, AreNumberedAbove};
 
@@ -70,7 +72,7 @@ impl<S: Sink + Drop> Model for Table<S> {
       retired = t.retired.items;
     } };
 
-    ghost invariant = { λ t. (t.max_nodes ≤ 100000000) × (live_nodes t.diagram ≤ t.max_nodes)
+    ghost invariant = { λ t. (t.max_nodes ≤ most_nodes_allowed) × (live_nodes t.diagram ≤ t.max_nodes)
         × (IsTrue t.ledger.in_step → HavePlaces t.diagram t.ledger.state.live t.inputs t.places (vec_capacity t.retired))
         × AreNumberedAbove t.inputs t.diagram };
 }
@@ -85,8 +87,8 @@ impl<S: Sink + Drop> Table<S> {
         max_nodes: u32,
     ) -> Result<Table<S>, (Ledger<S>, OutOfMemory)>
         requires order { IsOrder order.now }
-        requires few_levels { length order.now ≤ 1000000 }
-        requires few_nodes { max_nodes ≤ 100000000 }
+        requires few_levels { length order.now ≤ max_vars }
+        requires few_nodes { max_nodes ≤ most_nodes_allowed }
         ensures opened { IfOk result (λ table. table ≡ record {
           graph = record { order = order.now; nodes = map.empty };
           book = ledger;
@@ -105,7 +107,7 @@ impl<S: Sink + Drop> Table<S> {
     /// A table without nodes over the formula's clauses. `max_nodes` is the greatest number of inner nodes that may be
     /// live at once.
     pub fn new(alloc: Global, ledger: Ledger<S>, diagram: Diagram, max_nodes: u32) -> Self
-        requires few { max_nodes ≤ 100000000 }
+        requires few { max_nodes ≤ most_nodes_allowed }
         requires empty { diagram.nodes ≡ map.empty }
         ensures { result ≡ record { graph = diagram; book = ledger; max_nodes = max_nodes; inputs = ledger.state.top; retired = [] } }
     {
@@ -124,7 +126,7 @@ impl<S: Sink + Drop> Table<S> {
     pub fn table_law(&self)
         ensures reduced { IsReduced self.now.graph }
         ensures ordered { IsOrder self.now.graph.order }
-        ensures few_levels { levels self.now.graph ≤ 1000000 }
+        ensures few_levels { levels self.now.graph ≤ max_vars }
         ensures few_nodes { live_nodes self.now.graph ≤ self.now.max_nodes }
     {
         let _ = self.max_nodes;
@@ -296,6 +298,7 @@ impl<S: Sink + Drop> Table<S> {
     }
 
     /// The level of an inner node and its children; None for a constant.
+    #[inline(always)]
     pub fn parts(&self, node: Node) -> Option<(u32, Node, Node)>
         ensures { MatchOption result (branch_of self.now.graph node ≡ None)
             (λ parts. (branch : BranchValue) × (branch_of self.now.graph node ≡ Some branch) × (parts.0 ≡ branch.level)
@@ -308,6 +311,7 @@ impl<S: Sink + Drop> Table<S> {
     }
 
     /// The level of a node, from 0; the constants stand below all levels.
+    #[inline(always)]
     pub fn level_of(&self, node: Node) -> u32
         ensures { result ≡ level_of self.now.graph node }
     {
@@ -318,6 +322,7 @@ impl<S: Sink + Drop> Table<S> {
     }
 
     /// The cofactors of a node at a level: its children where it is of this level, else the node itself.
+    #[inline(always)]
     pub fn cofactors(&self, level: u32, node: Node) -> (Node, Node)
         ensures high { result.0 ≡ high_at self.now.graph level node }
         ensures low { result.1 ≡ low_at self.now.graph level node }
@@ -330,6 +335,7 @@ impl<S: Sink + Drop> Table<S> {
     }
 
     /// The literal of the variable of a level.
+    #[inline(always)]
     pub fn variable(&self, level: u32) -> Lit
         requires { level < levels self.now.graph }
         ensures { result ≡ pos (variable_at self.now.graph level) }
@@ -338,6 +344,7 @@ impl<S: Sink + Drop> Table<S> {
     }
 
     /// What a node puts into a clause.
+    #[inline(always)]
     pub fn atom(&self, node: Node) -> Atom
         ensures { result ≡ atom_of self.now.graph node }
     {
@@ -355,6 +362,7 @@ impl<S: Sink + Drop> Table<S> {
     }
 
     /// The numbers of a node's defining clauses; None for a constant.
+    #[inline(always)]
     pub fn definitions(&self, node: Node) -> Option<Defs>
         ensures { result ≡ option_map defs_of (branch_of self.now.graph node) }
     {
@@ -383,7 +391,7 @@ impl<S: Sink + Drop> Table<S> {
     /// The variables, the top one first.
     pub fn order(&self) -> &[u32]
         ensures value { result.now ≡ self.now.graph.order }
-        ensures few { levels self.now.graph ≤ 1000000 }
+        ensures few { levels self.now.graph ≤ max_vars }
     {
         self.diagram.order()
     }

@@ -81,6 +81,7 @@ pub fn just_part<S: Sink + Drop>(table: &Table<S>, just: &Just) -> Option<Part>
 }
 
 // The numbers of a node's defining clauses, where it is of this level.
+#[inline(always)]
 fn definitions_at<S: Sink + Drop>(table: &Table<S>, level: u32, node: Node) -> Option<Defs>
     ensures { MatchOption result ((high_at table.now.graph level node ≡ node) × (low_at table.now.graph level node ≡ node))
         (λ defs. (branch : Branch) × (branch_of table.now.graph node ≡ Some branch) × (branch.level ≡ level) × (defs ≡ defs_of branch)) }
@@ -92,6 +93,7 @@ fn definitions_at<S: Sink + Drop>(table: &Table<S>, level: u32, node: Node) -> O
     }
 }
 
+#[inline(always)]
 fn up_id(side: Side, defs: &Defs) -> Option<Id>
     ensures { result ≡ up_of side defs.now }
 {
@@ -101,6 +103,7 @@ fn up_id(side: Side, defs: &Defs) -> Option<Id>
     }
 }
 
+#[inline(always)]
 fn down_id(side: Side, defs: &Defs) -> Option<Id>
     ensures { result ≡ down_of side defs.now }
 {
@@ -111,6 +114,7 @@ fn down_id(side: Side, defs: &Defs) -> Option<Id>
 }
 
 // The literal of a level's variable that is false on this side.
+#[inline(always)]
 fn false_literal<S: Sink + Drop>(table: &Table<S>, level: u32, side: Side) -> Lit
     requires { level < levels table.now.graph }
     ensures { result ≡ false_literal side table.now.graph level }
@@ -122,6 +126,7 @@ fn false_literal<S: Sink + Drop>(table: &Table<S>, level: u32, side: Side) -> Li
     }
 }
 
+#[inline(always)]
 fn cofactor<S: Sink + Drop>(table: &Table<S>, level: u32, side: Side, node: Node) -> Node
     ensures { result ≡ cofactor_at side table.now.graph level node }
 {
@@ -133,6 +138,7 @@ fn cofactor<S: Sink + Drop>(table: &Table<S>, level: u32, side: Side, node: Node
 }
 
 // The clause of these atoms under its number. A definition stands as it was made, so that the ledger need not be asked.
+#[inline(always)]
 fn part_of(id: Option<Id>, atoms: &[Atom]) -> Option<Part>
     requires { length atoms.now ≤ 4 }
     ensures { result ≡ named_part id (clause_of atoms.now) }

@@ -18,7 +18,7 @@ use Rattle.operations.specs.Ended.{reached_all}
 use Rattle.operations.specs.Entries.{Entry, Fits, Fitting}
 use Rattle.operations.specs.Machine.{AwaitsLow, HighCame, IsAnswer, IsOpened, LowCame}
 use Rattle.quantify.specs.declared.quantify.Above.{Above}
-use Rattle.quantify.specs.declared.quantify.Caches.{Caches}
+use Rattle.quantify.specs.declared.quantify.BothCaches.{BothCaches}
 use Rattle.operations.specs.Caches.{Keeping}
 use Rattle.operations.specs.Pairs.{Pair, same_pair}
 use Rattle.quantify.specs.ExistsCache.{Question, RemembersQuantifications, both_caches, quantification, same_question}
@@ -30,22 +30,22 @@ use Rattle.quantify.proofs.Quantifications.{above_kept, high_child_below, high_q
 use Rattle.quantify.proofs.Quantifications.{quantification_of-kept, quantified_kept}
 use Rattle.quantify.proofs.Running.{Answer, runs_further, runs_part, runs_refused}
 
-pub lent_further : (one two three : Caches) → AreLent one two → AreLent two three → AreLent one three
+pub lent_further : (one two three : BothCaches) → AreLent one two → AreLent two three → AreLent one three
 lent_further one two three first second = record { exists = second.exists ∙ first.exists; ors = second.ors ∙ first.ors }
 
-pub lent_same : (caches : Caches) → AreLent caches caches
+pub lent_same : (caches : BothCaches) → AreLent caches caches
 lent_same caches = record { exists = refl; ors = refl }
 
-pub all_in : Caches → List Entry
+pub all_in : BothCaches → List Entry
 all_in caches = both_caches caches.exists.now caches.ors.now
 
 -- what both caches remember
-record RemembersBoth (before after : Caches) : Type 0 where
+record RemembersBoth (before after : BothCaches) : Type 0 where
   exists : RemembersQuantifications before.exists.now after.exists.now
   ors : RemembersDisjunctions before.ors.now after.ors.now
   lent : AreLent before after
 
-both_further : Keeping Question Node same_question → Keeping Pair Node same_pair → (one two three : Caches) → RemembersBoth one two
+both_further : Keeping Question Node same_question → Keeping Pair Node same_pair → (one two three : BothCaches) → RemembersBoth one two
     → RemembersBoth two three → RemembersBoth one three
 both_further exists_keeping or_keeping one two three first second = record {
   exists = exists_keeping.further quantification one.exists.now.results two.exists.now.results three.exists.now.results first.exists
@@ -54,7 +54,7 @@ both_further exists_keeping or_keeping one two three first second = record {
   lent = lent_further one two three first.lent second.lent;
 }
 
-both_same : (caches : Caches) → RemembersBoth caches caches
+both_same : (caches : BothCaches) → RemembersBoth caches caches
 both_same caches = record {
   exists = remembers_all quantification caches.exists.now.results;
   ors = remembers_all disjunction caches.ors.now.results;
@@ -63,26 +63,26 @@ both_same caches = record {
 
 module _ {S : Type 0} (tells : Bool) (channel : S → Channel) (lent : S → Beside) where
   -- a whole call, as the machine sees it
-  abbrev pub Ends : TableState S → Caches → Node → ℕ → TableState S → Caches → Answer → Type 0
+  abbrev pub Ends : TableState S → BothCaches → Node → ℕ → TableState S → BothCaches → Answer → Type 0
   Ends old before u level new after result = Quantifies tells channel lent old before.exists.now before.ors.now u level new after.exists.now
       after.ors.now result × AreLent before after
 
-  abbrev pub RunsWith : TableState S → Caches → (Levels → Bool) → TableState S → Caches → Answer → Type 0
+  abbrev pub RunsWith : TableState S → BothCaches → (Levels → Bool) → TableState S → BothCaches → Answer → Type 0
   RunsWith old before function new after result = Runs tells channel lent old (both_caches before.exists.now before.ors.now) function new
       (both_caches after.exists.now after.ors.now) result
 
 module _ {S : Type 0} {tells : Bool} {channel : S → Channel} {lent : S → Beside} where
-  both_of : (old : TableState S) (before : Caches) (u : Node) (level : ℕ) (new : TableState S) (after : Caches) (result : Answer)
+  both_of : (old : TableState S) (before : BothCaches) (u : Node) (level : ℕ) (new : TableState S) (after : BothCaches) (result : Answer)
       → Ends tells channel lent old before u level new after result → RemembersBoth before after
   both_of old before u level new after result ends = record { exists = ends.0.remembers; ors = ends.0.remembers_ors; lent = ends.1 }
 
   module _ (law : StepByStep tells channel) (exists_keeping : Keeping Question Node same_question)
       (or_keeping : Keeping Pair Node same_pair) (laws : Cofactors) (growth : Growth) (fitting : Fitting S) (parts : Subfunctions)
       (paths : Reachability)
-      (old : TableState S) (before : Caches) (sound : IsSound old) (fits : Fits old (both_caches before.exists.now before.ors.now))
+      (old : TableState S) (before : BothCaches) (sound : IsSound old) (fits : Fits old (both_caches before.exists.now before.ors.now))
       (p : Above) (above : IsAbove old.graph p) (missed : IsMissed before.exists.now p.node p.level) where
     -- the call failed
-    failed : (new : TableState S) (after : Caches) (came : TableError)
+    failed : (new : TableState S) (after : BothCaches) (came : TableError)
         → RunsWith tells channel lent old before (quantification_of old.graph p.node p.level) new after (Err came)
         → RemembersBoth before after
         → Ends tells channel lent old before p.node p.level new after (Err came)
@@ -100,7 +100,7 @@ module _ {S : Type 0} {tells : Bool} {channel : S → Channel} {lent : S → Bes
       both.lent,
     )
 
-    module _ (one : TableState S) (caches_one : Caches) (high : Node)
+    module _ (one : TableState S) (caches_one : BothCaches) (high : Node)
         (by_high : Ends tells channel lent old before p.high p.level one caches_one (Ok high)) where
       sound_one : IsSound one
       sound_one = by_high.0.runs.steps.leaves.sound
@@ -125,7 +125,7 @@ module _ {S : Type 0} {tells : Bool} {channel : S → Channel} {lent : S → Bes
           (low_quantified_part laws one.graph sound_one.tied.reduced p above_one parts)
 
       -- what the low side adds to the high one, however it ends
-      runs_low : (two : TableState S) (caches_two : Caches) (by : Answer)
+      runs_low : (two : TableState S) (caches_two : BothCaches) (by : Answer)
           → RunsWith tells channel lent one caches_one (quantification_of one.graph p.low p.level) two caches_two by
           → RunsWith tells channel lent old before (quantification_of old.graph p.node p.level) two caches_two by
       runs_low two caches_two by runs =
@@ -136,14 +136,14 @@ module _ {S : Type 0} {tells : Bool} {channel : S → Channel} {lent : S → Bes
           (both_caches caches_two.exists.now caches_two.ors.now) by
           (quantification_of one.graph p.low p.level) low_is_part runs)
 
-      low_failed : (two : TableState S) (caches_two : Caches) (came : TableError)
+      low_failed : (two : TableState S) (caches_two : BothCaches) (came : TableError)
           → RunsWith tells channel lent one caches_one (quantification_of one.graph p.low p.level) two caches_two (Err came)
           → RemembersBoth caches_one caches_two
           → Ends tells channel lent old before p.node p.level two caches_two (Err came)
       low_failed two caches_two came runs both = failed two caches_two came (runs_low two caches_two (Err came) runs)
           (both_further exists_keeping or_keeping before caches_one caches_two both_one both)
 
-      module _ (two : TableState S) (caches_two : Caches) (low : Node)
+      module _ (two : TableState S) (caches_two : BothCaches) (low : Node)
           (by_low : Ends tells channel lent one caches_one p.low p.level two caches_two (Ok low)) where
         on_high : Quantified two.graph p.high p.level high
         on_high =
@@ -162,7 +162,7 @@ module _ {S : Type 0} {tells : Bool} {channel : S → Channel} {lent : S → Bes
             (both_of one caches_one p.low p.level two caches_two (Ok low) by_low)
 
         -- the step that closes the call
-        module _ (three : TableState S) (caches_three : Caches) where
+        module _ (three : TableState S) (caches_three : BothCaches) where
           reached : (result : Answer)
               → Closes tells channel lent two caches_two.exists.now caches_two.ors.now p high low three caches_three.exists.now
               caches_three.ors.now result → IfOk result (λ w. ReachesNew old.graph three.graph w)
@@ -196,7 +196,7 @@ module _ {S : Type 0} {tells : Bool} {channel : S → Channel} {lent : S → Bes
             lent_further before caches_two caches_three both_two.lent same,
           )
 
-      low_came : (two : TableState S) (caches_two : Caches) (result : Answer)
+      low_came : (two : TableState S) (caches_two : BothCaches) (result : Answer)
           → Ends tells channel lent one caches_one p.low p.level two caches_two result
           → LowCame (quantifying tells channel lent) (Ends tells channel lent old before p.node p.level) p high two caches_two result
       low_came two caches_two (Err came) by_low = low_failed two caches_two came by_low.0.runs
@@ -226,7 +226,7 @@ module _ {S : Type 0} {tells : Bool} {channel : S → Channel} {lent : S → Bes
             low = low_came;
           }
 
-    high_came : (one : TableState S) (caches_one : Caches) (result : Answer)
+    high_came : (one : TableState S) (caches_one : BothCaches) (result : Answer)
         → Ends tells channel lent old before p.high p.level one caches_one result
         → HighCame (quantifying tells channel lent) (Ends tells channel lent old before p.node p.level) p one caches_one result
     high_came one caches_one (Err came) by_high =
@@ -251,7 +251,7 @@ module _ {S : Type 0} {tells : Bool} {channel : S → Channel} {lent : S → Bes
 
 module _ {S : Type 0} {tells : Bool} {channel : S → Channel} {lent : S → Beside} where
   -- a call that failed before it was split
-  pub failed_answer : (old : TableState S) (before after : Caches) (question : Question) (new : TableState S)
+  pub failed_answer : (old : TableState S) (before after : BothCaches) (question : Question) (new : TableState S)
       (result : Result (Reply Above Node) TableError) (came : TableError) → IsErrAnd result (λ e. e ≡ came)
       → Ends tells channel lent old before question.0 question.1 new after (Err came)
       → IsAnswer (quantifying tells channel lent) old before question new after result
@@ -261,7 +261,7 @@ module _ {S : Type 0} {tells : Bool} {channel : S → Channel} {lent : S → Bes
 
   -- a call that is split, with nothing changed
   pub split_answered : StepByStep tells channel → Keeping Question Node same_question → Keeping Pair Node same_pair → Cofactors → Growth
-      → Fitting S → Subfunctions → Reachability → (old new : TableState S) → new ≡ old → (before after : Caches) → after ≡ before
+      → Fitting S → Subfunctions → Reachability → (old new : TableState S) → new ≡ old → (before after : BothCaches) → after ≡ before
       → (question : Question)
       → CanQuantify old before.exists.now before.ors.now question.0 question.1 → IsMissed before.exists.now question.0 question.1
       → (p : Above) → IsAbove new.graph p → (p.node ≡ question.0) × (p.level ≡ question.1)
@@ -278,5 +278,5 @@ module _ {S : Type 0} {tells : Bool} {channel : S → Channel} {lent : S → Bes
             above_old missed_own,
       ) in
       subst (λ (t : TableState S). IsAnswer (quantifying tells channel lent) old before question t after (Ok (Open p))) (sym same)
-      (subst (λ (c : Caches). IsAnswer (quantifying tells channel lent) old before question old c (Ok (Open p))) (sym same_caches)
+      (subst (λ (c : BothCaches). IsAnswer (quantifying tells channel lent) old before question old c (Ok (Open p))) (sym same_caches)
       (subst (λ (q : Question). IsAnswer (quantifying tells channel lent) old before q old before (Ok (Open p))) own answer))

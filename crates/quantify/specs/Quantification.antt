@@ -16,7 +16,7 @@ use Rattle.operations.specs.Entries.{Quantification, Fits, HaveSame}
 use Rattle.quantify.specs.declared.exists_cache.ExistsCache.{ExistsCache}
 use Rattle.quantify.specs.declared.or_cache.OrCache.{OrCache}
 use Rattle.quantify.specs.declared.quantify.Above.{Above}
-use Rattle.quantify.specs.declared.quantify.Caches.{Caches}
+use Rattle.quantify.specs.declared.quantify.BothCaches.{BothCaches}
 use Rattle.quantify.specs.ExistsCache.{MakesRoomFor, Question, RemembersQuantifications, both_caches, quantifications}
 use Rattle.quantify.specs.OrCache.{RemembersDisjunctions}
 use Rattle.quantify.specs.Runs.{Runs}
@@ -92,12 +92,12 @@ pub record Closes {S : Type 0} (tells : Bool) (channel : S → Channel) (lent : 
   pub reachable : IfOk result (λ w. ReachesNew old.graph new.graph w)
 
 -- the caches are lent by the same references
-pub record AreLent (before after : Caches) : Type 0 where
+pub record AreLent (before after : BothCaches) : Type 0 where
   pub exists : after.exists.ghost_name ≡ before.exists.ghost_name
   pub ors : after.ors.ghost_name ≡ before.ors.ghost_name
 
 -- A node above the level is split into its children.
-abbrev pub quantifying : {S : Type 0} → Bool → (S → Channel) → (S → Beside) → Calls S Caches Question Above Node
+abbrev pub quantifying : {S : Type 0} → Bool → (S → Channel) → (S → Beside) → Calls S BothCaches Question Above Node
 quantifying tells channel lent = record {
   can = λ table caches question. CanQuantify table caches.exists.now caches.ors.now question.0 question.1;
   ends = λ old before question new after result.

@@ -68,13 +68,13 @@ pub fn exists<S: Sink + Drop>(
     ensures beside { S.beside table.new.book.sink ≡ S.beside table.old.book.sink }
 {
     entry_law::<S>();
-    let mut caches = Caches { exists: cache, ors };
+    let mut caches = BothCaches { exists: cache, ors };
     work_off::<S, ExistsOperation>(table, &mut caches, (u, level))
 }
 
 /// Both caches, lent for a call.
 #[derive(Drop)]
-struct Caches<'a> {
+struct BothCaches<'a> {
     exists: &'a mut ExistsCache,
     ors: &'a mut OrCache,
 }
@@ -93,7 +93,7 @@ struct Above {
 struct ExistsOperation<'a>(&'a u8);
 
 impl<'a, S: Sink + Drop> Operation<S> for ExistsOperation<'a> {
-    type Cache = Caches<'a>;
+    type Cache = BothCaches<'a>;
 
     type Question = (Node, u32);
 
@@ -103,13 +103,13 @@ impl<'a, S: Sink + Drop> Operation<S> for ExistsOperation<'a> {
 
     ghost calls = { quantifying S.tells S.channel S.beside };
 
-    fn alloc(caches: &Caches<'a>) -> Global {
+    fn alloc(caches: &BothCaches<'a>) -> Global {
         caches.exists.alloc()
     }
 
     fn ask(
         table: &mut Table<S>,
-        caches: &mut Caches<'a>,
+        caches: &mut BothCaches<'a>,
         question: (Node, u32),
     ) -> Result<Reply<Above, Node>, TableError> {
         steps_law::<S>();
@@ -142,7 +142,7 @@ impl<'a, S: Sink + Drop> Operation<S> for ExistsOperation<'a> {
     // The quantification is the node of both results, and is kept.
     fn close(
         table: &mut Table<S>,
-        caches: &mut Caches<'a>,
+        caches: &mut BothCaches<'a>,
         parts: &Above,
         high: &Node,
         low: &Node,

@@ -7,8 +7,8 @@ use Rattle.cnf_base.specs.Text.{Word}
 use Rattle.text_scan.specs.Decides.{gained, Decides, gained-then}
 use Rattle.text_scan.specs.Items.{Items, the_end, next_word}
 use Rattle.text_scan.specs.Scan.{Scan, so_far, is_reading, is_faulted, Gives, GivesSoFar, last_answer}
-use Rattle.text_scan.specs.declared.scanner.Status.{Status}
-use Rattle.text_scan.specs.declared.scanner.Status.TheVariants.{Reading, Ended, Overlong, Faulted}
+use Rattle.text_scan.specs.declared.scanner.ScanStatus.{ScanStatus}
+use Rattle.text_scan.specs.declared.scanner.ScanStatus.TheVariants.{Reading, Ended, Overlong, Faulted}
 use Rattle.text_scan.specs.declared.scanner.ScanError.{ScanError}
 use Rattle.text_scan.specs.declared.scanner.ScanError.TheVariants.{ReadFault as ScanFault, TooLong as ScanTooLong}
 use Rattle.schedule_plan.specs.declared.order_error.OrderError.{OrderError}
@@ -84,7 +84,7 @@ front_of_next old mid word bytes text rest passes stays gives reads =
     let reading = was_reading old mid stays reads in
     (reading, λ more. ap text (gives reading reads more) ∙ passes (so_far mid more))
 
-pub failed_status : (status : Status) → is_faulted status ≡ false
+pub failed_status : (status : ScanStatus) → is_faulted status ≡ false
     → (is_reading status ≡ false → ◌≡◌ {A = Result (Option Word) ScanError} (Err ScanFault) (last_answer status)) → is_reading status ≡ true
 failed_status Reading sound last = refl
 failed_status Ended sound last = let same = last refl in cc

@@ -11,7 +11,7 @@ use Rattle.cnf_base.specs.Formula.{Formula}
 use Rattle.schedule_plan.specs.declared.plan.Move.{Move}
 use Rattle.schedule_plan.specs.declared.plan.Move.TheVariants.{Push, And, Exists}
 use Rattle.schedule_plan.specs.declared.schedule.uses.Use.{Use}
-use Rattle.schedule_plan.specs.declared.schedule.judge.Judge.{Judge}
+use Rattle.schedule_plan.specs.declared.schedule.judge.ScheduleJudge.{ScheduleJudge}
 use Rattle.schedule_plan.specs.Plan.{Term, input, both, some_value, Stage, no_stage, is_pushed, holds_later, term_has, clause_has}
 use Rattle.schedule_plan.specs.Plan.{clause_of_number, after_move, after_moves, after_and, after_exists, IsAdmissible}
 use Rattle.schedule_plan.specs.ScheduleState.{AreStarts, IsUse, IsAt, never, use_at, no_use, changed, with_push, to_come, any_clause, holds}
@@ -103,7 +103,8 @@ exists_step formula stage x top rest positive small others later =
     (and_from (nat_lt 0 x && nat_le x formula.vars) (not (list_any (term_has formula x) rest))
     (and_from (nat_lt 0 x) (nat_le x formula.vars) (lt-ltb 0 x positive) (le-leb x formula.vars small)) (ap not others)) (ap not later))
 
-pub push_at : (formula : Formula) (old new : Judge) (stage : Stage) (i : ℕ) → length formula.clauses ≤ 10000000 → IsAt formula old stage → 0
+pub push_at : (formula : Formula) (old new : ScheduleJudge) (stage : Stage) (i : ℕ) → length formula.clauses ≤ 10000000
+    → IsAt formula old stage → 0
     < i → i ≤ length formula.clauses
     → is_pushed stage.pushed i ≡ false
     → after_move formula stage (Push i) ≡ Some (record { stack = input i ∷ stage.stack; pushed = i ∷ stage.pushed; trail = stage.trail })
@@ -172,7 +173,7 @@ conjoined formula earliest stage (top ∷ below ∷ rest) start (next ∷ starts
   are = starts_and formula earliest top below rest start next starts end are;
 }
 
-pub and_at : (formula : Formula) (old new : Judge) (stage : Stage) → IsAt formula old stage → 2 ≤ length old.starts.items
+pub and_at : (formula : Formula) (old new : ScheduleJudge) (stage : Stage) → IsAt formula old stage → 2 ≤ length old.starts.items
     → new.moves.items ≡ old.moves.items ++ And ∷ [] → new.uses ≡ old.uses → new.flags ≡ old.flags → new.starts.items
     ≡ take (length old.starts.items - 1) old.starts.items → new.pushes ≡ old.pushes
     → (later : Stage) × IsAt formula new later
@@ -201,9 +202,8 @@ and_at formula old new stage at two moves uses flags starts pushes =
     )
 
 -- A variable is quantified from the top term.
-pub exists_at : (formula : Formula) (old new : Judge) (stage : Stage) (x : ℕ) (top : Term) (rest : List Term) (start : ℕ) (starts : List ℕ)
-    (seen : ℕ) → length formula.clauses ≤ 10000000
-    → IsAt formula old stage → stage.stack ≡ top ∷ rest → reverse old.starts.items ≡ start ∷ starts → x ≤ formula.vars
+pub exists_at : (formula : Formula) (old new : ScheduleJudge) (stage : Stage) (x : ℕ) (top : Term) (rest : List Term)
+    (start : ℕ) (starts : List ℕ) (seen : ℕ) → length formula.clauses ≤ 10000000 → IsAt formula old stage → stage.stack ≡ top ∷ rest → reverse old.starts.items ≡ start ∷ starts → x ≤ formula.vars
     → nat_lt (use_at old.uses.items x).earliest start ≡ false → (use_at old.uses.items x).to_come ≡ 0 → (use_at old.uses.items x).seen
     ≡ seen
     → after_exists formula stage x (top ∷ rest) ≡ Some (record {
@@ -260,7 +260,7 @@ exists_at formula old new stage x top rest start starts seen few at is first wit
     }
 
 -- the top term and its first push
-pub record Topped (formula : Formula) (judge : Judge) (stage : Stage) (start : ℕ) : Type 0 where
+pub record Topped (formula : Formula) (judge : ScheduleJudge) (stage : Stage) (start : ℕ) : Type 0 where
   pub top : Term
   pub rest : List Term
   pub starts : List ℕ
@@ -268,7 +268,8 @@ pub record Topped (formula : Formula) (judge : Judge) (stage : Stage) (start : �
   pub first : reverse judge.starts.items ≡ start ∷ starts
   pub below : AreStarts formula (λ x. (use_at judge.uses.items x).earliest) rest starts start
 
-topped_by : (formula : Formula) (judge : Judge) (stage : Stage) (stack : List Term) (start : ℕ) (starts : List ℕ) → stage.stack ≡ stack
+topped_by : (formula : Formula) (judge : ScheduleJudge) (stage : Stage) (stack : List Term) (start : ℕ) (starts : List ℕ)
+    → stage.stack ≡ stack
     → reverse judge.starts.items ≡ start ∷ starts
     → AreStarts formula (λ x. (use_at judge.uses.items x).earliest) stack (start ∷ starts) judge.pushes → Topped formula judge stage start
 topped_by formula judge stage [] start starts is first are = absurd are
@@ -281,7 +282,8 @@ topped_by formula judge stage (top ∷ rest) start starts is first are = record 
   below = are.2;
 }
 
-pub topped : (formula : Formula) (judge : Judge) (stage : Stage) (n d start : ℕ) → IsAt formula judge stage → length judge.starts.items ≡ n
+pub topped : (formula : Formula) (judge : ScheduleJudge) (stage : Stage) (n d start : ℕ) → IsAt formula judge stage
+    → length judge.starts.items ≡ n
     + 1 → start ≡ slice_index_or judge.starts.items n d
     → Topped formula judge stage start
 topped formula judge stage n d start at count is =
@@ -290,7 +292,7 @@ topped formula judge stage n d start at count is =
     topped_by formula judge stage stage.stack start (reverse (take n judge.starts.items)) refl first
     (subst (λ l. AreStarts formula (λ x. (use_at judge.uses.items x).earliest) stage.stack l judge.pushes) first at.starts)
 
-pub exists_fault : (formula : Formula) (judge : Judge) (stage : Stage) (x start : ℕ) → IsAt formula judge stage
+pub exists_fault : (formula : Formula) (judge : ScheduleJudge) (stage : Stage) (x start : ℕ) → IsAt formula judge stage
     → Topped formula judge stage start → 0 < x → x ≤ formula.vars
     → fault_of_move formula stage (Exists x) ≡ (if nat_lt (use_at judge.uses.items x).earliest start
     || nat_lt 0 (use_at judge.uses.items x).to_come then Some VariableInUse else None)
@@ -308,7 +310,7 @@ exists_fault formula judge stage x start at on positive small =
     ∙ ap (λ b. if b || holds_later formula stage.pushed x (length formula.clauses) then Some VariableInUse else None) others
     ∙ ap (λ b. if nat_lt (earliest x) start || b then Some VariableInUse else None) later
 
-pub exists_stands : (formula : Formula) (old new : Judge) (stage : Stage) (x start seen : ℕ) → length formula.clauses ≤ 10000000
+pub exists_stands : (formula : Formula) (old new : ScheduleJudge) (stage : Stage) (x start seen : ℕ) → length formula.clauses ≤ 10000000
     → IsAt formula old stage → Topped formula old stage start
     → 0 < x → x ≤ formula.vars → nat_lt (use_at old.uses.items x).earliest start ≡ false → (use_at old.uses.items x).to_come ≡ 0
     → (use_at old.uses.items x).seen ≡ seen
@@ -327,7 +329,8 @@ exists_stands formula old new stage x start seen few at on positive small free n
     )
 
 -- The end.
-pub end_unused : (formula : Formula) (judge : Judge) (stage : Stage) (result : Result (List Move) PlanKind) → IsAt formula judge stage
+pub end_unused : (formula : Formula) (judge : ScheduleJudge) (stage : Stage) (result : Result (List Move) PlanKind)
+    → IsAt formula judge stage
     → judge.pushes < length formula.clauses
     → unless (end_fault_behind formula judge.moves.items) result ≡ Err ClauseUnused
 end_unused formula judge stage result at some =
@@ -341,20 +344,21 @@ not_false : (b : Bool) → not b ≡ false → b ≡ true
 not_false true e = refl
 not_false false e = cc
 
-end_pushed : (formula : Formula) (judge : Judge) (stage : Stage) → IsAt formula judge stage → length formula.clauses ≤ judge.pushes
+end_pushed : (formula : Formula) (judge : ScheduleJudge) (stage : Stage) → IsAt formula judge stage → length formula.clauses ≤ judge.pushes
     → all_pushed stage.pushed (length formula.clauses) ≡ true
 end_pushed formula judge stage at all =
     let none : to_come any_clause stage.pushed (length formula.clauses) ≡ 0 = omega (arith, all, at.pushes) in
     not_false (all_pushed stage.pushed (length formula.clauses)) (sym (to_come_all stage.pushed (length formula.clauses))
     ∙ ap (λ n. nat_lt 0 n) none)
 
-pub term_count : (formula : Formula) (judge : Judge) (stage : Stage) → IsAt formula judge stage → length stage.stack
+pub term_count : (formula : Formula) (judge : ScheduleJudge) (stage : Stage) → IsAt formula judge stage → length stage.stack
     ≡ length judge.starts.items
 term_count formula judge stage at =
     as_many formula (λ x. (use_at judge.uses.items x).earliest) stage.stack (reverse judge.starts.items) judge.pushes at.starts
     ∙ length-reverse judge.starts.items
 
-pub end_fault : (formula : Formula) (judge : Judge) (stage : Stage) (result : Result (List Move) PlanKind) → IsAt formula judge stage
+pub end_fault : (formula : Formula) (judge : ScheduleJudge) (stage : Stage) (result : Result (List Move) PlanKind)
+    → IsAt formula judge stage
     → length formula.clauses ≤ judge.pushes
     → unless (end_fault_behind formula judge.moves.items) result
     ≡ unless (if nat_lt 1 (length judge.starts.items) then Some TermsLeft else None) result
@@ -364,7 +368,8 @@ end_fault formula judge stage result at all =
     (end_pushed formula judge stage at all)
     ∙ ap (λ n. unless (if nat_lt 1 n then Some TermsLeft else None) result) (term_count formula judge stage at)
 
-pub end_admissible : (formula : Formula) (judge : Judge) (stage : Stage) → IsAt formula judge stage → length formula.clauses ≤ judge.pushes
+pub end_admissible : (formula : Formula) (judge : ScheduleJudge) (stage : Stage) → IsAt formula judge stage
+    → length formula.clauses ≤ judge.pushes
     → length judge.starts.items ≤ 1
     → IsAdmissible formula judge.moves.items
 end_admissible formula judge stage at all one = record {
@@ -400,7 +405,7 @@ short_fault formula (suc k) done stage (top ∷ below ∷ rest) possible is shor
     ∙ short_fault formula k (done ++ And ∷ []) later (both below top
     ∷ rest) (possible_behind formula done stage later And possible (ap (after_and stage) is)) refl (omega (arith, short))
 
-pub and_free : (formula : Formula) (judge : Judge) (stage : Stage) → IsAt formula judge stage → 2 ≤ length judge.starts.items
+pub and_free : (formula : Formula) (judge : ScheduleJudge) (stage : Stage) → IsAt formula judge stage → 2 ≤ length judge.starts.items
     → fault_of_move formula stage And ≡ None
 and_free formula judge stage at two =
     ap (λ n. if nat_lt n 2 then Some StackShort else None) (term_count formula judge stage at)

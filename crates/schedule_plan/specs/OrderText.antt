@@ -6,9 +6,7 @@ use Rattle.cnf_base.specs.Number.{plain_number}
 use Rattle.text_scan.specs.Items.{Items, the_end, too_long, next_word, items_of_front, items}
 use Rattle.schedule_plan.specs.declared.order_error.OrderKind.{OrderKind}
 use Rattle.schedule_plan.specs.declared.order_error.OrderKind.TheVariants.{BadNumber, Range, Repeated, Missing}
-
-abbrev pub max_bytes : ℕ
-max_bytes = 4000000000
+pub use Rattle.cnf_base.specs.Limits.{max_bytes}
 
 -- What a text is: an order; a refusal, its kind and line; or a text that is judged by its first bytes and not refused by
 -- them.

@@ -18,7 +18,7 @@ use Rattle.schedule_plan.specs.declared.schedule.error.PlanError.TheVariants.{Re
 use Rattle.schedule_plan.specs.declared.schedule.line.Command.{Command}
 use Rattle.schedule_plan.specs.declared.schedule.line.Command.TheVariants.{Absent, Pushes, Conjoins, Quantifies, Unknown}
 use Rattle.schedule_plan.specs.declared.schedule.uses.Use.{Use}
-use Rattle.schedule_plan.specs.declared.schedule.judge.Judge.{Judge}
+use Rattle.schedule_plan.specs.declared.schedule.judge.ScheduleJudge.{ScheduleJudge}
 use Rattle.schedule_plan.specs.Plan.{Term, Stage, no_stage, term_has, clause_has, clause_of_number, is_pushed, after_moves}
 use Rattle.schedule_plan.specs.ScheduleText.{ScheduleText, plan, refusal, overlong, is_letter, conjunctions, line_taken, behind, at_end}
 
@@ -173,7 +173,7 @@ pub record IsUse (formula : Formula) (pushed : List ℕ) (pushes x : ℕ) (one :
   pub earliest : pushes ≤ one.earliest → one.earliest ≡ never
 
 -- what is kept is of the stage behind the moves
-pub record IsAt (formula : Formula) (judge : Judge) (stage : Stage) : Type 0 where
+pub record IsAt (formula : Formula) (judge : ScheduleJudge) (stage : Stage) : Type 0 where
   pub possible : after_moves formula no_stage judge.moves.items ≡ Some stage
   pub use_count : length judge.uses.items ≡ formula.vars + 1
   pub flag_count : length judge.flags.items ≡ length formula.clauses + 1
@@ -182,6 +182,6 @@ pub record IsAt (formula : Formula) (judge : Judge) (stage : Stage) : Type 0 whe
   pub uses : (x : ℕ) → x ≤ formula.vars → IsUse formula stage.pushed judge.pushes x (use_at judge.uses.items x)
   pub starts : AreStarts formula (λ x. (use_at judge.uses.items x).earliest) stage.stack (reverse judge.starts.items) judge.pushes
 
-pub record Stands (formula : Formula) (judge : Judge) : Type 0 where
+pub record Stands (formula : Formula) (judge : ScheduleJudge) : Type 0 where
   pub stage : Stage
   pub at : IsAt formula judge stage

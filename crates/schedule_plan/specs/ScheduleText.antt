@@ -17,10 +17,7 @@ use Rattle.schedule_plan.specs.declared.schedule.error.PlanKind.{PlanKind}
 use Rattle.schedule_plan.specs.declared.schedule.error.PlanKind.TheVariants.{Syntax, ClauseRange, ClauseTwice, StackShort, VariableRange}
 use Rattle.schedule_plan.specs.declared.schedule.error.PlanKind.TheVariants.{VariableInUse, ClauseUnused, TermsLeft}
 use Rattle.schedule_plan.specs.Plan.{Term, Stage, no_stage, term_has, is_pushed, holds_later, after_moves}
-
--- how many bytes a text may have
-abbrev pub max_bytes : ℕ
-max_bytes = 4000000000
+pub use Rattle.cnf_base.specs.Limits.{max_bytes}
 
 -- What a text is: a plan; a refusal, its kind and line; or a text that is judged by its first bytes and not refused by
 -- them.

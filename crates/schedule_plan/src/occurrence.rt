@@ -3,6 +3,7 @@ ghost use Rattle.std.specs.Prelude.{◌≡◌, ◌+◌, ◌≤◌, ◌++◌, len
 ghost use Rattle.std.specs.List.{list_all};
 ghost use Rattle.std.specs.List.Sorted.{IsNonDecreasingBy};
 ghost use Rattle.cnf_base.specs.Order.{IsOrder};
+ghost use Rattle.cnf_base.specs.Limits.{max_vars};
 ghost use Rattle.schedule_plan.specs.Forest.{ArePlaces, AreOccurrences, occurrence_of, occurrences_of};
 ghost use Rattle.schedule_plan.specs.declared.occurrence.Occurrence.{Occurrence as OccurrenceValue};
 
@@ -36,7 +37,7 @@ pub(crate) fn occurrences(
 // The place of each variable, by its number.
 fn places(alloc: Global, order: &[u32]) -> Result<Vec<u32>, OutOfMemory>
     requires order { IsOrder order.now }
-    requires few { length order.now ≤ 1000000 }
+    requires few { length order.now ≤ max_vars }
     ensures { IfOk result (λ places. ArePlaces order.now places.items) }
 {
     let mut places = vec![in alloc; 0; order.len() + 1]?;

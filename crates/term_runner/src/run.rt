@@ -19,6 +19,7 @@ use std::alloc::Global;
 
 /// Runs a plan over a formula and writes the proof to a sink, which is handed back. A formula with an empty clause is
 /// refuted by one line, without a diagram. With an answer, and where a limit is reached, all that was written is flushed.
+/// The memory of its caches stays taken until the process ends.
 pub fn run_plan<S: Sink + Drop>(
     alloc: Global,
     formula: &Cnf,

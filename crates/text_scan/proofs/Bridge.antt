@@ -7,8 +7,8 @@ use Rattle.std.specs.Prelude.{◌==◌, ◌||◌, nat_lt, nat_le, map, if◌then
 use Rattle.std.specs.List.{filter, flat_map, list_any}
 use Rattle.cnf_base.specs.Text.{Word, Row, is_blank, is_line_end, has_bytes, pieces, begin_with, words_of, begins_with, row_of, rows_from}
 use Rattle.cnf_base.specs.Text.{words_of_row, tokens, line_ends, end_line}
-use Rattle.text_scan.specs.declared.lexer.Mode.{Mode}
-use Rattle.text_scan.specs.declared.lexer.Mode.TheVariants.{LineStart, Comment, Words}
+use Rattle.text_scan.specs.declared.lexer.LexerMode.{LexerMode}
+use Rattle.text_scan.specs.declared.lexer.LexerMode.TheVariants.{LineStart, Comment, Words}
 use Rattle.text_scan.specs.Items.{Items, the_end, too_long, words_then, kept, ended_part, items_of_front, items}
 use Rattle.text_scan.specs.Lexer.{Lex, lex_start, items_from, front_from, after, word_with, given_at, word_then}
 
@@ -214,7 +214,7 @@ word_with-take (suc n) (x ∷ xs) byte =
     let e : nat_lt (suc (length (take n xs))) (suc n) ≡ nat_lt (length (take n xs)) n = grind arith in
     rw e (behind (nat_lt (length (take n xs)) n) x (take n xs ++ byte ∷ []) (take n xs)) ∙ ap (λ l. x ∷ l) (word_with-take n xs byte)
 
-abbrev mode_if : Bool → Mode
+abbrev mode_if : Bool → LexerMode
 mode_if b = if b then Comment else Words
 
 after-letter : (comment : ℕ) (place : Place) (line byte : ℕ) → is_line_end byte ≡ false → is_blank byte ≡ false

@@ -3,7 +3,7 @@ use Rattle.std.proofs.Common.{◌≡◌, ℕ, ◌+◌, ◌-◌, ◌<◌, ◌≤�
 use Rattle.std.proofs.Common.{arith}
 use Rattle.std.specs.Prelude.{◌==◌, ◌&&◌, if◌then◌else◌}
 use Rattle.cnf_base.specs.Text.{is_blank, is_line_end, has_bytes}
-use Rattle.text_scan.specs.declared.lexer.Mode.TheVariants.{LineStart}
+use Rattle.text_scan.specs.declared.lexer.LexerMode.TheVariants.{LineStart}
 use Rattle.text_scan.specs.Items.{Items, too_long, next_word}
 use Rattle.text_scan.specs.Lexer.{Lex, items_from, front_from, after, after_letter, ends_word, given_at, word_then}
 use Rattle.text_scan.specs.Scan.{Scan}

@@ -6,8 +6,8 @@ use Rattle.std.proofs.lemmas.List.{drop-take, drop-drop, take-append-drop}
 use Rattle.std.specs.Prelude.{◌&&◌, ◌||◌, not}
 use Rattle.std.specs.List.{list_any}
 use Rattle.cnf_base.specs.Text.{Word, is_blank, is_line_end, has_bytes}
-use Rattle.text_scan.specs.declared.lexer.Mode.{Mode}
-use Rattle.text_scan.specs.declared.lexer.Mode.TheVariants.{LineStart, Comment, Words}
+use Rattle.text_scan.specs.declared.lexer.LexerMode.{LexerMode}
+use Rattle.text_scan.specs.declared.lexer.LexerMode.TheVariants.{LineStart, Comment, Words}
 use Rattle.text_scan.specs.Items.{next_word}
 use Rattle.text_scan.specs.Lexer.{Lex, items_from, front_from, after, begins_word, is_words, mode_with}
 use Rattle.text_scan.specs.Scan.{Scan}
@@ -72,7 +72,7 @@ no_word : (word : List ℕ) → has_bytes word ≡ false → word ≡ []
 no_word [] none = refl
 no_word (byte ∷ bytes) none = cc
 
-words_mode : (mode : Mode) → is_words mode ≡ true → mode ≡ Words
+words_mode : (mode : LexerMode) → is_words mode ≡ true → mode ≡ Words
 words_mode LineStart is = cc
 words_mode Comment is = cc
 words_mode Words is = refl
@@ -104,7 +104,7 @@ begins_other lex byte begins =
     not_true (is_blank byte) ((both (not (has_bytes lex.word)) (not (is_blank byte)) front).1)
 
 -- what a blank leaves doesn't depend on the token
-after_blank : (comment line : ℕ) (mode : Mode) (word other : List ℕ) (byte : ℕ) → is_blank byte ≡ true →
+after_blank : (comment line : ℕ) (mode : LexerMode) (word other : List ℕ) (byte : ℕ) → is_blank byte ≡ true →
     after (record { comment = comment; mode = mode; line = line; word = word }) byte
     ≡ after (record { comment = comment; mode = mode; line = line; word = other }) byte
 after_blank comment line mode word other byte blank = elim (is_line_end byte) as (λ b. is_line_end byte ≡ b

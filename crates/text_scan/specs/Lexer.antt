@@ -1,15 +1,15 @@
 -- The items of a text, byte by byte: what is known of the line and the token in which the next byte stands.
 use Rattle.std.specs.Prelude.{ℕ, ◌+◌, ◌-◌, Bool, true, false, not, ◌&&◌, List, [], ◌∷◌, ◌++◌, length, nat_lt, ◌==◌, if◌then◌else◌}
 use Rattle.cnf_base.specs.Text.{is_blank, is_line_end, has_bytes}
-use Rattle.text_scan.specs.declared.lexer.Mode.{Mode}
-use Rattle.text_scan.specs.declared.lexer.Mode.TheVariants.{LineStart, Comment, Words}
+use Rattle.text_scan.specs.declared.lexer.LexerMode.{LexerMode}
+use Rattle.text_scan.specs.declared.lexer.LexerMode.TheVariants.{LineStart, Comment, Words}
 use Rattle.text_scan.specs.Items.{Items, the_end, too_long, next_word}
 
 -- The comment byte, what stood on this line, its number, and what has come of a token, at most 65 bytes; no byte
 -- where none is begun.
 pub record Lex : Type 0 where
   pub comment : ℕ
-  pub mode : Mode
+  pub mode : LexerMode
   pub line : ℕ
   pub word : List ℕ
 
@@ -18,13 +18,13 @@ abbrev pub lex_start : ℕ → Lex
 lex_start comment = record { comment = comment; mode = LineStart; line = 1; word = [] }
 
 -- the line once this byte, which is no blank, has come: the first one makes it a comment or not
-abbrev pub mode_with : Mode → ℕ → ℕ → Mode
+abbrev pub mode_with : LexerMode → ℕ → ℕ → LexerMode
 mode_with LineStart comment byte = if byte == comment then Comment else Words
 mode_with Comment comment byte = Comment
 mode_with Words comment byte = Words
 
 -- the token begun, with this byte
-abbrev pub word_with : Mode → List ℕ → ℕ → List ℕ
+abbrev pub word_with : LexerMode → List ℕ → ℕ → List ℕ
 word_with LineStart word byte = word
 word_with Comment word byte = word
 word_with Words word byte = if nat_lt (length word) 65 then word ++ byte ∷ [] else word
@@ -54,7 +54,7 @@ abbrev pub ends_word : Lex → ℕ → Bool
 ends_word lex byte = is_blank byte && has_bytes lex.word
 
 -- this byte, which is no blank, begins one
-abbrev pub is_words : Mode → Bool
+abbrev pub is_words : LexerMode → Bool
 is_words LineStart = false
 is_words Comment = false
 is_words Words = true

@@ -2,8 +2,8 @@
 use Rattle.std.specs.Prelude.{◌≡◌, ℕ, ◌+◌, ◌<◌, Bool, true, false, ℤ, nat_abs, ◌≤◌, List, ◌++◌, Option, None, Some, Result, Ok, Err, ⊤}
 use Rattle.cnf_base.specs.Number.{signed_number}
 use Rattle.cnf_base.specs.Text.{Word}
-use Rattle.text_scan.specs.declared.scanner.Status.{Status}
-use Rattle.text_scan.specs.declared.scanner.Status.TheVariants.{Reading, Ended, Overlong, Faulted}
+use Rattle.text_scan.specs.declared.scanner.ScanStatus.{ScanStatus}
+use Rattle.text_scan.specs.declared.scanner.ScanStatus.TheVariants.{Reading, Ended, Overlong, Faulted}
 use Rattle.text_scan.specs.declared.scanner.ScanError.{ScanError}
 use Rattle.text_scan.specs.declared.scanner.ScanError.TheVariants.{ReadFault, TooLong}
 use Rattle.text_scan.specs.Capped.{cap}
@@ -16,11 +16,11 @@ pub record Scan : Type 0 where
   pub lex : Lex
   pub room : ℕ
   pub unread : List ℕ
-  pub status : Status
+  pub status : ScanStatus
   pub line : ℕ
 
 -- the items that are still to be given, where these bytes follow those taken
-abbrev pub ahead_in : Status → Scan → List ℕ → Items
+abbrev pub ahead_in : ScanStatus → Scan → List ℕ → Items
 ahead_in Reading scan more = items_from scan.lex scan.room (scan.unread ++ more)
 ahead_in Ended scan more = the_end scan.line
 ahead_in Overlong scan more = too_long scan.line
@@ -34,26 +34,26 @@ ahead scan more = ahead_in scan.status scan more
 abbrev pub so_far : Scan → List ℕ → Items
 so_far scan more = front_from scan.lex (scan.unread ++ more)
 
-abbrev pub is_reading : Status → Bool
+abbrev pub is_reading : ScanStatus → Bool
 is_reading Reading = true
 is_reading Ended = false
 is_reading Overlong = false
 is_reading Faulted = false
 
-abbrev pub is_faulted : Status → Bool
+abbrev pub is_faulted : ScanStatus → Bool
 is_faulted Reading = false
 is_faulted Ended = false
 is_faulted Overlong = false
 is_faulted Faulted = true
 
-abbrev pub is_overlong : Status → Bool
+abbrev pub is_overlong : ScanStatus → Bool
 is_overlong Reading = false
 is_overlong Ended = false
 is_overlong Overlong = true
 is_overlong Faulted = false
 
 -- how many more tokens can be given at most, so that a loop over them ends whatever the source does
-abbrev pub fuel_in : Status → ℕ → ℕ
+abbrev pub fuel_in : ScanStatus → ℕ → ℕ
 fuel_in Reading room = room + 1
 fuel_in Ended room = 0
 fuel_in Overlong room = 0
@@ -100,7 +100,7 @@ Moves (Err TooLong) old new = new.status ≡ Overlong
 Moves (Err ReadFault) old new = (new.status ≡ Faulted) × (new.line ≡ old.line)
 
 -- the answer of a scanner that has stopped
-abbrev pub last_answer : Status → Result (Option Word) ScanError
+abbrev pub last_answer : ScanStatus → Result (Option Word) ScanError
 last_answer Reading = Ok None
 last_answer Ended = Ok None
 last_answer Overlong = Err TooLong

@@ -1,7 +1,7 @@
 // One byte after another: which line it is, whether a comment, and the token that has begun.
 ghost use Rattle.std.specs.Prelude.{false, take, slice_index, ◌≡◌, ◌+◌, ◌^◌, ◌<◌, ◌≤◌, length, IsTrue};
 ghost use Rattle.std.specs.List.{list_any};
-ghost use Rattle.text_scan.specs.declared.lexer.Mode.TheVariants.{Words};
+ghost use Rattle.text_scan.specs.declared.lexer.LexerMode.TheVariants.{Words};
 ghost use Rattle.cnf_base.specs.Text.{is_blank, has_bytes};
 ghost use Rattle.text_scan.specs.Lexer.{lex_start, after, after_letter, ends_word, begins_word};
 
@@ -10,7 +10,7 @@ use std::marker::Model;
 
 /// What stood on the line so far: blanks alone, a comment, or tokens.
 #[derive(Clone, Copy, Debug, PartialEq, Eq)]
-pub enum Mode {
+pub enum LexerMode {
     LineStart,
     Comment,
     Words,
@@ -20,7 +20,7 @@ pub enum Mode {
 #[derive(Debug, Drop)]
 pub struct Lexer {
     comment: u8,
-    mode: Mode,
+    mode: LexerMode,
     line: u64,
     len: usize,
     word: [u8; SPACE],
@@ -64,7 +64,7 @@ impl Lexer {
     {
         Lexer {
             comment,
-            mode: Mode::LineStart,
+            mode: LexerMode::LineStart,
             line: 1,
             len: 0,
             word: [0; SPACE],
@@ -111,20 +111,25 @@ impl Lexer {
             return false;
         }
         match self.mode {
-            Mode::LineStart => byte != self.comment,
-            Mode::Comment => false,
-            Mode::Words => true,
+            LexerMode::LineStart => byte != self.comment,
+            LexerMode::Comment => false,
+            LexerMode::Words => true,
         }
     }
 
     /// Takes a blank behind a token.
     #[inline(always)]
     pub fn pass_word(&mut self, blank: u8)
-        requires { self.old.line + 1 < 2 ^ 64 }
+        requires blank { IsTrue (is_blank blank) }
+        requires line { self.old.line + 1 < 2 ^ 64 }
         ensures { self.new ≡ after (record self.old { mode = Words }) blank }
     {
-        self.mode = Mode::Words;
-        self.take(blank);
+        self.mode = LexerMode::Words;
+        self.len = 0;
+        if blank == b'\n' {
+            self.line += 1;
+            self.mode = LexerMode::LineStart;
+        }
     }
 
     /// Takes one more byte. A token that it ends is let go.
@@ -135,7 +140,7 @@ impl Lexer {
     {
         if byte == b'\n' {
             self.line += 1;
-            self.mode = Mode::LineStart;
+            self.mode = LexerMode::LineStart;
             self.len = 0;
         } else if is_blank(byte) {
             self.len = 0;
@@ -149,14 +154,14 @@ impl Lexer {
     fn take_letter(&mut self, byte: u8)
         ensures { self.new ≡ after_letter self.old byte }
     {
-        if self.mode == Mode::LineStart {
+        if self.mode == LexerMode::LineStart {
             self.mode = if byte == self.comment {
-                Mode::Comment
+                LexerMode::Comment
             } else {
-                Mode::Words
+                LexerMode::Words
             };
         }
-        if self.mode == Mode::Words && self.len < KEPT {
+        if self.mode == LexerMode::Words && self.len < KEPT {
             self.word[self.len] = byte;
             self.len += 1;
         }

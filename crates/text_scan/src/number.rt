@@ -13,8 +13,8 @@ use crate::token::Token;
 /// The value at which numbers are cut.
 const CAP: u64 = 1_000_000_000_000_000_000;
 
-/// A tenth of it: a value below this stays below that with one more digit.
-const SMALL: u64 = 100_000_000_000_000_000;
+/// So many digits have a value below it.
+const DIGITS: usize = 18;
 
 #[inline(always)]
 fn is_digit(byte: u8) -> bool
@@ -98,13 +98,13 @@ fn negative(value: u64) -> Option<i64>
     }
 }
 
-/// The number at the front of these bytes, where it is one of at most 64 bytes, a small one, and a blank stands behind it.
-/// Its value and how many bytes it has. Most tokens of proofs and formulas are read so, in one pass over their bytes.
+/// The number at the front of these bytes, where it is one of at most 18 digits, and a blank stands behind it. Its value and
+/// how many bytes it has. Most tokens of proofs and formulas are read so, in one pass over their bytes.
 #[inline(always)]
 pub fn number_at_front(bytes: &[u8]) -> Option<(i64, usize)>
     ensures { IfSome result (λ found. IsNumberAtFront bytes.now found.0 found.1) }
 {
-    if bytes.is_empty() {
+    if bytes.len() < 2 {
         return None;
     }
     if bytes[0] != b'-' {
@@ -115,29 +115,50 @@ pub fn number_at_front(bytes: &[u8]) -> Option<(i64, usize)>
     Some((negative(value)?, len + 1))
 }
 
-// The value of the digits at the front, where there are at most 63, their value is small, and a blank stands behind them.
+// The value of the digits at the front, where there are at most 18, and a blank stands behind them.
 #[inline(always)]
 fn blank_ended(bytes: &[u8]) -> Option<(u64, usize)>
+    requires { 0 < length bytes.now }
     ensures { IfSome result (λ found. IsNumeralAtFront bytes.now found.0 found.1) }
 {
     let (value, len) = digits_at_front(bytes);
-    if len == 0 || len > 63 || len >= bytes.len() || !is_blank(bytes[len]) {
+    if len == 0 || !is_blank(bytes[len]) {
         return None;
     }
     Some((value, len))
 }
 
-// The digits at the front, as far as their value is small, and that value.
+// The digits at the front, at most 18 and one byte left behind them, and their value. Where all 18 fit, their number is known
+// when the program is built, so the loop is unrolled.
 #[inline(always)]
 fn digits_at_front(bytes: &[u8]) -> (u64, usize)
-    ensures range { result.1 ≤ length bytes.now }
+    requires { 0 < length bytes.now }
+    ensures within { result.1 < length bytes.now }
+    ensures short { result.1 ≤ 18 }
+    ensures digits { list_all is_digit (take result.1 bytes.now) ≡ true }
+    ensures value { result.0 ≡ value_after 0 (take result.1 bytes.now) }
+    ensures small { result.0 < cap }
+{
+    if bytes.len() > DIGITS {
+        digits_up_to(bytes, DIGITS)
+    } else {
+        digits_up_to(bytes, bytes.len() - 1)
+    }
+}
+
+// The digits at the front, at most so many, and their value.
+#[inline(always)]
+fn digits_up_to(bytes: &[u8], most: usize) -> (u64, usize)
+    requires within { most < length bytes.now }
+    requires short { most ≤ 18 }
+    ensures most { result.1 ≤ most }
     ensures digits { list_all is_digit (take result.1 bytes.now) ≡ true }
     ensures value { result.0 ≡ value_after 0 (take result.1 bytes.now) }
     ensures small { result.0 < cap }
 {
     let mut len = 0;
     let mut value: u64 = 0;
-    while len < bytes.len() && is_digit(bytes[len]) && value < SMALL {
+    while len < most && is_digit(bytes[len]) {
         value = 10 * value + (bytes[len] - b'0') as u64;
         len += 1;
     }

@@ -3,7 +3,7 @@ ghost use Rattle.std.specs.Prelude.{◌≡◌, ◌≢◌, ℕ, ◌+◌, ◌^◌,
 ghost use Rattle.std.specs.Prelude.{IfOk, OnOk, OnErr, is_ok, if◌then◌else◌};
 ghost use Rattle.cnf_base.specs.Text.{has_bytes};
 ghost use Rattle.host_io.specs.Channel.{Rose};
-ghost use Rattle.text_scan.specs.declared.scanner.Status.TheVariants.{Reading, Ended, Overlong, Faulted};
+ghost use Rattle.text_scan.specs.declared.scanner.ScanStatus.TheVariants.{Reading, Ended, Overlong, Faulted};
 ghost use Rattle.text_scan.specs.declared.scanner.ScanError.TheVariants.{ReadFault};
 ghost use Rattle.text_scan.specs.Items.{items, items_of_front, the_end, too_long, next_word};
 ghost use Rattle.text_scan.specs.Lexer.{items_from, word_then};
@@ -32,7 +32,7 @@ pub enum ScanError {
 
 /// Whether a scanner still reads, and else what it answers from now on.
 #[derive(Clone, Copy, Debug, PartialEq, Eq)]
-enum Status {
+enum ScanStatus {
     Reading,
     Ended,
     Overlong,
@@ -50,7 +50,7 @@ pub struct Scanner {
     // how many bytes from the start of the block on are under the limit
     room: u64,
     lexer: Lexer,
-    status: Status,
+    status: ScanStatus,
     line: u64,
 }
 
@@ -89,7 +89,7 @@ impl Scanner {
             end: 0,
             room: limit,
             lexer: Lexer::new(comment),
-            status: Status::Reading,
+            status: ScanStatus::Reading,
             line: 1,
         }
     }
@@ -150,10 +150,10 @@ impl Scanner {
         ensures beside { S.beside source.new ≡ S.beside source.old }
     {
         match self.status {
-            Status::Reading => self.read_on(source, token),
-            Status::Ended => Ok(false),
-            Status::Overlong => Err(ScanError::TooLong),
-            Status::Faulted => Err(ScanError::ReadFault),
+            ScanStatus::Reading => self.read_on(source, token),
+            ScanStatus::Ended => Ok(false),
+            ScanStatus::Overlong => Err(ScanError::TooLong),
+            ScanStatus::Faulted => Err(ScanError::ReadFault),
         }
     }
 
@@ -178,7 +178,7 @@ impl Scanner {
         ensures past { IfSome result (λ number. self.new.line ≢ line) }
         ensures none { result ≡ None → self.new ≡ self.old }
     {
-        if self.status != Status::Reading || self.lexer.line() == line {
+        if self.status != ScanStatus::Reading || self.lexer.line() == line {
             return None;
         }
         self.take_number()
@@ -205,7 +205,7 @@ impl Scanner {
         ensures reading { result ≡ true → self.now.status ≡ Reading }
         ensures line { result ≡ true → self.now.lex.line ≡ line }
     {
-        self.status == Status::Reading && self.lexer.line() == line
+        self.status == ScanStatus::Reading && self.lexer.line() == line
     }
 
     // The number that begins with the next byte, if there is one and it ends in the block, and its length.
@@ -361,7 +361,7 @@ impl Scanner {
     fn set_overlong(&mut self)
         ensures { self.new ≡ record self.old { status = Overlong; line = self.old.lex.line } }
     {
-        self.status = Status::Overlong;
+        self.status = ScanStatus::Overlong;
         self.line = self.lexer.line();
     }
 
@@ -372,7 +372,7 @@ impl Scanner {
         ensures none { result ≡ false → (items : _) → word_then self.old.lex.word self.old.lex.line items ≡ items }
         ensures line { result ≡ true → token.new.line ≡ self.old.lex.line }
     {
-        self.status = Status::Ended;
+        self.status = ScanStatus::Ended;
         self.line = self.lexer.line();
         if !self.lexer.has_word() {
             return false;
@@ -412,7 +412,7 @@ impl Scanner {
                 Ok(len > 0)
             }
             Err(_) => {
-                self.status = Status::Faulted;
+                self.status = ScanStatus::Faulted;
                 Err(ScanError::ReadFault)
             }
         }

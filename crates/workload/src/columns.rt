@@ -1,6 +1,7 @@
 // The order and the moves of the board, column by column.
 ghost use Rattle.std.specs.Prelude.{◌≡◌, ◌+◌, ◌≤◌, ◌<◌, [], ◌∷◌, ◌++◌, map, replicate, ◌-◌, IfOk, OnOk, IsTrue};
 ghost use Rattle.std.specs.List.{flat_map};
+ghost use Rattle.cnf_base.specs.Limits.{max_clauses};
 ghost use Rattle.workload.specs.Board.{number, first_square, dominoes_of, column_dominoes, column_order};
 ghost use Rattle.workload.specs.Schedule.{following, column_clauses, ending, column_commands, moves_of, board_moves};
 ghost use Rattle.workload.specs.Cursor.{StandsAt};
@@ -89,7 +90,7 @@ fn push_clauses(
 
 // Pushes so many clauses that follow a number.
 fn push_following(moves: &mut Vec<Move>, start: u32, count: u32) -> Result<(), OutOfMemory>
-    requires { start + count ≤ 1000000 }
+    requires { start + count ≤ max_clauses }
     ensures { OnOk result (moves.new.items ≡ moves.old.items ++ map Move.Push (following start count)) }
 {
     for clause in start..start + count {

@@ -1,6 +1,7 @@
 // The formula of the board: exactly one domino covers each square that stays.
 ghost use Rattle.std.specs.Prelude.{◌≡◌, ℕ, ◌+◌, ◌*◌, ◌≤◌, ◌<◌, [], ◌∷◌, ◌++◌, map, pos, length, IfOk, OnOk, IsTrue, nat_abs};
 ghost use Rattle.std.specs.List.{flat_map, All};
+ghost use Rattle.cnf_base.specs.Limits.{max_clauses, max_vars};
 ghost use Rattle.workload.specs.Board.{square, stays, square_clauses, row_squares, board_formula, dominoes, one_of, not_both, no_two_of};
 
 use crate::square::{covering, stays, variable_count};
@@ -25,8 +26,8 @@ fn push_row(builder: &mut CnfBuilder, n: u32, row: u32) -> Result<(), OutOfMemor
     requires most { n ≤ 100 }
     requires begun { builder.old.begun ≡ [] }
     requires vars { builder.old.vars ≡ length (dominoes n) }
-    requires few_vars { builder.old.vars ≤ 1000000 }
-    requires few { length builder.old.clauses ≤ 1000000 }
+    requires few_vars { builder.old.vars ≤ max_vars }
+    requires few { length builder.old.clauses + 1000 ≤ max_clauses }
     ensures ok { OnOk result (builder.new ≡ record builder.old {
       clauses = builder.old.clauses
           ++ flat_map (square_clauses n) (row_squares n row);
@@ -47,8 +48,8 @@ fn push_square(builder: &mut CnfBuilder, n: u32, row: u32, column: u32) -> Resul
     requires there { IsTrue (stays n (square row column)) }
     requires begun { builder.old.begun ≡ [] }
     requires vars { builder.old.vars ≡ length (dominoes n) }
-    requires few_vars { builder.old.vars ≤ 1000000 }
-    requires few { length builder.old.clauses ≤ 2000000 }
+    requires few_vars { builder.old.vars ≤ max_vars }
+    requires few { length builder.old.clauses + 20 ≤ max_clauses }
     ensures ok { OnOk result (builder.new ≡ record builder.old { clauses = builder.old.clauses ++ square_clauses n (square row column) }) }
     ensures few { OnOk result (length builder.new.clauses ≤ length builder.old.clauses + 7) }
 {
@@ -61,8 +62,8 @@ fn push_square(builder: &mut CnfBuilder, n: u32, row: u32, column: u32) -> Resul
 fn push_one_of(builder: &mut CnfBuilder, variables: &[u32]) -> Result<(), OutOfMemory>
     requires begun { builder.old.begun ≡ [] }
     requires variables { All (λ x. (0 < x) × (x ≤ builder.old.vars)) variables.now }
-    requires vars { builder.old.vars ≤ 1000000 }
-    requires few { length builder.old.clauses < 10000000 }
+    requires vars { builder.old.vars ≤ max_vars }
+    requires few { length builder.old.clauses < max_clauses }
     ensures { OnOk result (builder.new ≡ record builder.old { clauses = builder.old.clauses ++ one_of variables.now ∷ [] }) }
 {
     for variable in variables {
@@ -75,8 +76,8 @@ fn push_one_of(builder: &mut CnfBuilder, variables: &[u32]) -> Result<(), OutOfM
 fn push_no_two_of(builder: &mut CnfBuilder, variables: &[u32]) -> Result<(), OutOfMemory>
     requires begun { builder.old.begun ≡ [] }
     requires variables { All (λ x. (0 < x) × (x ≤ builder.old.vars)) variables.now }
-    requires vars { builder.old.vars ≤ 1000000 }
-    requires few { length builder.old.clauses ≤ 3000000 }
+    requires vars { builder.old.vars ≤ max_vars }
+    requires few { length builder.old.clauses + 16 ≤ max_clauses }
     requires short { length variables.now ≤ 4 }
     ensures { OnOk result (builder.new ≡ record builder.old { clauses = builder.old.clauses ++ no_two_of variables.now }) }
 {
@@ -91,8 +92,8 @@ fn push_not_both(builder: &mut CnfBuilder, variable: u32, others: &[u32]) -> Res
     requires begun { builder.old.begun ≡ [] }
     requires variable { (0 < variable) × (variable ≤ builder.old.vars) }
     requires others { All (λ x. (0 < x) × (x ≤ builder.old.vars)) others.now }
-    requires vars { builder.old.vars ≤ 1000000 }
-    requires few { length builder.old.clauses ≤ 4000000 }
+    requires vars { builder.old.vars ≤ max_vars }
+    requires few { length builder.old.clauses + 4 ≤ max_clauses }
     requires short { length others.now ≤ 4 }
     ensures { OnOk result (builder.new ≡ record builder.old { clauses = builder.old.clauses ++ map (not_both variable) others.now }) }
 {
@@ -105,7 +106,7 @@ fn push_not_both(builder: &mut CnfBuilder, variable: u32, others: &[u32]) -> Res
 }
 
 fn positive(variable: u32) -> Lit
-    requires { (0 < variable) × (variable ≤ 1000000) }
+    requires { (0 < variable) × (variable ≤ max_vars) }
     ensures { result ≡ pos variable }
 {
     Lit::new(variable as i32).unwrap()

@@ -1,6 +1,7 @@
 // The text of the column schedule.
 ghost use Rattle.std.specs.Prelude.{◌≡◌, ◌+◌, ◌≤◌, ◌<◌, [], ◌∷◌, ◌++◌, map, codes, OnOk, IsTrue};
 ghost use Rattle.std.specs.List.{flat_map};
+ghost use Rattle.cnf_base.specs.Limits.{max_clauses};
 ghost use Rattle.host_io.specs.Channel.{WritesAll};
 ghost use Rattle.host_io.specs.Emitted.{Emits};
 ghost use Rattle.workload.specs.Board.{number, first_square, dominoes_of};
@@ -95,7 +96,7 @@ fn emit_following<S: Sink>(
     start: u32,
     count: u32,
 ) -> Result<(), Failed>
-    requires { start + count ≤ 1000000 }
+    requires { start + count ≤ max_clauses }
     ensures emits { Emits S.tells (S.channel sink.old) (S.channel sink.new) held.old.items held.new.items
         (flat_map spaced (following start count)) result }
     ensures beside { S.beside sink.new ≡ S.beside sink.old }

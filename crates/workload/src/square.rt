@@ -2,6 +2,7 @@
 ghost use Rattle.std.specs.Prelude.{◌≡◌, ◌+◌, ◌≤◌, ◌<◌, [], ◌∷◌, ◌++◌, map, length, IsTrue};
 ghost use Rattle.arrayvec.specs.ArrayVec.{array_vec_len};
 ghost use Rattle.std.specs.List.{flat_map};
+ghost use Rattle.cnf_base.specs.Limits.{max_vars};
 ghost use Rattle.workload.specs.Board.{square, stays, is_domino, first_square, number, numbers, dominoes_of, dominoes_at, square_clauses};
 ghost use Rattle.workload.specs.Board.{dominoes};
 ghost use Rattle.workload.specs.Schedule.{squares_before};
@@ -51,7 +52,7 @@ pub fn variable_count(n: u32) -> u32
     requires least { 2 ≤ n }
     requires most { n ≤ 100 }
     ensures value { result ≡ length (dominoes n) }
-    ensures range { result ≤ 1000000 }
+    ensures range { result ≤ max_vars }
 {
     2 * n * (n - 1) - 4
 }

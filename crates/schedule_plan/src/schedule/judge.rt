@@ -15,7 +15,7 @@ use std::alloc::Global;
 
 /// The moves so far, and what they make of the clauses, the variables and the terms.
 #[derive(Drop)]
-pub(crate) struct Judge {
+pub(crate) struct ScheduleJudge {
     pub(crate) moves: Vec<Move>,
     // by a variable's number
     pub(crate) uses: Vec<Use>,
@@ -26,8 +26,8 @@ pub(crate) struct Judge {
     pub(crate) pushes: u32,
 }
 
-impl Judge {
-    pub(crate) fn new(alloc: Global, formula: &Cnf) -> Result<Judge, OutOfMemory>
+impl ScheduleJudge {
+    pub(crate) fn new(alloc: Global, formula: &Cnf) -> Result<ScheduleJudge, OutOfMemory>
         ensures stands { IfOk result (Stands formula.now) }
         ensures moves { IfOk result (λ judge. judge.moves.items ≡ []) }
     {
@@ -41,7 +41,7 @@ impl Judge {
         for clause in 0..formula.len() {
             count_clause(&mut uses, formula.clause(clause + 1), clause as u32 + 1);
         }
-        Ok(Judge {
+        Ok(ScheduleJudge {
             moves: Vec::new(alloc),
             uses,
             flags: vec![in alloc; false; formula.len() + 1]?,
@@ -160,7 +160,7 @@ impl Judge {
         if self.starts.as_slice().len() > 1 {
             return Err(PlanError::Refused(PlanKind::TermsLeft, line));
         }
-        let Judge {
+        let ScheduleJudge {
             moves,
             uses: _,
             flags: _,

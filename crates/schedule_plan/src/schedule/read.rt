@@ -14,7 +14,7 @@ ghost use Rattle.schedule_plan.specs.ScheduleState.{Stands, Takes, Goes, Answers
 
 use crate::plan::Plan;
 use crate::schedule::error::{PlanError, PlanKind};
-use crate::schedule::judge::Judge;
+use crate::schedule::judge::ScheduleJudge;
 use crate::schedule::line::{Command, Line};
 use cnf_base::Cnf;
 use host_io::Source;
@@ -47,7 +47,7 @@ pub(crate) fn read_schedule<S: Source>(
 {
     formula.formula_law();
     let mut scanner = Scanner::new(b'#', MAX_BYTES);
-    let mut judge = Judge::new(alloc, formula)?;
+    let mut judge = ScheduleJudge::new(alloc, formula)?;
     let mut line = Line::new(alloc);
     'tokens: loop {
         match scanner.next(source) {
@@ -61,7 +61,7 @@ pub(crate) fn read_schedule<S: Source>(
 
 // A token of the line that is begun, or the first of another, which ends it.
 fn take_token(
-    judge: &mut Judge,
+    judge: &mut ScheduleJudge,
     formula: &Cnf,
     line: &mut Line,
     token: &Token,
@@ -82,7 +82,7 @@ fn take_token(
 }
 
 // The last line is ended, and the text is.
-fn at_end(mut judge: Judge, formula: &Cnf, line: &Line, end: u64) -> Result<Plan, PlanError>
+fn at_end(mut judge: ScheduleJudge, formula: &Cnf, line: &Line, end: u64) -> Result<Plan, PlanError>
     requires { Stands formula.now judge }
     ensures answers { Answers result (drafted formula.now (the_end end) line.now judge.moves.items) }
     ensures unfailed { result ≢ Err ReadFault }
@@ -93,7 +93,7 @@ fn at_end(mut judge: Judge, formula: &Cnf, line: &Line, end: u64) -> Result<Plan
 }
 
 // At the limit the last line is ended where the line there is a later one.
-fn at_limit(mut judge: Judge, formula: &Cnf, line: &Line, end: u64) -> PlanError
+fn at_limit(mut judge: ScheduleJudge, formula: &Cnf, line: &Line, end: u64) -> PlanError
     requires { Stands formula.now judge }
     ensures answers { Answers (Err result) (drafted formula.now (too_long end) line.now judge.moves.items) }
     ensures unfailed { result ≢ ReadFault }
@@ -107,7 +107,7 @@ fn at_limit(mut judge: Judge, formula: &Cnf, line: &Line, end: u64) -> PlanError
 }
 
 // Takes the moves of a line that is ended, if one is begun.
-fn take_line(judge: &mut Judge, formula: &Cnf, line: &Line) -> Result<(), PlanError>
+fn take_line(judge: &mut ScheduleJudge, formula: &Cnf, line: &Line) -> Result<(), PlanError>
     requires { Stands formula.now judge.old }
     ensures stands { OnOk result (Stands formula.now judge.new) }
     ensures takes { Takes result (draft_taken formula.now line.now judge.old.moves.items) line.now.line judge.new.moves.items }
@@ -133,7 +133,7 @@ fn take_line(judge: &mut Judge, formula: &Cnf, line: &Line) -> Result<(), PlanEr
 }
 
 fn take_pushes(
-    judge: &mut Judge,
+    judge: &mut ScheduleJudge,
     formula: &Cnf,
     numbers: &[u64],
     line: u64,
@@ -149,7 +149,7 @@ fn take_pushes(
 }
 
 fn take_variables(
-    judge: &mut Judge,
+    judge: &mut ScheduleJudge,
     formula: &Cnf,
     numbers: &[u64],
     line: u64,

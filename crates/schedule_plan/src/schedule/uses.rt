@@ -1,6 +1,7 @@
 // Where the variables stand: in how many clauses to come, and since which push.
 ghost use Rattle.std.specs.Prelude.{◌≡◌, ℕ, ◌<◌, ◌≤◌, nat_abs, nat_lt, length, IsTrue};
 ghost use Rattle.std.specs.List.{list_all};
+ghost use Rattle.cnf_base.specs.Limits.{max_clauses};
 ghost use Rattle.schedule_plan.specs.ScheduleState.{counted, with_push, changed, use_at};
 
 use cnf_base::Lit;
@@ -50,7 +51,7 @@ fn with_push(one: Use, mark: u32, place: u32) -> Use
 
 /// A clause is there.
 pub(crate) fn count_clause(uses: &mut Vec<Use>, clause: &[Lit], mark: u32)
-    requires few { (x : ℕ) → (use_at uses.old.items x).to_come ≤ 10000000 }
+    requires few { (x : ℕ) → (use_at uses.old.items x).to_come ≤ max_clauses }
     requires within { IsTrue (list_all (λ literal. nat_lt (nat_abs literal) (length uses.old.items)) clause.now) }
     ensures count { length uses.new.items ≡ length uses.old.items }
     ensures uses { (x : ℕ) → use_at uses.new.items x ≡ changed (counted mark) clause.now uses.old.items x }

@@ -3,7 +3,7 @@ use Rattle.std.proofs.Common.{◌≡◌, ℕ, List, ◌++◌, true, false}
 use Rattle.std.specs.Prelude.{IsTrue}
 use Rattle.text_scan.specs.Decides.{gained, Decides, OnlyReads}
 use Rattle.text_scan.specs.Scan.{is_reading as is_scanning}
-use Rattle.lrat_text.specs.declared.reader.Status.TheVariants.{Reading}
+use Rattle.lrat_text.specs.declared.reader.ReaderStatus.TheVariants.{Reading}
 use Rattle.lrat_text.specs.Reader.{steps_ahead, so_far, fuel}
 use Rattle.lrat_checker.specs.TextVerdict.{steps_verdict}
 use Rattle.lrat_checker.specs.Memory.{steps_may_want_memory}

@@ -5,7 +5,7 @@ use Rattle.std.proofs.lemmas.Bool.Decides.{nat_tests}
 use Rattle.text_scan.specs.declared.scanner.ScanError.TheVariants.{ReadFault as ScanFault}
 use Rattle.text_scan.specs.Items.{next_word}
 use Rattle.lrat_text.specs.declared.error.StepError.TheVariants.{ReadFault}
-use Rattle.lrat_text.specs.declared.reader.Status.TheVariants.{Reading}
+use Rattle.lrat_text.specs.declared.reader.ReaderStatus.TheVariants.{Reading}
 use Rattle.text_scan.specs.Decides.{gained, Decides-none, Decides-then, OnlyReads-then, gained-then, front-then}
 use Rattle.text_scan.specs.Scan.{Scan, given as answer, ahead, so_far as scan_so_far, is_reading as is_scanning, fuel}
 use Rattle.lrat_text.specs.Draft.{is_open, with_token, drafted}

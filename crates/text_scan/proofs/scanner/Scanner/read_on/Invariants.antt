@@ -1,7 +1,7 @@
 -- No token ended so far, and what is ahead with the bytes taken is what was ahead at the start.
 use Rattle.std.proofs.Common.{◌≡◌, ℕ, ◌+◌, ◌-◌, ◌*◌, ◌≤◌, min, List, ◌++◌, length}
 use Rattle.std.specs.Prelude.{IsTrue}
-use Rattle.text_scan.specs.declared.scanner.Status.TheVariants.{Reading}
+use Rattle.text_scan.specs.declared.scanner.ScanStatus.TheVariants.{Reading}
 use Rattle.text_scan.specs.Scan.{ahead, so_far}
 use Rattle.text_scan.specs.Decides.{gained, Decides, OnlyReads}
 use Rattle.text_scan.proofs.scanner.Scanner.read_on.Given as goal

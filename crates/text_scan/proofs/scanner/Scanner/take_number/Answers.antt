@@ -1,7 +1,7 @@
 -- The token ahead is given.
 use Rattle.std.proofs.Common.{◌≡◌, ◌-◌, ◌≤◌, take, length, w64, to_z, of_z, arith, refl, sym, ◌∙◌, ap}
 use Rattle.std.proofs.lemmas.Int.{to_z-of_z}
-use Rattle.text_scan.specs.declared.scanner.Status.TheVariants.{Reading}
+use Rattle.text_scan.specs.declared.scanner.ScanStatus.TheVariants.{Reading}
 use Rattle.text_scan.specs.Scan.{Scan}
 use Rattle.text_scan.proofs.NumberAhead.{small_fits}
 use Rattle.text_scan.proofs.WordAhead.{block_run, block_front}

@@ -1,0 +1,73 @@
+-- What is left to show of `PackedChunk::clear`.
+use Rattle.std.proofs.Common.{◌≡◌, ◌-◌, ◌≢◌, None, true, false, ℤ, List, map, set, get_or, is_some, sym, ◌∙◌, ap, subst, arith}
+use Rattle.std.proofs.lemmas.List.{map-set}
+use Rattle.std.proofs.lemmas.List.Elements.{All-set}
+use Rattle.clause_ledger.specs.declared.packed.Span.TheVariants.{Free}
+use Rattle.clause_ledger.specs.Spans.{Fits, clause_of}
+use Rattle.clause_ledger.specs.Chunks.{Places, IsCleared}
+use Rattle.clause_ledger.proofs.Counts.{clauses, clauses-cleared, IsCleared-set, IsCleared-last, found}
+use Rattle.clause_ledger.proofs.packed.PackedChunk.clear.Goals as goal
+use Rattle.clause_ledger.proofs.packed.PackedChunk.clear.Goals.{else-may_shrink-via-then-may_shrink+else-self-eq0}
+use Rattle.clause_ledger.proofs.packed.PackedChunk.clear.Goals.{else-may_shrink-via-else-may_shrink}
+
+pub invariant_of-self-else-self-eq0 : goal.invariant_of-self-else-self-eq0
+invariant_of-self-else-self-eq0 c =
+    let literals = c.self.inside.literals.items in
+    let apart : List (List ℤ) = map (λ v. v.items) c.self.inside.apart.items in
+    let places : Places = map (clause_of literals apart) c.self.inside.spans.items in
+    let some : is_some (get_or places c.args.place None) ≡ true = ap (λ (p : Places). is_some (get_or p c.args.place None)) c.self.view_is
+    ∙ found c.clause.result (get_or c.args.self.now c.args.place None) c.if-is_none.ensures c.clause.ensures in
+    let less : c.self.inside.live - 1 ≡ clauses (set places c.args.place None) = omega
+    (arith, c.self.invariant.1, clauses-cleared places c.args.place some) in (
+      All-set (Fits literals apart) c.self.inside.spans.items c.args.place Free _ c.self.invariant.0,
+      less ∙ ap clauses (sym (map-set (clause_of literals apart) c.self.inside.spans.items c.args.place Free)),
+    )
+
+pub invariant_of-self-else-may_shrink : goal.invariant_of-self-else-may_shrink
+invariant_of-self-else-may_shrink c =
+    let literals = c.self.inside.literals.items in
+    let apart : List (List ℤ) = map (λ v. v.items) c.self.inside.apart.items in
+    let places : Places = map (clause_of literals apart) c.self.inside.spans.items in
+    let some : is_some (get_or places c.args.place None) ≡ true = ap (λ (p : Places). is_some (get_or p c.args.place None)) c.self.view_is
+    ∙ found c.clause.result (get_or c.args.self.now c.args.place None) c.if-is_none.ensures c.clause.ensures in
+    let less : c.self.inside.live - 1 ≡ clauses (set places c.args.place None) = omega
+    (arith, c.self.invariant.1, clauses-cleared places c.args.place some) in (
+      All-set (Fits literals apart) c.self.inside.spans.items c.args.place Free _ c.self.invariant.0,
+      less ∙ ap clauses (sym (map-set (clause_of literals apart) c.self.inside.spans.items c.args.place Free)),
+    )
+
+pub returns-then-self-eq0 : goal.returns-then-self-eq0
+returns-then-self-eq0 c =
+    let literals = c.self.inside.literals.items in
+    let apart : List (List ℤ) = map (λ v. v.items) c.self.inside.apart.items in
+    let places : Places = map (clause_of literals apart) c.self.inside.spans.items in
+    let some : is_some (get_or places c.args.place None) ≡ true = ap (λ (p : Places). is_some (get_or p c.args.place None)) c.self.view_is
+    ∙ found c.clause.result (get_or c.args.self.now c.args.place None) c.if-is_none.ensures c.clause.ensures in
+    let none : List ℤ = c.new-then-self-eq0.result.items in
+    let none_apart : List (List ℤ) = map (λ v. v.items) c.new-then-self-eq0-2.result.items in
+    subst (λ (p : Places). IsCleared p (map (clause_of none none_apart) c.new.result.items) c.args.place c.args.may_shrink) c.self.view_is
+    (IsCleared-last places (map (clause_of none none_apart) c.new.result.items) c.args.place c.args.may_shrink some
+    (omega (arith, c.if-self-eq0.true, c.self.invariant.1)) (ap (map (clause_of none none_apart)) c.new.ensures.items)
+    c.if-may_shrink.true)
+
+pub returns-else-may_shrink : goal.returns-else-may_shrink
+returns-else-may_shrink c =
+    let literals = c.self.inside.literals.items in
+    let apart : List (List ℤ) = map (λ v. v.items) c.self.inside.apart.items in
+    let places : Places = map (clause_of literals apart) c.self.inside.spans.items in
+    let some : is_some (get_or places c.args.place None) ≡ true = ap (λ (p : Places). is_some (get_or p c.args.place None)) c.self.view_is
+    ∙ found c.clause.result (get_or c.args.self.now c.args.place None) c.if-is_none.ensures c.clause.ensures in
+    let written = map-set (clause_of literals apart) c.self.inside.spans.items c.args.place Free in
+    let is : c.else-may_shrink.self ≡ set places c.args.place None =
+    elim c.else-may_shrink.branch [
+      | else-may_shrink-via-then-may_shrink+else-self-eq0 w ↦ w.self-is ∙ written
+      | else-may_shrink-via-else-may_shrink w ↦ w.self-is ∙ written
+    ] in
+    let not_last : c.args.may_shrink ≡ true → clauses places - 1 ≢ 0 =
+    elim c.else-may_shrink.branch [
+      | else-may_shrink-via-then-may_shrink+else-self-eq0 w ↦ λ may last. w.if-self-eq0.false (omega (arith, last, c.self.invariant.1))
+      | else-may_shrink-via-else-may_shrink w ↦ λ may. let no : false ≡ true = sym w.if-may_shrink.false ∙ may in cc
+    ] in
+    subst (λ (p : Places). IsCleared p c.else-may_shrink.self c.args.place c.args.may_shrink) c.self.view_is
+    (subst (λ (p : Places). IsCleared places p c.args.place c.args.may_shrink) (sym is)
+    (IsCleared-set places c.args.place c.args.may_shrink some not_last))
