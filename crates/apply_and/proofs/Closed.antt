@@ -1,5 +1,5 @@
 -- The two additions of a conjunction: their clauses are of different variables, and their hints close.
-use Rattle.std.proofs.Common.{◌≡◌, ℤ, pos, neg_ℤ, true, false, List, ◌∷◌, Some, sym, ap, subst}
+use Rattle.std.proofs.Common.{◌≡◌, ℤ, pos, neg_ℤ, true, false, List, ◌∷◌, Some, ap}
 use Rattle.std.specs.Option.{option_map}
 use Rattle.lrat_rules.specs.State.{Live}
 use Rattle.hint_chain.specs.Atoms.{clause_of, is_trivial}
@@ -9,13 +9,11 @@ use Rattle.node_table.specs.declared.node.Node.{Node}
 use Rattle.node_table.specs.declared.node.Just.{Just}
 use Rattle.node_table.specs.Diagram.{Graph, IsReduced, IsOrder, variable_at}
 use Rattle.node_table.specs.Tied.{IsOverNodes}
-use Rattle.node_table.specs.Just.{IsJustified}
 use Rattle.operations.specs.Additions.{Literals}
 use Rattle.operations.specs.declared.operands.Operands.{Operands}
 use Rattle.operations.specs.declared.parts.Side.{Side}
 use Rattle.operations.specs.Results.{conjunction_atoms}
 use Rattle.operations.specs.Operands.{AreSplit, Splitting}
-use Rattle.operations.specs.Sides.{cofactor_at}
 use Rattle.apply_and.specs.Additions.{IsSide}
 use Rattle.apply_and.proofs.ConjunctionClauses.{conjunction_apart, conjunction_open, conjunction_owned}
 
@@ -48,10 +46,3 @@ module _ (literals : Literals) (splits : Splitting) (graph : Graph) (reduced : I
   pub high_clause : clause_of (where_true (pos (variable_at graph o.level)) (conjunction_atoms graph o.u o.v w))
       ≡ Some (neg_ℤ (pos (variable_at graph o.level)) ∷ clause)
   high_clause = ap (λ c. option_map (λ literals. neg_ℤ (pos (variable_at graph o.level)) ∷ literals) c) is
-
-  -- the finished side's clause speaks of w's cofactor
-  pub side_justified : IsJustified live (conjunction_atoms graph (cofactor_at side graph o.level o.u) (cofactor_at side graph o.level o.v)
-      (cofactor_at side graph o.level w)) found.1
-  side_justified =
-      subst (λ (n : Node). IsJustified live (conjunction_atoms graph (cofactor_at side graph o.level o.u)
-      (cofactor_at side graph o.level o.v) n) found.1) (sym finished.cofactor) finished.justified

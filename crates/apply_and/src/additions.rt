@@ -21,8 +21,8 @@ ghost use Rattle.operations.specs.declared.parts.Side.TheVariants.{High, Low};
 
 use cnf_base::{Id, Lit};
 use hint_chain::{
-    Part, ShortClause, and_high, and_low, clause_law, clause_of, closing_law, conjunction_law,
-    greedy_law,
+    Atom, Part, ShortClause, and_high, and_low, clause_law, clause_of, closing_law,
+    conjunction_law, greedy_law,
 };
 use host_io::Sink;
 use node_table::{Just, Node, Table, TableError, growth_law, steps_law};
@@ -92,9 +92,18 @@ fn conjunction_clause<S: Sink + Drop>(
 ) -> Option<ShortClause>
     ensures { result ≡ clause_of (conjunction_atoms table.now.graph operands.now.u operands.now.v w) }
 {
-    let u = table.atom(operands.u);
-    let v = table.atom(operands.v);
-    clause_of(&[u.negated(), v.negated(), table.atom(w)])
+    clause_of(&atoms_of(table, operands.u, operands.v, w))
+}
+
+// What the clause of a conjunction is made of: not u, not v, w.
+fn atoms_of<S: Sink + Drop>(table: &Table<S>, u: Node, v: Node, w: Node) -> [Atom; 3]
+    ensures { result ≡ conjunction_atoms table.now.graph u v w }
+{
+    [
+        table.atom(u).negated(),
+        table.atom(v).negated(),
+        table.atom(w),
+    ]
 }
 
 // The addition on the high side.
@@ -131,11 +140,12 @@ fn add_high<S: Sink + Drop>(
     high_clause_law::<S>();
     let level = operands.level;
     let long = behind(table.variable(level).negated(), clause);
+    let child = atoms_of(table, operands.u_high, operands.v_high, high.0);
     let parts = [
         up_part(table, level, Side::High, w),
         down_part(table, level, Side::High, operands.u),
         down_part(table, level, Side::High, operands.v),
-        just_part(table, &high.1),
+        just_part(&high.1, &child),
     ];
     let hints = and_high(alloc, long.as_slice(), parts);
     let id = table.justify(long.as_slice(), hints.as_slice())?;
@@ -177,12 +187,13 @@ fn add_low<S: Sink + Drop>(
     literal_law();
     high_clause_law::<S>();
     let level = operands.level;
+    let child = atoms_of(table, operands.u_low, operands.v_low, low.0);
     let parts = [
         Some(first),
         up_part(table, level, Side::Low, w),
         down_part(table, level, Side::Low, operands.u),
         down_part(table, level, Side::Low, operands.v),
-        just_part(table, &low.1),
+        just_part(&low.1, &child),
     ];
     let hints = and_low(alloc, clause, parts);
     table.justify(clause, hints.as_slice())

@@ -2,6 +2,7 @@
 // the longest ago makes room. (Brace, Rudell, Bryant: Efficient Implementation of a BDD Package, DAC 1990.)
 ghost use Rattle.std.specs.Prelude.{◌≡◌, ◌≤◌, ◌<◌, ℕ, [], List, None, Some, Contains, IsFalse, IfOk, IfSome, MatchOption, OnErr, length};
 ghost use Rattle.node_table.specs.Progress.{Steps};
+ghost use Rattle.node_table.specs.Stored.{HasSmallKey};
 ghost use Rattle.node_table.specs.Table.{IsSound};
 ghost use Rattle.op_cache.specs.Cache.{last_of};
 ghost use Rattle.operations.specs.Entries.{Conjunction, Fits};
@@ -18,7 +19,9 @@ use cnf_base::{Id, OutOfMemory};
 use host_io::Sink;
 use node_table::{Just, Marks, Node, Table};
 use op_cache::Bounded;
-use operations::{cache_law, cache_turn_law, id_of, just_of, number_of, retire, table_turn_law};
+use operations::{
+    NodePair, cache_law, cache_turn_law, id_of, just_of, number_of, retire, table_turn_law,
+};
 use std::alloc::Global;
 use std::mem::size_of;
 
@@ -35,7 +38,7 @@ const _: () = prove!(size_of::<Found>() == 16);
 #[derive(Drop)]
 pub struct AndCache {
     alloc: Global,
-    results: Bounded<(Node, Node), Found>,
+    results: Bounded<NodePair, Found>,
 }
 
 impl AndCache {
@@ -62,6 +65,8 @@ impl AndCache {
 
     /// The conjunction of two nodes, where it is kept. Its entry comes to the front.
     pub(crate) fn look(&mut self, u: Node, v: Node) -> Option<(Node, Just)>
+        requires first { HasSmallKey u }
+        requires second { HasSmallKey v }
         ensures found { IfSome result (λ f. Contains (entries self.new) (Conjunction u v f.0 f.1)) }
         ensures exact { (w : NodeValue) (just : JustValue) → Contains (entries self.old) (Conjunction u v w just) → result
             ≡ Some (w, just) }
@@ -70,9 +75,9 @@ impl AndCache {
         ensures used { (pairs : List Pair) → StandInFront self.old pairs
             → MatchOption result (IsFalse (is_one pairs (u, v))) (λ f. StandInFront self.new (with_used pairs (u, v))) }
     {
-        cache_law::<(Node, Node), Found>();
+        cache_law::<NodePair, Found>();
         let _ = self.results.len();
-        match self.results.look(&(u, v)) {
+        match self.results.look(&NodePair::of(u, v)) {
             None => None,
             Some(found) => Some((found.node, just_of(found.clause))),
         }
@@ -86,17 +91,19 @@ impl AndCache {
         v: Node,
         found: &(Node, Just),
     ) -> Result<Option<Id>, OutOfMemory>
+        requires first { HasSmallKey u }
+        requires second { HasSmallKey v }
         requires numbered { (id : ℕ) → found.now.1 ≡ Clause id → 0 < id }
         ensures kept { IfOk result (λ given. IsKept self.old self.new u v found.now.0 found.now.1 given) }
         ensures refused { OnErr result (self.new ≡ self.old) }
     {
-        cache_law::<(Node, Node), Found>();
+        cache_law::<NodePair, Found>();
         let _ = self.results.len();
         let value = Found {
             node: found.0,
             clause: number_of(&found.1),
         };
-        let Ok(handed) = self.results.keep((u, v), value) else {
+        let Ok(handed) = self.results.keep(NodePair::of(u, v), value) else {
             return Err(OutOfMemory);
         };
         let _ = self.results.len();
@@ -116,8 +123,8 @@ impl AndCache {
         ensures steps { Steps S.tells (S.channel table.old.book.sink) (S.channel table.new.book.sink) table.old table.new 0 None }
         ensures beside { S.beside table.new.book.sink ≡ S.beside table.old.book.sink }
     {
-        cache_turn_law::<(Node, Node), Found>();
-        table_turn_law::<S, (Node, Node), Found>();
+        cache_turn_law::<NodePair, Found>();
+        table_turn_law::<S, NodePair, Found>();
         'turns: for _ in 0..self.results.len() {
             self.turn(table, marks);
         }
@@ -134,15 +141,15 @@ impl AndCache {
             → RetiresTurn entry_of marks.now S.tells S.channel table.old table.new last }
         ensures beside { S.beside table.new.book.sink ≡ S.beside table.old.book.sink }
     {
-        let Some((pair, found)) = self.results.last() else {
+        let Some(last) = self.results.last() else {
             return;
         };
-        if are_marked(marks, pair, found) {
-            let _ = self.results.look(&pair);
+        if are_marked(marks, last.0.nodes(), last.1) {
+            let _ = self.results.look(&last.0);
             return;
         }
         let _ = self.results.pop_last();
-        retire(table, id_of(found.clause));
+        retire(table, id_of(last.1.clause));
     }
 }
 

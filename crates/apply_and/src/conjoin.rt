@@ -147,6 +147,7 @@ impl<S: Sink + Drop> Operation<S> for AndOperation {
         accounts_law::<S>();
         operand_law();
         growth_law();
+        table.keys_law();
         let found = finish(cache.alloc(), table, operands, high, low)?;
         match cache.keep(operands.u, operands.v, &found) {
             Ok(given) => {
@@ -181,6 +182,7 @@ fn answer<S: Sink + Drop>(
     if let Some(w) = plain(u, v) {
         return Some((w, Just::Trivial));
     }
+    table.keys_law();
     cache.look(u, v)
 }
 

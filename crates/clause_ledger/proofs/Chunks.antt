@@ -12,7 +12,7 @@ use Rattle.std.specs.Ordering.{eq_by_cmp}
 use Rattle.std.specs.FinMap as finmap
 use Rattle.lrat_rules.specs.State.{Live, clause_at, with_clause}
 use Rattle.clause_ledger.specs.Chunks.{Place, Places, numbered_places, numbered_chunks, live_of, place_at, HaveSizes, AreChunks, IsBlank}
-use Rattle.clause_ledger.specs.Chunks.{IsCleared, IsGrown, max_chunks}
+use Rattle.clause_ledger.specs.Chunks.{IsCleared, begun_places, max_chunks}
 
 or_else : Place → Place → Place
 or_else None o = o
@@ -163,17 +163,30 @@ set_at places i place lt k =
 same_map : (few more : Live) → ((id : ℕ) → clause_at few id ≡ clause_at more id) → few ≡ more
 same_map few more is = finmap.same_map nat_cmp_total finmap.nat_cmp-IsAntisymmetric few more is
 
--- a clause is put into a place
-pub live_of-put : (chunks : List Places) (number : ℕ) (clause : List ℤ) → HaveSizes chunks → number / 64 < length chunks → number % 64
-    < length (get_or chunks (number / 64) [])
-    → live_of (set chunks (number / 64) (set (get_or chunks (number / 64) []) (number % 64) (Some clause)))
-    ≡ with_clause (live_of chunks) number clause
-live_of-put chunks number clause sizes lt place_lt =
+-- what stands behind a chunk's places
+append_at : (places : Places) (n : ℕ) (place : Place) → length places ≡ n → (k : ℕ) → get_or (places ++ place ∷ []) k None
+    ≡ (if k == n then place else get_or places k None)
+append_at places n place is k =
+    elim (cases_eq k n) [
+      | inl same ↦ ap (λ m. get_or (places ++ place ∷ []) m None) (same ∙ sym is) ∙ get_or-append_seam places place [] None
+          ∙ ap (λ b. if b then place else get_or places k None) (sym (eq-eqb k n same))
+      | inr other ↦ elim (cases_lt k n) [
+        | inl lt ↦ get_or_append_left places (place ∷ []) None k (omega (arith, is))
+        | inr le ↦ get_or_past (places ++ place ∷ []) k None (omega (arith, is, other, length-append places (place ∷ [])))
+            ∙ sym (get_or_past places k None (omega (arith, is)))
+      ] ∙ ap (λ b. if b then place else get_or places k None) (sym (ne_eqb k n other))
+    ]
+
+-- a clause is put behind the places of the last number's chunk
+pub live_of-put : (chunks : List Places) (number : ℕ) (clause : List ℤ) → HaveSizes chunks → number / 64 < length chunks
+    → length (get_or chunks (number / 64) []) ≡ number % 64
+    → live_of (set chunks (number / 64) (get_or chunks (number / 64) [] ++ Some clause ∷ [])) ≡ with_clause (live_of chunks) number clause
+live_of-put chunks number clause sizes lt place_is =
     let before = get_or chunks (number / 64) [] in
-    let after = set before (number % 64) (Some clause) in
-    let is : (i : ℕ) → get_or after i None ≡ (if i == number % 64 then Some clause else get_or before i None) = set_at before (number % 64)
-    (Some clause) place_lt in
-    let small : length after ≤ 64 = omega (arith, length-set before (number % 64) (Some clause), sizes (number / 64)) in
+    let after = before ++ Some clause ∷ [] in
+    let is : (i : ℕ) → get_or after i None ≡ (if i == number % 64 then Some clause else get_or before i None) = append_at before (number % 64)
+    (Some clause) place_is in
+    let small : length after ≤ 64 = omega (arith, length-append before (Some clause ∷ []), place_is) in
     same_map _ _ (λ id.
     clause_at-live_of (set chunks (number / 64) after) (sizes-set chunks (number / 64) after lt sizes small) id
     ∙ place_at-changed chunks number after (Some clause) lt is id
@@ -229,79 +242,72 @@ numbered-grown first [] more blank = numbered_blanks first more blank
 numbered-grown first (chunk ∷ before) more blank = ap (λ es. numbered_places first chunk
     ++ es) (numbered-grown (first + 64) before more blank)
 
-pub live_of-grown : (before after : List Places) → IsGrown before after → live_of after ≡ live_of before
-live_of-grown before after grown = ap live_of grown.parts ∙ ap finmap.from_entries (numbered-grown 0 before grown.more grown.blank)
+-- chunks without clauses were put behind these, by their places
+pub record HasMore (before after : List Places) : Type 0 where
+  pub more : List Places
+  pub parts : after ≡ before ++ more
+  pub begun : (k : ℕ) → k < length more → get_or more k [] ≡ begun_places (length before + k)
 
-pub AreChunks-grown : (before after : List Places) (top : ℕ) → AreChunks before top → IsGrown before after → length after ≤ max_chunks
+begun_blank : (index : ℕ) → IsBlank (begun_places index)
+begun_blank zero zero = refl
+begun_blank zero (suc i) = get_or_past [] i None (omega arith)
+begun_blank (suc index) i = get_or_past [] i None (omega arith)
+
+begun_size : (index : ℕ) → length (begun_places index) ≡ 1 - index
+begun_size zero = refl
+begun_size (suc index) = omega arith
+
+more_size : (before after : List Places) (more : HasMore before after) (k : ℕ) → k < length more.more → length (get_or more.more k [])
+    ≡ 1 - (length before + k)
+more_size before after more k lt = ap length (more.begun k lt) ∙ begun_size (length before + k)
+
+more_blank : (before after : List Places) (more : HasMore before after) (k : ℕ) → IsBlank (get_or more.more k [])
+more_blank before after more k i =
+    elim (cases_lt k (length more.more)) [
+      | inl lt ↦ ap (λ (places : Places). get_or places i None) (more.begun k lt) ∙ begun_blank (length before + k) i
+      | inr past ↦ ap (λ (places : Places). get_or places i None) (get_or_past more.more k [] past) ∙ get_or_past [] i None (omega arith)
+    ]
+
+pub live_of-more : (before after : List Places) → HasMore before after → live_of after ≡ live_of before
+live_of-more before after more = ap live_of more.parts
+    ∙ ap finmap.from_entries (numbered-grown 0 before more.more (more_blank before after more))
+
+pub AreChunks-more : (before after : List Places) (top : ℕ) → AreChunks before top → HasMore before after → length after ≤ max_chunks
     → AreChunks after top
-AreChunks-grown before after top chunks grown few =
-    let longer : length after ≡ length before + length grown.more = ap length grown.parts ∙ length-append before grown.more in
+AreChunks-more before after top chunks more few =
+    let longer : length after ≡ length before + length more.more = ap length more.parts ∙ length-append before more.more in
     let early : (k : ℕ) → k < length before → get_or after k [] ≡ get_or before k [] = λ k lt. ap
-    (λ (l : List Places). get_or l k []) grown.parts ∙ get_or_append_left before grown.more [] k lt in
-    let late : (k : ℕ) → length before ≤ k → get_or after k [] ≡ get_or grown.more (k - length before) [] =
-    λ k le. ap (λ (l : List Places). get_or l k []) grown.parts ∙ get_or-append_right before grown.more (length before) k [] refl le in
+    (λ (l : List Places). get_or l k []) more.parts ∙ get_or_append_left before more.more [] k lt in
+    let late : (k : ℕ) → length before ≤ k → get_or after k [] ≡ get_or more.more (k - length before) [] =
+    λ k le. ap (λ (l : List Places). get_or l k []) more.parts ∙ get_or-append_right before more.more (length before) k [] refl le in
+    let late_size : (k : ℕ) → length before ≤ k → k < length after → length (get_or after k []) ≡ 1 - k =
+    λ k le lt. ap length (late k le) ∙ more_size before after more (k - length before) (omega (arith, longer)) ∙ omega (arith, le) in
     let sizes : HaveSizes after =
     λ k. elim (cases_lt k (length before)) [
       | inl lt ↦ omega (arith, ap length (early k lt), chunks.sizes k)
-      | inr le ↦ elim (cases_lt (k - length before) (length grown.more)) [
-        | inl within ↦ omega (arith, ap length (late k le), grown.whole (k - length before) within)
-        | inr past ↦ omega (arith, ap length (late k le ∙ get_or_past grown.more (k - length before) [] past))
+      | inr le ↦ elim (cases_lt k (length after)) [
+        | inl within ↦ omega (arith, late_size k le within)
+        | inr past ↦ omega (arith, ap length (get_or_past after k [] past))
       ]
     ] in
     record {
       sizes = sizes;
-      whole = λ k from lt. elim (cases_lt k (length before)) [
-        | inl early_k ↦ ap length (early k early_k) ∙ chunks.whole k from early_k
-        | inr le ↦ ap length (late k le) ∙ grown.whole (k - length before) (omega (arith, longer))
+      given = λ k from lt. elim (cases_lt k (length before)) [
+        | inl early_k ↦ ap length (early k early_k) ∙ chunks.given k from early_k
+        | inr le ↦ late_size k le lt ∙ omega (arith, le, chunks.within)
       ];
       shrunk = λ k lt blank. let is = early k (omega (arith, lt, chunks.within)) in
           is ∙ chunks.shrunk k lt (λ i. ap (λ (places : Places). get_or places i None) (sym is) ∙ blank i);
       numbers = λ id clause is. chunks.numbers id clause
-          (sym (clause_at-live_of before chunks.sizes id) ∙ ap (λ (live : Live). clause_at live id) (sym (live_of-grown before after grown))
+          (sym (clause_at-live_of before chunks.sizes id) ∙ ap (λ (live : Live). clause_at live id) (sym (live_of-more before after more))
           ∙ clause_at-live_of after sizes id ∙ is);
       within = omega (arith, longer, chunks.within);
       few = few;
     }
 
-pub IsGrown-push : (before after : List Places) (chunk : Places) → IsGrown before after → length chunk ≡ 64 → IsBlank chunk
-    → IsGrown before (after ++ chunk ∷ [])
-IsGrown-push before after chunk grown size blank =
-    let more = grown.more in
-    let early : (k : ℕ) → k < length more → get_or (more ++ chunk ∷ []) k []
-    ≡ get_or more k [] = λ k lt. get_or_append_left more (chunk ∷ []) [] k lt in
-    let last : (k : ℕ) → k ≡ length more → get_or (more ++ chunk ∷ []) k [] ≡ chunk = λ k is. ap (λ n. get_or (more ++ chunk ∷ []) n []) is
-    ∙ get_or-append_seam more chunk [] [] in
-    let longer : length (more ++ chunk ∷ []) ≡ length more + 1 = length-append more (chunk ∷ []) in
-    let past : (k : ℕ) → length more < k → get_or (more ++ chunk ∷ []) k []
-    ≡ [] = λ k lt. get_or_past (more ++ chunk ∷ []) k [] (omega (arith, longer)) in
-    record {
-      more = more ++ chunk ∷ [];
-      parts = ap (λ (l : List Places). l ++ chunk ∷ []) grown.parts ∙ append_assoc before more (chunk ∷ []);
-      whole = λ k lt. elim (cases_lt k (length more)) [
-        | inl early_k ↦ ap length (early k early_k) ∙ grown.whole k early_k
-        | inr le ↦ ap length (last k (omega (arith, longer))) ∙ size
-      ];
-      blank = λ k i. elim (cases_lt k (length more)) [
-        | inl early_k ↦ ap (λ (places : Places). get_or places i None) (early k early_k) ∙ grown.blank k i
-        | inr le ↦ elim (cases_eq k (length more)) [
-          | inl same ↦ ap (λ (places : Places). get_or places i None) (last k same) ∙ blank i
-          | inr other ↦ ap (λ (places : Places). get_or places i None) (past k (omega arith)) ∙ get_or_past [] i None (omega arith)
-        ]
-      ];
-    }
-
--- the next number's place is free
-pub next_is_free : (chunks : List Places) (top : ℕ) → AreChunks chunks top → place_at chunks (top + 1) ≡ None
-next_is_free chunks top are =
-    elim (place_at chunks (top + 1)) as (λ o. place_at chunks (top + 1) ≡ o → o ≡ None) [
-      | None ↦ λ is. refl
-      | Some clause ↦ λ is. let range = are.numbers (top + 1) clause is in absurd (omega (arith, range.1))
-    ] refl
-
-pub next_place : (chunks : List Places) (top : ℕ) → AreChunks chunks top → (top + 1) / 64 < length chunks → (top + 1) % 64
-    < length (get_or chunks ((top + 1) / 64) [])
-next_place chunks top are lt = let whole : length (get_or chunks ((top + 1) / 64) []) ≡ 64 = are.whole ((top + 1) / 64) (omega arith) lt in
-    omega (arith, whole)
+pub next_place : (chunks : List Places) (top : ℕ) → AreChunks chunks top → (top + 1) / 64 < length chunks
+    → length (get_or chunks ((top + 1) / 64) []) ≡ (top + 1) % 64
+next_place chunks top are lt = are.given ((top + 1) / 64) (omega arith) lt ∙ omega arith
 
 set_chunk : (chunks : List Places) (k : ℕ) (after : Places) (i : ℕ) → k < length chunks → i ≡ k → get_or (set chunks k after) i [] ≡ after
 set_chunk chunks k after i lt same = ap (λ n. get_or (set chunks k after) n []) same ∙ get_or-set_same chunks k after [] lt
@@ -315,26 +321,27 @@ length_of_other : (chunks : List Places) (k : ℕ) (after : Places) (i : ℕ) �
 length_of_other chunks k after i other = ap length (get_or-set_other chunks k i after [] other)
 
 pub AreChunks-put : (chunks : List Places) (top : ℕ) (clause : List ℤ) → AreChunks chunks top → (top + 1) / 64 < length chunks
-    → AreChunks (set chunks ((top + 1) / 64) (set (get_or chunks ((top + 1) / 64) []) ((top + 1) % 64) (Some clause))) (top + 1)
+    → AreChunks (set chunks ((top + 1) / 64) (get_or chunks ((top + 1) / 64) [] ++ Some clause ∷ [])) (top + 1)
 AreChunks-put chunks top clause are lt =
     let number = top + 1 in
     let before = get_or chunks (number / 64) [] in
-    let after = set before (number % 64) (Some clause) in
-    let place_lt = next_place chunks top are lt in
-    let same_size : length after ≡ length before = length-set before (number % 64) (Some clause) in
-    let small : length after ≤ 64 = omega (arith, same_size, are.sizes (number / 64)) in
-    let is : (i : ℕ) → get_or after i None ≡ (if i == number % 64 then Some clause else get_or before i None) = set_at before (number % 64)
-    (Some clause) place_lt in
+    let after = before ++ Some clause ∷ [] in
+    let place_is : length before ≡ number % 64 = next_place chunks top are lt in
+    let size : length after ≡ number % 64 + 1 = length-append before (Some clause ∷ []) ∙ ap (λ n. n + 1) place_is in
+    let small : length after ≤ 64 = omega (arith, size) in
+    let is : (i : ℕ) → get_or after i None ≡ (if i == number % 64 then Some clause else get_or before i None) = append_at before (number % 64)
+    (Some clause) place_is in
     record {
       sizes = sizes-set chunks (number / 64) after lt are.sizes small;
-      whole = λ k from k_lt. elim (cases_eq k (number / 64)) [
-        | inl same ↦ length_of_set chunks (number / 64) after k lt same ∙ same_size ∙ are.whole (number / 64) (omega arith) lt
+      given = λ k from k_lt. elim (cases_eq k (number / 64)) [
+        | inl same ↦ length_of_set chunks (number / 64) after k lt same ∙ size ∙ omega (arith, from, same)
         | inr other ↦ length_of_other chunks (number / 64) after k other
-            ∙ are.whole k (omega (arith, from)) (omega (arith, length-set chunks (number / 64) after))
+            ∙ are.given k (omega (arith, from)) (omega (arith, length-set chunks (number / 64) after)) ∙ omega (arith, from, other)
       ];
       shrunk = λ k passed blank. elim (cases_eq k (number / 64)) [
         | inl same ↦
-            let some : get_or after (number % 64) None ≡ Some clause = get_or-set_same before (number % 64) (Some clause) None place_lt in
+            let some : get_or after (number % 64) None ≡ Some clause = is (number % 64) ∙ ap (λ b. if b then Some clause else get_or before (number % 64) None)
+            (eq-eqb (number % 64) (number % 64) refl) in
             let none : get_or after (number % 64) None ≡ None = ap (λ (places : Places). get_or places (number % 64) None)
             (sym (set_chunk chunks (number / 64) after k lt same)) ∙ blank (number % 64) in
             let no : Some clause ≡ None = sym some ∙ none in
@@ -361,12 +368,12 @@ AreChunks-cleared chunks top number after are lt cleared =
     let small : length after ≤ 64 = omega (arith, cleared.size, are.sizes (number / 64)) in
     record {
       sizes = sizes-set chunks (number / 64) after lt are.sizes small;
-      whole = λ k from k_lt. elim (cases_eq k (number / 64)) [
+      given = λ k from k_lt. elim (cases_eq k (number / 64)) [
         | inl same ↦ length_of_set chunks (number / 64) after k lt same
             ∙ cleared.kept (le-ltb (number / 64) ((top + 1) / 64) (omega (arith, from, same)))
-            ∙ are.whole (number / 64) (omega (arith, from, same)) lt
+            ∙ are.given (number / 64) (omega (arith, from, same)) lt ∙ omega (arith, same)
         | inr other ↦ length_of_other chunks (number / 64) after k other
-            ∙ are.whole k from (omega (arith, length-set chunks (number / 64) after))
+            ∙ are.given k from (omega (arith, length-set chunks (number / 64) after))
       ];
       shrunk = λ k passed blank. elim (cases_eq k (number / 64)) [
         | inl same ↦

@@ -1,14 +1,11 @@
 -- How many places of a chunk have a clause, as they are filled and emptied.
-use Rattle.std.proofs.Common.{◌≡◌, ℕ, zero, suc, ◌+◌, ◌-◌, ◌<◌, ◌≢◌, Bool, true, false, cond, List, [], ◌∷◌, ◌++◌, length, get_or, set}
-use Rattle.std.proofs.Common.{Option, None, Some, inl, inr, refl, sym, ◌∙◌, ap, subst, arith, Bor, map}
+use Rattle.std.proofs.Common.{◌≡◌, ℕ, zero, suc, ◌+◌, ◌-◌, ◌<◌, ◌≢◌, Bool, true, false, cond, ℤ, List, [], ◌∷◌, ◌++◌, length, get_or, set}
+use Rattle.std.proofs.Common.{Option, None, Some, inl, inr, refl, sym, ◌∙◌, ap, subst, arith, Bor}
 use Rattle.std.proofs.lemmas.Bool.{cases_lt}
 use Rattle.std.proofs.lemmas.List.{get_or_past, length-set}
-use Rattle.std.proofs.lemmas.List.Sums.{sum_by-set, sum_by-cons}
+use Rattle.std.proofs.lemmas.List.Sums.{sum_by-set, sum_by-cons, sum_by_push}
 use Rattle.std.specs.Prelude.{is_some, count_by}
 use Rattle.std.specs.Option.{option_copied}
-use Rattle.clause_ledger.specs.declared.slot.ClauseSlot.{ClauseSlot}
-use Rattle.clause_ledger.specs.declared.slot.ClauseSlot.TheVariants.{Free}
-use Rattle.clause_ledger.specs.Slots.{clause_in}
 use Rattle.clause_ledger.specs.Chunks.{Place, Places, IsBlank, IsCleared}
 use Rattle.clause_ledger.proofs.Chunks.{set_at}
 
@@ -21,11 +18,11 @@ one_if b = cond b 1 0
 bit_of : (place : Place) (b : Bool) → is_some place ≡ b → one_if (is_some place) ≡ one_if b
 bit_of place b is = ap one_if is
 
-pub clauses-put : (places : Places) (i : ℕ) (place : Place) → i < length places → get_or places i None ≡ None → is_some place ≡ true
-    → clauses (set places i place) ≡ clauses places + 1
-clauses-put places i place lt free some =
-    let counted = sum_by-set (λ (x : Place). one_if (is_some x)) places i place None lt in
-    omega (arith, counted, bit_of (get_or places i None) false (ap is_some free), bit_of place true some)
+pub clauses-put : (places : Places) (clause : List ℤ) → clauses (places ++ Some clause ∷ []) ≡ clauses places + 1
+clauses-put places clause = sum_by_push (λ (x : Place). one_if (is_some x)) places (Some clause)
+
+pub clauses-skip : (places : Places) → clauses (places ++ None ∷ []) ≡ clauses places
+clauses-skip places = sum_by_push (λ (x : Place). one_if (is_some x)) places None ∙ omega arith
 
 taken_within : (places : Places) (i : ℕ) → is_some (get_or places i None) ≡ true → i < length places
 taken_within places i some =
@@ -49,13 +46,6 @@ pub clauses-blank : (places : Places) → IsBlank places → clauses places ≡ 
 clauses-blank [] blank = refl
 clauses-blank (None ∷ places) blank = clauses-blank places (λ i. blank (suc i))
 clauses-blank (Some clause ∷ places) blank = let no : Some clause ≡ None = blank 0 in cc
-
--- one free slot more
-pub blank_more : (slots : List ClauseSlot) → IsBlank (map clause_in slots) → IsBlank (map clause_in (slots ++ Free ∷ []))
-blank_more [] blank zero = refl
-blank_more [] blank (suc i) = get_or_past [] i None (omega arith)
-blank_more (slot ∷ slots) blank zero = blank 0
-blank_more (slot ∷ slots) blank (suc i) = blank_more slots (λ k. blank (suc k)) i
 
 pub IsCleared-set : (places : Places) (i : ℕ) (may_shrink : Bool) → is_some (get_or places i None) ≡ true
     → (may_shrink ≡ true → clauses places - 1 ≢ 0)

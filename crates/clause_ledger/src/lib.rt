@@ -8,9 +8,6 @@ mod chunk;
 mod error;
 mod ledger;
 mod live;
-mod packed;
-mod slot;
-mod store;
 
 pub use error::LedgerError;
 pub use ledger::{Ledger, start_clauses};

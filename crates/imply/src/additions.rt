@@ -19,10 +19,11 @@ ghost use Rattle.imply.specs.Additions.{AreSides, IsSide};
 
 use cnf_base::{Id, Lit};
 use hint_chain::{
-    Part, ShortClause, clause_law, closing_law, greedy_law, implication_law, imply_high, imply_low,
+    Atom, Part, ShortClause, clause_law, closing_law, greedy_law, implication_law, imply_high,
+    imply_low,
 };
 use host_io::Sink;
-use node_table::{Just, Table, TableError, growth_law, steps_law};
+use node_table::{Just, Node, Table, TableError, growth_law, steps_law};
 use operations::{
     Operands, Side, behind, down_part, high_clause_law, just_part, literal_law, operand_law,
     up_part,
@@ -79,9 +80,14 @@ fn implication_clause<S: Sink + Drop>(table: &Table<S>, operands: &Operands) -> 
     ensures { clause_of (implication_atoms table.now.graph operands.now.u operands.now.v) ≡ Some result }
 {
     literal_law();
-    let u = table.atom(operands.u);
-    let v = table.atom(operands.v);
-    hint_chain::clause_of(&[u.negated(), v]).unwrap()
+    hint_chain::clause_of(&atoms_of(table, operands.u, operands.v)).unwrap()
+}
+
+// What the clause of an implication is made of: not u, v.
+fn atoms_of<S: Sink + Drop>(table: &Table<S>, u: Node, v: Node) -> [Atom; 2]
+    ensures { result ≡ implication_atoms table.now.graph u v }
+{
+    [table.atom(u).negated(), table.atom(v)]
 }
 
 // The addition on the high side.
@@ -115,10 +121,11 @@ fn add_high<S: Sink + Drop>(
     high_clause_law::<S>();
     let level = operands.level;
     let long = behind(table.variable(level).negated(), clause);
+    let child = atoms_of(table, operands.u_high, operands.v_high);
     let parts = [
         down_part(table, level, Side::High, operands.u),
         up_part(table, level, Side::High, operands.v),
-        just_part(table, high),
+        just_part(high, &child),
     ];
     let hints = imply_high(alloc, long.as_slice(), parts);
     let id = table.justify(long.as_slice(), hints.as_slice())?;
@@ -157,11 +164,12 @@ fn add_low<S: Sink + Drop>(
     literal_law();
     high_clause_law::<S>();
     let level = operands.level;
+    let child = atoms_of(table, operands.u_low, operands.v_low);
     let parts = [
         Some(first),
         down_part(table, level, Side::Low, operands.u),
         up_part(table, level, Side::Low, operands.v),
-        just_part(table, low),
+        just_part(low, &child),
     ];
     let hints = imply_low(alloc, clause, parts);
     table.justify(clause, hints.as_slice())

@@ -1,7 +1,8 @@
 -- How the nodes of a table are stored: in six words each, under their keys in a slab, beside an index of their levels and
 -- children. Extension variables that were given and are no node's are free, and the least free one is given next.
 use Rattle.std.specs.Prelude.{◌≡◌, ◌<◌, ◌≤◌, ◌+◌, ◌-◌, ◌*◌, ◌^◌, ◌⊎◌, ℕ, zero, suc, List, [], ◌∷◌, ◌++◌, Contains, length, slice_index_or}
-use Rattle.std.specs.Prelude.{Option, None, Some}
+use Rattle.std.specs.Prelude.{Option, None, Some, refl}
+use Rattle.std.proofs.Common.{arith}
 use Rattle.std.specs.FinMap as map
 use Rattle.slab.specs.Slab.{Slab, get, slab_len}
 use Rattle.cnf_base.specs.ProofText.{max_id}
@@ -29,6 +30,15 @@ word_of_node (Inner key) = key.index + 2
 
 abbrev pub child_of : Node → Child
 child_of node = record { word = word_of_node node }
+
+word_back : (word : ℕ) → word_of_node (node_of_word word) ≡ word
+word_back zero = refl
+word_back (suc zero) = refl
+word_back (suc (suc key)) = omega arith
+
+-- a child is known by the node of its word
+pub child_of_word : (child : Child) → child_of (node_of_word child.word) ≡ child
+child_of_word child = λ i. record { word = word_back child.word i }
 
 -- a constant, or a node whose key fits a child's word
 abbrev pub HasSmallKey : Node → Type 0

@@ -9,11 +9,12 @@ ghost use Rattle.cnf_base.specs.Limits.{max_vars, most_nodes_allowed};
 ghost use Rattle.node_table.specs.Diagram.{Graph, IsOrder, IsReduced, IsBelow, IsNew, IsWanted, branch_at, branch_of, is_node, levels};
 ghost use Rattle.node_table.specs.Diagram.{variable_at};
 ghost use Rattle.node_table.specs.Value.{value_of, by_level, IsChosen};
-ghost use Rattle.node_table.specs.Stored.{ArePlaces, Takes};
+ghost use Rattle.node_table.specs.Stored.{ArePlaces, HasSmallKey, Takes};
 ghost use Rattle.node_table.specs.Marks.{AreMarks};
 ghost use Rattle.node_table.specs.Swept.{IsSwept};
 ghost use Rattle.node_table.specs.Defined.{atom_of, atom_in};
 ghost use Rattle.node_table.specs.declared.node.Branch.{Branch as BranchValue};
+ghost use Rattle.node_table.specs.declared.node.Node.{Node as NodeValue};
 
 use crate::index::Index;
 use crate::marks::Marks;
@@ -82,6 +83,13 @@ impl Diagram {
         ensures reduced { IsReduced self.now }
         ensures ordered { IsOrder self.now.order }
         ensures few_levels { levels self.now ≤ max_vars }
+    {
+        let _ = &self.order;
+    }
+
+    /// For the prover alone: the keys of its nodes fit a child's word.
+    pub fn keys_law(&self)
+        ensures { (node : NodeValue) → IsTrue (is_node self.now node) → HasSmallKey node }
     {
         let _ = &self.order;
     }

@@ -27,4 +27,5 @@ pub use laws::{
 };
 pub use marks::Marks;
 pub use node::{Branch, Defs, Just, Node, NodeKey};
+pub use stored::Child;
 pub use table::Table;

@@ -7,7 +7,7 @@ use crate::node::{Branch, Node, NodeKey};
 const HALF: u64 = 1 << 32;
 
 /// A child in one word: 0 for False, 1 for True, and from 2 on the inner nodes.
-#[derive(Clone, Copy, Debug, PartialEq, Eq)]
+#[derive(Clone, Copy, Debug, PartialEq, Eq, Hash)]
 pub struct Child {
     pub(crate) word: u32,
 }
@@ -34,6 +34,7 @@ const _: () = prove!(size_of::<StoredNode>() == 24);
 
 impl Child {
     /// The word of a node whose key is small enough.
+    #[inline(always)]
     pub fn of(node: Node) -> Child
         requires { HasSmallKey node }
         ensures { result ≡ child_of node }

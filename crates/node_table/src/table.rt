@@ -17,6 +17,7 @@ ghost use Rattle.node_table.specs.Diagram.{low_at, variable_at};
 ghost use Rattle.node_table.specs.Value.{value_of, by_level};
 ghost use Rattle.node_table.specs.Defined.{IsDefined, atom_of, defs_of, definition_count, definition_lines, literal_of_branch};
 ghost use Rattle.node_table.specs.Tied.{IsOverNodes};
+ghost use Rattle.node_table.specs.Stored.{HasSmallKey};
 ghost use Rattle.node_table.specs.Table.{TableState, IsSound, IsAddedTo, AddsNone, HasChildren, IsMissing, IsWanted, IsFree, IsMade};
 ghost use Rattle.node_table.specs.Table.{IsSame, UnlessTorn, live_nodes, node_definitions, without_retired};
 ghost use Rattle.node_table.specs.Progress.{Leaves, Steps, error_of};
@@ -131,6 +132,14 @@ impl<S: Sink + Drop> Table<S> {
     {
         let _ = self.max_nodes;
         self.diagram.diagram_law();
+    }
+
+    /// For the prover alone: the keys of its nodes fit a child's word.
+    pub fn keys_law(&self)
+        ensures { (node : NodeValue) → IsTrue (is_node self.now.graph node) → HasSmallKey node }
+    {
+        let _ = self.max_nodes;
+        self.diagram.keys_law();
     }
 
     /// How many inner nodes are live, at most as many as are allowed.

@@ -202,9 +202,6 @@ module _ {S Cache Question Parts Answer : Type 0} (calls : Calls S Cache Questio
           awaits_low = subst (λ (q : Option Question). ThenLow calls (Given whole below) now cache frame.parts found q) (sym asked)
               (comes None high)
 
-          pub low_refused : whole now cache (Err OutOfMemory)
-          low_refused = error_given whole below now cache OutOfMemory awaits_low.refused
-
           pub low_smaller : (top : List (Frame Parts Answer)) → top ≡ frame_of frame.parts (Some found) ∷ below
               → turns_of (levels now.graph) top + turns_next now (Ask question) < turns_of (levels now.graph) frames + turns_next now turn
           low_smaller top on_top =

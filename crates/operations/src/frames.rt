@@ -1,5 +1,6 @@
 // The calls of an operation that are still open, on a stack of their own in place of the processor's.
-ghost use Rattle.std.specs.Prelude.{◌≡◌, ◌∷◌, [], OnOk, MatchOption, reverse};
+ghost use Rattle.std.specs.Prelude.{◌≡◌, ◌∷◌, [], List, None, Some, OnOk, MatchOption, reverse};
+ghost use Rattle.operations.specs.declared.frames.Frame.{Frame as FrameValue};
 
 use cnf_base::OutOfMemory;
 
@@ -24,21 +25,43 @@ pub(crate) struct Frame<P, A> {
     pub high: Option<A>,
 }
 
-/// One frame more, on top.
+/// One frame more, on top, without an answer yet.
 pub(crate) fn push<P: Copy, A: Copy>(
     frames: &mut Vec<Frame<P, A>>,
     parts: P,
-    high: Option<A>,
 ) -> Result<(), OutOfMemory>
-    ensures { OnOk result (reverse frames.new.items ≡ record { parts = parts; high = high } ∷ reverse frames.old.items) }
+    ensures { OnOk result (reverse frames.new.items ≡ record { parts = parts; high = None } ∷ reverse frames.old.items) }
 {
-    frames.push(Frame { parts, high })?;
+    frames.push(Frame { parts, high: None })?;
     Ok(())
 }
 
-/// The frame on top leaves, if there is one.
-pub(crate) fn pop<P: Copy, A: Copy>(frames: &mut Vec<Frame<P, A>>) -> Option<Frame<P, A>>
-    ensures { MatchOption result (reverse frames.old.items ≡ []) (λ frame. reverse frames.old.items ≡ frame ∷ reverse frames.new.items) }
+/// The frame on top, if there is one.
+#[inline(always)]
+pub(crate) fn top<P: Copy, A: Copy>(frames: &Vec<Frame<P, A>>) -> Option<&Frame<P, A>>
+    ensures { MatchOption result (reverse frames.now.items ≡ [])
+        (λ frame. (below : List (FrameValue P A)) × (reverse frames.now.items ≡ frame.now ∷ below)) }
 {
-    frames.pop()
+    frames.as_slice().last()
+}
+
+/// The frame on top gets the answer of its high side.
+#[inline(always)]
+pub(crate) fn answer_high<P: Copy, A: Copy>(frames: &mut Vec<Frame<P, A>>, high: A)
+    ensures { (frame : FrameValue P A) (below : List (FrameValue P A)) → reverse frames.old.items ≡ frame ∷ below
+        → reverse frames.new.items ≡ record { parts = frame.parts; high = Some high } ∷ below }
+{
+    let count = frames.len();
+    if count > 0 {
+        frames[count - 1].high = Some(high);
+    }
+}
+
+/// The frame on top leaves.
+#[inline(always)]
+pub(crate) fn drop_top<P: Copy, A: Copy>(frames: &mut Vec<Frame<P, A>>)
+    ensures { (frame : FrameValue P A) (below : List (FrameValue P A)) → reverse frames.old.items ≡ frame ∷ below
+        → reverse frames.new.items ≡ below }
+{
+    let _ = frames.pop();
 }

@@ -10,6 +10,7 @@ mod frames;
 mod laws;
 mod machine;
 mod operands;
+mod pair;
 mod parts;
 mod retired;
 
@@ -21,5 +22,6 @@ pub use laws::{
 };
 pub use machine::{Operation, work_off};
 pub use operands::{Operands, split};
+pub use pair::NodePair;
 pub use parts::{Side, down_part, just_part, up_part};
 pub use retired::{clause_of, retire};

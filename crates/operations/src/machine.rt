@@ -5,7 +5,7 @@ ghost use Rattle.node_table.specs.Diagram.{levels};
 ghost use Rattle.node_table.specs.Table.{TableState};
 ghost use Rattle.operations.specs.Machine.{Calls, IsAnswer};
 
-use crate::frames::{Frame, Reply, Turn, pop, push};
+use crate::frames::{Frame, Reply, Turn, answer_high, drop_top, push, top};
 use host_io::Sink;
 use node_table::{Table, TableError};
 use std::alloc::Global;
@@ -73,28 +73,31 @@ pub fn work_off<S: Sink + Drop, O: Operation<S>>(
         match turn {
             Turn::Ask(question) => match O::ask(table, cache, question)? {
                 Reply::Open(parts) => {
-                    push(&mut frames, parts, None)?;
+                    push(&mut frames, parts)?;
                     turn = Turn::Ask(O::high(&parts));
                 }
                 Reply::Give(found) => turn = Turn::Answer(found),
             },
             Turn::Answer(found) => {
-                let Some(frame) = pop(&mut frames) else {
+                let Some(frame) = top(&frames) else {
                     return Ok(found);
                 };
-                let parts = frame.parts;
-                let high = frame.high;
-                match high {
-                    None => match O::low(&parts, &found) {
-                        None => turn = Turn::Answer(found),
+                match &frame.high {
+                    None => match O::low(&frame.parts, &found) {
+                        None => {
+                            drop_top(&mut frames);
+                            turn = Turn::Answer(found);
+                        }
                         Some(question) => {
-                            push(&mut frames, parts, Some(found))?;
+                            answer_high(&mut frames, found);
                             turn = Turn::Ask(question);
                         }
                     },
-                    Some(high) => turn = Turn::Answer(O::close(
-                        table, cache, &parts, &high, &found,
-                    )?),
+                    Some(high) => {
+                        let closed = O::close(table, cache, &frame.parts, high, &found)?;
+                        drop_top(&mut frames);
+                        turn = Turn::Answer(closed);
+                    }
                 }
             }
         }

@@ -2,12 +2,12 @@
 // for the children.
 ghost use Rattle.std.specs.Prelude.{◌≡◌, ◌≤◌, ◌<◌, ℤ, List, Some, IsTrue, MatchOption, length};
 ghost use Rattle.hint_chain.specs.Greedy.{IsLivePart};
-ghost use Rattle.hint_chain.specs.Additions.{IsUpPart, IsDownPart, Justifies, part_clause};
+ghost use Rattle.hint_chain.specs.Additions.{IsUpPart, IsDownPart, Justifies};
 ghost use Rattle.node_table.specs.declared.node.Branch.{Branch};
-ghost use Rattle.hint_chain.specs.declared.atom.Atom.{Atom as AtomValue};
 ghost use Rattle.hint_chain.specs.Atoms.{clause_of};
 ghost use Rattle.node_table.specs.Diagram.{branch_of, is_node, high_at, levels, low_at};
-ghost use Rattle.node_table.specs.Defined.{atom_of, clause_named, defs_of};
+ghost use Rattle.lrat_rules.specs.State.{Live};
+ghost use Rattle.node_table.specs.Defined.{atom_of, defs_of};
 ghost use Rattle.node_table.specs.Tied.{IsTied};
 ghost use Rattle.node_table.specs.Just.{IsJustified};
 ghost use Rattle.operations.specs.Sides.{false_literal, cofactor_at, up_of, down_of, named_part};
@@ -67,16 +67,17 @@ pub fn down_part<S: Sink + Drop>(
     }
 }
 
-/// The clause that a justification names, where there is one.
-pub fn just_part<S: Sink + Drop>(table: &Table<S>, just: &Just) -> Option<Part>
-    requires { (atoms : List AtomValue) × (length atoms ≤ 4) × IsJustified table.now.book.state.live atoms just.now }
-    ensures justifies { (atoms : List AtomValue) → IsJustified table.now.book.state.live atoms just.now → Justifies atoms result }
-    ensures live { IsLivePart table.now.book.state.live result }
+/// The clause that a justification of these atoms names, where there is one. It stands as its atoms give it, so that the
+/// ledger need not be asked.
+pub fn just_part(just: &Just, atoms: &[Atom]) -> Option<Part>
+    requires { length atoms.now ≤ 4 }
+    ensures justifies { (live : Live) → IsJustified live atoms.now just.now → Justifies atoms.now result }
+    ensures live { (live : Live) → IsJustified live atoms.now just.now → IsLivePart live result }
 {
     clause_law();
     match just {
         Just::Trivial => None,
-        Just::Clause(id) => live_part(table, *id),
+        Just::Clause(id) => part_of(Some(*id), atoms),
     }
 }
 
@@ -149,16 +150,5 @@ fn part_of(id: Option<Id>, atoms: &[Atom]) -> Option<Part>
     match clause_of(atoms) {
         None => None,
         Some(clause) => Some(Part::of(id, clause)),
-    }
-}
-
-fn live_part<S: Sink + Drop>(table: &Table<S>, id: Id) -> Option<Part>
-    requires { (clause : List ℤ) → clause_named table.now.book.state.live (Some id) ≡ Some clause → length clause ≤ 4 }
-    ensures clause { part_clause result ≡ clause_named table.now.book.state.live (Some id) }
-    ensures live { IsLivePart table.now.book.state.live result }
-{
-    match table.ledger().clause(id) {
-        None => None,
-        Some(clause) => Some(Part::new(id, clause)),
     }
 }

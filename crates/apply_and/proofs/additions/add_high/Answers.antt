@@ -1,7 +1,10 @@
 -- What is left to show of `add_high`.
-use Rattle.std.proofs.Common.{◌≡◌, ◌≤◌, ◌∙◌, pos, neg_ℤ, ℕ, List, [], ◌∷◌, ℤ, true, arith, ap, sym, subst, Some}
+use Rattle.std.proofs.Common.{◌≡◌, ◌∙◌, pos, neg_ℤ, ℕ, List, [], ◌∷◌, ℤ, true, ap, sym, subst, Some}
 use Rattle.lrat_rules.specs.Strict.{RefutesStrictly}
 use Rattle.lrat_rules.specs.Chain.{literals_of}
+use Rattle.hint_chain.specs.declared.atom.Atom.{Atom}
+use Rattle.hint_chain.specs.Additions.{Justifies}
+use Rattle.node_table.specs.Just.{IsJustified}
 use Rattle.hint_chain.specs.Closing.{are_among, are_apart}
 use Rattle.hint_chain.specs.Greedy.{PartsClose}
 use Rattle.node_table.specs.Diagram.{variable_at}
@@ -11,24 +14,12 @@ use Rattle.operations.specs.Results.{conjunction_atoms}
 use Rattle.operations.specs.Sides.{cofactor_at}
 use Rattle.operations.specs.declared.parts.Side.TheVariants.{High}
 use Rattle.lrat_rules.specs.State.{clause_at}
-use Rattle.apply_and.proofs.Closed.{high_apart, high_over, high_clause, side_justified}
+use Rattle.apply_and.proofs.Closed.{high_apart, high_over, high_clause}
 use Rattle.apply_and.proofs.additions.add_high.Goals as goal
-
-three_of_four : 3 ≤ 4
-three_of_four = omega arith
 
 pub variable-requires : goal.variable-requires
 variable-requires g c = c.operand_law.ensures.level c.args.table.now.graph c.requires.sound.tied.reduced c.args.operands.now
     c.requires.split
-
-pub just_part-requires : goal.just_part-requires
-just_part-requires g c =
-    let graph = c.args.table.now.graph in
-    let o = c.args.operands.now in (
-      conjunction_atoms graph (cofactor_at High graph o.level o.u) (cofactor_at High graph o.level o.v) c.args.high.now.0,
-      three_of_four,
-      c.requires.side.justified,
-    )
 
 pub and_high-hints-requires-clause-close : goal.and_high-hints-requires-clause-close
 and_high-hints-requires-clause-close g c =
@@ -36,6 +27,9 @@ and_high-hints-requires-clause-close g c =
     let live = c.args.table.now.book.state.live in
     let o = c.args.operands.now in
     let tied = c.requires.sound.tied in
+    let atoms_found : c.atoms_of-child.result ≡ conjunction_atoms graph (cofactor_at High graph o.level o.u)
+    (cofactor_at High graph o.level o.v) c.args.high.now.0 = c.atoms_of-child.ensures
+    ∙ (λ i. conjunction_atoms graph (c.requires.split.first_high i) (c.requires.split.second_high i) c.args.high.now.0) in
     let x = pos (variable_at graph o.level) in
     let among : are_among (conjunction_atoms graph o.u o.v c.args.w) c.args.clause.now
     ≡ true = c.clause_law.ensures.among (conjunction_atoms graph o.u o.v c.args.w) c.args.clause.now c.requires.clause in
@@ -54,19 +48,37 @@ and_high-hints-requires-clause-close g c =
     c.args.high.now c.requires.side c.args.clause.now c.requires.clause among)
     (c.closing_law.ensures.consistent (neg_ℤ x ∷ c.args.clause.now) apart)
     c.up_part.ensures.up c.down_part.ensures.down c.down_part-2.ensures.down
-    (c.just_part.ensures.justifies _
-    (side_justified c.literal_law.ensures c.operand_law.ensures graph tied.reduced tied.ordered live o c.requires.split c.args.w High
-    c.args.high.now c.requires.side c.args.clause.now c.requires.clause among)))
+    (subst (λ (atoms : List Atom). Justifies atoms c.just_part.result) (atoms_found ∙ (λ i. conjunction_atoms graph
+    (cofactor_at High graph o.level o.u) (cofactor_at High graph o.level o.v) (sym c.requires.side.cofactor i)))
+    (c.just_part.ensures.justifies live
+    (subst (λ (atoms : List Atom). IsJustified live atoms c.args.high.now.1) (sym atoms_found) c.requires.side.justified))))
 
 pub justify-requires-clause-strict : goal.justify-requires-clause-strict
 justify-requires-clause-strict g c =
     let live = c.args.table.now.book.state.live in
+    let graph = c.args.table.now.graph in
+    let o = c.args.operands.now in
+    let atoms_found : c.atoms_of-child.result ≡ conjunction_atoms graph (cofactor_at High graph o.level o.u)
+    (cofactor_at High graph o.level o.v) c.args.high.now.0 = c.atoms_of-child.ensures
+    ∙ (λ i. conjunction_atoms graph (c.requires.split.first_high i) (c.requires.split.second_high i) c.args.high.now.0) in
     let same : c.as_slice-2.result.now ≡ c.as_slice.result.now = c.as_slice-2.ensures.literals ∙ sym c.as_slice.ensures.literals in
     subst (λ (clause : List ℤ). RefutesStrictly live clause c.as_slice-3.result.now) (sym same)
     (subst (λ (hints : List ℕ). RefutesStrictly live c.as_slice.result.now hints) (sym c.as_slice-3.ensures)
     (c.greedy_law.ensures.refutes live c.as_slice.result.now (c.up_part.result ∷ c.down_part.result ∷ c.down_part-2.result
-    ∷ c.just_part.result ∷ []) _ c.and_high-hints.ensures
-    (c.up_part.ensures.live, (c.down_part.ensures.live, (c.down_part-2.ensures.live, (c.just_part.ensures.live, tt))))))
+    ∷ c.just_part.result ∷ []) _ c.and_high-hints.ensures (
+      c.up_part.ensures.live,
+      (
+        c.down_part.ensures.live,
+        (
+          c.down_part-2.ensures.live,
+          (
+            c.just_part.ensures.live live
+                (subst (λ (atoms : List Atom). IsJustified live atoms c.args.high.now.1) (sym atoms_found) c.requires.side.justified),
+            tt,
+          ),
+        ),
+      ),
+    )))
 
 pub justify-requires-clause-over_nodes : goal.justify-requires-clause-over_nodes
 justify-requires-clause-over_nodes g c =

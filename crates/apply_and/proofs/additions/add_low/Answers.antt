@@ -1,9 +1,12 @@
 -- What is left to show of `add_low`.
-use Rattle.std.proofs.Common.{◌≡◌, ◌<◌, ◌≤◌, ◌+◌, ◌∙◌, pos, ℕ, List, [], ◌∷◌, true, arith, Some, Result, Ok, Err, ap, sym, subst}
+use Rattle.std.proofs.Common.{◌≡◌, ◌<◌, ◌+◌, ◌∙◌, pos, ℕ, List, [], ◌∷◌, true, arith, Some, Result, Ok, Err, ap, sym, subst}
 use Rattle.std.specs.Prelude.{IfOk}
 use Rattle.lrat_rules.specs.State.{clause_at}
 use Rattle.lrat_rules.specs.Strict.{RefutesStrictly}
 use Rattle.clause_ledger.specs.Book.{with_next}
+use Rattle.hint_chain.specs.declared.atom.Atom.{Atom}
+use Rattle.hint_chain.specs.Additions.{Justifies}
+use Rattle.node_table.specs.Just.{IsJustified}
 use Rattle.hint_chain.specs.Closing.{are_among}
 use Rattle.lrat_rules.specs.Soundness.{is_nonzero}
 use Rattle.node_table.specs.declared.error.TableError.{TableError}
@@ -12,11 +15,8 @@ use Rattle.node_table.specs.Defined.{atom_of}
 use Rattle.operations.specs.Results.{conjunction_atoms}
 use Rattle.operations.specs.Sides.{cofactor_at}
 use Rattle.operations.specs.declared.parts.Side.TheVariants.{Low}
-use Rattle.apply_and.proofs.Closed.{low_apart, low_over, high_clause, side_justified}
+use Rattle.apply_and.proofs.Closed.{low_apart, low_over, high_clause}
 use Rattle.apply_and.proofs.additions.add_low.Goals as goal
-
-three_of_four : 3 ≤ 4
-three_of_four = omega arith
 
 nonzero_variable : (n : ℕ) → 0 < n → is_nonzero (pos n) ≡ true
 nonzero_variable n positive = grind (arith, positive)
@@ -27,6 +27,9 @@ and_low-hints-requires-clause-close g c =
     let live = c.args.table.now.book.state.live in
     let o = c.args.operands.now in
     let tied = c.requires.sound.tied in
+    let atoms_found : c.atoms_of-child.result ≡ conjunction_atoms graph (cofactor_at Low graph o.level o.u)
+    (cofactor_at Low graph o.level o.v) c.args.low.now.0 = c.atoms_of-child.ensures
+    ∙ (λ i. conjunction_atoms graph (c.requires.split.first_low i) (c.requires.split.second_low i) c.args.low.now.0) in
     let among : are_among (conjunction_atoms graph o.u o.v c.args.w) c.args.clause.now
     ≡ true = c.clause_law.ensures.among (conjunction_atoms graph o.u o.v c.args.w) c.args.clause.now c.requires.clause in
     let variable : 0 < variable_at graph o.level = (tied.ordered.within o.level
@@ -43,17 +46,38 @@ and_low-hints-requires-clause-close g c =
     (low_apart c.literal_law.ensures c.operand_law.ensures graph tied.reduced tied.ordered live o c.requires.split c.args.w Low
     c.args.low.now c.requires.side c.args.clause.now c.requires.clause among))
     c.up_part.ensures.up c.down_part.ensures.down c.down_part-2.ensures.down
-    (c.just_part.ensures.justifies _
-    (side_justified c.literal_law.ensures c.operand_law.ensures graph tied.reduced tied.ordered live o c.requires.split c.args.w Low
-    c.args.low.now c.requires.side c.args.clause.now c.requires.clause among))
+    (subst (λ (atoms : List Atom). Justifies atoms c.just_part.result) (atoms_found ∙ (λ i. conjunction_atoms graph
+    (cofactor_at Low graph o.level o.u) (cofactor_at Low graph o.level o.v) (sym c.requires.side.cofactor i)))
+    (c.just_part.ensures.justifies live
+    (subst (λ (atoms : List Atom). IsJustified live atoms c.args.low.now.1) (sym atoms_found) c.requires.side.justified)))
 
 pub justify-requires-clause-strict : goal.justify-requires-clause-strict
 justify-requires-clause-strict g c =
     let live = c.args.table.now.book.state.live in
+    let graph = c.args.table.now.graph in
+    let o = c.args.operands.now in
+    let atoms_found : c.atoms_of-child.result ≡ conjunction_atoms graph (cofactor_at Low graph o.level o.u)
+    (cofactor_at Low graph o.level o.v) c.args.low.now.0 = c.atoms_of-child.ensures
+    ∙ (λ i. conjunction_atoms graph (c.requires.split.first_low i) (c.requires.split.second_low i) c.args.low.now.0) in
     subst (λ (hints : List ℕ). RefutesStrictly live c.args.clause.now hints) (sym c.as_slice.ensures)
     (c.greedy_law.ensures.refutes live c.args.clause.now (Some c.args.first ∷ c.up_part.result ∷ c.down_part.result ∷ c.down_part-2.result
-    ∷ c.just_part.result ∷ []) _ c.and_low-hints.ensures
-    (c.requires.live, (c.up_part.ensures.live, (c.down_part.ensures.live, (c.down_part-2.ensures.live, (c.just_part.ensures.live, tt))))))
+    ∷ c.just_part.result ∷ []) _ c.and_low-hints.ensures (
+      c.requires.live,
+      (
+        c.up_part.ensures.live,
+        (
+          c.down_part.ensures.live,
+          (
+            c.down_part-2.ensures.live,
+            (
+              c.just_part.ensures.live live
+                  (subst (λ (atoms : List Atom). IsJustified live atoms c.args.low.now.1) (sym atoms_found) c.requires.side.justified),
+              tt,
+            ),
+          ),
+        ),
+      ),
+    ))
 
 pub justify-requires-clause-over_nodes : goal.justify-requires-clause-over_nodes
 justify-requires-clause-over_nodes g c =
@@ -65,15 +89,6 @@ justify-requires-clause-over_nodes g c =
     ≡ true = c.clause_law.ensures.among (conjunction_atoms graph o.u o.v c.args.w) c.args.clause.now c.requires.clause in
     low_over c.literal_law.ensures c.operand_law.ensures graph tied.reduced tied.ordered live o c.requires.split c.args.w Low c.args.low.now
     c.requires.side c.args.clause.now c.requires.clause among
-
-pub just_part-requires : goal.just_part-requires
-just_part-requires g c =
-    let graph = c.args.table.now.graph in
-    let o = c.args.operands.now in (
-      conjunction_atoms graph (cofactor_at Low graph o.level o.u) (cofactor_at Low graph o.level o.v) c.args.low.now.0,
-      three_of_four,
-      c.requires.side.justified,
-    )
 
 pub returns-clause-added : goal.returns-clause-added
 returns-clause-added g c =

@@ -1,5 +1,5 @@
 -- The hints of the high addition close, and its clause is over the nodes.
-use Rattle.std.proofs.Common.{◌≡◌, ◌≤◌, ◌∙◌, pos, neg_ℤ, ℕ, List, [], ◌∷◌, ℤ, arith, ap, sym, subst, Some}
+use Rattle.std.proofs.Common.{◌≡◌, ◌∙◌, pos, neg_ℤ, ℕ, List, [], ◌∷◌, ℤ, ap, sym, subst, Some}
 use Rattle.lrat_rules.specs.Strict.{RefutesStrictly}
 use Rattle.lrat_rules.specs.Chain.{literals_of}
 use Rattle.lrat_rules.specs.State.{clause_at}
@@ -11,24 +11,19 @@ use Rattle.operations.specs.Results.{implication_atoms}
 use Rattle.operations.specs.Sides.{cofactor_at}
 use Rattle.operations.specs.declared.parts.Side.TheVariants.{High}
 use Rattle.imply.proofs.ImplicationClauses.{high_apart, high_over, high_clause}
+use Rattle.node_table.specs.Just.{IsJustified}
+use Rattle.hint_chain.specs.Additions.{Justifies}
+use Rattle.hint_chain.specs.declared.atom.Atom.{Atom}
 use Rattle.imply.proofs.additions.add_high.Goals as goal
-
-two_of_four : 2 ≤ 4
-two_of_four = omega arith
-
-pub just_part-requires : goal.just_part-requires
-just_part-requires g c =
-    let graph = c.args.table.now.graph in
-    let o = c.args.operands.now in (
-      implication_atoms graph (cofactor_at High graph o.level o.u) (cofactor_at High graph o.level o.v),
-      two_of_four,
-      c.requires.side.justified,
-    )
 
 pub imply_high-hints-requires-clause-close : goal.imply_high-hints-requires-clause-close
 imply_high-hints-requires-clause-close g c =
     let graph = c.args.table.now.graph in
     let o = c.args.operands.now in
+    let live = c.args.table.now.book.state.live in
+    let atoms_found : c.atoms_of-child.result ≡ implication_atoms graph (cofactor_at High graph o.level o.u)
+    (cofactor_at High graph o.level o.v) = c.atoms_of-child.ensures
+    ∙ (λ i. implication_atoms graph (c.requires.split.first_high i) (c.requires.split.second_high i)) in
     let tied = c.requires.sound.tied in
     let x = pos (variable_at graph o.level) in
     let long : c.as_slice.result.now ≡ neg_ℤ x ∷ c.args.clause.now = c.as_slice.ensures.literals ∙ c.behind-long.ensures
@@ -42,17 +37,32 @@ imply_high-hints-requires-clause-close g c =
     (c.closing_law.ensures.consistent (neg_ℤ x ∷ c.args.clause.now)
     (high_apart c.literal_law.ensures c.operand_law.ensures graph tied.reduced o c.requires.split c.args.clause.now c.requires.clause
     tied.ordered))
-    c.down_part.ensures.down c.up_part.ensures.up (c.just_part.ensures.justifies _ c.requires.side.justified))
+    c.down_part.ensures.down c.up_part.ensures.up (subst (λ (atoms : List Atom). Justifies atoms c.just_part.result) atoms_found
+    (c.just_part.ensures.justifies live (subst (λ (atoms : List Atom). IsJustified live atoms c.args.high.now) (sym atoms_found) c.requires.side.justified))))
 
 pub justify-requires-clause-strict : goal.justify-requires-clause-strict
 justify-requires-clause-strict g c =
     let live = c.args.table.now.book.state.live in
+    let graph = c.args.table.now.graph in
+    let o = c.args.operands.now in
+    let atoms_found : c.atoms_of-child.result ≡ implication_atoms graph (cofactor_at High graph o.level o.u)
+    (cofactor_at High graph o.level o.v) = c.atoms_of-child.ensures
+    ∙ (λ i. implication_atoms graph (c.requires.split.first_high i) (c.requires.split.second_high i)) in
     let same : c.as_slice-2.result.now ≡ c.as_slice.result.now = c.as_slice-2.ensures.literals ∙ sym c.as_slice.ensures.literals in
     subst (λ (clause : List ℤ). RefutesStrictly live clause c.as_slice-3.result.now) (sym same)
     (subst (λ (hints : List ℕ). RefutesStrictly live c.as_slice.result.now hints) (sym c.as_slice-3.ensures)
     (c.greedy_law.ensures.refutes live c.as_slice.result.now (c.down_part.result ∷ c.up_part.result ∷ c.just_part.result
-    ∷ []) _ c.imply_high-hints.ensures
-    (c.down_part.ensures.live, (c.up_part.ensures.live, (c.just_part.ensures.live, tt)))))
+    ∷ []) _ c.imply_high-hints.ensures (
+      c.down_part.ensures.live,
+      (
+        c.up_part.ensures.live,
+        (
+          c.just_part.ensures.live live
+              (subst (λ (atoms : List Atom). IsJustified live atoms c.args.high.now) (sym atoms_found) c.requires.side.justified),
+          tt,
+        ),
+      ),
+    )))
 
 pub justify-requires-clause-over_nodes : goal.justify-requires-clause-over_nodes
 justify-requires-clause-over_nodes g c =

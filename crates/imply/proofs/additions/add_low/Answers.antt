@@ -4,9 +4,13 @@ use Rattle.lrat_rules.specs.Strict.{RefutesStrictly}
 use Rattle.lrat_rules.specs.Soundness.{is_nonzero}
 use Rattle.node_table.specs.Diagram.{variable_at}
 use Rattle.node_table.specs.Defined.{atom_of}
+use Rattle.operations.specs.Results.{implication_atoms}
 use Rattle.operations.specs.Sides.{cofactor_at}
 use Rattle.operations.specs.declared.parts.Side.TheVariants.{Low}
 use Rattle.imply.proofs.ImplicationClauses.{low_apart, low_over, high_clause}
+use Rattle.node_table.specs.Just.{IsJustified}
+use Rattle.hint_chain.specs.Additions.{Justifies}
+use Rattle.hint_chain.specs.declared.atom.Atom.{Atom}
 use Rattle.imply.proofs.additions.add_low.Goals as goal
 
 nonzero_variable : (n : ℕ) → 0 < n → is_nonzero (pos n) ≡ true
@@ -16,6 +20,10 @@ pub imply_low-hints-requires-clause-close : goal.imply_low-hints-requires-clause
 imply_low-hints-requires-clause-close g c =
     let graph = c.args.table.now.graph in
     let o = c.args.operands.now in
+    let live = c.args.table.now.book.state.live in
+    let atoms_found : c.atoms_of-child.result ≡ implication_atoms graph (cofactor_at Low graph o.level o.u)
+    (cofactor_at Low graph o.level o.v) = c.atoms_of-child.ensures
+    ∙ (λ i. implication_atoms graph (c.requires.split.first_low i) (c.requires.split.second_low i)) in
     let tied = c.requires.sound.tied in
     let x = pos (variable_at graph o.level) in
     let within = tied.ordered.within o.level (c.operand_law.ensures.level graph tied.reduced o c.requires.split) in
@@ -28,15 +36,33 @@ imply_low-hints-requires-clause-close g c =
     c.requires.clause
     (c.closing_law.ensures.consistent c.args.clause.now
     (low_apart c.literal_law.ensures c.operand_law.ensures graph tied.reduced o c.requires.split c.args.clause.now c.requires.clause))
-    c.down_part.ensures.down c.up_part.ensures.up (c.just_part.ensures.justifies _ c.requires.side.justified)
+    c.down_part.ensures.down c.up_part.ensures.up (subst (λ (atoms : List Atom). Justifies atoms c.just_part.result) atoms_found
+    (c.just_part.ensures.justifies live (subst (λ (atoms : List Atom). IsJustified live atoms c.args.low.now) (sym atoms_found) c.requires.side.justified)))
 
 pub justify-requires-clause-strict : goal.justify-requires-clause-strict
 justify-requires-clause-strict g c =
     let live = c.args.table.now.book.state.live in
+    let graph = c.args.table.now.graph in
+    let o = c.args.operands.now in
+    let atoms_found : c.atoms_of-child.result ≡ implication_atoms graph (cofactor_at Low graph o.level o.u)
+    (cofactor_at Low graph o.level o.v) = c.atoms_of-child.ensures
+    ∙ (λ i. implication_atoms graph (c.requires.split.first_low i) (c.requires.split.second_low i)) in
     subst (λ (hints : List ℕ). RefutesStrictly live c.args.clause.now hints) (sym c.as_slice.ensures)
     (c.greedy_law.ensures.refutes live c.args.clause.now (Some c.args.first ∷ c.down_part.result ∷ c.up_part.result ∷ c.just_part.result
-    ∷ []) _ c.imply_low-hints.ensures
-    (c.requires.live, (c.down_part.ensures.live, (c.up_part.ensures.live, (c.just_part.ensures.live, tt)))))
+    ∷ []) _ c.imply_low-hints.ensures (
+      c.requires.live,
+      (
+        c.down_part.ensures.live,
+        (
+          c.up_part.ensures.live,
+          (
+            c.just_part.ensures.live live
+                (subst (λ (atoms : List Atom). IsJustified live atoms c.args.low.now) (sym atoms_found) c.requires.side.justified),
+            tt,
+          ),
+        ),
+      ),
+    ))
 
 pub justify-requires-clause-over_nodes : goal.justify-requires-clause-over_nodes
 justify-requires-clause-over_nodes g c =

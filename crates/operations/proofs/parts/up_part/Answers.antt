@@ -1,5 +1,5 @@
 -- What is left to show of `up_part`.
-use Rattle.std.proofs.Common.{◌≡◌, List, [], ◌∷◌, Option, sym, ap, ◌∙◌, subst, inl}
+use Rattle.std.proofs.Common.{◌≡◌, [], ◌∷◌, Option, sym, ap, ◌∙◌, subst, inl}
 use Rattle.hint_chain.specs.declared.atom.Atom.TheVariants.{Of}
 use Rattle.hint_chain.specs.declared.part.Part.{Part}
 use Rattle.hint_chain.specs.Additions.{part_clause}

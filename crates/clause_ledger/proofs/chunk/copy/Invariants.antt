@@ -3,7 +3,7 @@ use Rattle.std.proofs.Common.{◌≡◌, true, ◌++◌, take, vec_capacity}
 use Rattle.std.specs.List.{list_all}
 use Rattle.cnf_base.specs.Truth.{is_literal_of}
 use Rattle.cnf_base.specs.ProofText.{max_literal}
-use Rattle.clause_ledger.proofs.slot.copy.Given as goal
+use Rattle.clause_ledger.proofs.chunk.copy.Given as goal
 
 abbrev pub invariant-loop-literal : goal.invariant-loop-literal
 invariant-loop-literal l =
