@@ -1,8 +1,8 @@
 // The greedy choice of hints for an addition that a few clauses refute: a clause that adds nothing is left out, and
 // the first conflict ends the list.
-ghost use Rattle.std.specs.Prelude.{◌≡◌, ◌≤◌, Some, length};
+ghost use Rattle.std.specs.Prelude.{◌≡◌, ◌≤◌, [], Some, length};
 ghost use Rattle.lrat_rules.specs.Chain.{literals_of};
-ghost use Rattle.hint_chain.specs.Greedy.{greedy, PartsClose};
+ghost use Rattle.hint_chain.specs.Greedy.{chosen, greedy, PartsClose};
 
 use crate::hints::Hints;
 use crate::inline::InlineLiterals;
@@ -13,40 +13,52 @@ use std::alloc::Global;
 
 /// The hints for the addition of a conjunction on the variable's high side. Its parts are the clause from w's high
 /// child up to w, those from u and v down to their high children, and the children's own conjunction.
+#[inline(always)]
 pub fn and_high(alloc: Global, clause: &[Lit], parts: [Option<Part>; 4]) -> Hints
     requires short { length clause.now ≤ 4 }
     requires close { PartsClose (literals_of clause.now) parts }
     ensures { greedy (literals_of clause.now) parts ≡ Some result }
 {
-    greedy_hints(alloc, clause, &parts).unwrap()
+    let mut hints = Hints::new(alloc);
+    let _closes = choose(&mut hints, clause, &parts);
+    hints
 }
 
 /// The hints for the addition of a conjunction: the high addition, and then the same parts of the low side.
+#[inline(always)]
 pub fn and_low(alloc: Global, clause: &[Lit], parts: [Option<Part>; 5]) -> Hints
     requires short { length clause.now ≤ 4 }
     requires close { PartsClose (literals_of clause.now) parts }
     ensures { greedy (literals_of clause.now) parts ≡ Some result }
 {
-    greedy_hints(alloc, clause, &parts).unwrap()
+    let mut hints = Hints::new(alloc);
+    let _closes = choose(&mut hints, clause, &parts);
+    hints
 }
 
 /// The hints for the addition of an implication on the variable's high side. Its parts are the clause from u down to
 /// its high child, the one from v's high child up to v, and the children's own implication.
+#[inline(always)]
 pub fn imply_high(alloc: Global, clause: &[Lit], parts: [Option<Part>; 3]) -> Hints
     requires short { length clause.now ≤ 4 }
     requires close { PartsClose (literals_of clause.now) parts }
     ensures { greedy (literals_of clause.now) parts ≡ Some result }
 {
-    greedy_hints(alloc, clause, &parts).unwrap()
+    let mut hints = Hints::new(alloc);
+    let _closes = choose(&mut hints, clause, &parts);
+    hints
 }
 
 /// The hints for the addition of an implication: the high addition, and then the same parts of the low side.
+#[inline(always)]
 pub fn imply_low(alloc: Global, clause: &[Lit], parts: [Option<Part>; 4]) -> Hints
     requires short { length clause.now ≤ 4 }
     requires close { PartsClose (literals_of clause.now) parts }
     ensures { greedy (literals_of clause.now) parts ≡ Some result }
 {
-    greedy_hints(alloc, clause, &parts).unwrap()
+    let mut hints = Hints::new(alloc);
+    let _closes = choose(&mut hints, clause, &parts);
+    hints
 }
 
 /// The greedy choice among the parts; None where no part is a conflict. The calls above are instances of it.
@@ -56,6 +68,20 @@ pub fn greedy_hints(alloc: Global, clause: &[Lit], parts: &[Option<Part>]) -> Op
     ensures { result ≡ greedy (literals_of clause.now) parts.now }
 {
     let mut hints = Hints::new(alloc);
+    if choose(&mut hints, clause, parts) {
+        Some(hints)
+    } else {
+        None
+    }
+}
+
+// Appends the greedy choice to no hints, so that the list stays where it is. Answers whether some part is a conflict.
+fn choose(hints: &mut Hints, clause: &[Lit], parts: &[Option<Part>]) -> bool
+    requires none { hints.old ≡ [] }
+    requires short { length clause.now ≤ 4 }
+    requires few { length parts.now ≤ 5 }
+    ensures { chosen result hints.new ≡ greedy (literals_of clause.now) parts.now }
+{
     let mut falses = InlineLiterals::<9>::from_slice(clause);
     for place in parts {
         let Some(part) = place else {
@@ -64,7 +90,7 @@ pub fn greedy_hints(alloc: Global, clause: &[Lit], parts: &[Option<Part>]) -> Op
         match effect_on(falses.as_slice(), part.clause()) {
             Effect::Conflict => {
                 hints.push(part.id());
-                return Some(hints);
+                return true;
             }
             Effect::Unit(literal) => {
                 let negated = literal.negated();
@@ -74,8 +100,8 @@ pub fn greedy_hints(alloc: Global, clause: &[Lit], parts: &[Option<Part>]) -> Op
                 hints.push(part.id());
                 falses.push(negated);
             }
-            Effect::NotUnit => return None,
+            Effect::NotUnit => return false,
         }
     }
-    None
+    false
 }

@@ -6,7 +6,8 @@ use crate::node::{Branch, Node, NodeKey};
 
 const HALF: u64 = 1 << 32;
 
-/// A child in one word: 0 for False, 1 for True, and from 2 on the inner nodes.
+/// A child in one word: 0 for False, 1 for True, and from 2 on the inner nodes. Both ways are written so that they compile
+/// to no jump.
 #[derive(Clone, Copy, Debug, PartialEq, Eq, Hash)]
 pub struct Child {
     pub(crate) word: u32,
@@ -39,12 +40,13 @@ impl Child {
         requires { HasSmallKey node }
         ensures { result ≡ child_of node }
     {
-        let word = match node {
-            Node::False => 0,
-            Node::True => 1,
+        let inner = match node {
             Node::Inner(key) => key.index + 2,
+            Node::False | Node::True => 0,
         };
-        Child { word }
+        Child {
+            word: inner + u32::from(matches!(node, Node::True)),
+        }
     }
 
     /// The node of the word.
@@ -52,10 +54,14 @@ impl Child {
     pub fn node(self) -> Node
         ensures { result ≡ node_of_word self.word }
     {
-        match self.word {
-            0 => Node::False,
-            1 => Node::True,
-            word => Node::Inner(NodeKey { index: word - 2 }),
+        if self.word >= 2 {
+            Node::Inner(NodeKey {
+                index: self.word - 2,
+            })
+        } else if self.word == 1 {
+            Node::True
+        } else {
+            Node::False
         }
     }
 }

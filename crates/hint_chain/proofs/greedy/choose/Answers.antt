@@ -1,9 +1,9 @@
--- What is left to show of `greedy_hints`.
+-- What is left to show of `choose`.
 use Rattle.std.proofs.Common.{◌≡◌, true, false, neg_ℤ, ◌∷◌, [], ◌++◌, ◌+◌, sym, ap, ◌∙◌, rules, arith, length}
 use Rattle.lrat_rules.specs.declared.outcome.Effect.TheVariants.{Unit as Forced}
 use Rattle.lrat_rules.specs.Chain.{literals_of, with_literal, effect}
 use Rattle.hint_chain.proofs.GreedyPasses.{greedy_at, step_known, step_forced, literals_of-push, length_pushed}
-use Rattle.hint_chain.proofs.greedy.greedy_hints.Goals as goal
+use Rattle.hint_chain.proofs.greedy.choose.Goals as goal
 
 pub loop-place-preserved-then-is_among : goal.loop-place-preserved-then-is_among
 loop-place-preserved-then-is_among c =

@@ -1,9 +1,9 @@
--- What the loops of `greedy_hints` keep.
+-- What the loops of `choose` keep.
 use Rattle.std.proofs.Common.{◌≡◌, ◌≤◌, ◌+◌, length}
 use Rattle.lrat_rules.specs.Chain.{literals_of}
 use Rattle.hint_chain.specs.Greedy.{greedy}
 use Rattle.hint_chain.proofs.GreedyPasses.{greedy_at}
-use Rattle.hint_chain.proofs.greedy.greedy_hints.Given as goal
+use Rattle.hint_chain.proofs.greedy.choose.Given as goal
 
 -- what the rest adds to the hints so far is what the whole gives
 abbrev pub invariant-loop-place : goal.invariant-loop-place
