@@ -3,27 +3,29 @@ use Rattle.std.specs.Prelude.{◌≡◌, ◌≢◌, ◌⊎◌, ℕ, Bool, List, 
 use Rattle.std.specs.Coded.{Unit-prop}
 use Rattle.host_io.specs.declared.source.Failed.{Failed}
 use Rattle.host_io.specs.declared.role.Role.{Role}
-use Rattle.host_io.specs.declared.role.Role.TheVariants.{Cnf, Order, Schedule, ProofIn, ProofOut, Made, Out, Err}
+use Rattle.host_io.specs.declared.role.Role.TheVariants.{Cnf, Order, Buckets, Schedule, ProofIn, ProofOut, Made, Out, Err}
 use Rattle.host_io.specs.Channel.{Channel, Counts}
 
 -- the number of a role, by which two roles are told apart
 abbrev pub code_of : Role → ℕ
 code_of Cnf = 0
 code_of Order = 1
-code_of Schedule = 2
-code_of ProofIn = 3
-code_of ProofOut = 4
-code_of Made = 5
-code_of Out = 6
-code_of Err = 7
+code_of Buckets = 2
+code_of Schedule = 3
+code_of ProofIn = 4
+code_of ProofOut = 5
+code_of Made = 6
+code_of Out = 7
+code_of Err = 8
 
 abbrev pub same_role : Role → Role → Bool
 same_role a b = code_of a == code_of b
 
--- Cnf, Order, Schedule and ProofIn are opened and read.
+-- Cnf, Order, Buckets, Schedule and ProofIn are opened and read.
 abbrev pub IsInput : Role → Type 0
 IsInput Cnf = ⊤
 IsInput Order = ⊤
+IsInput Buckets = ⊤
 IsInput Schedule = ⊤
 IsInput ProofIn = ⊤
 IsInput ProofOut = ⊥
@@ -35,6 +37,7 @@ IsInput Err = ⊥
 abbrev pub IsCreated : Role → Type 0
 IsCreated Cnf = ⊥
 IsCreated Order = ⊥
+IsCreated Buckets = ⊥
 IsCreated Schedule = ⊥
 IsCreated ProofIn = ⊥
 IsCreated ProofOut = ⊤
@@ -50,6 +53,7 @@ IsNamedFirst role = IsInput role ⊎ IsCreated role
 abbrev pub IsWritable : Role → Option (List ℕ) → Type 0
 IsWritable Cnf name = ⊥
 IsWritable Order name = ⊥
+IsWritable Buckets name = ⊥
 IsWritable Schedule name = ⊥
 IsWritable ProofIn name = ⊥
 IsWritable ProofOut name = name ≢ None
@@ -67,6 +71,7 @@ IsWritable Err name = ⊤
 pub IsInput-prop : (role : Role) → IsProp (IsInput role)
 IsInput-prop Cnf = Unit-prop
 IsInput-prop Order = Unit-prop
+IsInput-prop Buckets = Unit-prop
 IsInput-prop Schedule = Unit-prop
 IsInput-prop ProofIn = Unit-prop
 IsInput-prop ProofOut = ⊥-prop
@@ -78,6 +83,7 @@ IsInput-prop Err = ⊥-prop
 pub IsWritable-prop : (role : Role) (name : Option (List ℕ)) → IsProp (IsWritable role name)
 IsWritable-prop Cnf name = ⊥-prop
 IsWritable-prop Order name = ⊥-prop
+IsWritable-prop Buckets name = ⊥-prop
 IsWritable-prop Schedule name = ⊥-prop
 IsWritable-prop ProofIn name = ⊥-prop
 IsWritable-prop ProofOut name = ¬-prop

@@ -7,3 +7,4 @@ pub mod Real
 pub mod Port
 pub mod Slice
 pub mod Emitted
+pub mod Idle

@@ -106,7 +106,7 @@ Reaches role (Some target) = MayReach role target
 
 -- There is a device for each role. It reaches nothing that the role may not, and no byte passed before it reached something.
 pub record IsConnected (roles : List Counted) : Type 0 where
-  pub all : length roles ≡ 8
+  pub all : length roles ≡ 9
   pub fits : (role : Role) → IfSome (device_of roles role).target (MayReach role)
   pub idle : (role : Role) → (device_of roles role).target ≡ None → traffic_of roles role ≡ no_traffic
 

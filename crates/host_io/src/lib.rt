@@ -3,7 +3,7 @@
 //! the bytes that were taken, are left, were written and are flushed, names of files, and counts of faults: a
 //! failed call raises its role's count and moves nothing, and no other call raises it. `MemoryHost` keeps its files
 //! in memory and tells all; so does `SliceSource`, a source of bytes in memory. `RealHost` meets the system, tells
-//! names and counts, and is trusted for the bytes. `emit` collects a text in a small buffer before its sink. Stands on
+//! names and counts, and is trusted for the bytes. `NoSink` drops what is written to it. `emit` collects a text in a small buffer before its sink. Stands on
 //! nothing.
 #![tactic(auto)]
 
@@ -17,6 +17,7 @@ mod host_source;
 mod law;
 mod lent;
 mod memory_host;
+mod no_sink;
 mod port;
 mod real_host;
 mod real_role;
@@ -34,6 +35,7 @@ pub use host_sink::HostSink;
 pub use host_source::HostSource;
 pub use law::beside_kept;
 pub use memory_host::{MemoryHost, OutOfMemory};
+pub use no_sink::NoSink;
 pub use real_host::RealHost;
 pub use role::Role;
 pub use slice_source::SliceSource;

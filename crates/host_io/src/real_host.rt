@@ -21,7 +21,7 @@ use std::marker::Model;
 #[derive(Drop)]
 pub struct RealHost {
     system: System,
-    roles: [RealRole; 8],
+    roles: [RealRole; 9],
 }
 
 impl Model for RealHost {
@@ -45,6 +45,7 @@ impl RealHost {
         RealHost {
             system: System::new(rt),
             roles: [
+                RealRole::new(),
                 RealRole::new(),
                 RealRole::new(),
                 RealRole::new(),
