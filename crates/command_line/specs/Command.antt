@@ -14,16 +14,21 @@ use Rattle.dimacs_reader.specs.declared.mode.Mode.{Mode}
 use Rattle.dimacs_reader.specs.declared.mode.Mode.TheVariants.{Strict, Lax}
 use Rattle.schedule_plan.specs.Limits.{most_ids}
 use Rattle.schedule_plan.specs.declared.limits.Limits.{Limits}
+use Rattle.command_line.specs.declared.method.OrderMethod.{OrderMethod}
+use Rattle.command_line.specs.declared.method.OrderMethod.TheVariants.{Degree, Cardinality, Levels, Profile}
 use Rattle.command_line.specs.declared.plan.PlanName.{PlanName}
 use Rattle.command_line.specs.declared.plan.PlanName.TheVariants.{Bucket, Conjoin}
 use Rattle.command_line.specs.declared.part.BoardText.{BoardText}
 use Rattle.command_line.specs.declared.part.BoardText.TheVariants.{Cnf, Order, Schedule}
 use Rattle.command_line.specs.Parser.{the_app}
 
--- what gives the plan of a run: its name, or a schedule's file
+-- what gives the plan of a run: its name, a schedule's file, the file of an order (the bucket plan by it), or trials (the bucket plan by an
+-- order that they find)
 pub data Planned : Type 0 where
   ByName : PlanName → Planned
   ByFile : Text → Planned
+  ByBuckets : Text → Planned
+  Found : Planned
 
 -- to decide the formula in a file, read in a mode, by a plan and within limits, and to write the proof to another one; the order of its
 -- variables stands in the file of that name, if one is named
@@ -40,6 +45,13 @@ pub record ToCheck : Type 0 where
   pub file : Text
   pub proof : Text
   pub mode : Mode
+
+-- to write an order of the variables of the formula in a file, read in a mode, found by a method, to another file
+pub record ToOrder : Type 0 where
+  pub file : Text
+  pub method : OrderMethod
+  pub mode : Mode
+  pub out : Text
 
 -- to decide the board of so many squares a side by its column order and schedule, within limits, and to write the proof to a file
 pub record ToBench : Type 0 where
@@ -58,6 +70,7 @@ pub data Command : Type 0 where
   Check : ToCheck → Command
   Bench : ToBench → Command
   Make : ToMake → Command
+  Arrange : ToOrder → Command
 
 -- the formula's file, where one is named
 abbrev pub formula_file : Command → Option Text
@@ -65,6 +78,7 @@ formula_file (Solve task) = Some task.file
 formula_file (Check task) = Some task.file
 formula_file (Bench task) = None
 formula_file (Make task) = None
+formula_file (Arrange task) = Some task.file
 
 -- the mode in which the formula's file is read, where one is named
 abbrev pub mode_of : Command → Mode
@@ -72,6 +86,7 @@ mode_of (Solve task) = task.mode
 mode_of (Check task) = task.mode
 mode_of (Bench task) = Strict
 mode_of (Make task) = Strict
+mode_of (Arrange task) = task.mode
 
 -- the limits where the words give none
 abbrev pub default_limits : Limits
@@ -83,6 +98,7 @@ limits_of (Solve task) = task.limits
 limits_of (Check task) = default_limits
 limits_of (Bench task) = task.limits
 limits_of (Make task) = default_limits
+limits_of (Arrange task) = default_limits
 
 -- the sizes of boards
 abbrev pub IsSize : ℕ → Type 0
@@ -94,6 +110,7 @@ size_of (Solve task) = None
 size_of (Check task) = None
 size_of (Bench task) = Some task.size
 size_of (Make task) = Some task.size
+size_of (Arrange task) = None
 
 -- the plan where the words name none
 abbrev pub default_plan : PlanName
@@ -143,21 +160,33 @@ abbrev pub number_given : ℕ → ℕ → ℕ → Option Text → Option ℕ
 number_given least default greatest None = Some default
 number_given least default greatest (Some text) = number_within least greatest text
 
+-- whether a flag is among the words, by the text that the parser reads it as
+abbrev pub is_set : Option Text → Bool
+is_set None = false
+is_set (Some text) = bytes_eq text (codes "true")
+
 -- the mode, by the text of the flag `--lax`
 abbrev pub mode_given : Option Text → Mode
-mode_given None = Strict
-mode_given (Some text) = if bytes_eq text (codes "true") then Lax else Strict
+mode_given flag = if is_set flag then Lax else Strict
 
 -- the plan of this name, if it is one
 abbrev pub plan_named : Text → Option PlanName
 plan_named name = if bytes_eq name (codes "bucket") then Some Bucket else if bytes_eq name (codes "conjoin") then Some Conjoin else None
 
--- what gives the plan: `--plan` or `--schedule`, not both; the default without both
-abbrev pub plan_given : Option Text → Option Text → Option Planned
-plan_given None None = Some (ByName default_plan)
-plan_given (Some name) None = option_map ByName (plan_named name)
-plan_given None (Some file) = Some (ByFile file)
-plan_given (Some name) (Some file) = None
+-- what gives the plan: at most one of `--plan`, `--schedule`, `--buckets` and `--search`; the default without them
+abbrev pub plan_given : Option Text → Option Text → Option Text → Bool → Option Planned
+plan_given None None None false = Some (ByName default_plan)
+plan_given (Some name) None None false = option_map ByName (plan_named name)
+plan_given None (Some file) None false = Some (ByFile file)
+plan_given None None (Some file) false = Some (ByBuckets file)
+plan_given None None None true = Some Found
+plan_given _ _ _ _ = None
+
+-- the method of this name, if it is one
+abbrev pub method_named : Text → Option OrderMethod
+method_named name =
+    if bytes_eq name (codes "degree") then Some Degree else if bytes_eq name (codes "cardinality") then Some Cardinality else if bytes_eq name
+    (codes "levels") then Some Levels else if bytes_eq name (codes "profile") then Some Profile else None
 
 -- the limits of these numbers of nodes, of identifiers and of the cache's entries
 abbrev pub limits_with : Option ℕ → Option ℕ → Option ℕ → Option Limits
@@ -192,6 +221,11 @@ abbrev pub to_check : Option (Text × Text) → Mode → Meaning
 to_check (Some names) mode = Asks (Check (record { file = names.0; proof = names.1; mode = mode }))
 to_check None mode = Misuse
 
+-- a formula's file and an order's, a method, and a mode
+abbrev pub to_order : Option (Text × Text) → Option OrderMethod → Mode → Meaning
+to_order (Some names) (Some method) mode = Asks (Arrange (record { file = names.0; method = method; mode = mode; out = names.1 }))
+to_order _ _ _ = Misuse
+
 -- a size, a proof's file, and limits to decide the board of that size within
 abbrev pub to_bench : Option ℕ → Option Text → Option Limits → Meaning
 to_bench (Some size) (Some proof) (Some limits) = Asks (Bench (record { size = size; proof = proof; limits = limits }))
@@ -206,19 +240,31 @@ to_make _ _ _ = Misuse
 abbrev pub limits_among : List Row → Option Limits
 limits_among rows = limits_given (first_of (codes "max-nodes") rows) (first_of (codes "max-ids") rows) (first_of (codes "cache") rows)
 
--- `solve` by the values of its arguments
-abbrev pub solve_by : Option Text → Option Text → Option Text → Option Text → Option Text → Option Text → Option Limits → Meaning
-solve_by file proof lax order schedule plan limits =
-    to_solve (two_names file proof (order ∷ schedule ∷ [])) (mode_given lax) order (plan_given plan schedule) limits
+-- what gives the plan, among these values
+abbrev pub plan_among : List Row → Option Planned
+plan_among rows =
+    plan_given (first_of (codes "plan") rows) (first_of (codes "schedule") rows) (first_of (codes "buckets") rows)
+    (is_set (first_of (codes "search") rows))
+
+-- the names of the files among these values, which `solve` is given
+abbrev pub names_among : List Row → Option (Text × Text)
+names_among rows =
+    two_names (first_of (codes "FILE") rows) (first_of (codes "proof") rows)
+    (first_of (codes "order") rows ∷ first_of (codes "schedule") rows ∷ first_of (codes "buckets") rows ∷ [])
 
 abbrev pub solve_means : List Row → Meaning
 solve_means rows =
-    solve_by (first_of (codes "FILE") rows) (first_of (codes "proof") rows) (first_of (codes "lax") rows) (first_of (codes "order") rows)
-    (first_of (codes "schedule") rows) (first_of (codes "plan") rows) (limits_among rows)
+    to_solve (names_among rows) (mode_given (first_of (codes "lax") rows)) (first_of (codes "order") rows) (plan_among rows)
+    (limits_among rows)
 
 abbrev pub check_means : List Row → Meaning
 check_means rows = to_check (two_names (first_of (codes "FILE") rows) (first_of (codes "PROOF") rows) [])
     (mode_given (first_of (codes "lax") rows))
+
+abbrev pub order_means : List Row → Meaning
+order_means rows =
+    to_order (two_names (first_of (codes "FILE") rows) (first_of (codes "out") rows) [])
+    (option_and_then method_named (first_of (codes "by") rows)) (mode_given (first_of (codes "lax") rows))
 
 -- the size of a board that is among these values
 abbrev pub size_among : List Row → Option ℕ
@@ -238,8 +284,8 @@ board_means name rows = if bytes_eq name (codes "bench") then bench_means rows e
 -- what the values of a command mean
 abbrev pub command_means : Text → List Row → Meaning
 command_means name rows =
-    if bytes_eq name (codes "solve") then solve_means rows else if bytes_eq name
-    (codes "check") then check_means rows else board_means name rows
+    if bytes_eq name (codes "solve") then solve_means rows else if bytes_eq name (codes "check") then check_means rows else if bytes_eq name
+    (codes "order") then order_means rows else board_means name rows
 
 -- what words mean that the parser takes; a command must be among them
 abbrev pub taken_means : Option (Text × List Row) → Meaning

@@ -24,24 +24,31 @@ needed_rule name = record (option_rule name) { required = true }
 abbrev pub proof_rule : Rule
 proof_rule = needed_rule (codes "proof")
 
--- `[--lax]`, without a value: the parser reads it as the text `true`, or `false` where it isn't among the words
+-- a flag, `[--name]`, without a value: the parser reads it as the text `true`, or `false` where it isn't among the words
+abbrev pub flag_rule : Text → Rule
+flag_rule name = record (new_rule name) { long = Some name; action = Some SetTrue }
+
+-- `[--lax]`
 abbrev pub lax_rule : Rule
-lax_rule = record (new_rule (codes "lax")) { long = Some (codes "lax"); action = Some SetTrue }
+lax_rule = flag_rule (codes "lax")
 
 -- `[--max-nodes N] [--max-ids N] [--cache N]`
 abbrev pub limit_rules : List Rule
 limit_rules = option_rule (codes "max-nodes") ∷ option_rule (codes "max-ids") ∷ option_rule (codes "cache") ∷ []
 
--- `[--order F] [--schedule F] [--plan PLAN]`
-abbrev pub source_rules : List Rule
-source_rules = option_rule (codes "order") ∷ option_rule (codes "schedule") ∷ option_rule (codes "plan") ∷ []
+-- `[--search] [--order F]`
+abbrev pub order_rules : List Rule
+order_rules = flag_rule (codes "search") ∷ option_rule (codes "order") ∷ []
 
--- `solve FILE --proof P [--lax] [--order F] [--schedule F] [--plan PLAN] [--max-nodes N] [--max-ids N] [--cache N]`
+-- `[--buckets F] [--schedule F] [--plan PLAN]`
+abbrev pub plan_rules : List Rule
+plan_rules = option_rule (codes "buckets") ∷ option_rule (codes "schedule") ∷ option_rule (codes "plan") ∷ []
+
+-- `solve FILE --proof P [--lax] [--search] [--order F] [--buckets F] [--schedule F] [--plan PLAN] [--max-nodes N] [--max-ids N] [--cache N]`
 abbrev pub solve_app : App
 solve_app =
-    with_rules (new_app (codes "solve"))
-    (file_rule ∷ proof_rule ∷ lax_rule ∷ option_rule (codes "order") ∷ option_rule (codes "schedule") ∷ option_rule (codes "plan")
-    ∷ limit_rules)
+    with_rules (with_rules (with_rules (with_rules (new_app (codes "solve")) (file_rule ∷ proof_rule ∷ lax_rule ∷ [])) order_rules) plan_rules)
+    limit_rules
 
 -- a proof's file, behind the formula's
 abbrev pub proof_file_rule : Rule
@@ -50,6 +57,11 @@ proof_file_rule = record (new_rule (codes "PROOF")) { required = true }
 -- `check FILE PROOF [--lax]`
 abbrev pub check_app : App
 check_app = with_rules (new_app (codes "check")) (file_rule ∷ proof_file_rule ∷ lax_rule ∷ [])
+
+-- `order FILE --by METHOD --out F [--lax]`
+abbrev pub order_app : App
+order_app =
+    with_rules (new_app (codes "order")) (file_rule ∷ needed_rule (codes "by") ∷ needed_rule (codes "out") ∷ lax_rule ∷ [])
 
 -- a word that must be there, without an option in front of it; help shows it by another name
 abbrev pub word_rule : Text → Rule
@@ -67,8 +79,11 @@ bench_app = with_rules (with_rules (new_app (codes "bench")) board_rules) (proof
 abbrev pub make_app : App
 make_app = with_rules (with_rules (new_app (codes "make")) board_rules) (needed_rule (codes "part") ∷ needed_rule (codes "out") ∷ [])
 
--- the program: one of four commands after its name
+-- the commands about a formula's file, `solve`, `check` and `order`, after the program's name
+abbrev pub file_commands : App
+file_commands =
+    with_subcommand (with_subcommand (with_subcommand (new_app (codes "bddsat")) solve_app.top) check_app.top) order_app.top
+
+-- the program: one of five commands after its name
 abbrev pub the_app : App
-the_app =
-    with_subcommand (with_subcommand (with_subcommand (with_subcommand (new_app (codes "bddsat")) solve_app.top) check_app.top)
-    bench_app.top) make_app.top
+the_app = with_subcommand (with_subcommand file_commands bench_app.top) make_app.top

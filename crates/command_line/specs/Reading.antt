@@ -10,8 +10,8 @@ use Rattle.command_line.specs.declared.words.Asked.{Asked}
 use Rattle.command_line.specs.declared.words.Asked.TheVariants as asked
 use Rattle.command_line.specs.declared.words.Refusal.{Refusal}
 use Rattle.command_line.specs.declared.words.Refusal.TheVariants as refusal
-use Rattle.command_line.specs.Command.{Command, Solve, Check, Bench, Make, Planned, ByName, ByFile, AsksHelp, Misuse, MayMean, IsSize}
-use Rattle.command_line.specs.Command.{limits_of, refusal_means, size_of}
+use Rattle.command_line.specs.Command.{Command, Solve, Check, Bench, Make, Arrange, Planned, ByName, ByFile, ByBuckets, Found}
+use Rattle.command_line.specs.Command.{AsksHelp, Misuse, MayMean, IsSize, limits_of, refusal_means, size_of}
 
 -- the text behind a reference that may be there
 abbrev pub text_of : Option (Bor (List ℕ)) → Option (List ℕ)
@@ -21,6 +21,8 @@ text_of = option_map (λ s. s.now)
 abbrev pub planned_of : PlanSource → Planned
 planned_of (source.Name name) = ByName name
 planned_of (source.Schedule file) = ByFile file.now
+planned_of (source.Buckets file) = ByBuckets file.now
+planned_of source.Search = Found
 
 -- the command with its values
 abbrev pub command_of : Asked → Command
@@ -36,6 +38,8 @@ command_of (asked.Solve task) =
 command_of (asked.Check task) = Check (record { file = task.files.formula.now; proof = task.files.proof.now; mode = task.mode })
 command_of (asked.Bench task) = Bench (record { size = task.size; proof = task.proof.now; limits = task.limits })
 command_of (asked.Make task) = Make (record { size = task.size; part = task.part; file = task.file.now })
+command_of (asked.Order task) =
+    Arrange (record { file = task.formula.now; method = task.method; mode = task.mode; out = task.out.now })
 
 -- its limits are ones that a run may have, and the board that it is about has one of the sizes
 abbrev pub IsWithin : Command → Type 0

@@ -2,19 +2,21 @@
 ghost use Rattle.std.specs.Prelude.{◌≡◌, IfOk, false};
 ghost use Rattle.clap.specs.Words.{app_of, new_app, rule_of};
 ghost use Rattle.clap.specs.declared.Command.TheViews.{out-Command};
-ghost use Rattle.command_line.specs.Parser.{limit_rules, needed_rule, option_rule, proof_rule, with_rules, word_rule};
+ghost use Rattle.command_line.specs.Parser.{file_rule, flag_rule, lax_rule, limit_rules, needed_rule, option_rule, proof_rule};
+ghost use Rattle.command_line.specs.Parser.{with_rules, word_rule};
 
-use clap::{Arg, Command};
+use clap::{Arg, ArgAction, Command};
 use std::alloc::{AllocError, Global};
 
 const PROOF_HELP: &str = "The file that the proof is written to, in LRAT";
 
-const MAX_NODES_HELP: &str = "The most nodes in use at once, 0 to 100000000 [default: 10000000]";
+const LAX_HELP: &str = "The clause count may be wrong, and the last 0 missing";
 
-const MAX_IDS_HELP: &str =
-    "The greatest clause number, 0 to 1000000000000000 [default: 1000000000000000]";
+const MAX_NODES_HELP: &str = "Most nodes at once, 0 to 100000000 [default: 10000000]";
 
-const CACHE_HELP: &str = "The most entries in each cache, 1 to 100000000 [default: 1000000]";
+const MAX_IDS_HELP: &str = "Greatest clause number [default: 1000000000000000]";
+
+const CACHE_HELP: &str = "Entries in each cache, 1 to 100000000 [default: 1000000]";
 
 /// What help says of a command: what it does, how it is used, and what stands at the end.
 #[derive(Clone, Copy)]
@@ -44,6 +46,33 @@ pub fn with_limits<'a>(alloc: Global, command: Command<'a>) -> Result<Command<'a
         .arg(option_arg(alloc, "max-nodes", "N", MAX_NODES_HELP))?
         .arg(option_arg(alloc, "max-ids", "N", MAX_IDS_HELP))?
         .arg(option_arg(alloc, "cache", "N", CACHE_HELP))
+}
+
+pub fn formula_arg<'a>(alloc: Global) -> Arg<'a>
+    ensures rule { rule_of result ≡ file_rule }
+    ensures local { result.global ≡ false }
+{
+    Arg::new(alloc, "FILE")
+        .required(true)
+        .help("The formula, in DIMACS CNF")
+}
+
+pub fn lax_arg<'a>(alloc: Global) -> Arg<'a>
+    ensures rule { rule_of result ≡ lax_rule }
+    ensures local { result.global ≡ false }
+{
+    flag_arg(alloc, "lax", LAX_HELP)
+}
+
+/// A flag: an option without a value.
+pub fn flag_arg<'a>(alloc: Global, name: &'a str, help: &'a str) -> Arg<'a>
+    ensures rule { rule_of result ≡ flag_rule name.entry.now }
+    ensures local { result.global ≡ false }
+{
+    Arg::new(alloc, name)
+        .long(name)
+        .action(ArgAction::SetTrue)
+        .help(help)
 }
 
 pub fn proof_arg<'a>(alloc: Global) -> Arg<'a>

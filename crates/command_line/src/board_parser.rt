@@ -9,7 +9,7 @@ use clap::Command;
 use std::alloc::{AllocError, Global};
 
 const BENCH: Texts<'static> = Texts {
-    about: "Decides the mutilated chessboard of N by N squares, and writes the proof to P",
+    about: "Decides the mutilated chessboard of N by N, and writes the proof to P",
     usage: "bddsat bench board N --proof P [--max-nodes N] [--max-ids N] [--cache N]",
     after: "\
 Example:
@@ -17,7 +17,7 @@ Example:
 };
 
 const MAKE: Texts<'static> = Texts {
-    about: "Writes a text of the mutilated chessboard of N by N squares to F",
+    about: "Writes a text of the mutilated chessboard of N by N to F",
     usage: "bddsat make board N --part PART --out F",
     after: "\
 Example:
@@ -28,8 +28,7 @@ const KIND_HELP: &str = "The word board, for the mutilated chessboard";
 
 const SIZE_HELP: &str = "The squares a side, 2 to 100";
 
-const PART_HELP: &str =
-    "The text: cnf for the formula, order for its column order, schedule for its column schedule";
+const PART_HELP: &str = "cnf, or order or schedule, which go by columns";
 
 const OUT_HELP: &str = "The file that the text is written to";
 

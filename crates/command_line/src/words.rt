@@ -13,9 +13,10 @@ ghost use Rattle.command_line.specs.Reading.{IsRefusal, IsRefusalOf, IsWithin, c
 use crate::board::{BenchTask, MakeTask, bench_asked, make_asked};
 use crate::limits::limits_among;
 use crate::mode::mode_given;
-use crate::names::{FileNames, two_names};
+use crate::names::{FileNames, names_among, two_names};
+use crate::order::{OrderTask, order_asked};
 use crate::parser::parser;
-use crate::plan::{PlanSource, plan_given};
+use crate::plan::{PlanSource, plan_among};
 use clap::ArgMatches;
 use clap::error::ErrorKind;
 use cnf_base::OutOfMemory;
@@ -34,6 +35,8 @@ pub enum Asked<'a> {
     Bench(BenchTask<'a>),
     /// To write a text of a board.
     Make(MakeTask<'a>),
+    /// To write an order of a formula's variables.
+    Order(OrderTask<'a>),
 }
 
 /// What is to be decided, by what and how far.
@@ -115,6 +118,8 @@ fn command_named<'a>(name: &str, values: &ArgMatches<'a>) -> Option<Asked<'a>>
         solve_asked(values)
     } else if name == "check" {
         check_asked(values)
+    } else if name == "order" {
+        order_asked(values)
     } else {
         board_command(name, values)
     }
@@ -140,16 +145,10 @@ fn solve_asked<'a>(values: &ArgMatches<'a>) -> Option<Asked<'a>>
         (λ asked. solve_means (rows_of (found_of values.now)) ≡ Asks (command_of asked)) }
     ensures within { IfSome result (λ asked. IsWithin (command_of asked)) }
 {
-    let order = values.get_str("order");
-    let schedule = values.get_str("schedule");
-    let files = two_names(
-        values.get_str("FILE"),
-        values.get_str("proof"),
-        order,
-        schedule,
-    )?;
+    let files = names_among(values)?;
     let mode = mode_given(values.get_str("lax"));
-    let plan = plan_given(values.get_str("plan"), schedule)?;
+    let order = values.get_str("order");
+    let plan = plan_among(values)?;
     let limits = limits_among(values)?;
     Some(Asked::Solve(SolveTask {
         files,
@@ -165,8 +164,15 @@ fn check_asked<'a>(values: &ArgMatches<'a>) -> Option<Asked<'a>>
         (λ asked. check_means (rows_of (found_of values.now)) ≡ Asks (command_of asked)) }
     ensures within { IfSome result (λ asked. IsWithin (command_of asked)) }
 {
-    let files = two_names(values.get_str("FILE"), values.get_str("PROOF"), None, None)?;
+    let (formula, proof) = two_names(
+        values.get_str("FILE"),
+        values.get_str("PROOF"),
+        None,
+        None,
+        None,
+    )?;
     let mode = mode_given(values.get_str("lax"));
+    let files = FileNames { formula, proof };
     Some(Asked::Check(CheckTask { files, mode }))
 }
 
