@@ -1,11 +1,9 @@
 -- From the clauses of the parser to the meaning of the words.
-use Rattle.std.proofs.Common.{◌≡◌, ℕ, Bool, true, false, List, [], ◌∷◌, Some, None, refl, sym, ap, ap₂, ◌∙◌, subst, inl, inr, codes, map}
-use Rattle.std.proofs.Common.{rules}
-use Rattle.std.specs.Prelude.{Option, option_map, ◌⊎◌, if◌then◌else◌}
+use Rattle.std.proofs.Common.{◌≡◌, ℕ, true, List, [], ◌∷◌, Some, None, refl, sym, ap, ◌∙◌, subst, inl, inr, codes, map}
+use Rattle.std.specs.Prelude.{Option, ◌⊎◌}
 use Rattle.std.specs.Option.{option_and_then}
-use Rattle.std.specs.Str.{bytes_eq}
 use Rattle.clap.specs.Words.{App, HasMatchesOf, IsAmong, Row, Text, fault_of, first_of, first_value, found_of, is_simple}
-use Rattle.clap.specs.Words.{is_simple_and_free, rows_of, subcommand_name_of, subcommand_of, subcommand_rows_of}
+use Rattle.clap.specs.Words.{is_simple_and_free, rows_of, subcommand_of, subcommand_rows_of}
 use Rattle.clap.specs.declared.ArgMatches.{ArgMatches}
 use Rattle.clap.specs.declared.error.ErrorKind.{ErrorKind}
 use Rattle.clap.specs.declared.error.ErrorKind.TheVariants as kind
@@ -14,12 +12,13 @@ use Rattle.command_line.specs.declared.words.Refusal.TheVariants as refusal
 use Rattle.command_line.specs.Reading.{IsRefusal, IsRefusalOf}
 use Rattle.clap.proofs.OnLiterals.{clap_on_literals}
 use Rattle.clap.proofs.WalkLemmas.{first_value-rows}
+use Rattle.dimacs_reader.specs.declared.mode.Mode.{Mode}
 use Rattle.schedule_plan.specs.declared.limits.Limits.{Limits}
 use Rattle.command_line.specs.Parser.{the_app}
-use Rattle.command_line.specs.Command.{Command, Meaning, Asks, Misuse, IsOneOf, MayMean, bench_means, board_means, check_means, command}
-use Rattle.command_line.specs.Command.{command_means, limits_among, make_means, means, meanings, mode_given, only_command, part_named}
-use Rattle.command_line.specs.Command.{refusal_means, size_among, solve_by, solve_means, taken_means, to_bench, to_check, to_make}
-use Rattle.command_line.specs.Command.{two_names}
+use Rattle.command_line.specs.Command.{Command, Meaning, Asks, Misuse, IsOneOf, MayMean, Planned, bench_means, check_means, command}
+use Rattle.command_line.specs.Command.{is_set, limits_among, make_means, means, meanings, method_named, mode_given, names_among}
+use Rattle.command_line.specs.Command.{only_command, order_means, part_named, plan_among, plan_given, refusal_means, size_among}
+use Rattle.command_line.specs.Command.{solve_means, taken_means, to_bench, to_check, to_make, to_order, to_solve, two_names}
 
 -- the parser is one whose meaning is known
 simple : is_simple the_app ≡ true
@@ -77,63 +76,6 @@ refused {app = app} words k memory is kinds other = elim (kinds (ap is_simple_an
 
 -- ---- the getters
 
-two_parts : {B : Type 0} (x : Option (Text × List Row)) (r : Option B) (name : B → Text) (rows : B → List Row) → option_map name r
-    ≡ option_map (λ p. p.0) x → option_map rows r ≡ option_map (λ p. p.1) x
-    → x ≡ option_map (λ b. (name b, rows b)) r
-two_parts None None name rows e d = refl
-two_parts None (Some b) name rows e d = cc
-two_parts (Some p) None name rows e d = cc
-two_parts (Some p) (Some b) name rows e d = ap₂ (λ (n : Text) (l : List Row). Some (n, l)) (sym (of_some e)) (sym (of_some d)) where
-  of_some : {A : Type 0} {a b : A} → ◌≡◌ {A = Option A} (Some a) (Some b) → a ≡ b
-  of_some e = cc
-
--- the name of a subcommand stands beside its rows
-names : (m : ArgMatches) → subcommand_name_of m ≡ option_map (λ p. p.0) (subcommand_rows_of m)
-names m = search rules
-
-pub by_some : (m : ArgMatches) (name : Text) (rows : List Row) → Some name ≡ subcommand_name_of m → Some rows
-    ≡ option_map (λ p. p.1) (subcommand_rows_of m)
-    → taken_means (subcommand_rows_of m) ≡ command_means name rows
-by_some m name rows named same = ap taken_means (two_parts {B = Text
-    × List Row} (subcommand_rows_of m) (Some (name, rows)) (λ p. p.0) (λ p. p.1) (named ∙ names m) same)
-
-pub by_none : (m : ArgMatches) → ◌≡◌ {A = Option Text} None (subcommand_name_of m)
-    → ◌≡◌ {A = Option (List Row)} None (option_map (λ p. p.1) (subcommand_rows_of m)) → taken_means (subcommand_rows_of m) ≡ Misuse
-by_none m named same = ap taken_means (two_parts {B = Text × List Row} (subcommand_rows_of m) None (λ p. p.0) (λ p. p.1) (named
-    ∙ names m) same)
-
--- what a command means, by its name
-abbrev by_tests : Meaning → Meaning → Meaning → Bool → Bool → Meaning
-by_tests one two last is_one is_two = if is_one then one else if is_two then two else last
-
-abbrev command_by : List Row → Text → Bool → Bool → Meaning
-command_by rows name is_solve is_check = by_tests (solve_means rows) (check_means rows) (board_means name rows) is_solve is_check
-
-abbrev board_by : List Row → Bool → Bool → Meaning
-board_by rows is_bench is_make = by_tests (bench_means rows) (make_means rows) Misuse is_bench is_make
-
-pub named_solve : (name : Text) (rows : List Row) → bytes_eq name (codes "solve") ≡ true → command_means name rows ≡ solve_means rows
-named_solve name rows is = ap (λ (b : Bool). command_by rows name b (bytes_eq name (codes "check"))) is
-
-pub named_check : (name : Text) (rows : List Row) → bytes_eq name (codes "solve") ≡ false → bytes_eq name (codes "check") ≡ true
-    → command_means name rows ≡ check_means rows
-named_check name rows other is = ap₂ (command_by rows name) other is
-
-pub not_of_files : (name : Text) (rows : List Row) → bytes_eq name (codes "solve") ≡ false → bytes_eq name (codes "check") ≡ false
-    → command_means name rows ≡ board_means name rows
-not_of_files name rows is and = ap₂ (command_by rows name) is and
-
-pub named_bench : (name : Text) (rows : List Row) → bytes_eq name (codes "bench") ≡ true → board_means name rows ≡ bench_means rows
-named_bench name rows is = ap (λ (b : Bool). board_by rows b (bytes_eq name (codes "make"))) is
-
-pub named_make : (name : Text) (rows : List Row) → bytes_eq name (codes "bench") ≡ false → bytes_eq name (codes "make") ≡ true
-    → board_means name rows ≡ make_means rows
-named_make name rows other is = ap₂ (board_by rows) other is
-
-pub other_name : (name : Text) (rows : List Row) → bytes_eq name (codes "bench") ≡ false → bytes_eq name (codes "make") ≡ false
-    → board_means name rows ≡ Misuse
-other_name name rows is and = ap₂ (board_by rows) is and
-
 -- the value that a getter reads is that of the row
 pub of_row : (values : ArgMatches) (name : Text) (value : Option Text) → value ≡ first_value (found_of values) name
     → first_of name (rows_of (found_of values)) ≡ value
@@ -143,33 +85,67 @@ of_row values name value is = sym (is ∙ first_value-rows (found_of values) nam
 pub ap₃ : {A B C D : Type 0} (f : A → B → C → D) {a d : A} {b e : B} {c g : C} → a ≡ d → b ≡ e → c ≡ g → f a b c ≡ f d e g
 ap₃ f p q r = λ i. f (p i) (q i) (r i)
 
-pub solve_values : (values : ArgMatches) (file proof lax order schedule plan : Option Text) (limits : Option Limits)
-    → file ≡ first_value (found_of values) (codes "FILE") → proof ≡ first_value (found_of values) (codes "proof") → lax
-    ≡ first_value (found_of values) (codes "lax") → order ≡ first_value (found_of values) (codes "order")
-    → schedule ≡ first_value (found_of values) (codes "schedule") → plan ≡ first_value (found_of values) (codes "plan") → limits
+pub solve_values : (values : ArgMatches) (names : Option (Text × Text)) (mode : Mode) (lax order : Option Text) (plan : Option Planned)
+    (limits : Option Limits)
+    → names_among (rows_of (found_of values)) ≡ names → mode ≡ mode_given lax → lax ≡ first_value (found_of values) (codes "lax") → order
+    ≡ first_value (found_of values) (codes "order") → plan ≡ plan_among (rows_of (found_of values)) → limits
     ≡ limits_among (rows_of (found_of values))
-    → solve_means (rows_of (found_of values)) ≡ solve_by file proof lax order schedule plan limits
-solve_values values file proof lax order schedule plan limits file_is proof_is lax_is order_is schedule_is plan_is limits_are = λ i.
-    solve_by (of_row values (codes "FILE") file file_is i) (of_row values (codes "proof") proof proof_is i)
-    (of_row values (codes "lax") lax lax_is i) (of_row values (codes "order") order order_is i)
-    (of_row values (codes "schedule") schedule schedule_is i) (of_row values (codes "plan") plan plan_is i) (sym limits_are i)
+    → solve_means (rows_of (found_of values)) ≡ to_solve names mode order plan limits
+solve_values values names mode lax order plan limits names_are mode_is lax_is order_is plan_is limits_are =
+    let read : solve_means (rows_of (found_of values)) ≡ to_solve names (mode_given lax) order plan limits = λ i.
+    to_solve (names_are i) (mode_given (of_row values (codes "lax") lax lax_is i)) (of_row values (codes "order") order order_is i)
+    (sym plan_is i) (sym limits_are i) in
+    read ∙ ap (λ (m : Mode). to_solve names m order plan limits) (sym mode_is)
+
+pub names_values : (values : ArgMatches) (file proof order schedule buckets : Option Text)
+    → file ≡ first_value (found_of values) (codes "FILE") → proof ≡ first_value (found_of values) (codes "proof") → order
+    ≡ first_value (found_of values) (codes "order")
+    → schedule ≡ first_value (found_of values) (codes "schedule") → buckets ≡ first_value (found_of values) (codes "buckets")
+    → names_among (rows_of (found_of values)) ≡ two_names file proof (order ∷ schedule ∷ buckets ∷ [])
+names_values values file proof order schedule buckets file_is proof_is order_is schedule_is buckets_is = λ i.
+    two_names (of_row values (codes "FILE") file file_is i) (of_row values (codes "proof") proof proof_is i)
+    (of_row values (codes "order") order order_is i ∷ of_row values (codes "schedule") schedule schedule_is i
+    ∷ of_row values (codes "buckets") buckets buckets_is i
+    ∷ [])
+
+pub plan_values : (values : ArgMatches) (name schedule buckets search_text : Option Text)
+    → name ≡ first_value (found_of values) (codes "plan") → schedule ≡ first_value (found_of values) (codes "schedule") → buckets
+    ≡ first_value (found_of values) (codes "buckets")
+    → search_text ≡ first_value (found_of values) (codes "search")
+    → plan_among (rows_of (found_of values)) ≡ plan_given name schedule buckets (is_set search_text)
+plan_values values name schedule buckets search_text name_is schedule_is buckets_is search_is = λ i.
+    plan_given (of_row values (codes "plan") name name_is i) (of_row values (codes "schedule") schedule schedule_is i)
+    (of_row values (codes "buckets") buckets buckets_is i) (is_set (of_row values (codes "search") search_text search_is i))
 
 -- files that aren't named change nothing
-two_alone : (file proof : Option Text) → two_names file proof [] ≡ two_names file proof (None ∷ None ∷ [])
+two_alone : (file other : Option Text) → two_names file other [] ≡ two_names file other (None ∷ None ∷ None ∷ [])
 two_alone None None = refl
-two_alone None (Some proof) = refl
+two_alone None (Some other) = refl
 two_alone (Some file) None = refl
-two_alone (Some file) (Some proof) = refl
+two_alone (Some file) (Some other) = refl
 
 pub check_values : (values : ArgMatches) (file proof lax : Option Text)
     → file ≡ first_value (found_of values) (codes "FILE") → proof ≡ first_value (found_of values) (codes "PROOF") → lax
     ≡ first_value (found_of values) (codes "lax")
-    → check_means (rows_of (found_of values)) ≡ to_check (two_names file proof (None ∷ None ∷ [])) (mode_given lax)
+    → check_means (rows_of (found_of values)) ≡ to_check (two_names file proof (None ∷ None ∷ None ∷ [])) (mode_given lax)
 check_values values file proof lax file_is proof_is lax_is =
     ap₃ (λ (f p l : Option Text). to_check (two_names f p []) (mode_given l)) (of_row values (codes "FILE") file file_is)
     (of_row values (codes "PROOF") proof proof_is)
     (of_row values (codes "lax") lax lax_is)
     ∙ ap (λ (names : Option (Text × Text)). to_check names (mode_given lax)) (two_alone file proof)
+
+pub order_values : (values : ArgMatches) (file out method lax : Option Text)
+    → file ≡ first_value (found_of values) (codes "FILE") → out ≡ first_value (found_of values) (codes "out") → method
+    ≡ first_value (found_of values) (codes "by")
+    → lax ≡ first_value (found_of values) (codes "lax")
+    → order_means (rows_of (found_of values)) ≡ to_order (two_names file out (None ∷ None ∷ None ∷ [])) (option_and_then method_named method)
+    (mode_given lax)
+order_values values file out method lax file_is out_is method_is lax_is =
+    let read : order_means (rows_of (found_of values)) ≡ to_order (two_names file out []) (option_and_then method_named method) (mode_given lax) =
+    λ i.
+    to_order (two_names (of_row values (codes "FILE") file file_is i) (of_row values (codes "out") out out_is i) [])
+    (option_and_then method_named (of_row values (codes "by") method method_is i)) (mode_given (of_row values (codes "lax") lax lax_is i)) in
+    read ∙ ap (λ (names : Option (Text × Text)). to_order names (option_and_then method_named method) (mode_given lax)) (two_alone file out)
 
 pub bench_values : (values : ArgMatches) (size : Option ℕ) (proof : Option Text) (limits : Option Limits)
     → size ≡ size_among (rows_of (found_of values)) → proof ≡ first_value (found_of values) (codes "proof") → limits

@@ -1,32 +1,19 @@
 -- What is left to show of `parser`.
-use Rattle.std.proofs.Common.{codes, ◌≡◌}
+use Rattle.std.proofs.Common.{◌≡◌}
 use Rattle.std.proofs.lemmas.Result.{IfOk-weaker}
-use Rattle.clap.specs.Words.{App, app_of, new_app, with_subcommand}
-use Rattle.command_line.specs.Parser.{bench_app, check_app, make_app, solve_app}
+use Rattle.clap.specs.Words.{App, app_of, with_subcommand}
+use Rattle.command_line.specs.Parser.{bench_app, file_commands, make_app}
 use Rattle.command_line.proofs.Arguments.{added}
 use Rattle.command_line.proofs.parser.parser.Goals as goal
 
-abbrev one : App
-one = with_subcommand (new_app (codes "bddsat")) solve_app.top
-
-abbrev two : App
-two = with_subcommand one check_app.top
-
-abbrev three : App
-three = with_subcommand two bench_app.top
+abbrev up_to_bench : App
+up_to_bench = with_subcommand file_commands bench_app.top
 
 pub returns : goal.returns
 returns c =
-    let one_is : app_of c.in_ok-solve.solve ≡ one =
-    added c.command.result c.in_ok-solve.solve (new_app (codes "bddsat")) solve_app c.solve_parser.result c.command.ensures.app
-    c.solve_parser.ensures.app c.solve_parser.ensures.local
-    c.in_ok-solve.ensures in
-    let two_are : app_of c.in_ok-check.check ≡ two =
-    added c.in_ok-solve.solve c.in_ok-check.check one check_app c.check_parser.result one_is c.check_parser.ensures.app
-    c.check_parser.ensures.local c.in_ok-check.ensures in
-    let three_are : app_of c.in_ok-bench.bench ≡ three =
-    added c.in_ok-check.check c.in_ok-bench.bench two bench_app c.bench_parser.result two_are c.bench_parser.ensures.app
-    c.bench_parser.ensures.local c.in_ok-bench.ensures in
-    IfOk-weaker c.with_command-4.result _ _
-    (λ r adds. added c.in_ok-bench.bench r three make_app c.make_parser.result three_are c.make_parser.ensures.app
-    c.make_parser.ensures.local adds) c.with_command-4.ensures
+    let bench_is : app_of c.in_ok-bench.bench ≡ up_to_bench =
+    added c.in_ok-order.order c.in_ok-bench.bench file_commands bench_app c.bench_parser.result c.in_ok-order.ensures
+    c.bench_parser.ensures.app c.bench_parser.ensures.local c.in_ok-bench.ensures in
+    IfOk-weaker c.with_command-2.result _ _
+    (λ r adds. added c.in_ok-bench.bench r up_to_bench make_app c.make_parser.result bench_is c.make_parser.ensures.app
+    c.make_parser.ensures.local adds) c.with_command-2.ensures

@@ -7,16 +7,16 @@ use Rattle.command_line.specs.Reading.{text_of}
 use Rattle.command_line.proofs.Meant.{check_values}
 use Rattle.command_line.proofs.words.check_asked.Goals as goal
 
-pub returns-in_err-files-clause-meant : goal.returns-in_err-files-clause-meant
-returns-in_err-files-clause-meant c =
+pub returns-in_err-formula-clause-meant : goal.returns-in_err-formula-clause-meant
+returns-in_err-formula-clause-meant c =
     let lax = first_value (found_of c.args.values.now) (codes "lax") in
     let means : check_means (rows_of (found_of c.args.values.now)) ≡ Misuse =
     check_values c.args.values.now (text_of c.get_str.result) (text_of c.get_str-2.result) lax c.get_str.ensures c.get_str-2.ensures refl
-    ∙ ap (λ (names : Option (Text × Text)). to_check names (mode_given lax)) c.in_err-files.ensures in
+    ∙ ap (λ (names : Option (Text × Text)). to_check names (mode_given lax)) c.in_err-formula.ensures in
     search (rules, means)
 
 pub returns-clause-meant : goal.returns-clause-meant
 returns-clause-meant c =
     check_values c.args.values.now (text_of c.get_str.result) (text_of c.get_str-2.result)
     (text_of c.get_str-3.result) c.get_str.ensures c.get_str-2.ensures c.get_str-3.ensures
-    ∙ ap₂ to_check c.in_ok-files.ensures (sym c.mode_given-mode.ensures)
+    ∙ ap₂ to_check c.in_ok-formula.ensures (sym c.mode_given-mode.ensures)
