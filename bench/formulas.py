@@ -192,13 +192,11 @@ def factoring(it, number):
 
 
 def parity_trees(it, size):
-    inputs, draw = it.some(size), random.Random(size)
+    inputs = it.some(size)
     chain = inputs[0]
     for literal in inputs[1:]:
         chain = it.differ(chain, literal)
-    level = []
-    for start in range(0, size, 8):
-        level += draw.sample(inputs[start : start + 8], len(inputs[start : start + 8]))
+    level = mixed(inputs, 8)
     while len(level) > 1:
         level = [it.differ(*level[i : i + 2]) if i + 1 < len(level) else level[i] for i in range(0, len(level), 2)]
     it.unlike([chain], level)
@@ -445,7 +443,8 @@ def parity(it, size, order):
 def mixed(inputs, window):
     """Another order of the inputs, each in the window where it stands."""
     draw = random.Random(len(inputs))
-    return [literal for at in range(0, len(inputs), window) for literal in draw.sample(inputs[at : at + window], len(inputs[at : at + window]))]
+    rows = [inputs[at : at + window] for at in range(0, len(inputs), window)]
+    return [literal for row in rows for literal in draw.sample(row, len(row))]
 
 
 def chains(it, size):

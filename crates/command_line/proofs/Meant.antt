@@ -138,14 +138,15 @@ pub order_values : (values : ArgMatches) (file out method lax : Option Text)
     → file ≡ first_value (found_of values) (codes "FILE") → out ≡ first_value (found_of values) (codes "out") → method
     ≡ first_value (found_of values) (codes "by")
     → lax ≡ first_value (found_of values) (codes "lax")
-    → order_means (rows_of (found_of values)) ≡ to_order (two_names file out (None ∷ None ∷ None ∷ [])) (option_and_then method_named method)
-    (mode_given lax)
+    → order_means (rows_of (found_of values)) ≡ to_order (two_names file out (None ∷ None ∷ None ∷ []))
+    (option_and_then method_named method) (mode_given lax)
 order_values values file out method lax file_is out_is method_is lax_is =
-    let read : order_means (rows_of (found_of values)) ≡ to_order (two_names file out []) (option_and_then method_named method) (mode_given lax) =
-    λ i.
+    let found = option_and_then method_named method in
+    let read : order_means (rows_of (found_of values)) ≡ to_order (two_names file out []) found (mode_given lax) = λ i.
     to_order (two_names (of_row values (codes "FILE") file file_is i) (of_row values (codes "out") out out_is i) [])
-    (option_and_then method_named (of_row values (codes "by") method method_is i)) (mode_given (of_row values (codes "lax") lax lax_is i)) in
-    read ∙ ap (λ (names : Option (Text × Text)). to_order names (option_and_then method_named method) (mode_given lax)) (two_alone file out)
+    (option_and_then method_named (of_row values (codes "by") method method_is i))
+    (mode_given (of_row values (codes "lax") lax lax_is i)) in
+    read ∙ ap (λ (names : Option (Text × Text)). to_order names found (mode_given lax)) (two_alone file out)
 
 pub bench_values : (values : ArgMatches) (size : Option ℕ) (proof : Option Text) (limits : Option Limits)
     → size ≡ size_among (rows_of (found_of values)) → proof ≡ first_value (found_of values) (codes "proof") → limits

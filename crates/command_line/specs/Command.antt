@@ -185,8 +185,8 @@ plan_given _ _ _ _ = None
 -- the method of this name, if it is one
 abbrev pub method_named : Text → Option OrderMethod
 method_named name =
-    if bytes_eq name (codes "degree") then Some Degree else if bytes_eq name (codes "cardinality") then Some Cardinality else if bytes_eq name
-    (codes "levels") then Some Levels else if bytes_eq name (codes "profile") then Some Profile else None
+    if bytes_eq name (codes "degree") then Some Degree else if bytes_eq name (codes "cardinality") then Some Cardinality
+    else if bytes_eq name (codes "levels") then Some Levels else if bytes_eq name (codes "profile") then Some Profile else None
 
 -- the limits of these numbers of nodes, of identifiers and of the cache's entries
 abbrev pub limits_with : Option ℕ → Option ℕ → Option ℕ → Option Limits

@@ -44,11 +44,11 @@ order_rules = flag_rule (codes "search") ∷ option_rule (codes "order") ∷ []
 abbrev pub plan_rules : List Rule
 plan_rules = option_rule (codes "buckets") ∷ option_rule (codes "schedule") ∷ option_rule (codes "plan") ∷ []
 
--- `solve FILE --proof P [--lax] [--search] [--order F] [--buckets F] [--schedule F] [--plan PLAN] [--max-nodes N] [--max-ids N] [--cache N]`
+-- `solve FILE --proof P [--lax]`, and then the options of orders, of plans and of limits
 abbrev pub solve_app : App
 solve_app =
-    with_rules (with_rules (with_rules (with_rules (new_app (codes "solve")) (file_rule ∷ proof_rule ∷ lax_rule ∷ [])) order_rules) plan_rules)
-    limit_rules
+    with_rules (with_rules (with_rules (with_rules (new_app (codes "solve")) (file_rule ∷ proof_rule ∷ lax_rule ∷ [])) order_rules)
+    plan_rules) limit_rules
 
 -- a proof's file, behind the formula's
 abbrev pub proof_file_rule : Rule

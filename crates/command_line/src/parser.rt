@@ -2,7 +2,8 @@
 ghost use Rattle.std.specs.Prelude.{◌≡◌, IfOk, MatchResult, false};
 ghost use Rattle.clap.specs.Words.{app_of, rule_of, shape_of, with_subcommand};
 ghost use Rattle.clap.specs.declared.Command.TheViews.{out-Command};
-ghost use Rattle.command_line.specs.Parser.{check_app, file_commands, order_rules, plan_rules, proof_file_rule, solve_app, the_app, with_rules};
+ghost use Rattle.command_line.specs.Parser.{check_app, file_commands, order_rules, plan_rules, proof_file_rule, solve_app, the_app};
+ghost use Rattle.command_line.specs.Parser.{with_rules};
 
 use crate::args::{
     Texts, command, flag_arg, formula_arg, lax_arg, option_arg, proof_arg, with_limits,
@@ -31,7 +32,7 @@ Exit codes:
    1  check: the proof is not verified; standard output has the line and why
    0  make, order: the text is in F
    0  help was shown
-   2  the formula's file is no CNF formula, or a file is too large
+   2  a file's text is not of its format, or too large
    3  a file couldn't be opened or read
    4  a file or standard output couldn't be written
    5  out of memory

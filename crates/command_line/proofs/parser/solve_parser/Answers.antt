@@ -26,6 +26,6 @@ returns-clause-app c =
 pub returns-clause-local : goal.returns-clause-local
 returns-clause-local c =
     IfOk-weaker c.with_limits.result _ _
-    (λ r same. same ∙ c.in_ok-command-3.ensures.local ∙ c.in_ok-command-2.ensures.local ∙ c.in_ok-command.ensures.globals ∙ stays _ _ c.lax_arg.ensures.local
-    ∙ c.in_ok-arg-2.ensures.globals ∙ stays _ _ c.proof_arg.ensures.local
+    (λ r same. same ∙ c.in_ok-command-3.ensures.local ∙ c.in_ok-command-2.ensures.local ∙ c.in_ok-command.ensures.globals
+    ∙ stays _ _ c.lax_arg.ensures.local ∙ c.in_ok-arg-2.ensures.globals ∙ stays _ _ c.proof_arg.ensures.local
     ∙ c.in_ok-arg.ensures.globals ∙ stays _ _ c.formula_arg.ensures.local ∙ c.command.ensures.local) c.with_limits.ensures.local
