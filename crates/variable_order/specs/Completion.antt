@@ -1,5 +1,5 @@
 -- Orders that are made of a sequence of variables, which may lack some and repeat some.
-use Rattle.std.specs.Prelude.{◌≡◌, ℕ, suc, ◌+◌, ◌-◌, ◌<◌, ◌≤◌, Bool, true, false, List, length, slice_index_or}
+use Rattle.std.specs.Prelude.{◌≡◌, ℕ, suc, ◌+◌, ◌-◌, ◌<◌, Bool, true, false, List, length, slice_index_or}
 use Rattle.std.specs.List.{sum_by}
 
 -- a variable stands among those
@@ -18,7 +18,7 @@ to_come false = 1
 
 -- variables, each once, with a flag for each of all: whether the next number stands among them
 pub record AreKept (vars : ℕ) (variables : List ℕ) (flags : List Bool) : Type 0 where
-  pub flags : length flags ≡ vars
+  pub each : length flags ≡ vars
   pub within : (place : ℕ) → place < length variables → (0 < slice_index_or variables place 0)
       × (slice_index_or flags (slice_index_or variables place 0 - 1) false ≡ true)
   pub apart : (place other : ℕ) → place < length variables → other < length variables → slice_index_or variables place 0

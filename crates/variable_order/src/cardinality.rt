@@ -58,7 +58,7 @@ fn longest_counted(alloc: Global, graph: &Hypergraph) -> Result<usize, OutOfMemo
 
 // For each length the sum of the squares of the lengths of the edges that have it.
 fn squares(alloc: Global, graph: &Hypergraph) -> Result<Vec<u64>, OutOfMemory> {
-    let mut squares = vec![in alloc; 0; LONGEST + 1]?;
+    let mut squares: Vec<u64> = vec![in alloc; 0; LONGEST + 1]?;
     for edge in 0..graph.edges() {
         let length = graph.edge(edge).len();
         if length < squares.len() {
