@@ -1,0 +1,2 @@
+pub mod Hypergraph
+pub mod Completion
