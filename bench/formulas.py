@@ -219,10 +219,13 @@ def have_rooms(it, found, rooms, choice=lambda: ()):
     for row in taken:
         it.force(-row[room] for room in choice())
         it.exactly_one(row)
-    for (one, (begin, end)), (other, (from_, to)) in itertools.combinations(enumerate(found), 2):
-        if begin < to and from_ < end:
-            for a, b in zip(taken[one], taken[other]):
+    going_on = []
+    for one in sorted(range(len(found)), key=found.__getitem__):
+        going_on = [other for other in going_on if found[one][0] < found[other][1]]
+        for other in going_on:
+            for a, b in zip(taken[other], taken[one]):
                 it.add(-a, -b)
+        going_on.append(one)
 
 
 def intervals(it, size):
