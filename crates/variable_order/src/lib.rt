@@ -7,14 +7,23 @@
 mod breadth_first;
 mod cardinality;
 mod completed;
+mod degree;
+mod distances;
 mod edges;
+mod elements;
+mod groups;
+mod heap;
+mod holdings;
 mod hypergraph;
 mod levels;
 mod lists;
 mod neighbours;
+mod profile;
 mod rows;
 mod stamps;
 
 pub use cardinality::by_cardinality;
+pub use degree::by_degree;
 pub use hypergraph::Hypergraph;
 pub use levels::by_levels;
+pub use profile::by_profile;
