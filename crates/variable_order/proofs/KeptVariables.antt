@@ -3,7 +3,8 @@ use Rattle.std.proofs.Common.{◌≡◌, ℕ, suc, ◌+◌, ◌-◌, ◌<◌, Bo
 use Rattle.std.proofs.Common.{replicate, sym, ap, ◌∙◌, arith, inl, inr}
 use Rattle.std.proofs.Math.ListN.{set}
 use Rattle.std.specs.List.{sum_by}
-use Rattle.std.proofs.lemmas.List.{get_or-set_same, get_or-set_other, get_or_append_left, get_or-map, get_or-take, get_or_past, get_or-replicate}
+use Rattle.std.proofs.lemmas.List.{get_or-set_same, get_or-set_other, get_or_append_left, get_or-map, get_or-take, get_or_past}
+use Rattle.std.proofs.lemmas.List.{get_or-replicate}
 use Rattle.std.proofs.lemmas.List.{length-append, length-replicate, length-take-le, take_more, map-append, length-set, length-map}
 use Rattle.std.proofs.Math.Seq.{get_or-append_seam}
 use Rattle.std.proofs.lemmas.List.Sums.{sum_by-cons, sum_by-set}
@@ -69,8 +70,8 @@ stands_last variables variable = (
 )
 
 -- the flag of another vertex stays
-kept_flag : (flags : List Bool) (vertex k : ℕ) → vertex < length flags → get_or flags k false ≡ true → get_or (set flags vertex true) k false
-    ≡ true
+kept_flag : (flags : List Bool) (vertex k : ℕ) → vertex < length flags → get_or flags k false ≡ true
+    → get_or (set flags vertex true) k false ≡ true
 kept_flag flags vertex k inside h = elim (cases_eq k vertex) [
   | inl same ↦ ap (λ j. get_or (set flags vertex true) j false) same ∙ get_or-set_same flags vertex true false inside
   | inr other ↦ get_or-set_other flags vertex k true false other ∙ h
@@ -99,7 +100,7 @@ kept_more vars vertex variables flags kept below unset =
             )
         | inr behind ↦
             let at : place ≡ length variables = omega (arith, longer) in
-            let is : get_or (variables ++ suc vertex ∷ []) place 0 ≡ suc vertex = ap (λ k. get_or (variables ++ suc vertex ∷ []) k 0) at ∙ last in
+            let is = ap (λ k. get_or (variables ++ suc vertex ∷ []) k 0) at ∙ last in
             let less : get_or (variables ++ suc vertex ∷ []) place 0 - 1 ≡ vertex = omega (arith, is) in (
               omega (arith, is),
               ap (λ n. get_or (set flags vertex true) n false) less ∙ get_or-set_same flags vertex true false inside,

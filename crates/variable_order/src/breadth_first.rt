@@ -1,6 +1,6 @@
-// Breadth-first search through the edges: the vertices of a component by their distance from the first, in levels. Each edge is opened once,
-// by the first of its vertices that is reached, and what it shows follows by rising degree. (Cuthill, McKee: Reducing the Bandwidth of
-// Sparse Symmetric Matrices, 1969.)
+// Breadth-first search through the edges: the vertices of a component by their distance from the first, in levels. Each edge is
+// opened once, by the first of its vertices that is reached, and what it shows follows by rising degree. (Cuthill, McKee: Reducing
+// the Bandwidth of Sparse Symmetric Matrices, 1969.)
 
 use crate::hypergraph::Hypergraph;
 use crate::stamps::stamp;

@@ -1,6 +1,7 @@
-// Maximum cardinality search, read from its end: next comes a variable with the most chosen neighbours, among equals the one that gained
-// last. (Tarjan, Yannakakis: Simple Linear-Time Algorithms to Test Chordality of Graphs, 1984.) In long edges neighbours aren't counted: the
-// first chosen vertex of such an edge adds one to the others, so that the work stays within a bound.
+// Maximum cardinality search, read from its end: next comes a variable with the most chosen neighbours, among equals the one that
+// gained last. (Tarjan, Yannakakis: Simple Linear-Time Algorithms to Test Chordality of Graphs, Test Acyclicity of Hypergraphs, and
+// Selectively Reduce Acyclic Hypergraphs, 1984.) In long edges neighbours aren't counted: the first chosen vertex of such an edge
+// adds one to the others, so that the work stays within a bound.
 ghost use Rattle.std.specs.Prelude.{◌≡◌, length, IfOk};
 
 use crate::completed::completed;

@@ -10,7 +10,11 @@ use std::alloc::Global;
 pub(crate) fn edges(alloc: Global, formula: &Cnf) -> Result<Rows, OutOfMemory> {
     let sets = sets(alloc, formula)?;
     let repeated = repeated(alloc, &sets)?;
-    without(alloc, &sets, &repeated)
+    if repeated.iter().any(|mark| *mark) {
+        without(alloc, &sets, &repeated)
+    } else {
+        Ok(sets)
+    }
 }
 
 // The sets of all clauses of two or more different variables.

@@ -1,4 +1,5 @@
-// Vertices in lists by a key, as a search by degree or by weight wants them: doubly linked, so that a vertex leaves its list in constant time.
+// Vertices in lists by a key, as a search by degree or by weight wants them: doubly linked, so that a vertex leaves its list in
+// constant time.
 
 use cnf_base::OutOfMemory;
 use std::alloc::Global;

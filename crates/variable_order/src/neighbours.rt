@@ -32,7 +32,8 @@ fn degree(graph: &Hypergraph, vertex: u32, stamps: &mut [u32], budget: &mut u64)
         if affords(budget, edge.len() as u64) {
             degree = degree.saturating_add(newly_stamped(edge, vertex, stamps));
         } else {
-            degree = degree.saturating_add(edge.len().min(u32::MAX as usize) as u32);
+            let others = edge.len().saturating_sub(1);
+            degree = degree.saturating_add(others.min(u32::MAX as usize) as u32);
         }
     }
     degree

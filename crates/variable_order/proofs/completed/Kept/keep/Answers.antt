@@ -3,7 +3,8 @@ use Rattle.std.proofs.Common.{◌∙◌, ◌<◌, false, length, sym, arith, add
 use Rattle.std.proofs.lemmas.List.{get_or_read}
 use Rattle.variable_order.proofs.KeptVariables.{kept_more}
 use Rattle.variable_order.proofs.completed.Kept.keep.Goals as goal
-use Rattle.variable_order.proofs.completed.Kept.keep.Goals.{then-vertex-self-via-then-vertex-self, then-vertex-self-via-else-vertex-self+then-index}
+use Rattle.variable_order.proofs.completed.Kept.keep.Goals.{then-vertex-self-via-then-vertex-self}
+use Rattle.variable_order.proofs.completed.Kept.keep.Goals.{then-vertex-self-via-else-vertex-self+then-index}
 
 pub returns-then-vertex-self-clause-next : goal.returns-then-vertex-self-clause-next
 returns-then-vertex-self-clause-next c = λ below new.

@@ -8,7 +8,8 @@ loop-vertex-preserved c =
     let next : c.loop-vertex.vertex < c.loop-vertex.self.vars = omega (arith, viewed, c.loop-vertex.invariant.vars) in
     record {
       vars = c.in_ok-keep.ensures.vars ∙ c.loop-vertex.invariant.vars;
-      all = below_more _ _ (λ k h. c.in_ok-keep.ensures.before (suc k) (c.loop-vertex.invariant.all k h)) (c.in_ok-keep.ensures.stands next);
+      all = below_more _ _ (λ k h. c.in_ok-keep.ensures.before (suc k) (c.loop-vertex.invariant.all k h))
+          (c.in_ok-keep.ensures.stands next);
       full = λ e.
           let was = c.loop-vertex.invariant.full e in
           c.in_ok-keep.ensures.full (ap length was ∙ e ∙ sym c.loop-vertex.invariant.vars) ∙ was;
