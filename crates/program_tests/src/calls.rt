@@ -62,6 +62,17 @@ const ORDER: Row = Row {
     plain: "Sat|s SATISFIABLE/v 1 2 3 0/|",
 };
 
+const BUCKETS: Row = Row {
+    role: Role::Buckets,
+    calls: 8,
+    words: "bddsat solve in.cnf --proof out.lrat --order natural --buckets turned",
+    formula: CHAIN,
+    proof: b"",
+    left: "ReadFault*|none|error: read failed/",
+    text: "|",
+    plain: "Sat|s SATISFIABLE/v 1 2 3 0/|",
+};
+
 const SCHEDULE: Row = Row {
     role: Role::Schedule,
     calls: 34,
@@ -117,6 +128,30 @@ const MADE: Row = Row {
     left: "WriteFault|*|error: write failed/",
     text: "|p cnf 8 19/1 2 0/-1 -2 0/1 3 0/-1 -3 0/4 5 0/-4 -5 0/2 4 6 7 0/-2 -4 0/-2 -6 0/-2 -7 0/-4 -6 0/-4 -7 0/-6 -7 0/3 6 0/-3 -6 0/5 8 0/-5 -8 0/7 8 0/-7 -8 0/",
     plain: "Done||p cnf 8 19/1 2 0/-1 -2 0/1 3 0/-1 -3 0/4 5 0/-4 -5 0/2 4 6 7 0/-2 -4 0/-2 -6 0/-2 -7 0/-4 -6 0/-4 -7 0/-6 -7 0/3 6 0/-3 -6 0/5 8 0/-5 -8 0/7 8 0/-7 -8 0/|",
+};
+
+// The same where the plan is found: the trials before touch no file.
+const FOUND: Row = Row {
+    role: Role::ProofOut,
+    calls: 124,
+    words: "bddsat solve in.cnf --proof out.lrat --search",
+    formula: BOTH,
+    proof: b"",
+    left: "WriteFault|*|error: write failed/",
+    text: "|3 2 -1 0 0/4 -2 1 0 -3 0/5 2 0 3 1 0/6 3 1 0 0/7 -3 -1 0 -6 0/8 3 0 6 2 0/9 -1 -2 -3 0 7 0/10 -2 -3 0 9 4 0/11 0 5 8 10 0/",
+    plain: "Unsat|s UNSATISFIABLE/|3 2 -1 0 0/4 -2 1 0 -3 0/5 2 0 3 1 0/6 3 1 0 0/7 -3 -1 0 -6 0/8 3 0 6 2 0/9 -1 -2 -3 0 7 0/10 -2 -3 0 9 4 0/11 0 5 8 10 0/|",
+};
+
+// An order of the chain by levels: from an end to the other, and back.
+const ARRANGED: Row = Row {
+    role: Role::Made,
+    calls: 8,
+    words: "bddsat order in.cnf --by levels --out out.lrat",
+    formula: CHAIN,
+    proof: b"",
+    left: "WriteFault|*|error: write failed/",
+    text: "|1 2 3/",
+    plain: "Done||1 2 3/|",
 };
 
 // A fault of standard error changes no status, and that of its flush nothing at all.
@@ -219,6 +254,11 @@ fn of_the_order(rt: HostRuntime) -> Result<(), Fail> {
 }
 
 #[test]
+fn of_the_buckets(rt: HostRuntime) -> Result<(), Fail> {
+    expect_calls(&rt, rt.alloc(), &BUCKETS)
+}
+
+#[test]
 fn of_the_schedule(rt: HostRuntime) -> Result<(), Fail> {
     expect_calls(&rt, rt.alloc(), &SCHEDULE)
 }
@@ -241,6 +281,16 @@ fn of_the_checked_proof(rt: HostRuntime) -> Result<(), Fail> {
 #[test]
 fn of_the_board(rt: HostRuntime) -> Result<(), Fail> {
     expect_calls(&rt, rt.alloc(), &MADE)
+}
+
+#[test]
+fn behind_a_search(rt: HostRuntime) -> Result<(), Fail> {
+    expect_calls(&rt, rt.alloc(), &FOUND)
+}
+
+#[test]
+fn of_an_order(rt: HostRuntime) -> Result<(), Fail> {
+    expect_calls(&rt, rt.alloc(), &ARRANGED)
 }
 
 #[test]

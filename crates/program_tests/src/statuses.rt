@@ -23,6 +23,11 @@ fn complaints(rt: HostRuntime) -> Result<(), Fail> {
         (Status::TooLong(Role::Cnf), "error: cnf too long\n", 2),
         (Status::TooLong(Role::Order), "error: order too long\n", 2),
         (
+            Status::TooLong(Role::Buckets),
+            "error: buckets too long\n",
+            2,
+        ),
+        (
             Status::TooLong(Role::Schedule),
             "error: schedule too long\n",
             2,

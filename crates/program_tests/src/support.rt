@@ -37,6 +37,7 @@ pub fn role_of(name: &str) -> Option<Role> {
     match name {
         "Cnf" => Some(Role::Cnf),
         "Order" => Some(Role::Order),
+        "Buckets" => Some(Role::Buckets),
         "Schedule" => Some(Role::Schedule),
         "ProofIn" => Some(Role::ProofIn),
         "ProofOut" => Some(Role::ProofOut),

@@ -69,7 +69,9 @@ fn expect_plan(
     match read_words(alloc, &words) {
         Ok(Asked::Solve(task)) => match task.plan {
             PlanSource::Name(plan) => assert_eq!(rt; plan, expected, "{options}"),
-            PlanSource::Schedule(_) => Err("a schedule")?,
+            PlanSource::Schedule(_) | PlanSource::Buckets(_) | PlanSource::Search => {
+                Err("no name")?
+            }
         },
         _ => Err("no command to solve")?,
     }

@@ -66,8 +66,9 @@ posed_by_files run task {problem = problem} gives prepared = record {
   decides = refl;
   given = λ t. record {
     read = formula_read task.mode prepared.takes t;
+    given = prepared.given;
     ordered = ordered problem task.order prepared.orders t;
-    planned = planned task.plan prepared.plans t;
+    planned = planned task.plan prepared.bucketed prepared.plans t;
   };
   limits = refl;
   shape = refl;
@@ -97,6 +98,7 @@ solve_complete run {problem = problem} posed answers = record {
   answers = λ other asks t unharmed. answers unharmed;
   judges = λ other bytes judged has. absurd (decided_apart posed.gives posed.decides has.asked.asks.command refl);
   makes = λ given. absurd (decided_apart posed.gives posed.decides given.1 refl);
+  arranges = λ task other asks. absurd (decided_apart posed.gives posed.decides asks.command refl);
   refuses = λ status calls t unfailed. absurd (no_call run problem (asks_for run posed t) status calls);
 }
 

@@ -1,30 +1,31 @@
 -- How the calls that answer, and those that make a text, make their stages.
-use Rattle.std.proofs.Common.{◌≡◌, ℕ, Bool, List, refl, sym, ap, ◌∙◌, Some, None, Ok, Err, IsOk, inl, inr}
+use Rattle.std.proofs.Common.{◌≡◌, ℕ, Bool, List, refl, sym, ap, ◌∙◌, subst, Some, None, Ok, Err, IsOk, inl, inr}
 use Rattle.std.specs.Prelude.{Result, Option, ⊤, IsErr}
 use Rattle.cnf_base.specs.Formula.{Formula}
 use Rattle.host_io.specs.declared.role.Role.{Role}
-use Rattle.host_io.specs.declared.role.Role.TheVariants.{Cnf, Order, Schedule, ProofIn, ProofOut, Made, Out, Err as ErrRole}
+use Rattle.host_io.specs.declared.role.Role.TheVariants.{Cnf, Order, Buckets, Schedule, ProofIn, ProofOut, Made, Out, Err as ErrRole}
 use Rattle.host_io.specs.declared.source.Failed.{Failed}
 use Rattle.host_io.specs.Channel.{Channel}
 use Rattle.host_io.specs.Files.{Files, FilesBut, Opens, Others, Kept}
 use Rattle.schedule_plan.specs.declared.plan.Move.{Move}
 use Rattle.term_runner.specs.declared.outcome.Run.{Run as Ending}
 use Rattle.term_runner.specs.declared.error.RunError.{RunError}
-use Rattle.command_line.specs.Command.{ToBench, ToMake}
+use Rattle.command_line.specs.Command.{ToBench, ToMake, ToOrder}
 use Rattle.solver_cli.specs.declared.status.Status.{Status}
 use Rattle.solver_cli.specs.declared.status.Status.TheVariants.{WriteFault, OutOfMemory}
-use Rattle.solver_cli.specs.Answer.{AreOfBoard, ending_text}
+use Rattle.solver_cli.specs.Answer.{AreOfBoard, IsOrderOf, ending_text}
 use Rattle.solver_cli.specs.ExitCode.{status_of_run}
-use Rattle.solver_cli.specs.MadeText.{made_text}
-use Rattle.solver_cli.specs.Phases.{WritesProof, PutsText}
-use Rattle.solver_cli.specs.Stages.{Job, LeavesInputs, NoneRead, streams_of, bench_job, CameToAnswer, CameToBench, CameToMake, status_after}
-use Rattle.solver_cli.specs.Stages.{status_of_written}
-use Rattle.solver_cli.proofs.Staged.{still_written, printed_from}
+use Rattle.solver_cli.specs.MadeText.{made_text, order_line}
+use Rattle.solver_cli.specs.Phases.{TakesFormula, WritesProof, PutsText}
+use Rattle.solver_cli.specs.Stages.{Job, LeavesInputs, NoneRead, FormulaAlone, streams_of, bench_job, CameToAnswer, CameToArrange, CameToBench}
+use Rattle.solver_cli.specs.Stages.{CameToMake, CameToWrite, status_after, status_of_written}
+use Rattle.solver_cli.proofs.Staged.{still_taken, still_written, printed_from}
 
 by_proof : {old new : Role → Channel} → Others ProofOut old new → LeavesInputs old new
 by_proof beside = record {
   cnf = beside Cnf refl;
   order = beside Order refl;
+  buckets = beside Buckets refl;
   schedule = beside Schedule refl;
   judged = beside ProofIn refl;
   made = beside Made refl;
@@ -35,6 +36,7 @@ by_out : {old new : Role → Channel} → Others Out old new → LeavesInputs ol
 by_out beside = record {
   cnf = beside Cnf refl;
   order = beside Order refl;
+  buckets = beside Buckets refl;
   schedule = beside Schedule refl;
   judged = beside ProofIn refl;
   made = beside Made refl;
@@ -45,6 +47,7 @@ then : {a b c : Role → Channel} → LeavesInputs a b → LeavesInputs b c → 
 then p q = record {
   cnf = q.cnf ∙ p.cnf;
   order = q.order ∙ p.order;
+  buckets = q.buckets ∙ p.buckets;
   schedule = q.schedule ∙ p.schedule;
   judged = q.judged
       ∙ p.judged;
@@ -143,7 +146,13 @@ benched {problem = problem} {order = order} {moves = moves} old new board leaves
   order = order;
   moves = moves;
   board = board;
-  none_read = record { cnf = leaves.cnf; order = leaves.order; schedule = leaves.schedule; judged = leaves.judged };
+  none_read = record {
+    cnf = leaves.cnf;
+    order = leaves.order;
+    buckets = leaves.buckets;
+    schedule = leaves.schedule;
+    judged = leaves.judged;
+  };
   made = leaves.made;
   came = came;
 })
@@ -152,6 +161,7 @@ none_read : {old new : Role → Channel} → Others Made old new → NoneRead (s
 none_read beside = record {
   cnf = beside Cnf refl;
   order = beside Order refl;
+  buckets = beside Buckets refl;
   schedule = beside Schedule refl;
   judged = beside ProofIn refl;
 }
@@ -159,38 +169,91 @@ none_read beside = record {
 both_calls : {a b c : Role → Channel} → Others Made a b → Others Made b c → Others Made a c
 both_calls first second role other = second role other ∙ first role other
 
-pub file_uncreated : {tells : Bool} {task : ToMake} {answer : Result ⊤ Failed} (old new : Role → Channel)
-    → Opens (old Made) (new Made) task.file answer → IsErr answer → Others Made old new
-    → CameToMake tells (streams_of old) (streams_of new) task WriteFault
-file_uncreated {answer = answer} old new opens failed beside = inr (inl (record {
+-- the text's file was not created
+pub file_uncreated : {tells : Bool} {file text : List ℕ} {answer : Result ⊤ Failed} {old new : Channel}
+    → Opens old new file answer → IsErr answer → CameToWrite tells old new file text WriteFault
+file_uncreated {answer = answer} opens failed = inl (record { answer = answer; failed = failed; opens = opens; ends = refl })
+
+-- it was created, and the text was written or not
+pub written : {tells : Bool} {file text : List ℕ} {answer put : Result ⊤ Failed} {status : Status} {old created new : Channel}
+    → Opens old created file answer → IsOk answer → PutsText tells created new text put → status ≡ status_of_written put
+    → CameToWrite tells old new file text status
+written {answer = answer} {put = put} {created = created} opens done puts ends = inr (record {
+  created = created;
+  created_answer = answer;
+  done = done;
+  opens = opens;
+  written = put;
+  puts = puts;
+  ends = ends;
+})
+
+-- the board was made, and its text written or not
+pub board_made : {tells : Bool} {task : ToMake} {status : Status} (old new : Role → Channel) → Others Made old new
+    → CameToWrite tells (old Made) (new Made) task.file (made_text task.part task.size) status
+    → CameToMake tells (streams_of old) (streams_of new) task status
+board_made old new beside came = inr (record {
   none_read = none_read beside;
   proof = beside ProofOut refl;
   out = beside Out refl;
-  answer = answer;
-  failed = failed;
-  opens = opens;
-  ends = refl;
-}))
+  came = came;
+})
 
-pub written : {tells : Bool} {task : ToMake} {answer put : Result ⊤ Failed} {status : Status} (old created new : Role → Channel)
+pub board_text : {tells : Bool} {task : ToMake} {answer put : Result ⊤ Failed} {status : Status} (old created new : Role → Channel)
     → Opens (old Made) (created Made) task.file answer → IsOk answer → Others Made old created
     → PutsText tells (created Made) (new Made) (made_text task.part task.size) put → Others Made created new → status
-    ≡ status_of_written put
-    → CameToMake tells (streams_of old) (streams_of new) task status
-written {answer = answer} {put = put} old created new opens done creates puts beside ends =
-    let both = both_calls creates beside in
-    inr (inr (record {
-      none_read = none_read both;
-      proof = both ProofOut refl;
-      out = both Out refl;
-      created = created Made;
-      created_answer = answer;
-      done = done;
-      opens = opens;
-      written = put;
-      puts = puts;
-      ends = ends;
+    ≡ status_of_written put → CameToMake tells (streams_of old) (streams_of new) task status
+board_text old created new opens done creates puts beside ends =
+    board_made old new (both_calls creates beside) (written opens done puts ends)
+
+-- the formula was taken, and no other file is read
+formula_alone : {old taken new : Role → Channel} → Others Cnf old taken → Others Made taken new
+    → FormulaAlone (streams_of old) (streams_of new)
+formula_alone takes beside = record {
+  order = beside Order refl ∙ takes Order refl;
+  buckets = beside Buckets refl ∙ takes Buckets refl;
+  schedule = beside Schedule refl ∙ takes Schedule refl;
+  judged = beside ProofIn refl ∙ takes ProofIn refl;
+  proof = beside ProofOut refl ∙ takes ProofOut refl;
+  out = beside Out refl ∙ takes Out refl;
+}
+
+-- memory for the order ran out
+pub unarranged : {tells : Bool} {task : ToOrder} {problem : Formula} {files : Files} {status : Status} (old taken : Role → Channel)
+    → TakesFormula task.mode tells (old Cnf) (taken Cnf) files task.file (Ok problem) → Others Cnf old taken → status ≡ OutOfMemory
+    → CameToArrange tells (streams_of old) (streams_of taken) files task status
+unarranged {problem = problem} old taken takes beside ends = inr (inl (record {
+  problem = problem;
+  takes = takes;
+  alone = formula_alone beside (λ role other. refl);
+  made = beside Made refl;
+  ends = ends;
+}))
+
+-- the order was made, and its text written or not
+pub arranged : {tells : Bool} {task : ToOrder} {problem : Formula} {order : List ℕ} {files : Files} {status : Status} (old taken new : Role
+    → Channel) → TakesFormula task.mode tells (old Cnf) (taken Cnf) files task.file (Ok problem) → Others Cnf old taken
+    → IsOrderOf problem.vars order → Others Made taken new
+    → CameToWrite tells (taken Made) (new Made) task.out (order_line order) status
+    → CameToArrange tells (streams_of old) (streams_of new) files task status
+arranged {tells = tells} {task = task} {problem = problem} {order = order} {status = status} old taken new takes beside_taken ordered beside_new
+    came = inr (inr (record {
+      problem = problem;
+      takes = still_taken task.mode (beside_new Cnf refl) takes;
+      alone = formula_alone beside_taken beside_new;
+      order = order;
+      ordered = ordered;
+      came = subst (λ (c : Channel). CameToWrite tells c (new Made) task.out (order_line order) status) (beside_taken Made refl) came;
     }))
+
+pub order_text : {tells : Bool} {task : ToOrder} {problem : Formula} {order : List ℕ} {files : Files} {answer put : Result ⊤ Failed}
+    {status : Status} (old taken created new : Role → Channel)
+    → TakesFormula task.mode tells (old Cnf) (taken Cnf) files task.file (Ok problem) → Others Cnf old taken → IsOrderOf problem.vars order
+    → Opens (taken Made) (created Made) task.out answer → IsOk answer → Others Made taken created
+    → PutsText tells (created Made) (new Made) (order_line order) put → Others Made created new → status ≡ status_of_written put
+    → CameToArrange tells (streams_of old) (streams_of new) files task status
+order_text old taken created new takes beside_taken ordered opens done creates puts beside ends =
+    arranged old taken new takes beside_taken ordered (both_calls creates beside) (written opens done puts ends)
 
 -- no file but the text's was changed
 pub files_made : {old created new : Role → Channel} {before created_files new_files : Files}

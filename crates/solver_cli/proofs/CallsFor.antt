@@ -3,7 +3,7 @@ use Rattle.std.proofs.Common.{◌≡◌, ℕ, List, refl, sym, ap, ap₂, ◌∙
 use Rattle.std.specs.Prelude.{Option}
 use Rattle.cnf_base.specs.Formula.{Formula}
 use Rattle.host_io.specs.Files.{Files}
-use Rattle.host_io.specs.declared.role.Role.TheVariants.{Cnf, Order, Schedule, ProofIn, ProofOut, Made, Out, Err}
+use Rattle.host_io.specs.declared.role.Role.TheVariants.{Cnf, Order, Buckets, Schedule, ProofIn, ProofOut, Made, Out, Err}
 use Rattle.dimacs_reader.specs.Cnf.{CnfText, formula, refusal, overlong, cnf}
 use Rattle.lrat_checker.specs.TextVerdict.{text_verdict}
 use Rattle.lrat_checker.specs.declared.verdict.Verdict.{Verdict}
@@ -12,12 +12,14 @@ use Rattle.schedule_plan.specs.OrderText.{OrderText, order as given_order, refus
 use Rattle.schedule_plan.specs.ScheduleText.{ScheduleText, plan as given_plan, refusal as schedule_refusal, overlong as overlong_schedule}
 use Rattle.schedule_plan.specs.ScheduleText.{schedule}
 use Rattle.schedule_plan.specs.declared.plan.Move.{Move}
-use Rattle.command_line.specs.Command.{Command, Solve, Check, Bench, Make, Planned, ByName, ByFile, formula_file, mode_of, command}
+use Rattle.command_line.specs.Command.{Command, ToOrder, Solve, Check, Bench, Make, Arrange, Planned, ByName, ByFile, ByBuckets, Found}
+use Rattle.command_line.specs.Command.{formula_file, mode_of, command}
 use Rattle.solver_cli.specs.declared.status.Status.{Status}
 use Rattle.solver_cli.specs.declared.status.Status.TheVariants.{Sat, Unsat, Unknown, Verified, NotVerified, Done, Help, Usage, CnfRefused}
-use Rattle.solver_cli.specs.declared.status.Status.TheVariants.{OrderRefused, PlanRefused, TooLong, ReadFault, WriteFault, OutOfMemory}
+use Rattle.solver_cli.specs.declared.status.Status.TheVariants.{OrderRefused, BucketsRefused, PlanRefused, TooLong, ReadFault, WriteFault, OutOfMemory}
 use Rattle.solver_cli.specs.Answer.{AreGiven, IsRead, IsOrdered, IsPlanned}
-use Rattle.solver_cli.specs.Headline.{Run, GivesCommand, GivesMake, AsksOver, AsksFor, AsksByOrder, AsksBySchedule, AsksToJudge, HasVerdict}
+use Rattle.solver_cli.specs.Headline.{Run, GivesCommand, GivesMake, AsksOver, AsksFor, AsksByOrder, AsksByBuckets, AsksBySchedule}
+use Rattle.solver_cli.specs.Headline.{AsksToJudge, HasVerdict}
 use Rattle.solver_cli.specs.Headline.{CallsFor}
 use Rattle.solver_cli.proofs.Facts.{one_text, same_command}
 
@@ -32,6 +34,11 @@ abbrev pub by_order : OrderText → (List ℕ → Option Status) → Option Stat
 by_order (given_order order) next = next order
 by_order (order_refusal kind line) next = Some (OrderRefused kind line)
 by_order overlong_order next = Some (TooLong Order)
+
+abbrev pub by_buckets : OrderText → Option Status
+by_buckets (given_order order) = None
+by_buckets (order_refusal kind line) = Some (BucketsRefused kind line)
+by_buckets overlong_order = Some (TooLong Buckets)
 
 abbrev pub by_schedule : ScheduleText → Option Status
 by_schedule (given_plan moves) = None
@@ -55,6 +62,8 @@ text_named run (Some file) = run.files file
 abbrev pub after_order : Run → Planned → Formula → Option Status
 after_order run (ByName name) problem = None
 after_order run (ByFile file) problem = in_file (run.files file) (λ bytes. by_schedule (schedule problem bytes))
+after_order run (ByBuckets file) problem = in_file (run.files file) (λ bytes. by_buckets (order_text problem.vars bytes))
+after_order run Found problem = None
 
 abbrev pub with_order : Run → Option (List ℕ) → Formula → (List ℕ → Option Status) → Option Status
 with_order run None problem next = next (natural problem.vars)
@@ -64,6 +73,7 @@ abbrev pub after_formula : Run → Command → Formula → Option Status
 after_formula run (Solve task) problem = with_order run task.order problem (λ order. after_order run task.plan problem)
 after_formula run (Bench task) problem = None
 after_formula run (Make task) problem = None
+after_formula run (Arrange task) problem = None
 after_formula run (Check task) problem = in_file (run.files task.proof) (λ bytes. by_proof (text_verdict problem.clauses bytes))
 
 abbrev pub by_words : Run → Option Command → Option Status
@@ -108,6 +118,13 @@ by_its_order run problem text a =
     ∙ ap (λ (file : Option (List ℕ)). with_order run file problem (λ order. after_order run a.task.plan problem)) a.named
     ∙ reads run.files (λ t. by_order t (λ order. after_order run a.task.plan problem)) a.read
 
+by_its_buckets : (run : Run) (problem : Formula) (text : OrderText) → AsksByBuckets run problem text → refusal_due run ≡ by_buckets text
+by_its_buckets run problem text a =
+    asks run (Solve a.task) (formula problem) a.asks
+    ∙ ordered run a.task.order problem a.order (after_order run a.task.plan problem) a.ordered
+    ∙ ap (λ (plan : Planned). after_order run plan problem) a.named
+    ∙ reads run.files by_buckets a.read
+
 by_its_schedule : (run : Run) (problem : Formula) (text : ScheduleText) → AsksBySchedule run problem text → refusal_due run
     ≡ by_schedule text
 by_its_schedule run problem text a =
@@ -134,9 +151,11 @@ called run Help is = absurd is
 called run Usage is = absurd is
 called run (CnfRefused kind line) is = asks run is.0 (refusal kind line) is.1
 called run (OrderRefused kind line) is = by_its_order run is.0 (order_refusal kind line) is.1
+called run (BucketsRefused kind line) is = by_its_buckets run is.0 (order_refusal kind line) is.1
 called run (PlanRefused kind line) is = by_its_schedule run is.0 (schedule_refusal kind line) is.1
 called run (TooLong Cnf) is = asks run is.0 overlong is.1
 called run (TooLong Order) is = by_its_order run is.0 overlong_order is.1
+called run (TooLong Buckets) is = by_its_buckets run is.0 overlong_order is.1
 called run (TooLong Schedule) is = by_its_schedule run is.0 overlong_schedule is.1
 called run (TooLong ProofIn) is = to_judge run is.0 is.1 is.2 ∙ ap by_proof is.3
 called run (TooLong ProofOut) is = absurd is
@@ -160,23 +179,31 @@ pub one_call : (run : Run) (status other : Status) → CallsFor run status → C
 one_call run status other here there = same_some (called run status here) (called run other there)
 
 -- none is where all texts are accepted
-planned : (run : Run) (plan : Planned) (problem : Formula) (order : List ℕ) (moves : List Move)
-    → IsPlanned run.files plan problem order moves → after_order run plan problem ≡ None
-planned run (ByName name) problem order moves is = refl
-planned run (ByFile file) problem order moves is = reads run.files by_schedule is
+planned : (run : Run) (plan : Planned) (problem : Formula) (given order : List ℕ) (moves : List Move)
+    → IsPlanned run.files plan problem given order moves → after_order run plan problem ≡ None
+planned run (ByName name) problem given order moves is = refl
+planned run (ByFile file) problem given order moves is = reads run.files by_schedule is.1
+planned run (ByBuckets file) problem given order moves is = reads run.files by_buckets is.1.read
+planned run Found problem given order moves is = refl
 
 pub no_call : (run : Run) (problem : Formula) → AsksFor run problem → (status : Status) → CallsFor run status → ⊥
 no_call run problem a status is = some_none (called run status is) (due a.by.asked a.by.command a.by.given) where
   due : (asked : Command) → command run.words ≡ Some asked → AreGiven run.files asked problem a.order a.moves → refusal_due run ≡ None
   due (Solve task) gives given =
       asks run (Solve task) (formula problem) (record { command = gives; file = task.file; named = refl; read = given.read })
-      ∙ ordered run task.order problem a.order (after_order run task.plan problem) given.ordered
-      ∙ planned run task.plan problem a.order a.moves given.planned
+      ∙ ordered run task.order problem given.given (after_order run task.plan problem) given.ordered
+      ∙ planned run task.plan problem given.given a.order a.moves given.planned
   due (Check task) gives given = absurd given
   due (Bench task) gives given = ap (by_words run) gives
   due (Make task) gives given = absurd given
+  due (Arrange task) gives given = absurd given
 
--- or where a text is made
+-- or where an order is made of a formula that is accepted
+pub no_call_arranged : (run : Run) (task : ToOrder) (problem : Formula) → AsksOver run (Arrange task) (formula problem) → (status : Status)
+    → CallsFor run status → ⊥
+no_call_arranged run task problem a status is = some_none (called run status is) (asks run (Arrange task) (formula problem) a)
+
+-- or where a board's text is made
 pub no_call_made : (run : Run) → GivesMake run → (status : Status) → CallsFor run status → ⊥
 no_call_made run given status is = some_none (called run status is) (ap (by_words run) given.1)
 
@@ -198,9 +225,11 @@ calls_give run Help is = absurd is
 calls_give run Usage is = absurd is
 calls_give run (CnfRefused kind line) is = (is.0, is.1.command)
 calls_give run (OrderRefused kind line) is = (Solve is.1.task, is.1.asks.command)
+calls_give run (BucketsRefused kind line) is = (Solve is.1.task, is.1.asks.command)
 calls_give run (PlanRefused kind line) is = (Solve is.1.task, is.1.asks.command)
 calls_give run (TooLong Cnf) is = (is.0, is.1.command)
 calls_give run (TooLong Order) is = (Solve is.1.task, is.1.asks.command)
+calls_give run (TooLong Buckets) is = (Solve is.1.task, is.1.asks.command)
 calls_give run (TooLong Schedule) is = (Solve is.1.task, is.1.asks.command)
 calls_give run (TooLong ProofIn) is = (Check is.2.task, is.2.asks.command)
 calls_give run (TooLong ProofOut) is = absurd is

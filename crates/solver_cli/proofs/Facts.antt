@@ -12,8 +12,8 @@ use Rattle.dimacs_reader.specs.Cnf.{CnfText, formula}
 use Rattle.solver_cli.specs.declared.status.Status.{Status}
 use Rattle.solver_cli.specs.declared.status.Status.TheVariants.{WriteFault, OutOfMemory}
 use Rattle.solver_cli.specs.ErrorText.{is_answer}
-use Rattle.command_line.specs.Command.{Command, ToSolve, ToCheck, ToMake, Solve, Check, Make, formula_file, Meaning, Asks, AsksHelp}
-use Rattle.command_line.specs.Command.{Misuse, IsOneOf, MayMean, CanOnlyMean, meanings, only_command, command}
+use Rattle.command_line.specs.Command.{Command, ToSolve, ToCheck, ToMake, ToOrder, Solve, Check, Make, Arrange, formula_file, Meaning, Asks}
+use Rattle.command_line.specs.Command.{AsksHelp, Misuse, IsOneOf, MayMean, CanOnlyMean, meanings, only_command, command}
 use Rattle.solver_cli.specs.ExitCode.{status_of_run}
 use Rattle.solver_cli.specs.Headline.{decides}
 
@@ -77,6 +77,17 @@ decided_apart here is there never = true≢false (sym is ∙ ap decides (same_co
 pub checks_apart : {words : Option Command} {task : ToCheck} {other : ToMake} → words ≡ Some (Check task) → words ≡ Some (Make other) → ⊥
 checks_apart {task = task} {other = other} here there = apart (sym here ∙ there) where
   apart : ◌≡◌ {A = Option Command} (Some (Check task)) (Some (Make other)) → ⊥
+  apart e = cc
+
+pub checks_no_order : {words : Option Command} {task : ToCheck} {other : ToOrder} → words ≡ Some (Check task) → words ≡ Some (Arrange other)
+    → ⊥
+checks_no_order {task = task} {other = other} here there = apart (sym here ∙ there) where
+  apart : ◌≡◌ {A = Option Command} (Some (Check task)) (Some (Arrange other)) → ⊥
+  apart e = cc
+
+pub makes_no_order : {words : Option Command} {task : ToMake} {other : ToOrder} → words ≡ Some (Make task) → words ≡ Some (Arrange other) → ⊥
+makes_no_order {task = task} {other = other} here there = apart (sym here ∙ there) where
+  apart : ◌≡◌ {A = Option Command} (Some (Make task)) (Some (Arrange other)) → ⊥
   apart e = cc
 
 -- words that give a command are not words that give none

@@ -82,6 +82,7 @@ helped run h = go h.shows.printed h.shows.puts h.shows.ends where
       answers = λ problem asked. absurd (no_help run.words asked.by.command h.due);
       judges = λ problem bytes judged has. absurd (no_help run.words has.asked.asks.command h.due);
       makes = λ given. absurd (no_help run.words given.1 h.due);
+      arranges = λ task problem asks. absurd (no_help run.words asks.command h.due);
       refuses = λ status calls. absurd (no_help run.words (calls_give run status calls).1 h.due);
     };
   }

@@ -14,7 +14,7 @@ pub mod Printed
 pub mod Deciding
 pub mod Unjudged
 pub mod Verdicts
-pub mod Boards
+pub mod Texts
 pub mod Served
 pub mod Named
 pub mod Told

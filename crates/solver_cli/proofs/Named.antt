@@ -1,12 +1,13 @@
 -- The names of a run's roles, its files and its standard error.
-use Rattle.std.proofs.Common.{◌≡◌, ℕ, false, List, ◌++◌, refl, sym, ap, ◌∙◌, Some, None, Ok, Err, IsTrue, inl, inr, true≢false}
-use Rattle.std.specs.Prelude.{Result, ⊤, ◌⊎◌, ◌≢◌}
+use Rattle.std.proofs.Common.{◌≡◌, ℕ, Bool, false, List, ◌++◌, refl, sym, ap, ◌∙◌, Some, None, Ok, Err, IsTrue, inl, inr, true≢false}
+use Rattle.std.specs.Prelude.{Option, Result, ⊤, ◌⊎◌, ◌≢◌}
 use Rattle.host_io.specs.Channel.{Channel}
 use Rattle.host_io.specs.declared.role.Role.{Role}
-use Rattle.host_io.specs.declared.role.Role.TheVariants.{Cnf, Order, Schedule, ProofIn, ProofOut, Made, Out, Err as ErrRole}
+use Rattle.host_io.specs.declared.role.Role.TheVariants.{Cnf, Order, Buckets, Schedule, ProofIn, ProofOut, Made, Out, Err as ErrRole}
 use Rattle.host_io.specs.declared.source.Failed.{Failed}
 use Rattle.cnf_base.specs.Formula.{Formula}
-use Rattle.command_line.specs.Command.{Command, ToSolve, ToCheck, ToBench, ToMake, Solve, Check, Bench, Make, formula_file, mode_of}
+use Rattle.command_line.specs.Command.{Command, ToSolve, ToCheck, ToBench, ToMake, ToOrder, Solve, Check, Bench, Make, Arrange, formula_file}
+use Rattle.command_line.specs.Command.{mode_of}
 use Rattle.command_line.specs.Command.{command}
 use Rattle.term_runner.specs.declared.outcome.Outcome.{Outcome}
 use Rattle.term_runner.specs.declared.outcome.Outcome.TheVariants as outcome
@@ -20,12 +21,13 @@ use Rattle.solver_cli.specs.ExitCode.{status_of_run}
 use Rattle.schedule_plan.specs.declared.plan.Move.{Move}
 use Rattle.schedule_plan.specs.declared.order_error.OrderError.{OrderError}
 use Rattle.schedule_plan.specs.declared.schedule.error.PlanError.{PlanError}
-use Rattle.solver_cli.specs.Phases.{HasOrder, HasPlan, Complains}
-use Rattle.solver_cli.specs.Stages.{Streams, FilesBeside, Helped, Job, NoneRead, Untaken, streams_of, Came, CameToAnswer, CameToBench}
-use Rattle.solver_cli.specs.Stages.{CameToCheck, CameToMake, Stages, status_after, status_of_written}
+use Rattle.solver_cli.specs.declared.basis.Basis.{Basis}
+use Rattle.solver_cli.specs.Phases.{HasOrder, HasBuckets, HasPlan, Complains, buckets_file}
+use Rattle.solver_cli.specs.Stages.{Streams, FilesBeside, Helped, Job, NoneRead, Untaken, streams_of, Came, CameToAnswer, CameToArrange}
+use Rattle.solver_cli.specs.Stages.{CameToBench, CameToCheck, CameToMake, CameToWrite, Stages, status_after, status_of_written}
 use Rattle.solver_cli.specs.Headline.{Run, GivesDecision, AsksFor, ErrorStands, NamesAreGiven, name_given, ends_before_proof}
 use Rattle.solver_cli.proofs.Facts.{behind, grown_by}
-use Rattle.solver_cli.proofs.Served.{order_name, plan_name}
+use Rattle.solver_cli.proofs.Served.{order_name, buckets_name, plan_name}
 use Rattle.solver_cli.proofs.Accepted.{Posed, asks_for, decision, posed_by_board, posed_by_files}
 
 -- a role has no name, or the one that the words give it
@@ -44,6 +46,7 @@ IsFinished run = (run.after Made).name ≢ None → (run.status ≡ Done) ⊎ (r
 pub record StreamNames (run : Run) : Type 0 where
   pub cnf : IsNamed run Cnf
   pub order : IsNamed run Order
+  pub buckets : IsNamed run Buckets
   pub schedule : IsNamed run Schedule
   pub judged : IsNamed run ProofIn
   pub proof : IsNamed run ProofOut
@@ -85,7 +88,7 @@ record IsUnmade (run : Run) : Type 0 where
 left_made : (run : Run) → run.after Made ≡ run.before Made → (run.before Made).name ≡ None → IsUnmade run
 left_made run same none = let now = name_of same none in record { named = inl now; finished = unnamed_made run now }
 
--- the order's file, and the schedule's
+-- the order's file, that of the buckets, and the schedule's
 given_order : (run : Run) (task : ToSolve) → command run.words ≡ Some (Solve task) → (run.before Order).name ≡ None
     → {result : Result (List ℕ) OrderError} {vars : ℕ}
     → HasOrder vars task.order run.tells (run.before Order) (run.after Order) run.files result → IsNamed run Order
@@ -94,9 +97,17 @@ given_order run task asked unnamed has = elim (order_name task.order has) [
   | inr other ↦ elim other [ inl named ↦ inr (Solve task, asked, named) | inr none ↦ inl none ]
 ]
 
+given_buckets : (run : Run) (task : ToSolve) → command run.words ≡ Some (Solve task) → (run.before Buckets).name ≡ None
+    → {result : Result (Option (List ℕ)) OrderError} {vars : ℕ}
+    → HasBuckets vars (buckets_file task.plan) run.tells (run.before Buckets) (run.after Buckets) run.files result → IsNamed run Buckets
+given_buckets run task asked unnamed has = elim (buckets_name (buckets_file task.plan) has) [
+  | inl same ↦ inl (same ∙ unnamed)
+  | inr other ↦ elim other [ inl named ↦ inr (Solve task, asked, named) | inr none ↦ inl none ]
+]
+
 given_schedule : (run : Run) (task : ToSolve) → command run.words ≡ Some (Solve task) → (run.before Schedule).name ≡ None
-    → {result : Result (List Move) PlanError} {problem : Formula} {order : List ℕ}
-    → HasPlan problem order task.plan run.tells (run.before Schedule) (run.after Schedule) run.files result → IsNamed run Schedule
+    → {result : Result Basis PlanError} {problem : Formula} {given : List ℕ} {buckets : Option (List ℕ)}
+    → HasPlan problem given buckets task.plan run.tells (run.before Schedule) (run.after Schedule) run.files result → IsNamed run Schedule
 given_schedule run task asked unnamed has = elim (plan_name task.plan has) [
   | inl same ↦ inl (same ∙ unnamed)
   | inr other ↦ elim other [ inl named ↦ inr (Solve task, asked, named) | inr none ↦ inl none ]
@@ -159,6 +170,7 @@ record NoneCreated (run : Run) : Type 0 where
 record InputNames (run : Run) : Type 0 where
   pub cnf : IsNamed run Cnf
   pub order : IsNamed run Order
+  pub buckets : IsNamed run Buckets
   pub schedule : IsNamed run Schedule
   pub judged : IsNamed run ProofIn
 
@@ -169,6 +181,7 @@ quiet_names run unnamed none inputs =
     record {
       cnf = inputs.cnf;
       order = inputs.order;
+      buckets = inputs.buckets;
       schedule = inputs.schedule;
       judged = inputs.judged;
       proof = inl proof;
@@ -185,6 +198,7 @@ unread_names : (run : Run) → ((role : Role) → (run.before role).name ≡ Non
 unread_names run unnamed none = record {
   cnf = inl (name_of none.cnf (unnamed Cnf));
   order = inl (name_of none.order (unnamed Order));
+  buckets = inl (name_of none.buckets (unnamed Buckets));
   schedule = inl (name_of none.schedule (unnamed Schedule));
   judged = inl (name_of none.judged (unnamed ProofIn));
 }
@@ -201,6 +215,7 @@ answered_names run unnamed posed asked gives named inputs came =
     record {
       cnf = inputs.cnf;
       order = inputs.order;
+      buckets = inputs.buckets;
       schedule = inputs.schedule;
       judged = inputs.judged;
       proof = names.proof;
@@ -221,6 +236,7 @@ same_names run unnamed same = quiet_names run unnamed
     (unread_names run unnamed (record {
       cnf = ap (λ (s : Streams). s.cnf) same;
       order = ap (λ (s : Streams). s.order) same;
+      buckets = ap (λ (s : Streams). s.buckets) same;
       schedule = ap (λ (s : Streams). s.schedule) same;
       judged = ap (λ (s : Streams). s.judged) same;
     }))
@@ -229,10 +245,17 @@ helped_names : (run : Run) → ((role : Role) → (run.before role).name ≡ Non
     → Helped run.tells run.words (streams_of run.before) (streams_of run.after) run.status → StreamNames run
 helped_names run unnamed h =
     let unmade = left_made run h.made (unnamed Made) in
-    let inputs = unread_names run unnamed (record { cnf = h.cnf; order = h.order; schedule = h.schedule; judged = h.judged }) in
+    let inputs = unread_names run unnamed (record {
+      cnf = h.cnf;
+      order = h.order;
+      buckets = h.buckets;
+      schedule = h.schedule;
+      judged = h.judged;
+    }) in
     record {
       cnf = inputs.cnf;
       order = inputs.order;
+      buckets = inputs.buckets;
       schedule = inputs.schedule;
       judged = inputs.judged;
       proof = inl (name_of h.proof (unnamed ProofOut));
@@ -250,6 +273,7 @@ untaken_names run asked file unnamed gives named u = quiet_names run unnamed (re
     (record {
       cnf = given run asked file gives named u.takes.name;
       order = inl (name_of u.order (unnamed Order));
+      buckets = inl (name_of u.buckets (unnamed Buckets));
       schedule = inl (name_of u.schedule (unnamed Schedule));
       judged = inl (name_of u.judged (unnamed ProofIn));
     })
@@ -261,6 +285,7 @@ solve_names run task unnamed asked (inr (inl u)) = quiet_names run unnamed (reco
     (record {
       cnf = given run (Solve task) task.file asked refl u.takes.name;
       order = given_order run task asked (unnamed Order) u.orders;
+      buckets = inl (name_of u.buckets (unnamed Buckets));
       schedule = inl (name_of u.schedule (unnamed Schedule));
       judged = inl (name_of u.judged (unnamed ProofIn));
     })
@@ -268,14 +293,25 @@ solve_names run task unnamed asked (inr (inr (inl u))) = quiet_names run unnamed
     (record {
       cnf = given run (Solve task) task.file asked refl u.takes.name;
       order = given_order run task asked (unnamed Order) u.orders;
+      buckets = given_buckets run task asked (unnamed Buckets) u.bucketed;
+      schedule = inl (name_of u.schedule (unnamed Schedule));
+      judged = inl (name_of u.judged (unnamed ProofIn));
+    })
+solve_names run task unnamed asked (inr (inr (inr (inl u)))) = quiet_names run unnamed
+    (record { proof = u.proof; made = u.made; out = u.out })
+    (record {
+      cnf = given run (Solve task) task.file asked refl u.takes.name;
+      order = given_order run task asked (unnamed Order) u.orders;
+      buckets = given_buckets run task asked (unnamed Buckets) u.bucketed;
       schedule = given_schedule run task asked (unnamed Schedule) u.plans;
       judged = inl (name_of u.judged (unnamed ProofIn));
     })
-solve_names run task unnamed asked (inr (inr (inr s))) = answered_names run unnamed (posed_by_files run task asked s.prepared)
+solve_names run task unnamed asked (inr (inr (inr (inr s)))) = answered_names run unnamed (posed_by_files run task asked s.prepared)
     (Solve task) asked refl
     (record {
       cnf = given run (Solve task) task.file asked refl s.prepared.takes.name;
       order = given_order run task asked (unnamed Order) s.prepared.orders;
+      buckets = given_buckets run task asked (unnamed Buckets) s.prepared.bucketed;
       schedule = given_schedule run task asked (unnamed Schedule) s.prepared.plans;
       judged = inl (name_of s.prepared.judged (unnamed ProofIn));
     })
@@ -288,6 +324,7 @@ check_names run task unnamed asked (inr (inl u)) = quiet_names run unnamed (reco
     (record {
       cnf = given run (Check task) task.file asked refl u.takes.name;
       order = inl (name_of u.order (unnamed Order));
+      buckets = inl (name_of u.buckets (unnamed Buckets));
       schedule = inl (name_of u.schedule (unnamed Schedule));
       judged = given_judged run task asked u.judges.name;
     })
@@ -296,6 +333,7 @@ check_names run task unnamed asked (inr (inr j)) =
     record {
       cnf = given run (Check task) task.file asked refl j.takes.name;
       order = inl (name_of j.order (unnamed Order));
+      buckets = inl (name_of j.buckets (unnamed Buckets));
       schedule = inl (name_of j.schedule (unnamed Schedule));
       judged = given_judged run task asked j.judges.name;
       proof = inl (name_of j.proof (unnamed ProofOut));
@@ -313,40 +351,70 @@ bench_names run task unnamed asked (inr b) = answered_names run unnamed (posed_b
     (Bench task) asked refl (unread_names run unnamed b.none_read) b.came
 
 -- the text's file has the name that the words give it
-given_made : (run : Run) (task : ToMake) → command run.words ≡ Some (Make task) → ((run.after Made).name ≡ Some task.file)
-    ⊎ ((run.after Made).name ≡ None) → IsNamed run Made
-given_made run task asked (inl some) = inr (Make task, asked, some)
-given_made run task asked (inr none) = inl none
-
-made_names : (run : Run) → ((role : Role) → (run.before role).name ≡ None) → NoneRead (streams_of run.before) (streams_of run.after)
-    → run.after ProofOut ≡ run.before ProofOut → run.after Out ≡ run.before Out
-    → IsNamed run Made → (run.status ≡ Done) ⊎ (run.status ≡ WriteFault) → StreamNames run
-made_names run unnamed none proof out named ends =
-    let inputs = unread_names run unnamed none in
-    record {
-      cnf = inputs.cnf;
-      order = inputs.order;
-      schedule = inputs.schedule;
-      judged = inputs.judged;
-      proof = inl (name_of proof (unnamed ProofOut));
-      made = named;
-      out = inl (name_of out (unnamed Out));
-      read_first = λ _. name_of proof (unnamed ProofOut);
-      accepted = unnamed_proof run (name_of proof (unnamed ProofOut));
-      finished = λ _. ends;
-    }
+given_made : (run : Run) (asked : Command) (file : List ℕ) → command run.words ≡ Some asked → name_given Made asked ≡ Some file
+    → ((run.after Made).name ≡ Some file) ⊎ ((run.after Made).name ≡ None) → IsNamed run Made
+given_made run asked file gives named (inl some) = inr (asked, gives, some ∙ sym named)
+given_made run asked file gives named (inr none) = inl none
 
 written_ends : {status : Status} (written : Result ⊤ Failed) → status ≡ status_of_written written → (status ≡ Done) ⊎ (status ≡ WriteFault)
 written_ends (Ok x) ends = inl ends
 written_ends (Err e) ends = inr ends
 
+write_ends : {tells : Bool} {old new : Channel} {file text : List ℕ} {status : Status} → CameToWrite tells old new file text status
+    → (status ≡ Done) ⊎ (status ≡ WriteFault)
+write_ends (inl u) = inr u.ends
+write_ends (inr w) = written_ends w.written w.ends
+
+write_named : {tells : Bool} {old new : Channel} {file text : List ℕ} {status : Status} → CameToWrite tells old new file text status
+    → (new.name ≡ Some file) ⊎ (new.name ≡ None)
+write_named (inl u) = u.opens.failed u.failed
+write_named (inr w) = inl (w.puts.only.name ∙ w.opens.named w.done)
+
+made_names : (run : Run) (asked : Command) {file text : List ℕ} → ((role : Role) → (run.before role).name ≡ None) → command run.words
+    ≡ Some asked → name_given Made asked ≡ Some file → InputNames run → run.after ProofOut ≡ run.before ProofOut → run.after Out
+    ≡ run.before Out
+    → CameToWrite run.tells (run.before Made) (run.after Made) file text run.status → StreamNames run
+made_names run asked {file = file} unnamed gives named inputs proof out came = record {
+  cnf = inputs.cnf;
+  order = inputs.order;
+  buckets = inputs.buckets;
+  schedule = inputs.schedule;
+  judged = inputs.judged;
+  proof = inl (name_of proof (unnamed ProofOut));
+  made = given_made run asked file gives named (write_named came);
+  out = inl (name_of out (unnamed Out));
+  read_first = λ _. name_of proof (unnamed ProofOut);
+  accepted = unnamed_proof run (name_of proof (unnamed ProofOut));
+  finished = λ _. write_ends came;
+}
+
 make_names : (run : Run) (task : ToMake) → ((role : Role) → (run.before role).name ≡ None) → command run.words ≡ Some (Make task)
     → CameToMake run.tells (streams_of run.before) (streams_of run.after) task run.status → StreamNames run
 make_names run task unnamed asked (inl u) = same_names run unnamed u.same
-make_names run task unnamed asked (inr (inl u)) = made_names run unnamed u.none_read u.proof u.out
-    (given_made run task asked (u.opens.failed u.failed)) (inr u.ends)
-make_names run task unnamed asked (inr (inr w)) = made_names run unnamed w.none_read w.proof w.out
-    (given_made run task asked (inl (w.puts.only.name ∙ w.opens.named w.done))) (written_ends w.written w.ends)
+make_names run task unnamed asked (inr b) = made_names run (Make task) unnamed asked refl (unread_names run unnamed b.none_read) b.proof
+    b.out b.came
+
+arrange_names : (run : Run) (task : ToOrder) → ((role : Role) → (run.before role).name ≡ None) → command run.words ≡ Some (Arrange task)
+    → CameToArrange run.tells (streams_of run.before) (streams_of run.after) run.files task run.status → StreamNames run
+arrange_names run task unnamed asked (inl u) = untaken_names run (Arrange task) task.file unnamed asked refl u
+arrange_names run task unnamed asked (inr (inl u)) = quiet_names run unnamed
+    (record { proof = u.alone.proof; made = u.made; out = u.alone.out })
+    (record {
+      cnf = given run (Arrange task) task.file asked refl u.takes.name;
+      order = inl (name_of u.alone.order (unnamed Order));
+      buckets = inl (name_of u.alone.buckets (unnamed Buckets));
+      schedule = inl (name_of u.alone.schedule (unnamed Schedule));
+      judged = inl (name_of u.alone.judged (unnamed ProofIn));
+    })
+arrange_names run task unnamed asked (inr (inr a)) = made_names run (Arrange task) unnamed asked refl
+    (record {
+      cnf = given run (Arrange task) task.file asked refl a.takes.name;
+      order = inl (name_of a.alone.order (unnamed Order));
+      buckets = inl (name_of a.alone.buckets (unnamed Buckets));
+      schedule = inl (name_of a.alone.schedule (unnamed Schedule));
+      judged = inl (name_of a.alone.judged (unnamed ProofIn));
+    })
+    a.alone.proof a.alone.out a.came
 
 pub stream_names : (run : Run) → ((role : Role) → (run.before role).name ≡ None)
     → Stages run.tells run.words (streams_of run.before) (streams_of run.after) run.files run.status → StreamNames run
@@ -355,7 +423,8 @@ stream_names run unnamed (inr (inl h)) = helped_names run unnamed h
 stream_names run unnamed (inr (inr (inl t))) = solve_names run t.task unnamed t.asked t.came
 stream_names run unnamed (inr (inr (inr (inl c)))) = check_names run c.task unnamed c.asked c.came
 stream_names run unnamed (inr (inr (inr (inr (inl b))))) = bench_names run b.task unnamed b.asked b.came
-stream_names run unnamed (inr (inr (inr (inr (inr m))))) = make_names run m.task unnamed m.asked m.came
+stream_names run unnamed (inr (inr (inr (inr (inr (inl m)))))) = make_names run m.task unnamed m.asked m.came
+stream_names run unnamed (inr (inr (inr (inr (inr (inr a)))))) = arrange_names run a.task unnamed a.asked a.came
 
 -- the names of all roles
 pub names : (run : Run) → StreamNames run → (run.after ErrRole).name ≡ None
@@ -370,6 +439,7 @@ names run streams error files = record {
   each : (role : Role) → IsNamed run role
   each Cnf = streams.cnf
   each Order = streams.order
+  each Buckets = streams.buckets
   each Schedule = streams.schedule
   each ProofIn = streams.judged
   each ProofOut = streams.proof

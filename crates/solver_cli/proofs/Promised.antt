@@ -3,11 +3,11 @@ use Rattle.std.proofs.Common.{◌≡◌, Bool, true, false, [], refl, sym, ap, �
 use Rattle.std.specs.Prelude.{◌⊎◌, ◌≢◌}
 use Rattle.host_io.specs.Channel.{Channel}
 use Rattle.host_io.specs.declared.role.Role.{Role}
-use Rattle.host_io.specs.declared.role.Role.TheVariants.{Cnf, Order, Schedule, ProofIn, ProofOut, Made, Out, Err as ErrRole}
+use Rattle.host_io.specs.declared.role.Role.TheVariants.{Cnf, Order, Buckets, Schedule, ProofIn, ProofOut, Made, Out, Err as ErrRole}
 use Rattle.text_scan.specs.Decides.{gained, gained-none}
 use Rattle.solver_cli.specs.declared.status.Status.{Status}
 use Rattle.solver_cli.specs.declared.status.Status.TheVariants.{Sat, Unsat, Unknown, Verified, NotVerified, Done, Help, Usage, CnfRefused}
-use Rattle.solver_cli.specs.declared.status.Status.TheVariants.{OrderRefused, PlanRefused, TooLong, ReadFault, WriteFault, OutOfMemory}
+use Rattle.solver_cli.specs.declared.status.Status.TheVariants.{OrderRefused, BucketsRefused, PlanRefused, TooLong, ReadFault, WriteFault, OutOfMemory}
 use Rattle.command_line.specs.Command.{Command, AsksHelp, Misuse, command}
 use Rattle.solver_cli.specs.ErrorText.{is_answer}
 use Rattle.solver_cli.specs.Stages.{Streams, streams_of, Misused}
@@ -15,7 +15,7 @@ use Rattle.solver_cli.specs.Headline.{Run, written_in, taken_in, InputFailed, Un
 use Rattle.solver_cli.specs.Headline.{VerdictIsTrue, TextIsMade, MadeStands, GivesMake, IsDue, RefusalsAreDue, IsStillOpen}
 use Rattle.solver_cli.specs.Headline.{FaultsAreCounted, OutputStands, ProofStands, CallsFor, IsComplete}
 use Rattle.solver_cli.proofs.Facts.{behind, grown_by, nothing_more, no_answer, not_unasked, no_misuse, only_misuse, only_help}
-use Rattle.solver_cli.proofs.CallsFor.{one_call, no_call, no_call_judged, calls_give}
+use Rattle.solver_cli.proofs.CallsFor.{one_call, no_call, no_call_arranged, no_call_judged, calls_give}
 
 -- after a read fault no role but standard error gained a byte
 abbrev pub QuietAtFaults : Run → Type 0
@@ -132,6 +132,11 @@ misused run m =
           | inr memory ↦ inr memory
         ];
         makes = λ given unharmed. elim m.ends [ inl faulty ↦ absurd (no_misuse run.words given.1 faulty.1) | inr memory ↦ inr memory ];
+        arranges = λ task problem asks t unharmed. elim m.ends [
+          | inl faulty ↦ absurd
+              (no_misuse run.words asks.command faulty.1)
+          | inr memory ↦ inr memory
+        ];
         refuses = λ status calls t unfailed. elim m.ends [
           | inl faulty ↦ absurd
               (no_misuse run.words (calls_give run status calls).1 faulty.1)
@@ -155,6 +160,7 @@ stops Help = false
 stops Usage = false
 stops (CnfRefused kind line) = true
 stops (OrderRefused kind line) = true
+stops (BucketsRefused kind line) = true
 stops (PlanRefused kind line) = true
 stops (TooLong role) = true
 stops ReadFault = true
@@ -179,6 +185,7 @@ by_stop Help is = cc
 by_stop Usage is = cc
 by_stop (CnfRefused kind line) is = record { unanswered = refl; done = λ e. cc; help = λ e. cc; write = λ e. cc }
 by_stop (OrderRefused kind line) is = record { unanswered = refl; done = λ e. cc; help = λ e. cc; write = λ e. cc }
+by_stop (BucketsRefused kind line) is = record { unanswered = refl; done = λ e. cc; help = λ e. cc; write = λ e. cc }
 by_stop (PlanRefused kind line) is = record { unanswered = refl; done = λ e. cc; help = λ e. cc; write = λ e. cc }
 by_stop (TooLong role) is = record { unanswered = refl; done = λ e. cc; help = λ e. cc; write = λ e. cc }
 by_stop ReadFault is = record { unanswered = refl; done = λ e. cc; help = λ e. cc; write = λ e. cc }
@@ -198,9 +205,11 @@ calls_due run Help is d t = cc
 calls_due run Usage is d t = cc
 calls_due run (CnfRefused kind line) is d t = let by = d.1 t in inr (inr (by.asked, by.asks))
 calls_due run (OrderRefused kind line) is d t = let by = d.1 t in inr (inr (by.problem, by.asks))
+calls_due run (BucketsRefused kind line) is d t = let by = d.1 t in inr (inr (by.problem, by.asks))
 calls_due run (PlanRefused kind line) is d t = let by = d.1 t in inr (inr (by.problem, by.asks))
 calls_due run (TooLong Cnf) is d t = let by = d.1 t in inr (inr (by.asked, by.asks))
 calls_due run (TooLong Order) is d t = let by = d.1 t in inr (inr (by.problem, by.asks))
+calls_due run (TooLong Buckets) is d t = let by = d.1 t in inr (inr (by.problem, by.asks))
 calls_due run (TooLong Schedule) is d t = let by = d.1 t in inr (inr (by.problem, by.asks))
 calls_due run (TooLong ProofIn) is d t = let by = d.1 t in inr (inr (by.problem, by.bytes, by.asked, by.judged))
 calls_due run (TooLong ProofOut) is d t = absurd d
@@ -220,6 +229,7 @@ stopped_complete run asked gives makes halts is failed = record {
   answers = λ problem asks t unharmed. inr (memory t unharmed.0 (no_call run problem asks run.status));
   judges = λ problem bytes judged has t unharmed. inr (memory t unharmed.0 (no_call_judged run problem bytes judged has run.status));
   makes = λ given unharmed. inr (makes given);
+  arranges = λ task problem asks t unharmed. inr (memory t unharmed.0 (no_call_arranged run task problem asks run.status));
   refuses = λ status calls t unfailed. elim (calls_due run run.status halts is t) [
     | inl fault ↦ absurd (unfailed (failed fault))
     | inr more ↦ elim more [ inl wanted ↦ inr wanted | inr called ↦ inl (one_call run run.status status called calls) ]

@@ -1,23 +1,24 @@
 -- The proof that `solve` left is verified by `check`.
-use Rattle.std.proofs.Common.{◌≡◌, ◌<◌, ℕ, ℤ, List, length, refl, sym, ap, ap₂, ◌∙◌, subst, Some, None}
+use Rattle.std.proofs.Common.{◌≡◌, ◌<◌, ℕ, ℤ, List, length, refl, sym, ap, ap₂, ◌∙◌, subst, Some, None, inl, inr}
 use Rattle.std.specs.Prelude.{Option}
 use Rattle.cnf_base.specs.Formula.{Formula}
 use Rattle.dimacs_reader.specs.Cnf.{formula, refusal, overlong, cnf}
 use Rattle.dimacs_reader.specs.declared.mode.Mode.{Mode}
 use Rattle.dimacs_reader.specs.declared.error.CnfKind.{CnfKind}
-use Rattle.host_io.specs.declared.role.Role.TheVariants.{Cnf, Order, Schedule, ProofIn, ProofOut, Made, Out, Err as ErrRole}
+use Rattle.host_io.specs.declared.role.Role.TheVariants.{Cnf, Order, Buckets, Schedule, ProofIn, ProofOut, Made, Out, Err as ErrRole}
 use Rattle.lrat_rules.specs.Run.{verdict}
 use Rattle.lrat_rules.specs.declared.outcome.Reason.{Reason}
 use Rattle.lrat_checker.specs.TextVerdict.{max_bytes, text_verdict}
 use Rattle.solver_cli.specs.declared.status.Status.{Status}
 use Rattle.solver_cli.specs.declared.status.Status.TheVariants.{Sat, Unsat, Unknown, Verified, NotVerified, Done, Help, Usage, CnfRefused}
-use Rattle.solver_cli.specs.declared.status.Status.TheVariants.{OrderRefused, PlanRefused, TooLong, ReadFault, WriteFault, OutOfMemory}
+use Rattle.solver_cli.specs.declared.status.Status.TheVariants.{OrderRefused, BucketsRefused, PlanRefused, TooLong, ReadFault, WriteFault, OutOfMemory}
 use Rattle.command_line.specs.Command.{Command}
 use Rattle.solver_cli.specs.Answer.{AreGiven, AreOfFiles}
 use Rattle.solver_cli.specs.Headline.{Run, written_in, GivesDecision, GivesSolve, AsksOver, AsksToJudge, IsDue, IsShownRefuted, IsRefuted}
 use Rattle.solver_cli.specs.Headline.{Promises}
 use Rattle.solver_cli.specs.SolveThenCheck.{ChecksSolved, MayEnd}
-use Rattle.solver_cli.proofs.Facts.{one_proof, same_command, two_commands, decided_apart, checks_apart, no_misuse, no_help, same_formula}
+use Rattle.solver_cli.proofs.Facts.{one_proof, same_command, two_commands, decided_apart, checks_apart, checks_no_order, no_misuse}
+use Rattle.solver_cli.proofs.Facts.{no_help, same_formula}
 use Rattle.solver_cli.proofs.CallsFor.{same_text}
 use Rattle.solver_cli.proofs.Unjudged.{one_verdict}
 
@@ -92,14 +93,19 @@ ends long_text solved run first second asks = by run.status refl where
   by Verified e = tt
   by (NotVerified line reason) e = let refused = (second.verdict.not_verified line reason e).1 asks.checked_tells in
       none_some shown.refuted.verified (sym (same_verdict refused.has.asked) ∙ refused.refused)
-  by Done e = checks_apart asks.check_asked (second.made e).1.given
+  by Done e = elim (second.made e) [
+    | inl made ↦ checks_apart asks.check_asked made.1.given
+    | inr arranged ↦ checks_no_order asks.check_asked arranged.1.given
+  ]
   by Help e = no_help run.words asks.check_asked (due e)
   by Usage e = no_misuse run.words asks.check_asked (due e)
   by (CnfRefused kind line) e = let refused = (due e).1 asks.checked_tells in accepted kind line refused.asks
   by (OrderRefused kind line) e = unsolved (due e).0
+  by (BucketsRefused kind line) e = unsolved (due e).0
   by (PlanRefused kind line) e = unsolved (due e).0
   by (TooLong Cnf) e = let refused = (due e).1 asks.checked_tells in absurd (not_long refused.asks)
   by (TooLong Order) e = absurd (unsolved (due e).0)
+  by (TooLong Buckets) e = absurd (unsolved (due e).0)
   by (TooLong Schedule) e = absurd (unsolved (due e).0)
   by (TooLong ProofIn) e = let long = (due e).1 asks.checked_tells in
       (refl, long_text problem.clauses bytes (one_verdict run to_judge long.asked ∙ long.judged))

@@ -1,9 +1,9 @@
 -- How the calls of `solve` make its stages.
-use Rattle.std.proofs.Common.{◌≡◌, ℕ, Bool, List, refl, sym, ◌∙◌, subst, Some, None, Ok, Err, inl, inr}
+use Rattle.std.proofs.Common.{◌≡◌, ℕ, Bool, List, refl, sym, ap, ◌∙◌, subst, Some, None, Ok, Err, inl, inr}
 use Rattle.std.specs.Prelude.{Result, Option, ⊤, IsFalse}
 use Rattle.cnf_base.specs.Formula.{Formula}
 use Rattle.host_io.specs.declared.role.Role.{Role}
-use Rattle.host_io.specs.declared.role.Role.TheVariants.{Cnf, Order, Schedule, ProofIn, ProofOut, Made, Out}
+use Rattle.host_io.specs.declared.role.Role.TheVariants.{Cnf, Order, Buckets, Schedule, ProofIn, ProofOut, Made, Out}
 use Rattle.host_io.specs.declared.source.Failed.{Failed}
 use Rattle.host_io.specs.Channel.{Channel}
 use Rattle.host_io.specs.Files.{Files, FilesBut, Opens, Kept, same_role}
@@ -17,8 +17,9 @@ use Rattle.term_runner.specs.declared.outcome.Run.{Run as Ending}
 use Rattle.term_runner.specs.declared.error.RunError.{RunError}
 use Rattle.command_line.specs.Command.{ToSolve, Planned}
 use Rattle.solver_cli.specs.declared.status.Status.{Status}
-use Rattle.solver_cli.specs.ExitCode.{status_of_order, status_of_plan}
-use Rattle.solver_cli.specs.Phases.{TakesFormula, HasOrder, HasPlan, WritesProof, PutsText}
+use Rattle.solver_cli.specs.ExitCode.{status_of_buckets, status_of_order, status_of_plan}
+use Rattle.solver_cli.specs.declared.basis.Basis.{Basis}
+use Rattle.solver_cli.specs.Phases.{TakesFormula, HasOrder, HasBuckets, HasPlan, WritesProof, PutsText, basis_of, buckets_file}
 use Rattle.solver_cli.specs.Stages.{Job, LeavesInputs, streams_of, solve_job, Prepared, Came, CameToAnswer}
 
 -- what was told of a stream that later calls left alone
@@ -60,14 +61,23 @@ order_at {tells = tells} {start = start} {old = old} {new = new} {now = now} {be
     (subst (λ (c : Channel). HasOrder vars file tells start c files result) (sym to)
     (subst (λ (c : Channel). HasOrder vars file tells c new files result) from has))
 
-plan_at : {tells : Bool} {start old new now : Channel} {before files : Files} {problem : Formula} {order : List ℕ} {plan : Planned}
-    {result : Result (List Move) PlanError} → old ≡ start → now ≡ new → files ≡ before
-    → HasPlan problem order plan tells old new files result → HasPlan problem order plan tells start now before result
+buckets_at : {tells : Bool} {start old new now : Channel} {before files : Files} {vars : ℕ} {file : Option (List ℕ)} {result : Result
+    (Option (List ℕ)) OrderError} → old ≡ start → now ≡ new → files ≡ before
+    → HasBuckets vars file tells old new files result → HasBuckets vars file tells start now before result
+buckets_at {tells = tells} {start = start} {old = old} {new = new} {now = now} {before = before} {files = files} {vars = vars} {file = file}
+    {result = result} from to same has =
+    subst (λ (f : Files). HasBuckets vars file tells start now f result) same
+    (subst (λ (c : Channel). HasBuckets vars file tells start c files result) (sym to)
+    (subst (λ (c : Channel). HasBuckets vars file tells c new files result) from has))
+
+plan_at : {tells : Bool} {start old new now : Channel} {before files : Files} {problem : Formula} {given : List ℕ}
+    {buckets : Option (List ℕ)} {plan : Planned} {result : Result Basis PlanError} → old ≡ start → now ≡ new → files ≡ before
+    → HasPlan problem given buckets plan tells old new files result → HasPlan problem given buckets plan tells start now before result
 plan_at {tells = tells} {start = start} {old = old} {new = new} {now = now} {before = before} {files = files} {problem = problem}
-    {order = order} {plan = plan} {result = result} from to same has =
-    subst (λ (f : Files). HasPlan problem order plan tells start now f result) same
-    (subst (λ (c : Channel). HasPlan problem order plan tells start c files result) (sym to)
-    (subst (λ (c : Channel). HasPlan problem order plan tells c new files result) from has))
+    {given = given} {buckets = buckets} {plan = plan} {result = result} from to same has =
+    subst (λ (f : Files). HasPlan problem given buckets plan tells start now f result) same
+    (subst (λ (c : Channel). HasPlan problem given buckets plan tells start c files result) (sym to)
+    (subst (λ (c : Channel). HasPlan problem given buckets plan tells c new files result) from has))
 
 -- The formula was taken.
 pub record Took (mode : Mode) (tells : Bool) (old taken : Role → Channel) (before files : Files) (file : List ℕ)
@@ -77,17 +87,24 @@ pub record Took (mode : Mode) (tells : Bool) (old taken : Role → Channel) (bef
 
 -- And the order was had.
 pub record Orders (tells : Bool) (old taken had : Role → Channel) (before files later : Files) (task : ToSolve) (problem : Formula)
-    (order : List ℕ) : Type 0 where
+    (given : List ℕ) : Type 0 where
   pub took : Took task.mode tells old taken before files task.file problem
-  pub orders : HasOrder problem.vars task.order tells (taken Order) (had Order) files (Ok order)
+  pub orders : HasOrder problem.vars task.order tells (taken Order) (had Order) files (Ok given)
   pub kept : Kept Order None taken had files later
 
+-- And that of the buckets.
+pub record Splits (tells : Bool) (old taken had split : Role → Channel) (before files later after : Files) (task : ToSolve)
+    (problem : Formula) (given : List ℕ) (named : Option (List ℕ)) : Type 0 where
+  pub ordered : Orders tells old taken had before files later task problem given
+  pub bucketed : HasBuckets problem.vars (buckets_file task.plan) tells (had Buckets) (split Buckets) later (Ok named)
+  pub kept : Kept Buckets None had split later after
+
 -- And the plan.
-pub record Plans (tells : Bool) (old taken had made : Role → Channel) (before files later last : Files) (task : ToSolve) (problem : Formula)
-    (order : List ℕ) (moves : List Move) : Type 0 where
-  pub ordered : Orders tells old taken had before files later task problem order
-  pub plans : HasPlan problem order task.plan tells (had Schedule) (made Schedule) later (Ok moves)
-  pub kept : Kept Schedule None had made later last
+pub record Plans (tells : Bool) (old taken had split made : Role → Channel) (before files later after last : Files) (task : ToSolve)
+    (problem : Formula) (given : List ℕ) (named : Option (List ℕ)) (order : List ℕ) (moves : List Move) : Type 0 where
+  pub splits : Splits tells old taken had split before files later after task problem given named
+  pub plans : HasPlan problem given named task.plan tells (split Schedule) (made Schedule) after (Ok (basis_of order moves))
+  pub kept : Kept Schedule None split made after last
 
 -- the order is had of so many variables as the formula has
 pub order_of : {tells : Bool} {old new : Channel} {files : Files} {vars known : ℕ} {file : Option (List ℕ)} {result : Result
@@ -95,6 +112,13 @@ pub order_of : {tells : Bool} {old new : Channel} {files : Files} {vars known : 
     → HasOrder known file tells old new files result
 order_of {tells = tells} {old = old} {new = new} {files = files} {file = file} {result = result} same has = subst
     (λ (v : ℕ). HasOrder v file tells old new files result) same has
+
+pub buckets_of : {tells : Bool} {old new : Channel} {files : Files} {vars known : ℕ} {name file : Option (List ℕ)} {result : Result
+    (Option (List ℕ)) OrderError} → vars ≡ known → name ≡ file → HasBuckets vars name tells old new files result
+    → HasBuckets known file tells old new files result
+buckets_of {tells = tells} {old = old} {new = new} {files = files} {known = known} {name = name} {result = result} same called has = subst
+    (λ (f : Option (List ℕ)). HasBuckets known f tells old new files result) called
+    (subst (λ (v : ℕ). HasBuckets v name tells old new files result) same has)
 
 pub unordered : {tells : Bool} {task : ToSolve} {problem : Formula} {error : OrderError} {status : Status} (old taken new : Role
     → Channel) (before files later : Files)
@@ -108,6 +132,7 @@ unordered {task = task} {problem = problem} {error = error} old taken new before
       takes = still_taken task.mode (kept.others Cnf refl) took.takes;
       error = error;
       orders = order_at (took.kept.others Order refl) refl (same_files took.kept.files) has;
+      buckets = kept.others Buckets refl ∙ took.kept.others Buckets refl;
       schedule = kept.others Schedule refl ∙ took.kept.others Schedule refl;
       judged = kept.others ProofIn refl ∙ took.kept.others ProofIn refl;
       proof = kept.others ProofOut refl ∙ took.kept.others ProofOut refl;
@@ -116,21 +141,22 @@ unordered {task = task} {problem = problem} {error = error} old taken new before
       ends = ends;
     }))
 
-pub unplanned : {tells : Bool} {task : ToSolve} {problem : Formula} {order : List ℕ} {error : PlanError} {status : Status}
+pub unbucketed : {tells : Bool} {task : ToSolve} {problem : Formula} {given : List ℕ} {error : OrderError} {status : Status}
     (old taken had new : Role → Channel) (before files later last : Files)
-    → Orders tells old taken had before files later task problem order
-    → HasPlan problem order task.plan tells (had Schedule) (new Schedule) later (Err error) → Kept Schedule None had new later last
-    → status ≡ status_of_plan error → Came tells (streams_of old) (streams_of new) before task status
-unplanned {task = task} {problem = problem} {order = order} {error = error} old taken had new before files later last o has kept ends =
+    → Orders tells old taken had before files later task problem given
+    → HasBuckets problem.vars (buckets_file task.plan) tells (had Buckets) (new Buckets) later (Err error)
+    → Kept Buckets None had new later last → status ≡ status_of_buckets error → Came tells (streams_of old) (streams_of new) before task status
+unbucketed {task = task} {problem = problem} {given = given} {error = error} old taken had new before files later last o has kept ends =
     let took = o.took in
     inr (inr (inl (record {
       problem = problem;
       takes = still_taken task.mode (kept.others Cnf refl ∙ o.kept.others Cnf refl) took.takes;
-      order = order;
+      given = given;
       orders = order_at (took.kept.others Order refl) (kept.others Order refl) (same_files took.kept.files) o.orders;
       error = error;
-      plans = plan_at (o.kept.others Schedule refl ∙ took.kept.others Schedule refl) refl (same_files o.kept.files
+      bucketed = buckets_at (o.kept.others Buckets refl ∙ took.kept.others Buckets refl) refl (same_files o.kept.files
           ∙ same_files took.kept.files) has;
+      schedule = kept.others Schedule refl ∙ o.kept.others Schedule refl ∙ took.kept.others Schedule refl;
       judged = kept.others ProofIn refl ∙ o.kept.others ProofIn refl ∙ took.kept.others ProofIn refl;
       proof = kept.others ProofOut refl ∙ o.kept.others ProofOut refl ∙ took.kept.others ProofOut refl;
       made = kept.others Made refl ∙ o.kept.others Made refl ∙ took.kept.others Made refl;
@@ -138,30 +164,75 @@ unplanned {task = task} {problem = problem} {order = order} {error = error} old 
       ends = ends;
     })))
 
+-- a role that none of the first three readings is of was left alone by them
+alone_so_far : {tells : Bool} {old taken had split : Role → Channel} {before files later after : Files} {task : ToSolve} {problem : Formula}
+    {given : List ℕ} {named : Option (List ℕ)} → Splits tells old taken had split before files later after task problem given named
+    → (role : Role) → IsFalse (same_role role Cnf) → IsFalse (same_role role Order) → IsFalse (same_role role Buckets) → split role
+    ≡ old role
+alone_so_far s role a b c = s.kept.others role c ∙ s.ordered.kept.others role b ∙ s.ordered.took.kept.others role a
+
+-- and so were the files
+files_so_far : {tells : Bool} {old taken had split : Role → Channel} {before files later after : Files} {task : ToSolve} {problem : Formula}
+    {given : List ℕ} {named : Option (List ℕ)} → Splits tells old taken had split before files later after task problem given named
+    → after ≡ before
+files_so_far s = same_files s.kept.files ∙ same_files s.ordered.kept.files ∙ same_files s.ordered.took.kept.files
+
+pub unplanned : {tells : Bool} {task : ToSolve} {problem : Formula} {given : List ℕ} {named : Option (List ℕ)} {error : PlanError}
+    {status : Status} (old taken had split new : Role → Channel) (before files later after last : Files)
+    → Splits tells old taken had split before files later after task problem given named
+    → HasPlan problem given named task.plan tells (split Schedule) (new Schedule) after (Err error) → Kept Schedule None split new after last
+    → status ≡ status_of_plan error → Came tells (streams_of old) (streams_of new) before task status
+unplanned {task = task} {problem = problem} {given = given} {named = named} {error = error} old taken had split new before files later after
+    last s has kept ends =
+    let o = s.ordered in
+    let took = o.took in
+    inr (inr (inr (inl (record {
+      problem = problem;
+      takes = still_taken task.mode (kept.others Cnf refl ∙ s.kept.others Cnf refl ∙ o.kept.others Cnf refl) took.takes;
+      given = given;
+      orders = order_at (took.kept.others Order refl) (kept.others Order refl ∙ s.kept.others Order refl) (same_files took.kept.files)
+          o.orders;
+      named = named;
+      bucketed = buckets_at (o.kept.others Buckets refl ∙ took.kept.others Buckets refl) (kept.others Buckets refl)
+          (same_files o.kept.files ∙ same_files took.kept.files) s.bucketed;
+      error = error;
+      plans = plan_at (alone_so_far s Schedule refl refl refl) refl (files_so_far s) has;
+      judged = kept.others ProofIn refl ∙ alone_so_far s ProofIn refl refl refl;
+      proof = kept.others ProofOut refl ∙ alone_so_far s ProofOut refl refl refl;
+      made = kept.others Made refl ∙ alone_so_far s Made refl refl refl;
+      out = kept.others Out refl ∙ alone_so_far s Out refl refl refl;
+      ends = ends;
+    }))))
+
 -- all was had, and the inputs were left alone from then on
-prepared : {tells : Bool} {old taken had made new : Role → Channel} {before files later last : Files} {task : ToSolve} {problem : Formula}
-    {order : List ℕ} {moves : List Move}
-    → Plans tells old taken had made before files later last task problem order moves → LeavesInputs made new
+prepared : {tells : Bool} {old taken had split made new : Role → Channel} {before files later after last : Files} {task : ToSolve}
+    {problem : Formula} {given : List ℕ} {named : Option (List ℕ)} {order : List ℕ} {moves : List Move}
+    → Plans tells old taken had split made before files later after last task problem given named order moves → LeavesInputs made new
     → Prepared tells (streams_of old) (streams_of new) before task problem order moves
-prepared {task = task} p leaves =
-    let o = p.ordered in
+prepared {task = task} {given = given} {named = named} p leaves =
+    let s = p.splits in
+    let o = s.ordered in
     let took = o.took in
     record {
-      takes = still_taken task.mode (leaves.cnf ∙ p.kept.others Cnf refl ∙ o.kept.others Cnf refl) took.takes;
-      orders = order_at (took.kept.others Order refl) (leaves.order ∙ p.kept.others Order refl) (same_files took.kept.files) o.orders;
-      plans = plan_at (o.kept.others Schedule refl ∙ took.kept.others Schedule refl) leaves.schedule (same_files o.kept.files
-          ∙ same_files took.kept.files) p.plans;
-      judged = leaves.judged ∙ p.kept.others ProofIn refl ∙ o.kept.others ProofIn refl ∙ took.kept.others ProofIn refl;
-      made = leaves.made ∙ p.kept.others Made refl ∙ o.kept.others Made refl ∙ took.kept.others Made refl;
+      takes = still_taken task.mode (leaves.cnf ∙ p.kept.others Cnf refl ∙ s.kept.others Cnf refl ∙ o.kept.others Cnf refl) took.takes;
+      given = given;
+      orders = order_at (took.kept.others Order refl) (leaves.order ∙ p.kept.others Order refl ∙ s.kept.others Order refl)
+          (same_files took.kept.files) o.orders;
+      named = named;
+      bucketed = buckets_at (o.kept.others Buckets refl ∙ took.kept.others Buckets refl) (leaves.buckets ∙ p.kept.others Buckets refl)
+          (same_files o.kept.files ∙ same_files took.kept.files) s.bucketed;
+      plans = plan_at (alone_so_far s Schedule refl refl refl) leaves.schedule (files_so_far s) p.plans;
+      judged = leaves.judged ∙ p.kept.others ProofIn refl ∙ alone_so_far s ProofIn refl refl refl;
+      made = leaves.made ∙ p.kept.others Made refl ∙ alone_so_far s Made refl refl refl;
     }
 
 -- another role was left alone until then
-pub left_alone : {tells : Bool} {old taken had made : Role → Channel} {before files later last : Files} {task : ToSolve} {problem : Formula}
-    {order : List ℕ} {moves : List Move}
-    → Plans tells old taken had made before files later last task problem order moves
-    → (role : Role) → IsFalse (same_role role Cnf) → IsFalse (same_role role Order) → IsFalse (same_role role Schedule) → made role
-    ≡ old role
-left_alone p role a b c = p.kept.others role c ∙ p.ordered.kept.others role b ∙ p.ordered.took.kept.others role a
+pub left_alone : {tells : Bool} {old taken had split made : Role → Channel} {before files later after last : Files} {task : ToSolve}
+    {problem : Formula} {given : List ℕ} {named : Option (List ℕ)} {order : List ℕ} {moves : List Move}
+    → Plans tells old taken had split made before files later after last task problem given named order moves
+    → (role : Role) → IsFalse (same_role role Cnf) → IsFalse (same_role role Order) → IsFalse (same_role role Buckets)
+    → IsFalse (same_role role Schedule) → made role ≡ old role
+left_alone p role a b c d = p.kept.others role d ∙ alone_so_far p.splits role a b c
 
 -- the answer, told from an earlier state of its streams
 pub answered_from : {tells : Bool} {start old new start_out old_out out : Channel} {problem : Formula} {order : List ℕ} {moves : List Move}
@@ -173,26 +244,26 @@ answered_from {tells = tells} {start = start} {new = new} {old_out = old_out} {o
     subst (λ (c : Channel). CameToAnswer tells start new c out problem order moves job status) same_out
     (subst (λ (c : Channel). CameToAnswer tells c new old_out out problem order moves job status) same came)
 
-pub solved : {tells : Bool} {old taken had made : Role → Channel} {before files later last : Files} {task : ToSolve} {problem : Formula}
-    {order : List ℕ} {moves : List Move} {status : Status} (new : Role → Channel)
-    → Plans tells old taken had made before files later last task problem order moves → LeavesInputs made new
+pub solved : {tells : Bool} {old taken had split made : Role → Channel} {before files later after last : Files} {task : ToSolve}
+    {problem : Formula} {given : List ℕ} {named : Option (List ℕ)} {order : List ℕ} {moves : List Move} {status : Status} (new : Role
+    → Channel) → Plans tells old taken had split made before files later after last task problem given named order moves
+    → LeavesInputs made new
     → CameToAnswer tells (made ProofOut) (new ProofOut) (made Out) (new Out) problem order moves (solve_job task) status
     → Came tells (streams_of old) (streams_of new) before task status
 solved {problem = problem} {order = order} {moves = moves} new p leaves came =
-    inr (inr (inr (record {
+    inr (inr (inr (inr (record {
       problem = problem;
       order = order;
       moves = moves;
       prepared = prepared p leaves;
-      came = answered_from (left_alone p ProofOut refl refl refl) (left_alone p Out refl refl refl) came;
-    })))
+      came = answered_from (left_alone p ProofOut refl refl refl refl) (left_alone p Out refl refl refl refl) came;
+    }))))
 
 -- no file but the proof's was changed
-pub files_left : {tells : Bool} {old taken had made : Role → Channel} {before files later last new_files : Files} {task : ToSolve}
-    {problem : Formula} {order : List ℕ} {moves : List Move} {name : Option (List ℕ)}
-    → Plans tells old taken had made before files later last task problem order moves → FilesBut name last new_files
-    → FilesBut name before new_files
-files_left p answers file own = answers file own ∙ p.kept.files file none_some ∙ p.ordered.kept.files file none_some
-    ∙ p.ordered.took.kept.files file none_some where
-      none_some : {name : List ℕ} → ◌≡◌ {A = Option (List ℕ)} None (Some name) → ⊥
-      none_some e = cc
+pub files_left : {tells : Bool} {old taken had split made : Role → Channel} {before files later after last new_files : Files}
+    {task : ToSolve} {problem : Formula} {given : List ℕ} {named : Option (List ℕ)} {order : List ℕ} {moves : List Move}
+    {name : Option (List ℕ)} → Plans tells old taken had split made before files later after last task problem given named order moves
+    → FilesBut name last new_files → FilesBut name before new_files
+files_left p answers file own = answers file own ∙ p.kept.files file none_some ∙ ap (λ (f : Files). f file) (files_so_far p.splits) where
+  none_some : {name : List ℕ} → ◌≡◌ {A = Option (List ℕ)} None (Some name) → ⊥
+  none_some e = cc

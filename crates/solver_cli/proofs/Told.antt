@@ -5,7 +5,7 @@ use Rattle.host_io.specs.Channel.{Channel}
 use Rattle.host_io.specs.Files.{Files, IsInput, IsCreated}
 use Rattle.host_io.specs.declared.source.Failed.{Failed}
 use Rattle.host_io.specs.declared.role.Role.{Role}
-use Rattle.host_io.specs.declared.role.Role.TheVariants.{Cnf, Order, Schedule, ProofIn, ProofOut, Made, Out, Err as ErrRole}
+use Rattle.host_io.specs.declared.role.Role.TheVariants.{Cnf, Order, Buckets, Schedule, ProofIn, ProofOut, Made, Out, Err as ErrRole}
 use Rattle.lrat_checker.specs.declared.verdict.Verdict.{Verdict}
 use Rattle.cnf_base.specs.Formula.{Formula}
 use Rattle.schedule_plan.specs.declared.plan.Move.{Move}
@@ -13,17 +13,18 @@ use Rattle.term_runner.specs.declared.outcome.Run.{Run as Ending}
 use Rattle.term_runner.specs.declared.error.RunError.{RunError}
 use Rattle.term_runner.specs.declared.error.RunError.TheVariants as run_error
 use Rattle.dimacs_reader.specs.declared.mode.Mode.{Mode}
-use Rattle.command_line.specs.Command.{ToSolve, ToCheck, ToBench, ToMake}
+use Rattle.command_line.specs.Command.{ToSolve, ToCheck, ToBench, ToMake, ToOrder}
 use Rattle.solver_cli.specs.declared.status.Status.{Status}
 use Rattle.solver_cli.specs.declared.status.Status.TheVariants.{Usage, ReadFault, WriteFault, OutOfMemory}
-use Rattle.solver_cli.specs.ExitCode.{status_of_error, status_of_order, status_of_plan, status_of_run, status_of_check}
-use Rattle.solver_cli.specs.Stages.{Streams, streams_of, Misused, Helped, Untaken, Unordered, Unplanned, NoneRead, Job, Solved, Benched}
-use Rattle.solver_cli.specs.Stages.{Unjudged, Judged, Came, CameToAnswer, CameToBench, CameToCheck, CameToMake, Stages, status_of_help}
-use Rattle.solver_cli.specs.Stages.{status_after, status_of_printed, status_of_written}
+use Rattle.solver_cli.specs.ExitCode.{status_of_buckets, status_of_error, status_of_order, status_of_plan, status_of_run, status_of_check}
+use Rattle.solver_cli.specs.Stages.{Streams, streams_of, Misused, Helped, Untaken, Unordered, Unbucketed, Unplanned, NoneRead, Job, Solved}
+use Rattle.solver_cli.specs.Stages.{Benched, Unjudged, Judged, FormulaAlone, Came, CameToAnswer, CameToArrange, CameToBench, CameToCheck}
+use Rattle.solver_cli.specs.Stages.{CameToMake, CameToWrite, Stages, status_of_help, status_after, status_of_printed, status_of_written}
 use Rattle.solver_cli.specs.Headline.{Run, FailuresAreTold, written_in}
 use Rattle.solver_cli.proofs.Facts.{behind, nothing_more}
 use Rattle.solver_cli.proofs.Reading.{ok_err, same_error}
-use Rattle.solver_cli.proofs.Served.{order_served, plan_served}
+use Rattle.solver_cli.specs.Phases.{TakesFormula, buckets_file}
+use Rattle.solver_cli.proofs.Served.{order_served, buckets_served, plan_served}
 use Rattle.solver_cli.proofs.Promised.{QuietAtFaults}
 use Rattle.solver_cli.proofs.Accepted.{accepts_answer}
 use Rattle.solver_cli.proofs.Verdicts.{accepts_verdict}
@@ -32,6 +33,7 @@ use Rattle.solver_cli.proofs.Verdicts.{accepts_verdict}
 pub record IsQuiet (old new : Streams) : Type 0 where
   pub cnf : new.cnf.written ≡ old.cnf.written
   pub order : new.order.written ≡ old.order.written
+  pub buckets : new.buckets.written ≡ old.buckets.written
   pub schedule : new.schedule.written ≡ old.schedule.written
   pub judged : new.judged.written ≡ old.judged.written
   pub proof : new.proof.written ≡ old.proof.written
@@ -43,6 +45,7 @@ pub record Told (old new : Streams) (status : Status) : Type 0 where
   pub quiet : status ≡ ReadFault → IsQuiet old new
   pub cnf : status ≢ ReadFault → new.cnf.faults ≡ old.cnf.faults
   pub order : status ≢ ReadFault → new.order.faults ≡ old.order.faults
+  pub buckets : status ≢ ReadFault → new.buckets.faults ≡ old.buckets.faults
   pub schedule : status ≢ ReadFault → new.schedule.faults ≡ old.schedule.faults
   pub judged : status ≢ ReadFault → new.judged.faults ≡ old.judged.faults
   pub proof : status ≢ WriteFault → new.proof.faults ≡ old.proof.faults
@@ -102,6 +105,7 @@ idle unread same = record {
   quiet = λ e. absurd (unread e);
   cnf = λ _. ap (λ (s : Streams). s.cnf.faults) same;
   order = λ _. ap (λ (s : Streams). s.order.faults) same;
+  buckets = λ _. ap (λ (s : Streams). s.buckets.faults) same;
   schedule = λ _. ap (λ (s : Streams). s.schedule.faults) same;
   judged = λ _. ap (λ (s : Streams). s.judged.faults) same;
   proof = λ _. ap (λ (s : Streams). s.proof.faults) same;
@@ -115,6 +119,7 @@ helped h = record {
   quiet = λ e. absurd (help_read h.shows.printed h.shows.ends e);
   cnf = λ _. faults_of h.cnf;
   order = λ _. faults_of h.order;
+  buckets = λ _. faults_of h.buckets;
   schedule = λ _. faults_of h.schedule;
   judged = λ _. faults_of h.judged;
   proof = λ _. faults_of h.proof;
@@ -128,6 +133,7 @@ untaken u = record {
   quiet = λ _. record {
     cnf = u.takes.written;
     order = written_of u.order;
+    buckets = written_of u.buckets;
     schedule = written_of u.schedule;
     judged = written_of u.judged;
     proof = written_of u.proof;
@@ -136,6 +142,7 @@ untaken u = record {
   };
   cnf = λ differs. u.takes.unfailed (λ e. differs (u.ends ∙ ap status_of_error (same_error e)));
   order = λ _. faults_of u.order;
+  buckets = λ _. faults_of u.buckets;
   schedule = λ _. faults_of u.schedule;
   judged = λ _. faults_of u.judged;
   proof = λ _. faults_of u.proof;
@@ -151,6 +158,7 @@ unordered {task = task} u =
       quiet = λ _. record {
         cnf = u.takes.written;
         order = served.written;
+        buckets = written_of u.buckets;
         schedule = written_of u.schedule;
         judged = written_of u.judged;
         proof = written_of u.proof;
@@ -159,6 +167,33 @@ unordered {task = task} u =
       };
       cnf = λ _. u.takes.unfailed (λ e. ok_err e);
       order = λ differs. served.unfailed (λ e. differs (u.ends ∙ ap status_of_order (same_error e)));
+      buckets = λ _. faults_of u.buckets;
+      schedule = λ _. faults_of u.schedule;
+      judged = λ _. faults_of u.judged;
+      proof = λ _. faults_of u.proof;
+      made = λ _. faults_of u.made;
+      out = λ _. faults_of u.out;
+    }
+
+unbucketed : {tells : Bool} {old new : Streams} {files : Files} {task : ToSolve} {status : Status}
+    → Unbucketed tells old new files task status → Told old new status
+unbucketed {task = task} u =
+    let orders = order_served task.order u.orders in
+    let served = buckets_served (buckets_file task.plan) u.bucketed in
+    record {
+      quiet = λ _. record {
+        cnf = u.takes.written;
+        order = orders.written;
+        buckets = served.written;
+        schedule = written_of u.schedule;
+        judged = written_of u.judged;
+        proof = written_of u.proof;
+        made = written_of u.made;
+        out = written_of u.out;
+      };
+      cnf = λ _. u.takes.unfailed (λ e. ok_err e);
+      order = λ _. orders.unfailed (λ e. ok_err e);
+      buckets = λ differs. served.unfailed (λ e. differs (u.ends ∙ ap status_of_buckets (same_error e)));
       schedule = λ _. faults_of u.schedule;
       judged = λ _. faults_of u.judged;
       proof = λ _. faults_of u.proof;
@@ -170,11 +205,13 @@ unplanned : {tells : Bool} {old new : Streams} {files : Files} {task : ToSolve} 
     → Unplanned tells old new files task status → Told old new status
 unplanned {task = task} u =
     let orders = order_served task.order u.orders in
+    let split = buckets_served (buckets_file task.plan) u.bucketed in
     let plans = plan_served task.plan u.plans in
     record {
       quiet = λ _. record {
         cnf = u.takes.written;
         order = orders.written;
+        buckets = split.written;
         schedule = plans.written;
         judged = written_of u.judged;
         proof = written_of u.proof;
@@ -183,6 +220,7 @@ unplanned {task = task} u =
       };
       cnf = λ _. u.takes.unfailed (λ e. ok_err e);
       order = λ _. orders.unfailed (λ e. ok_err e);
+      buckets = λ _. split.unfailed (λ e. ok_err e);
       schedule = λ differs. plans.unfailed (λ e. differs (u.ends ∙ ap status_of_plan (same_error e)));
       judged = λ _. faults_of u.judged;
       proof = λ _. faults_of u.proof;
@@ -221,6 +259,7 @@ solved {task = task} s =
       quiet = λ e. absurd (answer.unread e);
       cnf = λ _. p.takes.unfailed (λ e. ok_err e);
       order = λ _. (order_served task.order p.orders).unfailed (λ e. ok_err e);
+      buckets = λ _. (buckets_served (buckets_file task.plan) p.bucketed).unfailed (λ e. ok_err e);
       schedule = λ _. (plan_served task.plan p.plans).unfailed (λ e. ok_err e);
       judged = λ _. faults_of p.judged;
       proof = answer.proof;
@@ -235,6 +274,7 @@ benched b =
       quiet = λ e. absurd (answer.unread e);
       cnf = λ _. faults_of b.none_read.cnf;
       order = λ _. faults_of b.none_read.order;
+      buckets = λ _. faults_of b.none_read.buckets;
       schedule = λ _. faults_of b.none_read.schedule;
       judged = λ _. faults_of b.none_read.judged;
       proof = answer.proof;
@@ -249,6 +289,7 @@ only_made unread none proof out made = record {
   quiet = λ e. absurd (unread e);
   cnf = λ _. faults_of none.cnf;
   order = λ _. faults_of none.order;
+  buckets = λ _. faults_of none.buckets;
   schedule = λ _. faults_of none.schedule;
   judged = λ _. faults_of none.judged;
   proof = λ _. faults_of proof;
@@ -264,12 +305,40 @@ written_ok : (written : Result ⊤ Failed) → status_of_written written ≢ Wri
 written_ok (Ok x) differs = refl
 written_ok (Err e) differs = absurd (differs refl)
 
+-- the text's file, whatever the text
+write_unread : {tells : Bool} {old new : Channel} {file text : List ℕ} {status : Status} → CameToWrite tells old new file text status
+    → status ≡ ReadFault → ⊥
+write_unread (inl u) = no_writing u.ends
+write_unread (inr w) = written_read w.written w.ends
+
+write_told : {tells : Bool} {old new : Channel} {file text : List ℕ} {status : Status} → CameToWrite tells old new file text status
+    → status ≢ WriteFault → new.faults ≡ old.faults
+write_told (inl u) differs = absurd (differs u.ends)
+write_told (inr w) differs = w.puts.unfailed (written_ok w.written (λ e. differs (w.ends ∙ e))) ∙ w.opens.faults.unfailed w.done
+
+-- only the formula's file and the text's were called
+formula_and_text : (mode : Mode) {tells : Bool} {old new : Streams} {files : Files} {file : List ℕ} {problem : Formula} {status : Status}
+    → TakesFormula mode tells old.cnf new.cnf files file (Ok problem) → FormulaAlone old new → (status ≡ ReadFault → ⊥)
+    → (status ≢ WriteFault → new.made.faults ≡ old.made.faults) → Told old new status
+formula_and_text mode takes alone unread made = record {
+  quiet = λ e. absurd (unread e);
+  cnf = λ _. takes.unfailed (λ e. ok_err e);
+  order = λ _. faults_of alone.order;
+  buckets = λ _. faults_of alone.buckets;
+  schedule = λ _. faults_of alone.schedule;
+  judged = λ _. faults_of alone.judged;
+  proof = λ _. faults_of alone.proof;
+  made = made;
+  out = λ _. faults_of alone.out;
+}
+
 unjudged : {tells : Bool} {old new : Streams} {files : Files} {task : ToCheck} {status : Status} → Unjudged tells old new files task status
     → Told old new status
 unjudged u = record {
   quiet = λ _. record {
     cnf = u.takes.written;
     order = written_of u.order;
+    buckets = written_of u.buckets;
     schedule = written_of u.schedule;
     judged = u.judges.written;
     proof = written_of u.proof;
@@ -278,6 +347,7 @@ unjudged u = record {
   };
   cnf = λ _. u.takes.unfailed (λ e. ok_err e);
   order = λ _. faults_of u.order;
+  buckets = λ _. faults_of u.buckets;
   schedule = λ _. faults_of u.schedule;
   judged = λ differs. u.judges.unfailed (λ e. differs (u.ends ∙ ap status_of_check (same_error e)));
   proof = λ _. faults_of u.proof;
@@ -291,6 +361,7 @@ judged j = record {
   quiet = λ e. absurd (verdict_read j.verdict j.printed j.ends e);
   cnf = λ _. j.takes.unfailed (λ e. ok_err e);
   order = λ _. faults_of j.order;
+  buckets = λ _. faults_of j.buckets;
   schedule = λ _. faults_of j.schedule;
   judged = λ _. j.judges.unfailed (λ e. cc);
   proof = λ _. faults_of j.proof;
@@ -302,8 +373,9 @@ came : {tells : Bool} {old new : Streams} {files : Files} {task : ToSolve} {stat
     → Told old new status
 came (inl u) = untaken u
 came (inr (inl u)) = unordered u
-came (inr (inr (inl u))) = unplanned u
-came (inr (inr (inr s))) = solved s
+came (inr (inr (inl u))) = unbucketed u
+came (inr (inr (inr (inl u)))) = unplanned u
+came (inr (inr (inr (inr s)))) = solved s
 
 came_to_check : {tells : Bool} {old new : Streams} {files : Files} {task : ToCheck} {status : Status}
     → CameToCheck tells old new files task status → Told old new status
@@ -319,9 +391,13 @@ came_to_bench (inr b) = benched b
 came_to_make : {tells : Bool} {old new : Streams} {task : ToMake} {status : Status} → CameToMake tells old new task status
     → Told old new status
 came_to_make (inl u) = idle (no_memory u.ends) u.same
-came_to_make (inr (inl u)) = only_made (no_writing u.ends) u.none_read u.proof u.out (λ differs. absurd (differs u.ends))
-came_to_make (inr (inr w)) = only_made (written_read w.written w.ends) w.none_read w.proof w.out
-    (λ differs. w.puts.unfailed (written_ok w.written (λ e. differs (w.ends ∙ e))) ∙ w.opens.faults.unfailed w.done)
+came_to_make (inr b) = only_made (write_unread b.came) b.none_read b.proof b.out (write_told b.came)
+
+came_to_arrange : {tells : Bool} {old new : Streams} {files : Files} {task : ToOrder} {status : Status}
+    → CameToArrange tells old new files task status → Told old new status
+came_to_arrange (inl u) = untaken u
+came_to_arrange {task = task} (inr (inl u)) = formula_and_text task.mode u.takes u.alone (no_memory u.ends) (λ _. faults_of u.made)
+came_to_arrange {task = task} (inr (inr a)) = formula_and_text task.mode a.takes a.alone (write_unread a.came) (write_told a.came)
 
 pub told : {tells : Bool} {words : List (List ℕ)} {old new : Streams} {files : Files} {status : Status}
     → Stages tells words old new files status → Told old new status
@@ -330,13 +406,15 @@ told (inr (inl h)) = helped h
 told (inr (inr (inl t))) = came t.came
 told (inr (inr (inr (inl c)))) = came_to_check c.came
 told (inr (inr (inr (inr (inl b))))) = came_to_bench b.came
-told (inr (inr (inr (inr (inr m))))) = came_to_make m.came
+told (inr (inr (inr (inr (inr (inl m)))))) = came_to_make m.came
+told (inr (inr (inr (inr (inr (inr a)))))) = came_to_arrange a.came
 
 pub failures : (run : Run) → Told (streams_of run.before) (streams_of run.after) run.status → FailuresAreTold run
 failures run counts = record { read = read; write = write } where
   read : run.status ≢ ReadFault → (role : Role) → IsInput role → (run.after role).faults ≡ (run.before role).faults
   read differs Cnf is = counts.cnf differs
   read differs Order is = counts.order differs
+  read differs Buckets is = counts.buckets differs
   read differs Schedule is = counts.schedule differs
   read differs ProofIn is = counts.judged differs
   read differs ProofOut is = absurd is
@@ -349,6 +427,8 @@ failures run counts = record { read = read; write = write } where
   write differs Cnf (inr is) = cc
   write differs Order (inl is) = absurd is
   write differs Order (inr is) = cc
+  write differs Buckets (inl is) = absurd is
+  write differs Buckets (inr is) = cc
   write differs Schedule (inl is) = absurd is
   write differs Schedule (inr is) = cc
   write differs ProofIn (inl is) = absurd is
@@ -367,6 +447,7 @@ quiet run counts fault t = each where
   each : (role : Role) → role ≢ ErrRole → written_in run role ≡ []
   each Cnf other = none Cnf (counts.quiet fault).cnf
   each Order other = none Order (counts.quiet fault).order
+  each Buckets other = none Buckets (counts.quiet fault).buckets
   each Schedule other = none Schedule (counts.quiet fault).schedule
   each ProofIn other = none ProofIn (counts.quiet fault).judged
   each ProofOut other = none ProofOut (counts.quiet fault).proof

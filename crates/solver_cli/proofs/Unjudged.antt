@@ -22,7 +22,7 @@ use Rattle.solver_cli.specs.Phases.{JudgesText, JudgesProof}
 use Rattle.solver_cli.specs.Stages.{streams_of, Unjudged}
 use Rattle.solver_cli.specs.Headline.{Run, taken_in, IsUnharmed, AsksOver, AsksToJudge, HasVerdict, IsLongProof, IsOpenProof, CallsFor}
 use Rattle.solver_cli.specs.Headline.{IsComplete}
-use Rattle.solver_cli.proofs.Facts.{one_proof, not_unasked, checks_apart, decided_apart, only_misuse, only_help, same_formula}
+use Rattle.solver_cli.proofs.Facts.{one_proof, not_unasked, checks_apart, checks_no_order, decided_apart, only_misuse, only_help, same_formula}
 use Rattle.solver_cli.proofs.CallsFor.{same_text}
 use Rattle.solver_cli.proofs.Promised.{Core, LeftAlone, refused, short, unread}
 use Rattle.solver_cli.proofs.Deciding.{deciding}
@@ -65,6 +65,7 @@ check_complete run task gives uncalled judges = record {
   answers = λ other asks. let given = deciding run other asks in absurd (decided_apart given.1 given.2 gives refl);
   judges = judges;
   makes = λ given. absurd (checks_apart gives given.1);
+  arranges = λ task problem asks. absurd (checks_no_order gives asks.command);
   refuses = λ status calls t unfailed. absurd (uncalled t status calls);
 }
 
@@ -85,7 +86,7 @@ unjudged laws run task asked u = go u.error u.judges u.ends where
   go : (e : CheckError) → JudgesProof run.tells (run.before ProofIn) (run.after ProofIn) run.files task.proof u.problem.clauses (Err e)
       → run.status ≡ status_of_check e → Core run
   go error.ReadFault judges ends = unread run (Check task) asked (alone ReadFault) ends (ProofIn, tt, judges.fault refl)
-      (λ t. inr (inr (inr (open_proof t)))) where
+      (λ t. inr (inr (inr (inr (open_proof t))))) where
         open_proof : IsTrue run.tells → IsOpenProof run
         open_proof t = record {
           task = task;

@@ -1,11 +1,11 @@
--- What is promised of a run that a text ended: the formula's, the order's or the schedule's.
+-- What is promised of a run that a text ended: the formula's, the order's, that of the buckets' order or the schedule's.
 use Rattle.std.proofs.Common.{◌≡◌, ℕ, List, [], refl, sym, ap, ◌∙◌, Some, None, Ok, Err, IsTrue, inl, inr}
 use Rattle.std.specs.Prelude.{Bool, Option, Result, ◌≢◌}
 use Rattle.cnf_base.specs.Formula.{Formula}
 use Rattle.host_io.specs.Channel.{Channel}
 use Rattle.host_io.specs.Files.{Files, IsInput}
 use Rattle.host_io.specs.declared.role.Role.{Role}
-use Rattle.host_io.specs.declared.role.Role.TheVariants.{Cnf, Order, Schedule, ProofIn, ProofOut, Made, Out, Err as ErrRole}
+use Rattle.host_io.specs.declared.role.Role.TheVariants.{Cnf, Order, Buckets, Schedule, ProofIn, ProofOut, Made, Out, Err as ErrRole}
 use Rattle.dimacs_reader.specs.Cnf.{CnfText, formula, cnf}
 use Rattle.dimacs_reader.specs.declared.mode.Mode.{Mode}
 use Rattle.dimacs_reader.specs.declared.error.CnfError.{CnfError}
@@ -17,15 +17,20 @@ use Rattle.schedule_plan.specs.declared.order_error.OrderError.{OrderError}
 use Rattle.schedule_plan.specs.declared.order_error.OrderError.TheVariants as order_error
 use Rattle.schedule_plan.specs.declared.schedule.error.PlanError.{PlanError}
 use Rattle.schedule_plan.specs.declared.schedule.error.PlanError.TheVariants as plan_error
-use Rattle.command_line.specs.Command.{Command, ToSolve, ToMake, Solve, Make, Planned, ByName, ByFile, formula_file, mode_of, command}
+use Rattle.command_line.specs.Command.{Command, ToSolve, ToMake, Solve, Make, Planned, ByName, ByFile, ByBuckets, Found, formula_file}
+use Rattle.command_line.specs.Command.{mode_of, command}
 use Rattle.solver_cli.specs.declared.status.Status.{Status}
-use Rattle.solver_cli.specs.declared.status.Status.TheVariants.{CnfRefused, OrderRefused, PlanRefused, TooLong, ReadFault, OutOfMemory}
-use Rattle.solver_cli.specs.Answer.{IsRead, IsOrdered, IsPlanned}
-use Rattle.solver_cli.specs.ExitCode.{status_of_error, status_of_order, status_of_plan}
-use Rattle.solver_cli.specs.Phases.{ReadsText, TakesFormula, TakesOrder, TakesSchedule, HasOrder, HasPlan}
-use Rattle.solver_cli.specs.Stages.{streams_of, Untaken, Unordered, Unplanned}
-use Rattle.solver_cli.specs.Headline.{Run, taken_in, AsksOver, IsRefusedBy, OrderIsRefusedBy, ScheduleIsRefusedBy, IsOpenFormula}
-use Rattle.solver_cli.proofs.Reading.{text_read, ok_err}
+use Rattle.solver_cli.specs.declared.status.Status.TheVariants.{CnfRefused, OrderRefused, BucketsRefused, PlanRefused, TooLong}
+use Rattle.solver_cli.specs.declared.status.Status.TheVariants.{ReadFault, OutOfMemory}
+use Rattle.solver_cli.specs.Answer.{AreByBuckets, IsRead, IsOrdered, IsPlanned}
+use Rattle.solver_cli.specs.ExitCode.{status_of_buckets, status_of_error, status_of_order, status_of_plan}
+use Rattle.solver_cli.specs.declared.basis.Basis.{Basis}
+use Rattle.solver_cli.specs.Phases.{ReadsText, TakesFormula, TakesOrder, TakesSchedule, HasOrder, HasBuckets, HasPlan, as_some, basis_of}
+use Rattle.solver_cli.specs.Phases.{buckets_file}
+use Rattle.solver_cli.specs.Stages.{streams_of, Untaken, Unordered, Unbucketed, Unplanned}
+use Rattle.solver_cli.specs.Headline.{Run, taken_in, AsksOver, IsRefusedBy, OrderIsRefusedBy, BucketsAreRefusedBy, ScheduleIsRefusedBy}
+use Rattle.solver_cli.specs.Headline.{IsOpenFormula}
+use Rattle.solver_cli.proofs.Reading.{text_read, ok_err, same_error}
 use Rattle.solver_cli.proofs.Facts.{same_command, decided_apart}
 use Rattle.solver_cli.proofs.Promised.{Core, LeftAlone, refused, short, unread, untouched}
 
@@ -59,6 +64,7 @@ untaken run asked file gives named u = go u.error u.takes u.ends where
     others : (role : Role) → IsInput role → role ≢ Cnf → taken_in run role ≡ []
     others Cnf is other = absurd (other refl)
     others Order is other = untouched run Order u.order
+    others Buckets is other = untouched run Buckets u.buckets
     others Schedule is other = untouched run Schedule u.schedule
     others ProofIn is other = untouched run ProofIn u.judged
     others ProofOut is other = absurd is
@@ -121,13 +127,36 @@ ordered problem None has t = (has.natural refl).made
 ordered problem (Some file) has t = let says = text_read (λ e. ok_err e) (has.named file refl) t in
     record { bytes = says.bytes; stands = says.stands; says = says.told }
 
--- and so is the plan
-pub planned : {tells : Bool} {old new : Channel} {files : Files} {problem : Formula} {order : List ℕ} {moves : List Move} (plan : Planned)
-    → HasPlan problem order plan tells old new files (Ok moves) → IsTrue tells
-    → IsPlanned files plan problem order moves
-planned (ByName name) has t = (has.named name refl).made
-planned (ByFile file) has t = let says = text_read (λ e. ok_err e) (has.scheduled file refl) t in
-    record { bytes = says.bytes; stands = says.stands; says = says.told }
+-- and so are the plan and its order
+pub planned : {tells : Bool} {old_buckets new_buckets old new : Channel} {files : Files} {problem : Formula} {given : List ℕ}
+    {named : Option (List ℕ)} {order : List ℕ} {moves : List Move} (plan : Planned)
+    → HasBuckets problem.vars (buckets_file plan) tells old_buckets new_buckets files (Ok named)
+    → HasPlan problem given named plan tells old new files (Ok (basis_of order moves)) → IsTrue tells
+    → IsPlanned files plan problem given order moves
+planned (ByName name) bucketed has t = let made = (has.named name refl).made in
+    (ap (λ (b : Basis). b.order) made, ap (λ (b : Basis). b.plan) made)
+planned (ByFile file) bucketed has t = let s = has.scheduled file refl in let says = text_read (λ e. ok_err e) s.takes t in
+    (s.order, record { bytes = says.bytes; stands = says.stands; says = says.told })
+planned {tells = tells} {old_buckets = old_buckets} {new_buckets = new_buckets} {files = files} {problem = problem} {given = given}
+    {named = named} {order = order} {moves = moves} (ByBuckets file) bucketed has t =
+    let b = bucketed.named file refl in by b.0 b.1 b.2 where
+      some : {read : List ℕ} → ◌≡◌ {A = Result (Option (List ℕ)) OrderError} (Ok named) (Ok (Some read)) → named ≡ Some read
+      some e = cc
+
+      by : (read : Result (List ℕ) OrderError) → TakesOrder problem.vars tells old_buckets new_buckets files file read
+          → ◌≡◌ {A = Result (Option (List ℕ)) OrderError} (Ok named) (as_some read) → (order ≡ given) × AreByBuckets files file problem moves
+      by (Ok read) takes e =
+          let says = text_read (λ e. ok_err e) takes t in
+          let made = (has.bucketed file refl).made read (some e) in (
+            ap (λ (b : Basis). b.order) made,
+            record {
+              buckets = read;
+              read = record { bytes = says.bytes; stands = says.stands; says = says.told };
+              planned = ap (λ (b : Basis). b.plan) made;
+            },
+          )
+      by (Err error) takes e = absurd (ok_err e)
+planned Found bucketed has t = (has.found refl).found
 
 -- the order was not had
 pub unordered : (run : Run) (task : ToSolve) → command run.words ≡ Some (Solve task)
@@ -178,6 +207,7 @@ unordered run task gives u = by task.order refl u.orders where
           failed = takes.failed refl;
           undecided = takes.undecided t refl;
           before_schedule = untouched run Schedule u.schedule;
+          before_buckets = untouched run Buckets u.buckets;
         })))
     by_error order_error.OutOfMemory takes ends = short run (Solve task) gives (alone OutOfMemory) ends
 
@@ -185,6 +215,77 @@ unordered run task gives u = by task.order refl u.orders where
       (Err u.error) → Core run
   by None named has = short run (Solve task) gives (alone OutOfMemory) (u.ends ∙ ap status_of_order (has.natural refl).refused)
   by (Some file) named has = go file named u.error (has.named file refl) u.ends
+
+-- the order of the buckets was not had
+pub unbucketed : (run : Run) (task : ToSolve) → command run.words ≡ Some (Solve task)
+    → Unbucketed run.tells (streams_of run.before) (streams_of run.after) run.files task run.status → Core run
+unbucketed run task gives u = by task.plan refl u.bucketed where
+  asks : IsTrue run.tells → AsksOver run (Solve task) (formula u.problem)
+  asks = took run (Solve task) task.file u.problem gives refl u.takes
+
+  alone : (status : Status) → LeftAlone run status
+  alone = solve_alone run task gives u.proof u.made u.out
+
+  go : (file : List ℕ) → task.plan ≡ ByBuckets file → (error : OrderError)
+      → TakesOrder u.problem.vars run.tells (run.before Buckets) (run.after Buckets) run.files file (Err error) → run.status
+      ≡ status_of_buckets error → Core run
+  go file named error takes ends = by_error error takes ends where
+    text : {Answer : Result (List ℕ) OrderError → OrderText → Type 0} {result : Result (List ℕ) OrderError} {said : OrderText}
+        → IsTrue run.tells
+        → (says : ReadsText (order_text u.problem.vars) Answer run.files file (taken_in run Buckets) result)
+        → order_text u.problem.vars says.bytes ≡ said → order_text u.problem.vars (taken_in run Buckets) ≡ said
+        → BucketsAreRefusedBy run said
+    text t says told decided = record {
+      problem = u.problem;
+      asks = record {
+        task = task;
+        asks = asks t;
+        order = u.given;
+        ordered = ordered u.problem task.order u.orders t;
+        file = file;
+        named = named;
+        read = record { bytes = says.bytes; stands = says.stands; says = told };
+      };
+      decided = decided;
+    }
+
+    by_error : (error : OrderError) → TakesOrder u.problem.vars run.tells (run.before Buckets) (run.after Buckets) run.files file (Err error)
+        → run.status ≡ status_of_buckets error → Core run
+    by_error (order_error.Refused kind line) takes ends =
+        refused run (Solve task) gives (alone (BucketsRefused kind line)) ends refl (λ e. cc)
+        ((task, gives), λ t. let says = text_read (λ e. cc) takes t in text t says says.told says.decided)
+    by_error order_error.TooLong takes ends =
+        refused run (Solve task) gives (alone (TooLong Buckets)) ends refl (λ e. cc)
+        ((task, gives), λ t. let says = text_read (λ e. cc) takes t in text t says says.told says.decided)
+    by_error order_error.ReadFault takes ends = unread run (Solve task) gives (alone ReadFault) ends (Buckets, tt, takes.failed refl)
+        (λ t. inr (inr (inl (record {
+          task = task;
+          problem = u.problem;
+          asks = asks t;
+          order = u.given;
+          ordered = ordered u.problem task.order u.orders t;
+          file = file;
+          named = named;
+          failed = takes.failed refl;
+          undecided = takes.undecided t refl;
+          before_schedule = untouched run Schedule u.schedule;
+        }))))
+    by_error order_error.OutOfMemory takes ends = short run (Solve task) gives (alone OutOfMemory) ends
+
+  no_file : {error : OrderError} → ◌≡◌ {A = Result (Option (List ℕ)) OrderError} (Err error) (Ok None) → ⊥
+  no_file e = ok_err (sym e)
+
+  by : (plan : Planned) → task.plan ≡ plan
+      → HasBuckets u.problem.vars (buckets_file plan) run.tells (run.before Buckets) (run.after Buckets) run.files (Err u.error) → Core run
+  by (ByName name) named has = absurd (no_file (has.none refl).0)
+  by (ByFile file) named has = absurd (no_file (has.none refl).0)
+  by (ByBuckets file) named has = let b = has.named file refl in from b.0 b.1 b.2 where
+    from : (read : Result (List ℕ) OrderError)
+        → TakesOrder u.problem.vars run.tells (run.before Buckets) (run.after Buckets) run.files file read
+        → ◌≡◌ {A = Result (Option (List ℕ)) OrderError} (Err u.error) (as_some read) → Core run
+    from (Ok order) takes e = absurd (ok_err (sym e))
+    from (Err error) takes e = go file named error takes (u.ends ∙ ap status_of_buckets (same_error e))
+  by Found named has = absurd (no_file (has.none refl).0)
 
 -- the plan was not had
 pub unplanned : (run : Run) (task : ToSolve) → command run.words ≡ Some (Solve task)
@@ -210,7 +311,7 @@ unplanned run task gives u = by task.plan refl u.plans where
       asks = record {
         task = task;
         asks = asks t;
-        order = u.order;
+        order = u.given;
         ordered = ordered u.problem task.order u.orders t;
         file = file;
         named = named;
@@ -228,20 +329,23 @@ unplanned run task gives u = by task.plan refl u.plans where
         refused run (Solve task) gives (alone (TooLong Schedule)) ends refl (λ e. cc)
         ((task, gives), λ t. let says = text_read (λ e. cc) takes t in text t says says.told says.decided)
     by_error plan_error.ReadFault takes ends = unread run (Solve task) gives (alone ReadFault) ends (Schedule, tt, takes.failed refl)
-        (λ t. inr (inr (inl (record {
+        (λ t. inr (inr (inr (inl (record {
           task = task;
           problem = u.problem;
           asks = asks t;
-          order = u.order;
+          order = u.given;
           ordered = ordered u.problem task.order u.orders t;
           file = file;
           named = named;
           failed = takes.failed refl;
           undecided = takes.undecided t refl;
-        }))))
+        })))))
     by_error plan_error.OutOfMemory takes ends = short run (Solve task) gives (alone OutOfMemory) ends
 
-  by : (plan : Planned) → task.plan ≡ plan → HasPlan u.problem u.order plan run.tells (run.before Schedule) (run.after Schedule) run.files
-      (Err u.error) → Core run
+  by : (plan : Planned) → task.plan ≡ plan
+      → HasPlan u.problem u.given u.named plan run.tells (run.before Schedule) (run.after Schedule) run.files (Err u.error) → Core run
   by (ByName name) named has = short run (Solve task) gives (alone OutOfMemory) (u.ends ∙ ap status_of_plan (has.named name refl).refused)
-  by (ByFile file) named has = go file named u.error (has.scheduled file refl) u.ends
+  by (ByFile file) named has = go file named u.error (has.scheduled file refl).takes u.ends
+  by (ByBuckets file) named has = short run (Solve task) gives (alone OutOfMemory)
+      (u.ends ∙ ap status_of_plan (has.bucketed file refl).refused)
+  by Found named has = short run (Solve task) gives (alone OutOfMemory) (u.ends ∙ ap status_of_plan (has.found refl).refused)

@@ -4,21 +4,22 @@ use Rattle.std.specs.Prelude.{Option}
 use Rattle.host_io.specs.Channel.{Channel}
 use Rattle.host_io.specs.Files.{Files, Others, Kept}
 use Rattle.host_io.specs.declared.role.Role.{Role}
-use Rattle.host_io.specs.declared.role.Role.TheVariants.{Cnf, Order, Schedule, ProofIn, ProofOut, Made, Out, Err as ErrRole}
+use Rattle.host_io.specs.declared.role.Role.TheVariants.{Cnf, Order, Buckets, Schedule, ProofIn, ProofOut, Made, Out, Err as ErrRole}
 use Rattle.cnf_base.specs.Formula.{Formula}
 use Rattle.schedule_plan.specs.declared.plan.Move.{Move}
 use Rattle.solver_cli.specs.Phases.{Complains}
-use Rattle.command_line.specs.Command.{Solve, Check, Bench, Make}
-use Rattle.solver_cli.specs.Stages.{Streams, FilesBeside, Job, streams_of, Came, CameToAnswer, CameToBench, CameToCheck, CameToMake, Stages}
+use Rattle.command_line.specs.Command.{Solve, Check, Bench, Make, Arrange}
+use Rattle.solver_cli.specs.Stages.{Streams, FilesBeside, Job, streams_of, Came, CameToAnswer, CameToArrange, CameToBench, CameToCheck}
+use Rattle.solver_cli.specs.Stages.{CameToMake, Stages}
 use Rattle.solver_cli.specs.Headline.{Run, Promises}
 use Rattle.solver_cli.proofs.Promised.{Core, misused}
 use Rattle.solver_cli.proofs.Helped.{helped}
-use Rattle.solver_cli.proofs.Untaken.{untaken, unordered, unplanned}
+use Rattle.solver_cli.proofs.Untaken.{untaken, unordered, unbucketed, unplanned}
 use Rattle.solver_cli.proofs.Accepted.{Posed, posed_by_board, posed_by_files, uncreated, undecided}
 use Rattle.solver_cli.proofs.Printed.{answered}
 use Rattle.solver_cli.proofs.Unjudged.{Laws, unjudged}
 use Rattle.solver_cli.proofs.Verdicts.{judged}
-use Rattle.solver_cli.proofs.Boards.{unmade, file_uncreated, written}
+use Rattle.solver_cli.proofs.Texts.{arranged, made, unarranged, unmade}
 use Rattle.solver_cli.proofs.Named.{stream_names, names, error_stands}
 use Rattle.solver_cli.proofs.Told.{Told, told, failures, quiet}
 
@@ -36,8 +37,9 @@ core law run (inr (inr (inl t))) = came t.came where
   came : Came run.tells (streams_of run.before) (streams_of run.after) run.files t.task run.status → Core run
   came (inl u) = untaken run (Solve t.task) t.task.file t.asked refl u
   came (inr (inl u)) = unordered run t.task t.asked u
-  came (inr (inr (inl u))) = unplanned run t.task t.asked u
-  came (inr (inr (inr s))) = answers run (posed_by_files run t.task t.asked s.prepared) s.came
+  came (inr (inr (inl u))) = unbucketed run t.task t.asked u
+  came (inr (inr (inr (inl u)))) = unplanned run t.task t.asked u
+  came (inr (inr (inr (inr s)))) = answers run (posed_by_files run t.task t.asked s.prepared) s.came
 core law run (inr (inr (inr (inl c)))) = came c.came where
   came : CameToCheck run.tells (streams_of run.before) (streams_of run.after) run.files c.task run.status → Core run
   came (inl u) = untaken run (Check c.task) c.task.file c.asked refl u
@@ -47,11 +49,15 @@ core law run (inr (inr (inr (inr (inl b))))) = came b.came where
   came : CameToBench run.tells (streams_of run.before) (streams_of run.after) b.task run.status → Core run
   came (inl u) = unmade run (Bench b.task) b.asked u
   came (inr had) = answers run (posed_by_board run b.task b.asked had.board had.made) had.came
-core law run (inr (inr (inr (inr (inr m))))) = came m.came where
+core law run (inr (inr (inr (inr (inr (inl m)))))) = came m.came where
   came : CameToMake run.tells (streams_of run.before) (streams_of run.after) m.task run.status → Core run
   came (inl u) = unmade run (Make m.task) m.asked u
-  came (inr (inl u)) = file_uncreated run m.task m.asked u
-  came (inr (inr w)) = written run m.task m.asked w
+  came (inr b) = made run m.task m.asked b
+core law run (inr (inr (inr (inr (inr (inr a)))))) = came a.came where
+  came : CameToArrange run.tells (streams_of run.before) (streams_of run.after) run.files a.task run.status → Core run
+  came (inl u) = untaken run (Arrange a.task) a.task.file a.asked refl u
+  came (inr (inl u)) = unarranged run a.task a.asked u
+  came (inr (inr had)) = arranged run a.task a.asked had
 
 whole : Laws → (run : Run) → ((role : Role) → (run.before role).name ≡ None)
     → Stages run.tells run.words (streams_of run.before) (streams_of run.after) run.files run.status
@@ -82,6 +88,7 @@ streams_kept : (old new : Role → Channel) → Others ErrRole old new → strea
 streams_kept old new beside = λ i. record {
   cnf = beside Cnf refl i;
   order = beside Order refl i;
+  buckets = beside Buckets refl i;
   schedule = beside Schedule refl i;
   judged = beside ProofIn refl i;
   proof = beside ProofOut refl i;

@@ -6,7 +6,7 @@ use Rattle.host_io.specs.Files.{Files}
 use Rattle.dimacs_reader.specs.Cnf.{cnf, formula as given_formula}
 use Rattle.lrat_rules.specs.State.{start}
 use Rattle.lrat_rules.specs.Run.{Judged, Reached, Stopped, run as run_lines}
-use Rattle.cnf_base.specs.Order.{natural}
+use Rattle.cnf_base.specs.Order.{natural, IsOrder}
 use Rattle.schedule_plan.specs.OrderText.{order_text, order as given_order}
 use Rattle.schedule_plan.specs.ScheduleText.{schedule, plan as given_plan}
 use Rattle.schedule_plan.specs.Plan.{conjoin}
@@ -20,7 +20,8 @@ use Rattle.term_runner.specs.declared.outcome.Run.{Run as Ending}
 use Rattle.workload.specs.Board.{board_formula, column_order}
 use Rattle.workload.specs.Schedule.{board_moves}
 use Rattle.answer_text.specs.Status.{sat_text, unsat_line, node_limit_text, id_limit_text, board_line, last_line}
-use Rattle.command_line.specs.Command.{Command, ToSolve, Solve, Check, Bench, Make, Planned, ByName, ByFile, limits_asked}
+use Rattle.command_line.specs.Command.{Command, ToSolve, Solve, Check, Bench, Make, Arrange, Planned, ByName, ByFile, ByBuckets, Found}
+use Rattle.command_line.specs.Command.{limits_asked}
 use Rattle.command_line.specs.declared.plan.PlanName.{PlanName}
 use Rattle.command_line.specs.declared.plan.PlanName.TheVariants.{Bucket, Conjoin}
 use Rattle.solver_cli.specs.declared.answer.Shape.{Shape}
@@ -40,21 +41,42 @@ pub record IsRead {Text : Type 0} (files : Files) (file : List ℕ) (whole : Lis
   pub stands : files file ≡ Some bytes
   pub says : whole bytes ≡ text
 
--- the order of the formula's variables: the one in the named file, or without one the variables by rising number
+-- an order of so many variables
+abbrev pub IsOrderOf : ℕ → List ℕ → Type 0
+IsOrderOf vars order = IsOrder order × (length order ≡ vars)
+
+-- the order of the formula's variables that the words give: the one in the named file, or without one the variables by rising number
 abbrev pub IsOrdered : Files → Option (List ℕ) → Formula → List ℕ → Type 0
 IsOrdered files None problem order = order ≡ natural problem.vars
 IsOrdered files (Some file) problem order = IsRead files file (order_text problem.vars) (given_order order)
 
--- the moves: those of the plan of the given name over the order, or those of the schedule in the named file
-abbrev pub IsPlanned : Files → Planned → Formula → List ℕ → List Move → Type 0
-IsPlanned files (ByName name) problem order moves = moves ≡ moves_of_plan name problem order
-IsPlanned files (ByFile file) problem order moves = IsRead files file (schedule problem) (given_plan moves)
+-- the moves of the bucket plan by the order of the variables in the named file
+pub record AreByBuckets (files : Files) (file : List ℕ) (problem : Formula) (moves : List Move) : Type 0 where
+  pub buckets : List ℕ
+  pub read : IsRead files file (order_text problem.vars) (given_order buckets)
+  pub planned : moves ≡ bucket problem buckets
+
+-- found by trials: some order of the variables, and the moves of the bucket plan by some order of them
+pub record AreFound (problem : Formula) (order : List ℕ) (moves : List Move) : Type 0 where
+  pub ordered : IsOrderOf problem.vars order
+  pub buckets : List ℕ
+  pub of_buckets : IsOrderOf problem.vars buckets
+  pub planned : moves ≡ bucket problem buckets
+
+-- The order of the diagrams and the moves. The order is the one that the words give; the moves are those of the plan of the given name
+-- over it, those of the schedule in the named file, or those of the bucket plan by the order in the named file. Or both are found.
+abbrev pub IsPlanned : Files → Planned → Formula → List ℕ → List ℕ → List Move → Type 0
+IsPlanned files (ByName name) problem given order moves = (order ≡ given) × (moves ≡ moves_of_plan name problem given)
+IsPlanned files (ByFile file) problem given order moves = (order ≡ given) × IsRead files file (schedule problem) (given_plan moves)
+IsPlanned files (ByBuckets file) problem given order moves = (order ≡ given) × AreByBuckets files file problem moves
+IsPlanned files Found problem given order moves = AreFound problem order moves
 
 -- The files that are named give this formula, this order of its variables and these moves.
 pub record AreOfFiles (files : Files) (task : ToSolve) (problem : Formula) (order : List ℕ) (moves : List Move) : Type 0 where
   pub read : IsRead files task.file (cnf task.mode) (given_formula problem)
-  pub ordered : IsOrdered files task.order problem order
-  pub planned : IsPlanned files task.plan problem order moves
+  pub given : List ℕ
+  pub ordered : IsOrdered files task.order problem given
+  pub planned : IsPlanned files task.plan problem given order moves
 
 -- They are those of the board of so many squares a side: its formula, its column order and its column schedule.
 pub record AreOfBoard (size : ℕ) (problem : Formula) (order : List ℕ) (moves : List Move) : Type 0 where
@@ -68,6 +90,7 @@ AreGiven files (Solve task) problem order moves = AreOfFiles files task problem 
 AreGiven files (Check task) problem order moves = ⊥
 AreGiven files (Bench task) problem order moves = AreOfBoard task.size problem order moves
 AreGiven files (Make task) problem order moves = ⊥
+AreGiven files (Arrange task) problem order moves = ⊥
 
 -- the outcome is true of the formula, and the proof that was written shows it
 pub record Holds (limits : Limits) (problem : Formula) (order : List ℕ) (moves : List Move) (bytes : List ℕ)

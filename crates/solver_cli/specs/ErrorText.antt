@@ -1,7 +1,7 @@
 -- What is written on standard error.
 use Rattle.std.specs.Prelude.{ℕ, Bool, true, false, List, [], ◌++◌, codes, decimal}
 use Rattle.host_io.specs.declared.role.Role.{Role}
-use Rattle.host_io.specs.declared.role.Role.TheVariants.{Cnf, Order, Schedule, ProofIn, ProofOut, Made, Out, Err}
+use Rattle.host_io.specs.declared.role.Role.TheVariants.{Cnf, Order, Buckets, Schedule, ProofIn, ProofOut, Made, Out, Err}
 use Rattle.dimacs_reader.specs.declared.error.CnfKind.{CnfKind}
 use Rattle.dimacs_reader.specs.declared.error.CnfKind.TheVariants.{NoHeader, BadHeader, BadToken, LiteralRange, TooManyClauses}
 use Rattle.dimacs_reader.specs.declared.error.CnfKind.TheVariants.{ClauseMissing, NoEndingZero, Limit}
@@ -12,7 +12,7 @@ use Rattle.schedule_plan.specs.declared.schedule.error.PlanKind.TheVariants.{Syn
 use Rattle.schedule_plan.specs.declared.schedule.error.PlanKind.TheVariants.{VariableInUse, ClauseUnused, TermsLeft}
 use Rattle.solver_cli.specs.declared.status.Status.{Status}
 use Rattle.solver_cli.specs.declared.status.Status.TheVariants.{Sat, Unsat, Unknown, Verified, NotVerified, Done, Help, Usage, CnfRefused}
-use Rattle.solver_cli.specs.declared.status.Status.TheVariants.{OrderRefused, PlanRefused, TooLong, ReadFault, WriteFault, OutOfMemory}
+use Rattle.solver_cli.specs.declared.status.Status.TheVariants.{OrderRefused, BucketsRefused, PlanRefused, TooLong, ReadFault, WriteFault, OutOfMemory}
 
 abbrev pub kind_name : CnfKind → List ℕ
 kind_name NoHeader = codes "NoHeader"
@@ -44,6 +44,7 @@ plan_kind_name TermsLeft = codes "TermsLeft"
 abbrev pub role_word : Role → List ℕ
 role_word Cnf = codes "cnf"
 role_word Order = codes "order"
+role_word Buckets = codes "buckets"
 role_word Schedule = codes "schedule"
 role_word ProofIn = codes "proof"
 role_word ProofOut = codes "proof"
@@ -67,6 +68,7 @@ error_text Help = []
 error_text Usage = codes "error: bad usage\n"
 error_text (CnfRefused kind line) = refused_line Cnf line (kind_name kind)
 error_text (OrderRefused kind line) = refused_line Order line (order_kind_name kind)
+error_text (BucketsRefused kind line) = refused_line Buckets line (order_kind_name kind)
 error_text (PlanRefused kind line) = refused_line Schedule line (plan_kind_name kind)
 error_text (TooLong role) = codes "error: " ++ role_word role ++ codes " too long\n"
 error_text ReadFault = codes "error: read failed\n"
@@ -85,6 +87,7 @@ is_answer Help = false
 is_answer Usage = false
 is_answer (CnfRefused kind line) = false
 is_answer (OrderRefused kind line) = false
+is_answer (BucketsRefused kind line) = false
 is_answer (PlanRefused kind line) = false
 is_answer (TooLong role) = false
 is_answer ReadFault = false

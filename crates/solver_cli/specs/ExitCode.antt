@@ -4,7 +4,7 @@ use Rattle.std.specs.Prelude.{ℕ}
 use Rattle.dimacs_reader.specs.declared.error.CnfError.{CnfError}
 use Rattle.dimacs_reader.specs.declared.error.CnfError.TheVariants.{Refused, ReadFault as CnfReadFault, TooLong as CnfTooLong}
 use Rattle.dimacs_reader.specs.declared.error.CnfError.TheVariants.{OutOfMemory as CnfOutOfMemory}
-use Rattle.host_io.specs.declared.role.Role.TheVariants.{Cnf, Order, Schedule, ProofIn}
+use Rattle.host_io.specs.declared.role.Role.TheVariants.{Cnf, Order, Buckets, Schedule, ProofIn}
 use Rattle.lrat_checker.specs.declared.verdict.CheckError.{CheckError}
 use Rattle.lrat_checker.specs.declared.verdict.CheckError.TheVariants.{ReadFault as CheckReadFault, TooLong as CheckTooLong}
 use Rattle.lrat_checker.specs.declared.verdict.CheckError.TheVariants.{OutOfMemory as CheckOutOfMemory}
@@ -18,7 +18,7 @@ use Rattle.term_runner.specs.declared.error.RunError.{RunError}
 use Rattle.term_runner.specs.declared.error.RunError.TheVariants.{OutOfMemory as RunOutOfMemory, WriteFault as RunWriteFault}
 use Rattle.solver_cli.specs.declared.status.Status.{Status}
 use Rattle.solver_cli.specs.declared.status.Status.TheVariants.{Sat, Unsat, Unknown, Verified, NotVerified, Done, Help, Usage, CnfRefused}
-use Rattle.solver_cli.specs.declared.status.Status.TheVariants.{OrderRefused, PlanRefused, TooLong, ReadFault, WriteFault, OutOfMemory}
+use Rattle.solver_cli.specs.declared.status.Status.TheVariants.{OrderRefused, BucketsRefused, PlanRefused, TooLong, ReadFault, WriteFault, OutOfMemory}
 
 abbrev pub exit_code : Status → ℕ
 exit_code Sat = 10
@@ -31,6 +31,7 @@ exit_code Help = 0
 exit_code Usage = 6
 exit_code (CnfRefused kind line) = 2
 exit_code (OrderRefused kind line) = 2
+exit_code (BucketsRefused kind line) = 2
 exit_code (PlanRefused kind line) = 2
 exit_code (TooLong role) = 2
 exit_code ReadFault = 3
@@ -48,6 +49,13 @@ status_of_order (OrderIsRefused kind line) = OrderRefused kind line
 status_of_order OrderReadFault = ReadFault
 status_of_order OrderTooLong = TooLong Order
 status_of_order OrderOutOfMemory = OutOfMemory
+
+-- of the order of the buckets
+abbrev pub status_of_buckets : OrderError → Status
+status_of_buckets (OrderIsRefused kind line) = BucketsRefused kind line
+status_of_buckets OrderReadFault = ReadFault
+status_of_buckets OrderTooLong = TooLong Buckets
+status_of_buckets OrderOutOfMemory = OutOfMemory
 
 abbrev pub status_of_plan : PlanError → Status
 status_of_plan (PlanIsRefused kind line) = PlanRefused kind line

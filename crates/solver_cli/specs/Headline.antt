@@ -5,7 +5,7 @@ use Rattle.std.specs.Prelude.{⊤}
 use Rattle.cnf_base.specs.Truth.{Satisfies, assignment_of}
 use Rattle.cnf_base.specs.Formula.{Formula}
 use Rattle.host_io.specs.declared.role.Role.{Role}
-use Rattle.host_io.specs.declared.role.Role.TheVariants.{Cnf, Order, Schedule, ProofIn, ProofOut, Made, Out, Err}
+use Rattle.host_io.specs.declared.role.Role.TheVariants.{Cnf, Order, Buckets, Schedule, ProofIn, ProofOut, Made, Out, Err}
 use Rattle.host_io.specs.Channel.{Channel, Rose}
 use Rattle.host_io.specs.Files.{Files, IsInput, IsCreated}
 use Rattle.dimacs_reader.specs.Cnf.{CnfText, formula, refusal, overlong, cnf, cnf_so_far}
@@ -28,15 +28,17 @@ use Rattle.term_runner.specs.Width.{HasWidth}
 use Rattle.term_runner.specs.Ends.{Says, Shows}
 use Rattle.term_runner.specs.Recovered.{IsRecovered}
 use Rattle.answer_text.specs.Status.{verified_line, refused_text}
-use Rattle.command_line.specs.Command.{Command, ToSolve, ToCheck, ToMake, Solve, Check, Bench, Make, Planned, ByName, ByFile, formula_file}
+use Rattle.command_line.specs.Command.{Command, ToSolve, ToCheck, ToMake, ToOrder, Solve, Check, Bench, Make, Arrange, Planned, ByName, ByFile}
+use Rattle.command_line.specs.Command.{ByBuckets, Found, formula_file}
 use Rattle.command_line.specs.Command.{mode_of, AsksHelp, Misuse, MayMean, CanOnlyMean, command, limits_asked}
 use Rattle.solver_cli.specs.declared.status.Why.{Why}
 use Rattle.solver_cli.specs.declared.status.Status.{Status}
 use Rattle.solver_cli.specs.declared.status.Status.TheVariants.{Sat, Unsat, Unknown, Verified, NotVerified, Done, Help, Usage, CnfRefused}
-use Rattle.solver_cli.specs.declared.status.Status.TheVariants.{OrderRefused, PlanRefused, TooLong, ReadFault, WriteFault, OutOfMemory}
+use Rattle.solver_cli.specs.declared.status.Status.TheVariants.{OrderRefused, BucketsRefused, PlanRefused, TooLong, ReadFault, WriteFault, OutOfMemory}
 use Rattle.solver_cli.specs.ErrorText.{error_text, is_answer}
-use Rattle.solver_cli.specs.Answer.{AreGiven, IsRead, IsOrdered, Holds, answer_text, outcome_at, status_of}
-use Rattle.solver_cli.specs.MadeText.{made_text}
+use Rattle.solver_cli.specs.Answer.{AreGiven, IsRead, IsOrdered, IsOrderOf, Holds, answer_text, outcome_at, status_of}
+use Rattle.solver_cli.specs.MadeText.{made_text, order_line}
+use Rattle.solver_cli.specs.Phases.{buckets_file}
 use Rattle.solver_cli.specs.Verdict.{verdict_text, status_of_verdict}
 
 -- One run of the program: whether the host tells its bytes, the words, the roles and the files before, the roles
@@ -95,6 +97,7 @@ decides (Solve task) = true
 decides (Check task) = false
 decides (Bench task) = true
 decides (Make task) = false
+decides (Arrange task) = false
 
 abbrev pub GivesDecision : Run → Type 0
 GivesDecision run = (asked : Command) × (command run.words ≡ Some asked) × IsTrue (decides asked)
@@ -114,6 +117,16 @@ pub record AsksByOrder (run : Run) (problem : Formula) (text : OrderText) : Type
   pub named : task.order ≡ Some file
   pub read : IsRead run.files file (order_text problem.vars) text
 
+-- They ask to decide this formula by buckets of an order that stands in a file, and the order is given; the text of that file says this.
+pub record AsksByBuckets (run : Run) (problem : Formula) (text : OrderText) : Type 0 where
+  pub task : ToSolve
+  pub asks : AsksOver run (Solve task) (formula problem)
+  pub order : List ℕ
+  pub ordered : IsOrdered run.files task.order problem order
+  pub file : List ℕ
+  pub named : task.plan ≡ ByBuckets file
+  pub read : IsRead run.files file (order_text problem.vars) text
+
 -- They ask to decide this formula by a schedule, and the order is given; the text of the schedule's file says this.
 pub record AsksBySchedule (run : Run) (problem : Formula) (text : ScheduleText) : Type 0 where
   pub task : ToSolve
@@ -124,8 +137,8 @@ pub record AsksBySchedule (run : Run) (problem : Formula) (text : ScheduleText) 
   pub named : task.plan ≡ ByFile file
   pub read : IsRead run.files file (schedule problem) text
 
--- They ask to decide this formula by this order of its variables and these moves: those of the files that are named, or
--- those of a board.
+-- They ask to decide this formula by this order of its variables and these moves: those of the files that are named, those of a board,
+-- or, where they are to be found, any order and the moves of the bucket plan by any order.
 pub record AsksBy (run : Run) (problem : Formula) (order : List ℕ) (moves : List Move) : Type 0 where
   pub asked : Command
   pub command : command run.words ≡ Some asked
@@ -242,8 +255,21 @@ pub record IsMade (run : Run) (task : ToMake) : Type 0 where
   pub written : IsTrue run.tells → written_in run Made ≡ made_text task.part task.size
   pub flushed : IsTrue run.tells → (run.after Made).flushed ≡ length (run.after Made).written
 
+-- Or they give `order`, and the text of an order of the variables of the formula that is asked for was written to the file that they name.
+pub record IsShownArranged (run : Run) (task : ToOrder) : Type 0 where
+  pub problem : Formula
+  pub asks : AsksOver run (Arrange task) (formula problem)
+  pub order : List ℕ
+  pub ordered : IsOrderOf problem.vars order
+  pub written : written_in run Made ≡ order_line order
+
+pub record IsArranged (run : Run) (task : ToOrder) : Type 0 where
+  pub given : command run.words ≡ Some (Arrange task)
+  pub shown : IsTrue run.tells → IsShownArranged run task
+  pub flushed : IsTrue run.tells → (run.after Made).flushed ≡ length (run.after Made).written
+
 abbrev pub TextIsMade : Run → Type 0
-TextIsMade run = run.status ≡ Done → (task : ToMake) × IsMade run task
+TextIsMade run = run.status ≡ Done → ((task : ToMake) × IsMade run task) ⊎ ((task : ToOrder) × IsArranged run task)
 
 -- whatever was written to a made file is a front of the text that is asked for
 pub record IsFrontOfMade (run : Run) : Type 0 where
@@ -252,8 +278,18 @@ pub record IsFrontOfMade (run : Run) : Type 0 where
   pub rest : List ℕ
   pub front : made_text task.part task.size ≡ written_in run Made ++ rest
 
+-- or of the text of an order of the formula that is asked for
+pub record IsFrontOfOrder (run : Run) : Type 0 where
+  pub task : ToOrder
+  pub problem : Formula
+  pub asks : AsksOver run (Arrange task) (formula problem)
+  pub order : List ℕ
+  pub ordered : IsOrderOf problem.vars order
+  pub rest : List ℕ
+  pub front : order_line order ≡ written_in run Made ++ rest
+
 abbrev pub MadeStands : Run → Type 0
-MadeStands run = IsTrue run.tells → (written_in run Made ≡ []) ⊎ IsFrontOfMade run
+MadeStands run = IsTrue run.tells → (written_in run Made ≡ []) ⊎ (IsFrontOfMade run ⊎ IsFrontOfOrder run)
 
 -- a refusal of the formula is that of the named file's whole text, and already that of the bytes taken
 pub record IsRefusedBy (run : Run) (text : CnfText) : Type 0 where
@@ -261,11 +297,16 @@ pub record IsRefusedBy (run : Run) (text : CnfText) : Type 0 where
   pub asks : AsksOver run asked text
   pub decided : cnf (mode_of asked) (taken_in run Cnf) ≡ text
 
--- and so is one of the order, and one of the schedule, of a formula that was accepted
+-- and so is one of the order, one of the buckets' order, and one of the schedule, of a formula that was accepted
 pub record OrderIsRefusedBy (run : Run) (text : OrderText) : Type 0 where
   pub problem : Formula
   pub asks : AsksByOrder run problem text
   pub decided : order_text problem.vars (taken_in run Order) ≡ text
+
+pub record BucketsAreRefusedBy (run : Run) (text : OrderText) : Type 0 where
+  pub problem : Formula
+  pub asks : AsksByBuckets run problem text
+  pub decided : order_text problem.vars (taken_in run Buckets) ≡ text
 
 pub record ScheduleIsRefusedBy (run : Run) (text : ScheduleText) : Type 0 where
   pub problem : Formula
@@ -294,9 +335,11 @@ IsDue run Help = MayMean run.words AsksHelp
 IsDue run Usage = MayMean run.words Misuse
 IsDue run (CnfRefused kind line) = GivesCommand run × (IsTrue run.tells → IsRefusedBy run (refusal kind line))
 IsDue run (OrderRefused kind line) = GivesSolve run × (IsTrue run.tells → OrderIsRefusedBy run (order_refusal kind line))
+IsDue run (BucketsRefused kind line) = GivesSolve run × (IsTrue run.tells → BucketsAreRefusedBy run (order_refusal kind line))
 IsDue run (PlanRefused kind line) = GivesSolve run × (IsTrue run.tells → ScheduleIsRefusedBy run (schedule_refusal kind line))
 IsDue run (TooLong Cnf) = GivesCommand run × (IsTrue run.tells → IsRefusedBy run overlong)
 IsDue run (TooLong Order) = GivesSolve run × (IsTrue run.tells → OrderIsRefusedBy run overlong_order)
+IsDue run (TooLong Buckets) = GivesSolve run × (IsTrue run.tells → BucketsAreRefusedBy run overlong_order)
 IsDue run (TooLong Schedule) = GivesSolve run × (IsTrue run.tells → ScheduleIsRefusedBy run overlong_schedule)
 IsDue run (TooLong ProofIn) = GivesCheck run × (IsTrue run.tells → IsLongProof run)
 IsDue run (TooLong ProofOut) = ⊥
@@ -310,11 +353,13 @@ IsDue run OutOfMemory = ⊤
 abbrev pub RefusalsAreDue : Run → Type 0
 RefusalsAreDue run = IsDue run run.status
 
--- the formula that is to be decided was accepted, or the proof was judged, or none is read
+-- the formula that is to be decided was accepted, or the proof was judged, or none is read, or the formula was accepted of which an order is
+-- to be made
 abbrev pub TextsAreRead : Run → Type 0
 TextsAreRead run = ((problem : Formula) × AsksFor run problem)
     ⊎ (((problem : Formula) × (bytes : List ℕ) × (judged : Verdict) × HasVerdict run problem bytes judged)
-    ⊎ GivesMake run)
+    ⊎ (GivesMake run
+    ⊎ ((task : ToOrder) × (problem : Formula) × AsksOver run (Arrange task) (formula problem))))
 
 -- A call on the formula's file failed where the bytes taken of it decide nothing yet, and none of another file was taken.
 pub record IsOpenFormula (run : Run) : Type 0 where
@@ -325,7 +370,7 @@ pub record IsOpenFormula (run : Run) : Type 0 where
   pub before_others : (role : Role) → IsInput role → role ≢ Cnf → taken_in run role ≡ []
 
 -- The words give `solve` with an order's file, the formula was accepted, and a call on that file failed where the bytes
--- taken of it decide nothing yet. The file may be missing: then none was taken. None of a schedule was.
+-- taken of it decide nothing yet. The file may be missing: then none was taken. None of a schedule was, and none of the buckets' order.
 pub record IsOpenOrder (run : Run) : Type 0 where
   pub task : ToSolve
   pub problem : Formula
@@ -334,6 +379,20 @@ pub record IsOpenOrder (run : Run) : Type 0 where
   pub named : task.order ≡ Some file
   pub failed : HasFault run Order
   pub undecided : order_so_far problem.vars (taken_in run Order) ≡ overlong_order
+  pub before_schedule : taken_in run Schedule ≡ []
+  pub before_buckets : taken_in run Buckets ≡ []
+
+-- The same of the buckets' order, where the order is given too.
+pub record AreOpenBuckets (run : Run) : Type 0 where
+  pub task : ToSolve
+  pub problem : Formula
+  pub asks : AsksOver run (Solve task) (formula problem)
+  pub order : List ℕ
+  pub ordered : IsOrdered run.files task.order problem order
+  pub file : List ℕ
+  pub named : task.plan ≡ ByBuckets file
+  pub failed : HasFault run Buckets
+  pub undecided : order_so_far problem.vars (taken_in run Buckets) ≡ overlong_order
   pub before_schedule : taken_in run Schedule ≡ []
 
 -- The same of a schedule's file, where the order is given too.
@@ -358,9 +417,9 @@ pub record IsOpenProof (run : Run) : Type 0 where
   pub undecided : verdict_so_far problem.clauses (taken_in run ProofIn) ≡ None
 
 -- What was taken decides nothing yet: of the formula's text, or, where the texts before it were accepted, of the order's,
--- the schedule's or the proof's.
+-- the buckets' order's, the schedule's or the proof's.
 abbrev pub IsStillOpen : Run → Type 0
-IsStillOpen run = IsOpenFormula run ⊎ (IsOpenOrder run ⊎ (IsOpenSchedule run ⊎ IsOpenProof run))
+IsStillOpen run = IsOpenFormula run ⊎ (IsOpenOrder run ⊎ (AreOpenBuckets run ⊎ (IsOpenSchedule run ⊎ IsOpenProof run)))
 
 -- Faults: a read fault comes only where a call on a file that is read failed, and what was taken decides nothing yet, and
 -- then nothing was written but on standard error; a write fault only where all texts were read and accepted, or the words
@@ -467,6 +526,7 @@ ends_before_proof Help = true
 ends_before_proof Usage = true
 ends_before_proof (CnfRefused kind line) = true
 ends_before_proof (OrderRefused kind line) = true
+ends_before_proof (BucketsRefused kind line) = true
 ends_before_proof (PlanRefused kind line) = true
 ends_before_proof (TooLong role) = true
 ends_before_proof ReadFault = true
@@ -477,12 +537,16 @@ ends_before_proof OutOfMemory = false
 abbrev pub schedule_file : Planned → Option (List ℕ)
 schedule_file (ByName name) = None
 schedule_file (ByFile file) = Some file
+schedule_file (ByBuckets file) = None
+schedule_file Found = None
 
 -- the roles that have a name only where the words give it
 abbrev pub name_given : Role → Command → Option (List ℕ)
 name_given Cnf asked = formula_file asked
 name_given Order (Solve task) = task.order
 name_given Order _ = None
+name_given Buckets (Solve task) = buckets_file task.plan
+name_given Buckets _ = None
 name_given Schedule (Solve task) = schedule_file task.plan
 name_given Schedule _ = None
 name_given ProofIn (Check task) = Some task.proof
@@ -491,6 +555,7 @@ name_given ProofOut (Solve task) = Some task.proof
 name_given ProofOut (Bench task) = Some task.proof
 name_given ProofOut _ = None
 name_given Made (Make task) = Some task.file
+name_given Made (Arrange task) = Some task.out
 name_given Made _ = None
 name_given Out asked = None
 name_given Err asked = None
@@ -519,9 +584,11 @@ CallsFor run Help = ⊥
 CallsFor run Usage = ⊥
 CallsFor run (CnfRefused kind line) = (asked : Command) × AsksOver run asked (refusal kind line)
 CallsFor run (OrderRefused kind line) = (problem : Formula) × AsksByOrder run problem (order_refusal kind line)
+CallsFor run (BucketsRefused kind line) = (problem : Formula) × AsksByBuckets run problem (order_refusal kind line)
 CallsFor run (PlanRefused kind line) = (problem : Formula) × AsksBySchedule run problem (schedule_refusal kind line)
 CallsFor run (TooLong Cnf) = (asked : Command) × AsksOver run asked overlong
 CallsFor run (TooLong Order) = (problem : Formula) × AsksByOrder run problem overlong_order
+CallsFor run (TooLong Buckets) = (problem : Formula) × AsksByBuckets run problem overlong_order
 CallsFor run (TooLong Schedule) = (problem : Formula) × AsksBySchedule run problem overlong_schedule
 CallsFor run (TooLong ProofIn) = (problem : Formula) × (bytes : List ℕ) × AsksToJudge run problem bytes
     × (text_verdict problem.clauses bytes ≡ None)
@@ -547,6 +614,8 @@ pub record IsComplete (run : Run) : Type 0 where
       → IsUnharmed run
       → (run.status ≡ status_of_verdict judged) ⊎ (run.status ≡ OutOfMemory)
   pub makes : GivesMake run → IsUnharmed run → (run.status ≡ Done) ⊎ (run.status ≡ OutOfMemory)
+  pub arranges : (task : ToOrder) (problem : Formula) → AsksOver run (Arrange task) (formula problem) → IsTrue run.tells → IsUnharmed run
+      → (run.status ≡ Done) ⊎ (run.status ≡ OutOfMemory)
   pub refuses : (status : Status) → CallsFor run status → IsTrue run.tells → (InputFailed run → ⊥) → (run.status ≡ status)
       ⊎ (run.status ≡ OutOfMemory)
 

@@ -1,4 +1,4 @@
--- The texts that `make` writes.
+-- The texts that `make` and `order` write.
 use Rattle.std.specs.Prelude.{ℕ, List}
 use Rattle.command_line.specs.declared.part.BoardText.{BoardText}
 use Rattle.command_line.specs.declared.part.BoardText.TheVariants.{Cnf, Order, Schedule}
@@ -10,3 +10,7 @@ abbrev pub made_text : BoardText → ℕ → List ℕ
 made_text Cnf size = cnf_text (board_formula size)
 made_text Order size = order_text (column_order size)
 made_text Schedule size = schedule_text size
+
+-- an order: its variables on one line, the top one first
+abbrev pub order_line : List ℕ → List ℕ
+order_line order = order_text order

@@ -1,5 +1,5 @@
 -- The parts of a run, each over the one role that it serves.
-use Rattle.std.specs.Prelude.{◌≡◌, ◌≢◌, ◌⊎◌, ◌≤◌, ◌++◌, ℕ, Bool, List, [], Option, None, Some, Result, Err, length, IsTrue, IsOk, IsErr}
+use Rattle.std.specs.Prelude.{◌≡◌, ◌≢◌, ◌⊎◌, ◌≤◌, ◌++◌, ℕ, Bool, List, [], Option, None, Some, Result, Ok, Err, length, IsTrue, IsOk, IsErr}
 use Rattle.std.specs.Prelude.{IfOk, IfErr, ℤ, ⊤}
 use Rattle.cnf_base.specs.Formula.{Formula, IsFormula}
 use Rattle.host_io.specs.declared.source.Failed.{Failed}
@@ -15,7 +15,7 @@ use Rattle.lrat_checker.specs.TextVerdict.{text_verdict, verdict_so_far, Answers
 use Rattle.lrat_checker.specs.declared.verdict.Verdict.{Verdict}
 use Rattle.lrat_checker.specs.declared.verdict.CheckError.{CheckError}
 use Rattle.lrat_checker.specs.declared.verdict.CheckError.TheVariants.{ReadFault as CheckReadFault}
-use Rattle.cnf_base.specs.Order.{natural as natural_order, IsOrder}
+use Rattle.cnf_base.specs.Order.{natural as natural_order}
 use Rattle.schedule_plan.specs.OrderText.{overlong as unread_order, order_text, order_so_far}
 use Rattle.schedule_plan.specs.OrderReader.{Answers as OrderAnswers}
 use Rattle.schedule_plan.specs.ScheduleText.{overlong as unread_schedule, schedule, schedule_so_far}
@@ -27,8 +27,10 @@ use Rattle.schedule_plan.specs.declared.schedule.error.PlanError.TheVariants.{Re
 use Rattle.schedule_plan.specs.Plan.{IsAdmissible}
 use Rattle.schedule_plan.specs.declared.plan.Move.{Move}
 use Rattle.command_line.specs.declared.plan.PlanName.{PlanName}
-use Rattle.command_line.specs.Command.{Planned, ByName, ByFile}
-use Rattle.solver_cli.specs.Answer.{last_identifier, moves_of_plan}
+use Rattle.command_line.specs.Command.{Planned, ByName, ByFile, ByBuckets, Found}
+use Rattle.schedule_plan.specs.Bucket.{bucket}
+use Rattle.solver_cli.specs.Answer.{AreFound, IsOrderOf, last_identifier, moves_of_plan}
+use Rattle.solver_cli.specs.declared.basis.Basis.{Basis}
 use Rattle.schedule_plan.specs.declared.limits.Limits.{Limits}
 use Rattle.term_runner.specs.Ends.{Says, Shows}
 use Rattle.term_runner.specs.Price.{AreAmple, IsDecision, IsMovePrice, IsPaidFor}
@@ -78,10 +80,6 @@ pub record TakesText {Text T E : Type 0} (whole so_far : List ℕ → Text) (unr
   pub name : (new.name ≡ Some file) ⊎ (new.name ≡ None)
   pub faults : old.faults ≤ new.faults
 
--- an order of so many variables
-abbrev pub IsOrderOf : ℕ → List ℕ → Type 0
-IsOrderOf vars order = IsOrder order × (length order ≡ vars)
-
 -- the three texts that a formula is decided by: its own in a mode, and those of an order of its variables and of a schedule
 abbrev pub ReadsFormula : Mode → Bool → Channel → Channel → Result Formula CnfError → Type 0
 ReadsFormula mode = ReadsOpened (cnf mode) (cnf_so_far mode) unread_cnf CnfAnswers IsFormula CnfReadFault
@@ -115,11 +113,62 @@ pub record HasOrder (vars : ℕ) (asked : Option (List ℕ)) (tells : Bool) (old
   pub natural : asked ≡ None → Makes (natural_order vars) OrderOutOfMemory old new result
   pub named : (file : List ℕ) → asked ≡ Some file → TakesOrder vars tells old new files file result
 
--- The plan was had: the one of the given name over the order, or that of the schedule in the named file.
-pub record HasPlan (problem : Formula) (order : List ℕ) (asked : Planned) (tells : Bool) (old new : Channel) (files : Files)
-    (result : Result (List Move) PlanError) : Type 0 where
-  pub named : (name : PlanName) → asked ≡ ByName name → Makes (moves_of_plan name problem order) PlanOutOfMemory old new result
-  pub scheduled : (file : List ℕ) → asked ≡ ByFile file → TakesSchedule problem tells old new files file result
+-- the order in a file by which the buckets are formed, where the words name one
+abbrev pub buckets_file : Planned → Option (List ℕ)
+buckets_file (ByName name) = None
+buckets_file (ByFile file) = None
+buckets_file (ByBuckets file) = Some file
+buckets_file Found = None
+
+-- an order that was read, as one that may be missing
+abbrev pub as_some : Result (List ℕ) OrderError → Result (Option (List ℕ)) OrderError
+as_some (Ok order) = Ok (Some order)
+as_some (Err error) = Err error
+
+-- The order of the buckets was had: none, or that of the named file.
+pub record HasBuckets (vars : ℕ) (asked : Option (List ℕ)) (tells : Bool) (old new : Channel) (files : Files)
+    (result : Result (Option (List ℕ)) OrderError) : Type 0 where
+  pub none : asked ≡ None → (result ≡ Ok None) × (new ≡ old)
+  pub named : (file : List ℕ) → asked ≡ Some file → (read : Result (List ℕ) OrderError) × TakesOrder vars tells old new files file read
+      × (result ≡ as_some read)
+
+-- the moves of an order and moves
+abbrev pub moves_in : Result Basis PlanError → Result (List Move) PlanError
+moves_in (Ok basis) = Ok basis.plan
+moves_in (Err error) = Err error
+
+-- an order and moves
+abbrev pub basis_of : List ℕ → List Move → Basis
+basis_of order moves = record { order = order; plan = moves }
+
+-- Orders were found by trials, unless memory ran out.
+pub record Finds (problem : Formula) (old new : Channel) (result : Result Basis PlanError) : Type 0 where
+  pub found : IfOk result (λ basis. AreFound problem basis.order basis.plan)
+  pub refused : IfErr result (λ error. error ≡ PlanOutOfMemory)
+  pub same : new ≡ old
+
+-- the plan of the schedule in the file of this name was had, beside the given order
+pub record Schedules (problem : Formula) (given : List ℕ) (tells : Bool) (old new : Channel) (files : Files) (file : List ℕ)
+    (result : Result Basis PlanError) : Type 0 where
+  pub order : IfOk result (λ basis. basis.order ≡ given)
+  pub takes : TakesSchedule problem tells old new files file (moves_in result)
+
+-- The bucket plan by the order of the buckets was made, beside the given order of the diagrams, unless memory ran out.
+pub record MakesByBuckets (problem : Formula) (given : List ℕ) (buckets : Option (List ℕ)) (old new : Channel)
+    (result : Result Basis PlanError) : Type 0 where
+  pub made : (order : List ℕ) → buckets ≡ Some order → IfOk result (λ basis. basis ≡ basis_of given (bucket problem order))
+  pub refused : IfErr result (λ error. error ≡ PlanOutOfMemory)
+  pub same : new ≡ old
+
+-- The order of the diagrams and the plan were had: the given order, and the plan of the given name over it, that of the schedule in the
+-- named file, or the bucket plan by the order of the buckets; or both were found.
+pub record HasPlan (problem : Formula) (given : List ℕ) (buckets : Option (List ℕ)) (asked : Planned) (tells : Bool) (old new : Channel)
+    (files : Files) (result : Result Basis PlanError) : Type 0 where
+  pub named : (name : PlanName) → asked ≡ ByName name
+      → Makes (basis_of given (moves_of_plan name problem given)) PlanOutOfMemory old new result
+  pub scheduled : (file : List ℕ) → asked ≡ ByFile file → Schedules problem given tells old new files file result
+  pub bucketed : (file : List ℕ) → asked ≡ ByBuckets file → MakesByBuckets problem given buckets old new result
+  pub found : asked ≡ Found → Finds problem old new result
 
 -- The answer of the check is the verdict of the text in the opened proof's file, and already of the bytes taken; where a
 -- call on it failed, these decide nothing yet.

@@ -4,7 +4,7 @@ use Rattle.host_io.specs.declared.role.Role.TheVariants.{ProofIn, ProofOut}
 use Rattle.lrat_checker.specs.TextVerdict.{max_bytes}
 use Rattle.solver_cli.specs.declared.status.Status.{Status}
 use Rattle.solver_cli.specs.declared.status.Status.TheVariants.{Sat, Unsat, Unknown, Verified, NotVerified, Done, Help, Usage, CnfRefused}
-use Rattle.solver_cli.specs.declared.status.Status.TheVariants.{OrderRefused, PlanRefused, TooLong, ReadFault, WriteFault, OutOfMemory}
+use Rattle.solver_cli.specs.declared.status.Status.TheVariants.{OrderRefused, BucketsRefused, PlanRefused, TooLong, ReadFault, WriteFault, OutOfMemory}
 use Rattle.command_line.specs.Command.{ToSolve, ToCheck, Solve, Check, command}
 use Rattle.solver_cli.specs.Headline.{Run, written_in, InputFailed, OutputFailed}
 
@@ -35,6 +35,7 @@ MayEnd run bytes Help = ⊥
 MayEnd run bytes Usage = ⊥
 MayEnd run bytes (CnfRefused kind line) = ⊥
 MayEnd run bytes (OrderRefused kind line) = ⊥
+MayEnd run bytes (BucketsRefused kind line) = ⊥
 MayEnd run bytes (PlanRefused kind line) = ⊥
 MayEnd run bytes (TooLong role) = (role ≡ ProofIn) × (max_bytes < length bytes)
 MayEnd run bytes ReadFault = InputFailed run

@@ -2,7 +2,7 @@
 use Rattle.std.specs.Prelude.{◌≡◌, ◌≢◌, ◌⊎◌, ℕ, Bool, List, Option, None, Some, Result, Ok, Err, IsOk, IsErr, ⊤}
 use Rattle.cnf_base.specs.Formula.{Formula}
 use Rattle.host_io.specs.declared.role.Role.{Role}
-use Rattle.host_io.specs.declared.role.Role.TheVariants.{Cnf, Order, Schedule, ProofIn, ProofOut, Made, Out, Err as ErrRole}
+use Rattle.host_io.specs.declared.role.Role.TheVariants.{Cnf, Order, Buckets, Schedule, ProofIn, ProofOut, Made, Out, Err as ErrRole}
 use Rattle.host_io.specs.declared.source.Failed.{Failed}
 use Rattle.host_io.specs.Channel.{Channel}
 use Rattle.host_io.specs.Files.{Files, Opens}
@@ -20,23 +20,27 @@ use Rattle.schedule_plan.specs.declared.limits.Limits.{Limits}
 use Rattle.schedule_plan.specs.declared.plan.Move.{Move}
 use Rattle.schedule_plan.specs.declared.order_error.OrderError.{OrderError}
 use Rattle.schedule_plan.specs.declared.schedule.error.PlanError.{PlanError}
-use Rattle.solver_cli.specs.Answer.{AreOfBoard, ending_text, shape_of, status_of}
-use Rattle.solver_cli.specs.MadeText.{made_text}
+use Rattle.solver_cli.specs.Answer.{AreOfBoard, IsOrderOf, ending_text, shape_of, status_of}
+use Rattle.solver_cli.specs.MadeText.{made_text, order_line}
 use Rattle.solver_cli.specs.Verdict.{verdict_text, status_of_verdict}
-use Rattle.solver_cli.specs.ExitCode.{status_of_check, status_of_error, status_of_order, status_of_plan, status_of_run}
+use Rattle.solver_cli.specs.ExitCode.{status_of_buckets, status_of_check, status_of_error, status_of_order, status_of_plan}
+use Rattle.solver_cli.specs.ExitCode.{status_of_run}
 use Rattle.command_line.specs.Reading.{text_of, planned_of}
 use Rattle.command_line.specs.declared.words.SolveTask.{SolveTask}
 use Rattle.command_line.specs.declared.words.CheckTask.{CheckTask}
+use Rattle.command_line.specs.declared.order.OrderTask.{OrderTask}
 use Rattle.command_line.specs.declared.board.BenchTask.{BenchTask}
 use Rattle.command_line.specs.declared.board.MakeTask.{MakeTask}
-use Rattle.command_line.specs.Command.{ToSolve, ToCheck, ToBench, ToMake, Solve, Check, Bench, Make, AsksHelp, Misuse, MayMean, command}
-use Rattle.solver_cli.specs.Phases.{TakesFormula, HasOrder, HasPlan, JudgesProof, WritesProof, PutsText}
+use Rattle.command_line.specs.Command.{ToSolve, ToCheck, ToBench, ToMake, ToOrder, Solve, Check, Bench, Make, Arrange, AsksHelp, Misuse}
+use Rattle.command_line.specs.Command.{MayMean, command}
+use Rattle.solver_cli.specs.Phases.{TakesFormula, HasOrder, HasBuckets, HasPlan, JudgesProof, WritesProof, PutsText, basis_of, buckets_file}
 
--- the files of the formula, of its order and of a schedule, the proof that is judged, the proof that is written, the text
+-- the files of the formula, of its order, of the buckets' order and of a schedule, the proof that is judged, the proof that is written, the text
 -- that is made, and standard output
 pub record Streams : Type 0 where
   pub cnf : Channel
   pub order : Channel
+  pub buckets : Channel
   pub schedule : Channel
   pub judged : Channel
   pub proof : Channel
@@ -48,6 +52,7 @@ streams_of channel =
     record {
       cnf = channel Cnf;
       order = channel Order;
+      buckets = channel Buckets;
       schedule = channel Schedule;
       judged = channel ProofIn;
       proof = channel ProofOut;
@@ -78,6 +83,7 @@ pub record Helped (tells : Bool) (words : List (List ℕ)) (old new : Streams) (
   pub shows : ShowsHelp tells old.out new.out status
   pub cnf : new.cnf ≡ old.cnf
   pub order : new.order ≡ old.order
+  pub buckets : new.buckets ≡ old.buckets
   pub schedule : new.schedule ≡ old.schedule
   pub judged : new.judged ≡ old.judged
   pub proof : new.proof ≡ old.proof
@@ -88,6 +94,7 @@ pub record Untaken (mode : Mode) (tells : Bool) (old new : Streams) (files : Fil
   pub error : CnfError
   pub takes : TakesFormula mode tells old.cnf new.cnf files file (Err error)
   pub order : new.order ≡ old.order
+  pub buckets : new.buckets ≡ old.buckets
   pub schedule : new.schedule ≡ old.schedule
   pub judged : new.judged ≡ old.judged
   pub proof : new.proof ≡ old.proof
@@ -101,6 +108,7 @@ pub record Unordered (tells : Bool) (old new : Streams) (files : Files) (task : 
   pub takes : TakesFormula task.mode tells old.cnf new.cnf files task.file (Ok problem)
   pub error : OrderError
   pub orders : HasOrder problem.vars task.order tells old.order new.order files (Err error)
+  pub buckets : new.buckets ≡ old.buckets
   pub schedule : new.schedule ≡ old.schedule
   pub judged : new.judged ≡ old.judged
   pub proof : new.proof ≡ old.proof
@@ -108,14 +116,31 @@ pub record Unordered (tells : Bool) (old new : Streams) (files : Files) (task : 
   pub out : new.out ≡ old.out
   pub ends : status ≡ status_of_order error
 
--- the order was had, and the plan was not
+-- the order was had, and that of the buckets was not
+pub record Unbucketed (tells : Bool) (old new : Streams) (files : Files) (task : ToSolve) (status : Status) : Type 0 where
+  pub problem : Formula
+  pub takes : TakesFormula task.mode tells old.cnf new.cnf files task.file (Ok problem)
+  pub given : List ℕ
+  pub orders : HasOrder problem.vars task.order tells old.order new.order files (Ok given)
+  pub error : OrderError
+  pub bucketed : HasBuckets problem.vars (buckets_file task.plan) tells old.buckets new.buckets files (Err error)
+  pub schedule : new.schedule ≡ old.schedule
+  pub judged : new.judged ≡ old.judged
+  pub proof : new.proof ≡ old.proof
+  pub made : new.made ≡ old.made
+  pub out : new.out ≡ old.out
+  pub ends : status ≡ status_of_buckets error
+
+-- both orders were had, and the plan was not
 pub record Unplanned (tells : Bool) (old new : Streams) (files : Files) (task : ToSolve) (status : Status) : Type 0 where
   pub problem : Formula
   pub takes : TakesFormula task.mode tells old.cnf new.cnf files task.file (Ok problem)
-  pub order : List ℕ
-  pub orders : HasOrder problem.vars task.order tells old.order new.order files (Ok order)
+  pub given : List ℕ
+  pub orders : HasOrder problem.vars task.order tells old.order new.order files (Ok given)
+  pub named : Option (List ℕ)
+  pub bucketed : HasBuckets problem.vars (buckets_file task.plan) tells old.buckets new.buckets files (Ok named)
   pub error : PlanError
-  pub plans : HasPlan problem order task.plan tells old.schedule new.schedule files (Err error)
+  pub plans : HasPlan problem given named task.plan tells old.schedule new.schedule files (Err error)
   pub judged : new.judged ≡ old.judged
   pub proof : new.proof ≡ old.proof
   pub made : new.made ≡ old.made
@@ -126,8 +151,11 @@ pub record Unplanned (tells : Bool) (old new : Streams) (files : Files) (task : 
 pub record Prepared (tells : Bool) (old new : Streams) (files : Files) (task : ToSolve) (problem : Formula) (order : List ℕ)
     (moves : List Move) : Type 0 where
   pub takes : TakesFormula task.mode tells old.cnf new.cnf files task.file (Ok problem)
-  pub orders : HasOrder problem.vars task.order tells old.order new.order files (Ok order)
-  pub plans : HasPlan problem order task.plan tells old.schedule new.schedule files (Ok moves)
+  pub given : List ℕ
+  pub orders : HasOrder problem.vars task.order tells old.order new.order files (Ok given)
+  pub named : Option (List ℕ)
+  pub bucketed : HasBuckets problem.vars (buckets_file task.plan) tells old.buckets new.buckets files (Ok named)
+  pub plans : HasPlan problem given named task.plan tells old.schedule new.schedule files (Ok (basis_of order moves))
   pub judged : new.judged ≡ old.judged
   pub made : new.made ≡ old.made
 
@@ -135,6 +163,7 @@ pub record Prepared (tells : Bool) (old new : Streams) (files : Files) (task : T
 pub record NoneRead (old new : Streams) : Type 0 where
   pub cnf : new.cnf ≡ old.cnf
   pub order : new.order ≡ old.order
+  pub buckets : new.buckets ≡ old.buckets
   pub schedule : new.schedule ≡ old.schedule
   pub judged : new.judged ≡ old.judged
 
@@ -213,6 +242,7 @@ job_of job = record { proof = job.proof.now; limits = job.limits; shape = job.sh
 pub record LeavesInputs (old new : Role → Channel) : Type 0 where
   pub cnf : new Cnf ≡ old Cnf
   pub order : new Order ≡ old Order
+  pub buckets : new Buckets ≡ old Buckets
   pub schedule : new Schedule ≡ old Schedule
   pub judged : new ProofIn ≡ old ProofIn
   pub made : new Made ≡ old Made
@@ -222,7 +252,7 @@ pub record LeavesInputs (old new : Role → Channel) : Type 0 where
 abbrev pub FilesBeside : Option (List ℕ) → Option (List ℕ) → Files → Files → Type 0
 FilesBeside one other old new = (file : List ℕ) → one ≢ Some file → other ≢ Some file → new file ≡ old file
 
--- what `solve` is asked to do, and what `check` is
+-- what `solve` is asked to do, what `check` is, and what `order` is
 abbrev pub task_of : SolveTask → ToSolve
 task_of task = record {
   file = task.files.formula.now;
@@ -236,18 +266,23 @@ task_of task = record {
 abbrev pub check_of : CheckTask → ToCheck
 check_of task = record { file = task.files.formula.now; proof = task.files.proof.now; mode = task.mode }
 
+abbrev pub arrange_of : OrderTask → ToOrder
+arrange_of task = record { file = task.formula.now; method = task.method; mode = task.mode; out = task.out.now }
+
 -- how far `solve` came
 abbrev pub Came : Bool → Streams → Streams → Files → ToSolve → Status → Type 0
 Came tells old new files task status = Untaken task.mode tells old new files task.file status
     ⊎ (Unordered tells old new files task status
+    ⊎ (Unbucketed tells old new files task status
     ⊎ (Unplanned tells old new files task status
-    ⊎ Solved tells old new files task status))
+    ⊎ Solved tells old new files task status)))
 
 -- the proof was not judged
 pub record Unjudged (tells : Bool) (old new : Streams) (files : Files) (task : ToCheck) (status : Status) : Type 0 where
   pub problem : Formula
   pub takes : TakesFormula task.mode tells old.cnf new.cnf files task.file (Ok problem)
   pub order : new.order ≡ old.order
+  pub buckets : new.buckets ≡ old.buckets
   pub schedule : new.schedule ≡ old.schedule
   pub error : CheckError
   pub judges : JudgesProof tells old.judged new.judged files task.proof problem.clauses (Err error)
@@ -266,6 +301,7 @@ pub record Judged (tells : Bool) (old new : Streams) (files : Files) (task : ToC
   pub problem : Formula
   pub takes : TakesFormula task.mode tells old.cnf new.cnf files task.file (Ok problem)
   pub order : new.order ≡ old.order
+  pub buckets : new.buckets ≡ old.buckets
   pub schedule : new.schedule ≡ old.schedule
   pub verdict : Verdict
   pub judges : JudgesProof tells old.judged new.judged files task.proof problem.clauses (Ok verdict)
@@ -310,31 +346,69 @@ abbrev pub status_of_written : Result ⊤ Failed → Status
 status_of_written (Ok x) = Done
 status_of_written (Err e) = WriteFault
 
+-- What comes of a text that is made is told of its file's stream, before and after.
+
 -- the text's file was not created
-pub record FileUncreated (old new : Streams) (task : ToMake) (status : Status) : Type 0 where
-  pub none_read : NoneRead old new
-  pub proof : new.proof ≡ old.proof
-  pub out : new.out ≡ old.out
+pub record FileUncreated (old new : Channel) (file : List ℕ) (status : Status) : Type 0 where
   pub answer : Result ⊤ Failed
   pub failed : IsErr answer
-  pub opens : Opens old.made new.made task.file answer
+  pub opens : Opens old new file answer
   pub ends : status ≡ WriteFault
 
 -- it was created, and the text was written or not
-pub record Written (tells : Bool) (old new : Streams) (task : ToMake) (status : Status) : Type 0 where
-  pub none_read : NoneRead old new
-  pub proof : new.proof ≡ old.proof
-  pub out : new.out ≡ old.out
+pub record Written (tells : Bool) (old new : Channel) (file text : List ℕ) (status : Status) : Type 0 where
   pub created : Channel
   pub created_answer : Result ⊤ Failed
   pub done : IsOk created_answer
-  pub opens : Opens old.made created task.file created_answer
+  pub opens : Opens old created file created_answer
   pub written : Result ⊤ Failed
-  pub puts : PutsText tells created new.made (made_text task.part task.size) written
+  pub puts : PutsText tells created new text written
   pub ends : status ≡ status_of_written written
 
+-- how far writing a text to a file came
+abbrev pub CameToWrite : Bool → Channel → Channel → List ℕ → List ℕ → Status → Type 0
+CameToWrite tells old new file text status = FileUncreated old new file status ⊎ Written tells old new file text status
+
+-- `make` had its board
+pub record BoardMade (tells : Bool) (old new : Streams) (task : ToMake) (status : Status) : Type 0 where
+  pub none_read : NoneRead old new
+  pub proof : new.proof ≡ old.proof
+  pub out : new.out ≡ old.out
+  pub came : CameToWrite tells old.made new.made task.file (made_text task.part task.size) status
+
 abbrev pub CameToMake : Bool → Streams → Streams → ToMake → Status → Type 0
-CameToMake tells old new task status = Unmade old new status ⊎ (FileUncreated old new task status ⊎ Written tells old new task status)
+CameToMake tells old new task status = Unmade old new status ⊎ BoardMade tells old new task status
+
+-- nothing but the formula's file was read, and neither a proof nor an answer written
+pub record FormulaAlone (old new : Streams) : Type 0 where
+  pub order : new.order ≡ old.order
+  pub buckets : new.buckets ≡ old.buckets
+  pub schedule : new.schedule ≡ old.schedule
+  pub judged : new.judged ≡ old.judged
+  pub proof : new.proof ≡ old.proof
+  pub out : new.out ≡ old.out
+
+-- the formula was taken, and memory for an order of its variables ran out
+pub record Unarranged (tells : Bool) (old new : Streams) (files : Files) (task : ToOrder) (status : Status) : Type 0 where
+  pub problem : Formula
+  pub takes : TakesFormula task.mode tells old.cnf new.cnf files task.file (Ok problem)
+  pub alone : FormulaAlone old new
+  pub made : new.made ≡ old.made
+  pub ends : status ≡ OutOfMemory
+
+-- the order was made
+pub record Arranged (tells : Bool) (old new : Streams) (files : Files) (task : ToOrder) (status : Status) : Type 0 where
+  pub problem : Formula
+  pub takes : TakesFormula task.mode tells old.cnf new.cnf files task.file (Ok problem)
+  pub alone : FormulaAlone old new
+  pub order : List ℕ
+  pub ordered : IsOrderOf problem.vars order
+  pub came : CameToWrite tells old.made new.made task.out (order_line order) status
+
+-- how far `order` came
+abbrev pub CameToArrange : Bool → Streams → Streams → Files → ToOrder → Status → Type 0
+CameToArrange tells old new files task status = Untaken task.mode tells old new files task.file status
+    ⊎ (Unarranged tells old new files task status ⊎ Arranged tells old new files task status)
 
 -- `solve` was tried
 pub record Tried (tells : Bool) (words : List (List ℕ)) (old new : Streams) (files : Files) (status : Status) : Type 0 where
@@ -360,10 +434,17 @@ pub record Making (tells : Bool) (words : List (List ℕ)) (old new : Streams) (
   pub asked : command words ≡ Some (Make task)
   pub came : CameToMake tells old new task status
 
+-- `order` was tried
+pub record Arranging (tells : Bool) (words : List (List ℕ)) (old new : Streams) (files : Files) (status : Status) : Type 0 where
+  pub task : ToOrder
+  pub asked : command words ≡ Some (Arrange task)
+  pub came : CameToArrange tells old new files task status
+
 abbrev pub Stages : Bool → List (List ℕ) → Streams → Streams → Files → Status → Type 0
 Stages tells words old new files status = Misused words old new status
     ⊎ (Helped tells words old new status
     ⊎ (Tried tells words old new files status
     ⊎ (Checked tells words old new files status
     ⊎ (Tested tells words old new status
-    ⊎ Making tells words old new status))))
+    ⊎ (Making tells words old new status
+    ⊎ Arranging tells words old new files status)))))

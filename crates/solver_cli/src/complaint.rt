@@ -12,9 +12,8 @@ use host_io::{Failed, Host, HostSink, Role, Sink, beside_kept, write_all};
 use itoa::Buffer;
 use schedule_plan::{OrderKind, PlanKind};
 
-/// Writes the status's line on standard error, and nothing for an answer, a text that was made or help, and flushes. That the line could
-/// not
-/// be written ends no run otherwise.
+/// Writes the status's line on standard error, and nothing for an answer, a text that was made or help, and flushes. That the
+/// line could not be written ends no run otherwise.
 pub fn complain<H: Host>(host: &mut H, status: Status)
     ensures complains { Complains H.tells (H.channel host.old ErrRole) (H.channel host.new ErrRole) status }
     ensures kept { Kept ErrRole (H.channel host.old ErrRole).name (H.channel host.old) (H.channel host.new) (H.files host.old)
@@ -44,6 +43,9 @@ fn write_status<S: Sink>(sink: &mut S, status: Status) -> Result<(), Failed>
         }
         Status::OrderRefused(kind, line) => {
             write_refused(sink, "error: order line ", line, order_kind(kind))
+        }
+        Status::BucketsRefused(kind, line) => {
+            write_refused(sink, "error: buckets line ", line, order_kind(kind))
         }
         Status::PlanRefused(kind, line) => {
             write_refused(sink, "error: schedule line ", line, plan_kind(kind))
@@ -114,6 +116,7 @@ fn too_long(role: Role) -> &'static str
     match role {
         Role::Cnf => "error: cnf too long\n",
         Role::Order => "error: order too long\n",
+        Role::Buckets => "error: buckets too long\n",
         Role::Schedule => "error: schedule too long\n",
         Role::ProofIn | Role::ProofOut => "error: proof too long\n",
         Role::Made => "error: made too long\n",

@@ -15,23 +15,26 @@ ghost use Rattle.solver_cli.specs.ExitCode.{exit_code};
 ghost use Rattle.solver_cli.specs.Start.{OnlyTold, status_of_kind};
 ghost use Rattle.solver_cli.specs.declared.status.Status.{Status};
 ghost use Rattle.solver_cli.specs.declared.status.Status.TheVariants.{OutOfMemory};
-ghost use Rattle.solver_cli.specs.Stages.{Came, CameToAnswer, CameToBench, CameToCheck, CameToMake, FilesBeside, LeavesInputs, ShowsHelp};
-ghost use Rattle.solver_cli.specs.Stages.{Stages, bench_of, check_of, job_of, make_of, streams_of, task_of};
+ghost use Rattle.solver_cli.specs.Stages.{Came, CameToAnswer, CameToArrange, CameToBench, CameToCheck, CameToMake, FilesBeside};
+ghost use Rattle.solver_cli.specs.Stages.{LeavesInputs, ShowsHelp, Stages, arrange_of, bench_of, check_of, job_of, make_of, streams_of, task_of};
 
 use crate::answer::{Shape, status_of};
+use crate::arrangement::{order_by, put_order};
 use crate::complaint::complain;
 use crate::formula::take_formula;
 use crate::job::Job;
 use crate::judgement::judge;
 use crate::made::put_part;
-use crate::order::take_order;
+use crate::order::{take_buckets, take_order};
 use crate::output::{put_answer, put_text};
-use crate::plan::take_plan;
+use crate::plan::{buckets_name, take_plan};
 use crate::proof::prove;
-use crate::status::Status;
+use crate::status::{Status, buckets_status};
 use crate::verdict::{put_verdict, verdict_status};
 use cnf_base::Cnf;
-use command_line::{Asked, BenchTask, CheckTask, MakeTask, Refusal, SolveTask, gather, read_words};
+use command_line::{
+    Asked, BenchTask, CheckTask, MakeTask, OrderTask, Refusal, SolveTask, gather, read_words,
+};
 use host_io::{Host, MemoryHost, Role as HostRole};
 use lrat_checker::check_law;
 use lrat_rules::soundness_law;
@@ -52,6 +55,7 @@ fn work<H: Host>(alloc: Global, words: &[String], host: &mut H) -> Status
         Ok(Asked::Check(task)) => check(alloc, &task, host),
         Ok(Asked::Bench(task)) => bench(alloc, &task, host),
         Ok(Asked::Make(task)) => make(alloc, &task, host),
+        Ok(Asked::Order(task)) => arrange(alloc, &task, host),
         Err(Refusal::Help(text)) => show_help(&text, host),
         Err(Refusal::Usage) => Status::Usage,
         Err(Refusal::OutOfMemory) => Status::OutOfMemory,
@@ -87,8 +91,20 @@ fn solve<H: Host>(alloc: Global, asked: &SolveTask<'_>, host: &mut H) -> Status
         Ok(order) => order,
         Err(error) => return Status::from(error),
     };
-    let plan = match take_plan(alloc, host, &formula, &order, &asked.plan) {
-        Ok(plan) => plan,
+    let buckets = match take_buckets(alloc, host, formula.vars(), buckets_name(&asked.plan)) {
+        Ok(buckets) => buckets,
+        Err(error) => return buckets_status(error),
+    };
+    let basis = match take_plan(
+        alloc,
+        host,
+        &formula,
+        order,
+        buckets,
+        &asked.plan,
+        asked.limits,
+    ) {
+        Ok(basis) => basis,
         Err(error) => return Status::from(error),
     };
     let job = Job {
@@ -96,7 +112,7 @@ fn solve<H: Host>(alloc: Global, asked: &SolveTask<'_>, host: &mut H) -> Status
         limits: asked.limits,
         shape: None,
     };
-    answer(alloc, host, &formula, &order, &plan, &job)
+    answer(alloc, host, &formula, &basis.order, &basis.plan, &job)
 }
 
 // Makes the board and answers.
@@ -177,6 +193,31 @@ fn make<H: Host>(alloc: Global, asked: &MakeTask<'_>, host: &mut H) -> Status
     }
 }
 
+// Reads the formula, makes an order of its variables, and writes its text to the file that is named.
+fn arrange<H: Host>(alloc: Global, asked: &OrderTask<'_>, host: &mut H) -> Status
+    requires unnamed { (role : Role) → (H.channel host.old role).name ≡ None }
+    ensures came { CameToArrange H.tells (streams_of (H.channel host.old)) (streams_of (H.channel host.new)) (H.files host.old)
+        (arrange_of asked.now) result }
+    ensures error { H.channel host.new ErrRole ≡ H.channel host.old ErrRole }
+    ensures files { FilesBut (H.channel host.new Made).name (H.files host.old) (H.files host.new) }
+{
+    let formula = match take_formula(alloc, host, asked.formula, asked.mode) {
+        Ok(formula) => formula,
+        Err(error) => return Status::from(error),
+    };
+    let order = match order_by(alloc, &formula, asked.method) {
+        Ok(order) => order,
+        Err(error) => return Status::from(error),
+    };
+    if host.create(HostRole::Made, asked.out).is_err() {
+        return Status::WriteFault;
+    }
+    match put_order(host, &order) {
+        Ok(()) => Status::Done,
+        Err(_) => Status::WriteFault,
+    }
+}
+
 // Reads the formula, judges the proof over it and prints the verdict.
 fn check<H: Host>(alloc: Global, asked: &CheckTask<'_>, host: &mut H) -> Status
     requires unnamed { (role : Role) → (H.channel host.old role).name ≡ None }
@@ -200,7 +241,7 @@ fn check<H: Host>(alloc: Global, asked: &CheckTask<'_>, host: &mut H) -> Status
 }
 
 /// Does all that the program does: reads the words (the program's own name first), decides the formula and writes the
-/// proof, or judges a proof, prints the answer or what went wrong, and says how the run ends.
+/// proof, judges a proof, or makes a text, prints the answer or what went wrong, and says how the run ends.
 pub fn run<H: Host>(alloc: Global, words: &[String], host: &mut H) -> Status
     requires unnamed { (role : Role) → (H.channel host.old role).name ≡ None }
     ensures promises { Promises (record {

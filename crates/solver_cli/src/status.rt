@@ -1,6 +1,6 @@
 // How the program ends.
 ghost use Rattle.std.specs.Prelude.{◌≡◌};
-ghost use Rattle.solver_cli.specs.ExitCode.{exit_code};
+ghost use Rattle.solver_cli.specs.ExitCode.{exit_code, status_of_buckets};
 
 use dimacs_reader::{CnfError, CnfKind};
 use host_io::Role;
@@ -42,6 +42,8 @@ pub enum Status {
     CnfRefused(CnfKind, u64),
     /// The order's text is none of the formula's variables.
     OrderRefused(OrderKind, u64),
+    /// The text of the order that the buckets are formed by is none of the formula's variables.
+    BucketsRefused(OrderKind, u64),
     /// The schedule's text is no plan for the formula.
     PlanRefused(PlanKind, u64),
     /// The text of this role has more than 4,000,000,000 bytes.
@@ -66,6 +68,7 @@ impl Status {
             Status::NotVerified(..) => 1,
             Status::CnfRefused(..)
             | Status::OrderRefused(..)
+            | Status::BucketsRefused(..)
             | Status::PlanRefused(..)
             | Status::TooLong(_) => 2,
             Status::ReadFault => 3,
@@ -103,6 +106,18 @@ impl From<OrderError> for Status {
             OrderError::TooLong => Status::TooLong(Role::Order),
             OrderError::OutOfMemory => Status::OutOfMemory,
         }
+    }
+}
+
+/// How the program ends for what reading the order of the buckets answers.
+pub(crate) fn buckets_status(error: OrderError) -> Status
+    ensures { result ≡ status_of_buckets error }
+{
+    match error {
+        OrderError::Refused(kind, line) => Status::BucketsRefused(kind, line),
+        OrderError::ReadFault => Status::ReadFault,
+        OrderError::TooLong => Status::TooLong(Role::Buckets),
+        OrderError::OutOfMemory => Status::OutOfMemory,
     }
 }
 

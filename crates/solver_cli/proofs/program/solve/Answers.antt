@@ -2,7 +2,7 @@
 use Rattle.std.proofs.Common.{refl, ◌∙◌}
 use Rattle.host_io.specs.declared.role.Role.TheVariants.{Err as ErrRole}
 use Rattle.solver_cli.specs.Stages.{task_of}
-use Rattle.solver_cli.proofs.Staged.{order_of, unordered, unplanned, solved, files_left}
+use Rattle.solver_cli.proofs.Staged.{order_of, buckets_of, unordered, unbucketed, unplanned, solved, files_left}
 use Rattle.solver_cli.proofs.program.solve.Goals as goal
 
 pub returns-in-Err-take_order-clause-came : goal.returns-in-Err-take_order-clause-came
@@ -12,16 +12,30 @@ returns-in-Err-take_order-clause-came g c =
     (record { takes = c.in-Ok.ensures.takes; kept = c.in-Ok.ensures.kept })
     (order_of c.vars.ensures c.in-Err-take_order.ensures.takes) c.in-Err-take_order.ensures.kept c.from-in-Err-take_order.ensures
 
-pub returns-in-Err-take_plan-clause-came : goal.returns-in-Err-take_plan-clause-came
-returns-in-Err-take_plan-clause-came g c =
-    unplanned (g.H.Host.channel c.args.host.now) (g.H.Host.channel c.take_formula.new.host) (g.H.Host.channel c.take_order.new.host)
-    (g.H.Host.channel c.take_plan.new.host)
-    (g.H.Host.files c.args.host.now) (g.H.Host.files c.take_formula.new.host) (g.H.Host.files c.take_order.new.host)
-    (g.H.Host.files c.take_plan.new.host)
+pub returns-in-Err-take_buckets-clause-came : goal.returns-in-Err-take_buckets-clause-came
+returns-in-Err-take_buckets-clause-came g c =
+    unbucketed (g.H.Host.channel c.args.host.now) (g.H.Host.channel c.take_formula.new.host) (g.H.Host.channel c.take_order.new.host) (g.H.Host.channel c.take_buckets.new.host)
+    (g.H.Host.files c.args.host.now) (g.H.Host.files c.take_formula.new.host) (g.H.Host.files c.take_order.new.host) (g.H.Host.files c.take_buckets.new.host)
     (record {
       took = record { takes = c.in-Ok.ensures.takes; kept = c.in-Ok.ensures.kept };
       orders = order_of c.vars.ensures c.in-Ok-take_order.ensures.takes;
       kept = c.in-Ok-take_order.ensures.kept;
+    })
+    (buckets_of c.vars-2.ensures c.buckets_name.ensures c.in-Err-take_buckets.ensures.takes) c.in-Err-take_buckets.ensures.kept
+    c.buckets_status.ensures
+
+pub returns-in-Err-take_plan-clause-came : goal.returns-in-Err-take_plan-clause-came
+returns-in-Err-take_plan-clause-came g c =
+    unplanned (g.H.Host.channel c.args.host.now) (g.H.Host.channel c.take_formula.new.host) (g.H.Host.channel c.take_order.new.host) (g.H.Host.channel c.take_buckets.new.host) (g.H.Host.channel c.take_plan.new.host)
+    (g.H.Host.files c.args.host.now) (g.H.Host.files c.take_formula.new.host) (g.H.Host.files c.take_order.new.host) (g.H.Host.files c.take_buckets.new.host) (g.H.Host.files c.take_plan.new.host)
+    (record {
+      ordered = record {
+        took = record { takes = c.in-Ok.ensures.takes; kept = c.in-Ok.ensures.kept };
+        orders = order_of c.vars.ensures c.in-Ok-take_order.ensures.takes;
+        kept = c.in-Ok-take_order.ensures.kept;
+      };
+      bucketed = buckets_of c.vars-2.ensures c.buckets_name.ensures c.in-Ok-take_buckets.ensures.takes;
+      kept = c.in-Ok-take_buckets.ensures.kept;
     })
     c.in-Err-take_plan.ensures.takes c.in-Err-take_plan.ensures.kept c.from-in-Err-take_plan.ensures
 
@@ -29,10 +43,14 @@ pub returns-clause-came : goal.returns-clause-came
 returns-clause-came g c =
     solved (g.H.Host.channel c.answer.new.host)
     (record {
-      ordered = record {
-        took = record { takes = c.in-Ok.ensures.takes; kept = c.in-Ok.ensures.kept };
-        orders = order_of c.vars.ensures c.in-Ok-take_order.ensures.takes;
-        kept = c.in-Ok-take_order.ensures.kept;
+      splits = record {
+        ordered = record {
+          took = record { takes = c.in-Ok.ensures.takes; kept = c.in-Ok.ensures.kept };
+          orders = order_of c.vars.ensures c.in-Ok-take_order.ensures.takes;
+          kept = c.in-Ok-take_order.ensures.kept;
+        };
+        bucketed = buckets_of c.vars-2.ensures c.buckets_name.ensures c.in-Ok-take_buckets.ensures.takes;
+        kept = c.in-Ok-take_buckets.ensures.kept;
       };
       plans = c.in-Ok-take_plan.ensures.takes;
       kept = c.in-Ok-take_plan.ensures.kept;
@@ -43,10 +61,14 @@ pub returns-clause-files : goal.returns-clause-files
 returns-clause-files g c =
     files_left {task = task_of c.args.asked.now}
     (record {
-      ordered = record {
-        took = record { takes = c.in-Ok.ensures.takes; kept = c.in-Ok.ensures.kept };
-        orders = order_of c.vars.ensures c.in-Ok-take_order.ensures.takes;
-        kept = c.in-Ok-take_order.ensures.kept;
+      splits = record {
+        ordered = record {
+          took = record { takes = c.in-Ok.ensures.takes; kept = c.in-Ok.ensures.kept };
+          orders = order_of c.vars.ensures c.in-Ok-take_order.ensures.takes;
+          kept = c.in-Ok-take_order.ensures.kept;
+        };
+        bucketed = buckets_of c.vars-2.ensures c.buckets_name.ensures c.in-Ok-take_buckets.ensures.takes;
+        kept = c.in-Ok-take_buckets.ensures.kept;
       };
       plans = c.in-Ok-take_plan.ensures.takes;
       kept = c.in-Ok-take_plan.ensures.kept;
@@ -55,5 +77,6 @@ returns-clause-files g c =
 
 pub returns-clause-error : goal.returns-clause-error
 returns-clause-error g c =
-    c.answer.ensures.inputs.error ∙ c.in-Ok-take_plan.ensures.kept.others ErrRole refl ∙ c.in-Ok-take_order.ensures.kept.others ErrRole refl
+    c.answer.ensures.inputs.error ∙ c.in-Ok-take_plan.ensures.kept.others ErrRole refl
+    ∙ c.in-Ok-take_buckets.ensures.kept.others ErrRole refl ∙ c.in-Ok-take_order.ensures.kept.others ErrRole refl
     ∙ c.in-Ok.ensures.kept.others ErrRole refl

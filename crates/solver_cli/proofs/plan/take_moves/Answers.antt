@@ -1,7 +1,7 @@
--- What is left to show of `take_schedule`.
+-- What is left to show of `take_moves`.
 use Rattle.std.proofs.Common.{rules, refl}
 use Rattle.solver_cli.proofs.Reading.{unopened, taken}
-use Rattle.solver_cli.proofs.plan.take_schedule.Goals as goal
+use Rattle.solver_cli.proofs.plan.take_moves.Goals as goal
 
 pub returns-then-is_err-clause-takes : goal.returns-then-is_err-clause-takes
 returns-then-is_err-clause-takes g c = unopened refl c.open_read.ensures.opens (search rules)
