@@ -1,5 +1,5 @@
 -- What a trial of a plan tells.
-use Rattle.std.specs.Prelude.{ℕ, ◌≤◌, max, List, length}
+use Rattle.std.specs.Prelude.{◌≤◌, max, List, length}
 use Rattle.cnf_base.specs.Formula.{Formula}
 use Rattle.schedule_plan.specs.declared.plan.Move.{Move}
 use Rattle.schedule_plan.specs.declared.limits.Limits.{Limits}
