@@ -10,6 +10,8 @@ mod depth;
 #[cfg(test)]
 mod disjunctions;
 #[cfg(test)]
+mod found;
+#[cfg(test)]
 mod implications;
 #[cfg(test)]
 mod nodes;
@@ -29,3 +31,5 @@ mod support;
 mod swept;
 #[cfg(test)]
 mod terms;
+#[cfg(test)]
+mod trials;

@@ -1,5 +1,5 @@
 -- How a run ends, by what its moves led to and by the flush.
-use Rattle.std.proofs.Common.{◌≡◌, ◌≢◌, ◌≤◌, ℕ, Bool, true, false, ℤ, List, length, Option, None, Some, Result, Ok, Err, refl, sym, ap, ◌∙◌}
+use Rattle.std.proofs.Common.{◌≡◌, ◌≢◌, ◌≤◌, ℕ, max, Bool, true, false, ℤ, List, length, Option, None, Some, Result, Ok, Err, refl, sym, ap, ◌∙◌}
 use Rattle.std.proofs.Common.{subst, arith, inl, inr}
 use Rattle.std.specs.Prelude.{IsTrue, IfOk}
 use Rattle.std.specs.List.{list_all}
@@ -22,7 +22,7 @@ use Rattle.term_runner.specs.Price.{AreAmple, IsDecision, IsMovePrice, IsPaidFor
 use Rattle.term_runner.specs.Proofs.{IsProof, IsProofOfKind, LeadsTo}
 use Rattle.term_runner.specs.Width.{HasWidth}
 use Rattle.term_runner.specs.Ends.{Ends, Says, Shows, outcome_of}
-use Rattle.term_runner.specs.Opened.{IsFlushed, Leads}
+use Rattle.term_runner.specs.Opened.{EndsWithin, IsFlushed, Leads}
 
 -- what the bytes of a proof are
 pub written_of : (clauses : List (List ℤ)) (tells : Bool) (channel : Channel) (state : State) → IsProofOf clauses tells channel state
@@ -65,6 +65,7 @@ module _ (tells : Bool) (before mid after : Channel) (formula : Formula) (order 
     pub tautologies : IsTrue (list_all is_tautology formula.clauses) → mid.written ≡ before.written
     pub name : mid.name ≡ before.name
     pub unfailed : mid.faults ≡ before.faults
+    pub small : run.last_id ≤ max (length formula.clauses) limits.max_ids
 
   stays : (run : Run) → Shown run → after.written ≡ mid.written → after.name ≡ mid.name → after.faults ≡ mid.faults
       → (IsTrue tells → after.flushed ≡ length after.written)
@@ -107,12 +108,12 @@ module _ (tells : Bool) (before mid after : Channel) (formula : Formula) (order 
   }
 
   pub flushed_ends : (run : Run) (result : Result Run RunError) → IsFlushed tells mid after (Ok run) result → Shown run
-      → Ends tells before after formula order moves limits result
+      → EndsWithin tells before after formula order moves limits result
   flushed_ends run result flushes shown = elim flushes.ends [
-    | inl same ↦ subst (λ (r : Result Run RunError). Ends tells before after formula order moves limits r) (sym same.0)
-        (stays run shown flushes.written flushes.name same.2 same.1)
-    | inr broke ↦ subst (λ (r : Result Run RunError). Ends tells before after formula order moves limits r) (sym broke.0)
-        (fails run shown flushes.written flushes.name flushes.faults broke.1)
+    | inl same ↦ subst (λ (r : Result Run RunError). EndsWithin tells before after formula order moves limits r) (sym same.0)
+        (record { ends = stays run shown flushes.written flushes.name same.2 same.1; last = shown.small })
+    | inr broke ↦ subst (λ (r : Result Run RunError). EndsWithin tells before after formula order moves limits r) (sym broke.0)
+        (record { ends = fails run shown flushes.written flushes.name flushes.faults broke.1; last = tt })
   ]
 
   module _ {S : Type 0} (book : Book S) where
@@ -147,6 +148,7 @@ module _ (tells : Bool) (before mid after : Channel) (formula : Formula) (order 
       tautologies = leads.tautologies;
       name = leads.name;
       unfailed = leads.unfailed (λ e. cc);
+      small = subst (λ (n : ℕ). n ≤ max (length formula.clauses) limits.max_ids) (sym top) (leads.within (λ e. cc)).numbers;
     }
 
     -- without an outcome nothing is flushed

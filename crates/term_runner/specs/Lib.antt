@@ -10,3 +10,4 @@ pub mod Opened
 pub mod Held
 pub mod Tidy
 pub mod Examples
+pub mod Trial

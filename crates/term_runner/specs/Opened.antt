@@ -1,5 +1,5 @@
 -- A run's beginning and its end, over the ledger.
-use Rattle.std.specs.Prelude.{◌≡◌, ◌≢◌, ◌⊎◌, ◌≤◌, ℕ, ℤ, Bool, List, [], length, Option, None, Some, Result, Err, IfOk, IsTrue}
+use Rattle.std.specs.Prelude.{◌≡◌, ◌≢◌, ◌⊎◌, ◌≤◌, ℕ, ℤ, max, Bool, List, [], length, Option, None, Some, Result, Err, IfOk, IsTrue}
 use Rattle.std.specs.List.{list_all}
 use Rattle.cnf_base.specs.Truth.{AreClausesOf}
 use Rattle.cnf_base.specs.Formula.{Formula}
@@ -16,7 +16,7 @@ use Rattle.term_runner.specs.declared.outcome.Run.{Run}
 use Rattle.term_runner.specs.declared.error.RunError.{RunError}
 use Rattle.term_runner.specs.declared.error.RunError.TheVariants.{WriteFault}
 use Rattle.term_runner.specs.Clauses.{is_tautology}
-use Rattle.term_runner.specs.Ends.{Says, Shows}
+use Rattle.term_runner.specs.Ends.{Ends, Says, Shows}
 use Rattle.term_runner.specs.Price.{AreAmple, IsDecision, IsMovePrice, IsPaidFor}
 use Rattle.term_runner.specs.Proofs.{IsBroken, IsBrokenOfKind, KeepsWithin}
 use Rattle.term_runner.specs.Width.{HasWidth}
@@ -71,3 +71,9 @@ pub record Leads {S : Type 0} (tells : Bool) (before after : Channel) (formula :
   pub tautologies : IsTrue (list_all is_tautology formula.clauses) → after.written ≡ before.written
   pub name : after.name ≡ before.name
   pub faults : before.faults ≤ after.faults
+
+-- A run ends so, and with an outcome its last number is not above those of the formula and the greatest allowed.
+pub record EndsWithin (tells : Bool) (before after : Channel) (formula : Formula) (order : List ℕ) (moves : List Move) (limits : Limits)
+    (result : Result Run RunError) : Type 0 where
+  pub ends : Ends tells before after formula order moves limits result
+  pub last : IfOk result (λ run. run.last_id ≤ max (length formula.clauses) limits.max_ids)

@@ -20,6 +20,7 @@ ghost use Rattle.term_runner.specs.Held.{IsReady, top_node};
 use crate::caches::Caches;
 use crate::held::HeldTerm;
 use crate::open::are_tautologies;
+use crate::progress::Progress;
 use crate::reclamation::take_move;
 use clause_terms::{Model, Trail, recover};
 use cnf_base::Cnf;
@@ -29,19 +30,24 @@ use node_table::{
 };
 use schedule_plan::Plan;
 use std::alloc::Global;
-use std::mem::forget;
 
 /// Decides a formula without empty clauses, from a table without nodes: a model, or None where the empty clause was
-/// added. Where all clauses are tautologies no node or clause is made.
+/// added. Where all clauses are tautologies no node or clause is made. The caches, which are empty and of this capacity,
+/// are used by all moves.
 pub fn decide<S: Sink + Drop>(
     alloc: Global,
     table: &mut Table<S>,
+    caches: &mut Caches,
     formula: &Cnf,
     plan: &Plan,
     capacity: u32,
+    progress: &mut Progress,
 ) -> Result<Option<Model>, TableError>
     requires plan { IsAdmissible formula.now plan.now }
     requires capacity { 1 ≤ capacity }
+    requires no_entries { all_entries caches.old ≡ [] }
+    requires size { HaveSize caches.old capacity }
+    requires begun { progress.old.moves ≡ 0 }
     requires ready { IsReady formula.now table.old [] }
     requires empty { table.old.graph.nodes ≡ map.empty }
     requires settled { table.old.retired ≡ [] }
@@ -60,6 +66,7 @@ pub fn decide<S: Sink + Drop>(
         (levels table.old.graph) table.old.inputs capacity table.new.book.state) }
     // A node that is wanted is refused for want of room.
     ensures short { result ≡ Err NodeLimit → RunsShort formula.now table.old.graph.order plan.now table.new.graph }
+    ensures counted { progress.new.moves ≤ length plan.now }
     ensures beside { S.beside table.new.book.sink ≡ S.beside table.old.book.sink }
 {
     steps_law::<S>();
@@ -71,46 +78,10 @@ pub fn decide<S: Sink + Drop>(
         let model = recover(alloc, table, Node::True, &Trail::new(alloc))?;
         return Ok(Some(model));
     }
-    run_moves(alloc, table, formula, plan, capacity)
+    take_moves(alloc, table, caches, formula, plan, capacity, progress)
 }
 
-// Runs the moves over caches of their own. The memory of these stays taken: to let entries go one by one would take longer
-// than some runs, and a program that decides a formula ends soon.
-fn run_moves<S: Sink + Drop>(
-    alloc: Global,
-    table: &mut Table<S>,
-    formula: &Cnf,
-    plan: &Plan,
-    capacity: u32,
-) -> Result<Option<Model>, TableError>
-    requires plan { IsAdmissible formula.now plan.now }
-    requires capacity { 1 ≤ capacity }
-    requires ready { IsReady formula.now table.old [] }
-    requires empty { table.old.graph.nodes ≡ map.empty }
-    requires settled { table.old.retired ≡ [] }
-    requires fresh { table.old.inputs ≡ table.old.book.state.top }
-    ensures found { IfOk result (λ found. MatchOption found ((id : ℕ) × (clause_at table.new.book.state.live id ≡ Some []))
-        (λ model. IsRecovered formula.now table.old.graph.order plan.now model)) }
-    ensures leaves { Leaves S.tells (S.channel table.old.book.sink) (S.channel table.new.book.sink) table.old table.new (error_of result) }
-    ensures paid { (width price : ℕ) → HasWidth formula.now table.old.graph.order plan.now width
-        → IsMovePrice (levels table.old.graph) capacity width price
-        → LeavesKind S.tells (S.channel table.old.book.sink) (S.channel table.new.book.sink) table.old table.new
-        (IsPaid (levels table.old.graph) table.old.inputs (length plan.now) capacity width price) (error_of result) }
-    ensures lean { IfOk result (λ found. IsSome found → IsLeanAtEnd
-        (levels table.old.graph) table.old.inputs capacity table.new.book.state) }
-    ensures short { result ≡ Err NodeLimit → RunsShort formula.now table.old.graph.order plan.now table.new.graph }
-    ensures beside { S.beside table.new.book.sink ≡ S.beside table.old.book.sink }
-{
-    steps_law::<S>();
-    in_use_law();
-    lean_law::<S>();
-    let mut caches = Caches::new(alloc, capacity)?;
-    let found = take_moves(alloc, table, &mut caches, formula, plan, capacity);
-    forget(caches);
-    found
-}
-
-// Takes the moves in turn, until the empty clause is added or the plan ends. `capacity` is that of the caches.
+// Takes the moves in turn, until the empty clause is added or the plan ends, and counts those that are done.
 fn take_moves<S: Sink + Drop>(
     alloc: Global,
     table: &mut Table<S>,
@@ -118,11 +89,13 @@ fn take_moves<S: Sink + Drop>(
     formula: &Cnf,
     plan: &Plan,
     capacity: u32,
+    progress: &mut Progress,
 ) -> Result<Option<Model>, TableError>
     requires plan { IsAdmissible formula.now plan.now }
     requires capacity { 1 ≤ capacity }
     requires no_entries { all_entries caches.old ≡ [] }
     requires size { HaveSize caches.old capacity }
+    requires begun { progress.old.moves ≡ 0 }
     requires ready { IsReady formula.now table.old [] }
     requires empty { table.old.graph.nodes ≡ map.empty }
     requires settled { table.old.retired ≡ [] }
@@ -137,6 +110,7 @@ fn take_moves<S: Sink + Drop>(
     ensures lean { IfOk result (λ found. IsSome found → IsLeanAtEnd
         (levels table.old.graph) table.old.inputs capacity table.new.book.state) }
     ensures short { result ≡ Err NodeLimit → RunsShort formula.now table.old.graph.order plan.now table.new.graph }
+    ensures counted { progress.new.moves ≤ length plan.now }
     ensures beside { S.beside table.new.book.sink ≡ S.beside table.old.book.sink }
 {
     steps_law::<S>();
@@ -159,6 +133,7 @@ fn take_moves<S: Sink + Drop>(
         )? {
             return Ok(None);
         }
+        progress.note(table.ledger().last_id());
     }
     caches.few_law();
     let model = recover(alloc, table, top(stack.as_slice()), &trail)?;

@@ -12,8 +12,7 @@ ghost use Rattle.node_table.specs.declared.error.TableError.TheVariants.{NodeLim
 ghost use Rattle.schedule_plan.specs.declared.limits.Limits.{Limits};
 ghost use Rattle.term_runner.specs.declared.error.RunError.TheVariants.{WriteFault as Torn};
 ghost use Rattle.term_runner.specs.Clauses.{first_empty, has_empty_clause};
-ghost use Rattle.term_runner.specs.Ends.{Ends};
-ghost use Rattle.term_runner.specs.Opened.{IsFlushed, IsOpened, Leads};
+ghost use Rattle.term_runner.specs.Opened.{EndsWithin, IsFlushed, IsOpened, Leads};
 
 use crate::error::RunError;
 use crate::outcome::{Outcome, Run, outcome_of};
@@ -32,7 +31,7 @@ pub fn finish<S: Sink + Drop>(
     requires in_step { found ≢ Err Torn → IsTrue ledger.old.in_step }
     ensures ends { (before : Channel) (formula : Formula) (order : List ℕ) (moves : List Move) (limits : Limits)
         → Leads S.tells before (S.channel ledger.old.sink) formula order moves limits ledger.old found
-        → Ends S.tells before (S.channel ledger.new.sink) formula order moves limits result }
+        → EndsWithin S.tells before (S.channel ledger.new.sink) formula order moves limits result }
     ensures beside { S.beside ledger.new.sink ≡ S.beside ledger.old.sink }
 {
     let last_id = ledger.last_id();
@@ -63,7 +62,7 @@ pub fn refute<S: Sink + Drop>(ledger: &mut Ledger<S>, number: usize) -> Result<R
     ensures ends { (formula : Formula) (order : List ℕ) (moves : List Move) (limits : Limits)
         → IsOpened S.tells (S.channel ledger.old.sink) formula limits.max_ids ledger.old
         → number ≡ first_empty formula.clauses → IsTrue (has_empty_clause formula.clauses) → 0 < length moves
-        → Ends S.tells (S.channel ledger.old.sink) (S.channel ledger.new.sink) formula order moves limits result }
+        → EndsWithin S.tells (S.channel ledger.old.sink) (S.channel ledger.new.sink) formula order moves limits result }
     ensures beside { S.beside ledger.new.sink ≡ S.beside ledger.old.sink }
 {
     start_law();

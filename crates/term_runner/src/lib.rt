@@ -13,9 +13,11 @@ mod held;
 mod moves;
 mod open;
 mod outcome;
+mod progress;
 mod quantification;
 mod reclamation;
 mod run;
+mod trial;
 mod unit;
 
 pub use clause_terms::{Model, Trail, push_clause, recover};
@@ -24,3 +26,4 @@ pub use examples::width_example;
 pub use outcome::{Outcome, Run};
 pub use run::{run_plan, run_plan_into};
 pub use schedule_plan::Limits;
+pub use trial::{Trial, TrialEnd, try_plan};

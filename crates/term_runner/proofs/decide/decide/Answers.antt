@@ -29,16 +29,16 @@ pub returns-then-are_tautologies-clause-leaves : goal.returns-then-are_tautologi
 returns-then-are_tautologies-clause-leaves g c = (c.steps_law.ensures.none c.args.table.now c.requires.ready.sound).leaves
 
 pub returns-clause-found : goal.returns-clause-found
-returns-clause-found g c = c.run_moves.ensures.found
+returns-clause-found g c = c.take_moves.ensures.found
 
 pub returns-clause-leaves : goal.returns-clause-leaves
-returns-clause-leaves g c = c.run_moves.ensures.leaves
+returns-clause-leaves g c = c.take_moves.ensures.leaves
 
 pub returns-clause-short : goal.returns-clause-short
-returns-clause-short g c = c.run_moves.ensures.short
+returns-clause-short g c = c.take_moves.ensures.short
 
 pub returns-clause-beside : goal.returns-clause-beside
-returns-clause-beside g c = c.run_moves.ensures.beside
+returns-clause-beside g c = c.take_moves.ensures.beside
 
 -- nothing was added to the formula's clauses
 none_there : (g : Over) (c : After-are_tautologies g) (width price : ℕ)
@@ -68,7 +68,7 @@ returns-in_err-model-clause-paid g c width price has is =
     (none_there g (goal.at.returns-in_err-model-clause-paid g c).After-are_tautologies width price)
 
 pub returns-clause-paid : goal.returns-clause-paid
-returns-clause-paid g c = c.run_moves.ensures.paid
+returns-clause-paid g c = c.take_moves.ensures.paid
 
 pub returns-then-are_tautologies-clause-lean : goal.returns-then-are_tautologies-clause-lean
 returns-then-are_tautologies-clause-lean g c some =
@@ -78,4 +78,4 @@ returns-then-are_tautologies-clause-lean g c some =
     omega (arith, lean)
 
 pub returns-clause-lean : goal.returns-clause-lean
-returns-clause-lean g c = c.run_moves.ensures.lean
+returns-clause-lean g c = c.take_moves.ensures.lean

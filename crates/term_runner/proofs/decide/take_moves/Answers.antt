@@ -48,6 +48,7 @@ moves-init g c =
     let table = c.args.table.now in
     record {
       few = omega arith;
+      counted = c.requires.begun;
       tidy = inl (let none = no_nodes table.graph c.requires.empty in omega (arith, none));
       left = λ width has. omega arith;
       price = λ width price has is. omega arith;
@@ -144,6 +145,7 @@ moves-preserved g c =
     ≡ Some next.next) shift moved in
     record {
       few = omega (arith, c.moves-test.true, c.len-i-end.ensures);
+      counted = omega (arith, c.note.ensures, c.moves.invariant.counted);
       price = λ width price has is. so_far g (goal.at.moves-preserved g c).After-take_move width price has is;
       size = c.in_ok-take_move.ensures.sizes ∙ c.moves.invariant.size;
       tidy = c.in_ok-take_move.ensures.tidy (ap Ok c.if-branch.false);

@@ -14,6 +14,7 @@ use Rattle.term_runner.proofs.decide.take_moves.Given as goal
 abbrev pub invariant-moves : goal.invariant-moves
 invariant-moves g l = record {
   few : l.i ≤ length l.plan;
+  counted : l.progress.moves ≡ l.i;
   tidy : IsTidy (live_nodes l.table.graph) l.left;
   left : (width : ℕ) → HasWidth l.formula l.fn.table.graph.order l.plan width → l.left ≤ width;
   price : (width price : ℕ) → HasWidth l.formula l.fn.table.graph.order l.plan width

@@ -1,0 +1,11 @@
+-- What is left to show of `bucket_plan`.
+use Rattle.plan_search.proofs.trial.bucket_plan.Goals as goal
+
+pub returns : goal.returns
+returns c = record {
+  elimination = c.args.elimination.now;
+  order = c.as_slice.ensures.order;
+  variables = c.requires;
+  moves = c.in_ok-plan.ensures.moves;
+  admissible = c.in_ok-plan.ensures.admissible;
+}

@@ -1,0 +1,25 @@
+-- What a search finds: an order of the diagrams, and the bucket plan of an order.
+use Rattle.std.specs.Prelude.{◌≡◌, ℕ, List, length, min, ◌+◌}
+use Rattle.cnf_base.specs.Formula.{Formula}
+use Rattle.cnf_base.specs.Order.{IsOrder}
+use Rattle.schedule_plan.specs.Bucket.{bucket}
+use Rattle.schedule_plan.specs.Plan.{IsAdmissible}
+use Rattle.schedule_plan.specs.declared.plan.Move.{Move}
+use Rattle.schedule_plan.specs.declared.limits.Limits.{Limits}
+
+-- The moves are the bucket plan over some order of the formula's variables, and admissible.
+pub record IsBucketPlan (problem : Formula) (plan : List Move) : Type 0 where
+  pub elimination : List ℕ
+  pub order : IsOrder elimination
+  pub variables : length elimination ≡ problem.vars
+  pub moves : plan ≡ bucket problem elimination
+  pub admissible : IsAdmissible problem plan
+
+-- The order has the formula's variables, and the moves are a bucket plan.
+pub record IsFound (problem : Formula) (order : List ℕ) (moves : List Move) : Type 0 where
+  pub variables : length order ≡ problem.vars
+  pub plan : IsBucketPlan problem moves
+
+-- the limits of a trial that may use so many clause numbers above the formula's: never a number above the greatest allowed
+abbrev pub limits_of_trial : Formula → ℕ → Limits → Limits
+limits_of_trial problem above limits = record limits { max_ids = min (length problem.clauses + above) limits.max_ids }

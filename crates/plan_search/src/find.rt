@@ -1,0 +1,140 @@
+// The search: trials of the pairs in turn, until one decides the formula.
+ghost use Rattle.std.specs.Prelude.{◌≡◌, length, IfOk, IfSome};
+ghost use Rattle.schedule_plan.specs.Limits.{AreLimits};
+ghost use Rattle.plan_search.specs.Found.{IsBucketPlan, IsFound};
+
+use crate::candidates::{Candidates, NATURAL, Next, Pair};
+use crate::estimate::estimate;
+use crate::orders::{Kind, Orders};
+use crate::trial::{Tried, attempt, planned};
+use cnf_base::{Cnf, OutOfMemory};
+use schedule_plan::{Limits, Order, Plan};
+use std::alloc::Global;
+use term_runner::TrialEnd;
+
+// Each of the nine pairs has at most 20 trials: the first has at least 6,250 numbers, and each next one four times as many, up
+// to at most 10^15.
+const MOST_TRIALS: u32 = 180;
+
+/// An order of the diagrams, and the bucket plan of an order.
+#[derive(Debug, Drop)]
+pub struct FoundPlan {
+    pub order: Order,
+    pub plan: Plan,
+}
+
+/// Looks for a plan that decides a formula soon. `natural` is the order of the variables that is tried beside those that are
+/// found. Where no trial decides the formula within the limits, the plan is the one that is estimated to need the fewest clause
+/// numbers. Where there is no memory for other orders or for trials, it is the one over `natural`; so want of memory is only
+/// answered where there is none for that.
+pub fn find_plan(
+    alloc: Global,
+    formula: &Cnf,
+    natural: Order,
+    limits: Limits,
+) -> Result<FoundPlan, OutOfMemory>
+    requires order { length natural ≡ formula.now.vars }
+    requires limits { AreLimits limits }
+    ensures { IfOk result (λ found. IsFound formula.now found.order found.plan) }
+{
+    let mut orders = Orders::new(formula.vars(), natural);
+    let answer = search(alloc, formula, limits, &mut orders);
+    let (kind, plan) = settled(alloc, formula, &mut orders, answer)?;
+    let order = orders.into_order(kind);
+    Ok(FoundPlan { order, plan })
+}
+
+// The pair that was found, and its plan where a trial of it decided the formula.
+#[derive(Drop)]
+struct Answer {
+    pair: Pair,
+    plan: Option<Plan>,
+}
+
+fn search(alloc: Global, formula: &Cnf, limits: Limits, orders: &mut Orders) -> Answer
+    requires limits { AreLimits limits }
+    requires orders { orders.old ≡ formula.now.vars }
+    ensures plan { IfSome result.plan (IsBucketPlan formula.now) }
+    ensures same { orders.new ≡ orders.old }
+{
+    // With no memory for the hypergraph no other order can be made.
+    let Ok(size) = orders.size(alloc, formula) else {
+        return Answer {
+            pair: NATURAL,
+            plan: None,
+        };
+    };
+    let most = limits.max_ids.saturating_sub(formula.len() as u64);
+    let mut candidates = Candidates::new(size, most);
+    'trials: for _ in 0..MOST_TRIALS {
+        let Some(next) = candidates.next() else {
+            break;
+        };
+        if let Some(plan) = tried(alloc, formula, limits, orders, &mut candidates, &next) {
+            return Answer {
+                pair: next.pair,
+                plan: Some(plan),
+            };
+        }
+    }
+    Answer {
+        pair: candidates.best(),
+        plan: None,
+    }
+}
+
+// Makes one trial, and notes what it told. The plan, where the trial decided the formula.
+fn tried(
+    alloc: Global,
+    formula: &Cnf,
+    limits: Limits,
+    orders: &mut Orders,
+    candidates: &mut Candidates,
+    next: &Next,
+) -> Option<Plan>
+    requires limits { AreLimits limits }
+    requires orders { orders.old ≡ formula.now.vars }
+    ensures plan { IfSome result (IsBucketPlan formula.now) }
+    ensures same { orders.new ≡ orders.old }
+{
+    let Ok(tried) = attempt(alloc, formula, limits, orders, next) else {
+        candidates.take_out(next, u64::MAX);
+        return None;
+    };
+    let Tried { plan, trial } = tried;
+    let estimate = estimate(next.above, plan.len(), &trial);
+    match trial.end {
+        TrialEnd::Decided => Some(plan),
+        TrialEnd::NodeLimit => {
+            candidates.take_out(next, estimate);
+            None
+        }
+        TrialEnd::IdLimit => {
+            candidates.reached(next, estimate);
+            None
+        }
+    }
+}
+
+// The plan of the answer with the kind of its order of the diagrams; the plan over the given order where there is no memory.
+fn settled(
+    alloc: Global,
+    formula: &Cnf,
+    orders: &mut Orders,
+    answer: Answer,
+) -> Result<(Kind, Plan), OutOfMemory>
+    requires orders { orders.old ≡ formula.now.vars }
+    requires plan { IfSome answer.plan (IsBucketPlan formula.now) }
+    ensures plan { IfOk result (λ found. IsBucketPlan formula.now found.1) }
+    ensures same { orders.new ≡ orders.old }
+{
+    let Answer { pair, plan } = answer;
+    if let Some(plan) = plan {
+        return Ok((pair.diagrams, plan));
+    }
+    if let Ok(plan) = planned(alloc, formula, orders, pair) {
+        return Ok((pair.diagrams, plan));
+    }
+    let plan = planned(alloc, formula, orders, NATURAL)?;
+    Ok((Kind::Natural, plan))
+}
