@@ -392,6 +392,15 @@ def short_clauses(variables, count):
         yield " ".join(str(int(draw() * variables + 1) * (1 if draw() < 0.5 else -1)) for _ in range(3)) + " 0\n"
 
 
+def close_clauses(variables, count, width=10):
+    """The same, but the variables stand within ten places of one another on a line, under names at random."""
+    it = random.Random(variables)
+    names, draw, step = it.sample(range(1, variables + 1), variables), it.random, (variables - width) / count
+    for number in range(count):
+        first = int(number * step)
+        yield " ".join(str(names[first + int(draw() * width)] * (1 if draw() < 0.5 else -1)) for _ in range(3)) + " 0\n"
+
+
 def three_literals(it, variables):
     draw, inputs = random.Random(variables), it.some(variables)
     for _ in range(round(4.26 * variables)):
