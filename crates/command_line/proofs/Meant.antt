@@ -1,15 +1,18 @@
 -- From the clauses of the parser to the meaning of the words.
 use Rattle.std.proofs.Common.{◌≡◌, ℕ, true, List, [], ◌∷◌, Some, None, refl, sym, ap, ◌∙◌, subst, inl, inr, codes, map}
-use Rattle.std.specs.Prelude.{Option, ◌⊎◌}
+use Rattle.std.specs.Prelude.{Option, Result, Ok, Err, IfOk, IfErr, MatchResult, ◌⊎◌}
+use Rattle.std.specs.Result.{IsErrAnd}
 use Rattle.std.specs.Option.{option_and_then}
-use Rattle.clap.specs.Words.{App, HasMatchesOf, IsAmong, Row, Text, fault_of, first_of, first_value, found_of, is_simple}
+use Rattle.clap.specs.Words.{App, FailsBy, HasMatchesOf, IsAmong, Row, kind_of, Text, fault_of, first_of, first_value, found_of, is_simple}
 use Rattle.clap.specs.Words.{is_simple_and_free, rows_of, subcommand_of, subcommand_rows_of}
 use Rattle.clap.specs.declared.ArgMatches.{ArgMatches}
+use Rattle.clap.specs.declared.error.Error.{Error}
 use Rattle.clap.specs.declared.error.ErrorKind.{ErrorKind}
 use Rattle.clap.specs.declared.error.ErrorKind.TheVariants as kind
 use Rattle.command_line.specs.declared.words.Refusal.{Refusal}
 use Rattle.command_line.specs.declared.words.Refusal.TheVariants as refusal
-use Rattle.command_line.specs.Reading.{IsRefusal, IsRefusalOf}
+use Rattle.command_line.specs.declared.words.Asked.{Asked}
+use Rattle.command_line.specs.Reading.{IsRefusal, IsRefusalOf, IsTaken, command_of}
 use Rattle.clap.proofs.OnLiterals.{clap_on_literals}
 use Rattle.clap.proofs.WalkLemmas.{first_value-rows}
 use Rattle.dimacs_reader.specs.declared.mode.Mode.{Mode}
@@ -172,3 +175,18 @@ refusal_due words k (refusal.Help text) may is = subst (λ (m : Meaning). MayMea
       apart e = cc
 refusal_due words k refusal.Usage may is = subst (λ (m : Meaning). MayMean words m) is.1 (may is.0)
 refusal_due words k refusal.OutOfMemory may is = tt
+
+-- and so is what the parser's answer comes to
+pub answered : {app : App} (words : List Text) (parsed : Result ArgMatches Error) (answer : Result Asked Refusal) → app ≡ the_app
+    → (is_simple_and_free app ≡ true → FailsBy (fault_of app words) parsed) → IfOk parsed (HasMatchesOf app words)
+    → IfOk parsed (λ m. IsTaken (subcommand_rows_of m) answer)
+    → IfErr parsed (λ e. IsErrAnd answer (IsRefusalOf (kind_of e)))
+    → MatchResult answer (λ asked. command words ≡ Some (command_of asked)) (IsRefusal words)
+answered words (Ok m) (Ok asked) is kinds matches means _ =
+    taken_command words _ (taken words m (Asks (command_of asked)) is kinds matches means)
+answered words (Ok m) (Err (refusal.Help text)) is kinds matches means _ = absurd means
+answered words (Ok m) (Err refusal.Usage) is kinds matches means _ = taken_misuse words (taken words m Misuse is kinds matches means)
+answered words (Ok m) (Err refusal.OutOfMemory) is kinds matches means _ = absurd means
+answered words (Err e) (Ok asked) is kinds matches _ refusal = absurd refusal
+answered words (Err e) (Err r) is kinds matches _ refusal =
+    refusal_due words (kind_of e) r (λ other. refused words (kind_of e) kind.OutOfMemory is kinds other) refusal

@@ -1,6 +1,7 @@
 -- What reading the words answers.
-use Rattle.std.specs.Prelude.{◌≡◌, ◌≢◌, ◌⊎◌, ℕ, List, ⊤, Option, option_map, IfSome}
+use Rattle.std.specs.Prelude.{◌≡◌, ◌≢◌, ◌⊎◌, ℕ, List, ⊤, Option, option_map, IfSome, Result, Ok, Err}
 use Rattle.std.specs.Borrow.{Bor}
+use Rattle.clap.specs.Words.{Row, Text}
 use Rattle.clap.specs.declared.error.ErrorKind.{ErrorKind}
 use Rattle.clap.specs.declared.error.ErrorKind.TheVariants as kind
 use Rattle.schedule_plan.specs.Limits.{AreLimits}
@@ -11,7 +12,7 @@ use Rattle.command_line.specs.declared.words.Asked.TheVariants as asked
 use Rattle.command_line.specs.declared.words.Refusal.{Refusal}
 use Rattle.command_line.specs.declared.words.Refusal.TheVariants as refusal
 use Rattle.command_line.specs.Command.{Command, Solve, Check, Bench, Make, Arrange, Planned, ByName, ByFile, ByBuckets, Found}
-use Rattle.command_line.specs.Command.{AsksHelp, Misuse, MayMean, IsSize, limits_of, refusal_means, size_of}
+use Rattle.command_line.specs.Command.{Asks, AsksHelp, Misuse, MayMean, IsSize, limits_of, refusal_means, size_of, taken_means}
 
 -- the text behind a reference that may be there
 abbrev pub text_of : Option (Bor (List ℕ)) → Option (List ℕ)
@@ -44,6 +45,13 @@ command_of (asked.Order task) =
 -- its limits are ones that a run may have, and the board that it is about has one of the sizes
 abbrev pub IsWithin : Command → Type 0
 IsWithin asked = AreLimits (limits_of asked) × IfSome (size_of asked) IsSize
+
+-- Words that the parser took, with these values, ask for a command, or are faulty; want of memory is never told for them.
+abbrev pub IsTaken : Option (Text × List Row) → Result Asked Refusal → Type 0
+IsTaken rows (Ok asked) = taken_means rows ≡ Asks (command_of asked)
+IsTaken rows (Err (refusal.Help text)) = ⊥
+IsTaken rows (Err refusal.Usage) = taken_means rows ≡ Misuse
+IsTaken rows (Err refusal.OutOfMemory) = ⊥
 
 -- What a refusal of the parser is, by its kind. Memory may run out in the parser, or where the text of help is made.
 abbrev pub IsRefusalOf : ErrorKind → Refusal → Type 0

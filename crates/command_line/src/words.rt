@@ -1,14 +1,14 @@
 // The words of the command line: what the parser takes, and this program's own test of the names.
 ghost use Rattle.std.specs.Prelude.{◌≡◌, MatchOption, MatchResult, IfOk, IfErr, IfSome, Some, map};
 ghost use Rattle.std.specs.String.{string_bytes};
+ghost use Rattle.std.specs.Result.{IsErrAnd};
 ghost use Rattle.std.specs.Iterator.{IsFinite};
 ghost use Rattle.std.specs.Iterator.Runs.{WholeRun};
 ghost use Rattle.clap.specs.Words.{found_of, kind_of, rows_of, subcommand_rows_of};
 ghost use Rattle.schedule_plan.specs.Limits.{AreLimits};
 ghost use Rattle.command_line.specs.Command.{Asks, IsSize, Misuse, board_means, check_means, command, command_means, limits_of, size_of};
 ghost use Rattle.command_line.specs.Command.{solve_means, taken_means};
-ghost use Rattle.command_line.specs.declared.words.Refusal.TheVariants.{Usage};
-ghost use Rattle.command_line.specs.Reading.{IsRefusal, IsRefusalOf, IsWithin, command_of};
+ghost use Rattle.command_line.specs.Reading.{IsRefusal, IsRefusalOf, IsTaken, IsWithin, command_of};
 
 use crate::board::{BenchTask, MakeTask, bench_asked, make_asked};
 use crate::limits::limits_among;
@@ -76,10 +76,22 @@ pub fn read_words(alloc: Global, words: &[String]) -> Result<Asked<'_>, Refusal>
     ensures limits { IfOk result (λ asked. AreLimits (limits_of (command_of asked))) }
     ensures size { IfOk result (λ asked. IfSome (size_of (command_of asked)) IsSize) }
 {
-    let Ok(parser) = parser(alloc) else {
-        return Err(Refusal::OutOfMemory);
-    };
-    match parser.try_get_matches_from(words) {
+    match parser(alloc) {
+        Ok(parser) => answer_to(alloc, parser.try_get_matches_from(words)),
+        Err(_) => Err(Refusal::OutOfMemory),
+    }
+}
+
+// What the parser's answer to the words comes to. Want of memory is the parser's own, or comes where help is due.
+fn answer_to<'a>(
+    alloc: Global,
+    parsed: Result<ArgMatches<'a>, clap::Error>,
+) -> Result<Asked<'a>, Refusal>
+    ensures taken { IfOk parsed.entry (λ matches. IsTaken (subcommand_rows_of matches) result) }
+    ensures refused { IfErr parsed.entry (λ error. IsErrAnd result (IsRefusalOf (kind_of error))) }
+    ensures within { IfOk result (λ asked. IsWithin (command_of asked)) }
+{
+    match parsed {
         Ok(matches) => asked_of(&matches),
         Err(error) => Err(refusal_of(alloc, &error)),
     }
@@ -87,8 +99,7 @@ pub fn read_words(alloc: Global, words: &[String]) -> Result<Asked<'_>, Refusal>
 
 // What the words that the parser took ask for; else they are faulty, whatever memory there is.
 fn asked_of<'a>(matches: &ArgMatches<'a>) -> Result<Asked<'a>, Refusal>
-    ensures meant { MatchResult result (λ asked. taken_means (subcommand_rows_of matches.now) ≡ Asks (command_of asked))
-        (λ refusal. (refusal ≡ Usage) × (taken_means (subcommand_rows_of matches.now) ≡ Misuse)) }
+    ensures meant { IsTaken (subcommand_rows_of matches.now) result }
     ensures within { IfOk result (λ asked. IsWithin (command_of asked)) }
 {
     match subcommand_of(matches) {

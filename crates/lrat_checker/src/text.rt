@@ -1,8 +1,10 @@
 // The check of a proof text: a reader gives its steps in turn, and a judge takes them.
 ghost use Rattle.std.specs.Prelude.{◌≡◌, ◌≢◌, ◌||◌, false, None, Err, IsTrue};
+ghost use Rattle.lrat_text.specs.declared.error.StepError.TheVariants.{OutOfMemory as NoMemory};
+ghost use Rattle.lrat_text.specs.Draft.{has_numbers};
 ghost use Rattle.host_io.specs.Channel.{Rose};
 ghost use Rattle.text_scan.specs.Decides.{gained, Decides, OnlyReads};
-ghost use Rattle.lrat_text.specs.declared.reader.ReaderStatus.TheVariants.{Reading};
+ghost use Rattle.lrat_text.specs.declared.reader.ReaderStatus.TheVariants.{Reading, Failed};
 ghost use Rattle.lrat_text.specs.Reader.{steps_ahead, so_far};
 ghost use Rattle.lrat_rules.specs.Run.{step_adds_empty};
 ghost use Rattle.lrat_checker.specs.declared.verdict.CheckError.TheVariants.{ReadFault, OutOfMemory};
@@ -59,6 +61,9 @@ fn judge_steps<S: Source>(
     ensures memory { IsTrue S.tells → result ≡ Err OutOfMemory → reader.new.status ≡ Reading →
         Decides (S.channel source.old) (S.channel source.new)
         (λ bytes more. IsTrue (steps_may_want_memory judge.old (steps_ahead reader.old bytes))) }
+    // and where the reader did, it says so, at a line whose tokens so far are numbers
+    ensures reader_stops { result ≡ Err OutOfMemory → reader.new.status ≢ Reading → reader.new.status ≡ Failed NoMemory }
+    ensures reader_wants { result ≡ Err OutOfMemory → reader.new.status ≢ Reading → IsTrue (has_numbers reader.new.draft) }
     ensures undecided { IsTrue S.tells → result ≡ Err ReadFault →
         steps_verdict judge.old false (so_far reader.old (gained (S.channel source.old) (S.channel source.new))) ≡ None }
     ensures fault { result ≡ Err ReadFault → Rose (S.channel source.old).faults (S.channel source.new).faults }

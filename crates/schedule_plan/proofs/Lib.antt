@@ -16,6 +16,7 @@ pub mod Standing
 pub mod Steps
 pub mod Reached
 pub mod TakesError
+pub mod ScheduleWants
 pub mod Drafted
 pub mod OrderVariables
 pub mod OrderFront

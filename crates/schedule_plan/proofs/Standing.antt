@@ -40,7 +40,7 @@ possible_behind formula done stage later move possible step =
 ok_same : {a b : List Move} → ◌≡◌ {A = Result (List Move) PlanKind} (Ok a) (Ok b) → a ≡ b
 ok_same e = cc
 
-err_ok : {a : PlanKind} {b : List Move} → ◌≡◌ {A = Result (List Move) PlanKind} (Err a) (Ok b) → ⊥
+pub err_ok : {a : PlanKind} {b : List Move} → ◌≡◌ {A = Result (List Move) PlanKind} (Err a) (Ok b) → ⊥
 err_ok e = cc
 
 ok_err : {a : List Move} {b : PlanKind} → ◌≡◌ {A = Result (List Move) PlanKind} (Ok a) (Err b) → ⊥

@@ -6,3 +6,4 @@ pub mod Bucket
 pub mod Forest
 pub mod ScheduleText
 pub mod ScheduleState
+pub mod ScheduleMemory

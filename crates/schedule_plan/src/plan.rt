@@ -1,14 +1,15 @@
 // Plans: which clauses are pushed, conjoined and quantified in turn. (Bryant, Heule: Generating Extended Resolution
 // Proofs with a BDD-Based SAT Solver, 2021, section 5.)
-ghost use Rattle.std.specs.Prelude.{◌≡◌, ◌≢◌, Err, IsTrue, IfOk, length};
+ghost use Rattle.std.specs.Prelude.{◌≡◌, ◌≢◌, ◌⊎◌, Err, IsTrue, IfOk, length};
 ghost use Rattle.std.specs.List.{slice_get};
 ghost use Rattle.schedule_plan.specs.Plan.{IsAdmissible, conjoin};
 ghost use Rattle.schedule_plan.specs.Bucket.{bucket};
 ghost use Rattle.host_io.specs.Channel.{Rose};
 ghost use Rattle.text_scan.specs.Decides.{gained, Decides, OnlyReads};
-ghost use Rattle.schedule_plan.specs.declared.schedule.error.PlanError.TheVariants.{ReadFault};
+ghost use Rattle.schedule_plan.specs.declared.schedule.error.PlanError.TheVariants.{ReadFault, OutOfMemory as NoMemory};
 ghost use Rattle.schedule_plan.specs.ScheduleText.{schedule, schedule_so_far, overlong};
 ghost use Rattle.schedule_plan.specs.ScheduleState.{Answers};
+ghost use Rattle.schedule_plan.specs.ScheduleMemory.{may_want_memory};
 
 use crate::emit::bucket_moves;
 use crate::forest::buckets;
@@ -99,6 +100,10 @@ impl Plan {
         // a read fails only where the bytes taken decide nothing yet
         ensures undecided { IsTrue S.tells → result ≡ Err ReadFault →
             schedule_so_far formula.now (gained (S.channel source.old) (S.channel source.new)) ≡ overlong }
+        // memory is wanted only before the first byte, for what is kept of the formula, or for a number behind a command, or for a move
+        // that has no fault
+        ensures memory { IsTrue S.tells → result ≡ Err NoMemory → (S.channel source.new ≡ S.channel source.old)
+            ⊎ Decides (S.channel source.old) (S.channel source.new) (λ bytes more. IsTrue (may_want_memory formula.now bytes)) }
         ensures admissible { IfOk result (IsAdmissible formula.now) }
 
         ensures reads { OnlyReads (S.channel source.old) (S.channel source.new) }

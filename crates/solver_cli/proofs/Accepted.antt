@@ -1,6 +1,6 @@
 -- What is promised of a run that has all that it decides by.
 use Rattle.std.proofs.Common.{◌≡◌, ℕ, false, List, [], refl, sym, ap, ◌∙◌, subst, Some, Err, IsTrue, inl, inr}
-use Rattle.std.specs.Prelude.{Result, ◌⊎◌}
+use Rattle.std.specs.Prelude.{Option, None, Result, ◌⊎◌, ◌≢◌}
 use Rattle.cnf_base.specs.Formula.{Formula}
 use Rattle.host_io.specs.declared.role.Role.TheVariants.{ProofOut, Made, Out}
 use Rattle.lrat_rules.specs.State.{State}
@@ -22,8 +22,8 @@ use Rattle.solver_cli.specs.ExitCode.{status_of_run}
 use Rattle.solver_cli.specs.Phases.{WritesProof}
 use Rattle.solver_cli.specs.Stages.{Job, streams_of, Prepared, Uncreated, Undecided, bench_job, solve_job}
 use Rattle.solver_cli.specs.Headline.{Run, written_in, limits_given, decides, OutputFailed, IsUnharmed, GivesDecision, AsksBy, AsksFor}
-use Rattle.solver_cli.specs.Headline.{IsComplete, RefusalsAreDue, ProofStands}
-use Rattle.solver_cli.proofs.Facts.{whole_of, no_answer, write_ends, not_unasked, only_misuse, only_help, decided_apart}
+use Rattle.solver_cli.specs.Headline.{IsComplete, IsPlanAsked, MemoryIsWanted, NamedOutputFailed, name_given, RefusalsAreDue, ProofStands}
+use Rattle.solver_cli.proofs.Facts.{whole_of, no_answer, write_ends, same_command, not_unasked, only_misuse, only_help, decided_apart}
 use Rattle.solver_cli.proofs.Reading.{rose_since}
 use Rattle.solver_cli.proofs.CallsFor.{no_call}
 use Rattle.solver_cli.proofs.Promised.{Core, due, quiet_output, no_proof, no_text, no_verdict, same_written}
@@ -35,7 +35,9 @@ pub record Posed (run : Run) (problem : Formula) (order : List ℕ) (moves : Lis
   pub gives : command run.words ≡ Some asked
   pub decides : IsTrue (decides asked)
   pub given : IsTrue run.tells → AreGiven run.files asked problem order moves
+  pub board : IsPlanAsked run problem order moves
   pub limits : job.limits ≡ limits_of asked
+  pub proof : name_given ProofOut asked ≡ Some job.proof
   pub shape : job.shape ≡ shape_asked (Some asked) problem
   pub made : run.after Made ≡ run.before Made
 
@@ -70,23 +72,31 @@ posed_by_files run task {problem = problem} gives prepared = record {
     ordered = ordered problem task.order prepared.orders t;
     planned = planned task.plan prepared.bucketed prepared.plans t;
   };
+  board = λ other here. absurd (apart (same_command gives here));
   limits = refl;
+  proof = refl;
   shape = refl;
   made = prepared.made;
-}
+} where
+  apart : {other : ToBench} → Solve task ≡ Bench other → ⊥
+  apart e = cc
 
 pub posed_by_board : (run : Run) (task : ToBench) {problem : Formula} {order : List ℕ} {moves : List Move} → command run.words
     ≡ Some (Bench task)
     → AreOfBoard task.size problem order moves → run.after Made ≡ run.before Made → Posed run problem order moves (bench_job task problem)
-posed_by_board run task gives board made = record {
+posed_by_board run task {problem = problem} {order = order} {moves = moves} gives board made = record {
   asked = Bench task;
   gives = gives;
   decides = refl;
   given = λ t. board;
+  board = λ other here. subst (λ (b : ToBench). AreOfBoard b.size problem order moves) (inner (same_command gives here)) board;
   limits = refl;
+  proof = refl;
   shape = refl;
   made = made;
-}
+} where
+  inner : {a b : ToBench} → Bench a ≡ Bench b → a ≡ b
+  inner e = cc
 
 -- a formula that was to be decided by what is asked for: no refusal is called for, and no verdict
 pub solve_complete : (run : Run) {problem : Formula} {order : List ℕ} {moves : List Move} {job : Job} → Posed run problem order moves job
@@ -130,7 +140,7 @@ answer_due run outcome.IdLimit ends = due run ends tt
 -- the proof's file was not created
 pub uncreated : (run : Run) {problem : Formula} {order : List ℕ} {moves : List Move} {job : Job} → Posed run problem order moves job
     → Uncreated (run.before ProofOut) (run.after ProofOut) (run.before Out) (run.after Out) job run.status → Core run
-uncreated run {problem = problem} posed u =
+uncreated run {problem = problem} {job = job} posed u =
     let unanswered : is_answer run.status ≡ false = ap is_answer u.ends in
     let failed : OutputFailed run = (ProofOut, inl tt, u.opens.faults.cause u.failed) in
     let accepts : Accepts run.status = accepts_write run.status u.ends in
@@ -144,9 +154,11 @@ uncreated run {problem = problem} posed u =
       refusals = due run u.ends tt;
       faults = λ quiet. record {
         read = λ e. absurd (accepts.read e);
+        named = λ e. absurd (accepts.read e);
         undecided = λ e. absurd (accepts.read e);
         quiet = quiet;
         write = λ e. failed;
+        created = λ e. inr (ProofOut, tt, u.opens.faults.cause u.failed, posed.asked, job.proof, posed.gives, posed.proof);
         accepted = λ e. inr ((posed.asked, posed.gives), λ t. inl (problem, asks_for run posed t));
       };
       output = quiet_output run unanswered accepts.help (same_written u.same);
@@ -170,13 +182,24 @@ proof_whole run problem idle p = subst (λ (bytes : List ℕ). IsProof problem (
 pub undecided : (run : Run) {problem : Formula} {order : List ℕ} {moves : List Move} {job : Job} → Posed run problem order moves job
     → Undecided run.tells (run.before ProofOut) (run.after ProofOut) (run.before Out) (run.after Out) problem order moves job run.status
     → Core run
-undecided run {problem = problem} {order = order} {moves = moves} posed u = both (write_ends run.status u.error u.ends) where
+undecided run {problem = problem} {order = order} {moves = moves} {job = job} posed u = both (write_ends run.status u.error u.ends) where
   writes : WritesProof run.tells u.created (run.after ProofOut) problem order moves (limits_given run) (Err u.error)
   writes = subst (λ (l : Limits). WritesProof run.tells u.created (run.after ProofOut) problem order moves l (Err u.error))
       (same_limits run posed) u.writes
 
   failed : ◌≡◌ {A = Result Ending RunError} (Err u.error) (Err Torn) → OutputFailed run
   failed e = (ProofOut, inl tt, rose_since u.opens.faults.no_less (u.writes.fault e))
+
+  named : ◌≡◌ {A = Result Ending RunError} (Err u.error) (Err Torn) → NamedOutputFailed run
+  named e = inr (
+    ProofOut,
+    tt,
+    rose_since u.opens.faults.no_less (u.writes.fault e),
+    posed.asked,
+    job.proof,
+    posed.gives,
+    posed.proof,
+  )
 
   torn : ◌≡◌ {A = Result Ending RunError} (Err u.error) (Err Torn) → run.status ≡ WriteFault
   torn e = u.ends ∙ ends_torn u.error e where
@@ -208,8 +231,8 @@ undecided run {problem = problem} {order = order} {moves = moves} posed u = both
   }
 
   core : is_answer run.status ≡ false → Accepts run.status → RefusalsAreDue run → (run.status ≡ WriteFault → OutputFailed run)
-      → (IsUnharmed run → run.status ≡ OutOfMemory) → Core run
-  core unanswered accepts is_due fault memory = record {
+      → (run.status ≡ WriteFault → NamedOutputFailed run) → (IsUnharmed run → run.status ≡ OutOfMemory) → Core run
+  core unanswered accepts is_due fault created memory = record {
     unsatisfiable = λ e. absurd (no_answer unanswered refl e);
     satisfiable = λ e. absurd (no_answer unanswered refl e);
     undecided = λ why e. absurd (no_answer unanswered refl e);
@@ -219,9 +242,11 @@ undecided run {problem = problem} {order = order} {moves = moves} posed u = both
     refusals = is_due;
     faults = λ quiet. record {
       read = λ e. absurd (accepts.read e);
+      named = λ e. absurd (accepts.read e);
       undecided = λ e. absurd (accepts.read e);
       quiet = quiet;
       write = fault;
+      created = created;
       accepted = λ e. inr ((posed.asked, posed.gives), λ t. inl (problem, asks_for run posed t));
     };
     output = quiet_output run unanswered accepts.help (same_written u.same);
@@ -232,8 +257,25 @@ undecided run {problem = problem} {order = order} {moves = moves} posed u = both
   apart : {status : Status} → status ≡ OutOfMemory → status ≡ WriteFault → ⊥
   apart d e = cc
 
+  created : (run.after ProofOut).name ≢ None
+  created none = no_name (sym (u.opens.named u.done) ∙ sym u.writes.only.name ∙ none) where
+    no_name : {file : List ℕ} → ◌≡◌ {A = Option (List ℕ)} (Some file) None → ⊥
+    no_name e = cc
+
+  wanted : MemoryIsWanted run
+  wanted = inr (inr (inr (inr (inr (inl (record {
+    given = decision run posed;
+    problem = problem;
+    board = λ task here. (posed.board task here).its_formula;
+    asks = asks_for run posed;
+    created = created;
+    before_answer = u.same;
+  }))))))
+
   both : ((run.status ≡ WriteFault) × ◌≡◌ {A = Result Ending RunError} (Err u.error) (Err Torn)) ⊎ (run.status ≡ OutOfMemory) → Core run
   both (inl fault) = core (ap is_answer fault.0) (accepts_write run.status fault.0) (due run fault.0 tt) (λ _. failed fault.1)
+      (λ _. named fault.1)
       (λ unharmed. absurd (unharmed.1 (failed fault.1)))
-  both (inr memory) = core (ap is_answer memory) (accepts_memory run.status memory) (due run memory tt) (λ e. absurd (apart memory e))
+  both (inr memory) = core (ap is_answer memory) (accepts_memory run.status memory) (due run memory wanted) (λ e. absurd (apart memory e))
+      (λ e. absurd (apart memory e))
       (λ unharmed. memory)

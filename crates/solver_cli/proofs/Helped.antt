@@ -61,9 +61,11 @@ helped run h = go h.shows.printed h.shows.puts h.shows.ends where
     refusals = is_due;
     faults = λ quiet. record {
       read = λ e. absurd (shown.read e);
+      named = λ e. absurd (shown.read e);
       undecided = λ e. absurd (shown.read e);
       quiet = quiet;
       write = λ e. (Out, inr refl, rose e);
+      created = λ e. inl (rose e);
       accepted = λ e. inl h.due;
     };
     output = record {

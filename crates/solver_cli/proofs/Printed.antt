@@ -162,6 +162,7 @@ answered run {problem = problem} {order = order} {moves = moves} {job = job} pos
   refuted all is = record {
     given = decision run posed;
     problem = problem;
+    board = λ task here. (posed.board task here).its_formula;
     unsatisfiable = says_as outcome.Unsat is;
     shown = λ t. let shown : Refutation problem.clauses (written_in run ProofOut) = shows_as outcome.Unsat is t in
         record { asked = given t; refuted = shown.refutes; at_once = shown.at_once; printed = printed_as all outcome.Unsat is t };
@@ -176,6 +177,7 @@ answered run {problem = problem} {order = order} {moves = moves} {job = job} pos
         order = order;
         moves = moves;
         values = values;
+        board = posed.board;
         one_each = recovered.one_each;
         satisfied = recovered.satisfied;
         recovered = recovered;
@@ -192,6 +194,7 @@ answered run {problem = problem} {order = order} {moves = moves} {job = job} pos
     problem = problem;
     order = order;
     moves = moves;
+    board = posed.board;
     needs = says_as (outcome_at why) is;
     short = λ width price has paid ample. none_decided why (subst IsDecision is (writes.certain width price has paid ample));
     shown = λ t. record {
@@ -219,9 +222,11 @@ answered run {problem = problem} {order = order} {moves = moves} {job = job} pos
         refusals = answer_due run found ends;
         faults = λ quiet. record {
           read = λ e. absurd (accepts.read e);
+          named = λ e. absurd (accepts.read e);
           undecided = λ e. absurd (accepts.read e);
           quiet = quiet;
           write = λ e. absurd (no_write found (sym ends ∙ e));
+          created = λ e. absurd (no_write found (sym ends ∙ e));
           accepted = λ e. absurd (no_write found (sym ends ∙ e));
         };
         output = record {
@@ -257,9 +262,11 @@ answered run {problem = problem} {order = order} {moves = moves} {job = job} pos
         refusals = due run ends tt;
         faults = λ quiet. record {
           read = λ d. absurd (accepts.read d);
+          named = λ d. absurd (accepts.read d);
           undecided = λ d. absurd (accepts.read d);
           quiet = quiet;
           write = λ d. failure;
+          created = λ d. inl (puts.fault refl);
           accepted = λ d. inr ((posed.asked, posed.gives), λ t. inl (problem, given t));
         };
         output = record {

@@ -7,11 +7,13 @@ use Rattle.host_io.specs.declared.role.Role.TheVariants.{Cnf, Order, Buckets, Sc
 use Rattle.text_scan.specs.Decides.{gained, gained-none}
 use Rattle.solver_cli.specs.declared.status.Status.{Status}
 use Rattle.solver_cli.specs.declared.status.Status.TheVariants.{Sat, Unsat, Unknown, Verified, NotVerified, Done, Help, Usage, CnfRefused}
-use Rattle.solver_cli.specs.declared.status.Status.TheVariants.{OrderRefused, BucketsRefused, PlanRefused, TooLong, ReadFault, WriteFault, OutOfMemory}
+use Rattle.solver_cli.specs.declared.status.Status.TheVariants.{OrderRefused, BucketsRefused, PlanRefused, TooLong, ReadFault, WriteFault}
+use Rattle.solver_cli.specs.declared.status.Status.TheVariants.{OutOfMemory}
 use Rattle.command_line.specs.Command.{Command, AsksHelp, Misuse, command}
 use Rattle.solver_cli.specs.ErrorText.{is_answer}
 use Rattle.solver_cli.specs.Stages.{Streams, streams_of, Misused}
-use Rattle.solver_cli.specs.Headline.{Run, written_in, taken_in, InputFailed, UnsatisfiableIsProved, SatisfiableIsTrue, LimitsAreReached}
+use Rattle.solver_cli.specs.Headline.{Run, written_in, taken_in, InputFailed, NamedInputFailed, UnsatisfiableIsProved, SatisfiableIsTrue}
+use Rattle.solver_cli.specs.Headline.{LimitsAreReached, IsIdle, MemoryIsWanted}
 use Rattle.solver_cli.specs.Headline.{VerdictIsTrue, TextIsMade, MadeStands, GivesMake, IsDue, RefusalsAreDue, IsStillOpen}
 use Rattle.solver_cli.specs.Headline.{FaultsAreCounted, OutputStands, ProofStands, CallsFor, IsComplete}
 use Rattle.solver_cli.proofs.Facts.{behind, grown_by, nothing_more, no_answer, not_unasked, no_misuse, only_misuse, only_help}
@@ -92,6 +94,20 @@ undone_usage status is = record { unanswered = ap is_answer is; done = λ e. cc;
 undone_memory : (status : Status) → status ≡ OutOfMemory → Undone status
 undone_memory status is = record { unanswered = ap is_answer is; done = λ e. cc; help = λ e. cc; read = λ e. cc; write = λ e. cc }
 
+-- no stream that a run serves changed
+pub idle : (run : Run) → streams_of run.after ≡ streams_of run.before → IsIdle run
+idle run same = each where
+  each : (role : Role) → role ≢ ErrRole → run.after role ≡ run.before role
+  each Cnf other = ap (λ (s : Streams). s.cnf) same
+  each Order other = ap (λ (s : Streams). s.order) same
+  each Buckets other = ap (λ (s : Streams). s.buckets) same
+  each Schedule other = ap (λ (s : Streams). s.schedule) same
+  each ProofIn other = ap (λ (s : Streams). s.judged) same
+  each ProofOut other = ap (λ (s : Streams). s.proof) same
+  each Made other = ap (λ (s : Streams). s.made) same
+  each Out other = ap (λ (s : Streams). s.out) same
+  each ErrRole other = absurd (other refl)
+
 -- the words may be faulty, or memory ran out
 pub misused : (run : Run) → Misused run.words (streams_of run.before) (streams_of run.after) run.status → Core run
 misused run m =
@@ -107,12 +123,14 @@ misused run m =
       verdict = no_verdict run undone.unanswered;
       made = λ e. absurd (undone.done e);
       made_file = no_text run (ap (λ (s : Streams). s.made) m.same);
-      refusals = elim m.ends [ inl faulty ↦ due run faulty.0 faulty.1 | inr memory ↦ due run memory tt ];
+      refusals = elim m.ends [ inl faulty ↦ due run faulty.0 faulty.1 | inr memory ↦ due run memory (inl (idle run m.same)) ];
       faults = λ quiet. record {
         read = λ e. absurd (undone.read e);
+        named = λ e. absurd (undone.read e);
         undecided = λ e. absurd (undone.read e);
         quiet = quiet;
         write = λ e. absurd (undone.write e);
+        created = λ e. absurd (undone.write e);
         accepted = λ e. absurd (undone.write e);
       };
       output = quiet_output run undone.unanswered undone.help (same_written (out_of m.same));
@@ -248,8 +266,12 @@ pub record LeftAlone (run : Run) (status : Status) : Type 0 where
   pub out : run.after Out ≡ run.before Out
   pub makes : GivesMake run → status ≡ OutOfMemory
 
+input_failed : (run : Run) → NamedInputFailed run → InputFailed run
+input_failed run failed = (failed.0, failed.1, failed.2)
+
 stopped : (run : Run) (asked : Command) → command run.words ≡ Some asked → LeftAlone run run.status
-    → stops run.status ≡ true → IsDue run run.status → (run.status ≡ ReadFault → InputFailed run × (IsTrue run.tells → IsStillOpen run))
+    → stops run.status ≡ true → IsDue run run.status
+    → (run.status ≡ ReadFault → NamedInputFailed run × (IsTrue run.tells → IsStillOpen run))
     → Core run
 stopped run asked gives alone halts is fault =
     let ends : Stops run.status = by_stop run.status halts in
@@ -262,15 +284,17 @@ stopped run asked gives alone halts is fault =
       made_file = no_text run alone.made;
       refusals = is;
       faults = λ quiet. record {
-        read = λ e. ((asked, gives), (fault e).0);
+        read = λ e. ((asked, gives), input_failed run (fault e).0);
+        named = λ e. (fault e).0;
         undecided = λ e t. (fault e).1 t;
         quiet = quiet;
         write = λ e. absurd (ends.write e);
+        created = λ e. absurd (ends.write e);
         accepted = λ e. absurd (ends.write e);
       };
       output = quiet_output run ends.unanswered ends.help (same_written alone.out);
       proof = no_proof run (none_written run ProofOut alone.proof);
-      complete = stopped_complete run asked gives alone.makes halts is (λ e. (fault e).0);
+      complete = stopped_complete run asked gives alone.makes halts is (λ e. input_failed run (fault e).0);
     }
 
 -- the same of another status that is this one
@@ -283,11 +307,12 @@ pub refused : (run : Run) (asked : Command) {status : Status} → command run.wo
 refused run asked gives alone ends halts no_fault is = stopped run asked gives (alone_at run ends alone) (ap stops ends
     ∙ halts) (due run ends is) (λ e. absurd (no_fault (sym ends ∙ e)))
 
-pub short : (run : Run) (asked : Command) → command run.words ≡ Some asked → LeftAlone run OutOfMemory → run.status ≡ OutOfMemory → Core run
-short run asked gives alone ends = refused run asked gives alone ends refl (λ e. cc) tt
+pub short : (run : Run) (asked : Command) → command run.words ≡ Some asked → LeftAlone run OutOfMemory → MemoryIsWanted run
+    → run.status ≡ OutOfMemory → Core run
+short run asked gives alone wanted ends = refused run asked gives alone ends refl (λ e. cc) wanted
 
 pub unread : (run : Run) (asked : Command) → command run.words ≡ Some asked → LeftAlone run ReadFault
-    → run.status ≡ ReadFault → InputFailed run → (IsTrue run.tells → IsStillOpen run) → Core run
+    → run.status ≡ ReadFault → NamedInputFailed run → (IsTrue run.tells → IsStillOpen run) → Core run
 unread run asked gives alone ends failed is_open = stopped run asked gives (alone_at run ends alone) (ap stops ends) (due run ends tt)
     (λ _. (failed, is_open))
 

@@ -1,10 +1,9 @@
 -- What having an order, that of the buckets and a plan leave of their streams, with a file and without one.
-use Rattle.std.proofs.Common.{◌≡◌, ℕ, Bool, List, refl, sym, ap, ◌∙◌, subst, Some, None, inl, inr}
+use Rattle.std.proofs.Common.{◌≡◌, ℕ, Bool, List, refl, ap, ◌∙◌, subst, Some, None, inl, inr}
 use Rattle.std.specs.Prelude.{Option, Result, Ok, Err, ◌≢◌, ◌⊎◌}
 use Rattle.cnf_base.specs.Formula.{Formula}
 use Rattle.host_io.specs.Channel.{Channel}
 use Rattle.host_io.specs.Files.{Files}
-use Rattle.schedule_plan.specs.declared.plan.Move.{Move}
 use Rattle.schedule_plan.specs.declared.order_error.OrderError.{OrderError}
 use Rattle.schedule_plan.specs.declared.order_error.OrderError.TheVariants.{ReadFault as OrderFault, OutOfMemory as OrderMemory}
 use Rattle.schedule_plan.specs.declared.schedule.error.PlanError.{PlanError}
@@ -14,8 +13,8 @@ use Rattle.cnf_base.specs.Order.{natural}
 use Rattle.command_line.specs.declared.plan.PlanName.{PlanName}
 use Rattle.solver_cli.specs.Answer.{moves_of_plan}
 use Rattle.solver_cli.specs.declared.basis.Basis.{Basis}
-use Rattle.solver_cli.specs.Phases.{Finds, Makes, MakesByBuckets, Schedules, TakesOrder, TakesSchedule, HasOrder, HasBuckets, HasPlan}
-use Rattle.solver_cli.specs.Phases.{as_some, basis_of, buckets_file, moves_in}
+use Rattle.solver_cli.specs.Phases.{Finds, Makes, MakesByBuckets, Schedules, TakesOrder, HasOrder, HasBuckets, HasPlan}
+use Rattle.solver_cli.specs.Phases.{as_some, basis_of, moves_in}
 use Rattle.solver_cli.proofs.Reading.{ok_err, same_error}
 use Rattle.solver_cli.specs.Headline.{schedule_file}
 

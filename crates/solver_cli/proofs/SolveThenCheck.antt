@@ -11,10 +11,11 @@ use Rattle.lrat_rules.specs.declared.outcome.Reason.{Reason}
 use Rattle.lrat_checker.specs.TextVerdict.{max_bytes, text_verdict}
 use Rattle.solver_cli.specs.declared.status.Status.{Status}
 use Rattle.solver_cli.specs.declared.status.Status.TheVariants.{Sat, Unsat, Unknown, Verified, NotVerified, Done, Help, Usage, CnfRefused}
-use Rattle.solver_cli.specs.declared.status.Status.TheVariants.{OrderRefused, BucketsRefused, PlanRefused, TooLong, ReadFault, WriteFault, OutOfMemory}
-use Rattle.command_line.specs.Command.{Command}
+use Rattle.solver_cli.specs.declared.status.Status.TheVariants.{OrderRefused, BucketsRefused, PlanRefused, TooLong, ReadFault, WriteFault}
+use Rattle.solver_cli.specs.declared.status.Status.TheVariants.{OutOfMemory}
+use Rattle.command_line.specs.Command.{Command, ToSolve, Solve, command}
 use Rattle.solver_cli.specs.Answer.{AreGiven, AreOfFiles}
-use Rattle.solver_cli.specs.Headline.{Run, written_in, GivesDecision, GivesSolve, AsksOver, AsksToJudge, IsDue, IsShownRefuted, IsRefuted}
+use Rattle.solver_cli.specs.Headline.{Run, written_in, GivesDecision, AsksOver, AsksToJudge, IsDue, IsShownRefuted, IsRefuted}
 use Rattle.solver_cli.specs.Headline.{Promises}
 use Rattle.solver_cli.specs.SolveThenCheck.{ChecksSolved, MayEnd}
 use Rattle.solver_cli.proofs.Facts.{one_proof, same_command, two_commands, decided_apart, checks_apart, checks_no_order, no_misuse}
@@ -58,8 +59,8 @@ ends long_text solved run first second asks = by run.status refl where
     stands = asks.same_proof;
   }
 
-  unsolved : GivesSolve run → ⊥
-  unsolved given = two_commands given.1 asks.check_asked
+  unsolved : {asked : ToSolve} → command run.words ≡ Some (Solve asked) → ⊥
+  unsolved given = two_commands given asks.check_asked
 
   undecided : GivesDecision run → ⊥
   undecided given = decided_apart given.1 given.2 asks.check_asked refl
@@ -100,13 +101,13 @@ ends long_text solved run first second asks = by run.status refl where
   by Help e = no_help run.words asks.check_asked (due e)
   by Usage e = no_misuse run.words asks.check_asked (due e)
   by (CnfRefused kind line) e = let refused = (due e).1 asks.checked_tells in accepted kind line refused.asks
-  by (OrderRefused kind line) e = unsolved (due e).0
-  by (BucketsRefused kind line) e = unsolved (due e).0
-  by (PlanRefused kind line) e = unsolved (due e).0
+  by (OrderRefused kind line) e = unsolved (due e).0.1
+  by (BucketsRefused kind line) e = unsolved (due e).0.1
+  by (PlanRefused kind line) e = unsolved (due e).0.1
   by (TooLong Cnf) e = let refused = (due e).1 asks.checked_tells in absurd (not_long refused.asks)
-  by (TooLong Order) e = absurd (unsolved (due e).0)
-  by (TooLong Buckets) e = absurd (unsolved (due e).0)
-  by (TooLong Schedule) e = absurd (unsolved (due e).0)
+  by (TooLong Order) e = absurd (unsolved (due e).0.1)
+  by (TooLong Buckets) e = absurd (unsolved (due e).0.1)
+  by (TooLong Schedule) e = absurd (unsolved (due e).0.1)
   by (TooLong ProofIn) e = let long = (due e).1 asks.checked_tells in
       (refl, long_text problem.clauses bytes (one_verdict run to_judge long.asked ∙ long.judged))
   by (TooLong ProofOut) e = absurd (due e)

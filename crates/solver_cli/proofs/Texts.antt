@@ -13,14 +13,15 @@ use Rattle.solver_cli.specs.MadeText.{made_text, order_line}
 use Rattle.solver_cli.specs.Phases.{PutsText}
 use Rattle.solver_cli.specs.Stages.{Streams, streams_of, Unmade, BoardMade, Unarranged, Arranged, FileUncreated, Written, CameToWrite}
 use Rattle.solver_cli.specs.Stages.{status_of_written}
-use Rattle.solver_cli.specs.Headline.{Run, written_in, AsksOver, OutputFailed, IsUnharmed, IsMade, IsArranged, TextIsMade, IsFrontOfMade}
+use Rattle.solver_cli.specs.Headline.{Run, written_in, name_given, HasFault, AsksOver, IsUnharmed, IsMade, IsArranged, TextIsMade}
+use Rattle.solver_cli.specs.Headline.{IsFrontOfMade}
 use Rattle.solver_cli.specs.Headline.{IsFrontOfOrder, MadeStands, RefusalsAreDue, IsComplete, TextsAreRead}
 use Rattle.solver_cli.proofs.Facts.{whole_of, no_answer, not_unasked, only_misuse, only_help, decided_apart, checks_apart, checks_no_order}
 use Rattle.solver_cli.proofs.Facts.{makes_no_order}
 use Rattle.solver_cli.proofs.Reading.{rose_since}
 use Rattle.solver_cli.proofs.CallsFor.{no_call_arranged, no_call_made}
 use Rattle.solver_cli.proofs.Deciding.{deciding}
-use Rattle.solver_cli.proofs.Promised.{Core, due, short, quiet_output, no_proof, no_verdict, none_written, same_written}
+use Rattle.solver_cli.proofs.Promised.{Core, due, idle, short, quiet_output, no_proof, no_verdict, none_written, same_written}
 use Rattle.solver_cli.proofs.Untaken.{took}
 
 -- memory for the board ran out
@@ -33,13 +34,20 @@ unmade run asked gives u = short run asked gives
       out = ap (λ (s : Streams). s.out) u.same;
       makes = λ _. refl;
     })
-    u.ends
+    (inl (idle run u.same)) u.ends
 
 -- memory for the order ran out
 pub unarranged : (run : Run) (task : ToOrder) → command run.words ≡ Some (Arrange task)
     → Unarranged run.tells (streams_of run.before) (streams_of run.after) run.files task run.status → Core run
 unarranged run task gives u = short run (Arrange task) gives
     (record { proof = u.alone.proof; made = u.made; out = u.alone.out; makes = λ _. refl })
+    (inr (inr (inr (inr (inr (inr (inr (record {
+      task = task;
+      given = gives;
+      problem = u.problem;
+      asks = took run (Arrange task) task.file u.problem gives refl u.takes;
+      before_text = u.made;
+    }))))))))
     u.ends
 
 -- what is complete of a run that makes a board's text, and of one that makes an order
@@ -89,6 +97,8 @@ fault_not_done d e = cc
 record IsFor (run : Run) (text : List ℕ) : Type 0 where
   pub asked : Command
   pub gives : command run.words ≡ Some asked
+  pub file : List ℕ
+  pub named : name_given Made asked ≡ Some file
   pub proof : run.after ProofOut ≡ run.before ProofOut
   pub out : run.after Out ≡ run.before Out
   pub front : IsTrue run.tells → (rest : List ℕ) → text ≡ written_in run Made ++ rest → IsFrontOfMade run ⊎ IsFrontOfOrder run
@@ -99,7 +109,7 @@ record IsFor (run : Run) (text : List ℕ) : Type 0 where
   pub complete : (IsUnharmed run → (run.status ≡ Done) ⊎ (run.status ≡ OutOfMemory)) → IsComplete run
 
 ending : (run : Run) {text : List ℕ} → IsFor run text → Ended run.status → RefusalsAreDue run
-    → TextIsMade run → MadeStands run → (run.status ≡ WriteFault → OutputFailed run)
+    → TextIsMade run → MadeStands run → (run.status ≡ WriteFault → HasFault run Made)
     → (IsUnharmed run → (run.status ≡ Done) ⊎ (run.status ≡ OutOfMemory)) → Core run
 ending run w ended is_due text front fault makes = record {
   unsatisfiable = λ e. absurd (no_answer ended.unanswered refl e);
@@ -111,9 +121,11 @@ ending run w ended is_due text front fault makes = record {
   refusals = is_due;
   faults = λ quiet. record {
     read = λ e. absurd (ended.read e);
+    named = λ e. absurd (ended.read e);
     undecided = λ e. absurd (ended.read e);
     quiet = quiet;
-    write = fault;
+    write = λ e. (Made, inl tt, fault e);
+    created = λ e. inr (Made, tt, fault e, w.asked, w.file, w.gives, w.named);
     accepted = λ e. inr ((w.asked, w.gives), w.accepted);
   };
   output = quiet_output run ended.unanswered ended.help (same_written w.out);
@@ -125,10 +137,10 @@ ending run w ended is_due text front fault makes = record {
 file_uncreated : (run : Run) {file text : List ℕ} → IsFor run text → FileUncreated (run.before Made) (run.after Made) file run.status
     → Core run
 file_uncreated run w u =
-    let failed : OutputFailed run = (Made, inl tt, u.opens.faults.cause u.failed) in
+    let failed : HasFault run Made = u.opens.faults.cause u.failed in
     ending run w (ended_fault run.status u.ends) (due run u.ends tt) (λ e. absurd (fault_not_done u.ends e))
     (λ t. inl (whole_of (run.before Made) (run.after Made) u.opens.was_idle.written ∙ u.opens.idle.written)) (λ _. failed)
-    (λ unharmed. absurd (unharmed.1 failed))
+    (λ unharmed. absurd (unharmed.1 (Made, inl tt, failed)))
 
 -- the text was written or not
 written : (run : Run) {file text : List ℕ} → IsFor run text → Written run.tells (run.before Made) (run.after Made) file text run.status
@@ -153,9 +165,9 @@ written run {text = text} is_for w = go w.written w.puts w.ends where
       (λ e. is_for.whole (λ t. from_empty text (puts.done t refl)) (λ t. puts.flushed t refl))
       (front (Ok x) puts) (λ e. absurd (fault_not_done e ends)) (λ unharmed. inl ends)
   go (Err e) puts ends =
-      let failed : OutputFailed run = (Made, inl tt, rose_since w.opens.faults.no_less (puts.fault refl)) in
+      let failed : HasFault run Made = rose_since w.opens.faults.no_less (puts.fault refl) in
       ending run is_for (ended_fault run.status ends) (due run ends tt) (λ d. absurd (fault_not_done ends d))
-      (front (Err e) puts) (λ _. failed) (λ unharmed. absurd (unharmed.1 failed))
+      (front (Err e) puts) (λ _. failed) (λ unharmed. absurd (unharmed.1 (Made, inl tt, failed)))
 
 write_text : (run : Run) {file text : List ℕ} → IsFor run text
     → CameToWrite run.tells (run.before Made) (run.after Made) file text run.status → Core run
@@ -170,6 +182,8 @@ made run task gives b = write_text run is_for b.came where
   is_for = record {
     asked = Make task;
     gives = gives;
+    file = task.file;
+    named = refl;
     proof = b.proof;
     out = b.out;
     front = λ t rest front. inl (record { task = task; given = gives; rest = rest; front = front });
@@ -189,6 +203,8 @@ arranged run task gives a = write_text run is_for a.came where
   is_for = record {
     asked = Arrange task;
     gives = gives;
+    file = task.out;
+    named = refl;
     proof = a.alone.proof;
     out = a.alone.out;
     front = λ t rest front. inr (record {

@@ -22,7 +22,8 @@ use Rattle.solver_cli.specs.Phases.{JudgesText, JudgesProof}
 use Rattle.solver_cli.specs.Stages.{streams_of, Unjudged}
 use Rattle.solver_cli.specs.Headline.{Run, taken_in, IsUnharmed, AsksOver, AsksToJudge, HasVerdict, IsLongProof, IsOpenProof, CallsFor}
 use Rattle.solver_cli.specs.Headline.{IsComplete}
-use Rattle.solver_cli.proofs.Facts.{one_proof, not_unasked, checks_apart, checks_no_order, decided_apart, only_misuse, only_help, same_formula}
+use Rattle.solver_cli.proofs.Facts.{one_proof, not_unasked, checks_apart, checks_no_order, decided_apart, only_misuse, only_help}
+use Rattle.solver_cli.proofs.Facts.{same_formula}
 use Rattle.solver_cli.proofs.CallsFor.{same_text}
 use Rattle.solver_cli.proofs.Promised.{Core, LeftAlone, refused, short, unread}
 use Rattle.solver_cli.proofs.Deciding.{deciding}
@@ -85,7 +86,8 @@ unjudged laws run task asked u = go u.error u.judges u.ends where
 
   go : (e : CheckError) → JudgesProof run.tells (run.before ProofIn) (run.after ProofIn) run.files task.proof u.problem.clauses (Err e)
       → run.status ≡ status_of_check e → Core run
-  go error.ReadFault judges ends = unread run (Check task) asked (alone ReadFault) ends (ProofIn, tt, judges.fault refl)
+  go error.ReadFault judges ends = unread run (Check task) asked (alone ReadFault) ends
+      (ProofIn, tt, judges.fault refl, Check task, task.proof, asked, refl)
       (λ t. inr (inr (inr (inr (open_proof t))))) where
         open_proof : IsTrue run.tells → IsOpenProof run
         open_proof t = record {
@@ -111,4 +113,10 @@ unjudged laws run task asked u = go u.error u.judges u.ends where
       decided = text.decided;
       long = laws.overlong u.problem.clauses (taken_in run ProofIn) text.decided;
     }
-  go error.OutOfMemory judges ends = short run (Check task) asked (alone OutOfMemory) ends
+  go error.OutOfMemory judges ends = short run (Check task) asked (alone OutOfMemory) (inr (inr (inr (inr (inr (inr (inl (record {
+    task = task;
+    given = asked;
+    problem = u.problem;
+    asks = read;
+    before_answer = u.out;
+  })))))))) ends

@@ -1,6 +1,6 @@
 -- What is promised of a run that a text ended: the formula's, the order's, that of the buckets' order or the schedule's.
-use Rattle.std.proofs.Common.{◌≡◌, ℕ, List, [], refl, sym, ap, ◌∙◌, Some, None, Ok, Err, IsTrue, inl, inr}
-use Rattle.std.specs.Prelude.{Bool, Option, Result, ◌≢◌}
+use Rattle.std.proofs.Common.{◌≡◌, ℕ, false, List, [], refl, sym, ap, ◌∙◌, subst, Some, None, Ok, Err, IsTrue, inl, inr, true≢false}
+use Rattle.std.specs.Prelude.{Bool, Option, Result, ◌≢◌, ◌⊎◌}
 use Rattle.cnf_base.specs.Formula.{Formula}
 use Rattle.host_io.specs.Channel.{Channel}
 use Rattle.host_io.specs.Files.{Files, IsInput}
@@ -10,7 +10,7 @@ use Rattle.dimacs_reader.specs.Cnf.{CnfText, formula, cnf}
 use Rattle.dimacs_reader.specs.declared.mode.Mode.{Mode}
 use Rattle.dimacs_reader.specs.declared.error.CnfError.{CnfError}
 use Rattle.dimacs_reader.specs.declared.error.CnfError.TheVariants as cnf_error
-use Rattle.schedule_plan.specs.OrderText.{OrderText, order_text}
+use Rattle.schedule_plan.specs.OrderText.{OrderText, order as given_order, order_text}
 use Rattle.schedule_plan.specs.ScheduleText.{ScheduleText, schedule}
 use Rattle.schedule_plan.specs.declared.plan.Move.{Move}
 use Rattle.schedule_plan.specs.declared.order_error.OrderError.{OrderError}
@@ -26,13 +26,28 @@ use Rattle.solver_cli.specs.Answer.{AreByBuckets, IsRead, IsOrdered, IsPlanned}
 use Rattle.solver_cli.specs.ExitCode.{status_of_buckets, status_of_error, status_of_order, status_of_plan}
 use Rattle.solver_cli.specs.declared.basis.Basis.{Basis}
 use Rattle.solver_cli.specs.Phases.{ReadsText, TakesFormula, TakesOrder, TakesSchedule, HasOrder, HasBuckets, HasPlan, as_some, basis_of}
-use Rattle.solver_cli.specs.Phases.{buckets_file}
+use Rattle.solver_cli.specs.Phases.{WantsRead, buckets_file, order_wants, schedule_wants}
 use Rattle.solver_cli.specs.Stages.{streams_of, Untaken, Unordered, Unbucketed, Unplanned}
 use Rattle.solver_cli.specs.Headline.{Run, taken_in, AsksOver, IsRefusedBy, OrderIsRefusedBy, BucketsAreRefusedBy, ScheduleIsRefusedBy}
-use Rattle.solver_cli.specs.Headline.{IsOpenFormula}
+use Rattle.solver_cli.specs.Headline.{IsOpenFormula, MemoryIsWanted, schedule_file}
 use Rattle.solver_cli.proofs.Reading.{text_read, ok_err, same_error}
 use Rattle.solver_cli.proofs.Facts.{same_command, decided_apart}
 use Rattle.solver_cli.proofs.Promised.{Core, LeftAlone, refused, short, unread, untouched}
+
+-- a reader that wants no memory before the first byte
+not_early : {A B : Type 0} → (IsTrue false × A) ⊎ B → B
+not_early (inl early) = absurd (true≢false (sym early.0))
+not_early (inr wants) = wants
+
+some_same : {a b : List ℕ} {asked : Option (List ℕ)} → asked ≡ Some a → asked ≡ Some b → a ≡ b
+some_same here there = inner (sym here ∙ there) where
+  inner : {a b : List ℕ} → ◌≡◌ {A = Option (List ℕ)} (Some a) (Some b) → a ≡ b
+  inner e = cc
+
+none_given : {file : List ℕ} {asked : Option (List ℕ)} → asked ≡ None → asked ≡ Some file → ⊥
+none_given none some = apart (sym none ∙ some) where
+  apart : {file : List ℕ} → ◌≡◌ {A = Option (List ℕ)} None (Some file) → ⊥
+  apart e = cc
 
 -- the formula was not taken, by a command that makes no text
 pub untaken : (run : Run) (asked : Command) (file : List ℕ) → command run.words ≡ Some asked → formula_file asked ≡ Some file
@@ -72,6 +87,17 @@ untaken run asked file gives named u = go u.error u.takes u.ends where
     others Out is other = absurd is
     others ErrRole is other = absurd is
 
+  rest : (role : Role) → role ≢ Cnf → role ≢ ErrRole → run.after role ≡ run.before role
+  rest Cnf other _ = absurd (other refl)
+  rest Order other _ = u.order
+  rest Buckets other _ = u.buckets
+  rest Schedule other _ = u.schedule
+  rest ProofIn other _ = u.judged
+  rest ProofOut other _ = u.proof
+  rest Made other _ = u.made
+  rest Out other _ = u.out
+  rest ErrRole _ other = absurd (other refl)
+
   no_file : {task : ToMake} → asked ≡ Make task → ⊥
   no_file e = apart (sym (ap formula_file e) ∙ named) where
     apart : ◌≡◌ {A = Option (List ℕ)} None (Some file) → ⊥
@@ -84,16 +110,23 @@ untaken run asked file gives named u = go u.error u.takes u.ends where
       ≡ status_of_error error → Core run
   go (cnf_error.Refused kind line) takes ends =
       refused run asked gives (alone (CnfRefused kind line)) ends refl (λ e. cc)
-      ((asked, gives), λ t. let says = text_read (λ e. cc) takes t in text says says.told says.decided)
+      ((asked, gives, file, named), λ t. let says = text_read (λ e. cc) takes t in text says says.told says.decided)
   go cnf_error.TooLong takes ends =
       refused run asked gives (alone (TooLong Cnf)) ends refl (λ e. cc) (
-        (asked, gives),
+        (asked, gives, file, named),
         λ t. let says = text_read (λ e. cc) takes t in
             text says says.told says.decided,
       )
-  go cnf_error.ReadFault takes ends = unread run asked gives (alone ReadFault) ends (Cnf, tt, takes.failed refl)
-      (λ t. inl (is_open takes t))
-  go cnf_error.OutOfMemory takes ends = short run asked gives (alone OutOfMemory) ends
+  go cnf_error.ReadFault takes ends = unread run asked gives (alone ReadFault) ends
+      (Cnf, tt, takes.failed refl, asked, file, gives, named) (λ t. inl (is_open takes t))
+  go cnf_error.OutOfMemory takes ends = short run asked gives (alone OutOfMemory) (inr (inl (record {
+    asked = asked;
+    given = gives;
+    file = file;
+    named = named;
+    wants = λ t. not_early (takes.memory t refl);
+    alone = rest;
+  }))) ends
 
 -- the formula that is asked for was read
 pub formula_read : (mode : Mode) {tells : Bool} {old new : Channel} {files : Files} {file : List ℕ} {problem : Formula}
@@ -168,6 +201,19 @@ unordered run task gives u = by task.order refl u.orders where
   alone : (status : Status) → LeftAlone run status
   alone = solve_alone run task gives u.proof u.made u.out
 
+  wanted : (IsTrue run.tells → (file : List ℕ) → task.order ≡ Some file
+      → WantsRead (order_wants u.problem.vars) run.files file (taken_in run Order)) → MemoryIsWanted run
+  wanted wants = inr (inr (inl (record {
+    task = task;
+    given = gives;
+    problem = u.problem;
+    asks = asks;
+    wants = wants;
+    before_buckets = u.buckets;
+    before_schedule = u.schedule;
+    before_proof = u.proof;
+  })))
+
   go : (file : List ℕ) → task.order ≡ Some file → (error : OrderError)
       → TakesOrder u.problem.vars run.tells (run.before Order) (run.after Order) run.files file (Err error) → run.status
       ≡ status_of_order error → Core run
@@ -193,12 +239,12 @@ unordered run task gives u = by task.order refl u.orders where
         → run.status ≡ status_of_order error → Core run
     by_error (order_error.Refused kind line) takes ends =
         refused run (Solve task) gives (alone (OrderRefused kind line)) ends refl (λ e. cc)
-        ((task, gives), λ t. let says = text_read (λ e. cc) takes t in text t says says.told says.decided)
+        ((task, gives, file, named), λ t. let says = text_read (λ e. cc) takes t in text t says says.told says.decided)
     by_error order_error.TooLong takes ends =
         refused run (Solve task) gives (alone (TooLong Order)) ends refl (λ e. cc)
-        ((task, gives), λ t. let says = text_read (λ e. cc) takes t in text t says says.told says.decided)
-    by_error order_error.ReadFault takes ends = unread run (Solve task) gives (alone ReadFault) ends (Order, tt, takes.failed refl)
-        (λ t. inr (inl (record {
+        ((task, gives, file, named), λ t. let says = text_read (λ e. cc) takes t in text t says says.told says.decided)
+    by_error order_error.ReadFault takes ends = unread run (Solve task) gives (alone ReadFault) ends
+        (Order, tt, takes.failed refl, Solve task, file, gives, named) (λ t. inr (inl (record {
           task = task;
           problem = u.problem;
           asks = asks t;
@@ -209,11 +255,14 @@ unordered run task gives u = by task.order refl u.orders where
           before_schedule = untouched run Schedule u.schedule;
           before_buckets = untouched run Buckets u.buckets;
         })))
-    by_error order_error.OutOfMemory takes ends = short run (Solve task) gives (alone OutOfMemory) ends
+    by_error order_error.OutOfMemory takes ends = short run (Solve task) gives (alone OutOfMemory)
+        (wanted (λ t other same. subst (λ (f : List ℕ). WantsRead (order_wants u.problem.vars) run.files f (taken_in run Order))
+        (some_same named same) (not_early (takes.memory t refl)))) ends
 
   by : (file : Option (List ℕ)) → task.order ≡ file → HasOrder u.problem.vars file run.tells (run.before Order) (run.after Order) run.files
       (Err u.error) → Core run
-  by None named has = short run (Solve task) gives (alone OutOfMemory) (u.ends ∙ ap status_of_order (has.natural refl).refused)
+  by None named has = short run (Solve task) gives (alone OutOfMemory) (wanted (λ t other same. absurd (none_given named same)))
+      (u.ends ∙ ap status_of_order (has.natural refl).refused)
   by (Some file) named has = go file named u.error (has.named file refl) u.ends
 
 -- the order of the buckets was not had
@@ -253,12 +302,12 @@ unbucketed run task gives u = by task.plan refl u.bucketed where
         → run.status ≡ status_of_buckets error → Core run
     by_error (order_error.Refused kind line) takes ends =
         refused run (Solve task) gives (alone (BucketsRefused kind line)) ends refl (λ e. cc)
-        ((task, gives), λ t. let says = text_read (λ e. cc) takes t in text t says says.told says.decided)
+        ((task, gives, file, named), λ t. let says = text_read (λ e. cc) takes t in text t says says.told says.decided)
     by_error order_error.TooLong takes ends =
         refused run (Solve task) gives (alone (TooLong Buckets)) ends refl (λ e. cc)
-        ((task, gives), λ t. let says = text_read (λ e. cc) takes t in text t says says.told says.decided)
-    by_error order_error.ReadFault takes ends = unread run (Solve task) gives (alone ReadFault) ends (Buckets, tt, takes.failed refl)
-        (λ t. inr (inr (inl (record {
+        ((task, gives, file, named), λ t. let says = text_read (λ e. cc) takes t in text t says says.told says.decided)
+    by_error order_error.ReadFault takes ends = unread run (Solve task) gives (alone ReadFault) ends
+        (Buckets, tt, takes.failed refl, Solve task, file, gives, ap buckets_file named) (λ t. inr (inr (inl (record {
           task = task;
           problem = u.problem;
           asks = asks t;
@@ -270,7 +319,19 @@ unbucketed run task gives u = by task.plan refl u.bucketed where
           undecided = takes.undecided t refl;
           before_schedule = untouched run Schedule u.schedule;
         }))))
-    by_error order_error.OutOfMemory takes ends = short run (Solve task) gives (alone OutOfMemory) ends
+    by_error order_error.OutOfMemory takes ends = short run (Solve task) gives (alone OutOfMemory) (inr (inr (inr (inl (record {
+      task = task;
+      given = gives;
+      problem = u.problem;
+      asks = asks;
+      order = u.given;
+      ordered = ordered u.problem task.order u.orders;
+      file = file;
+      named = named;
+      wants = λ t. not_early (takes.memory t refl);
+      before_schedule = u.schedule;
+      before_proof = u.proof;
+    }))))) ends
 
   no_file : {error : OrderError} → ◌≡◌ {A = Result (Option (List ℕ)) OrderError} (Err error) (Ok None) → ⊥
   no_file e = ok_err (sym e)
@@ -296,6 +357,35 @@ unplanned run task gives u = by task.plan refl u.plans where
 
   alone : (status : Status) → LeftAlone run status
   alone = solve_alone run task gives u.proof u.made u.out
+
+  bucket_order : IsTrue run.tells → (file : List ℕ) → task.plan ≡ ByBuckets file
+      → (buckets : List ℕ) × IsRead run.files file (order_text u.problem.vars) (given_order buckets)
+  bucket_order t file same = let b = u.bucketed.named file (ap buckets_file same) in from b.0 b.1 b.2 where
+    from : (read : Result (List ℕ) OrderError)
+        → TakesOrder u.problem.vars run.tells (run.before Buckets) (run.after Buckets) run.files file read
+        → ◌≡◌ {A = Result (Option (List ℕ)) OrderError} (Ok u.named) (as_some read)
+        → (buckets : List ℕ) × IsRead run.files file (order_text u.problem.vars) (given_order buckets)
+    from (Ok order) takes e = let says = text_read (λ e. ok_err e) takes t in
+        (order, record { bytes = says.bytes; stands = says.stands; says = says.told })
+    from (Err error) takes e = absurd (ok_err e)
+
+  wanted : (IsTrue run.tells → (file : List ℕ) → task.plan ≡ ByFile file → (taken_in run Schedule ≡ [])
+      ⊎ WantsRead (schedule_wants u.problem) run.files file (taken_in run Schedule)) → MemoryIsWanted run
+  wanted wants = inr (inr (inr (inr (inl (record {
+    task = task;
+    given = gives;
+    problem = u.problem;
+    asks = asks;
+    order = u.given;
+    ordered = ordered u.problem task.order u.orders;
+    bucketed = bucket_order;
+    wants = wants;
+    before_proof = u.proof;
+  })))))
+
+  -- no schedule is named
+  unscheduled : {plan : Planned} → task.plan ≡ plan → ((file : List ℕ) → plan ≡ ByFile file → ⊥) → MemoryIsWanted run
+  unscheduled named other = wanted (λ t file same. absurd (other file (sym named ∙ same)))
 
   go : (file : List ℕ) → task.plan ≡ ByFile file → (error : PlanError)
       → TakesSchedule u.problem run.tells (run.before Schedule) (run.after Schedule) run.files file (Err error) → run.status
@@ -324,12 +414,12 @@ unplanned run task gives u = by task.plan refl u.plans where
         → run.status ≡ status_of_plan error → Core run
     by_error (plan_error.Refused kind line) takes ends =
         refused run (Solve task) gives (alone (PlanRefused kind line)) ends refl (λ e. cc)
-        ((task, gives), λ t. let says = text_read (λ e. cc) takes t in text t says says.told says.decided)
+        ((task, gives, file, named), λ t. let says = text_read (λ e. cc) takes t in text t says says.told says.decided)
     by_error plan_error.TooLong takes ends =
         refused run (Solve task) gives (alone (TooLong Schedule)) ends refl (λ e. cc)
-        ((task, gives), λ t. let says = text_read (λ e. cc) takes t in text t says says.told says.decided)
-    by_error plan_error.ReadFault takes ends = unread run (Solve task) gives (alone ReadFault) ends (Schedule, tt, takes.failed refl)
-        (λ t. inr (inr (inr (inl (record {
+        ((task, gives, file, named), λ t. let says = text_read (λ e. cc) takes t in text t says says.told says.decided)
+    by_error plan_error.ReadFault takes ends = unread run (Solve task) gives (alone ReadFault) ends
+        (Schedule, tt, takes.failed refl, Solve task, file, gives, ap schedule_file named) (λ t. inr (inr (inr (inl (record {
           task = task;
           problem = u.problem;
           asks = asks t;
@@ -340,12 +430,23 @@ unplanned run task gives u = by task.plan refl u.plans where
           failed = takes.failed refl;
           undecided = takes.undecided t refl;
         })))))
-    by_error plan_error.OutOfMemory takes ends = short run (Solve task) gives (alone OutOfMemory) ends
+    by_error plan_error.OutOfMemory takes ends = short run (Solve task) gives (alone OutOfMemory)
+        (wanted (λ t other same. subst (λ (f : List ℕ). (taken_in run Schedule ≡ [])
+        ⊎ WantsRead (schedule_wants u.problem) run.files f (taken_in run Schedule)) (same_file (sym named ∙ same))
+        (none_or (takes.memory t refl)))) ends where
+          same_file : {a b : List ℕ} → ByFile a ≡ ByFile b → a ≡ b
+          same_file e = cc
+
+          none_or : {A B C : Type 0} → (A × B) ⊎ C → B ⊎ C
+          none_or (inl none) = inl none.1
+          none_or (inr wants) = inr wants
 
   by : (plan : Planned) → task.plan ≡ plan
       → HasPlan u.problem u.given u.named plan run.tells (run.before Schedule) (run.after Schedule) run.files (Err u.error) → Core run
-  by (ByName name) named has = short run (Solve task) gives (alone OutOfMemory) (u.ends ∙ ap status_of_plan (has.named name refl).refused)
+  by (ByName name) named has = short run (Solve task) gives (alone OutOfMemory) (unscheduled named (λ file e. cc))
+      (u.ends ∙ ap status_of_plan (has.named name refl).refused)
   by (ByFile file) named has = go file named u.error (has.scheduled file refl).takes u.ends
-  by (ByBuckets file) named has = short run (Solve task) gives (alone OutOfMemory)
+  by (ByBuckets file) named has = short run (Solve task) gives (alone OutOfMemory) (unscheduled named (λ file e. cc))
       (u.ends ∙ ap status_of_plan (has.bucketed file refl).refused)
-  by Found named has = short run (Solve task) gives (alone OutOfMemory) (u.ends ∙ ap status_of_plan (has.found refl).refused)
+  by Found named has = short run (Solve task) gives (alone OutOfMemory) (unscheduled named (λ file e. cc))
+      (u.ends ∙ ap status_of_plan (has.found refl).refused)

@@ -161,9 +161,11 @@ judged laws run task asked j = go j.printed j.puts j.ends where
         refusals = verdict_due run j.verdict ends;
         faults = λ quiet. record {
           read = λ e. absurd (accepts.read e);
+          named = λ e. absurd (accepts.read e);
           undecided = λ e. absurd (accepts.read e);
           quiet = quiet;
           write = λ e. absurd (no_write j.verdict (sym ends ∙ e));
+          created = λ e. absurd (no_write j.verdict (sym ends ∙ e));
           accepted = λ e. absurd (no_write j.verdict (sym ends ∙ e));
         };
         output = record {
@@ -199,9 +201,11 @@ judged laws run task asked j = go j.printed j.puts j.ends where
         refusals = due run ends tt;
         faults = λ quiet. record {
           read = λ d. absurd (accepts.read d);
+          named = λ d. absurd (accepts.read d);
           undecided = λ d. absurd (accepts.read d);
           quiet = quiet;
           write = λ d. failure;
+          created = λ d. inl (puts.fault refl);
           accepted = λ d. inr ((Check task, asked), λ t. inr (inl (j.problem, (judged_text t).bytes, j.verdict, has t)));
         };
         output = record {

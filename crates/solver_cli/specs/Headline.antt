@@ -14,7 +14,8 @@ use Rattle.lrat_rules.specs.declared.outcome.Reason.{Reason}
 use Rattle.lrat_checker.specs.TextVerdict.{max_bytes, text_verdict, verdict_so_far}
 use Rattle.lrat_checker.specs.declared.verdict.Verdict.{Verdict}
 use Rattle.lrat_checker.specs.declared.verdict.Verdict.TheVariants as judgement
-use Rattle.schedule_plan.specs.OrderText.{OrderText, refusal as order_refusal, overlong as overlong_order, order_text, order_so_far}
+use Rattle.schedule_plan.specs.OrderText.{OrderText, order as given_order, refusal as order_refusal, overlong as overlong_order}
+use Rattle.schedule_plan.specs.OrderText.{order_text, order_so_far}
 use Rattle.schedule_plan.specs.ScheduleText.{ScheduleText, refusal as schedule_refusal, overlong as overlong_schedule, schedule}
 use Rattle.schedule_plan.specs.ScheduleText.{schedule_so_far}
 use Rattle.schedule_plan.specs.declared.plan.Move.{Move}
@@ -28,17 +29,20 @@ use Rattle.term_runner.specs.Width.{HasWidth}
 use Rattle.term_runner.specs.Ends.{Says, Shows}
 use Rattle.term_runner.specs.Recovered.{IsRecovered}
 use Rattle.answer_text.specs.Status.{verified_line, refused_text}
-use Rattle.command_line.specs.Command.{Command, ToSolve, ToCheck, ToMake, ToOrder, Solve, Check, Bench, Make, Arrange, Planned, ByName, ByFile}
+use Rattle.command_line.specs.Command.{Command, ToSolve, ToCheck, ToBench, ToMake, ToOrder, Solve, Check, Bench, Make, Arrange, Planned}
+use Rattle.command_line.specs.Command.{ByName, ByFile}
 use Rattle.command_line.specs.Command.{ByBuckets, Found, formula_file}
 use Rattle.command_line.specs.Command.{mode_of, AsksHelp, Misuse, MayMean, CanOnlyMean, command, limits_asked}
 use Rattle.solver_cli.specs.declared.status.Why.{Why}
 use Rattle.solver_cli.specs.declared.status.Status.{Status}
 use Rattle.solver_cli.specs.declared.status.Status.TheVariants.{Sat, Unsat, Unknown, Verified, NotVerified, Done, Help, Usage, CnfRefused}
-use Rattle.solver_cli.specs.declared.status.Status.TheVariants.{OrderRefused, BucketsRefused, PlanRefused, TooLong, ReadFault, WriteFault, OutOfMemory}
+use Rattle.solver_cli.specs.declared.status.Status.TheVariants.{OrderRefused, BucketsRefused, PlanRefused, TooLong, ReadFault, WriteFault}
+use Rattle.solver_cli.specs.declared.status.Status.TheVariants.{OutOfMemory}
 use Rattle.solver_cli.specs.ErrorText.{error_text, is_answer}
-use Rattle.solver_cli.specs.Answer.{AreGiven, IsRead, IsOrdered, IsOrderOf, Holds, answer_text, outcome_at, status_of}
+use Rattle.workload.specs.Board.{board_formula}
+use Rattle.solver_cli.specs.Answer.{AreGiven, AreOfBoard, IsRead, IsOrdered, IsOrderOf, Holds, answer_text, outcome_at, status_of}
 use Rattle.solver_cli.specs.MadeText.{made_text, order_line}
-use Rattle.solver_cli.specs.Phases.{buckets_file}
+use Rattle.solver_cli.specs.Phases.{WantsRead, buckets_file, cnf_wants, order_wants, schedule_wants}
 use Rattle.solver_cli.specs.Verdict.{verdict_text, status_of_verdict}
 
 -- One run of the program: whether the host tells its bytes, the words, the roles and the files before, the roles
@@ -102,6 +106,46 @@ decides (Arrange task) = false
 abbrev pub GivesDecision : Run → Type 0
 GivesDecision run = (asked : Command) × (command run.words ≡ Some asked) × IsTrue (decides asked)
 
+-- the schedule's file, where one is named
+abbrev pub schedule_file : Planned → Option (List ℕ)
+schedule_file (ByName name) = None
+schedule_file (ByFile file) = Some file
+schedule_file (ByBuckets file) = None
+schedule_file Found = None
+
+-- the roles that have a name only where the words give it
+abbrev pub name_given : Role → Command → Option (List ℕ)
+name_given Cnf asked = formula_file asked
+name_given Order (Solve task) = task.order
+name_given Order _ = None
+name_given Buckets (Solve task) = buckets_file task.plan
+name_given Buckets _ = None
+name_given Schedule (Solve task) = schedule_file task.plan
+name_given Schedule _ = None
+name_given ProofIn (Check task) = Some task.proof
+name_given ProofIn _ = None
+name_given ProofOut (Solve task) = Some task.proof
+name_given ProofOut (Bench task) = Some task.proof
+name_given ProofOut _ = None
+name_given Made (Make task) = Some task.file
+name_given Made (Arrange task) = Some task.out
+name_given Made _ = None
+name_given Out asked = None
+name_given Err asked = None
+
+-- they name a formula's file; with `solve` they name the file of an order, that of an order of the buckets, or a schedule's
+abbrev pub GivesFormula : Run → Type 0
+GivesFormula run = (asked : Command) × (command run.words ≡ Some asked) × (file : List ℕ) × (formula_file asked ≡ Some file)
+
+abbrev pub GivesOrder : Run → Type 0
+GivesOrder run = (task : ToSolve) × (command run.words ≡ Some (Solve task)) × (file : List ℕ) × (task.order ≡ Some file)
+
+abbrev pub GivesBuckets : Run → Type 0
+GivesBuckets run = (task : ToSolve) × (command run.words ≡ Some (Solve task)) × (file : List ℕ) × (task.plan ≡ ByBuckets file)
+
+abbrev pub GivesSchedule : Run → Type 0
+GivesSchedule run = (task : ToSolve) × (command run.words ≡ Some (Solve task)) × (file : List ℕ) × (task.plan ≡ ByFile file)
+
 -- the words ask for this command, and the text of its formula's file, read in its mode, says this
 pub record AsksOver (run : Run) (asked : Command) (text : CnfText) : Type 0 where
   pub command : command run.words ≡ Some asked
@@ -144,6 +188,13 @@ pub record AsksBy (run : Run) (problem : Formula) (order : List ℕ) (moves : Li
   pub command : command run.words ≡ Some asked
   pub given : AreGiven run.files asked problem order moves
 
+-- With `bench` this is the formula of the board that they ask for; and so are the order and the moves, those of its columns.
+abbrev pub IsBoardAsked : Run → Formula → Type 0
+IsBoardAsked run problem = (task : ToBench) → command run.words ≡ Some (Bench task) → problem ≡ board_formula task.size
+
+abbrev pub IsPlanAsked : Run → Formula → List ℕ → List Move → Type 0
+IsPlanAsked run problem order moves = (task : ToBench) → command run.words ≡ Some (Bench task) → AreOfBoard task.size problem order moves
+
 -- they ask to decide this formula
 pub record AsksFor (run : Run) (problem : Formula) : Type 0 where
   pub order : List ℕ
@@ -166,7 +217,8 @@ abbrev pub text_for : Run → Formula → Outcome → List ℕ
 text_for run problem found = answer_text (command run.words) problem (written_in run ProofOut) found
 
 -- Unsatisfiable: the words give `solve` or `bench`, and no assignment satisfies the formula's clauses. It is the formula
--- that is asked for, and the very bytes of the proof refute its clauses, by one line where one of them is empty.
+-- that is asked for (of `bench` whatever the host tells), and the very bytes of the proof refute its clauses, by one line where
+-- one of them is empty.
 pub record IsShownRefuted (run : Run) (problem : Formula) : Type 0 where
   pub asked : AsksFor run problem
   pub refuted : Refutes problem.clauses (written_in run ProofOut)
@@ -176,6 +228,7 @@ pub record IsShownRefuted (run : Run) (problem : Formula) : Type 0 where
 pub record IsRefuted (run : Run) : Type 0 where
   pub given : GivesDecision run
   pub problem : Formula
+  pub board : IsBoardAsked run problem
   pub unsatisfiable : AreUnsatisfiable problem.clauses
   pub shown : IsTrue run.tells → IsShownRefuted run problem
 
@@ -198,6 +251,7 @@ pub record IsSatisfied (run : Run) : Type 0 where
   pub order : List ℕ
   pub moves : List Move
   pub values : List Bool
+  pub board : IsPlanAsked run problem order moves
   pub one_each : length values ≡ problem.vars
   pub satisfied : Satisfies (assignment_of values) problem.clauses
   pub recovered : IsRecovered problem order moves values
@@ -219,6 +273,7 @@ pub record IsUndecided (run : Run) (why : Why) : Type 0 where
   pub problem : Formula
   pub order : List ℕ
   pub moves : List Move
+  pub board : IsPlanAsked run problem order moves
   pub needs : Says problem order moves (limits_given run) (outcome_at why)
   pub short : (width price : ℕ) → HasWidth problem order moves width → IsMovePrice problem.vars (limits_given run).cache width price
       → AreAmple (limits_given run) problem moves width price → ⊥
@@ -322,8 +377,90 @@ pub record IsLongProof (run : Run) : Type 0 where
   pub decided : text_verdict problem.clauses (taken_in run ProofIn) ≡ None
   pub long : max_bytes < length (taken_in run ProofIn)
 
--- Refusals, of words, or by help, only where they may mean that; of a text only where its format refuses it, and only
--- where the texts before it were accepted.
+-- What memory was wanted for. For the words, or for a board: no role but standard error changed.
+abbrev pub IsIdle : Run → Type 0
+IsIdle run = (role : Role) → role ≢ Err → run.after role ≡ run.before role
+
+-- For the formula's text, which may want it; no other role changed.
+pub record FormulaWantsMemory (run : Run) : Type 0 where
+  pub asked : Command
+  pub given : command run.words ≡ Some asked
+  pub file : List ℕ
+  pub named : formula_file asked ≡ Some file
+  pub wants : IsTrue run.tells → WantsRead (cnf_wants (mode_of asked)) run.files file (taken_in run Cnf)
+  pub alone : (role : Role) → role ≢ Cnf → role ≢ Err → run.after role ≡ run.before role
+
+-- For an order of the variables, where the formula was accepted: the text of the file that is named may want it, or none is named. No
+-- later text was opened, and no proof's file created.
+pub record OrderWantsMemory (run : Run) : Type 0 where
+  pub task : ToSolve
+  pub given : command run.words ≡ Some (Solve task)
+  pub problem : Formula
+  pub asks : IsTrue run.tells → AsksOver run (Solve task) (formula problem)
+  pub wants : IsTrue run.tells → (file : List ℕ) → task.order ≡ Some file
+      → WantsRead (order_wants problem.vars) run.files file (taken_in run Order)
+  pub before_buckets : run.after Buckets ≡ run.before Buckets
+  pub before_schedule : run.after Schedule ≡ run.before Schedule
+  pub before_proof : run.after ProofOut ≡ run.before ProofOut
+
+-- For the buckets' order, whose text may want it, where the order is given too.
+pub record BucketsWantMemory (run : Run) : Type 0 where
+  pub task : ToSolve
+  pub given : command run.words ≡ Some (Solve task)
+  pub problem : Formula
+  pub asks : IsTrue run.tells → AsksOver run (Solve task) (formula problem)
+  pub order : List ℕ
+  pub ordered : IsTrue run.tells → IsOrdered run.files task.order problem order
+  pub file : List ℕ
+  pub named : task.plan ≡ ByBuckets file
+  pub wants : IsTrue run.tells → WantsRead (order_wants problem.vars) run.files file (taken_in run Buckets)
+  pub before_schedule : run.after Schedule ≡ run.before Schedule
+  pub before_proof : run.after ProofOut ≡ run.before ProofOut
+
+-- For the plan, where the orders are given too: the schedule's text may want it, or none of it was taken yet, or no schedule is named.
+pub record PlanWantsMemory (run : Run) : Type 0 where
+  pub task : ToSolve
+  pub given : command run.words ≡ Some (Solve task)
+  pub problem : Formula
+  pub asks : IsTrue run.tells → AsksOver run (Solve task) (formula problem)
+  pub order : List ℕ
+  pub ordered : IsTrue run.tells → IsOrdered run.files task.order problem order
+  pub bucketed : IsTrue run.tells → (file : List ℕ) → task.plan ≡ ByBuckets file
+      → (buckets : List ℕ) × IsRead run.files file (order_text problem.vars) (given_order buckets)
+  pub wants : IsTrue run.tells → (file : List ℕ) → task.plan ≡ ByFile file
+      → (taken_in run Schedule ≡ []) ⊎ WantsRead (schedule_wants problem) run.files file (taken_in run Schedule)
+  pub before_proof : run.after ProofOut ≡ run.before ProofOut
+
+-- For deciding the formula that is asked for, once all of its texts were accepted and the proof's file was created.
+pub record DecisionWantsMemory (run : Run) : Type 0 where
+  pub given : GivesDecision run
+  pub problem : Formula
+  pub board : IsBoardAsked run problem
+  pub asks : IsTrue run.tells → AsksFor run problem
+  pub created : (run.after ProofOut).name ≢ None
+  pub before_answer : run.after Out ≡ run.before Out
+
+-- For judging a proof, or for making an order, once the formula was accepted.
+pub record VerdictWantsMemory (run : Run) : Type 0 where
+  pub task : ToCheck
+  pub given : command run.words ≡ Some (Check task)
+  pub problem : Formula
+  pub asks : IsTrue run.tells → AsksOver run (Check task) (formula problem)
+  pub before_answer : run.after Out ≡ run.before Out
+
+pub record ArrangingWantsMemory (run : Run) : Type 0 where
+  pub task : ToOrder
+  pub given : command run.words ≡ Some (Arrange task)
+  pub problem : Formula
+  pub asks : IsTrue run.tells → AsksOver run (Arrange task) (formula problem)
+  pub before_text : run.after Made ≡ run.before Made
+
+abbrev pub MemoryIsWanted : Run → Type 0
+MemoryIsWanted run = IsIdle run ⊎ (FormulaWantsMemory run ⊎ (OrderWantsMemory run ⊎ (BucketsWantMemory run ⊎ (PlanWantsMemory run
+    ⊎ (DecisionWantsMemory run ⊎ (VerdictWantsMemory run ⊎ ArrangingWantsMemory run))))))
+
+-- Refusals, of words, or by help, only where they may mean that; of a text only where the words name it, its format refuses it, and
+-- the texts before it were accepted. Want of memory only where it was wanted for what isn't decided.
 abbrev pub IsDue : Run → Status → Type 0
 IsDue run Sat = ⊤
 IsDue run Unsat = ⊤
@@ -333,14 +470,14 @@ IsDue run (NotVerified line reason) = ⊤
 IsDue run Done = ⊤
 IsDue run Help = MayMean run.words AsksHelp
 IsDue run Usage = MayMean run.words Misuse
-IsDue run (CnfRefused kind line) = GivesCommand run × (IsTrue run.tells → IsRefusedBy run (refusal kind line))
-IsDue run (OrderRefused kind line) = GivesSolve run × (IsTrue run.tells → OrderIsRefusedBy run (order_refusal kind line))
-IsDue run (BucketsRefused kind line) = GivesSolve run × (IsTrue run.tells → BucketsAreRefusedBy run (order_refusal kind line))
-IsDue run (PlanRefused kind line) = GivesSolve run × (IsTrue run.tells → ScheduleIsRefusedBy run (schedule_refusal kind line))
-IsDue run (TooLong Cnf) = GivesCommand run × (IsTrue run.tells → IsRefusedBy run overlong)
-IsDue run (TooLong Order) = GivesSolve run × (IsTrue run.tells → OrderIsRefusedBy run overlong_order)
-IsDue run (TooLong Buckets) = GivesSolve run × (IsTrue run.tells → BucketsAreRefusedBy run overlong_order)
-IsDue run (TooLong Schedule) = GivesSolve run × (IsTrue run.tells → ScheduleIsRefusedBy run overlong_schedule)
+IsDue run (CnfRefused kind line) = GivesFormula run × (IsTrue run.tells → IsRefusedBy run (refusal kind line))
+IsDue run (OrderRefused kind line) = GivesOrder run × (IsTrue run.tells → OrderIsRefusedBy run (order_refusal kind line))
+IsDue run (BucketsRefused kind line) = GivesBuckets run × (IsTrue run.tells → BucketsAreRefusedBy run (order_refusal kind line))
+IsDue run (PlanRefused kind line) = GivesSchedule run × (IsTrue run.tells → ScheduleIsRefusedBy run (schedule_refusal kind line))
+IsDue run (TooLong Cnf) = GivesFormula run × (IsTrue run.tells → IsRefusedBy run overlong)
+IsDue run (TooLong Order) = GivesOrder run × (IsTrue run.tells → OrderIsRefusedBy run overlong_order)
+IsDue run (TooLong Buckets) = GivesBuckets run × (IsTrue run.tells → BucketsAreRefusedBy run overlong_order)
+IsDue run (TooLong Schedule) = GivesSchedule run × (IsTrue run.tells → ScheduleIsRefusedBy run overlong_schedule)
 IsDue run (TooLong ProofIn) = GivesCheck run × (IsTrue run.tells → IsLongProof run)
 IsDue run (TooLong ProofOut) = ⊥
 IsDue run (TooLong Made) = ⊥
@@ -348,7 +485,7 @@ IsDue run (TooLong Out) = ⊥
 IsDue run (TooLong Err) = ⊥
 IsDue run ReadFault = ⊤
 IsDue run WriteFault = ⊤
-IsDue run OutOfMemory = ⊤
+IsDue run OutOfMemory = MemoryIsWanted run
 
 abbrev pub RefusalsAreDue : Run → Type 0
 RefusalsAreDue run = IsDue run run.status
@@ -421,14 +558,26 @@ pub record IsOpenProof (run : Run) : Type 0 where
 abbrev pub IsStillOpen : Run → Type 0
 IsStillOpen run = IsOpenFormula run ⊎ (IsOpenOrder run ⊎ (AreOpenBuckets run ⊎ (IsOpenSchedule run ⊎ IsOpenProof run)))
 
--- Faults: a read fault comes only where a call on a file that is read failed, and what was taken decides nothing yet, and
--- then nothing was written but on standard error; a write fault only where all texts were read and accepted, or the words
--- may ask for help, and a call on a created file or on standard output failed.
+-- a call on a file that is read and that the words name failed
+abbrev pub NamedInputFailed : Run → Type 0
+NamedInputFailed run = (role : Role) × IsInput role × HasFault run role × (asked : Command) × (file : List ℕ)
+    × (command run.words ≡ Some asked) × (name_given role asked ≡ Some file)
+
+-- one on standard output failed, or one on a created file that the words name
+abbrev pub NamedOutputFailed : Run → Type 0
+NamedOutputFailed run = HasFault run Out ⊎ ((role : Role) × IsCreated role × HasFault run role × (asked : Command) × (file : List ℕ)
+    × (command run.words ≡ Some asked) × (name_given role asked ≡ Some file))
+
+-- Faults: a read fault comes only where a call on a file that is read and that the words name failed, and what was taken decides
+-- nothing yet, and then nothing was written but on standard error; a write fault only where all texts were read and accepted, or the
+-- words may ask for help, and a call on standard output, or on a created file that they name, failed.
 pub record FaultsAreCounted (run : Run) : Type 0 where
   pub read : run.status ≡ ReadFault → GivesCommand run × InputFailed run
+  pub named : run.status ≡ ReadFault → NamedInputFailed run
   pub undecided : run.status ≡ ReadFault → IsTrue run.tells → IsStillOpen run
   pub quiet : run.status ≡ ReadFault → IsTrue run.tells → (role : Role) → role ≢ Err → written_in run role ≡ []
   pub write : run.status ≡ WriteFault → OutputFailed run
+  pub created : run.status ≡ WriteFault → NamedOutputFailed run
   pub accepted : run.status ≡ WriteFault → MayMean run.words AsksHelp ⊎ (GivesCommand run × (IsTrue run.tells → TextsAreRead run))
 
 -- the role's count of faults stayed: none of its calls failed, unless the count stood at the end of its type
@@ -532,33 +681,6 @@ ends_before_proof (TooLong role) = true
 ends_before_proof ReadFault = true
 ends_before_proof WriteFault = false
 ends_before_proof OutOfMemory = false
-
--- the schedule's file, where one is named
-abbrev pub schedule_file : Planned → Option (List ℕ)
-schedule_file (ByName name) = None
-schedule_file (ByFile file) = Some file
-schedule_file (ByBuckets file) = None
-schedule_file Found = None
-
--- the roles that have a name only where the words give it
-abbrev pub name_given : Role → Command → Option (List ℕ)
-name_given Cnf asked = formula_file asked
-name_given Order (Solve task) = task.order
-name_given Order _ = None
-name_given Buckets (Solve task) = buckets_file task.plan
-name_given Buckets _ = None
-name_given Schedule (Solve task) = schedule_file task.plan
-name_given Schedule _ = None
-name_given ProofIn (Check task) = Some task.proof
-name_given ProofIn _ = None
-name_given ProofOut (Solve task) = Some task.proof
-name_given ProofOut (Bench task) = Some task.proof
-name_given ProofOut _ = None
-name_given Made (Make task) = Some task.file
-name_given Made (Arrange task) = Some task.out
-name_given Made _ = None
-name_given Out asked = None
-name_given Err asked = None
 
 -- Names: a role has none, or the one that the words give it. Files: none changed but the proof's, which is created only
 -- once all reading is over and all texts were accepted, however the run ends, and the made one, which is created only

@@ -1,25 +1,29 @@
 -- The parts of a run, each over the one role that it serves.
-use Rattle.std.specs.Prelude.{◌≡◌, ◌≢◌, ◌⊎◌, ◌≤◌, ◌++◌, ℕ, Bool, List, [], Option, None, Some, Result, Ok, Err, length, IsTrue, IsOk, IsErr}
+use Rattle.std.specs.Prelude.{◌≡◌, ◌≢◌, ◌⊎◌, ◌≤◌, ◌++◌, ℕ, Bool, true, false, List, [], Option, None, Some, Result, Ok, Err, length, IsTrue}
+use Rattle.std.specs.Prelude.{IsOk, IsErr}
 use Rattle.std.specs.Prelude.{IfOk, IfErr, ℤ, ⊤}
 use Rattle.cnf_base.specs.Formula.{Formula, IsFormula}
 use Rattle.host_io.specs.declared.source.Failed.{Failed}
 use Rattle.host_io.specs.Channel.{Channel, Rose}
 use Rattle.host_io.specs.Files.{Files}
+use Rattle.cnf_base.specs.Limits.{max_bytes}
 use Rattle.text_scan.specs.Decides.{gained}
+use Rattle.text_scan.specs.Items.{items}
 use Rattle.dimacs_reader.specs.Cnf.{overlong as unread_cnf, cnf, cnf_so_far}
-use Rattle.dimacs_reader.specs.Answers.{Answers as CnfAnswers}
+use Rattle.dimacs_reader.specs.Answers.{Answers as CnfAnswers, WantsMemory as CnfWantsMemory}
 use Rattle.dimacs_reader.specs.declared.mode.Mode.{Mode}
 use Rattle.dimacs_reader.specs.declared.error.CnfError.{CnfError}
-use Rattle.dimacs_reader.specs.declared.error.CnfError.TheVariants.{ReadFault as CnfReadFault}
+use Rattle.dimacs_reader.specs.declared.error.CnfError.TheVariants.{ReadFault as CnfReadFault, OutOfMemory as CnfOutOfMemory}
 use Rattle.lrat_checker.specs.TextVerdict.{text_verdict, verdict_so_far, Answers}
 use Rattle.lrat_checker.specs.declared.verdict.Verdict.{Verdict}
 use Rattle.lrat_checker.specs.declared.verdict.CheckError.{CheckError}
 use Rattle.lrat_checker.specs.declared.verdict.CheckError.TheVariants.{ReadFault as CheckReadFault}
 use Rattle.cnf_base.specs.Order.{natural as natural_order}
 use Rattle.schedule_plan.specs.OrderText.{overlong as unread_order, order_text, order_so_far}
-use Rattle.schedule_plan.specs.OrderReader.{Answers as OrderAnswers}
+use Rattle.schedule_plan.specs.OrderReader.{Answers as OrderAnswers, WantsMemory as OrderWantsMemory}
 use Rattle.schedule_plan.specs.ScheduleText.{overlong as unread_schedule, schedule, schedule_so_far}
 use Rattle.schedule_plan.specs.ScheduleState.{Answers as ScheduleAnswers}
+use Rattle.schedule_plan.specs.ScheduleMemory.{may_want_memory}
 use Rattle.schedule_plan.specs.declared.order_error.OrderError.{OrderError}
 use Rattle.schedule_plan.specs.declared.order_error.OrderError.TheVariants.{ReadFault as OrderReadFault, OutOfMemory as OrderOutOfMemory}
 use Rattle.schedule_plan.specs.declared.schedule.error.PlanError.{PlanError}
@@ -51,11 +55,24 @@ pub record ReadsText {Text R : Type 0} (whole : List ℕ → Text) (answers : R 
   pub told : answers result (whole bytes)
   pub decided : answers result (whole taken)
 
+-- Memory was wanted for a text: by the whole that stands in the file of this name, and already by the bytes taken.
+pub record WantsRead (wants : List ℕ → Type 0) (files : Files) (file taken : List ℕ) : Type 0 where
+  pub bytes : List ℕ
+  pub stands : files file ≡ Some bytes
+  pub whole : wants bytes
+  pub front : wants taken
+
+-- Where reading a text may want memory: whether it may before the first byte, the answer that says so, and the texts that may.
+pub record Wanting (E : Type 0) : Type 1 where
+  pub early : Bool
+  pub answer : E
+  pub texts : List ℕ → Type 0
+
 -- The text of an opened file was read. `whole` is what a text is, `so_far` what its front decides, `unread` where that is
 -- nothing yet; `answers` says which answers a text allows, `fit` what is promised of a value that was read, and `fault` is
--- the answer where a call on the file failed. Then the bytes taken decide nothing yet.
+-- the answer where a call on the file failed. Then the bytes taken decide nothing yet. Memory was wanted only where the text may want it.
 pub record ReadsOpened {Text T E : Type 0} (whole so_far : List ℕ → Text) (unread : Text) (answers : Result T E → Text → Type 0) (fit : T
-    → Type 0) (fault : E)
+    → Type 0) (fault : E) (wanting : Wanting E)
     (tells : Bool) (old new : Channel) (result : Result T E) : Type 0 where
   pub told : IsTrue tells → answers result (whole old.left)
   pub decided : IsTrue tells → answers result (whole (gained old new))
@@ -63,43 +80,69 @@ pub record ReadsOpened {Text T E : Type 0} (whole so_far : List ℕ → Text) (u
   pub failed : result ≡ Err fault → Rose old.faults new.faults
   pub unfailed : result ≢ Err fault → new.faults ≡ old.faults
   pub undecided : IsTrue tells → result ≡ Err fault → so_far (gained old new) ≡ unread
+  pub memory : IsTrue tells → result ≡ Err wanting.answer → (IsTrue wanting.early × (gained old new ≡ []))
+      ⊎ (wanting.texts old.left × wanting.texts (gained old new))
   pub written : new.written ≡ old.written
   pub name : new.name ≡ old.name
   pub faults : old.faults ≤ new.faults
 
 -- the same of a file that was opened for it
 pub record TakesText {Text T E : Type 0} (whole so_far : List ℕ → Text) (unread : Text) (answers : Result T E → Text → Type 0) (fit : T
-    → Type 0) (fault : E)
+    → Type 0) (fault : E) (wanting : Wanting E)
     (tells : Bool) (old new : Channel) (files : Files) (file : List ℕ) (result : Result T E) : Type 0 where
   pub read : IsTrue tells → (result ≡ Err fault) ⊎ ReadsText whole answers files file (gained old new) result
   pub fits : IfOk result fit
   pub failed : result ≡ Err fault → Rose old.faults new.faults
   pub unfailed : result ≢ Err fault → new.faults ≡ old.faults
   pub undecided : IsTrue tells → result ≡ Err fault → so_far (gained old new) ≡ unread
+  pub memory : IsTrue tells → result ≡ Err wanting.answer → (IsTrue wanting.early × (gained old new ≡ []))
+      ⊎ WantsRead wanting.texts files file (gained old new)
   pub written : new.written ≡ old.written
   pub name : (new.name ≡ Some file) ⊎ (new.name ≡ None)
   pub faults : old.faults ≤ new.faults
 
+-- which texts of a formula in a mode may want memory, of an order of so many variables, and of a schedule (99 is `c`, 35 `#`)
+abbrev pub cnf_wants : Mode → List ℕ → Type 0
+cnf_wants mode bytes = CnfWantsMemory mode (items 99 max_bytes bytes)
+
+abbrev pub order_wants : ℕ → List ℕ → Type 0
+order_wants vars bytes = OrderWantsMemory vars (items 35 max_bytes bytes)
+
+abbrev pub schedule_wants : Formula → List ℕ → Type 0
+schedule_wants problem bytes = IsTrue (may_want_memory problem bytes)
+
+-- reading a schedule may want memory for what is kept of its formula, before the first byte
+abbrev pub cnf_wanting : Mode → Wanting CnfError
+cnf_wanting mode = record { early = false; answer = CnfOutOfMemory; texts = cnf_wants mode }
+
+abbrev pub order_wanting : ℕ → Wanting OrderError
+order_wanting vars = record { early = false; answer = OrderOutOfMemory; texts = order_wants vars }
+
+abbrev pub schedule_wanting : Formula → Wanting PlanError
+schedule_wanting problem = record { early = true; answer = PlanOutOfMemory; texts = schedule_wants problem }
+
 -- the three texts that a formula is decided by: its own in a mode, and those of an order of its variables and of a schedule
 abbrev pub ReadsFormula : Mode → Bool → Channel → Channel → Result Formula CnfError → Type 0
-ReadsFormula mode = ReadsOpened (cnf mode) (cnf_so_far mode) unread_cnf CnfAnswers IsFormula CnfReadFault
+ReadsFormula mode = ReadsOpened (cnf mode) (cnf_so_far mode) unread_cnf CnfAnswers IsFormula CnfReadFault (cnf_wanting mode)
 
 abbrev pub TakesFormula : Mode → Bool → Channel → Channel → Files → List ℕ → Result Formula CnfError → Type 0
-TakesFormula mode = TakesText (cnf mode) (cnf_so_far mode) unread_cnf CnfAnswers IsFormula CnfReadFault
+TakesFormula mode = TakesText (cnf mode) (cnf_so_far mode) unread_cnf CnfAnswers IsFormula CnfReadFault (cnf_wanting mode)
 
 abbrev pub ReadsOrder : ℕ → Bool → Channel → Channel → Result (List ℕ) OrderError → Type 0
 ReadsOrder vars = ReadsOpened (order_text vars) (order_so_far vars) unread_order OrderAnswers (IsOrderOf vars) OrderReadFault
+    (order_wanting vars)
 
 abbrev pub TakesOrder : ℕ → Bool → Channel → Channel → Files → List ℕ → Result (List ℕ) OrderError → Type 0
 TakesOrder vars = TakesText (order_text vars) (order_so_far vars) unread_order OrderAnswers (IsOrderOf vars) OrderReadFault
+    (order_wanting vars)
 
 abbrev pub ReadsSchedule : Formula → Bool → Channel → Channel → Result (List Move) PlanError → Type 0
 ReadsSchedule problem = ReadsOpened (schedule problem) (schedule_so_far problem) unread_schedule ScheduleAnswers
-    (IsAdmissible problem) PlanReadFault
+    (IsAdmissible problem) PlanReadFault (schedule_wanting problem)
 
 abbrev pub TakesSchedule : Formula → Bool → Channel → Channel → Files → List ℕ → Result (List Move) PlanError → Type 0
 TakesSchedule problem = TakesText (schedule problem) (schedule_so_far problem) unread_schedule ScheduleAnswers
-    (IsAdmissible problem) PlanReadFault
+    (IsAdmissible problem) PlanReadFault (schedule_wanting problem)
 
 -- A value was made without a file, unless memory ran out.
 pub record Makes {T E : Type 0} (value : T) (memory : E) (old new : Channel) (result : Result T E) : Type 0 where

@@ -1,11 +1,14 @@
 // The moves so far, and what tells in constant time whether the next is possible. The clauses of a stacked term were pushed
 // in turn. So another term holds a variable exactly where a clause that holds it was pushed before the first of the top
 // term's, unless the variable was quantified: then no other term and no clause to come held it.
-ghost use Rattle.std.specs.Prelude.{◌≡◌, ◌<◌, ◌≤◌, ◌-◌, ◌++◌, [], ◌∷◌, length, Ok, IfOk, OnOk, replicate, false, slice_index_or};
+ghost use Rattle.std.specs.Prelude.{◌≡◌, ◌≢◌, ◌<◌, ◌≤◌, ◌-◌, ◌++◌, [], ◌∷◌, length, None, Ok, Err, IfOk, OnOk, IsTrue, replicate, false};
+ghost use Rattle.std.specs.Prelude.{slice_index_or};
 ghost use Rattle.schedule_plan.specs.declared.plan.Move.TheVariants.{Push as PushMove, And as AndMove, Exists as ExistsMove};
+ghost use Rattle.schedule_plan.specs.declared.schedule.error.PlanError.TheVariants.{OutOfMemory as NoMemory};
 ghost use Rattle.schedule_plan.specs.Plan.{IsAdmissible};
-ghost use Rattle.schedule_plan.specs.ScheduleText.{taken, unless, end_fault_behind};
+ghost use Rattle.schedule_plan.specs.ScheduleText.{taken, unless, fault_behind, end_fault_behind};
 ghost use Rattle.schedule_plan.specs.ScheduleState.{Stands, Takes};
+ghost use Rattle.schedule_plan.specs.ScheduleMemory.{moves_may_want_memory};
 
 use crate::plan::{Move, Plan};
 use crate::schedule::error::{PlanError, PlanKind};
@@ -55,6 +58,8 @@ impl ScheduleJudge {
         requires { Stands formula.now self.old }
         ensures stands { OnOk result (Stands formula.now self.new) }
         ensures takes { Takes result (taken formula.now self.old.moves.items (PushMove number ∷ [])) line self.new.moves.items }
+        // want of memory never stands for a refusal
+        ensures memory { result ≡ Err NoMemory → fault_behind formula.now self.old.moves.items (PushMove number) ≡ None }
     {
         formula.formula_law();
         if number < 1 || number > formula.len() as u64 {
@@ -96,6 +101,8 @@ impl ScheduleJudge {
         requires two { 2 ≤ terms }
         ensures stands { OnOk result (Stands formula.now self.new) }
         ensures takes { Takes result (taken formula.now self.old.moves.items (replicate (terms - 1) AndMove)) line self.new.moves.items }
+        ensures memory { result ≡ Err NoMemory
+            → IsTrue (moves_may_want_memory formula.now self.old.moves.items (replicate (terms - 1) AndMove)) }
     {
         if (self.starts.as_slice().len() as u64) < terms {
             return Err(PlanError::Refused(PlanKind::StackShort, line));
@@ -124,6 +131,7 @@ impl ScheduleJudge {
         requires { Stands formula.now self.old }
         ensures stands { OnOk result (Stands formula.now self.new) }
         ensures takes { Takes result (taken formula.now self.old.moves.items (ExistsMove number ∷ [])) line self.new.moves.items }
+        ensures memory { result ≡ Err NoMemory → fault_behind formula.now self.old.moves.items (ExistsMove number) ≡ None }
     {
         formula.formula_law();
         let terms = self.starts.as_slice().len();
@@ -152,6 +160,7 @@ impl ScheduleJudge {
         requires { Stands formula.now self }
         ensures moves { IfOk result (λ plan. plan ≡ self.moves.items) }
         ensures takes { Takes result (unless (end_fault_behind formula.now self.moves.items) (Ok self.moves.items)) line self.moves.items }
+        ensures memory { result ≢ Err NoMemory }
         ensures admissible { IfOk result (IsAdmissible formula.now) }
     {
         if (self.pushes as usize) < formula.len() {

@@ -1,7 +1,8 @@
 // One line as it is read, token by token.
-ghost use Rattle.std.specs.Prelude.{◌≡◌, None, Some, IfSome, IfNone, OnOk};
+ghost use Rattle.std.specs.Prelude.{◌≡◌, None, Some, IfSome, IfNone, IsTrue, OnErr, OnOk};
 ghost use Rattle.schedule_plan.specs.ScheduleText.{is_letter};
 ghost use Rattle.schedule_plan.specs.ScheduleState.{no_draft, command_of, draft_of_word, draft_with, is_open};
+ghost use Rattle.schedule_plan.specs.ScheduleMemory.{has_numbers};
 
 use cnf_base::OutOfMemory;
 use std::alloc::Global;
@@ -107,7 +108,9 @@ impl Line {
     /// Takes one more token of the line.
     #[inline(always)]
     pub(crate) fn take(&mut self, token: &Token) -> Result<(), OutOfMemory>
-        ensures { OnOk result (self.new ≡ draft_with self.old token.now) }
+        ensures ok { OnOk result (self.new ≡ draft_with self.old token.now) }
+        // memory is wanted only for a number, where all before it are numbers
+        ensures memory { OnErr result (IsTrue (has_numbers (draft_with self.old token.now))) }
     {
         match plain_number(token) {
             None => self.broken = true,

@@ -1,5 +1,5 @@
 // A schedule, read line by line. A line is judged once it is ended.
-ghost use Rattle.std.specs.Prelude.{◌≡◌, ◌≢◌, ◌≤◌, ◌-◌, ◌∷◌, [], ℕ, List, map, replicate, length, true, false, Ok, Err, IsTrue, OnOk};
+ghost use Rattle.std.specs.Prelude.{◌≡◌, ◌≢◌, ◌⊎◌, ◌≤◌, ◌-◌, ◌∷◌, [], ℕ, List, map, replicate, length, true, false, Ok, Err, IsTrue, OnOk};
 ghost use Rattle.std.specs.Prelude.{OnErr, IfOk};
 ghost use Rattle.host_io.specs.Channel.{Rose};
 ghost use Rattle.text_scan.specs.Decides.{gained, Decides, OnlyReads};
@@ -11,6 +11,7 @@ ghost use Rattle.schedule_plan.specs.declared.schedule.error.PlanError.TheVarian
 ghost use Rattle.schedule_plan.specs.Plan.{IsAdmissible};
 ghost use Rattle.schedule_plan.specs.ScheduleText.{schedule, schedule_so_far, plan, overlong, taken};
 ghost use Rattle.schedule_plan.specs.ScheduleState.{Stands, Takes, Goes, Answers, draft_taken, drafted};
+ghost use Rattle.schedule_plan.specs.ScheduleMemory.{moves_may_want_memory, line_may_want_memory, items_may_want_memory, may_want_memory};
 
 use crate::plan::Plan;
 use crate::schedule::error::{PlanError, PlanKind};
@@ -41,6 +42,9 @@ pub(crate) fn read_schedule<S: Source>(
     ensures unfailed { result ≢ Err ReadFault → (S.channel source.new).faults ≡ (S.channel source.old).faults }
     ensures undecided { IsTrue S.tells → result ≡ Err ReadFault → schedule_so_far formula.now
         (gained (S.channel source.old) (S.channel source.new)) ≡ overlong }
+    // want of memory stands neither for a refusal nor for a text that is too long
+    ensures memory { IsTrue S.tells → result ≡ Err OutOfMemory → (S.channel source.new ≡ S.channel source.old)
+        ⊎ Decides (S.channel source.old) (S.channel source.new) (λ bytes more. IsTrue (may_want_memory formula.now bytes)) }
     ensures admissible { IfOk result (IsAdmissible formula.now) }
     ensures reads { OnlyReads (S.channel source.old) (S.channel source.new) }
     ensures beside { S.beside source.new ≡ S.beside source.old }
@@ -70,6 +74,10 @@ fn take_token(
     ensures stands { OnOk result (Stands formula.now judge.new) }
     ensures goes { (items : Items) → Goes result (drafted formula.now (next_word token.now items) line.old judge.old.moves.items)
         (drafted formula.now items line.new judge.new.moves.items) }
+    ensures later { OnOk result ((items : Items) → IsTrue (items_may_want_memory formula.now items line.new judge.new.moves.items)
+        → IsTrue (items_may_want_memory formula.now (next_word token.now items) line.old judge.old.moves.items)) }
+    ensures memory { result ≡ Err OutOfMemory → (items : Items)
+        → IsTrue (items_may_want_memory formula.now (next_word token.now items) line.old judge.old.moves.items) }
     ensures unfailed { result ≢ Err ReadFault }
 {
     if line.is_open() && line.line() == token.line() {
@@ -85,6 +93,7 @@ fn take_token(
 fn at_end(mut judge: ScheduleJudge, formula: &Cnf, line: &Line, end: u64) -> Result<Plan, PlanError>
     requires { Stands formula.now judge }
     ensures answers { Answers result (drafted formula.now (the_end end) line.now judge.moves.items) }
+    ensures memory { result ≡ Err OutOfMemory → IsTrue (items_may_want_memory formula.now (the_end end) line.now judge.moves.items) }
     ensures unfailed { result ≢ Err ReadFault }
     ensures admissible { IfOk result (IsAdmissible formula.now) }
 {
@@ -96,6 +105,7 @@ fn at_end(mut judge: ScheduleJudge, formula: &Cnf, line: &Line, end: u64) -> Res
 fn at_limit(mut judge: ScheduleJudge, formula: &Cnf, line: &Line, end: u64) -> PlanError
     requires { Stands formula.now judge }
     ensures answers { Answers (Err result) (drafted formula.now (too_long end) line.now judge.moves.items) }
+    ensures memory { result ≡ OutOfMemory → IsTrue (items_may_want_memory formula.now (too_long end) line.now judge.moves.items) }
     ensures unfailed { result ≢ ReadFault }
 {
     if line.line() < end {
@@ -111,6 +121,7 @@ fn take_line(judge: &mut ScheduleJudge, formula: &Cnf, line: &Line) -> Result<()
     requires { Stands formula.now judge.old }
     ensures stands { OnOk result (Stands formula.now judge.new) }
     ensures takes { Takes result (draft_taken formula.now line.now judge.old.moves.items) line.now.line judge.new.moves.items }
+    ensures memory { result ≡ Err OutOfMemory → IsTrue (line_may_want_memory formula.now line.now judge.old.moves.items) }
 {
     if !line.is_open() {
         return Ok(());
@@ -141,6 +152,8 @@ fn take_pushes(
     requires { Stands formula.now judge.old }
     ensures stands { OnOk result (Stands formula.now judge.new) }
     ensures takes { Takes result (taken formula.now judge.old.moves.items (map PushMove numbers.now)) line judge.new.moves.items }
+    ensures memory { result ≡ Err OutOfMemory
+        → IsTrue (moves_may_want_memory formula.now judge.old.moves.items (map PushMove numbers.now)) }
 {
     'numbers: for number in numbers {
         judge.push(formula, *number, line)?;
@@ -157,6 +170,8 @@ fn take_variables(
     requires { Stands formula.now judge.old }
     ensures stands { OnOk result (Stands formula.now judge.new) }
     ensures takes { Takes result (taken formula.now judge.old.moves.items (map ExistsMove numbers.now)) line judge.new.moves.items }
+    ensures memory { result ≡ Err OutOfMemory
+        → IsTrue (moves_may_want_memory formula.now judge.old.moves.items (map ExistsMove numbers.now)) }
 {
     'variables: for number in numbers {
         judge.exists(formula, *number, line)?;

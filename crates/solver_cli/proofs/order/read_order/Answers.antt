@@ -1,5 +1,5 @@
 -- What is left to show of `read_order`.
-use Rattle.std.proofs.Common.{rules}
+use Rattle.std.proofs.Common.{inr, rules}
 use Rattle.solver_cli.proofs.Reading.{read}
 use Rattle.solver_cli.proofs.order.read_order.Goals as goal
 
@@ -8,7 +8,8 @@ returns-clause-reads g c =
     let made = c.new-source.ensures in
     let answer = c.read.ensures in
     read (cc) (c.beside_kept.ensures.source made.same_reference made.same_value made.role answer.beside
-    (search rules)).same answer.decides answer.order answer.fault answer.unfailed answer.undecided answer.reads
+    (search rules)).same answer.decides answer.order answer.fault answer.unfailed answer.undecided
+    (λ t e. inr (answer.memory t e)) answer.reads
 
 pub returns-clause-kept : goal.returns-clause-kept
 returns-clause-kept g c =

@@ -1,6 +1,7 @@
 -- What is left to show of `read_schedule`.
-use Rattle.std.proofs.Common.{rules}
-use Rattle.solver_cli.proofs.Reading.{read}
+use Rattle.std.proofs.Common.{refl, rules}
+use Rattle.solver_cli.specs.Phases.{schedule_wanting}
+use Rattle.solver_cli.proofs.Reading.{early_or, read}
 use Rattle.solver_cli.proofs.plan.read_schedule.Goals as goal
 
 pub returns-clause-reads : goal.returns-clause-reads
@@ -8,7 +9,8 @@ returns-clause-reads g c =
     let made = c.new-source.ensures in
     let answer = c.read.ensures in
     read (cc) (c.beside_kept.ensures.source made.same_reference made.same_value made.role answer.beside
-    (search rules)).same answer.decides answer.admissible answer.fault answer.unfailed answer.undecided answer.reads
+    (search rules)).same answer.decides answer.admissible answer.fault answer.unfailed answer.undecided
+    (λ t e. early_or (schedule_wanting c.args.formula.now) _ _ refl (answer.memory t e)) answer.reads
 
 pub returns-clause-kept : goal.returns-clause-kept
 returns-clause-kept g c =

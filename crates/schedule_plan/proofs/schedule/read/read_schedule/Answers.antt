@@ -1,14 +1,37 @@
 -- A token goes on with the line or ends it. The end, the limit or a line that is refused decides.
-use Rattle.std.proofs.Common.{◌≡◌, ℕ, [], Err, sym, ◌∙◌, ap, subst}
-use Rattle.text_scan.specs.Decides.{gained, Decides-then, OnlyReads-then, front-then, gained-then}
-use Rattle.text_scan.specs.Items.{the_end, too_long, next_word, items, items_of_front}
+use Rattle.std.proofs.Common.{◌≡◌, ℕ, [], Err, IsTrue, inr, refl, sym, ◌∙◌, ap, subst, arith}
+use Rattle.text_scan.specs.Decides.{gained, gained-none, Decides-none, Decides-then, OnlyReads-then, front-then, gained-then}
+use Rattle.text_scan.specs.Items.{Items, the_end, too_long, next_word, items, items_of_front}
 use Rattle.text_scan.specs.Scan.{ahead, so_far}
 use Rattle.schedule_plan.specs.ScheduleText.{max_bytes, broken_off, schedule}
+use Rattle.schedule_plan.specs.declared.schedule.error.PlanError.TheVariants.{OutOfMemory}
 use Rattle.schedule_plan.specs.ScheduleState.{no_draft, drafted, Answers}
+use Rattle.schedule_plan.specs.ScheduleMemory.{items_may_want_memory, may_want_memory}
 use Rattle.schedule_plan.proofs.Drafted.{drafted_same}
 use Rattle.schedule_plan.proofs.Exits.{whole, refused_answers, undecided_at}
 use Rattle.schedule_plan.proofs.TakesError.{was_reading, error_is}
 use Rattle.schedule_plan.proofs.schedule.read.read_schedule.Goals as goal
+
+pub tokens-init : goal.tokens-init
+tokens-init g c =
+    let formula = c.args.formula.now in
+    let none = gained-none (g.S.Source.channel c.args.source.now) in
+    record {
+      same = λ told. Decides-none (g.S.Source.channel c.args.source.now)
+          (λ bytes more. drafted formula (items 35 max_bytes bytes) no_draft []
+          ≡ drafted formula (ahead c.new-scanner.result more) c.new-line.result c.in_ok-judge.judge.moves.items)
+          (λ more. rw (c.new-line.ensures, c.in_ok-judge.ensures.moves, c.new-scanner.ensures.items more) refl);
+      front = λ told reads more. rw (c.new-line.ensures, c.in_ok-judge.ensures.moves, none, c.new-scanner.ensures.front more) refl;
+      memory = λ told. Decides-none (g.S.Source.channel c.args.source.now)
+          (λ bytes more. IsTrue (items_may_want_memory formula (ahead c.new-scanner.result more) c.new-line.result
+          c.in_ok-judge.judge.moves.items) → IsTrue (may_want_memory formula bytes))
+          (λ more wants. rw (c.new-line.ensures, c.in_ok-judge.ensures.moves, c.new-scanner.ensures.items more) at wants);
+      stands = c.in_ok-judge.ensures.stands;
+      sound = rw (c.new-scanner.ensures.reading) refl;
+      reads = record { written = refl; flushed = refl; name = refl; faults = omega arith };
+      unfailed = refl;
+      beside = refl;
+    }
 
 pub tokens-preserved : goal.tokens-preserved
 tokens-preserved g c =
@@ -31,6 +54,13 @@ tokens-preserved g c =
           (c.tokens.invariant.same told) (c.in-Ok-Some.ensures.gives told) (c.tokens.invariant.front told before)
           (λ more. ap (λ is. drafted formula (broken_off is) c.tokens.line c.tokens.judge.moves.items) (token reads more)
           ∙ c.in_ok-take_token-in-Ok-Some.ensures.goes (broken_off (so_far c.next.new.self more)));
+      memory = λ told.
+          let gives = rw c.in-Ok-Some.field-0-is at (c.in-Ok-Some.ensures.gives told) in
+          Decides-then (λ bytes more. IsTrue (items_may_want_memory formula (ahead c.next.new.self more) c.take_token.new.line
+          c.take_token.new.judge.moves.items) → IsTrue (may_want_memory formula bytes))
+          (c.tokens.invariant.memory told) gives
+          (λ bytes middle more p q wants. p (subst (λ (is : Items). IsTrue (items_may_want_memory formula is c.tokens.line
+          c.tokens.judge.moves.items)) (sym q) (c.in_ok-take_token-in-Ok-Some.ensures.later (ahead c.next.new.self more) wants)));
       stands = c.in_ok-take_token-in-Ok-Some.ensures.stands;
       sound = moves.sound;
       reads = OnlyReads-then c.tokens.invariant.reads c.next.ensures.reads;
@@ -90,3 +120,36 @@ returns-in-Err-ReadFault-clause-undecided g c = λ told failed.
     ∙ ap (λ l. drafted formula (broken_off (items_of_front 35 l)) no_draft [])
     (gained-then (c.tokens.invariant.same told) (c.in-Err-ReadFault.ensures.gives told))
     ∙ c.tokens.invariant.front told last.0 (gained (g.S.Source.channel c.tokens.source) (g.S.Source.channel c.next.new.source)) ∙ last.1
+
+-- Memory was wanted for a token, or for a line that it ends.
+pub returns-in_err-take_token-in-Ok-Some-clause-memory : goal.returns-in_err-take_token-in-Ok-Some-clause-memory
+returns-in_err-take_token-in-Ok-Some-clause-memory g c = λ told wanted.
+    let formula = c.args.formula.now in
+    let gives = rw c.in-Ok-Some.field-0-is at (c.in-Ok-Some.ensures.gives told) in
+    let error = error_is c.from_residual-in_err-take_token-in-Ok-Some.result c.in_err-take_token-in-Ok-Some.field-0.0
+    c.from_residual-in_err-take_token-in-Ok-Some.ensures.1 in
+    let memory : c.in_err-take_token-in-Ok-Some.field-0.0 ≡ OutOfMemory = cc in
+    inr (Decides-then (λ bytes more. IsTrue (may_want_memory formula bytes)) (c.tokens.invariant.memory told) gives
+    (λ bytes middle more p q. p (subst (λ (is : Items). IsTrue (items_may_want_memory formula is c.tokens.line
+    c.tokens.judge.moves.items)) (sym q)
+    (c.in_err-take_token-in-Ok-Some.ensures.memory (ap Err memory) (ahead c.next.new.self more)))))
+
+-- or for the last line
+pub returns-in-Ok-None-clause-memory : goal.returns-in-Ok-None-clause-memory
+returns-in-Ok-None-clause-memory g c = λ told wanted.
+    let formula = c.args.formula.now in
+    let gives = rw c.in-Ok-None.field-0-is at (c.in-Ok-None.ensures.gives told) in
+    inr (Decides-then (λ bytes more. IsTrue (may_want_memory formula bytes)) (c.tokens.invariant.memory told) gives
+    (λ bytes middle more p q. p (subst (λ (is : Items). IsTrue (items_may_want_memory formula is c.tokens.line
+    c.tokens.judge.moves.items)) (sym (q.0 ∙ ap the_end (sym c.line-in-Ok-None-2.ensures)))
+    (c.at_end.ensures.memory wanted))))
+
+pub returns-in-Err-TooLong-clause-memory : goal.returns-in-Err-TooLong-clause-memory
+returns-in-Err-TooLong-clause-memory g c = λ told wanted.
+    let formula = c.args.formula.now in
+    let gives = rw c.in-Err-TooLong.field-0-is at (c.in-Err-TooLong.ensures.gives told) in
+    let memory : c.at_limit.result ≡ OutOfMemory = cc in
+    inr (Decides-then (λ bytes more. IsTrue (may_want_memory formula bytes)) (c.tokens.invariant.memory told) gives
+    (λ bytes middle more p q. p (subst (λ (is : Items). IsTrue (items_may_want_memory formula is c.tokens.line
+    c.tokens.judge.moves.items)) (sym (q.0 ∙ ap too_long (sym c.line-in-Err-TooLong.ensures)))
+    (c.at_limit.ensures.memory memory))))

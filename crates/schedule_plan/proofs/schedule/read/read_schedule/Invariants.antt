@@ -6,6 +6,7 @@ use Rattle.text_scan.specs.Items.{items, items_of_front}
 use Rattle.text_scan.specs.Scan.{ahead, so_far, is_reading, is_faulted, fuel}
 use Rattle.schedule_plan.specs.ScheduleText.{max_bytes, broken_off}
 use Rattle.schedule_plan.specs.ScheduleState.{Stands, no_draft, drafted}
+use Rattle.schedule_plan.specs.ScheduleMemory.{items_may_want_memory, may_want_memory}
 use Rattle.schedule_plan.proofs.schedule.read.read_schedule.Given as goal
 
 abbrev pub invariant-tokens : goal.invariant-tokens
@@ -17,6 +18,9 @@ invariant-tokens g l = record {
       → (more : List ℕ) → drafted l.formula (broken_off (items_of_front 35
       (gained (g.S.Source.channel l.fn.source) (g.S.Source.channel l.source) ++ more))) no_draft []
       ≡ drafted l.formula (broken_off (so_far l.scanner more)) l.line l.judge.moves.items;
+  memory : IsTrue g.S.Source.tells → Decides (g.S.Source.channel l.fn.source) (g.S.Source.channel l.source)
+      (λ bytes more. IsTrue (items_may_want_memory l.formula (ahead l.scanner more) l.line l.judge.moves.items)
+      → IsTrue (may_want_memory l.formula bytes));
   stands : Stands l.formula l.judge;
   sound : is_faulted l.scanner.status ≡ false;
   reads : OnlyReads (g.S.Source.channel l.fn.source) (g.S.Source.channel l.source);

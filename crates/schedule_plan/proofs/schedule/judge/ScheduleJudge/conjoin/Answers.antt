@@ -1,9 +1,12 @@
 -- What is left to show of `ScheduleJudge::conjoin`.
-use Rattle.std.proofs.Common.{◌≡◌, ◌+◌, ◌-◌, ◌≤◌, suc, length, refl, ap, sym, ◌∙◌, arith}
+use Rattle.std.proofs.Common.{◌≡◌, ◌+◌, ◌-◌, ◌≤◌, ℕ, suc, length, refl, ap, sym, subst, ◌∙◌, arith}
 use Rattle.std.specs.Prelude.{replicate}
 use Rattle.schedule_plan.specs.declared.plan.Move.TheVariants.{And}
 use Rattle.schedule_plan.specs.ScheduleText.{taken}
+use Rattle.std.specs.Prelude.{IsTrue, is_none}
+use Rattle.schedule_plan.specs.ScheduleMemory.{moves_may_want_memory}
 use Rattle.schedule_plan.proofs.Standing.{accepted}
+use Rattle.schedule_plan.proofs.ScheduleWants.{free_behind}
 use Rattle.schedule_plan.proofs.Steps.{short_fault, and_free, term_count}
 use Rattle.schedule_plan.proofs.schedule.judge.ScheduleJudge.conjoin.Goals as goal
 
@@ -36,3 +39,14 @@ loop-preserved c =
           ∙ accepted formula now.moves.items at.stage And (replicate left And) at.at.possible (and_free formula now at.stage at.at two)
           ∙ ap (λ l. taken formula l (replicate left And)) (sym c.in_ok-conjoin_top.ensures.moves);
     }
+
+-- there are terms enough, so the first move has no fault
+pub returns-in_err-conjoin_top-clause-memory : goal.returns-in_err-conjoin_top-clause-memory
+returns-in_err-conjoin_top-clause-memory c = λ wanted.
+    let formula = c.args.formula.now in
+    let old = c.args.self.now in
+    let at = c.requires.stands in
+    let two : 2 ≤ length old.starts.items = omega (arith, ap length c.as_slice.ensures.value, c.if-as_slice-terms.false, c.requires.two) in
+    let same : c.args.terms - 1 ≡ suc (c.args.terms - 2) = omega (arith, c.requires.two) in
+    subst (λ (n : ℕ). IsTrue (moves_may_want_memory formula old.moves.items (replicate n And))) (sym same)
+    (ap is_none (free_behind formula old.moves.items at.stage And at.at.possible (and_free formula old at.stage at.at two)))
