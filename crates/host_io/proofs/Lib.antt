@@ -6,3 +6,4 @@ pub mod Kept
 pub mod Parts
 pub mod Unopened
 pub mod Written
+mod Walks

@@ -5,6 +5,7 @@ pub mod Memory
 pub mod Failing
 pub mod Real
 pub mod Port
+pub mod Connection
 pub mod Slice
 pub mod Emitted
 pub mod Idle

@@ -1,10 +1,10 @@
--- What a host over the real system tells: what the device of each role reaches, how many bytes passed there, and counts
--- of faults, and no byte.
-use Rattle.std.specs.Prelude.{◌≡◌, ℕ, ◌+◌, ◌-◌, ◌^◌, min, List, [], length, Option, None, Some, Result, IsFalse, IsOk, IsErr, IfOk, OnOk}
-use Rattle.std.specs.Prelude.{OnErr, IfSome, slice_index_or}
+-- What a host over the real system tells: what the device of each role reaches, which bytes passed there, and counts of
+-- faults. What is left to be read, and what a file holds, it can't tell.
+use Rattle.std.specs.Prelude.{◌≡◌, ℕ, ◌+◌, ◌-◌, ◌^◌, ◌==◌, ◌&&◌, min, Bool, false, not, List, [], ◌++◌, length, take}
+use Rattle.std.specs.Prelude.{Option, None, Some, Result, IsFalse, IsOk, IsErr, IfSome, MatchResult, slice_index_or, ⊤}
 use Rattle.host_io.specs.declared.source.Failed.{Failed}
 use Rattle.host_io.specs.declared.role.Role.{Role}
-use Rattle.host_io.specs.declared.role.Role.TheVariants.{Out, Err}
+use Rattle.host_io.specs.declared.role.Role.TheVariants.{Cnf, Order, Buckets, Schedule, ProofIn, ProofOut, Made, Out, Err}
 use Rattle.host_io.specs.Channel.{Channel}
 use Rattle.host_io.specs.Files.{Files, code_of, same_role, IsInput, IsCreated}
 
@@ -23,12 +23,13 @@ name_of (Some (Created name)) = Some name
 name_of (Some StandardOutput) = None
 name_of (Some StandardError) = None
 
--- How many bytes were taken from a device and written to it, and of how many written ones the last flush that
--- succeeded was. A number stands still at the end of its type.
+-- The bytes that were taken from a device, whether the last read met its end, the bytes that were written to it, and those
+-- of them that the last flush covered. (Calls that failed are left out.)
 pub record Traffic : Type 0 where
-  pub taken : ℕ
-  pub written : ℕ
-  pub flushed : ℕ
+  pub taken : List ℕ
+  pub ended : Bool
+  pub written : List ℕ
+  pub flushed : List ℕ
 
 -- a device: what it reaches, nothing while it is closed, and what passed there
 pub record Connected : Type 0 where
@@ -42,7 +43,7 @@ pub record Counted : Type 0 where
 
 -- no byte passed yet
 abbrev pub no_traffic : Traffic
-no_traffic = record { taken = 0; written = 0; flushed = 0 }
+no_traffic = record { taken = []; ended = false; written = []; flushed = [] }
 
 -- a device that was not opened
 abbrev pub closed : Connected
@@ -60,17 +61,21 @@ more count n = min (count + n) (2 ^ 64 - 1)
 abbrev pub missed : Counted → Counted
 missed role = record role { faults = more role.faults 1 }
 
--- so many bytes more were taken
-abbrev pub took : ℕ → Traffic → Traffic
-took n traffic = record traffic { taken = more traffic.taken n }
+-- So many bytes at the front of the buffer were taken. It is the end where there are none, though there was room.
+abbrev pub took : List ℕ → ℕ → Traffic → Traffic
+took buffer n traffic = record traffic { taken = traffic.taken ++ take n buffer; ended = (n == 0) && not (length buffer == 0) }
 
--- so many bytes more were written
-abbrev pub wrote : ℕ → Traffic → Traffic
-wrote n traffic = record traffic { written = more traffic.written n }
+-- so many bytes at the front of the piece were written
+abbrev pub wrote : List ℕ → ℕ → Traffic → Traffic
+wrote piece n traffic = record traffic { written = traffic.written ++ take n piece }
 
 -- all that was written was flushed
 abbrev pub all_flushed : Traffic → Traffic
 all_flushed traffic = record traffic { flushed = traffic.written }
+
+-- A call that succeeds does this to the traffic, and one that fails nothing.
+abbrev pub Passes : {T : Type 0} → (T → Traffic → Traffic) → Traffic → Traffic → Result T Failed → Type 0
+Passes change old new result = MatchResult result (λ value. new ≡ change value old) (λ _. new ≡ old)
 
 -- The channel that tells no byte. A role's name is that of the file that its device reaches.
 abbrev pub quiet : Counted → Channel
@@ -110,6 +115,50 @@ pub record IsConnected (roles : List Counted) : Type 0 where
   pub fits : (role : Role) → IfSome (device_of roles role).target (MayReach role)
   pub idle : (role : Role) → (device_of roles role).target ≡ None → traffic_of roles role ≡ no_traffic
 
+-- a file that was opened is reached, so that it can be read
+abbrev pub IsSource : Option Target → Type 0
+IsSource None = ⊥
+IsSource (Some (Opened name)) = ⊤
+IsSource (Some (Created name)) = ⊥
+IsSource (Some StandardOutput) = ⊥
+IsSource (Some StandardError) = ⊥
+
+-- a file that was created or a standard stream is reached, so that it can be written
+abbrev pub IsSink : Option Target → Type 0
+IsSink None = ⊥
+IsSink (Some (Opened name)) = ⊥
+IsSink (Some (Created name)) = ⊤
+IsSink (Some StandardOutput) = ⊤
+IsSink (Some StandardError) = ⊤
+
+-- the standard stream of a role
+abbrev pub standard : Role → Option Target
+standard Cnf = None
+standard Order = None
+standard Buckets = None
+standard Schedule = None
+standard ProofIn = None
+standard ProofOut = None
+standard Made = None
+standard Out = Some StandardOutput
+standard Err = Some StandardError
+
+-- what is reached, and else the role's standard stream
+abbrev pub or_standard : Role → Option Target → Option Target
+or_standard role None = standard role
+or_standard role (Some target) = Some target
+
+-- A role opens or creates its file, at which nothing passed yet. Where that fails it counts a fault.
+abbrev pub Joins : {T : Type 0} → Target → Counted → Counted → Result T Failed → Type 0
+Joins target old new result =
+    MatchResult result (λ _. new ≡ record old { device = record { target = Some target; traffic = no_traffic } }) (λ _. new ≡ missed old)
+
+-- A role that reaches nothing takes its standard stream. Where that fails it counts a fault.
+abbrev pub Begins : {T : Type 0} → Role → Counted → Counted → Result T Failed → Type 0
+Begins role old new result =
+    MatchResult result (λ _. new ≡ record old { device = record old.device { target = or_standard role old.device.target } })
+    (λ _. new ≡ missed old)
+
 -- A call of one role changes no other's device, name or count.
 abbrev pub OthersCounted : Role → List Counted → List Counted → Type 0
 OthersCounted role old new = (other : Role) → IsFalse (same_role other role) → counted_of new other ≡ counted_of old other
@@ -125,13 +174,11 @@ pub record Connects {T : Type 0} (role : Role) (target : Target) (old new : List
 -- reach, and none pass at another's.
 pub record Moves (role : Role) (change : ℕ → Traffic → Traffic) (old new : List Counted) (result : Result ℕ Failed) : Type 0 where
   pub reached : IsOk result → Reaches role (device_of new role).target
-  pub ok : IfOk result (λ n. traffic_of new role ≡ change n (traffic_of old role))
-  pub err : OnErr result (traffic_of new role ≡ traffic_of old role)
+  pub passed : Passes change (traffic_of old role) (traffic_of new role) result
   pub others : OthersCounted role old new
 
 -- A flush of one role: where it succeeds, all that was written to its device is flushed. No byte passes anywhere.
 pub record FlushesDevice {T : Type 0} (role : Role) (old new : List Counted) (result : Result T Failed) : Type 0 where
   pub target : (device_of new role).target ≡ (device_of old role).target
-  pub ok : OnOk result (traffic_of new role ≡ all_flushed (traffic_of old role))
-  pub err : OnErr result (traffic_of new role ≡ traffic_of old role)
+  pub passed : Passes (λ _. all_flushed) (traffic_of old role) (traffic_of new role) result
   pub others : OthersCounted role old new

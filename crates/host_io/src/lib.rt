@@ -2,13 +2,12 @@
 //! holds all of them by their roles; `HostSource` and `HostSink` lend one role of a host. The contracts tell
 //! the bytes that were taken, are left, were written and are flushed, names of files, and counts of faults: a
 //! failed call raises its role's count and moves nothing, and no other call raises it. `MemoryHost` keeps its files
-//! in memory and tells all; so does `SliceSource`, a source of bytes in memory. `RealHost` meets the system, tells
-//! names and counts, and is trusted for the bytes. `NoSink` drops what is written to it. `emit` collects a text in a small buffer before its sink. Stands on
-//! nothing.
+//! in memory and tells all; so does `SliceSource`, a source of bytes in memory. `RealHost` meets the system; it tells
+//! names, counts, and which bytes passed where, and the system is trusted for the files (`port`). `NoSink` drops what is
+//! written to it. `emit` collects a text in a small buffer before its sink. Stands on nothing.
 #![tactic(auto)]
 
 mod client;
-mod device;
 mod failing_host;
 mod held;
 mod host;
@@ -16,6 +15,7 @@ mod host_sink;
 mod host_source;
 mod law;
 mod lent;
+mod log;
 mod memory_host;
 mod no_sink;
 mod port;

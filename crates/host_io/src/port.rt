@@ -1,31 +1,32 @@
-// The calls of the system, through a buffer: what is trusted of the real host. A port of a file keeps the name by
-// which the file was opened or created, and a port of a standard stream can hold no other stream.
-ghost use Rattle.std.specs.Prelude.{◌≡◌, ◌≢◌, ◌<◌, ◌≤◌, None, Some, length, IsOk, IfOk};
-ghost use Rattle.std.specs.Io.KnownBytes.{ReadConsumes, WriteAppends};
-ghost use Rattle.host_io.specs.Real.{Opened, Created, StandardOutput, StandardError};
-ghost use Rattle.host_io.specs.Port.{target_of};
+// The calls of the system that give a stream: all that is trusted of the real host. `File::open` and `File::create` are to
+// reach the file of this name, and `stdout` and `stderr` the stream of their type, whose reads and writes are to be those that
+// std's `Read` and `Write` describe. Each stands in one line, beside the name that it is given.
+ghost use Rattle.std.specs.Prelude.{◌≡◌, [], IfOk};
+ghost use Rattle.host_io.specs.Real.{no_traffic};
+ghost use Rattle.host_io.specs.Port.{traffic_in, traffic_out, name_in, name_out, Settles};
 
+mod flow;
+mod tally;
+
+use crate::log::Log;
+use crate::source::Failed;
+pub(crate) use flow::{Input, Output};
 use std::fs::File;
 use std::io;
-use std::io::{BufReader, BufWriter, ErrorKind, Read, Stderr, Stdout, Write};
+use std::io::{Stderr, Stdout};
+pub(crate) use tally::Tally;
 
-// The bytes that are read or written at a time.
-const BUFFER: usize = 65536;
-
-// A stream of the system.
-#[derive(Drop)]
-pub(crate) enum Port {
-    Closed,
-    Input(Vec<u8>, BufReader<File>),
-    Output(Vec<u8>, BufWriter<File>),
-    Stdout(BufWriter<Stdout>),
-    Stderr(BufWriter<Stderr>),
-}
-
-// The handle of the system, which only this file can use.
+/// The handle of the system, which only this file can use.
 #[derive(Drop)]
 pub(crate) struct System {
     rt: HostRuntime,
+}
+
+// A stream of the system, with the name by which its file was opened or created; a standard stream has none.
+#[derive(Drop)]
+struct Named<S> {
+    name: Log,
+    stream: S,
 }
 
 impl System {
@@ -33,111 +34,69 @@ impl System {
         System { rt }
     }
 
-    // The file of this name, opened.
-    pub(crate) fn open(&self, name: &str) -> io::Result<Port>
-        ensures { IfOk result (λ port. target_of port ≡ Some (Opened name.now)) }
+    // Trusted: the file of this name, opened.
+    fn opened(&self, name: &str) -> io::Result<Named<File>>
+        ensures { IfOk result (λ file. file.name.bytes ≡ name.now) }
     {
-        let copy = name.as_bytes().to_vec(self.rt.alloc())?;
-        let file = File::open(&self.rt, name)?;
-        Ok(Port::Input(
-            copy,
-            BufReader::with_capacity(self.rt.alloc(), BUFFER, file)?,
-        ))
+        let stream = File::open(&self.rt, name)?;
+        Ok(Named {
+            name: Log::of(name),
+            stream,
+        })
     }
 
-    // The file of this name, created.
-    pub(crate) fn create(&self, name: &str) -> io::Result<Port>
-        ensures { IfOk result (λ port. target_of port ≡ Some (Created name.now)) }
+    // Trusted: the file of this name, created.
+    fn created(&self, name: &str) -> io::Result<Named<File>>
+        ensures { IfOk result (λ file. file.name.bytes ≡ name.now) }
     {
-        let copy = name.as_bytes().to_vec(self.rt.alloc())?;
-        let file = File::create(&self.rt, name)?;
-        Ok(Port::Output(
-            copy,
-            BufWriter::with_capacity(self.rt.alloc(), BUFFER, file)?,
-        ))
+        let stream = File::create(&self.rt, name)?;
+        Ok(Named {
+            name: Log::of(name),
+            stream,
+        })
     }
 
-    pub(crate) fn standard_output(&self) -> io::Result<Port>
-        ensures { IfOk result (λ port. target_of port ≡ Some StandardOutput) }
+    /// The file of this name, opened.
+    pub(crate) fn open(&self, name: &str, tally: &mut Tally) -> Result<Input<File>, Failed>
+        ensures name { IfOk result (λ input. name_in input ≡ name.now) }
+        ensures passed { IfOk result (λ input. traffic_in input ≡ no_traffic) }
+        ensures tally { Settles tally.old tally.new result }
     {
-        let stream = BufWriter::with_capacity(self.rt.alloc(), BUFFER, self.rt.stdout())?;
-        Ok(Port::Stdout(stream))
+        let file = tally.settle(self.opened(name))?;
+        tally.settle(Input::new(self.rt.alloc(), file))
     }
 
-    pub(crate) fn standard_error(&self) -> io::Result<Port>
-        ensures { IfOk result (λ port. target_of port ≡ Some StandardError) }
+    /// The file of this name, created.
+    pub(crate) fn create(&self, name: &str, tally: &mut Tally) -> Result<Output<File>, Failed>
+        ensures name { IfOk result (λ output. name_out output ≡ name.now) }
+        ensures passed { IfOk result (λ output. traffic_out output ≡ no_traffic) }
+        ensures tally { Settles tally.old tally.new result }
     {
-        let stream = BufWriter::with_capacity(self.rt.alloc(), BUFFER, self.rt.stderr())?;
-        Ok(Port::Stderr(stream))
+        let file = tally.settle(self.created(name))?;
+        tally.settle(Output::new(self.rt.alloc(), file))
     }
-}
 
-impl Port {
-    pub(crate) fn read(&mut self, buf: &mut [u8]) -> io::Result<usize>
-        ensures count { IfOk result (λ n. n ≤ length buf.old) }
-        ensures target { target_of self.new ≡ target_of self.old }
-        ensures open { IsOk result → target_of self.old ≢ None }
+    /// Standard output.
+    pub(crate) fn standard_output(&self, tally: &mut Tally) -> Result<Output<Stdout>, Failed>
+        ensures passed { IfOk result (λ output. traffic_out output ≡ no_traffic) }
+        ensures tally { Settles tally.old tally.new result }
     {
-        match self {
-            Port::Input(_, input) => read_again(input, buf),
-            _ => Err(io::Error::from(ErrorKind::NotConnected)),
-        }
+        let stream = Named {
+            name: Log::new(),
+            stream: self.rt.stdout(),
+        };
+        tally.settle(Output::new(self.rt.alloc(), stream))
     }
 
-    pub(crate) fn write(&mut self, bytes: &[u8]) -> io::Result<usize>
-        ensures count { IfOk result (λ n. n ≤ length bytes.now) }
-        ensures progress { IfOk result (λ n. 0 < length bytes.now → 0 < n) }
-        ensures target { target_of self.new ≡ target_of self.old }
-        ensures open { IsOk result → target_of self.old ≢ None }
+    /// Standard error.
+    pub(crate) fn standard_error(&self, tally: &mut Tally) -> Result<Output<Stderr>, Failed>
+        ensures passed { IfOk result (λ output. traffic_out output ≡ no_traffic) }
+        ensures tally { Settles tally.old tally.new result }
     {
-        match self {
-            Port::Output(_, output) => write_again(output, bytes),
-            Port::Stdout(output) => write_again(output, bytes),
-            Port::Stderr(output) => write_again(output, bytes),
-            _ => Err(io::Error::from(ErrorKind::NotConnected)),
-        }
+        let stream = Named {
+            name: Log::new(),
+            stream: self.rt.stderr(),
+        };
+        tally.settle(Output::new(self.rt.alloc(), stream))
     }
-
-    // Writes out the buffer.
-    pub(crate) fn flush(&mut self) -> io::Result<()>
-        ensures { target_of self.new ≡ target_of self.old }
-    {
-        match self {
-            Port::Output(_, output) => output.flush(),
-            Port::Stdout(output) => output.flush(),
-            Port::Stderr(output) => output.flush(),
-            _ => Ok(()),
-        }
-    }
-}
-
-// Reads; a call that a signal broke off is made again.
-fn read_again<R: Read>(input: &mut R, buf: &mut [u8]) -> io::Result<usize>
-    ensures count { IfOk result (λ n. n ≤ length buf.old) }
-    ensures bytes { ReadConsumes (R.remaining input.old) (R.remaining input.new) result buf.new }
-{
-    'calls: for _ in 0..u64::MAX {
-        match input.read(buf) {
-            Err(e) if e.kind() == ErrorKind::Interrupted => {}
-            outcome => return outcome,
-        }
-    }
-    Err(io::Error::from(ErrorKind::Interrupted))
-}
-
-// Writes; a call that a signal broke off is made again, and one that takes nothing of a piece that isn't empty is a
-// fault.
-fn write_again<W: Write>(output: &mut W, bytes: &[u8]) -> io::Result<usize>
-    ensures count { IfOk result (λ n. n ≤ length bytes.now) }
-    ensures progress { IfOk result (λ n. 0 < length bytes.now → 0 < n) }
-    ensures bytes { WriteAppends (W.contents output.old) (W.contents output.new) result bytes.now }
-{
-    'calls: for _ in 0..u64::MAX {
-        match output.write(bytes) {
-            Err(e) if e.kind() == ErrorKind::Interrupted => {}
-            Ok(0) if !bytes.is_empty() => break,
-            outcome => return outcome,
-        }
-    }
-    Err(io::Error::from(ErrorKind::WriteZero))
 }

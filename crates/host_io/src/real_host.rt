@@ -1,19 +1,17 @@
-// A host over the real system. No clause can say which bytes reach or leave it, so it tells names and faults, and
-// how many bytes pass at which device; for the bytes the calls of the system are trusted.
-ghost use Rattle.std.specs.Prelude.{◌≡◌, ◌≢◌, false, None, length, IfOk, IfSome};
+// A host over the real system. No clause can say what a file holds, so it doesn't tell what is left to be read, nor files; it
+// tells names and faults, and which bytes pass at which device. That these are the file's is what `port` trusts the system for.
+ghost use Rattle.std.specs.Prelude.{◌≡◌, ◌≢◌, ◌≤◌, false, None, length};
 ghost use Rattle.host_io.specs.declared.role.Role.{Role};
-ghost use Rattle.host_io.specs.Channel.{Reads, Writes, Flushes, Counts};
+ghost use Rattle.host_io.specs.Channel.{Reads, Writes, Flushes};
 ghost use Rattle.host_io.specs.Files.{IsInput, IsCreated, IsNamedFirst, IsWritable, IsIdle, Kept, Opens};
-ghost use Rattle.host_io.specs.Real.{unmet, counted_of, quiet_channel, quiet_files, device_of, no_traffic, Opened, Created, MayReach};
-ghost use Rattle.host_io.specs.Real.{OthersCounted, Connects, Moves, FlushesDevice, name_of, took, wrote, traffic_of};
-ghost use Rattle.host_io.specs.Port.{target_of};
+ghost use Rattle.host_io.specs.Real.{unmet, counted_of, quiet_channel, quiet_files, device_of, no_traffic, Opened, Created};
+ghost use Rattle.host_io.specs.Real.{OthersCounted, Begins, Connects, Moves, FlushesDevice, took, wrote, traffic_of};
 
 use crate::host::Host;
-use crate::port::{Port, System};
+use crate::port::System;
 use crate::real_role::RealRole;
 use crate::role::{Role, place};
 use crate::source::Failed;
-use std::io;
 use std::marker::Model;
 
 /// Files, standard output and standard error. Each role has a buffer of 64 KB from its first use on; what is
@@ -58,35 +56,13 @@ impl RealHost {
         }
     }
 
-    // Connects the standard stream of this role, where it is not connected yet.
+    // Takes the standard stream of this role, where it has one and has not taken it yet.
     fn begin(&mut self, role: Role) -> Result<(), Failed>
-        ensures counts { Counts (quiet_channel self.old role) (quiet_channel self.new role) result }
-        ensures name { (quiet_channel self.new role).name ≡ (quiet_channel self.old role).name }
-        ensures traffic { traffic_of self.new role ≡ traffic_of self.old role }
+        ensures begins { Begins role (counted_of self.old role) (counted_of self.new role) result }
+        ensures no_less { (counted_of self.old role).faults ≤ (counted_of self.new role).faults }
         ensures others { OthersCounted role self.old self.new }
     {
-        if !self.roles[place(role)].is_closed() {
-            return Ok(());
-        }
-        match standard(&self.system, role) {
-            Ok(port) => {
-                self.roles[place(role)].connect(port);
-                Ok(())
-            }
-            Err(_) => Err(self.roles[place(role)].fail()),
-        }
-    }
-}
-
-// The port of a role that needs no name.
-fn standard(system: &System, role: Role) -> io::Result<Port>
-    ensures reached { IfOk result (λ port. IfSome (target_of port) (MayReach role)) }
-    ensures unnamed { IfOk result (λ port. name_of (target_of port) ≡ None) }
-{
-    match role {
-        Role::Out => system.standard_output(),
-        Role::Err => system.standard_error(),
-        _ => Ok(Port::Closed),
+        self.roles[place(role)].begin(&self.system, role)
     }
 }
 
@@ -113,13 +89,7 @@ impl Host for RealHost {
         ensures kept { Kept role None (quiet_channel self.old) (quiet_channel self.new) (quiet_files self.old) (quiet_files self.new) }
         ensures connects { Connects role (Opened name.now) self.old self.new result }
     {
-        match self.system.open(name) {
-            Ok(port) => {
-                self.roles[place(role)].connect(port);
-                Ok(())
-            }
-            Err(_) => Err(self.roles[place(role)].fail()),
-        }
+        self.roles[place(role)].open(&self.system, name)
     }
 
     fn create(&mut self, role: Role, name: &str) -> Result<(), Failed>
@@ -130,13 +100,7 @@ impl Host for RealHost {
             (quiet_files self.new) }
         ensures connects { Connects role (Created name.now) self.old self.new result }
     {
-        match self.system.create(name) {
-            Ok(port) => {
-                self.roles[place(role)].connect(port);
-                Ok(())
-            }
-            Err(_) => Err(self.roles[place(role)].fail()),
-        }
+        self.roles[place(role)].create(&self.system, name)
     }
 
     fn read(&mut self, role: Role, buf: &mut [u8]) -> Result<usize, Failed>
@@ -144,7 +108,7 @@ impl Host for RealHost {
         requires opened { (quiet_channel self.old role).name ≢ None }
         ensures reads { Reads false (quiet_channel self.old role) (quiet_channel self.new role) (length buf.old) buf.new result }
         ensures kept { Kept role None (quiet_channel self.old) (quiet_channel self.new) (quiet_files self.old) (quiet_files self.new) }
-        ensures moves { Moves role took self.old self.new result }
+        ensures moves { Moves role (took buf.new) self.old self.new result }
     {
         self.roles[place(role)].read(buf)
     }
@@ -154,7 +118,7 @@ impl Host for RealHost {
         ensures writes { Writes false (quiet_channel self.old role) (quiet_channel self.new role) bytes.now result }
         ensures kept { Kept role (quiet_channel self.old role).name (quiet_channel self.old) (quiet_channel self.new) (quiet_files self.old)
             (quiet_files self.new) }
-        ensures moves { Moves role wrote self.old self.new result }
+        ensures moves { Moves role (wrote bytes.now) self.old self.new result }
     {
         self.begin(role)?;
         self.roles[place(role)].write(bytes)

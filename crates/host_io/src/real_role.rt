@@ -1,18 +1,30 @@
-// One role of the real host: its device, whose file gives its name, and its count of faults.
-ghost use Rattle.std.specs.Prelude.{◌≡◌, ◌≢◌, ◌≤◌, ◌↔◌, false, None, length, IsTrue, IsOk, IfOk, OnOk, OnErr};
+// One role of the real host: the stream that it has, and how its calls ended. A call that a signal broke off is made again.
+ghost use Rattle.std.specs.Prelude.{◌≡◌, ◌<◌, ◌≤◌, false, None, length, IfOk};
 ghost use Rattle.host_io.specs.Channel.{Reads, Writes, Flushes};
-ghost use Rattle.host_io.specs.Real.{unmet, missed, took, wrote, all_flushed, quiet};
-ghost use Rattle.host_io.specs.Port.{target_of};
+ghost use Rattle.host_io.specs.Files.{Opens};
+ghost use Rattle.host_io.specs.Real.{unmet, took, wrote, all_flushed, quiet, Passes, Opened, Created, Joins, Begins, IsSource, IsSink};
+ghost use Rattle.host_io.specs.Port.{traffic_in, traffic_out, name_in, name_out, Settles};
 
-use crate::device::Device;
-use crate::port::Port;
+use crate::port::{Input, Output, System, Tally};
+use crate::role::Role;
 use crate::source::Failed;
+use std::fs::File;
+use std::io::{Read, Stderr, Stdout, Write};
 use std::marker::Model;
 
 #[derive(Drop)]
+pub(crate) enum Connection {
+    Closed,
+    Input(Input<File>),
+    Output(Output<File>),
+    Stdout(Output<Stdout>),
+    Stderr(Output<Stderr>),
+}
+
+#[derive(Drop)]
 pub(crate) struct RealRole {
-    device: Device,
-    faults: u64,
+    connection: Connection,
+    tally: Tally,
 }
 
 impl Model for RealRole {
@@ -20,7 +32,10 @@ impl Model for RealRole {
 
     ghost Value = { Counted };
 
-    ghost view = { λ r. record { device = r.device; faults = r.faults } };
+    ghost use Rattle.host_io.specs.Port.{faults_of};
+    ghost use Rattle.host_io.specs.Connection.{connected_of};
+
+    ghost view = { λ r. record { device = connected_of r.connection; faults = faults_of r.tally } };
 }
 
 impl RealRole {
@@ -28,65 +43,136 @@ impl RealRole {
         ensures { result ≡ unmet }
     {
         RealRole {
-            device: Device::new(),
-            faults: 0,
+            connection: Connection::Closed,
+            tally: Tally::new(),
         }
     }
 
-    pub(crate) fn is_closed(&self) -> bool
-        ensures { IsTrue result ↔ self.now.device.target ≡ None }
+    /// Opens the file of this name.
+    pub(crate) fn open(&mut self, system: &System, name: &str) -> Result<(), Failed>
+        requires unnamed { (quiet self.old).name ≡ None }
+        ensures joins { Joins (Opened name.now) self.old self.new result }
+        ensures opens { Opens (quiet self.old) (quiet self.new) name.now result }
     {
-        self.device.is_closed()
+        self.connection = Connection::Input(system.open(name, &mut self.tally)?);
+        Ok(())
     }
 
-    /// Takes this port.
-    pub(crate) fn connect(&mut self, port: Port)
-        ensures { self.new ≡ record self.old { device = record self.old.device { target = target_of port } } }
+    /// Creates the file of this name.
+    pub(crate) fn create(&mut self, system: &System, name: &str) -> Result<(), Failed>
+        requires unnamed { (quiet self.old).name ≡ None }
+        ensures joins { Joins (Created name.now) self.old self.new result }
+        ensures opens { Opens (quiet self.old) (quiet self.new) name.now result }
     {
-        self.device.connect(port);
+        self.connection = Connection::Output(system.create(name, &mut self.tally)?);
+        Ok(())
     }
 
-    /// Counts a fault.
-    pub(crate) fn fail(&mut self) -> Failed
-        ensures missed { self.new ≡ missed self.old }
+    /// Takes the standard stream of this role, where it has one and has not taken it yet.
+    pub(crate) fn begin(&mut self, system: &System, role: Role) -> Result<(), Failed>
+        ensures begins { Begins role self.old self.new result }
         ensures no_less { self.old.faults ≤ self.new.faults }
     {
-        self.faults = self.faults.saturating_add(1);
-        Failed
+        match (&self.connection, role) {
+            (Connection::Closed, Role::Out) => {
+                self.connection = Connection::Stdout(system.standard_output(&mut self.tally)?);
+                Ok(())
+            }
+            (Connection::Closed, Role::Err) => {
+                self.connection = Connection::Stderr(system.standard_error(&mut self.tally)?);
+                Ok(())
+            }
+            _ => Ok(()),
+        }
     }
 
     pub(crate) fn read(&mut self, buf: &mut [u8]) -> Result<usize, Failed>
+        requires source { IsSource self.old.device.target }
         ensures reads { Reads false (quiet self.old) (quiet self.new) (length buf.old) buf.new result }
-        ensures ok { IfOk result (λ n. self.new.device ≡ record self.old.device { traffic = took n self.old.device.traffic }) }
-        ensures err { OnErr result (self.new.device ≡ self.old.device) }
-        ensures open { IsOk result → self.old.device.target ≢ None }
+        ensures target { self.new.device.target ≡ self.old.device.target }
+        ensures passed { Passes (took buf.new) self.old.device.traffic self.new.device.traffic result }
     {
-        match self.device.read(buf) {
-            Ok(count) => Ok(count),
-            Err(_) => Err(self.fail()),
+        match &mut self.connection {
+            Connection::Input(input) => read(input, buf, &mut self.tally),
+            _ => unreachable!(),
         }
     }
 
     pub(crate) fn write(&mut self, bytes: &[u8]) -> Result<usize, Failed>
+        requires sink { IsSink self.old.device.target }
         ensures writes { Writes false (quiet self.old) (quiet self.new) bytes.now result }
-        ensures ok { IfOk result (λ n. self.new.device ≡ record self.old.device { traffic = wrote n self.old.device.traffic }) }
-        ensures err { OnErr result (self.new.device ≡ self.old.device) }
-        ensures open { IsOk result → self.old.device.target ≢ None }
+        ensures target { self.new.device.target ≡ self.old.device.target }
+        ensures passed { Passes (wrote bytes.now) self.old.device.traffic self.new.device.traffic result }
     {
-        match self.device.write(bytes) {
-            Ok(count) => Ok(count),
-            Err(_) => Err(self.fail()),
+        match &mut self.connection {
+            Connection::Output(output) => write(output, bytes, &mut self.tally),
+            Connection::Stdout(output) => write(output, bytes, &mut self.tally),
+            Connection::Stderr(output) => write(output, bytes, &mut self.tally),
+            _ => unreachable!(),
         }
     }
 
+    /// Writes out the buffer.
     pub(crate) fn flush(&mut self) -> Result<(), Failed>
         ensures flushes { Flushes false (quiet self.old) (quiet self.new) result }
-        ensures ok { OnOk result (self.new.device ≡ record self.old.device { traffic = all_flushed self.old.device.traffic }) }
-        ensures err { OnErr result (self.new.device ≡ self.old.device) }
+        ensures target { self.new.device.target ≡ self.old.device.target }
+        ensures passed { Passes (λ _. all_flushed) self.old.device.traffic self.new.device.traffic result }
     {
-        match self.device.flush() {
-            Ok(()) => Ok(()),
-            Err(_) => Err(self.fail()),
+        match &mut self.connection {
+            Connection::Output(output) => flush(output, &mut self.tally),
+            Connection::Stdout(output) => flush(output, &mut self.tally),
+            Connection::Stderr(output) => flush(output, &mut self.tally),
+            Connection::Input(_) | Connection::Closed => Ok(()),
         }
     }
+}
+
+fn read<R: Read + Drop>(
+    input: &mut Input<R>,
+    buf: &mut [u8],
+    tally: &mut Tally,
+) -> Result<usize, Failed>
+    ensures count { IfOk result (λ n. n ≤ length buf.old) }
+    ensures passed { Passes (took buf.new) (traffic_in input.old) (traffic_in input.new) result }
+    ensures name { name_in input.new ≡ name_in input.old }
+    ensures tally { Settles tally.old tally.new result }
+{
+    'calls: while tally.may_repeat() {
+        if let Some(answer) = input.read_once(buf, tally) {
+            return answer;
+        }
+    }
+    Err(tally.give_up())
+}
+
+fn write<W: Write + Drop>(
+    output: &mut Output<W>,
+    bytes: &[u8],
+    tally: &mut Tally,
+) -> Result<usize, Failed>
+    ensures count { IfOk result (λ n. n ≤ length bytes.now) }
+    ensures progress { IfOk result (λ n. 0 < length bytes.now → 0 < n) }
+    ensures passed { Passes (wrote bytes.now) (traffic_out output.old) (traffic_out output.new) result }
+    ensures name { name_out output.new ≡ name_out output.old }
+    ensures tally { Settles tally.old tally.new result }
+{
+    'calls: while tally.may_repeat() {
+        if let Some(answer) = output.write_once(bytes, tally) {
+            return answer;
+        }
+    }
+    Err(tally.give_up())
+}
+
+fn flush<W: Write + Drop>(output: &mut Output<W>, tally: &mut Tally) -> Result<(), Failed>
+    ensures passed { Passes (λ _. all_flushed) (traffic_out output.old) (traffic_out output.new) result }
+    ensures name { name_out output.new ≡ name_out output.old }
+    ensures tally { Settles tally.old tally.new result }
+{
+    'calls: while tally.may_repeat() {
+        if let Some(answer) = output.flush_once(tally) {
+            return answer;
+        }
+    }
+    Err(tally.give_up())
 }

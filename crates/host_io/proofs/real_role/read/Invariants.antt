@@ -1,0 +1,11 @@
+-- A read that was broken off has changed nothing but the count of such calls, which ends at the end of its type.
+use Rattle.std.proofs.Common.{◌≡◌, ◌-◌, ◌^◌}
+use Rattle.host_io.specs.Port.{traffic_in, name_in, faults_of, breaks_of}
+use Rattle.host_io.proofs.real_role.read.Given as goal
+
+abbrev pub invariant-calls : goal.invariant-calls
+invariant-calls g l =
+    (traffic_in l.input ≡ traffic_in l.fn.input) × (name_in l.input ≡ name_in l.fn.input) × (faults_of l.tally ≡ faults_of l.fn.tally)
+
+abbrev pub decreases-calls : goal.decreases-calls
+decreases-calls g l = 2 ^ 64 - 1 - breaks_of l.tally
