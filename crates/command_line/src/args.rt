@@ -8,7 +8,7 @@ ghost use Rattle.command_line.specs.Parser.{with_rules, word_rule};
 use clap::{Arg, ArgAction, Command};
 use std::alloc::{AllocError, Global};
 
-const PROOF_HELP: &str = "The file that the proof is written to, in LRAT";
+const PROOF_HELP: &str = "The proof in LRAT, or its steps so far where a run stops";
 
 const LAX_HELP: &str = "The clause count may be wrong, and the last 0 missing";
 

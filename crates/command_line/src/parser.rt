@@ -27,7 +27,7 @@ bddsat solve FILE --proof P [--lax] [--order F]
 Exit codes:
   10  solve: satisfiable; the values are on standard output
   20  solve, bench: unsatisfiable; the proof is in P
-   0  solve, bench: undecided, since a limit was reached
+   0  solve, bench: undecided, since a limit was reached; P has the steps so far
    0  check: the proof is verified
    1  check: the proof is not verified; standard output has the line and why
    0  make, order: the text is in F
@@ -47,7 +47,7 @@ Example:
 };
 
 const SOLVE: Texts<'static> = Texts {
-    about: "Decides FILE, and writes the proof to P where it is unsatisfiable",
+    about: "Decides FILE, and writes the proof, as far as it comes, to P",
     usage: "\
 bddsat solve FILE --proof P [--lax] [--order F]
                     [--search | --buckets F | --schedule F | --plan PLAN]

@@ -10,3 +10,4 @@ pub mod FalseLiterals
 pub mod Flags
 pub mod Trail
 pub mod Pass
+pub mod ReasonNumber

@@ -1,4 +1,7 @@
 // What a hint does, and why a step is refused.
+ghost use Rattle.std.specs.Prelude.{◌≡◌};
+ghost use Rattle.lrat_rules.specs.ReasonNumber.{number_of};
+
 use cnf_base::Lit;
 
 /// The effect of a hint's clause on a set of false literals.
@@ -31,4 +34,13 @@ pub enum Reason {
     GroupStray = 7,
     /// All lines are good, and none adds the empty clause.
     NoEmptyClause = 8,
+}
+
+impl Reason {
+    /// The number of the reason, from 1.
+    pub fn number(self) -> u8
+        ensures { result ≡ number_of self }
+    {
+        self as u8
+    }
 }

@@ -1,6 +1,6 @@
 //! Tests of the layers of texts, what is read and what is written: `cnf_base`, `text_scan`, `dimacs_reader`, `lrat_text`,
-//! `lrat_write`, `answer_text`, `schedule_plan`, `workload`. What no clause says: that calls succeed where there is memory,
-//! texts typed out, and what stands where a call of the outside fails.
+//! `lrat_write`, `answer_text`, `schedule_plan`, `workload`, and of the orders of `variable_order`. What no clause says: that calls
+//! succeed where there is memory, texts typed out, what stands where a call of the outside fails, and how orders are chosen.
 #![tactic(auto)]
 
 #[cfg(test)]
@@ -9,6 +9,8 @@ mod answers;
 mod boards;
 #[cfg(test)]
 mod formulas;
+#[cfg(test)]
+mod found_orders;
 #[cfg(test)]
 mod headers;
 #[cfg(test)]

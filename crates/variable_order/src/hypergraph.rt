@@ -1,6 +1,7 @@
 // The hypergraph of a formula, with what each order begins from: how many neighbours a vertex has, and the forward sequence of levels.
 ghost use Rattle.std.specs.Prelude.{◌≡◌, ◌≤◌, IfOk};
 ghost use Rattle.cnf_base.specs.Limits.{max_vars};
+ghost use Rattle.variable_order.specs.Hypergraph.{size_of};
 
 use crate::edges::edges;
 use crate::levels::sequence;
@@ -28,7 +29,7 @@ impl Model for Hypergraph {
 
     ghost Value = { Graph };
 
-    ghost view = { λ h. record { vars = h.vars } };
+    ghost view = { λ h. record { vars = h.vars; size = h.size } };
 
     ghost invariant = { λ h. h.vars ≤ max_vars };
 }
@@ -36,7 +37,8 @@ impl Model for Hypergraph {
 impl Hypergraph {
     /// The hypergraph of a formula, with what all orders begin from.
     pub fn of(alloc: Global, formula: &Cnf) -> Result<Hypergraph, OutOfMemory>
-        ensures { IfOk result (λ graph. graph.vars ≡ formula.now.vars) }
+        ensures vars { IfOk result (λ graph. graph.vars ≡ formula.now.vars) }
+        ensures size { IfOk result (λ graph. graph.size ≡ size_of formula.now) }
     {
         let graph = bare(alloc, formula)?;
         let degrees = degrees(alloc, &graph)?;
@@ -46,7 +48,9 @@ impl Hypergraph {
     }
 
     /// How large the formula is: its literals and its variables.
-    pub fn size(&self) -> u64 {
+    pub fn size(&self) -> u64
+        ensures { result ≡ self.now.size }
+    {
         self.size
     }
 
@@ -93,7 +97,8 @@ impl Hypergraph {
 
 // The hypergraph without degrees and levels.
 fn bare(alloc: Global, formula: &Cnf) -> Result<Hypergraph, OutOfMemory>
-    ensures { IfOk result (λ graph. graph.vars ≡ formula.now.vars) }
+    ensures vars { IfOk result (λ graph. graph.vars ≡ formula.now.vars) }
+    ensures size { IfOk result (λ graph. graph.size ≡ size_of formula.now) }
 {
     formula.formula_law();
     let edges = edges(alloc, formula)?;
@@ -108,9 +113,11 @@ fn bare(alloc: Global, formula: &Cnf) -> Result<Hypergraph, OutOfMemory>
     })
 }
 
-fn size_of(formula: &Cnf) -> u64 {
+fn size_of(formula: &Cnf) -> u64
+    ensures { result ≡ size_of formula.now }
+{
     let mut size = u64::from(formula.vars());
-    for clause in 0..formula.len() {
+    'clauses: for clause in 0..formula.len() {
         size = size.saturating_add(formula.clause(clause + 1).len() as u64);
     }
     size
