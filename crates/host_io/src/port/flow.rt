@@ -1,6 +1,7 @@
 // A stream of the system behind its buffer, with a log of what passed. Its calls are proved for every stream: `known` says
 // what each does to the bytes of a stream that tells them, and the logs are moved by these calls alone.
-ghost use Rattle.std.specs.Prelude.{◌≡◌, ◌≤◌, ◌<◌, [], length, MatchOption, Ok, IfSome, IfOk, OnOk, OnErr};
+ghost use Rattle.std.specs.Prelude.{◌≡◌, ◌≤◌, ◌<◌, [], length, MatchOption, Ok, Err, IfSome, IfOk, IfErr, OnOk, ◌⊎◌};
+ghost use Rattle.std.specs.IoError.{error_kind};
 ghost use Rattle.std.specs.Io.Buffered.{reader_inner, reader_remaining, writer_inner, writer_contents, writer_buffer};
 ghost use Rattle.std.specs.Io.KnownBytes.{Keeps, ReadConsumes, WriteAppends};
 ghost use Rattle.host_io.specs.Real.{no_traffic, took, wrote, all_flushed, Passes};
@@ -42,6 +43,7 @@ impl<R: Read + Drop> Input<R> {
         ensures inner { IfOk result (λ input. reader_inner input.stream ≡ named.stream) }
         ensures name { IfOk result (λ input. name_in input ≡ named.name.bytes) }
         ensures passed { IfOk result (λ input. traffic_in input ≡ no_traffic) }
+        ensures err { IfErr result (λ e. error_kind e ≡ ErrorKind.OutOfMemory) }
     {
         let Named { name, stream } = named;
         Ok(Input {
@@ -83,6 +85,7 @@ impl<W: Write + Drop> Output<W> {
         ensures inner { IfOk result (λ output. writer_inner output.stream ≡ named.stream) }
         ensures name { IfOk result (λ output. name_out output ≡ named.name.bytes) }
         ensures passed { IfOk result (λ output. traffic_out output ≡ no_traffic) }
+        ensures err { IfErr result (λ e. error_kind e ≡ ErrorKind.OutOfMemory) }
     {
         let Named { name, stream } = named;
         Ok(Output {
@@ -138,7 +141,7 @@ impl<W: Write + Drop> Output<W> {
 fn some_taken(answer: io::Result<usize>, bytes: &[u8]) -> io::Result<usize>
     ensures ok { IfOk result (λ n. answer ≡ Ok n) }
     ensures progress { IfOk result (λ n. 0 < length bytes.now → 0 < n) }
-    ensures err { OnErr result (OnOk answer (answer ≡ Ok 0)) }
+    ensures err { IfErr result (λ e. (answer ≡ Err e) ⊎ (answer ≡ Ok 0)) }
 {
     match answer {
         Ok(0) if !bytes.is_empty() => Err(io::Error::from(ErrorKind::WriteZero)),

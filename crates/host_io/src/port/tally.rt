@@ -35,13 +35,15 @@ impl Tally {
     /// As many calls were broken off as can be counted: a fault.
     pub(crate) fn give_up(&mut self) -> Failed
         requires { 2 ^ 64 - 1 ≤ breaks_of self.old }
-        ensures { Rises self.old self.new }
+        ensures rises { Rises self.old self.new }
+        ensures breaks { breaks_of self.new ≡ breaks_of self.old }
     {
         self.fail()
     }
 
     fn fail(&mut self) -> Failed
-        ensures { Rises self.old self.new }
+        ensures rises { Rises self.old self.new }
+        ensures breaks { breaks_of self.new ≡ breaks_of self.old }
     {
         self.faults = self.faults.saturating_add(1);
         Failed
@@ -52,6 +54,7 @@ impl Tally {
         ensures ok { IfOk result (λ value. answer ≡ Ok value) }
         ensures err { OnErr result (IsErr answer) }
         ensures tally { Settles self.old self.new result }
+        ensures breaks { breaks_of self.new ≡ breaks_of self.old }
     {
         match answer {
             Ok(value) => Ok(value),
