@@ -22,3 +22,4 @@ pub mod Whole
 pub mod Decided
 pub mod Puts
 pub mod SolveThenCheck
+pub mod OrderLine

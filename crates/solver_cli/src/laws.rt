@@ -1,9 +1,16 @@
-// What two runs promise together, as a clause of a function without work.
+// What two runs promise together, and what the text of an order is read as, as clauses of functions without work.
+ghost use Rattle.std.specs.Prelude.{◌≡◌, ◌≤◌, ℕ, List};
+ghost use Rattle.cnf_base.specs.Limits.{max_vars};
 ghost use Rattle.host_io.specs.declared.role.Role.TheVariants.{ProofOut};
+ghost use Rattle.schedule_plan.specs.OrderText.{order as given_order, order_text};
+ghost use Rattle.solver_cli.specs.Answer.{IsOrderOf};
 ghost use Rattle.solver_cli.specs.Headline.{Promises, Run, written_in};
+ghost use Rattle.solver_cli.specs.MadeText.{order_line};
 ghost use Rattle.solver_cli.specs.SolveThenCheck.{ChecksSolved, MayEnd};
 
+use cnf_base::number_laws;
 use lrat_checker::check_law;
+use text_scan::short_text_law;
 
 /// The proof that `solve` leaves with 'unsatisfiable' is verified by `check`, where both read the formula in the same mode,
 /// unless it is too long, memory runs out or a call of the host fails. It holds of any two runs that keep what `run` promises.
@@ -12,4 +19,12 @@ pub fn solve_then_check_law()
         → MayEnd checked (written_in solved ProofOut) checked.status }
 {
     check_law();
+}
+
+/// The text that `order` writes is read, by `--order` and `--buckets` of a formula of as many variables, as the order that was written.
+pub fn order_line_law()
+    ensures { (vars : ℕ) (order : List ℕ) → vars ≤ max_vars → IsOrderOf vars order → order_text vars (order_line order) ≡ given_order order }
+{
+    number_laws();
+    short_text_law();
 }

@@ -27,6 +27,6 @@ pub use command_line::{
     PlanSource, Refusal, SolveTask, gather, read_words,
 };
 pub use complaint::complain;
-pub use laws::solve_then_check_law;
+pub use laws::{order_line_law, solve_then_check_law};
 pub use program::{run, run_in_memory, run_with};
 pub use status::{Status, Why};
