@@ -13,7 +13,7 @@ use Rattle.node_table.specs.Diagram.{Graph, IsBelow, IsNew, IsReduced, KeepsNode
 use Rattle.node_table.specs.Defined.{definition_count, with_definitions}
 use Rattle.node_table.specs.Tied.{IsTied, IsAdded, IsOverNodes}
 use Rattle.node_table.specs.Table.{TableState, IsSound, IsAddedTo, IsSame, IsWanted, Extends, live_nodes, new_branch, node_definitions}
-use Rattle.node_table.specs.Progress.{Continues, Steps}
+use Rattle.node_table.specs.Progress.{Continues, Steps, WritesMore}
 use Rattle.node_table.proofs.Added.{added_kept}
 use Rattle.node_table.proofs.Grown.{KeepsNodes-none}
 use Rattle.node_table.proofs.Stands.{Grows, Grows-next}
@@ -50,6 +50,7 @@ module _ {S : Type 0} (tells : Bool) (channel : S → Channel) where
           since = same.since;
           unfailed = refl;
           writes = same.writes;
+          grows = same.grows;
         },
         record {
           inputs = refl;
@@ -100,6 +101,7 @@ pub record Wrote {S : Type 0} (tells : Bool) (before after : Channel) (old new :
   pub limit : new.limit ≡ old.limit
   pub unfailed : after.faults ≡ before.faults
   pub writes : OnlyWrites before after
+  pub grows : IsTrue tells → WritesMore before after
 
 pub record Tore {S : Type 0} (tells : Bool) (before after : Channel) (old new : Book S) : Type 0 where
   pub rose : Rose before.faults after.faults
@@ -108,6 +110,7 @@ pub record Tore {S : Type 0} (tells : Bool) (before after : Channel) (old new : 
   pub out_of_step : new.in_step ≡ false
   pub limit : new.limit ≡ old.limit
   pub writes : OnlyWrites before after
+  pub grows : IsTrue tells → WritesMore before after
 
 -- no fewer extension variables are in use where there are more live clauses
 abbrev pub FewerInUse : Type 0
@@ -172,6 +175,7 @@ module _ {S : Type 0} (tells : Bool) (aside : Aside) (before after : Channel) (g
       since = ComesSince-grown old.state new.state grew.grows;
       unfailed = wrote.unfailed;
       writes = wrote.writes;
+      grows = wrote.grows;
     };
     extends = extends;
     adds = grew.adds;
@@ -208,6 +212,7 @@ module _ {S : Type 0} (tells : Bool) (aside : Aside) (before after : Channel) (g
       numbers = grew.within;
       since = ComesSince-grown old.state new.state grew.grows;
       writes = tore.writes;
+      grows = tore.grows;
     };
     extends = extends;
     adds = grew.adds;

@@ -1,5 +1,5 @@
 -- A call that adds a clause, as the ledger's answer leaves it.
-use Rattle.std.proofs.Common.{◌≡◌, ◌≢◌, ◌↔◌, ◌+◌, ◌≤◌, ◌<◌, ℕ, ℤ, Bool, false, List, Result, Ok, Err, Option, None, Some, refl, sym, subst}
+use Rattle.std.proofs.Common.{◌≡◌, ◌≢◌, ◌↔◌, ◌+◌, ◌≤◌, ◌<◌, ◌++◌, ℕ, ℤ, Bool, false, List, Result, Ok, Err, Option, None, Some, refl, sym, subst}
 use Rattle.std.proofs.Common.{arith, inl, inr}
 use Rattle.std.specs.Prelude.{IsTrue, IfOk, OnOk, IsErrOf}
 use Rattle.std.proofs.lemmas.Bool.{cases_lt}
@@ -17,7 +17,7 @@ use Rattle.node_table.specs.Tied.{IsOverNodes}
 use Rattle.node_table.specs.Table.{IsSound, live_nodes}
 use Rattle.node_table.specs.Progress.{Steps}
 use Rattle.node_table.proofs.Stands.{Grows, Grows-next}
-use Rattle.node_table.proofs.Progressed.{Steps-at_most}
+use Rattle.node_table.proofs.Progressed.{Steps-at_most, torn_more}
 use Rattle.node_table.proofs.Since.{ComesSince-fewer}
 use Rattle.node_table.proofs.CallSteps.{FewerInUse, no_room, no_ids_left, justified_on, justified_torn, Aside, table_of}
 
@@ -33,6 +33,7 @@ no_limit is = cc
 pub record Answers {S : Type 0} (tells : Bool) (channel : S → Channel) (old new : Book S) (clause : List ℤ) (line : List ℕ)
     (r : Result ℕ LedgerError) : Type 0 where
   pub added : IfOk r (λ id. (id ≡ old.state.top + 1) × (new.state ≡ with_next old.state clause))
+  pub written : IsTrue tells → OnOk r ((channel new.sink).written ≡ (channel old.sink).written ++ line)
   pub kept : (clauses : List (List ℤ)) → IsProofOf clauses tells (channel old.sink) old.state
       → OnOk r (IsProofOf clauses tells (channel new.sink) new.state)
   pub in_step : OnOk r (IsTrue new.in_step)
@@ -80,6 +81,7 @@ module _ {S : Type 0} (tells : Bool) (channel : S → Channel) (aside : Aside) (
         limit = answers.limit;
         unfailed = answers.unfailed no_error;
         writes = answers.only_writes;
+        grows = λ told. record { more = line; written = answers.written told };
       })
   justify_steps (Err LedgerIdLimit) answers =
       let met = answers.id_limit.0 refl in
@@ -106,5 +108,6 @@ module _ {S : Type 0} (tells : Bool) (channel : S → Channel) (aside : Aside) (
         out_of_step = answers.out_of_step refl;
         limit = answers.limit;
         writes = answers.only_writes;
+        grows = torn_more (answers.write_fault refl);
       })
       fewer few

@@ -54,7 +54,8 @@ pub record Kept : Type 0 where
       → value_of new a node ≡ value_of old a node
   pub atom : (old new : Graph) (node : Node) → KeepsFrom old new node → IsTrue (is_node old node) → atom_of new node ≡ atom_of old node
 
--- A node by its cofactors at a level, whether or not it is of it. Its value doesn't depend on the levels above it.
+-- A node by its cofactors at a level, whether or not it is of it. Its value doesn't depend on the levels above it, nor on what is
+-- no level.
 pub record Cofactors : Type 0 where
   pub value : (graph : Graph) → IsReduced graph → (a : Levels) (level : ℕ) (node : Node) → IsTrue (is_node graph node)
       → value_of graph a node
@@ -65,6 +66,8 @@ pub record Cofactors : Type 0 where
       → level < levels graph → IsBelow graph level (low_at graph level node)
   pub below : (graph : Graph) → IsReduced graph → (a b : Levels) (node : Node) → IsTrue (is_node graph node)
       → ((i : ℕ) → level_of graph node ≤ i → a i ≡ b i) → value_of graph a node ≡ value_of graph b node
+  pub inside : (graph : Graph) → IsReduced graph → (a b : Levels) (node : Node) → IsTrue (is_node graph node)
+      → ((i : ℕ) → i < levels graph → a i ≡ b i) → value_of graph a node ≡ value_of graph b node
 
 -- A function with its first levels fixed, and the nodes that calls make for it: none, those of one call after another,
 -- and those for a part of the function. A node's cofactor is the node with the levels down to this one fixed.

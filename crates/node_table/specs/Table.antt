@@ -75,6 +75,11 @@ pub record IsFree (graph : Graph) (live : Live) (variable : ℕ) : Type 0 where
   pub above : levels graph < variable
   pub unused : IsUnused live variable
 
+-- and no lesser one may
+pub record IsLeastFree (graph : Graph) (live : Live) (variable : ℕ) : Type 0 where
+  pub free : IsFree graph live variable
+  pub least : (other : ℕ) → levels graph < other → other < variable → IsOwned graph other
+
 -- the new node of this extension variable, and its defining clauses
 abbrev pub new_branch : State → ℕ → Node → Node → ℕ → Branch
 new_branch state level high low variable = record { level = level; variable = variable; high = high; low = low; first = state.top + 1 }
@@ -85,12 +90,15 @@ node_definitions graph state level high low variable =
 
 -- The node was made with the least free variable, under a new key, and its definitions stand under the next numbers.
 pub record IsMade {S : Type 0} (old new : TableState S) (level : ℕ) (high low : Node) (variable : ℕ) (node : Node) : Type 0 where
-  pub free : IsFree old.graph old.book.state.live variable
-  pub least : (other : ℕ) → levels old.graph < other → other < variable → IsOwned old.graph other
+  pub free : IsLeastFree old.graph old.book.state.live variable
   pub key : NodeKey
   pub named : node ≡ Inner key
   pub joined : IsNew old.graph new.graph key.index (new_branch old.book.state level high low variable)
   pub defined : new.book.state ≡ with_definitions old.book.state (node_definitions old.graph old.book.state level high low variable)
+
+-- no clause number is left
+abbrev pub IsUsedUp : {S : Type 0} → TableState S → Type 0
+IsUsedUp table = table.book.limit ≤ table.book.state.top
 
 -- its state without the retired clauses
 abbrev pub without_retired : {S : Type 0} → TableState S → State

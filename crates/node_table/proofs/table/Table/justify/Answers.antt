@@ -69,6 +69,7 @@ steps g c =
     let answers : Answers g.S.Sink.tells g.S.Sink.channel inside.ledger new c.args.clause.now
     (next_line inside.ledger.state c.args.clause.now c.args.hints.now) c.add.result = record {
       added = own.added;
+      written = own.line;
       kept = own.kept;
       in_step = own.in_step;
       limit = own.limit;
