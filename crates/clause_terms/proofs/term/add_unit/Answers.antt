@@ -1,7 +1,8 @@
 -- What is left to show of `add_unit`.
 use Rattle.std.proofs.Common.{arith}
 use Rattle.node_table.specs.declared.error.TableError.TheVariants.{OutOfMemory}
-use Rattle.clause_terms.proofs.Handed.{steps_handed_on}
+use Rattle.node_table.specs.HandedOn.{if_handed}
+use Rattle.clause_terms.proofs.Handed.{adds_none, steps_handed_on}
 use Rattle.clause_terms.proofs.term.add_unit.Goals as goal
 
 pub returns-in_err-hints-clause-steps : goal.returns-in_err-hints-clause-steps
@@ -24,3 +25,9 @@ returns-clause-beside g c = c.justify.ensures.beside
 
 pub returns-clause-own : goal.returns-clause-own
 returns-clause-own g c = c.justify.ensures.own
+
+pub returns-in_err-hints-clause-none_added : goal.returns-in_err-hints-clause-none_added
+returns-in_err-hints-clause-none_added g c = if_handed _ OutOfMemory _ c.from_residual.ensures.1 (λ whole id own. own)
+
+pub returns-clause-none_added : goal.returns-clause-none_added
+returns-clause-none_added g c = adds_none c.args.table.now c.justify.new.self c.justify.result c.justify.ensures.refused
