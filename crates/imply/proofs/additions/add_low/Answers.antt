@@ -11,6 +11,7 @@ use Rattle.imply.proofs.ImplicationClauses.{low_apart, low_over, high_clause}
 use Rattle.node_table.specs.Just.{IsJustified}
 use Rattle.hint_chain.specs.Additions.{Justifies}
 use Rattle.hint_chain.specs.declared.atom.Atom.{Atom}
+use Rattle.node_table.specs.Refused.{used_up}
 use Rattle.imply.proofs.additions.add_low.Goals as goal
 
 nonzero_variable : (n : ℕ) → 0 < n → is_nonzero (pos n) ≡ true
@@ -69,3 +70,7 @@ justify-requires-clause-over_nodes g c =
     let graph = c.args.table.now.graph in
     low_over c.literal_law.ensures c.operand_law.ensures graph c.requires.sound.tied.reduced c.args.operands.now c.requires.split
     c.args.clause.now c.requires.clause
+
+pub returns-clause-id_limit : goal.returns-clause-id_limit
+returns-clause-id_limit g c = used_up c.args.table.now c.justify.new.self c.justify.result c.justify.ensures.refused
+    c.justify.ensures.id_limit.0
