@@ -87,3 +87,7 @@ pub returns-clause-price : goal.returns-clause-price
 returns-clause-price g c stage next at is size width price have paid most =
     let own = c.try_twice.ensures.price stage next at is size width price have paid most in
     omega (arith, own, c.give_back.ensures.top)
+
+pub returns-clause-leaves : goal.returns-clause-leaves
+returns-clause-leaves g c = c.steps_law.ensures.go_on _ _ _ c.args.table.now c.try_twice.new.table c.give_back.new.table
+    c.in_ok-refuted.ensures.leaves c.in_ok-left.ensures.leaves

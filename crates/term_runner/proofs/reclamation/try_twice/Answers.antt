@@ -195,3 +195,21 @@ returns-in_ok-left-in-Err-clause-few g c stage next at is width most =
     let left = few_left c.subfunction_law.ensures c.canonical_law.ensures formula old.graph.order c.requires.ready.sound.tied.ordered stage
     next stage (in_hand_before stage next) _ (left_mid g c stage at) width most in
     inr (omega (arith, second, left, c.in_ok-left-in-Err.ensures.count))
+
+pub try_move-requires-in-Err-clause-possible : goal.try_move-requires-in-Err-clause-possible
+try_move-requires-in-Err-clause-possible g c =
+    let formula = c.args.formula.now in
+    let one = c.try_move.new.table in
+    let mid = c.give_back.new.table in
+    let trail = c.try_move.new.trail in
+    let possible = c.requires.possible in
+    let stage = possible.0 in
+    let limit = c.is_node_limit.ensures.0 c.if-is_node_limit.true in (
+      stage,
+      possible.1,
+      subst (λ (stack : List HeldTerm). IsAt formula mid.graph mid.book.state.live stack trail stage) c.as_slice.ensures.value
+          (c.in_ok-left-in-Err.ensures.at stage
+          (subst (λ (stack : List HeldTerm). IsAt formula one.graph one.book.state.live stack trail stage) (sym c.as_slice.ensures.value)
+          (c.in-Err.ensures.at_again stage possible.2 (ap Err limit)))),
+      possible.3,
+    )
