@@ -12,8 +12,8 @@ use Rattle.node_table.specs.declared.error.TableError.{TableError}
 use Rattle.node_table.specs.declared.error.TableError.TheVariants.{NodeLimit, IdLimit, OutOfMemory, WriteFault}
 use Rattle.node_table.specs.Diagram.{levels}
 use Rattle.node_table.specs.Tied.{KeepsClauses, GivesNumbers}
-use Rattle.node_table.specs.Table.{TableState, IsSound, Extends, live_nodes}
-use Rattle.node_table.specs.Progress.{Continues, BreaksOff, Leaves, Steps, WritesMore, number_limit}
+use Rattle.node_table.specs.Table.{TableState, AddsNoEmpty, IsSound, Extends, live_nodes}
+use Rattle.node_table.specs.Progress.{Continues, BreaksOff, Leaves, Steps, StepsOrRefutes, WritesMore, number_limit}
 use Rattle.node_table.proofs.Grown.{KeepsNodes-none, KeepsNodes-further}
 use Rattle.node_table.proofs.Stands.{Grows-none}
 use Rattle.node_table.proofs.Since.{ComesSince-fewer, ComesSince-further}
@@ -188,6 +188,9 @@ module _ {S : Type 0} where
     leaves_further first second third old mid new (Some WriteFault) before after =
         BreaksOff-after first second third old mid new before after
 
+    NoEmpty-further : (old mid new : TableState S) → AddsNoEmpty old mid → AddsNoEmpty mid new → AddsNoEmpty old new
+    NoEmpty-further old mid new before after = record { each = λ id is. before.each id (after.each id is) }
+
     pub Steps-further : (first second third : Channel) (old mid new : TableState S) (few more : ℕ) (error : Option TableError)
         → Steps tells first second old mid few None
         → Steps tells second third mid new more error → Steps tells first third old new (few + more) error
@@ -195,6 +198,29 @@ module _ {S : Type 0} where
       leaves = leaves_further first second third old mid new error before.leaves after.leaves;
       extends = Extends-further old mid new before.extends after.extends;
       adds = omega (arith, before.adds, after.adds);
+      no_empty = NoEmpty-further old mid new before.no_empty after.no_empty;
+    }
+
+    pub Steps-refute : (first second third : Channel) (old mid new : TableState S) (few more : ℕ) (error : Option TableError)
+        → Steps tells first second old mid few None
+        → StepsOrRefutes tells second third mid new more error → StepsOrRefutes tells first third old new (few + more) error
+    Steps-refute first second third old mid new few more error before after = record {
+      leaves = leaves_further first second third old mid new error before.leaves after.leaves;
+      extends = Extends-further old mid new before.extends after.extends;
+      adds = omega (arith, before.adds, after.adds);
+    }
+
+    pub Steps-anyhow : (before after : Channel) (old new : TableState S) (count : ℕ) (error : Option TableError)
+        → Steps tells before after old new count error → StepsOrRefutes tells before after old new count error
+    Steps-anyhow before after old new count error steps = record { leaves = steps.leaves; extends = steps.extends; adds = steps.adds }
+
+    pub Steps-no_empty : (before after : Channel) (old new : TableState S) (count : ℕ) (error : Option TableError)
+        → StepsOrRefutes tells before after old new count error → AddsNoEmpty old new → Steps tells before after old new count error
+    Steps-no_empty before after old new count error steps none = record {
+      leaves = steps.leaves;
+      extends = steps.extends;
+      adds = steps.adds;
+      no_empty = none;
     }
 
     pub Steps-at_most : (before after : Channel) (old new : TableState S) (few more : ℕ) (error : Option TableError) → few ≤ more
@@ -203,6 +229,7 @@ module _ {S : Type 0} where
       leaves = steps.leaves;
       extends = steps.extends;
       adds = omega (arith, less, steps.adds);
+      no_empty = steps.no_empty;
     }
 
     -- nothing was changed
@@ -211,6 +238,7 @@ module _ {S : Type 0} where
       leaves = Continues-none channel table sound;
       extends = Extends-none table sound;
       adds = omega arith;
+      no_empty = record { each = λ id is. is };
     }
 
     pub Steps-no_memory : (channel : Channel) (table : TableState S) → IsSound table
@@ -219,6 +247,7 @@ module _ {S : Type 0} where
       leaves = Continues-none channel table sound;
       extends = Extends-none table sound;
       adds = omega arith;
+      no_empty = record { each = λ id is. is };
     }
 
     -- a clause more is retired
@@ -259,4 +288,5 @@ module _ {S : Type 0} where
             retired = refl;
           };
           adds = omega arith;
+          no_empty = record { each = λ id is. is };
         }

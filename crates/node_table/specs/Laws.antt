@@ -12,8 +12,8 @@ use Rattle.node_table.specs.Value.{Levels, value_of, fixed_to, IsSubfunction}
 use Rattle.node_table.specs.Defined.{atom_of}
 use Rattle.node_table.specs.Tied.{KeepsClauses}
 use Rattle.node_table.specs.Just.{IsJustified}
-use Rattle.node_table.specs.Table.{TableState, IsSound, IsAddedTo, Extends, IsWanted}
-use Rattle.node_table.specs.Progress.{Continues, Leaves, Steps}
+use Rattle.node_table.specs.Table.{TableState, AddsNoEmpty, IsSound, IsAddedTo, Extends, IsWanted}
+use Rattle.node_table.specs.Progress.{Continues, Leaves, Steps, StepsOrRefutes}
 use Rattle.node_table.specs.Made.{KeepsFrom, MakesOnly, Reaches, ReachesNew}
 
 -- two nodes of equal value under every assignment are the same node (Bryant 1986, theorem 1)
@@ -117,6 +117,13 @@ pub record StepByStep {S : Type 0} (tells : Bool) (channel : S → Channel) : Ty
       → Steps tells second third mid new more error → Steps tells first third old new (few + more) error
   pub at_most : (before after : Channel) (old new : TableState S) (few more : ℕ) (error : Option TableError) → few ≤ more
       → Steps tells before after old new few error → Steps tells before after old new more error
+  pub refute : (first second third : Channel) (old mid new : TableState S) (few more : ℕ) (error : Option TableError)
+      → Steps tells first second old mid few None
+      → StepsOrRefutes tells second third mid new more error → StepsOrRefutes tells first third old new (few + more) error
+  pub anyhow : (before after : Channel) (old new : TableState S) (count : ℕ) (error : Option TableError)
+      → Steps tells before after old new count error → StepsOrRefutes tells before after old new count error
+  pub no_empty : (before after : Channel) (old new : TableState S) (count : ℕ) (error : Option TableError)
+      → StepsOrRefutes tells before after old new count error → AddsNoEmpty old new → Steps tells before after old new count error
   pub go_on : (first second third : Channel) (old mid new : TableState S) → Continues tells first second old mid
       → Continues tells second third mid new
       → Continues tells first third old new

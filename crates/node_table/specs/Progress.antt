@@ -8,7 +8,7 @@ use Rattle.clause_ledger.specs.Book.{IsProofOf, OnlyWrites}
 use Rattle.node_table.specs.declared.error.TableError.{TableError}
 use Rattle.node_table.specs.declared.error.TableError.TheVariants.{NodeLimit, IdLimit, OutOfMemory, WriteFault}
 use Rattle.node_table.specs.Diagram.{IsReduced, levels}
-use Rattle.node_table.specs.Table.{TableState, IsSound, Extends, AddsAtMost, live_nodes}
+use Rattle.node_table.specs.Table.{TableState, IsSound, Extends, AddsAtMost, AddsNoEmpty, live_nodes}
 
 -- the greatest number that a table may come to: the one allowed, or where it is already
 abbrev pub number_limit : {S : Type 0} → TableState S → ℕ
@@ -84,9 +84,17 @@ Leaves tells before after old new (Some IdLimit) = Continues tells before after 
 Leaves tells before after old new (Some OutOfMemory) = Continues tells before after old new
 Leaves tells before after old new (Some WriteFault) = BreaksOff tells before after old new
 
--- The steps of an operation, however it ends: nodes and clauses that were there stay, and beside those that define new
--- nodes at most so many clauses were added.
+-- The steps of an operation, however it ends: nodes and clauses that were there stay, beside those that define new nodes at
+-- most so many clauses were added, and none of them is empty.
 pub record Steps {S : Type 0} (tells : Bool) (before after : Channel) (old new : TableState S) (justified : ℕ)
+    (error : Option TableError) : Type 0 where
+  pub leaves : Leaves tells before after old new error
+  pub extends : Extends old new
+  pub adds : AddsAtMost justified old new
+  pub no_empty : AddsNoEmpty old new
+
+-- The same where the empty clause may have been added.
+pub record StepsOrRefutes {S : Type 0} (tells : Bool) (before after : Channel) (old new : TableState S) (justified : ℕ)
     (error : Option TableError) : Type 0 where
   pub leaves : Leaves tells before after old new error
   pub extends : Extends old new

@@ -1,8 +1,8 @@
 -- A table as its callers see it, and what its calls do.
-use Rattle.std.specs.Prelude.{◌≡◌, ◌≢◌, ℕ, ◌<◌, ◌≤◌, ◌+◌, ◌*◌, ◌++◌, pos, List, Result, Err, IsTrue, refl}
+use Rattle.std.specs.Prelude.{◌≡◌, ◌≢◌, ℕ, ◌<◌, ◌≤◌, ◌+◌, ◌*◌, ◌++◌, pos, List, [], Some, Result, Err, IsTrue, refl}
 use Rattle.std.specs.Coded.{Coded, code_by, coded×, coded_ℕ, coded_list}
 use Rattle.std.specs.FinMap as map
-use Rattle.lrat_rules.specs.State.{State, Live, without_clauses}
+use Rattle.lrat_rules.specs.State.{State, Live, clause_at, without_clauses}
 use Rattle.clause_ledger.specs.Book.{Book, book_code}
 use Rattle.node_table.specs.declared.node.Node.{Node}
 use Rattle.node_table.specs.declared.node.Node.TheVariants.{Inner}
@@ -58,6 +58,10 @@ pub record Extends {S : Type 0} (old new : TableState S) : Type 0 where
   pub numbers : GivesNumbers old.book.state new.book.state
   pub more : List ℕ
   pub retired : new.retired ≡ old.retired ++ more
+
+-- An empty clause that is live was so before.
+pub record AddsNoEmpty {S : Type 0} (old new : TableState S) : Type 0 where
+  pub each : (id : ℕ) → clause_at new.book.state.live id ≡ Some [] → clause_at old.book.state.live id ≡ Some []
 
 -- At most four numbers were given for each new node, and so many more.
 abbrev pub AddsAtMost : {S : Type 0} → ℕ → TableState S → TableState S → Type 0

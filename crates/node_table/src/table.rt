@@ -20,7 +20,7 @@ ghost use Rattle.node_table.specs.Tied.{IsOverNodes};
 ghost use Rattle.node_table.specs.Stored.{HasSmallKey};
 ghost use Rattle.node_table.specs.Table.{TableState, IsSound, IsAddedTo, AddsNone, HasChildren, IsMissing, IsWanted, IsLeastFree, IsMade};
 ghost use Rattle.node_table.specs.Table.{IsSame, UnlessTorn, live_nodes, node_definitions, without_retired};
-ghost use Rattle.node_table.specs.Progress.{Leaves, Steps, error_of};
+ghost use Rattle.node_table.specs.Progress.{Leaves, Steps, StepsOrRefutes, error_of};
 ghost use Rattle.node_table.specs.Made.{inner};
 ghost use Rattle.node_table.specs.declared.node.Node.{Node as NodeValue};
 ghost use Rattle.node_table.specs.Marks.{AreMarks, AreReached};
@@ -211,7 +211,10 @@ impl<S: Sink + Drop> Table<S> {
             × (self.new.book.state ≡ with_next self.old.book.state clause.now)) }
         ensures own { IfOk result (λ id. IsAddedTo self.new id) }
         ensures unretired { IfOk result (λ id. Contains self.new.retired id → ⊥) }
-        ensures steps { Steps S.tells (S.channel self.old.book.sink) (S.channel self.new.book.sink) self.old self.new 1 (error_of result) }
+        ensures steps { StepsOrRefutes S.tells (S.channel self.old.book.sink) (S.channel self.new.book.sink) self.old self.new 1
+            (error_of result) }
+        ensures no_empty { clause.now ≢ [] → Steps S.tells (S.channel self.old.book.sink) (S.channel self.new.book.sink) self.old self.new 1
+            (error_of result) }
         ensures nodes { self.new.graph ≡ self.old.graph }
         ensures retired { self.new.retired ≡ self.old.retired }
         ensures line { IsTrue S.tells → OnOk result ((S.channel self.new.book.sink).written ≡ (S.channel self.old.book.sink).written

@@ -2,7 +2,8 @@
 use Rattle.std.proofs.Common.{arith}
 use Rattle.node_table.specs.declared.error.TableError.TheVariants.{OutOfMemory}
 use Rattle.node_table.specs.HandedOn.{if_handed}
-use Rattle.clause_terms.proofs.Handed.{adds_none, steps_handed_on}
+use Rattle.node_table.specs.Refused.{steps_handed_on}
+use Rattle.clause_terms.proofs.Handed.{adds_none}
 use Rattle.clause_terms.proofs.term.add_unit.Goals as goal
 
 pub returns-in_err-hints-clause-steps : goal.returns-in_err-hints-clause-steps
@@ -18,7 +19,7 @@ pub returns-clause-no_node_limit : goal.returns-clause-no_node_limit
 returns-clause-no_node_limit g c = c.justify.ensures.no_node_limit
 
 pub returns-clause-steps : goal.returns-clause-steps
-returns-clause-steps g c = c.justify.ensures.steps
+returns-clause-steps g c = c.justify.ensures.no_empty (λ is. cc)
 
 pub returns-clause-beside : goal.returns-clause-beside
 returns-clause-beside g c = c.justify.ensures.beside

@@ -18,9 +18,8 @@ use Rattle.clause_terms.proofs.Ordered.{no_tautology, same_function}
 use Rattle.clause_terms.proofs.MadeNodes.{by_values}
 use Rattle.clause_terms.proofs.ClauseTerm.{still_in_order, unit_path, clause_term, true_term}
 use Rattle.node_table.specs.HandedOn.{no_error, came_from, if_handed, no_answer, same_error}
-use Rattle.clause_terms.proofs.Handed.{steps_handed_on}
 use Rattle.clause_terms.proofs.LackedPart.{lacked_by_values}
-use Rattle.node_table.specs.Refused.{memory_not_nodes}
+use Rattle.node_table.specs.Refused.{memory_not_nodes, steps_handed_on}
 use Rattle.clause_terms.proofs.term.push_clause.Goals as goal
 
 same_clause : (id other : ℕ) → Clause id ≡ Clause other → id ≡ other

@@ -16,7 +16,7 @@ use Rattle.hint_chain.specs.Additions.{Justifies}
 use Rattle.hint_chain.specs.declared.atom.Atom.{Atom}
 use Rattle.node_table.specs.declared.error.TableError.TheVariants.{IdLimit}
 use Rattle.node_table.specs.HandedOn.{came_from}
-use Rattle.node_table.specs.Refused.{used_up}
+use Rattle.node_table.specs.Refused.{steps_handed_on, used_up}
 use Rattle.imply.proofs.additions.add_high.Goals as goal
 
 pub imply_high-hints-requires-clause-close : goal.imply_high-hints-requires-clause-close
@@ -91,10 +91,25 @@ returns-clause-clause g c =
       ap (clause_at new.live) c.new.ensures.id ∙ at ∙ ap Some (sym same),
     )
 
+-- the variable's literal stands in front
+not_empty : (literal : ℤ) (rest clause : List ℤ) → clause ≡ literal ∷ rest → clause ≡ [] → ⊥
+not_empty literal rest clause is empty = cc
+
+pub returns-clause-steps : goal.returns-clause-steps
+returns-clause-steps g c =
+    c.in_ok-id.ensures.no_empty (not_empty c.negated.result c.args.clause.now _ (c.as_slice-2.ensures.literals ∙ c.behind-long.ensures))
+
+pub returns-in_err-id-clause-steps : goal.returns-in_err-id-clause-steps
+returns-in_err-id-clause-steps g c =
+    steps_handed_on _ c.in_err-id.field-0.0 c.from_residual.ensures.1
+    (c.in_err-id.ensures.no_empty (not_empty c.negated.result c.args.clause.now _
+    (c.as_slice-2.ensures.literals ∙ c.behind-long.ensures)))
+
 pub returns-clause-added : goal.returns-clause-added
 returns-clause-added g c =
     let own = c.new.ensures.id in record {
-      steps = c.in_ok-id.ensures.steps;
+      steps = c.in_ok-id.ensures.no_empty
+          (not_empty c.negated.result c.args.clause.now _ (c.as_slice-2.ensures.literals ∙ c.behind-long.ensures));
       number = own ∙ c.in_ok-id.ensures.added.0;
       top = ap (λ s. s.top) c.in_ok-id.ensures.added.1 ∙ sym c.in_ok-id.ensures.added.0 ∙ sym own;
       own = rw own c.in_ok-id.ensures.own;
