@@ -5,7 +5,7 @@ ghost use Rattle.std.specs.List.{list_all};
 ghost use Rattle.std.specs.List.Sorted.{IsNonDecreasingBy};
 ghost use Rattle.cnf_base.specs.Truth.{clause_holds, is_literal_of};
 ghost use Rattle.lrat_rules.specs.State.{clause_at};
-ghost use Rattle.node_table.specs.declared.error.TableError.TheVariants.{NodeLimit, OutOfMemory};
+ghost use Rattle.node_table.specs.declared.error.TableError.TheVariants.{NodeLimit, OutOfMemory, WriteFault};
 ghost use Rattle.node_table.specs.declared.node.Node.TheVariants.{True};
 ghost use Rattle.node_table.specs.declared.node.Just.TheVariants.{Trivial, Clause};
 ghost use Rattle.node_table.specs.Defined.{atom_of};
@@ -49,7 +49,8 @@ pub fn push_clause<S: Sink + Drop>(
     // It was added, and nothing else beside definitions.
     ensures own { IfOk result (λ found. (id : ℕ) → found.1 ≡ Clause id → IsAddedTo table.new id) }
     ensures alone { IfOk result (λ found. (id : ℕ) → IsAddedTo table.new id → IsAddedTo table.old id ⊎ (found.1 ≡ Clause id)) }
-    ensures none_added { result ≡ Err NodeLimit → AddsNone table.old table.new }
+    // A refusal adds none.
+    ensures none_added { IfErr result (λ e. e ≢ WriteFault → AddsNone table.old table.new) }
     ensures made { MakesOnly table.old.graph table.new.graph (clause_function table.old.graph.order clause.now) }
     ensures steps { Steps S.tells (S.channel table.old.book.sink) (S.channel table.new.book.sink) table.old table.new 1 (error_of result) }
     ensures retired { table.new.retired ≡ table.old.retired }
@@ -116,6 +117,7 @@ fn add_unit<S: Sink + Drop>(
     ensures proved { IfOk result (λ id. IsJustified table.new.book.state.live (atom_of table.new.graph node ∷ []) (Clause id)) }
     ensures one { IfOk result (λ id. (id ≡ table.old.book.state.top + 1) × (id ≡ table.new.book.state.top)) }
     ensures own { IfOk result (λ id. IsAddedTo table.new id) }
+    ensures none_added { IfErr result (λ e. e ≢ WriteFault → AddsNone table.old table.new) }
     ensures nodes { table.new.graph ≡ table.old.graph }
     ensures steps { Steps S.tells (S.channel table.old.book.sink) (S.channel table.new.book.sink) table.old table.new 1 (error_of result) }
     ensures retired { table.new.retired ≡ table.old.retired }

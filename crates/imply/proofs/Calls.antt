@@ -4,7 +4,7 @@ use Rattle.std.specs.Prelude.{IfOk}
 use Rattle.host_io.specs.Channel.{Channel}
 use Rattle.host_io.specs.Beside.{Beside}
 use Rattle.node_table.specs.declared.error.TableError.{TableError}
-use Rattle.node_table.specs.declared.error.TableError.TheVariants.{NodeLimit, OutOfMemory}
+use Rattle.node_table.specs.declared.error.TableError.TheVariants.{NodeLimit, IdLimit, OutOfMemory}
 use Rattle.node_table.specs.declared.node.Node.{Node}
 use Rattle.node_table.specs.declared.node.Just.{Just}
 use Rattle.node_table.specs.declared.node.Just.TheVariants.{Clause}
@@ -33,6 +33,9 @@ Answer = Result (Option Just) TableError
 pub memory_no_limit : ◌≡◌ {A = Answer} (Err OutOfMemory) (Err NodeLimit) → ⊥
 memory_no_limit is = cc
 
+pub memory_no_numbers : ◌≡◌ {A = Answer} (Err OutOfMemory) (Err IdLimit) → ⊥
+memory_no_numbers is = cc
+
 pub failed_no_answer : (error : TableError) (answer : Option Just) → ◌≡◌ {A = Answer} (Err error) (Ok answer) → ⊥
 failed_no_answer error answer is = cc
 
@@ -40,9 +43,9 @@ pub none_no_answer : (just : Just) → ◌≡◌ {A = Answer} (Ok None) (Ok (Som
 none_no_answer just is = cc
 
 -- an error of the step is that of the call
-pub limit_came : (error : TableError) → ◌≡◌ {A = Answer} (Err error) (Err NodeLimit)
-    → ◌≡◌ {A = Result Just TableError} (Err error) (Err NodeLimit)
-limit_came error is = let same : error ≡ NodeLimit = cc in ap Err same
+pub limit_came : (error limit : TableError) → ◌≡◌ {A = Answer} (Err error) (Err limit)
+    → ◌≡◌ {A = Result Just TableError} (Err error) (Err limit)
+limit_came error limit is = let same : error ≡ limit = cc in ap Err same
 
 pub none_failed : (error : TableError) → Some error ≡ None → ⊥
 none_failed error is = cc
@@ -70,6 +73,7 @@ module _ {S : Type 0} {tells : Bool} {channel : S → Channel} {lent : S → Bes
     steps = law.at_most _ _ _ _ _ _ _ (omega arith) (law.no_memory table sound);
     nodes = refl;
     no_node_limit = memory_no_limit;
+    id_limit = λ is. absurd (memory_no_numbers is);
     accounts = accounts.none table (entries cache) (Some OutOfMemory) sound fits;
     unretired = λ id is. absurd (failed_no_answer OutOfMemory (Some (Clause id)) is);
     kept = λ differ first second just is. absurd (failed_no_answer OutOfMemory (Some just) is);
@@ -100,6 +104,7 @@ module _ {S : Type 0} {tells : Bool} {channel : S → Channel} {lent : S → Bes
       steps = budget.high old one o (error_of result) sound split by_high.steps;
       nodes = by_high.nodes;
       no_node_limit = by_high.no_node_limit;
+      id_limit = by_high.id_limit;
       accounts = by_high.accounts;
       unretired = λ id is. absurd (never (Clause id) is);
       kept = λ differ first second just is. absurd (never just is);
@@ -143,6 +148,7 @@ module _ {S : Type 0} {tells : Bool} {channel : S → Channel} {lent : S → Bes
         steps = budget.low old one two o (error_of result) sound split by_high.steps by_low.steps;
         nodes = by_low.nodes ∙ by_high.nodes;
         no_node_limit = by_low.no_node_limit;
+        id_limit = by_low.id_limit;
         accounts = accounts_both two cache_two result by_low;
         unretired = λ id is. absurd (never (Clause id) is);
         kept = λ differ first second just is. absurd (never just is);
@@ -174,6 +180,7 @@ module _ {S : Type 0} {tells : Bool} {channel : S → Channel} {lent : S → Bes
           steps = budget.both old one two three o (error_of result) sound split by_high.steps by_low.steps closes.steps;
           nodes = closes.nodes ∙ (by_low.nodes ∙ by_high.nodes);
           no_node_limit = closes.no_node_limit;
+          id_limit = closes.id_limit;
           accounts = accounts.further old two three (entries before) (entries cache_two) (entries cache_three) (error_of result)
               (law.extend old one two by_high.steps.extends by_low.steps.extends) closes.steps.extends
               (accounts_both two cache_two (Ok low) by_low) closes.accounts;

@@ -5,12 +5,12 @@ use Rattle.std.specs.Prelude.{length, min}
 use Rattle.host_io.specs.Channel.{Channel}
 use Rattle.host_io.specs.Beside.{Beside}
 use Rattle.node_table.specs.declared.error.TableError.{TableError}
-use Rattle.node_table.specs.declared.error.TableError.TheVariants.{NodeLimit}
+use Rattle.node_table.specs.declared.error.TableError.TheVariants.{NodeLimit, IdLimit}
 use Rattle.node_table.specs.declared.node.Node.{Node}
 use Rattle.node_table.specs.declared.node.Just.{Just}
 use Rattle.node_table.specs.declared.node.Just.TheVariants.{Clause}
 use Rattle.node_table.specs.Diagram.{is_node, level_of}
-use Rattle.node_table.specs.Table.{TableState, IsSound}
+use Rattle.node_table.specs.Table.{TableState, IsSound, IsUsedUp}
 use Rattle.node_table.specs.Progress.{Steps, error_of}
 use Rattle.operations.specs.declared.operands.Operands.{Operands}
 use Rattle.operations.specs.Operands.{AreSplit, levels_from}
@@ -36,6 +36,7 @@ pub record Implies {S : Type 0} (tells : Bool) (channel : S → Channel) (lent :
       (error_of result)
   pub nodes : new.graph ≡ old.graph
   pub no_node_limit : result ≢ Err NodeLimit
+  pub id_limit : result ≡ Err IdLimit → IsUsedUp new
   pub accounts : AccountsFor old new (entries before) (entries after) (error_of result)
   pub unretired : (id : ℕ) → result ≡ Ok (Some (Clause id)) → Contains new.retired id → ⊥
   pub kept : u ≢ v → IsNoConstant u → IsNoConstant v → (just : Just) → result ≡ Ok (Some just)
@@ -52,6 +53,7 @@ pub record IsClosed {S : Type 0} (tells : Bool) (channel : S → Channel) (lent 
   pub steps : Steps tells (channel old.book.sink) (channel new.book.sink) old new 2 (error_of result)
   pub nodes : new.graph ≡ old.graph
   pub no_node_limit : result ≢ Err NodeLimit
+  pub id_limit : result ≡ Err IdLimit → IsUsedUp new
   pub accounts : AccountsFor old new (entries before) (entries after) (error_of result)
   pub unretired : (id : ℕ) → result ≡ Ok (Some (Clause id)) → Contains new.retired id → ⊥
   pub kept : (just : Just) → result ≡ Ok (Some just) → Contains (entries after) (Implication o.u o.v just)

@@ -5,9 +5,9 @@
 ghost use Rattle.std.specs.Prelude.{◌≡◌, ◌≢◌, ◌≤◌, ◌<◌, ◌∷◌, neg_ℤ, pos, Err, IfOk, IfErr, Some, length};
 ghost use Rattle.lrat_rules.specs.State.{clause_at};
 ghost use Rattle.hint_chain.specs.Atoms.{clause_of};
-ghost use Rattle.node_table.specs.declared.error.TableError.TheVariants.{NodeLimit, WriteFault};
+ghost use Rattle.node_table.specs.declared.error.TableError.TheVariants.{NodeLimit, IdLimit, WriteFault};
 ghost use Rattle.node_table.specs.Diagram.{variable_at};
-ghost use Rattle.node_table.specs.Table.{IsSound, IsSame, UnlessTorn};
+ghost use Rattle.node_table.specs.Table.{IsSound, IsSame, IsUsedUp, UnlessTorn};
 ghost use Rattle.node_table.specs.Just.{IsJustified};
 ghost use Rattle.node_table.specs.Progress.{Steps, error_of};
 ghost use Rattle.operations.specs.Operands.{AreSplit};
@@ -49,6 +49,7 @@ pub fn justify<S: Sink + Drop>(
     // All clauses that were added are retired, but for the one that is given.
     ensures gives { UnlessTorn result (GivesOne table.old table.new (given_just result)) }
     ensures no_node_limit { result ≢ Err NodeLimit }
+    ensures id_limit { result ≡ Err IdLimit → IsUsedUp table.new }
     ensures beside { S.beside table.new.book.sink ≡ S.beside table.old.book.sink }
 {
     steps_law::<S>();
@@ -109,6 +110,7 @@ fn add_high<S: Sink + Drop>(
     ensures steps { Steps S.tells (S.channel table.old.book.sink) (S.channel table.new.book.sink) table.old table.new 1 (error_of result) }
     ensures retired { table.new.retired ≡ table.old.retired }
     ensures no_node_limit { result ≢ Err NodeLimit }
+    ensures id_limit { result ≡ Err IdLimit → IsUsedUp table.new }
     ensures refused { IfErr result (λ e. e ≢ WriteFault → IsSame table.old table.new) }
     ensures beside { S.beside table.new.book.sink ≡ S.beside table.old.book.sink }
 {
@@ -153,6 +155,7 @@ fn add_low<S: Sink + Drop>(
     ensures steps { Steps S.tells (S.channel table.old.book.sink) (S.channel table.new.book.sink) table.old table.new 1 (error_of result) }
     ensures retired { table.new.retired ≡ table.old.retired }
     ensures no_node_limit { result ≢ Err NodeLimit }
+    ensures id_limit { result ≡ Err IdLimit → IsUsedUp table.new }
     ensures refused { IfErr result (λ e. e ≢ WriteFault → IsSame table.old table.new) }
     ensures beside { S.beside table.new.book.sink ≡ S.beside table.old.book.sink }
 {

@@ -3,12 +3,12 @@
 // 2021, section 4.3.)
 ghost use Rattle.std.specs.Prelude.{◌≡◌, ◌≢◌, ◌⊎◌, ◌≤◌, ◌*◌, ◌++◌, ℕ, List, Option, Ok, Err, Contains, IsTrue, IfOk, IfSome, MatchOption};
 ghost use Rattle.std.specs.Prelude.{None, Some, length};
-ghost use Rattle.node_table.specs.declared.error.TableError.TheVariants.{NodeLimit};
+ghost use Rattle.node_table.specs.declared.error.TableError.TheVariants.{NodeLimit, IdLimit};
 ghost use Rattle.node_table.specs.declared.node.Node.{Node as NodeValue};
 ghost use Rattle.node_table.specs.declared.node.Just.{Just as JustValue};
 ghost use Rattle.node_table.specs.declared.node.Just.TheVariants.{Clause};
 ghost use Rattle.node_table.specs.Diagram.{is_node};
-ghost use Rattle.node_table.specs.Table.{IsSound, AddsAtMost, UnlessTorn};
+ghost use Rattle.node_table.specs.Table.{IsSound, AddsAtMost, IsUsedUp, UnlessTorn};
 ghost use Rattle.node_table.specs.Progress.{Steps, error_of};
 ghost use Rattle.operations.specs.Operands.{AreSplit, levels_from};
 ghost use Rattle.operations.specs.Results.{Implied};
@@ -46,6 +46,8 @@ pub fn implies<S: Sink + Drop>(
         (most_additions (levels_from table.old.graph u v)) (error_of result) }
     ensures nodes { table.new.graph ≡ table.old.graph }
     ensures no_node_limit { result ≢ Err NodeLimit }
+    // The limit of numbers is told only where none is left.
+    ensures id_limit { result ≡ Err IdLimit → IsUsedUp table.new }
     // The cache fits, and so does it together with others that did, of which none names a clause that it named.
     ensures fits { UnlessTorn result (Fits table.new (entries cache.new)) }
     ensures others { (others : List Entry) → Fits table.old (entries cache.old ++ others) → AreApart (entries cache.old) others

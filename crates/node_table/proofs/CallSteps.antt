@@ -1,6 +1,6 @@
 -- The steps of one call of a table: nothing but room, one clause more, or one node more, whole or cut short.
 use Rattle.std.proofs.Common.{◌≡◌, ◌+◌, ◌*◌, ◌≤◌, ◌<◌, ℕ, ℤ, Bool, false, List, [], Option, None, Some, refl, sym, ap, subst, arith, inl}
-use Rattle.std.proofs.Common.{inr, take, append-nil}
+use Rattle.std.proofs.Common.{inr, take, append-nil, pos, ◌∙◌}
 use Rattle.std.specs.Prelude.{IsTrue, max}
 use Rattle.host_io.specs.Channel.{Channel, Rose}
 use Rattle.lrat_rules.specs.State.{State, clause_at}
@@ -9,11 +9,11 @@ use Rattle.clause_ledger.specs.Book.{Book, IsProofOf, OnlyWrites, with_next}
 use Rattle.node_table.specs.declared.node.Node.{Node}
 use Rattle.node_table.specs.declared.error.TableError.{TableError}
 use Rattle.node_table.specs.declared.error.TableError.TheVariants.{IdLimit, OutOfMemory, WriteFault}
-use Rattle.node_table.specs.Diagram.{Graph, IsBelow, IsNew, IsReduced, KeepsNodes, levels}
-use Rattle.node_table.specs.Defined.{definition_count, with_definitions}
+use Rattle.node_table.specs.Diagram.{Graph, IsBelow, IsNew, IsReduced, KeepsNodes, levels, variable_at}
+use Rattle.node_table.specs.Defined.{atom_of, definition_count, with_definitions}
 use Rattle.node_table.specs.Tied.{IsTied, IsAdded, IsOverNodes}
 use Rattle.node_table.specs.Table.{TableState, IsSound, IsAddedTo, IsSame, IsWanted, Extends, live_nodes, new_branch, node_definitions}
-use Rattle.node_table.specs.Progress.{Continues, Steps}
+use Rattle.node_table.specs.Progress.{Continues, Steps, StepsOrRefutes, WritesMore}
 use Rattle.node_table.proofs.Added.{added_kept}
 use Rattle.node_table.proofs.Grown.{KeepsNodes-none}
 use Rattle.node_table.proofs.Stands.{Grows, Grows-next}
@@ -22,7 +22,8 @@ use Rattle.node_table.proofs.Justified.{justified_tied}
 use Rattle.node_table.proofs.InUseSame.{in_use_nodes}
 use Rattle.node_table.proofs.Fresh.{IsNobodys, live_more, KeepsNodes-new}
 use Rattle.node_table.proofs.Fronts.{IsCutBefore, Grows-definitions, Grows-front, Grows-rest}
-use Rattle.node_table.proofs.Progressed.{Continues-none, Extends-none}
+use Rattle.node_table.proofs.NoEmpty.{definitions_some, front_some, none_empty}
+use Rattle.node_table.proofs.Progressed.{Continues-none, Extends-none, Steps-no_empty}
 use Rattle.node_table.proofs.Since.{ComesSince-grown}
 use Rattle.node_table.proofs.Retired.{AreRetired-kept}
 
@@ -50,6 +51,7 @@ module _ {S : Type 0} (tells : Bool) (channel : S → Channel) where
           since = same.since;
           unfailed = refl;
           writes = same.writes;
+          grows = same.grows;
         },
         record {
           inputs = refl;
@@ -65,14 +67,14 @@ module _ {S : Type 0} (tells : Bool) (channel : S → Channel) where
   no_room old new sound same =
       let both = refused old sound new.book.spare in
       subst (λ (t : TableState S). StepsFrom old t 0 (Some OutOfMemory)) (sym same)
-      (record { leaves = both.0; extends = both.1; adds = omega arith })
+      (record { leaves = both.0; extends = both.1; adds = omega arith; no_empty = record { each = λ id is. is } })
 
   pub no_ids_left : (old new : TableState S) → IsSound old → IsSame old new → old.book.limit < old.book.state.top + 4
       → StepsFrom old new 0 (Some IdLimit)
   no_ids_left old new sound same met =
       let both = refused old sound new.book.spare in
       subst (λ (t : TableState S). StepsFrom old t 0 (Some IdLimit)) (sym same)
-      (record { leaves = (both.0, met); extends = both.1; adds = omega arith })
+      (record { leaves = (both.0, met); extends = both.1; adds = omega arith; no_empty = record { each = λ id is. is } })
 
 -- a clause that was added stays so in a table that has more
 pub IsAddedTo-kept : {S : Type 0} (old new : TableState S) → IsSound old → IsSound new → Extends old new → (id : ℕ) → IsAddedTo old id
@@ -100,6 +102,7 @@ pub record Wrote {S : Type 0} (tells : Bool) (before after : Channel) (old new :
   pub limit : new.limit ≡ old.limit
   pub unfailed : after.faults ≡ before.faults
   pub writes : OnlyWrites before after
+  pub grows : IsTrue tells → WritesMore before after
 
 pub record Tore {S : Type 0} (tells : Bool) (before after : Channel) (old new : Book S) : Type 0 where
   pub rose : Rose before.faults after.faults
@@ -108,6 +111,7 @@ pub record Tore {S : Type 0} (tells : Bool) (before after : Channel) (old new : 
   pub out_of_step : new.in_step ≡ false
   pub limit : new.limit ≡ old.limit
   pub writes : OnlyWrites before after
+  pub grows : IsTrue tells → WritesMore before after
 
 -- no fewer extension variables are in use where there are more live clauses
 abbrev pub FewerInUse : Type 0
@@ -152,7 +156,7 @@ module _ {S : Type 0} (tells : Bool) (aside : Aside) (before after : Channel) (g
   }
 
   pub went_on : IsSound (table_of aside graph old) → Wrote tells before after old new → IsTied later new.state
-      → Steps tells before after (table_of aside graph old) (table_of aside later new) justified None
+      → StepsOrRefutes tells before after (table_of aside graph old) (table_of aside later new) justified None
   went_on sound wrote tied = record {
     leaves = record {
       sound = record {
@@ -172,6 +176,7 @@ module _ {S : Type 0} (tells : Bool) (aside : Aside) (before after : Channel) (g
       since = ComesSince-grown old.state new.state grew.grows;
       unfailed = wrote.unfailed;
       writes = wrote.writes;
+      grows = wrote.grows;
     };
     extends = extends;
     adds = grew.adds;
@@ -179,7 +184,7 @@ module _ {S : Type 0} (tells : Bool) (aside : Aside) (before after : Channel) (g
 
   pub broke_off : IsReduced later → Tore tells before after old new → FewerInUse → in_use (levels graph) new.state ≤ live_nodes later
       → live_nodes later ≤ aside.max_nodes
-      → Steps tells before after (table_of aside graph old) (table_of aside later new) justified (Some WriteFault)
+      → StepsOrRefutes tells before after (table_of aside graph old) (table_of aside later new) justified (Some WriteFault)
   broke_off reduced tore fewer used few = record {
     leaves = record {
       rose = tore.rose;
@@ -208,6 +213,7 @@ module _ {S : Type 0} (tells : Bool) (aside : Aside) (before after : Channel) (g
       numbers = grew.within;
       since = ComesSince-grown old.state new.state grew.grows;
       writes = tore.writes;
+      grows = tore.grows;
     };
     extends = extends;
     adds = grew.adds;
@@ -230,12 +236,12 @@ module _ {S : Type 0} (tells : Bool) (aside : Aside) (before after : Channel) (g
   tied_still : IsTied graph new.state
   tied_still = subst (IsTied graph) (sym added) (justified_tied graph old.state clause sound.tied over)
 
-  pub justified_on : Wrote tells before after old new → Steps tells before after (table_of aside graph old)
+  pub justified_on : Wrote tells before after old new → StepsOrRefutes tells before after (table_of aside graph old)
       (table_of aside graph new) 1 None
   justified_on wrote = went_on tells aside before after graph graph old new 1 one_more sound wrote tied_still
 
   pub justified_torn : Tore tells before after old new → FewerInUse → live_nodes graph ≤ aside.max_nodes
-      → Steps tells before after (table_of aside graph old) (table_of aside graph new) 1 (Some WriteFault)
+      → StepsOrRefutes tells before after (table_of aside graph old) (table_of aside graph new) 1 (Some WriteFault)
   justified_torn tore fewer few =
       broke_off tells aside before after graph graph old new 1 one_more sound.tied.reduced tore fewer
       (let same = in_use_nodes graph new.state tied_still in omega (arith, same)) few
@@ -283,11 +289,17 @@ module _ {S : Type 0} (tells : Bool) (aside : Aside) (before after : Channel) (g
   pub made_on : new.state ≡ whole → Wrote tells before after old new
       → Steps tells before after (table_of aside graph old) (table_of aside later new) 0 None
   made_on is wrote =
-      went_on tells aside before after graph later old new 0
+      Steps-no_empty tells before after (table_of aside graph old) (table_of aside later new) 0 None
+      (went_on tells aside before after graph later old new 0
       (made_more (subst (Grows old.state) (sym is) (Grows-definitions old.state
       (node_definitions graph old.state level high low variable) asked.tied.numbers))
       (let top = ap (λ (s : State). s.top) is in omega (arith, top)))
-      sound wrote (subst (IsTied later) (sym is) tied_whole)
+      sound wrote (subst (IsTied later) (sym is) tied_whole))
+      (record {
+        each = λ id empty. none_empty old.state (node_definitions graph old.state level high low variable)
+            (definitions_some (pos variable) (pos (variable_at graph level)) (atom_of graph high) (atom_of graph low) (old.state.top + 1)) id
+            (sym (ap (λ (s : State). clause_at s.live id) is) ∙ empty);
+      })
 
   pub made_torn : (n : ℕ) → new.state ≡ with_definitions old.state (take n (node_definitions graph old.state level high low variable))
       → Tore tells before after old new → FewerInUse
@@ -302,5 +314,11 @@ module _ {S : Type 0} (tells : Bool) (aside : Aside) (before after : Channel) (g
       ≡ live_nodes later) same (in_use_nodes later whole tied_whole) in
       let less = fewer (levels graph) new.state whole rest.clauses in
       let nodes = live_more graph later key joined in
-      broke_off tells aside before after graph later old new 0 (made_more grows rest.gives.no_less) tied_whole.reduced tore fewer
-      (omega (arith, less, used)) (omega (arith, nodes, few))
+      Steps-no_empty tells before after (table_of aside graph old) (table_of aside later new) 0 (Some WriteFault)
+      (broke_off tells aside before after graph later old new 0 (made_more grows rest.gives.no_less) tied_whole.reduced tore fewer
+      (omega (arith, less, used)) (omega (arith, nodes, few)))
+      (record {
+        each = λ id empty. none_empty old.state (take n all) (front_some n all
+            (definitions_some (pos variable) (pos (variable_at graph level)) (atom_of graph high) (atom_of graph low) (old.state.top + 1)))
+            id (sym (ap (λ (s : State). clause_at s.live id) is) ∙ empty);
+      })

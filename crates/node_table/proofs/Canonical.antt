@@ -1,5 +1,5 @@
 -- Canonicity: nodes of equal value under every assignment are the same node. (Bryant 1986, theorem 1.)
-use Rattle.std.proofs.Common.{◌≡◌, ℕ, zero, suc, ◌-◌, ◌≤◌, Bool, true, false, Some, refl, sym, ap, ◌∙◌, arith, inl, inr, eq-eqb, ne_eqb}
+use Rattle.std.proofs.Common.{◌≡◌, ℕ, zero, suc, ◌-◌, ◌≤◌, ◌<◌, Bool, true, false, Some, refl, sym, ap, ◌∙◌, arith, inl, inr, eq-eqb, ne_eqb}
 use Rattle.std.specs.Prelude.{if◌then◌else◌, ◌==◌}
 use Rattle.std.proofs.lemmas.Bool.{cases_lt}
 use Rattle.node_table.specs.declared.node.Node.{Node}
@@ -10,9 +10,9 @@ use Rattle.node_table.specs.Diagram.{Graph, IsReduced, IsBelow, branch_at, is_no
 use Rattle.node_table.specs.Value.{Levels, branch_value, value_within, value_of}
 use Rattle.node_table.proofs.Values.{branch_of_node, level_of-inner, value_of-inner}
 
--- a value doesn't depend on the levels above the node
+-- a value depends on the levels from the node's own on alone
 agree_within : (graph : Graph) → IsReduced graph → (steps : ℕ) (a b : Levels) (node : Node) → is_node graph node ≡ true
-    → ((i : ℕ) → level_of graph node ≤ i → a i ≡ b i)
+    → ((i : ℕ) → level_of graph node ≤ i → i < levels graph → a i ≡ b i)
     → value_within steps graph a node ≡ value_within steps graph b node
 agree_within graph reduced steps a b False is same = refl
 agree_within graph reduced steps a b True is same = refl
@@ -24,17 +24,23 @@ agree_within graph reduced (suc steps) a b (Inner key) is same =
     let high = reduced.high key.index branch.0 at in
     let low = reduced.low key.index branch.0 at in
     let same_high : value_within steps graph a branch.0.high ≡ value_within steps graph b branch.0.high =
-    agree_within graph reduced steps a b branch.0.high high.stands (λ i above. same i (omega (arith, above, high.below, here))) in
+    agree_within graph reduced steps a b branch.0.high high.stands (λ i above small. same i (omega (arith, above, high.below, here)) small) in
     let same_low : value_within steps graph a branch.0.low ≡ value_within steps graph b branch.0.low =
-    agree_within graph reduced steps a b branch.0.low low.stands (λ i above. same i (omega (arith, above, low.below, here))) in
-    let same_here : a branch.0.level ≡ b branch.0.level = same branch.0.level (omega (arith, here)) in
+    agree_within graph reduced steps a b branch.0.low low.stands (λ i above small. same i (omega (arith, above, low.below, here)) small) in
+    let same_here : a branch.0.level ≡ b branch.0.level = same branch.0.level (omega (arith, here))
+    (reduced.level key.index branch.0 at) in
     ap (branch_value a (value_within steps graph a)) at
     ∙ (λ i. if same_here i then same_high i else same_low i)
     ∙ sym (ap (branch_value b (value_within steps graph b)) at)
 
 pub value-agree : (graph : Graph) → IsReduced graph → (a b : Levels) (node : Node) → is_node graph node ≡ true
     → ((i : ℕ) → level_of graph node ≤ i → a i ≡ b i) → value_of graph a node ≡ value_of graph b node
-value-agree graph reduced a b node is same = agree_within graph reduced (levels graph) a b node is same
+value-agree graph reduced a b node is same = agree_within graph reduced (levels graph) a b node is (λ i above small. same i above)
+
+-- nor on what is no level
+pub value-inside : (graph : Graph) → IsReduced graph → (a b : Levels) (node : Node) → is_node graph node ≡ true
+    → ((i : ℕ) → i < levels graph → a i ≡ b i) → value_of graph a node ≡ value_of graph b node
+value-inside graph reduced a b node is same = agree_within graph reduced (levels graph) a b node is (λ i above. same i)
 
 -- one level's variable set
 abbrev pub with_level : Levels → ℕ → Bool → Levels

@@ -63,7 +63,7 @@ take_before line more zero = (0, refl)
 take_before [] more (suc n) = (0, refl)
 take_before (byte ∷ line) more (suc n) = let front = take_before line more n in (suc front.0, ap (λ bytes. byte ∷ bytes) front.1)
 
-take_behind : (front line more : List ℕ) (n : ℕ) → (k : ℕ) × (take k (front ++ (line ++ more)) ≡ front ++ take n line)
+pub take_behind : (front line more : List ℕ) (n : ℕ) → (k : ℕ) × (take k (front ++ (line ++ more)) ≡ front ++ take n line)
 take_behind [] line more n = take_before line more n
 take_behind (byte ∷ front) line more n = let rest = take_behind front line more n in (suc rest.0, ap (λ bytes. byte ∷ bytes) rest.1)
 

@@ -1,23 +1,29 @@
 -- Deleting clauses line by line: what the lines of a walk over the keys leave is what one line would.
 use Rattle.std.proofs.Common.{◌≡◌, ◌<◌, ◌+◌, ◌&&◌, ◌∙◌, ℕ, Bool, true, false, List, [], ◌∷◌, ◌++◌, length, Option, None, Some, Result, Ok}
-use Rattle.std.proofs.Common.{Err, is_some, refl, sym, ap, subst, append_assoc, add-one}
+use Rattle.std.proofs.Common.{Err, is_some, refl, sym, ap, subst, take, append_assoc, append-nil, add-one}
 use Rattle.std.specs.Prelude.{IsTrue, OnErr, nat_eq, nat_lt}
 use Rattle.std.specs.FinMap as map
+use Rattle.std.specs.Cmp.{nat_eq_equiv}
+use Rattle.std.specs.List.{concat}
 use Rattle.std.specs.Set.{is_member}
 use Rattle.std.proofs.lemmas.Bool.{and_parts, false_from_ne_true}
+use Rattle.std.proofs.lemmas.Map.Views.{list_any-from_Contains}
+use Rattle.cnf_base.specs.declared.step.Step.TheVariants.{Delete}
+use Rattle.cnf_base.specs.ProofText.{line_of_step}
 use Rattle.host_io.specs.Channel.{Channel, Rose}
 use Rattle.lrat_rules.specs.State.{State, Live, clause_at, without_clauses}
 use Rattle.lrat_rules.specs.Derivation.{are_added}
-use Rattle.clause_ledger.specs.Book.{Book}
+use Rattle.clause_ledger.specs.Book.{Book, IsTorn, deletion_line}
 use Rattle.node_table.specs.declared.node.Branch.{Branch}
 use Rattle.node_table.specs.declared.node.Defs.{Defs}
 use Rattle.node_table.specs.Diagram.{Graph, branch_at}
-use Rattle.node_table.specs.Deleted.{DefinesUnmarked, Deletes, DeletesTorn, unmarked_below, unmarked_defs, with_defs, with_given}
-use Rattle.node_table.specs.Deleted.{with_some_defs}
+use Rattle.node_table.specs.Deleted.{AreOfUnmarked, DefinesUnmarked, Deletes, DeletesTorn, TearsDeletions, WritesDeletions}
+use Rattle.node_table.specs.Deleted.{deletion_lines, unmarked_below, unmarked_defs, with_defs, with_given, with_some_defs}
 use Rattle.node_table.specs.Made.{inner}
 use Rattle.node_table.specs.Marks.{is_marked}
 use Rattle.node_table.specs.Tied.{KeepsClauses}
 use Rattle.node_table.proofs.Deletable.{below_defines, defines_below}
+use Rattle.node_table.proofs.DefineSteps.{take_behind}
 use Rattle.node_table.proofs.Progressed.{OnlyWrites-same, OnlyWrites-further}
 use Rattle.node_table.proofs.Settled.{gone_without, stays_without}
 
@@ -69,6 +75,83 @@ with_defs-behind done ids defs =
     ∙ ap (λ l. with_given l defs.hd) (behind done one defs.lu
     ∙ ap (λ l. with_given l defs.lu) (behind done ids defs.hu)))
 
+-- Lines of deletions, one after another: the state gives its greatest number alone.
+lines-same : (one other : State) → one.top ≡ other.top → (lines : List (List ℕ)) → deletion_lines one lines ≡ deletion_lines other lines
+lines-same one other same [] = refl
+lines-same one other same ([] ∷ more) = lines-same one other same more
+lines-same one other same ((id ∷ ids) ∷ more) = let rest = lines-same one other same more in
+    λ i. line_of_step (Delete (same i) (id ∷ ids)) ++ rest i
+
+lines-append : (state : State) (lines more : List (List ℕ)) → deletion_lines state (lines ++ more)
+    ≡ deletion_lines state lines ++ deletion_lines state more
+lines-append state [] more = refl
+lines-append state (ids ∷ lines) more =
+    ap (λ (bytes : List ℕ). deletion_line state ids ++ bytes) (lines-append state lines more)
+    ∙ sym (append_assoc (deletion_line state ids) (deletion_lines state lines) (deletion_lines state more))
+
+concat-append : (lines more : List (List ℕ)) → concat (lines ++ more) ≡ concat lines ++ concat more
+concat-append [] more = refl
+concat-append (ids ∷ lines) more = ap (λ (l : List ℕ). ids ++ l) (concat-append lines more)
+    ∙ sym (append_assoc ids (concat lines) (concat more))
+
+pub WritesDeletions-none : (tells : Bool) (channel : Channel) (state : State) → WritesDeletions tells channel channel state []
+WritesDeletions-none tells channel state = record { lines = []; all = refl; written = λ told. sym (append-nil channel.written) }
+
+-- one line
+pub WritesDeletions-one : (tells : Bool) (before after : Channel) (state : State) (ids : List ℕ)
+    → (IsTrue tells → after.written ≡ before.written ++ deletion_line state ids) → WritesDeletions tells before after state ids
+WritesDeletions-one tells before after state ids line = record {
+  lines = ids ∷ [];
+  all = append-nil ids;
+  written = λ told. line told ∙ ap (λ (bytes : List ℕ). before.written ++ bytes) (sym (append-nil (deletion_line state ids)));
+}
+
+pub TearsDeletions-one : (tells : Bool) (before after : Channel) (state : State) (ids : List ℕ)
+    → IsTorn tells before after (deletion_line state ids) → TearsDeletions tells before after state ids
+TearsDeletions-one tells before after state ids torn = record {
+  lines = ids ∷ [];
+  all = append-nil ids;
+  torn = subst (IsTorn tells before after) (sym (append-nil (deletion_line state ids))) torn;
+}
+
+module _ {tells : Bool} {before between after : Channel} {state later : State} {ids more : List ℕ} (same : later.top ≡ state.top)
+    (one : WritesDeletions tells before between state ids) where
+  pub WritesDeletions-further : WritesDeletions tells between after later more → WritesDeletions tells before after state (ids ++ more)
+  WritesDeletions-further two =
+      let still = lines-same later state same two.lines in
+      record {
+        lines = one.lines ++ two.lines;
+        all = concat-append one.lines two.lines ∙ (λ i. one.all i ++ two.all i);
+        written = λ told.
+            two.written told ∙ (λ i. one.written told i ++ still i)
+            ∙ append_assoc before.written (deletion_lines state one.lines) (deletion_lines state two.lines)
+            ∙ ap (λ (bytes : List ℕ). before.written ++ bytes) (sym (lines-append state one.lines two.lines));
+      }
+
+  pub TearsDeletions-further : between.faults ≡ before.faults → TearsDeletions tells between after later more
+      → TearsDeletions tells before after state (ids ++ more)
+  TearsDeletions-further faults two =
+      let still = lines-same later state same two.lines in
+      let front = deletion_lines state one.lines in
+      let rest = deletion_lines state two.lines in
+      record {
+        lines = one.lines ++ two.lines;
+        all = concat-append one.lines two.lines ∙ (λ i. one.all i ++ two.all i);
+        torn = record {
+          rose = subst (λ (n : ℕ). Rose n after.faults) faults two.torn.rose;
+          cut = λ told.
+              let cut = two.torn.cut told in
+              let whole = take_behind front rest [] cut.0 in (
+                whole.0,
+                cut.1 ∙ (λ i. one.written told i ++ take cut.0 (still i))
+                    ∙ append_assoc before.written front (take cut.0 rest)
+                    ∙ ap (λ (bytes : List ℕ). before.written ++ bytes)
+                    (sym (ap (take whole.0) (lines-append state one.lines two.lines
+                    ∙ ap (λ (bytes : List ℕ). front ++ bytes) (sym (append-nil rest))) ∙ whole.1)),
+              );
+        };
+      }
+
 module _ {S : Type 0} (tells : Bool) (channel : S → Channel) where
   pub Deletes-none : (book : Book S) → IsTrue book.in_step → Deletes tells channel book book []
   Deletes-none book in_step = record {
@@ -79,6 +162,7 @@ module _ {S : Type 0} (tells : Bool) (channel : S → Channel) where
     spare = refl;
     unfailed = refl;
     writes = OnlyWrites-same (channel book.sink);
+    lines = WritesDeletions-none tells (channel book.sink) book.state;
   }
 
   module _ (old mid new : Book S) (ids more : List ℕ) (one : Deletes tells channel old mid ids) where
@@ -106,6 +190,7 @@ module _ {S : Type 0} (tells : Bool) (channel : S → Channel) where
       spare = two.spare ∙ one.spare;
       unfailed = two.unfailed ∙ one.unfailed;
       writes = OnlyWrites-further (channel old.sink) (channel mid.sink) (channel new.sink) one.writes two.writes;
+      lines = WritesDeletions-further (ap (λ (s : State). s.top) one.state) one.lines two.lines;
     }
 
     pub DeletesTorn-further : DeletesTorn tells channel mid new more → DeletesTorn tells channel old new (ids ++ more)
@@ -126,6 +211,7 @@ module _ {S : Type 0} (tells : Bool) (channel : S → Channel) where
       spare = two.spare ∙ one.spare;
       rose = subst (λ (n : ℕ). Rose n (channel new.sink).faults) one.unfailed two.rose;
       writes = OnlyWrites-further (channel old.sink) (channel mid.sink) (channel new.sink) one.writes two.writes;
+      front = TearsDeletions-further (ap (λ (s : State). s.top) one.state) one.lines one.unfailed two.front;
     }
 
   -- On the way: the numbers of the unmarked nodes below the key are those that were deleted and those that were collected.
@@ -198,6 +284,10 @@ module _ (graph : Graph) (marks : List Bool) (old new : State) (key : ℕ) (stat
       rest_is id ∙ stays_without old.live (unmarked_below graph marks key) id
       (false_from_ne_true (is_member nat_eq (unmarked_below graph marks key) id)
       (λ is. other (below_defines graph marks key id is).defines))
+
+  pub deleted_are : AreOfUnmarked graph marks (unmarked_below graph marks key)
+  deleted_are id there = (below_defines graph marks key id (list_any-from_Contains nat_eq_equiv id (unmarked_below graph marks key)
+      there)).defines
 
   pub deleted_among : KeepsClauses new.live old.live
   deleted_among id clause is = was_without old.live (unmarked_below graph marks key) id clause (sym (rest_is id) ∙ is)

@@ -1,5 +1,6 @@
 -- A call that adds a clause, as the ledger's answer leaves it.
-use Rattle.std.proofs.Common.{◌≡◌, ◌≢◌, ◌↔◌, ◌+◌, ◌≤◌, ◌<◌, ℕ, ℤ, Bool, false, List, Result, Ok, Err, Option, None, Some, refl, sym, subst}
+use Rattle.std.proofs.Common.{◌≡◌, ◌≢◌, ◌↔◌, ◌+◌, ◌≤◌, ◌<◌, ◌++◌, ℕ, ℤ, Bool, false, List, Result, Ok, Err, Option, None, Some, [], refl}
+use Rattle.std.proofs.Common.{sym, ap, ◌∙◌, subst}
 use Rattle.std.proofs.Common.{arith, inl, inr}
 use Rattle.std.specs.Prelude.{IsTrue, IfOk, OnOk, IsErrOf}
 use Rattle.std.proofs.lemmas.Bool.{cases_lt}
@@ -14,10 +15,12 @@ use Rattle.node_table.specs.Errors.{table_error}
 use Rattle.node_table.specs.HandedOn.{no_error}
 use Rattle.node_table.specs.Diagram.{Graph}
 use Rattle.node_table.specs.Tied.{IsOverNodes}
-use Rattle.node_table.specs.Table.{IsSound, live_nodes}
-use Rattle.node_table.specs.Progress.{Steps}
+use Rattle.node_table.specs.Table.{AddsNoEmpty, IsSound, live_nodes}
+use Rattle.node_table.specs.Progress.{Steps, StepsOrRefutes}
+use Rattle.lrat_rules.specs.State.{State, clause_at}
+use Rattle.node_table.proofs.NoEmpty.{next_empty}
 use Rattle.node_table.proofs.Stands.{Grows, Grows-next}
-use Rattle.node_table.proofs.Progressed.{Steps-at_most}
+use Rattle.node_table.proofs.Progressed.{Steps-anyhow, Steps-at_most, torn_more}
 use Rattle.node_table.proofs.Since.{ComesSince-fewer}
 use Rattle.node_table.proofs.CallSteps.{FewerInUse, no_room, no_ids_left, justified_on, justified_torn, Aside, table_of}
 
@@ -33,6 +36,7 @@ no_limit is = cc
 pub record Answers {S : Type 0} (tells : Bool) (channel : S → Channel) (old new : Book S) (clause : List ℤ) (line : List ℕ)
     (r : Result ℕ LedgerError) : Type 0 where
   pub added : IfOk r (λ id. (id ≡ old.state.top + 1) × (new.state ≡ with_next old.state clause))
+  pub written : IsTrue tells → OnOk r ((channel new.sink).written ≡ (channel old.sink).written ++ line)
   pub kept : (clauses : List (List ℤ)) → IsProofOf clauses tells (channel old.sink) old.state
       → OnOk r (IsProofOf clauses tells (channel new.sink) new.state)
   pub in_step : OnOk r (IsTrue new.in_step)
@@ -53,15 +57,32 @@ module _ {S : Type 0} (tells : Bool) (channel : S → Channel) (aside : Aside) (
     (sound : IsSound (table_of aside graph old)) (over : IsOverNodes graph clause) (few : live_nodes graph
     ≤ aside.max_nodes) (fewer : FewerInUse) where
   abbrev StepsTo : Book S → Option TableError → Type 0
-  StepsTo book error = Steps tells (channel old.sink) (channel book.sink) (table_of aside graph old) (table_of aside graph book) 1 error
+  StepsTo book error = StepsOrRefutes tells (channel old.sink) (channel book.sink) (table_of aside graph old) (table_of aside graph book) 1 error
 
   -- nothing was changed
   unchanged : (error : Option TableError) → new ≡ old → Steps tells (channel old.sink) (channel old.sink) (table_of aside graph old)
       (table_of aside graph old) 0 error → StepsTo new error
   unchanged error same steps =
       subst (λ (b : Book S). StepsTo b error) (sym same)
+      (Steps-anyhow tells (channel old.sink) (channel old.sink) (table_of aside graph old) (table_of aside graph old) 1 error
       (Steps-at_most tells (channel old.sink) (channel old.sink) (table_of aside graph old) (table_of aside graph old) 0 1 error
-      (omega arith) steps)
+      (omega arith) steps))
+
+  -- the clause that comes isn't empty
+  came_some : clause ≢ [] → new.state ≡ with_next old.state clause → AddsNoEmpty (table_of aside graph old) (table_of aside graph new)
+  came_some some is = record {
+    each = λ id empty. next_empty old.state clause some id (sym (ap (λ (s : State). clause_at s.live id) is) ∙ empty);
+  }
+
+  none_came : new ≡ old → AddsNoEmpty (table_of aside graph old) (table_of aside graph new)
+  none_came same = record { each = λ id empty. sym (ap (λ (b : Book S). clause_at b.state.live id) same) ∙ empty }
+
+  pub justify_no_empty : (r : Result ℕ LedgerError) → Answers tells channel old new clause line r → clause ≢ []
+      → AddsNoEmpty (table_of aside graph old) (table_of aside graph new)
+  justify_no_empty (Ok id) answers some = came_some some answers.added.1
+  justify_no_empty (Err LedgerIdLimit) answers some = none_came (answers.limit_unchanged refl)
+  justify_no_empty (Err LedgerOutOfMemory) answers some = none_came (answers.memory_unchanged refl)
+  justify_no_empty (Err LedgerWriteFault) answers some = came_some some (answers.fault_state refl)
 
   below_limit : (r : Result ℕ LedgerError) → (IsErrOf r LedgerIdLimit ↔ (old.limit ≤ old.state.top)) → (IsErrOf r LedgerIdLimit → ⊥)
       → old.state.top < old.limit
@@ -80,6 +101,7 @@ module _ {S : Type 0} (tells : Bool) (channel : S → Channel) (aside : Aside) (
         limit = answers.limit;
         unfailed = answers.unfailed no_error;
         writes = answers.only_writes;
+        grows = λ told. record { more = line; written = answers.written told };
       })
   justify_steps (Err LedgerIdLimit) answers =
       let met = answers.id_limit.0 refl in
@@ -106,5 +128,6 @@ module _ {S : Type 0} (tells : Bool) (channel : S → Channel) (aside : Aside) (
         out_of_step = answers.out_of_step refl;
         limit = answers.limit;
         writes = answers.only_writes;
+        grows = torn_more (answers.write_fault refl);
       })
       fewer few

@@ -50,3 +50,4 @@ pub mod Marked
 pub mod Remaining
 pub mod Freed
 pub mod Lean
+pub mod NoEmpty

@@ -19,7 +19,8 @@ use Rattle.node_table.specs.Diagram.{Graph, IsBelow, IsNew, branch_at, levels}
 use Rattle.node_table.specs.Defined.{Definition, definition_count, definition_lines, definitions, with_definitions}
 use Rattle.node_table.specs.Made.{inner}
 use Rattle.node_table.specs.Tied.{IsTied, IsAdded, IsOwned}
-use Rattle.node_table.specs.Table.{TableState, IsSound, IsWanted, IsFree, IsMade, HasChildren, live_nodes, new_branch, node_definitions}
+use Rattle.node_table.specs.Table.{TableState, IsSound, IsWanted, IsFree, IsLeastFree, IsMade, HasChildren, live_nodes, new_branch}
+use Rattle.node_table.specs.Table.{node_definitions}
 use Rattle.node_table.specs.Progress.{Steps, error_of}
 use Rattle.node_table.proofs.Added.{added_before}
 use Rattle.node_table.proofs.Fresh.{IsNobodys, unused}
@@ -102,12 +103,12 @@ module _ {S : Type 0} (tells : Bool) (channel : S → Channel) {graph later : Gr
   wrote_from : Wrote tells (channel ready.sink) (channel new.sink) ready new → Wrote tells (channel book.sink) (channel new.sink) book new
   wrote_from wrote =
       let w = subst (λ (b : Book S). Wrote tells (channel b.sink) (channel new.sink) b new) making.reserved wrote in
-      record { in_step = w.in_step; kept = w.kept; limit = w.limit; unfailed = w.unfailed; writes = w.writes }
+      record { in_step = w.in_step; kept = w.kept; limit = w.limit; unfailed = w.unfailed; writes = w.writes; grows = w.grows }
 
   tore_from : Tore tells (channel ready.sink) (channel new.sink) ready new → Tore tells (channel book.sink) (channel new.sink) book new
   tore_from tore =
       let t = subst (λ (b : Book S). Tore tells (channel b.sink) (channel new.sink) b new) making.reserved tore in
-      record { rose = t.rose; cut = t.cut; out_of_step = t.out_of_step; limit = t.limit; writes = t.writes }
+      record { rose = t.rose; cut = t.cut; out_of_step = t.out_of_step; limit = t.limit; writes = t.writes; grows = t.grows }
 
   same_lines : definition_lines ready.state handed_over ≡ definition_lines book.state asked_for
   same_lines i = definition_lines (making.handed.still i) (definitions_handed making.handed i)
@@ -121,6 +122,9 @@ module _ {S : Type 0} (tells : Bool) (channel : S → Channel) {graph later : Gr
     unused = unused graph book.state making.asked.tied variable making.asked.above
         making.asked.own;
   }
+
+  least_free : IsLeastFree graph book.state.live variable
+  least_free = record { free = free; least = making.least }
 
   written : new.state ≡ with_definitions ready.state handed_over → new.state ≡ with_definitions book.state asked_for
   written is = is ∙ (λ i. with_definitions (making.handed.still i) (definitions_handed making.handed i))
@@ -162,8 +166,7 @@ module _ {S : Type 0} (tells : Bool) (channel : S → Channel) {graph later : Gr
       × (IsTrue tells → (channel new.sink).written ≡ (channel book.sink).written ++ definition_lines book.state asked_for)
   making_made is lines = (
     record {
-      free = free;
-      least = making.least;
+      free = least_free;
       key = key;
       named = refl;
       joined = making.joined;
@@ -173,9 +176,9 @@ module _ {S : Type 0} (tells : Bool) (channel : S → Channel) {graph later : Gr
   )
 
   pub making_cut : IsTorn tells (channel ready.sink) (channel new.sink) (definition_lines ready.state handed_over)
-      → IsFree graph book.state.live variable × IsTorn tells (channel book.sink) (channel new.sink) (definition_lines book.state asked_for)
+      → IsLeastFree graph book.state.live variable × IsTorn tells (channel book.sink) (channel new.sink) (definition_lines book.state asked_for)
   making_cut torn = (
-    free,
+    least_free,
     subst (IsTorn tells (channel book.sink) (channel new.sink)) same_lines
         (subst (λ (c : Channel). IsTorn tells c (channel new.sink) (definition_lines ready.state handed_over)) same_sink torn),
   )

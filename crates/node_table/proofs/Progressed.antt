@@ -3,16 +3,17 @@ use Rattle.std.proofs.Common.{◌≡◌, ◌+◌, ◌≤◌, ℕ, Bool, true, is
 use Rattle.std.proofs.Common.{length, Option, None, Some}
 use Rattle.std.proofs.lemmas.Bool.{cases_lt}
 use Rattle.std.proofs.lemmas.List.{append_assoc, append-nil}
+use Rattle.std.specs.Prelude.{IsTrue}
 use Rattle.host_io.specs.Channel.{Channel}
 use Rattle.lrat_rules.specs.State.{State, Live, clause_at}
 use Rattle.lrat_rules.specs.Marks.{IsWithin, in_use}
-use Rattle.clause_ledger.specs.Book.{OnlyWrites}
+use Rattle.clause_ledger.specs.Book.{IsTorn, OnlyWrites}
 use Rattle.node_table.specs.declared.error.TableError.{TableError}
 use Rattle.node_table.specs.declared.error.TableError.TheVariants.{NodeLimit, IdLimit, OutOfMemory, WriteFault}
 use Rattle.node_table.specs.Diagram.{levels}
 use Rattle.node_table.specs.Tied.{KeepsClauses, GivesNumbers}
-use Rattle.node_table.specs.Table.{TableState, IsSound, Extends, live_nodes}
-use Rattle.node_table.specs.Progress.{Continues, BreaksOff, Leaves, Steps, number_limit}
+use Rattle.node_table.specs.Table.{TableState, AddsNoEmpty, IsSound, Extends, live_nodes}
+use Rattle.node_table.specs.Progress.{Continues, BreaksOff, Leaves, Steps, StepsOrRefutes, WritesMore, number_limit}
 use Rattle.node_table.proofs.Grown.{KeepsNodes-none, KeepsNodes-further}
 use Rattle.node_table.proofs.Stands.{Grows-none}
 use Rattle.node_table.proofs.Since.{ComesSince-fewer, ComesSince-further}
@@ -28,6 +29,21 @@ OnlyWrites-further one two three first second = record {
   name = second.name ∙ first.name;
   faults = omega (arith, first.faults, second.faults);
 }
+
+pub WritesMore-same : (channel : Channel) → WritesMore channel channel
+WritesMore-same channel = record { more = []; written = sym (append-nil channel.written) }
+
+pub WritesMore-further : (one two three : Channel) → WritesMore one two → WritesMore two three → WritesMore one three
+WritesMore-further one two three first second = record {
+  more = first.more ++ second.more;
+  written = second.written ∙ ap (λ (bytes : List ℕ). bytes ++ second.more) first.written
+      ∙ append_assoc one.written first.more second.more;
+}
+
+-- a front of a line stands behind what was written
+pub torn_more : {tells : Bool} {before after : Channel} {line : List ℕ} → IsTorn tells before after line → IsTrue tells
+    → WritesMore before after
+torn_more torn told = let cut = torn.cut told in record { more = _; written = cut.1 }
 
 some_of : {A : Type 0} (o : Option A) → is_some o ≡ true → (x : A) × (o ≡ Some x)
 some_of None is = cc
@@ -106,6 +122,7 @@ module _ {S : Type 0} where
       since = ComesSince-fewer table.book.state table.book.state (λ id clause is. is);
       unfailed = refl;
       writes = OnlyWrites-same channel;
+      grows = λ told. WritesMore-same channel;
     }
 
     pub Continues-further : (first second third : Channel) (old mid new : TableState S) → Continues tells first second old mid
@@ -125,6 +142,7 @@ module _ {S : Type 0} where
           since = ComesSince-further old.book.state mid.book.state new.book.state before.no_less after.no_less before.since after.since;
           unfailed = after.unfailed ∙ before.unfailed;
           writes = OnlyWrites-further first second third before.writes after.writes;
+          grows = λ told. WritesMore-further first second third (before.grows told) (after.grows told);
         }
 
     BreaksOff-after : (first second third : Channel) (old mid new : TableState S) → Continues tells first second old mid
@@ -154,6 +172,7 @@ module _ {S : Type 0} where
           numbers = ≤-further new.book.state.top (number_limit mid) (number_limit old) after.numbers within;
           since = ComesSince-further old.book.state mid.book.state new.book.state before.no_less after.no_less before.since after.since;
           writes = OnlyWrites-further first second third before.writes after.writes;
+          grows = λ told. WritesMore-further first second third (before.grows told) (after.grows told);
         }
 
     pub leaves_further : (first second third : Channel) (old mid new : TableState S) (error : Option TableError)
@@ -169,6 +188,9 @@ module _ {S : Type 0} where
     leaves_further first second third old mid new (Some WriteFault) before after =
         BreaksOff-after first second third old mid new before after
 
+    NoEmpty-further : (old mid new : TableState S) → AddsNoEmpty old mid → AddsNoEmpty mid new → AddsNoEmpty old new
+    NoEmpty-further old mid new before after = record { each = λ id is. before.each id (after.each id is) }
+
     pub Steps-further : (first second third : Channel) (old mid new : TableState S) (few more : ℕ) (error : Option TableError)
         → Steps tells first second old mid few None
         → Steps tells second third mid new more error → Steps tells first third old new (few + more) error
@@ -176,6 +198,29 @@ module _ {S : Type 0} where
       leaves = leaves_further first second third old mid new error before.leaves after.leaves;
       extends = Extends-further old mid new before.extends after.extends;
       adds = omega (arith, before.adds, after.adds);
+      no_empty = NoEmpty-further old mid new before.no_empty after.no_empty;
+    }
+
+    pub Steps-refute : (first second third : Channel) (old mid new : TableState S) (few more : ℕ) (error : Option TableError)
+        → Steps tells first second old mid few None
+        → StepsOrRefutes tells second third mid new more error → StepsOrRefutes tells first third old new (few + more) error
+    Steps-refute first second third old mid new few more error before after = record {
+      leaves = leaves_further first second third old mid new error before.leaves after.leaves;
+      extends = Extends-further old mid new before.extends after.extends;
+      adds = omega (arith, before.adds, after.adds);
+    }
+
+    pub Steps-anyhow : (before after : Channel) (old new : TableState S) (count : ℕ) (error : Option TableError)
+        → Steps tells before after old new count error → StepsOrRefutes tells before after old new count error
+    Steps-anyhow before after old new count error steps = record { leaves = steps.leaves; extends = steps.extends; adds = steps.adds }
+
+    pub Steps-no_empty : (before after : Channel) (old new : TableState S) (count : ℕ) (error : Option TableError)
+        → StepsOrRefutes tells before after old new count error → AddsNoEmpty old new → Steps tells before after old new count error
+    Steps-no_empty before after old new count error steps none = record {
+      leaves = steps.leaves;
+      extends = steps.extends;
+      adds = steps.adds;
+      no_empty = none;
     }
 
     pub Steps-at_most : (before after : Channel) (old new : TableState S) (few more : ℕ) (error : Option TableError) → few ≤ more
@@ -184,6 +229,7 @@ module _ {S : Type 0} where
       leaves = steps.leaves;
       extends = steps.extends;
       adds = omega (arith, less, steps.adds);
+      no_empty = steps.no_empty;
     }
 
     -- nothing was changed
@@ -192,6 +238,7 @@ module _ {S : Type 0} where
       leaves = Continues-none channel table sound;
       extends = Extends-none table sound;
       adds = omega arith;
+      no_empty = record { each = λ id is. is };
     }
 
     pub Steps-no_memory : (channel : Channel) (table : TableState S) → IsSound table
@@ -200,6 +247,7 @@ module _ {S : Type 0} where
       leaves = Continues-none channel table sound;
       extends = Extends-none table sound;
       adds = omega arith;
+      no_empty = record { each = λ id is. is };
     }
 
     -- a clause more is retired
@@ -220,6 +268,7 @@ module _ {S : Type 0} where
           since = none.since;
           unfailed = none.unfailed;
           writes = none.writes;
+          grows = none.grows;
         }
 
     pub Steps-retired : (channel : Channel) (table : TableState S) (id : ℕ) → IsSound table
@@ -239,4 +288,5 @@ module _ {S : Type 0} where
             retired = refl;
           };
           adds = omega arith;
+          no_empty = record { each = λ id is. is };
         }

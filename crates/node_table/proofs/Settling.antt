@@ -8,7 +8,7 @@ use Rattle.clause_ledger.specs.Book.{Book, IsProofOf, IsTorn, OnlyWrites, deleti
 use Rattle.node_table.specs.Diagram.{Graph, levels}
 use Rattle.node_table.specs.Tied.{IsTied, KeepsClauses}
 use Rattle.node_table.specs.Table.{IsSound, live_nodes, without_retired}
-use Rattle.node_table.specs.Progress.{Continues, BreaksOff}
+use Rattle.node_table.specs.Progress.{Continues, BreaksOff, WritesMore}
 use Rattle.node_table.proofs.CallSteps.{Aside, FewerInUse, table_of}
 use Rattle.node_table.proofs.InUseSame.{in_use_nodes}
 use Rattle.node_table.proofs.Retired.{AreRetired-none}
@@ -18,7 +18,8 @@ use Rattle.node_table.proofs.Settled.{retired_added, settled_tied, settled_was}
 module _ {S : Type 0} (tells : Bool) (channel : S → Channel) (aside : Aside) (graph : Graph) (old new : Book S)
     (sound : IsSound (table_of aside graph old))
     (state : new.state ≡ without_retired (table_of aside graph old)) (limit : new.limit
-    ≡ old.limit) (writes : OnlyWrites (channel old.sink) (channel new.sink)) where
+    ≡ old.limit) (writes : OnlyWrites (channel old.sink) (channel new.sink))
+    (grows : IsTrue tells → WritesMore (channel old.sink) (channel new.sink)) where
   -- the table once the retired clauses are deleted
   abbrev rest : Aside
   rest = record { max_nodes = aside.max_nodes; inputs = aside.inputs; retired = [] }
@@ -54,6 +55,7 @@ module _ {S : Type 0} (tells : Bool) (channel : S → Channel) (aside : Aside) (
     since = ComesSince-fewer old.state new.state was;
     unfailed = unfailed;
     writes = writes;
+    grows = grows;
   }
 
   pub settled_torn : IsTorn tells (channel old.sink) (channel new.sink) (deletion_line old.state aside.retired)
@@ -87,4 +89,5 @@ module _ {S : Type 0} (tells : Bool) (channel : S → Channel) (aside : Aside) (
         numbers = omega (arith, top);
         since = ComesSince-fewer old.state new.state was;
         writes = writes;
+        grows = grows;
       }

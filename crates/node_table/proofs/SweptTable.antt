@@ -17,7 +17,7 @@ use Rattle.node_table.specs.Deleted.{AreClear, Defines, DefinesUnmarked, IsCutAm
 use Rattle.node_table.specs.Made.{inner}
 use Rattle.node_table.specs.Marks.{AreMarks, is_marked}
 use Rattle.node_table.specs.Places.{AreNumberedAbove, HavePlaces}
-use Rattle.node_table.specs.Progress.{Continues, BreaksOff}
+use Rattle.node_table.specs.Progress.{Continues, BreaksOff, WritesMore}
 use Rattle.node_table.specs.Swept.{IsSwept}
 use Rattle.node_table.specs.Table.{IsSound, live_nodes}
 use Rattle.node_table.specs.Tied.{IsTied, IsAdded, IsOwned, IsOverNodes, AreRetired, KeepsClauses}
@@ -175,7 +175,8 @@ module _ (graph later : Graph) (marks : List Bool) (are : AreMarks graph marks) 
 
 module _ {S : Type 0} (tells : Bool) (channel : S → Channel) (aside : Aside) (graph : Graph) (old new : Book S)
     (sound : IsSound (table_of aside graph old)) (above : AreNumberedAbove aside.inputs graph)
-    (top : new.state.top ≡ old.state.top) (limit : new.limit ≡ old.limit) (writes : OnlyWrites (channel old.sink) (channel new.sink)) where
+    (top : new.state.top ≡ old.state.top) (limit : new.limit ≡ old.limit) (writes : OnlyWrites (channel old.sink) (channel new.sink))
+    (grows : IsTrue tells → WritesMore (channel old.sink) (channel new.sink)) where
   pub sweep_on : (later : Graph) (marks : List Bool) → AreMarks graph marks → IsSwept graph later marks
       → AreClear graph marks old.state.live → AreLeft graph marks old.state new.state → IsTrue new.in_step
       → ((clauses : List (List ℤ)) → AreNumberedAbove (length clauses) graph → IsProofOf clauses tells (channel old.sink) old.state
@@ -199,6 +200,7 @@ module _ {S : Type 0} (tells : Bool) (channel : S → Channel) (aside : Aside) (
     since = ComesSince-fewer old.state new.state left.among;
     unfailed = unfailed;
     writes = writes;
+    grows = grows;
   }
 
   pub sweep_torn : KeepsClauses new.state.live old.state.live → Rose (channel old.sink).faults (channel new.sink).faults
@@ -233,4 +235,5 @@ module _ {S : Type 0} (tells : Bool) (channel : S → Channel) (aside : Aside) (
         numbers = omega (arith, top);
         since = ComesSince-fewer old.state new.state among;
         writes = writes;
+        grows = grows;
       }

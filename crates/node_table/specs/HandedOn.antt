@@ -1,6 +1,6 @@
 -- Laws of results and of `?`: no answer is an error, and an error that is handed on is the one that came.
-use Rattle.std.proofs.Common.{◌≡◌, ◌∙◌, Result, Ok, Err, ap, sym}
-use Rattle.std.specs.Prelude.{IsErrAnd, IfOk}
+use Rattle.std.proofs.Common.{◌≡◌, ◌∙◌, Result, Ok, Err, ap, sym, subst}
+use Rattle.std.specs.Prelude.{IsErrAnd, IfErr, IfOk}
 
 pub no_error : {T E : Type 0} {x : T} {cause : E} → ◌≡◌ {A = Result T E} (Ok x) (Err cause) → ⊥
 no_error is = cc
@@ -27,6 +27,11 @@ other_cause r came cause given other is = other (handed_on r came cause given (s
 pub no_answer : {T E : Type 0} (r : Result T E) (came : E) (P : T → Type 0) → IsErrAnd r (λ e. e ≡ came) → IfOk r P
 no_answer (Ok x) came P is = absurd is
 no_answer (Err e) came P is = tt
+
+-- what is said of the error that came is said of the one that is handed on
+pub if_handed : {T E : Type 0} (r : Result T E) (came : E) (P : E → Type 0) → IsErrAnd r (λ e. e ≡ came) → P came → IfErr r P
+if_handed (Ok x) came P is p = absurd is
+if_handed (Err e) came P is p = subst P (sym is) p
 
 pub no_ok : {T E : Type 0} (r : Result T E) (came : E) (x : T) → IsErrAnd r (λ e. e ≡ came) → r ≡ Ok x → ⊥
 no_ok (Ok y) came x is same = absurd is

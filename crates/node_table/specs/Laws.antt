@@ -12,8 +12,8 @@ use Rattle.node_table.specs.Value.{Levels, value_of, fixed_to, IsSubfunction}
 use Rattle.node_table.specs.Defined.{atom_of}
 use Rattle.node_table.specs.Tied.{KeepsClauses}
 use Rattle.node_table.specs.Just.{IsJustified}
-use Rattle.node_table.specs.Table.{TableState, IsSound, IsAddedTo, Extends, IsWanted}
-use Rattle.node_table.specs.Progress.{Continues, Leaves, Steps}
+use Rattle.node_table.specs.Table.{TableState, AddsNoEmpty, IsSound, IsAddedTo, Extends, IsWanted}
+use Rattle.node_table.specs.Progress.{Continues, Leaves, Steps, StepsOrRefutes}
 use Rattle.node_table.specs.Made.{KeepsFrom, MakesOnly, Reaches, ReachesNew}
 
 -- two nodes of equal value under every assignment are the same node (Bryant 1986, theorem 1)
@@ -54,7 +54,8 @@ pub record Kept : Type 0 where
       → value_of new a node ≡ value_of old a node
   pub atom : (old new : Graph) (node : Node) → KeepsFrom old new node → IsTrue (is_node old node) → atom_of new node ≡ atom_of old node
 
--- A node by its cofactors at a level, whether or not it is of it. Its value doesn't depend on the levels above it.
+-- A node by its cofactors at a level, whether or not it is of it. Its value doesn't depend on the levels above it, nor on what is
+-- no level.
 pub record Cofactors : Type 0 where
   pub value : (graph : Graph) → IsReduced graph → (a : Levels) (level : ℕ) (node : Node) → IsTrue (is_node graph node)
       → value_of graph a node
@@ -65,6 +66,8 @@ pub record Cofactors : Type 0 where
       → level < levels graph → IsBelow graph level (low_at graph level node)
   pub below : (graph : Graph) → IsReduced graph → (a b : Levels) (node : Node) → IsTrue (is_node graph node)
       → ((i : ℕ) → level_of graph node ≤ i → a i ≡ b i) → value_of graph a node ≡ value_of graph b node
+  pub inside : (graph : Graph) → IsReduced graph → (a b : Levels) (node : Node) → IsTrue (is_node graph node)
+      → ((i : ℕ) → i < levels graph → a i ≡ b i) → value_of graph a node ≡ value_of graph b node
 
 -- A function with its first levels fixed, and the nodes that calls make for it: none, those of one call after another,
 -- and those for a part of the function. A node's cofactor is the node with the levels down to this one fixed.
@@ -114,6 +117,13 @@ pub record StepByStep {S : Type 0} (tells : Bool) (channel : S → Channel) : Ty
       → Steps tells second third mid new more error → Steps tells first third old new (few + more) error
   pub at_most : (before after : Channel) (old new : TableState S) (few more : ℕ) (error : Option TableError) → few ≤ more
       → Steps tells before after old new few error → Steps tells before after old new more error
+  pub refute : (first second third : Channel) (old mid new : TableState S) (few more : ℕ) (error : Option TableError)
+      → Steps tells first second old mid few None
+      → StepsOrRefutes tells second third mid new more error → StepsOrRefutes tells first third old new (few + more) error
+  pub anyhow : (before after : Channel) (old new : TableState S) (count : ℕ) (error : Option TableError)
+      → Steps tells before after old new count error → StepsOrRefutes tells before after old new count error
+  pub no_empty : (before after : Channel) (old new : TableState S) (count : ℕ) (error : Option TableError)
+      → StepsOrRefutes tells before after old new count error → AddsNoEmpty old new → Steps tells before after old new count error
   pub go_on : (first second third : Channel) (old mid new : TableState S) → Continues tells first second old mid
       → Continues tells second third mid new
       → Continues tells first third old new

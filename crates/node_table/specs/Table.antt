@@ -1,8 +1,8 @@
 -- A table as its callers see it, and what its calls do.
-use Rattle.std.specs.Prelude.{◌≡◌, ◌≢◌, ℕ, ◌<◌, ◌≤◌, ◌+◌, ◌*◌, ◌++◌, pos, List, Result, Err, IsTrue, refl}
+use Rattle.std.specs.Prelude.{◌≡◌, ◌≢◌, ℕ, ◌<◌, ◌≤◌, ◌+◌, ◌*◌, ◌++◌, pos, List, [], Some, Result, Err, IsTrue, refl}
 use Rattle.std.specs.Coded.{Coded, code_by, coded×, coded_ℕ, coded_list}
 use Rattle.std.specs.FinMap as map
-use Rattle.lrat_rules.specs.State.{State, Live, without_clauses}
+use Rattle.lrat_rules.specs.State.{State, Live, clause_at, without_clauses}
 use Rattle.clause_ledger.specs.Book.{Book, book_code}
 use Rattle.node_table.specs.declared.node.Node.{Node}
 use Rattle.node_table.specs.declared.node.Node.TheVariants.{Inner}
@@ -59,6 +59,10 @@ pub record Extends {S : Type 0} (old new : TableState S) : Type 0 where
   pub more : List ℕ
   pub retired : new.retired ≡ old.retired ++ more
 
+-- An empty clause that is live was so before.
+pub record AddsNoEmpty {S : Type 0} (old new : TableState S) : Type 0 where
+  pub each : (id : ℕ) → clause_at new.book.state.live id ≡ Some [] → clause_at old.book.state.live id ≡ Some []
+
 -- At most four numbers were given for each new node, and so many more.
 abbrev pub AddsAtMost : {S : Type 0} → ℕ → TableState S → TableState S → Type 0
 AddsAtMost justified old new = new.book.state.top + 4 * live_nodes old.graph ≤ old.book.state.top + 4 * live_nodes new.graph + justified
@@ -75,6 +79,11 @@ pub record IsFree (graph : Graph) (live : Live) (variable : ℕ) : Type 0 where
   pub above : levels graph < variable
   pub unused : IsUnused live variable
 
+-- and no lesser one may
+pub record IsLeastFree (graph : Graph) (live : Live) (variable : ℕ) : Type 0 where
+  pub free : IsFree graph live variable
+  pub least : (other : ℕ) → levels graph < other → other < variable → IsOwned graph other
+
 -- the new node of this extension variable, and its defining clauses
 abbrev pub new_branch : State → ℕ → Node → Node → ℕ → Branch
 new_branch state level high low variable = record { level = level; variable = variable; high = high; low = low; first = state.top + 1 }
@@ -85,12 +94,15 @@ node_definitions graph state level high low variable =
 
 -- The node was made with the least free variable, under a new key, and its definitions stand under the next numbers.
 pub record IsMade {S : Type 0} (old new : TableState S) (level : ℕ) (high low : Node) (variable : ℕ) (node : Node) : Type 0 where
-  pub free : IsFree old.graph old.book.state.live variable
-  pub least : (other : ℕ) → levels old.graph < other → other < variable → IsOwned old.graph other
+  pub free : IsLeastFree old.graph old.book.state.live variable
   pub key : NodeKey
   pub named : node ≡ Inner key
   pub joined : IsNew old.graph new.graph key.index (new_branch old.book.state level high low variable)
   pub defined : new.book.state ≡ with_definitions old.book.state (node_definitions old.graph old.book.state level high low variable)
+
+-- no clause number is left
+abbrev pub IsUsedUp : {S : Type 0} → TableState S → Type 0
+IsUsedUp table = table.book.limit ≤ table.book.state.top
 
 -- its state without the retired clauses
 abbrev pub without_retired : {S : Type 0} → TableState S → State

@@ -10,7 +10,8 @@ ghost use Rattle.clause_ledger.specs.declared.error.LedgerError.TheVariants.{Wri
 ghost use Rattle.node_table.specs.declared.node.Branch.{Branch as BranchValue};
 ghost use Rattle.node_table.specs.Diagram.{IsReduced, branch_at};
 ghost use Rattle.node_table.specs.Defined.{IsDefined};
-ghost use Rattle.node_table.specs.Deleted.{DefinesUnmarked, Deletes, DeletesTorn, IsCutAmong, unmarked_defs, with_defs, with_given};
+ghost use Rattle.node_table.specs.Deleted.{DefinesUnmarked, Deletes, DeletesTorn, IsCutAmong, TearsUnmarked, WritesUnmarked};
+ghost use Rattle.node_table.specs.Deleted.{unmarked_defs, with_defs, with_given};
 ghost use Rattle.node_table.specs.Made.{inner};
 ghost use Rattle.node_table.specs.Marks.{is_marked};
 ghost use Rattle.node_table.specs.Places.{AreNumberedAbove};
@@ -55,6 +56,11 @@ pub fn delete_definitions<S: Sink + Drop>(
     ensures kept { (clauses : List (List ℤ)) → AreNumberedAbove (length clauses) diagram.now
         → IsProofOf clauses S.tells (S.channel ledger.old.sink) ledger.old.state
         → OnOk result (IsProofOf clauses S.tells (S.channel ledger.new.sink) ledger.new.state) }
+    // What is written are the lines of these deletions.
+    ensures lines { OnOk result (WritesUnmarked S.tells (S.channel ledger.old.sink) (S.channel ledger.new.sink) ledger.old.state
+        diagram.now marks.now) }
+    ensures front { OnErr result (TearsUnmarked S.tells (S.channel ledger.old.sink) (S.channel ledger.new.sink) ledger.old.state
+        diagram.now marks.now) }
     ensures error { IfErr result (λ e. e ≡ WriteFault) }
     ensures rose { OnErr result (Rose (S.channel ledger.old.sink).faults (S.channel ledger.new.sink).faults) }
     ensures cut { (clauses : List (List ℤ)) → AreNumberedAbove (length clauses) diagram.now

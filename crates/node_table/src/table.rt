@@ -18,14 +18,14 @@ ghost use Rattle.node_table.specs.Value.{value_of, by_level};
 ghost use Rattle.node_table.specs.Defined.{IsDefined, atom_of, defs_of, definition_count, definition_lines, literal_of_branch};
 ghost use Rattle.node_table.specs.Tied.{IsOverNodes};
 ghost use Rattle.node_table.specs.Stored.{HasSmallKey};
-ghost use Rattle.node_table.specs.Table.{TableState, IsSound, IsAddedTo, AddsNone, HasChildren, IsMissing, IsWanted, IsFree, IsMade};
+ghost use Rattle.node_table.specs.Table.{TableState, IsSound, IsAddedTo, AddsNone, HasChildren, IsMissing, IsWanted, IsLeastFree, IsMade};
 ghost use Rattle.node_table.specs.Table.{IsSame, UnlessTorn, live_nodes, node_definitions, without_retired};
-ghost use Rattle.node_table.specs.Progress.{Leaves, Steps, error_of};
+ghost use Rattle.node_table.specs.Progress.{Leaves, Steps, StepsOrRefutes, error_of};
 ghost use Rattle.node_table.specs.Made.{inner};
 ghost use Rattle.node_table.specs.declared.node.Node.{Node as NodeValue};
 ghost use Rattle.node_table.specs.Marks.{AreMarks, AreReached};
 ghost use Rattle.node_table.specs.Swept.{IsSwept};
-ghost use Rattle.node_table.specs.Deleted.{DefinesUnmarked, AreClear};
+ghost use Rattle.node_table.specs.Deleted.{DefinesUnmarked, AreClear, TearsUnmarked, WritesUnmarked};
 
 use crate::define::write_definitions;
 use crate::deletion::delete_definitions;
@@ -176,7 +176,7 @@ impl<S: Sink + Drop> Table<S> {
             × (IsTrue S.tells → (S.channel self.new.book.sink).written
             ≡ (S.channel self.old.book.sink).written ++ definition_lines self.old.book.state
             (node_definitions self.old.graph self.old.book.state level high low variable))) }
-        ensures torn { result ≡ Err WriteFault → (variable : ℕ) × IsFree self.old.graph self.old.book.state.live variable
+        ensures torn { result ≡ Err WriteFault → (variable : ℕ) × IsLeastFree self.old.graph self.old.book.state.live variable
             × IsTorn S.tells (S.channel self.old.book.sink) (S.channel self.new.book.sink)
             (definition_lines self.old.book.state (node_definitions self.old.graph self.old.book.state level high low variable)) }
         // The limits, tried in this order.
@@ -185,6 +185,10 @@ impl<S: Sink + Drop> Table<S> {
         ensures id_limit { (result ≡ Err IdLimit) ↔ (IsWanted self.old.graph level high low
             × (live_nodes self.old.graph < self.old.max_nodes)
             × (self.old.book.limit < self.old.book.state.top + definition_count high low)) }
+        // Want of memory is told only where a node would be made: one that is there is found, and a limit is told before.
+        ensures memory { result ≡ Err TableError.OutOfMemory → IsWanted self.old.graph level high low
+            × (live_nodes self.old.graph < self.old.max_nodes)
+            × (self.old.book.state.top + definition_count high low ≤ self.old.book.limit) }
         ensures refused { IfErr result (λ e. e ≢ WriteFault → IsSame self.old self.new) }
         ensures beside { S.beside self.new.book.sink ≡ S.beside self.old.book.sink }
     {
@@ -207,7 +211,10 @@ impl<S: Sink + Drop> Table<S> {
             × (self.new.book.state ≡ with_next self.old.book.state clause.now)) }
         ensures own { IfOk result (λ id. IsAddedTo self.new id) }
         ensures unretired { IfOk result (λ id. Contains self.new.retired id → ⊥) }
-        ensures steps { Steps S.tells (S.channel self.old.book.sink) (S.channel self.new.book.sink) self.old self.new 1 (error_of result) }
+        ensures steps { StepsOrRefutes S.tells (S.channel self.old.book.sink) (S.channel self.new.book.sink) self.old self.new 1
+            (error_of result) }
+        ensures no_empty { clause.now ≢ [] → Steps S.tells (S.channel self.old.book.sink) (S.channel self.new.book.sink) self.old self.new 1
+            (error_of result) }
         ensures nodes { self.new.graph ≡ self.old.graph }
         ensures retired { self.new.retired ≡ self.old.retired }
         ensures line { IsTrue S.tells → OnOk result ((S.channel self.new.book.sink).written ≡ (S.channel self.old.book.sink).written
@@ -215,6 +222,7 @@ impl<S: Sink + Drop> Table<S> {
         ensures torn { result ≡ Err WriteFault → IsTorn S.tells (S.channel self.old.book.sink) (S.channel self.new.book.sink)
             (next_line self.old.book.state clause.now hints.now) }
         ensures id_limit { (result ≡ Err IdLimit) ↔ (self.old.book.limit ≤ self.old.book.state.top) }
+        ensures memory { result ≡ Err TableError.OutOfMemory → self.old.book.state.top < self.old.book.limit }
         ensures no_node_limit { result ≢ Err NodeLimit }
         ensures refused { IfErr result (λ e. e ≢ WriteFault → IsSame self.old self.new) }
         ensures beside { S.beside self.new.book.sink ≡ S.beside self.old.book.sink }
@@ -297,6 +305,11 @@ impl<S: Sink + Drop> Table<S> {
         ensures count { IfOk result (λ count. live_nodes self.new.graph + count ≡ live_nodes self.old.graph) }
         ensures error { IfErr result (λ e. e ≡ WriteFault) }
         ensures torn { OnErr result (self.new.graph ≡ self.old.graph) }
+        // What is written are the lines of these deletions, or a front of them.
+        ensures lines { OnOk result (WritesUnmarked S.tells (S.channel self.old.book.sink) (S.channel self.new.book.sink)
+            self.old.book.state self.old.graph marks.now) }
+        ensures front { OnErr result (TearsUnmarked S.tells (S.channel self.old.book.sink) (S.channel self.new.book.sink)
+            self.old.book.state self.old.graph marks.now) }
         ensures beside { S.beside self.new.book.sink ≡ S.beside self.old.book.sink }
     {
         marks_law();
@@ -450,12 +463,14 @@ impl<S: Sink + Drop> Table<S> {
             × (IsTrue S.tells → (S.channel self.new.book.sink).written
             ≡ (S.channel self.old.book.sink).written ++ definition_lines self.old.book.state
             (node_definitions self.old.graph self.old.book.state level high low variable))) }
-        ensures torn { result ≡ Err WriteFault → (variable : ℕ) × IsFree self.old.graph self.old.book.state.live variable
+        ensures torn { result ≡ Err WriteFault → (variable : ℕ) × IsLeastFree self.old.graph self.old.book.state.live variable
             × IsTorn S.tells (S.channel self.old.book.sink) (S.channel self.new.book.sink)
             (definition_lines self.old.book.state (node_definitions self.old.graph self.old.book.state level high low variable)) }
         ensures node_limit { (result ≡ Err NodeLimit) ↔ (self.old.max_nodes ≤ live_nodes self.old.graph) }
         ensures id_limit { (result ≡ Err IdLimit) ↔ ((live_nodes self.old.graph < self.old.max_nodes)
             × (self.old.book.limit < self.old.book.state.top + definition_count high low)) }
+        ensures memory { result ≡ Err TableError.OutOfMemory → (live_nodes self.old.graph < self.old.max_nodes)
+            × (self.old.book.state.top + definition_count high low ≤ self.old.book.limit) }
         ensures refused { IfErr result (λ e. e ≢ WriteFault → IsSame self.old self.new) }
         ensures beside { S.beside self.new.book.sink ≡ S.beside self.old.book.sink }
     {

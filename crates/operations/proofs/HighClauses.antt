@@ -133,6 +133,7 @@ module _ {S : Type 0} {tells : Bool} {channel : S → Channel} (law : StepByStep
     leaves = leaves_retired error other steps.leaves;
     extends = law.extend one two new steps.extends retiring.extends;
     adds = omega (arith, steps.adds, retiring.adds);
+    no_empty = record { each = λ id empty. steps.no_empty.each id (retiring.no_empty.each id empty) };
   }
 
 -- the clause that an addition made is live

@@ -3,12 +3,13 @@ use Rattle.std.proofs.Common.{◌≡◌, ◌≢◌, ◌<◌, ◌≤◌, ◌||◌
 use Rattle.std.proofs.Common.{[], ◌∷◌, Option, None, Some, refl, sym, ap, ◌∙◌, arith, inl, inr, ne_eqb}
 use Rattle.std.specs.Prelude.{◌==◌}
 use Rattle.std.specs.List.{list_any}
+use Rattle.std.specs.Option.{option_map}
 use Rattle.std.proofs.lemmas.Bool.{and_from, or_cases}
 use Rattle.std.proofs.lemmas.Bool.Decides.{Decides-int_eq}
 use Rattle.lrat_rules.specs.Soundness.{is_nonzero}
 use Rattle.hint_chain.specs.declared.atom.Atom.{Atom}
 use Rattle.hint_chain.specs.declared.atom.Atom.TheVariants.{Always, Never, Of}
-use Rattle.hint_chain.specs.Atoms.{neg_atom, is_literal}
+use Rattle.hint_chain.specs.Atoms.{clause_of, neg_atom, is_literal}
 use Rattle.hint_chain.specs.Closing.{are_apart}
 use Rattle.node_table.specs.declared.node.Node.{Node}
 use Rattle.node_table.specs.declared.node.Node.TheVariants.{False, True, Inner}
@@ -147,10 +148,23 @@ differing graph reduced u v first second differ =
       differ = λ same. differ (same_key graph reduced u v one two same);
     }
 
+-- a clause with the negation of an inner node's literal in front isn't empty
+some_behind : (literal : ℤ) (rest : Option (List ℤ)) → ◌≡◌ {A = Option (List ℤ)} (option_map (λ literals. literal ∷ literals) rest)
+    (Some []) → ⊥
+some_behind literal None is = cc
+some_behind literal (Some literals) is = cc
+
+some_inner : (graph : Graph) (u : Node) (rest : List Atom) → IsInner graph u → clause_of (neg_atom (atom_of graph u) ∷ rest) ≢ Some []
+some_inner graph u rest inner is =
+    let at = IsAt-from graph u inner.branch inner.is in
+    some_behind (neg_ℤ (pos at.branch.variable)) (clause_of rest)
+    (sym (ap (λ (a : Atom). clause_of (neg_atom a ∷ rest)) (atom_at graph u at)) ∙ is)
+
 pub literals : Literals
 literals = record {
   own = owned_atom;
   negated = owned_negated;
+  some = some_inner;
   differ = differing;
   behind = λ graph reduced ordered level small clause owned apart.
       let within = ordered.within level small in

@@ -7,8 +7,9 @@ use Rattle.std.specs.List.{list_any}
 use Rattle.host_io.specs.Channel.{Channel}
 use Rattle.lrat_rules.specs.State.{State, clause_at}
 use Rattle.clause_ledger.specs.Book.{with_next}
+use Rattle.hint_chain.specs.declared.atom.Atom.{Atom}
 use Rattle.hint_chain.specs.declared.atom.Atom.TheVariants.{Of}
-use Rattle.hint_chain.specs.Atoms.{is_literal, neg_atom}
+use Rattle.hint_chain.specs.Atoms.{clause_of, is_literal, neg_atom}
 use Rattle.hint_chain.specs.Closing.{are_apart}
 use Rattle.node_table.specs.declared.error.TableError.{TableError}
 use Rattle.node_table.specs.declared.error.TableError.TheVariants.{WriteFault}
@@ -69,10 +70,12 @@ pub record AreLiterals (graph : Graph) (u v : Node) : Type 0 where
   pub second_above : 0 < second
   pub differ : first ≢ second
 
--- The literals of a clause: those of nodes are the nodes' own, and a variable of the formula before them is another one.
+-- The literals of a clause: those of nodes are the nodes' own, and a variable of the formula before them is another one. A
+-- clause over an inner node isn't empty.
 pub record Literals : Type 0 where
   pub own : (graph : Graph) (node : Node) (y : ℤ) → IsTrue (is_literal y (atom_of graph node)) → IsOwned graph (nat_abs y)
   pub negated : (graph : Graph) (node : Node) (y : ℤ) → IsTrue (is_literal y (neg_atom (atom_of graph node))) → IsOwned graph (nat_abs y)
+  pub some : (graph : Graph) (u : Node) (rest : List Atom) → IsInner graph u → clause_of (neg_atom (atom_of graph u) ∷ rest) ≢ Some []
   pub differ : (graph : Graph) → IsReduced graph → (u v : Node) → IsInner graph u → IsInner graph v → u ≢ v → AreLiterals graph u v
   pub behind : (graph : Graph) → IsReduced graph → IsOrder graph.order → (level : ℕ) → level < levels graph → (clause : List ℤ)
       → AreOwned graph clause → IsTrue (are_apart clause)

@@ -1,8 +1,8 @@
 //! What every operation on diagrams stands on, once: the split of two operands at the earlier variable, the defining
 //! clauses that may serve as hints on either side of it, what an operation finds, and the entries of the computed
 //! caches, which fit a table as one list. Beside it the laws of a call: what its cache keeps and forgets, how it accounts
-//! for its clauses, and how many it adds; and the machine that works an operation off with a stack of its own. It stands
-//! on the hint lists of `hint_chain`, the caches of `op_cache` and the nodes of `node_table`.
+//! for its clauses, and how many it adds; what reclamation wants of caches (`Purge`); and the machine that works an operation
+//! off with a stack of its own. It stands on the hint lists of `hint_chain`, the caches of `op_cache` and the nodes of `node_table`.
 #![tactic(auto)]
 
 mod clauses;
@@ -12,6 +12,7 @@ mod machine;
 mod operands;
 mod pair;
 mod parts;
+mod purge;
 mod retired;
 
 pub use clauses::{behind, id_of, just_of, number_of};
@@ -24,4 +25,5 @@ pub use machine::{Operation, work_off};
 pub use operands::{Operands, split};
 pub use pair::NodePair;
 pub use parts::{Side, down_part, just_part, up_part};
+pub use purge::Purge;
 pub use retired::{clause_of, retire};

@@ -72,6 +72,20 @@ module _ (laws : Cofactors) (graph : Graph) (reduced : IsReduced graph) where
   value_below level node below value a = laws.below graph reduced (with_level a level value) a node below.stands
       (λ i later. other_level a level value i (λ is. absurd (omega (arith, later, below.below, is))))
 
+  -- nor on a level that is no variable's
+  value_beyond : (level : ℕ) (node : Node) → is_node graph node ≡ true → levels graph ≤ level → (value : Bool) (a : Levels)
+      → value_of graph (with_level a level value) node ≡ value_of graph a node
+  value_beyond level node stands beyond value a = laws.inside graph reduced (with_level a level value) a node stands
+      (λ i small. other_level a level value i (λ is. absurd (omega (arith, small, beyond, is))))
+
+  pub quantified_beyond : (level : ℕ) (node : Node) → is_node graph node ≡ true → levels graph ≤ level → Quantified graph node level node
+  quantified_beyond level node stands beyond = record {
+    stands = stands;
+    not_above = omega arith;
+    value = λ a. either_same (value_of graph a node) ∙ (λ i. sym (value_beyond level node stands beyond true a) i
+        || sym (value_beyond level node stands beyond false a) i);
+  }
+
   pub quantified_below : (level : ℕ) (node : Node) → IsBelow graph level node → Quantified graph node level node
   quantified_below level node below = record {
     stands = below.stands;

@@ -1,6 +1,6 @@
 // The existential quantification of a node by one variable: the disjunction of its cofactors there. (Bryant: Graph-Based
 // Algorithms for Boolean Function Manipulation, 1986, sections 4.3 and 4.4: apply and restrict.)
-ghost use Rattle.std.specs.Prelude.{◌≡◌, ◌⊎◌, ◌≤◌, ◌<◌, ◌++◌, List, Some, Ok, Err, Contains, IsTrue, IfOk, length};
+ghost use Rattle.std.specs.Prelude.{◌≡◌, ◌⊎◌, ◌≤◌, ◌<◌, ◌++◌, List, Some, Ok, Err, Contains, IsTrue, IfOk, length, false};
 ghost use Rattle.node_table.specs.declared.error.TableError.TheVariants.{NodeLimit};
 ghost use Rattle.node_table.specs.declared.node.Node.{Node as NodeValue};
 ghost use Rattle.node_table.specs.Diagram.{is_node, level_of, levels};
@@ -26,7 +26,8 @@ use operations::{Operation, Reply, cache_law, entry_law, work_off};
 use std::alloc::Global;
 
 /// The node that holds where some value of this level's variable makes u hold. Nodes and clauses that were there stay; what
-/// was made before a refusal stays too. No clause is added beside the definitions of new nodes, and none is retired.
+/// was made before a refusal stays too. No clause is added beside the definitions of new nodes, and none is retired. A level
+/// that is no variable's gives u itself.
 pub fn exists<S: Sink + Drop>(
     table: &mut Table<S>,
     cache: &mut ExistsCache,
@@ -36,7 +37,6 @@ pub fn exists<S: Sink + Drop>(
 ) -> Result<Node, TableError>
     requires sound { IsSound table.old }
     requires stands { IsTrue (is_node table.old.graph u) }
-    requires level { level < levels table.old.graph }
     requires fits { Fits table.old (both_caches cache.old ors.old) }
     ensures quantified { IfOk result (λ w. Quantified table.new.graph u level w) }
     ensures steps { Steps S.tells (S.channel table.old.book.sink) (S.channel table.new.book.sink) table.old table.new 0 (error_of result) }
@@ -51,7 +51,8 @@ pub fn exists<S: Sink + Drop>(
     ensures known { (w : NodeValue) → Contains (quantifications cache.old) (Quantification u level w)
         → (result ≡ Ok w) × (table.new ≡ table.old) × HaveSame (quantifications cache.old) (quantifications cache.new)
         × (ors.new ≡ ors.old) }
-    ensures kept { level_of table.old.graph u ≤ level → IfOk result (λ w. Contains (quantifications cache.new) (Quantification u level w)) }
+    ensures kept { level_of table.old.graph u ≤ level → level < levels table.old.graph
+        → IfOk result (λ w. Contains (quantifications cache.new) (Quantification u level w)) }
     ensures remembered { (entry : Entry) → Contains (quantifications cache.old) entry → Contains (quantifications cache.new) entry
         ⊎ (most_quantifications cache.old ≤ length (quantifications cache.new)) }
     ensures no_fewer { length (quantifications cache.old) ≤ length (quantifications cache.new) }
@@ -60,6 +61,8 @@ pub fn exists<S: Sink + Drop>(
     // A constant, and a node below the level: nothing changes.
     ensures plain { level < level_of table.old.graph u → (result ≡ Ok u) × (table.new ≡ table.old) × (cache.new ≡ cache.old)
         × (ors.new ≡ ors.old) }
+    ensures no_level { levels table.old.graph ≤ level → (result ≡ Ok u) × (table.new ≡ table.old) × (cache.new ≡ cache.old)
+        × (ors.new ≡ ors.old) }
     // However it ends, each node that was made is a subfunction of the quantification; on success none is left over.
     ensures made { MakesOnly table.old.graph table.new.graph (quantification_of table.old.graph u level) }
     ensures reachable { IfOk result (λ w. ReachesNew table.old.graph table.new.graph w) }
@@ -67,9 +70,25 @@ pub fn exists<S: Sink + Drop>(
     ensures lacks { result ≡ Err NodeLimit → LacksPart table.new.graph (quantification_of table.old.graph u level) }
     ensures beside { S.beside table.new.book.sink ≡ S.beside table.old.book.sink }
 {
+    steps_law::<S>();
     entry_law::<S>();
+    canonical_law();
+    cofactor_law();
+    subfunction_law();
+    reach_law();
+    if is_no_level(table, level) {
+        return Ok(u);
+    }
     let mut caches = BothCaches { exists: cache, ors };
     work_off::<S, ExistsOperation>(table, &mut caches, (u, level))
+}
+
+// Whether no variable is of this level.
+fn is_no_level<S: Sink + Drop>(table: &Table<S>, level: u32) -> bool
+    ensures beyond { IsTrue result → levels table.now.graph ≤ level }
+    ensures inside { result ≡ false → level < levels table.now.graph }
+{
+    table.order().len() <= level as usize
 }
 
 /// Both caches, lent for a call.

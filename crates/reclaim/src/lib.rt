@@ -2,8 +2,6 @@
 //! stands on `node_table` for marks and sweeping, and on `operations` for the entries of caches.
 #![tactic(auto)]
 
-mod purge;
 mod reclamation;
 
-pub use purge::Purge;
 pub use reclamation::reclaim;

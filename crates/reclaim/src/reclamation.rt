@@ -8,10 +8,9 @@ ghost use Rattle.node_table.specs.Table.{IsSound, live_nodes};
 ghost use Rattle.operations.specs.Entries.{Fits};
 ghost use Rattle.reclaim.specs.Reclaimed.{MayReclaim, Reclaims};
 
-use crate::purge::Purge;
 use host_io::Sink;
 use node_table::{Node, Table, TableError, steps_law};
-use operations::{entry_law, purge_law};
+use operations::{Purge, entry_law, purge_law};
 
 /// Gives back the nodes that no root reaches, with their clauses; the caches forget the entries that name them. Answers how
 /// many nodes there were. Want of memory changes nothing.

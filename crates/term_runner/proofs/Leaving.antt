@@ -5,7 +5,7 @@ use Rattle.host_io.specs.Channel.{Channel}
 use Rattle.node_table.specs.declared.error.TableError.{TableError}
 use Rattle.node_table.specs.declared.error.TableError.TheVariants.{NodeLimit, IdLimit, OutOfMemory, WriteFault}
 use Rattle.node_table.specs.Table.{TableState}
-use Rattle.node_table.specs.Progress.{Continues, Leaves, Steps, error_of}
+use Rattle.node_table.specs.Progress.{Continues, Leaves, Steps, StepsOrRefutes, error_of}
 use Rattle.operations.specs.Budget.{most_additions}
 
 -- an error that is handed on is the one that came
@@ -18,6 +18,12 @@ pub steps_handed : {S T : Type 0} (tells : Bool) (before after : Channel) (old n
     → Steps tells before after old new justified (Some came) → Steps tells before after old new justified (error_of r)
 steps_handed tells before after old new justified r came is steps = subst
     (λ (error : Option TableError). Steps tells before after old new justified error) (sym (error_handed r came is)) steps
+
+pub refutes_handed : {S T : Type 0} (tells : Bool) (before after : Channel) (old new : TableState S) (justified : ℕ)
+    (r : Result T TableError) (came : TableError) → IsErrAnd r (λ e. e ≡ came)
+    → StepsOrRefutes tells before after old new justified (Some came) → StepsOrRefutes tells before after old new justified (error_of r)
+refutes_handed tells before after old new justified r came is steps = subst
+    (λ (error : Option TableError). StepsOrRefutes tells before after old new justified error) (sym (error_handed r came is)) steps
 
 -- unless a write failed, the call went on
 pub went_on : {S T : Type 0} (tells : Bool) (before after : Channel) (old new : TableState S) (r : Result T TableError)
@@ -50,7 +56,7 @@ pub after_all : {S T : Type 0} (tells : Bool) (before after : Channel) (old new 
 after_all tells before after old new justified (Ok x) failed steps = steps
 after_all tells before after old new justified (Err e) failed steps =
     subst (λ (error : TableError). Steps tells before after old new justified (Some error)) (turned e failed)
-    (record { leaves = steps.leaves; extends = steps.extends; adds = steps.adds })
+    (record { leaves = steps.leaves; extends = steps.extends; adds = steps.adds; no_empty = steps.no_empty })
   where
     turned : (e : TableError) → e ≡ OutOfMemory → OutOfMemory ≡ e
     turned e is = cc

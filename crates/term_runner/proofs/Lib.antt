@@ -34,3 +34,5 @@ pub mod Few
 pub mod Paid
 pub mod Priced
 pub mod WidthExamples
+pub mod NoEmpty
+pub mod Due

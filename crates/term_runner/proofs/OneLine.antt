@@ -288,6 +288,12 @@ module _ {S : Type 0} (unused : Unused) (appended : Appended) (none_above : None
           written = written_of formula.clauses tells after new.state proof t;
           used = omega (arith, limit, opened.limit, same);
           at_once = λ _. omega (arith, limit, opened.limit, top_at_start);
+          unrefuted = λ id above empty. omega (
+            arith,
+            above,
+            top_at_start,
+            (opened.proof.numbers id [] (sym (ap (λ (s : State). clause_at s.live id) (refused_at_limit is)) ∙ empty)).1,
+          );
         });
     fault = λ is. added.fault (torn_of result is);
     unfailed = λ whole. added.unfailed (whole_of result whole);

@@ -1,7 +1,7 @@
 -- From an opened ledger to the end of the moves.
 use Rattle.std.proofs.Common.{◌≡◌, ◌≢◌, ℕ, zero, suc, ◌+◌, ◌<◌, ◌≤◌, ◌⊎◌, Bool, true, false, ℤ, List, [], length, Option, None, Some}
 use Rattle.std.proofs.Common.{Result, Ok, Err, refl, sym, ap, ◌∙◌, subst, arith, inl, inr}
-use Rattle.std.specs.Prelude.{IsTrue, IsFalse, IsSome, IfOk, MatchOption, slice_index_or}
+use Rattle.std.specs.Prelude.{IsTrue, IsFalse, IsSome, IfErr, IfOk, MatchOption, slice_index_or}
 use Rattle.std.specs.List.{list_all, list_any}
 use Rattle.std.specs.FinMap as map
 use Rattle.std.proofs.lemmas.Bool.{cases_lt}
@@ -19,7 +19,7 @@ use Rattle.node_table.specs.declared.error.TableError.{TableError}
 use Rattle.node_table.specs.declared.error.TableError.TheVariants.{NodeLimit, IdLimit, OutOfMemory, WriteFault}
 use Rattle.node_table.specs.Diagram.{Graph, levels}
 use Rattle.node_table.specs.Tied.{IsTied, AreRetired}
-use Rattle.node_table.specs.Table.{TableState, live_nodes}
+use Rattle.node_table.specs.Table.{TableState, AddsNoEmpty, live_nodes}
 use Rattle.node_table.specs.Progress.{Continues, BreaksOff, Leaves, error_of, number_limit}
 use Rattle.node_table.specs.Laws.{Canonical}
 use Rattle.cnf_base.specs.Order.{IsOrder}
@@ -143,6 +143,7 @@ pub record Decided {S : Type 0} (tells : Bool) (before after : Channel) (formula
   pub paid : (width price : ℕ) → HasWidth formula order moves width → IsMovePrice (levels old.graph) size width price
       → LeavesKind tells before after old new (IsPaid (levels old.graph) old.inputs (length moves) size width price) (error_of result)
   pub lean : IfOk result (λ found. IsSome found → IsLeanAtEnd (levels old.graph) old.inputs size new.book.state)
+  pub no_empty : IfErr result (λ e. e ≢ WriteFault → AddsNoEmpty old new)
   pub few : live_nodes new.graph ≤ new.max_nodes
 
 either : (result : Result (Option (List Bool)) TableError) (X : Type 0) → (result ≢ Err WriteFault → X) → (result ≡ Err WriteFault → X) → X
@@ -274,6 +275,15 @@ module _ {S : Type 0} (canonical : Canonical) (unsatisfied : DerivedEmpty) (refu
       subst (λ (vars : ℕ). IsLeanAtEnd vars (length formula.clauses) limits.cache new.book.state) ready.vars
       (subst (λ (count : ℕ). IsLeanAtEnd (levels old.graph) count limits.cache new.book.state) same_inputs own)
 
+  -- a refusal leaves the formula unrefuted
+  unrefuted : (error : TableError) → result ≡ Err error → error ≢ WriteFault → (id : ℕ) → length formula.clauses < id
+      → clause_at new.book.state.live id ≢ Some []
+  unrefuted error is other id above empty =
+      let none = subst (λ (r : Result (Option (List Bool)) TableError). IfErr r (λ e. e ≢ WriteFault → AddsNoEmpty old new)) is
+      decided.no_empty other in
+      let was = none.each id empty in
+      omega (arith, (opened.proof.numbers id [] was).1, top_at_start, above)
+
   not_torn : (other : Result (Option (List Bool)) TableError) → result ≡ other → other ≢ Err WriteFault → result ≢ Err WriteFault
   not_torn other is differs e = differs (sym is ∙ e)
 
@@ -317,6 +327,7 @@ module _ {S : Type 0} (canonical : Canonical) (unsatisfied : DerivedEmpty) (refu
         state = new.book.state;
         written = written_of formula.clauses tells after new.book.state (proof_new whole) t;
         used = omega (arith, used whole, at_node_limit is, decided.few, (grown whole).max_nodes, few_nodes);
+        unrefuted = unrefuted NodeLimit is (λ e. cc);
       })
       (λ is.
       let whole = not_torn (Err IdLimit) is (λ e. cc) in
@@ -326,6 +337,7 @@ module _ {S : Type 0} (canonical : Canonical) (unsatisfied : DerivedEmpty) (refu
         written = written_of formula.clauses tells after new.book.state (proof_new whole) t;
         used = omega (arith, at_id_limit is, (grown whole).limit, opened.limit);
         at_once = λ has. absurd (has_none has);
+        unrefuted = unrefuted IdLimit is (λ e. cc);
       })
 
   pub decided_leads : Leads tells before after formula order moves limits new.book (outcome_of result)

@@ -1,15 +1,19 @@
 -- A run between two moves: the table is ready, and its stack holds the plan's terms.
-use Rattle.std.specs.Prelude.{◌≡◌, ◌≢◌, ◌⊎◌, ◌<◌, ◌+◌, ℕ, List, [], ◌∷◌, length, Some, Contains, IsTrue, IsFalse, reverse, slice_index_or}
+use Rattle.std.specs.Prelude.{◌≡◌, ◌≢◌, ◌⊎◌, ◌<◌, ◌+◌, ℕ, Bool, true, List, [], ◌∷◌, length, Some, Result, Ok, Err, Contains, IsTrue}
+use Rattle.std.specs.Prelude.{IsFalse}
+use Rattle.std.specs.Prelude.{reverse, slice_index_or}
 use Rattle.cnf_base.specs.Truth.{Assignment}
 use Rattle.cnf_base.specs.Formula.{Formula}
 use Rattle.lrat_rules.specs.State.{Live, clause_at}
+use Rattle.node_table.specs.declared.error.TableError.{TableError}
+use Rattle.node_table.specs.declared.error.TableError.TheVariants.{WriteFault}
 use Rattle.node_table.specs.declared.node.Node.{Node}
 use Rattle.node_table.specs.declared.node.Node.TheVariants.{False, True}
 use Rattle.node_table.specs.declared.node.Just.{Just}
 use Rattle.node_table.specs.declared.node.Just.TheVariants.{Clause}
 use Rattle.node_table.specs.Diagram.{Graph, is_node, levels}
 use Rattle.node_table.specs.Value.{by_level, value_of}
-use Rattle.node_table.specs.Table.{TableState, IsAddedTo, IsSound}
+use Rattle.node_table.specs.Table.{TableState, AddsNoEmpty, IsAddedTo, IsSound}
 use Rattle.operations.specs.Entries.{Entry, Fits, IsAccounted, NamesOnly, RetiresOwn}
 use Rattle.clause_terms.specs.Term.{IsTerm}
 use Rattle.schedule_plan.specs.Plan.{Stage, Term, term_holds}
@@ -89,6 +93,10 @@ pub record GivesUnit {S : Type 0} (old new : TableState S) (before after : List 
   pub added : (id : ℕ) → old.book.state.top < id → IsAddedTo new id → IsAccounted new after id ⊎ (unit ≡ Clause id)
   pub given : (id : ℕ) → unit ≡ Clause id → IsUnitOf operands id ⊎ ((old.book.state.top < id) × IsAddedTo new id)
   pub own : (id : ℕ) → unit ≡ Clause id → IsAccounted new after id → ⊥
+
+-- Unless a write failed, and where the move doesn't refute the formula, no empty clause came.
+abbrev pub IsUnrefuted : {S : Type 0} → TableState S → TableState S → Result Bool TableError → Type 0
+IsUnrefuted old new result = result ≢ Err WriteFault → result ≢ Ok true → AddsNoEmpty old new
 
 -- A unit is retired, unless it is the one that is kept, and nothing else.
 pub record RetiresBut {S : Type 0} (old new : TableState S) (unit kept : Just) : Type 0 where

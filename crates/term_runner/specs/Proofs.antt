@@ -1,10 +1,10 @@
 -- What the bytes of a proof show: that they are exactly the lines of good steps within the limits, that they refute the
 -- formula, or that a limit is reached.
-use Rattle.std.specs.Prelude.{◌≡◌, ◌⊎◌, ◌<◌, ◌≤◌, ◌+◌, ℕ, ℤ, max, List, length, IsTrue, IsFalse}
+use Rattle.std.specs.Prelude.{◌≡◌, ◌≢◌, ◌⊎◌, ◌<◌, ◌≤◌, ◌+◌, ℕ, ℤ, max, List, [], Some, length, IsTrue, IsFalse}
 use Rattle.std.specs.List.{list_all}
 use Rattle.cnf_base.specs.Truth.{Assignment, Satisfies}
 use Rattle.cnf_base.specs.Formula.{Formula}
-use Rattle.lrat_rules.specs.State.{State}
+use Rattle.lrat_rules.specs.State.{State, clause_at}
 use Rattle.lrat_rules.specs.Run.{Refutes}
 use Rattle.lrat_rules.specs.Derivation.{IsWritten, IsCutProof}
 use Rattle.lrat_rules.specs.Marks.{IsWithin, in_use}
@@ -58,20 +58,26 @@ pub record Refutation (clauses : List (List ℤ)) (bytes : List ℕ) : Type 0 wh
   pub refutes : Refutes clauses bytes
   pub at_once : IsTrue (has_empty_clause clauses) → bytes ≡ one_line clauses
 
+-- no refutation yet: no empty clause stands beside those of the formula
+abbrev pub IsUnfinished : List (List ℤ) → State → Type 0
+IsUnfinished clauses state = (id : ℕ) → length clauses < id → clause_at state.live id ≢ Some []
+
 -- The formula has no empty clause and some clause that is no tautology, and the extension variables in use in the
--- proof are as many as the nodes allowed.
+-- proof are as many as the nodes allowed. No refutation stands there yet.
 pub record NodesAreUsed (formula : Formula) (max_nodes : ℕ) (bytes : List ℕ) : Type 0 where
   pub none_empty : IsFalse (has_empty_clause formula.clauses)
   pub some_open : IsFalse (list_all is_tautology formula.clauses)
   pub state : State
   pub written : IsWritten formula.clauses bytes state
   pub used : in_use formula.vars state ≡ max_nodes
+  pub unrefuted : IsUnfinished formula.clauses state
 
 -- The formula has some clause that is no tautology, and the proof's greatest number is less than four below the
--- greatest number allowed; where a clause is empty, the formula's own numbers reach that already.
+-- greatest number allowed; where a clause is empty, the formula's own numbers reach that already. No refutation stands there yet.
 pub record NumbersAreUsed (formula : Formula) (max_ids : ℕ) (bytes : List ℕ) : Type 0 where
   pub some_open : IsFalse (list_all is_tautology formula.clauses)
   pub state : State
   pub written : IsWritten formula.clauses bytes state
   pub used : max_ids < state.top + 4
   pub at_once : IsTrue (has_empty_clause formula.clauses) → max_ids ≤ length formula.clauses
+  pub unrefuted : IsUnfinished formula.clauses state

@@ -1,11 +1,11 @@
 -- How many nodes a run keeps: between two moves fewer than a thousand, or fewer than twice those that the last reclamation
 -- left, which its terms reached.
-use Rattle.std.specs.Prelude.{◌≡◌, ◌⊎◌, ◌<◌, ◌++◌, ◌*◌, ℕ, List, Contains, Some, IsTrue, map}
+use Rattle.std.specs.Prelude.{◌≡◌, ◌⊎◌, ◌<◌, ◌≤◌, ◌++◌, ◌*◌, ℕ, Bool, List, Contains, Some, IsTrue, map}
 use Rattle.cnf_base.specs.Formula.{Formula}
 use Rattle.lrat_rules.specs.State.{Live}
 use Rattle.node_table.specs.declared.node.Node.{Node}
 use Rattle.node_table.specs.declared.node.Branch.{Branch}
-use Rattle.node_table.specs.Diagram.{Graph, IsReduced, branch_at, is_node}
+use Rattle.node_table.specs.Diagram.{Graph, IsReduced, KeepsNodes, branch_at, is_node}
 use Rattle.node_table.specs.Made.{inner}
 use Rattle.node_table.specs.Marks.{IsReached}
 use Rattle.node_table.specs.Table.{live_nodes}
@@ -13,6 +13,7 @@ use Rattle.node_table.specs.Value.{Levels, value_of}
 use Rattle.schedule_plan.specs.Plan.{Stage}
 use Rattle.term_runner.specs.declared.held.HeldTerm.{HeldTerm}
 use Rattle.term_runner.specs.Held.{IsAt}
+use Rattle.term_runner.specs.Nodes.{KeepsOrMakes}
 
 -- so few nodes that none are given back
 abbrev pub IsTidy : ℕ → ℕ → Type 0
@@ -21,6 +22,18 @@ IsTidy live left = (live < 1000) ⊎ (live < 2 * left)
 -- the nodes of the stacked terms, and those on the trail
 abbrev pub held_nodes : List HeldTerm → List (ℕ × Node) → List Node
 held_nodes stack trail = map (λ held. held.node) stack ++ map (λ kept. kept.1) trail
+
+-- A reclamation was due: of the nodes that there were, and those that a move makes, the limit of nodes was met, or they were
+-- not few any more.
+pub record WasDue (old : Graph) (function : Levels → Bool) (max_nodes left : ℕ) : Type 0 where
+  pub graph : Graph
+  pub reduced : IsReduced graph
+  pub made : KeepsOrMakes old graph function
+  pub many : (max_nodes ≤ live_nodes graph) ⊎ (IsTidy (live_nodes graph) left → ⊥)
+
+-- nothing was given back, or it was due
+abbrev pub IsByRule : Graph → Graph → (Levels → Bool) → ℕ → ℕ → ℕ → Type 0
+IsByRule old new function max_nodes before after = (KeepsNodes old new × (after ≡ before)) ⊎ WasDue old function max_nodes before
 
 -- Only nodes are left that the roots reach, as they were, with their functions.
 pub record LeavesReached (old new : Graph) (roots : List Node) : Type 0 where

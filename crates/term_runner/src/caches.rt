@@ -20,9 +20,8 @@ use cnf_base::OutOfMemory;
 use host_io::Sink;
 use imply::{ImplyCache, implies};
 use node_table::{Just, Marks, Node, Table, TableError, steps_law};
-use operations::{entry_law, purge_law};
+use operations::{Purge, entry_law, purge_law};
 use quantify::{ExistsCache, OrCache, exists};
-use reclaim::Purge;
 use std::alloc::Global;
 
 /// The caches of conjunctions, implications, quantifications and disjunctions.
@@ -131,7 +130,6 @@ impl Caches {
     ) -> Result<Node, TableError>
         requires sound { IsSound table.old }
         requires stands { IsTrue (is_node table.old.graph u) }
-        requires level { level < levels table.old.graph }
         requires fits { Fits table.old (all_entries self.old) }
         ensures quantified { IfOk result (λ w. Quantified table.new.graph u level w) }
         ensures steps { Steps S.tells (S.channel table.old.book.sink) (S.channel table.new.book.sink) table.old table.new 0

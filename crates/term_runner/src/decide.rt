@@ -1,12 +1,14 @@
 // From the moves of a plan to what was found.
-ghost use Rattle.std.specs.Prelude.{◌≡◌, ◌⊎◌, ◌≤◌, ◌+◌, ◌*◌, ℕ, [], Ok, Err, None, Some, IsTrue, IsFalse, IfOk, IsSome, MatchOption};
+ghost use Rattle.std.specs.Prelude.{◌≡◌, ◌≢◌, ◌⊎◌, ◌≤◌, ◌+◌, ◌*◌, ℕ, [], Ok, Err, None, Some, IsTrue, IsFalse, IfOk, IfErr, IsSome};
+ghost use Rattle.std.specs.Prelude.{MatchOption};
 ghost use Rattle.std.specs.Prelude.{length, reverse};
 ghost use Rattle.std.specs.List.{list_all};
 ghost use Rattle.std.specs.FinMap as map;
 ghost use Rattle.lrat_rules.specs.State.{clause_at};
-ghost use Rattle.node_table.specs.declared.error.TableError.TheVariants.{NodeLimit, IdLimit};
+ghost use Rattle.node_table.specs.declared.error.TableError.TheVariants.{NodeLimit, IdLimit, WriteFault};
 ghost use Rattle.node_table.specs.Diagram.{levels};
 ghost use Rattle.node_table.specs.Progress.{Leaves, error_of};
+ghost use Rattle.node_table.specs.Table.{AddsNoEmpty};
 ghost use Rattle.schedule_plan.specs.Plan.{IsAdmissible};
 ghost use Rattle.term_runner.specs.Caches.{HaveSize, all_entries};
 ghost use Rattle.term_runner.specs.Clauses.{is_tautology};
@@ -66,6 +68,8 @@ pub fn decide<S: Sink + Drop>(
         (levels table.old.graph) table.old.inputs capacity table.new.book.state) }
     // A node that is wanted is refused for want of room.
     ensures short { result ≡ Err NodeLimit → RunsShort formula.now table.old.graph.order plan.now table.new.graph }
+    // A refusal leaves the formula unrefuted.
+    ensures no_empty { IfErr result (λ e. e ≢ WriteFault → AddsNoEmpty table.old table.new) }
     ensures counted { progress.new.moves ≤ length plan.now }
     ensures beside { S.beside table.new.book.sink ≡ S.beside table.old.book.sink }
 {
@@ -110,6 +114,8 @@ fn take_moves<S: Sink + Drop>(
     ensures lean { IfOk result (λ found. IsSome found → IsLeanAtEnd
         (levels table.old.graph) table.old.inputs capacity table.new.book.state) }
     ensures short { result ≡ Err NodeLimit → RunsShort formula.now table.old.graph.order plan.now table.new.graph }
+    // A refusal leaves the formula unrefuted.
+    ensures no_empty { IfErr result (λ e. e ≢ WriteFault → AddsNoEmpty table.old table.new) }
     ensures counted { progress.new.moves ≤ length plan.now }
     ensures beside { S.beside table.new.book.sink ≡ S.beside table.old.book.sink }
 {

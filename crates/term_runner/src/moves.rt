@@ -7,7 +7,7 @@ ghost use Rattle.node_table.specs.declared.error.TableError.TheVariants.{NodeLim
 ghost use Rattle.node_table.specs.Diagram.{KeepsNodes, levels};
 ghost use Rattle.node_table.specs.Table.{AddsAtMost, IsSound, UnlessTorn};
 ghost use Rattle.node_table.specs.Made.{LacksPart, MakesOnly};
-ghost use Rattle.node_table.specs.Progress.{Leaves, Steps, error_of};
+ghost use Rattle.node_table.specs.Progress.{Leaves, Steps, StepsOrRefutes, error_of};
 ghost use Rattle.cnf_base.specs.Formula.{Formula};
 ghost use Rattle.operations.specs.Budget.{most_additions};
 ghost use Rattle.operations.specs.Entries.{Entry, Fits};
@@ -15,7 +15,7 @@ ghost use Rattle.schedule_plan.specs.Plan.{Stage, Term as TermValue, after_move,
 ghost use Rattle.term_runner.specs.Caches.{HaveRoom, all_entries, sizes};
 ghost use Rattle.term_runner.specs.Width.{HasAtMost, HoldsAtMost, term_function, top_function};
 ghost use Rattle.term_runner.specs.Nodes.{KeepsOrMakes};
-ghost use Rattle.term_runner.specs.Held.{AreHeld, IsAt, IsReady, HasUnits};
+ghost use Rattle.term_runner.specs.Held.{AreHeld, IsAt, IsReady, IsUnrefuted, HasUnits};
 
 use crate::caches::Caches;
 use crate::held::{HeldTerm, last_two, put, replace_two};
@@ -61,6 +61,7 @@ pub fn try_move<S: Sink + Drop>(
     ensures leaves { Leaves S.tells (S.channel table.old.book.sink) (S.channel table.new.book.sink) table.old table.new (error_of result) }
     // However it ends, nodes stay, and the new clauses are those of new nodes and no more beside them than this, or, where the
     // caches have room for all pairs of parts in hand, than two for each of these.
+    ensures no_empty { IsUnrefuted table.old table.new result }
     ensures nodes { KeepsNodes table.old.graph table.new.graph }
     ensures adds { AddsAtMost (most_additions (levels table.old.graph) + 1) table.old table.new }
     ensures pairs { (stage next : Stage) → IsAt formula.now table.old.graph table.old.book.state.live stack.old.items trail.old stage
@@ -126,6 +127,7 @@ fn carry_out<S: Sink + Drop>(
     ensures at_again { (stage : Stage) → IsAt formula.now table.old.graph table.old.book.state.live stack.old.items trail.old stage
         → result ≡ Err NodeLimit → IsAt formula.now table.new.graph table.new.book.state.live stack.new.items trail.new stage }
     ensures leaves { Leaves S.tells (S.channel table.old.book.sink) (S.channel table.new.book.sink) table.old table.new (error_of result) }
+    ensures no_empty { IsUnrefuted table.old table.new result }
     ensures nodes { KeepsNodes table.old.graph table.new.graph }
     ensures adds { AddsAtMost (most_additions (levels table.old.graph) + 1) table.old table.new }
     ensures pairs { (stage next : Stage) → IsAt formula.now table.old.graph table.old.book.state.live stack.old.items trail.old stage
@@ -203,8 +205,9 @@ fn conjoin<S: Sink + Drop>(
     ensures unchanged { IsErr result → stack.new.items ≡ stack.old.items }
     ensures again { result ≡ Err NodeLimit → HasUnits table.new (all_entries caches.new) (reverse stack.new.items) }
     ensures own { IfOk result (λ refuted. refuted ≡ false → HasUnits table.new (all_entries caches.new) (reverse stack.new.items)) }
-    ensures steps { Steps S.tells (S.channel table.old.book.sink) (S.channel table.new.book.sink) table.old table.new
+    ensures steps { StepsOrRefutes S.tells (S.channel table.old.book.sink) (S.channel table.new.book.sink) table.old table.new
         (most_additions (levels table.old.graph) + 1) (error_of result) }
+    ensures no_empty { IsUnrefuted table.old table.new result }
     ensures fits { UnlessTorn result (Fits table.new (all_entries caches.new)) }
     ensures made { (formula : Formula) (one other : TermValue) (terms : List TermValue)
         → AreHeld formula table.old.graph table.old.book.state.live (reverse stack.old.items) (other ∷ one ∷ terms)

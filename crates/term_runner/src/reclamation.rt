@@ -15,8 +15,8 @@ ghost use Rattle.term_runner.specs.Caches.{HaveSize, all_entries, sizes};
 ghost use Rattle.term_runner.specs.Price.{AddsFew, IsMovePrice};
 ghost use Rattle.term_runner.specs.Width.{HoldsAtMost, top_function};
 ghost use Rattle.term_runner.specs.Nodes.{KeepsOrMakes};
-ghost use Rattle.term_runner.specs.Held.{IsAt, IsReady, HasUnits};
-ghost use Rattle.term_runner.specs.Tidy.{IsTidy, LeavesReached, WereLeft, held_nodes};
+ghost use Rattle.term_runner.specs.Held.{IsAt, IsReady, IsUnrefuted, HasUnits};
+ghost use Rattle.term_runner.specs.Tidy.{IsByRule, IsTidy, LeavesReached, WereLeft, held_nodes};
 
 use crate::caches::Caches;
 use crate::held::HeldTerm;
@@ -83,6 +83,12 @@ pub fn take_move<S: Sink + Drop>(
         → HoldsAtMost formula.now table.old.graph.order stage next width
         → table.new.book.state.top ≤ table.old.book.state.top + price }
     ensures sizes { sizes caches.new ≡ sizes caches.old }
+    ensures no_empty { IsUnrefuted table.old table.new result }
+    // Nothing is given back but at the limit, or where there are many.
+    ensures rule { (stage next : Stage) → IsAt formula.now table.old.graph table.old.book.state.live stack.old.items trail.old stage
+        → after_move formula.now stage step ≡ Some next
+        → IsByRule table.old.graph table.new.graph (top_function formula.now table.old.graph.order next.stack)
+        table.old.max_nodes left.old left.new }
     ensures few { (stage next : Stage) → IsAt formula.now table.old.graph table.old.book.state.live stack.old.items trail.old stage
         → after_move formula.now stage step ≡ Some next
         → (width : ℕ) → HoldsAtMost formula.now table.old.graph.order stage next width
@@ -147,6 +153,12 @@ fn try_twice<S: Sink + Drop>(
         → HoldsAtMost formula.now table.old.graph.order stage next width
         → table.new.book.state.top ≤ table.old.book.state.top + price }
     ensures sizes { sizes caches.new ≡ sizes caches.old }
+    ensures no_empty { IsUnrefuted table.old table.new result }
+    // Nothing is given back but at the limit, or where there are many.
+    ensures rule { (stage next : Stage) → IsAt formula.now table.old.graph table.old.book.state.live stack.old.items trail.old stage
+        → after_move formula.now stage step ≡ Some next
+        → IsByRule table.old.graph table.new.graph (top_function formula.now table.old.graph.order next.stack)
+        table.old.max_nodes left.old left.new }
     ensures few { (stage next : Stage) → IsAt formula.now table.old.graph table.old.book.state.live stack.old.items trail.old stage
         → after_move formula.now stage step ≡ Some next
         → (width : ℕ) → HoldsAtMost formula.now table.old.graph.order stage next width

@@ -1,18 +1,18 @@
 // The unit of a conjunction of two terms, and that of a node that a term implies: an operand's own where it is that
 // operand, else a clause that follows from the operands' units and the clause of the conjunction or the implication. Then
 // the operands' units are needed no more.
-ghost use Rattle.std.specs.Prelude.{◌≡◌, ◌≢◌, ◌<◌, ◌+◌, ◌⊎◌, ◌↔◌, ℕ, ℤ, List, [], ◌∷◌, Err, None, Some, Contains, IsTrue, IfOk};
+ghost use Rattle.std.specs.Prelude.{◌≡◌, ◌≢◌, ◌<◌, ◌+◌, ◌⊎◌, ◌↔◌, ℕ, ℤ, List, [], ◌∷◌, Err, None, Some, Contains, IsTrue, IfOk, IfErr};
 ghost use Rattle.std.specs.Prelude.{MatchOption};
 ghost use Rattle.node_table.specs.declared.node.Node.TheVariants.{False, True};
 ghost use Rattle.node_table.specs.declared.node.Just.TheVariants.{Trivial, Clause};
 ghost use Rattle.lrat_rules.specs.Strict.{RefutesStrictly};
 ghost use Rattle.hint_chain.specs.Atoms.{clause_of};
-ghost use Rattle.node_table.specs.declared.error.TableError.TheVariants.{NodeLimit};
+ghost use Rattle.node_table.specs.declared.error.TableError.TheVariants.{NodeLimit, WriteFault};
 ghost use Rattle.node_table.specs.Defined.{atom_of};
 ghost use Rattle.node_table.specs.Diagram.{is_node};
 ghost use Rattle.node_table.specs.Just.{IsJustified};
-ghost use Rattle.node_table.specs.Table.{IsAddedTo, IsSound};
-ghost use Rattle.node_table.specs.Progress.{Steps, error_of};
+ghost use Rattle.node_table.specs.Table.{AddsNoEmpty, IsAddedTo, IsSound};
+ghost use Rattle.node_table.specs.Progress.{Steps, StepsOrRefutes, error_of};
 ghost use Rattle.operations.specs.Results.{Conjoined, Implied};
 ghost use Rattle.operations.specs.Entries.{IsNewJust};
 ghost use Rattle.term_runner.specs.Held.{RetiresBut};
@@ -52,7 +52,12 @@ pub fn unit_of<S: Sink + Drop>(
     ensures number { w ≢ u.now.node → w ≢ v.now.node → IfOk result (λ unit. (unit ≡ Clause (table.old.book.state.top + 1))
         × (table.new.book.state.top ≡ table.old.book.state.top + 1)) }
     ensures nodes { table.new.graph ≡ table.old.graph }
-    ensures steps { Steps S.tells (S.channel table.old.book.sink) (S.channel table.new.book.sink) table.old table.new 1 (error_of result) }
+    // The clause is empty where the node is False.
+    ensures steps { StepsOrRefutes S.tells (S.channel table.old.book.sink) (S.channel table.new.book.sink) table.old table.new 1
+        (error_of result) }
+    ensures some { w ≢ False → Steps S.tells (S.channel table.old.book.sink) (S.channel table.new.book.sink) table.old table.new 1
+        (error_of result) }
+    ensures refused { IfErr result (λ e. e ≢ WriteFault → AddsNoEmpty table.old table.new) }
     ensures retired { table.new.retired ≡ table.old.retired }
     ensures no_node_limit { result ≢ Err NodeLimit }
     ensures beside { S.beside table.new.book.sink ≡ S.beside table.old.book.sink }
@@ -191,7 +196,11 @@ fn add_unit<S: Sink + Drop>(table: &mut Table<S>, w: Node, hints: &[Id]) -> Resu
     ensures added { IfOk result (λ unit. (id : ℕ) → unit ≡ Clause id → IsAddedTo table.new id) }
     ensures alone { IfOk result (λ unit. (id : ℕ) → IsAddedTo table.new id → IsAddedTo table.old id ⊎ (unit ≡ Clause id)) }
     ensures nodes { table.new.graph ≡ table.old.graph }
-    ensures steps { Steps S.tells (S.channel table.old.book.sink) (S.channel table.new.book.sink) table.old table.new 1 (error_of result) }
+    ensures steps { StepsOrRefutes S.tells (S.channel table.old.book.sink) (S.channel table.new.book.sink) table.old table.new 1
+        (error_of result) }
+    ensures some { w ≢ False → Steps S.tells (S.channel table.old.book.sink) (S.channel table.new.book.sink) table.old table.new 1
+        (error_of result) }
+    ensures refused { IfErr result (λ e. e ≢ WriteFault → AddsNoEmpty table.old table.new) }
     ensures retired { table.new.retired ≡ table.old.retired }
     ensures no_node_limit { result ≢ Err NodeLimit }
     ensures beside { S.beside table.new.book.sink ≡ S.beside table.old.book.sink }

@@ -5,6 +5,7 @@ use Rattle.lrat_rules.specs.Chain.{literals_of}
 use Rattle.hint_chain.specs.declared.atom.Atom.{Atom}
 use Rattle.hint_chain.specs.Additions.{Justifies}
 use Rattle.node_table.specs.Just.{IsJustified}
+use Rattle.node_table.specs.Refused.{steps_handed_on}
 use Rattle.hint_chain.specs.Closing.{are_among, are_apart}
 use Rattle.hint_chain.specs.Greedy.{PartsClose}
 use Rattle.node_table.specs.Diagram.{variable_at}
@@ -106,3 +107,17 @@ returns-clause-added g c =
           ∙ ap (λ (l : ℤ). l ∷ c.args.clause.now) (c.negated.ensures ∙ ap neg_ℤ c.variable.ensures),
       ap (clause_at new.live) c.new.ensures.id ∙ at ∙ ap Some (sym same),
     )
+
+-- the variable's literal stands in front
+not_empty : (literal : ℤ) (rest clause : List ℤ) → clause ≡ literal ∷ rest → clause ≡ [] → ⊥
+not_empty literal rest clause is empty = cc
+
+pub returns-clause-steps : goal.returns-clause-steps
+returns-clause-steps g c =
+    c.in_ok-id.ensures.no_empty (not_empty c.negated.result c.args.clause.now _ (c.as_slice-2.ensures.literals ∙ c.behind-long.ensures))
+
+pub returns-in_err-id-clause-steps : goal.returns-in_err-id-clause-steps
+returns-in_err-id-clause-steps g c =
+    steps_handed_on _ c.in_err-id.field-0.0 c.from_residual.ensures.1
+    (c.in_err-id.ensures.no_empty (not_empty c.negated.result c.args.clause.now _
+    (c.as_slice-2.ensures.literals ∙ c.behind-long.ensures)))

@@ -6,6 +6,7 @@ use Rattle.lrat_rules.specs.Strict.{RefutesStrictly}
 use Rattle.clause_ledger.specs.Book.{with_next}
 use Rattle.hint_chain.specs.declared.atom.Atom.{Atom}
 use Rattle.hint_chain.specs.Additions.{Justifies}
+use Rattle.hint_chain.specs.Atoms.{neg_atom}
 use Rattle.node_table.specs.Just.{IsJustified}
 use Rattle.hint_chain.specs.Closing.{are_among}
 use Rattle.lrat_rules.specs.Soundness.{is_nonzero}
@@ -100,3 +101,11 @@ returns-clause-added g c =
       | Ok id ↦ λ is. c.high_clause_law.ensures.added old new id clause is
       | Err error ↦ λ is. tt
     ] c.justify.ensures.added
+
+pub returns-clause-steps : goal.returns-clause-steps
+returns-clause-steps g c =
+    let graph = c.args.table.now.graph in
+    let o = c.args.operands.now in
+    c.justify.ensures.no_empty
+    (λ is. c.literal_law.ensures.some graph o.u (neg_atom (atom_of graph o.v) ∷ atom_of graph c.args.w ∷ []) c.requires.split.first
+    (c.requires.clause ∙ ap Some is))

@@ -6,7 +6,8 @@ use Rattle.node_table.specs.Diagram.{branch_of}
 use Rattle.node_table.specs.Tied.{IsTied}
 use Rattle.clause_terms.specs.ClauseDiagram.{IsDiagramOf, part_of}
 use Rattle.clause_terms.proofs.AddedLiteral.{added, reverse_more}
-use Rattle.clause_terms.proofs.Handed.{steps_handed_on, steps_kept}
+use Rattle.node_table.specs.Refused.{steps_handed_on}
+use Rattle.clause_terms.proofs.Handed.{steps_kept}
 use Rattle.node_table.specs.HandedOn.{no_error, came_from, no_answer, other_cause}
 use Rattle.node_table.specs.Refused.{memory_not_nodes}
 use Rattle.clause_terms.proofs.step.add_literal.Goals as goal

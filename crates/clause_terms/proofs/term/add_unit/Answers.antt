@@ -1,7 +1,9 @@
 -- What is left to show of `add_unit`.
 use Rattle.std.proofs.Common.{arith}
 use Rattle.node_table.specs.declared.error.TableError.TheVariants.{OutOfMemory}
-use Rattle.clause_terms.proofs.Handed.{steps_handed_on}
+use Rattle.node_table.specs.HandedOn.{if_handed}
+use Rattle.node_table.specs.Refused.{steps_handed_on}
+use Rattle.clause_terms.proofs.Handed.{adds_none}
 use Rattle.clause_terms.proofs.term.add_unit.Goals as goal
 
 pub returns-in_err-hints-clause-steps : goal.returns-in_err-hints-clause-steps
@@ -17,10 +19,16 @@ pub returns-clause-no_node_limit : goal.returns-clause-no_node_limit
 returns-clause-no_node_limit g c = c.justify.ensures.no_node_limit
 
 pub returns-clause-steps : goal.returns-clause-steps
-returns-clause-steps g c = c.justify.ensures.steps
+returns-clause-steps g c = c.justify.ensures.no_empty (λ is. cc)
 
 pub returns-clause-beside : goal.returns-clause-beside
 returns-clause-beside g c = c.justify.ensures.beside
 
 pub returns-clause-own : goal.returns-clause-own
 returns-clause-own g c = c.justify.ensures.own
+
+pub returns-in_err-hints-clause-none_added : goal.returns-in_err-hints-clause-none_added
+returns-in_err-hints-clause-none_added g c = if_handed _ OutOfMemory _ c.from_residual.ensures.1 (λ whole id own. own)
+
+pub returns-clause-none_added : goal.returns-clause-none_added
+returns-clause-none_added g c = adds_none c.args.table.now c.justify.new.self c.justify.result c.justify.ensures.refused

@@ -5,7 +5,7 @@ use Rattle.node_table.specs.declared.error.TableError.TheVariants.{NodeLimit, Wr
 use Rattle.clause_terms.specs.Placed.{placed_function}
 use Rattle.node_table.specs.HandedOn.{no_error, came_from, no_answer, other_cause}
 use Rattle.clause_terms.proofs.ClauseParts.{later_part}
-use Rattle.clause_terms.proofs.Handed.{steps_handed_on}
+use Rattle.node_table.specs.Refused.{steps_handed_on}
 use Rattle.clause_terms.proofs.LackedPart.{lacked_whole}
 use Rattle.clause_terms.proofs.term.build.Goals as goal
 

@@ -4,8 +4,7 @@ use Rattle.std.proofs.Common.{arith}
 use Rattle.std.proofs.lemmas.Bool.{cases_lt}
 use Rattle.lrat_rules.specs.State.{clause_at}
 use Rattle.hint_chain.specs.declared.unit.UnitPart.{UnitPart}
-use Rattle.node_table.specs.declared.error.TableError.{TableError}
-use Rattle.node_table.specs.declared.error.TableError.TheVariants.{NodeLimit, OutOfMemory, WriteFault}
+use Rattle.node_table.specs.declared.error.TableError.TheVariants.{NodeLimit, OutOfMemory}
 use Rattle.node_table.specs.declared.node.Just.TheVariants.{Trivial, Clause}
 use Rattle.node_table.specs.Defined.{atom_of}
 use Rattle.node_table.specs.Diagram.{Graph}
@@ -18,10 +17,9 @@ use Rattle.clause_terms.specs.Term.{clause_function, IsTerm, HasUnitPath}
 use Rattle.clause_terms.proofs.Ordered.{no_tautology, same_function}
 use Rattle.clause_terms.proofs.MadeNodes.{by_values}
 use Rattle.clause_terms.proofs.ClauseTerm.{still_in_order, unit_path, clause_term, true_term}
-use Rattle.node_table.specs.HandedOn.{no_error, came_from, no_answer, same_error}
-use Rattle.clause_terms.proofs.Handed.{steps_handed_on}
+use Rattle.node_table.specs.HandedOn.{no_error, came_from, if_handed, no_answer, same_error}
 use Rattle.clause_terms.proofs.LackedPart.{lacked_by_values}
-use Rattle.node_table.specs.Refused.{memory_not_nodes}
+use Rattle.node_table.specs.Refused.{memory_not_nodes, steps_handed_on}
 use Rattle.clause_terms.proofs.term.push_clause.Goals as goal
 
 same_clause : (id other : ℕ) → Clause id ≡ Clause other → id ≡ other
@@ -33,10 +31,6 @@ some_clause (Some clause) is = (clause, refl)
 
 no_clause : (id : ℕ) → Trivial ≡ Clause id → ⊥
 no_clause id is = cc
-
--- the limit of nodes is no failed write
-no_fault : ◌≡◌ {A = TableError} NodeLimit WriteFault → ⊥
-no_fault is = cc
 
 pub returns-then-has_opposites-clause-term : goal.returns-then-has_opposites-clause-term
 returns-then-has_opposites-clause-term g c =
@@ -251,17 +245,11 @@ returns-clause-alone g c id added =
           (c.steps_law.ensures.was_added mid new c.in_ok-id.ensures.steps.extends id within added))
     ]
 
-pub returns-clause-none_added : goal.returns-clause-none_added
-returns-clause-none_added g c is = absurd (no_error is)
-
 pub returns-then-has_opposites-clause-own : goal.returns-then-has_opposites-clause-own
 returns-then-has_opposites-clause-own g c id is = absurd (no_clause id is)
 
 pub returns-then-has_opposites-clause-alone : goal.returns-then-has_opposites-clause-alone
 returns-then-has_opposites-clause-alone g c id added = inl added
-
-pub returns-then-has_opposites-clause-none_added : goal.returns-then-has_opposites-clause-none_added
-returns-then-has_opposites-clause-none_added g c is = absurd (no_error is)
 
 pub returns-in_err-placed-clause-own : goal.returns-in_err-placed-clause-own
 returns-in_err-placed-clause-own g c = no_answer _ OutOfMemory _ c.from_residual.ensures.1
@@ -270,7 +258,7 @@ pub returns-in_err-placed-clause-alone : goal.returns-in_err-placed-clause-alone
 returns-in_err-placed-clause-alone g c = no_answer _ OutOfMemory _ c.from_residual.ensures.1
 
 pub returns-in_err-placed-clause-none_added : goal.returns-in_err-placed-clause-none_added
-returns-in_err-placed-clause-none_added g c is id own = own
+returns-in_err-placed-clause-none_added g c = if_handed _ OutOfMemory _ c.from_residual.ensures.1 (λ whole id own. own)
 
 pub returns-in_err-node-clause-own : goal.returns-in_err-node-clause-own
 returns-in_err-node-clause-own g c = no_answer _ c.in_err-node.field-0.0 _ c.from_residual-in_err-node.ensures.1
@@ -279,9 +267,8 @@ pub returns-in_err-node-clause-alone : goal.returns-in_err-node-clause-alone
 returns-in_err-node-clause-alone g c = no_answer _ c.in_err-node.field-0.0 _ c.from_residual-in_err-node.ensures.1
 
 pub returns-in_err-node-clause-none_added : goal.returns-in_err-node-clause-none_added
-returns-in_err-node-clause-none_added g c is =
-    c.in_err-node.ensures.none_added
-    (λ torn. no_fault (sym (came_from _ c.in_err-node.field-0.0 NodeLimit c.from_residual-in_err-node.ensures.1 is) ∙ same_error torn))
+returns-in_err-node-clause-none_added g c = if_handed _ c.in_err-node.field-0.0 _ c.from_residual-in_err-node.ensures.1
+    (λ whole. c.in_err-node.ensures.none_added (λ torn. whole (same_error torn)))
 
 pub returns-in_err-id-clause-own : goal.returns-in_err-id-clause-own
 returns-in_err-id-clause-own g c = no_answer _ c.in_err-id.field-0.0 _ c.from_residual-in_err-id.ensures.1
@@ -290,5 +277,5 @@ pub returns-in_err-id-clause-alone : goal.returns-in_err-id-clause-alone
 returns-in_err-id-clause-alone g c = no_answer _ c.in_err-id.field-0.0 _ c.from_residual-in_err-id.ensures.1
 
 pub returns-in_err-id-clause-none_added : goal.returns-in_err-id-clause-none_added
-returns-in_err-id-clause-none_added g c is = absurd (c.in_err-id.ensures.no_node_limit
-    (ap Err (came_from _ c.in_err-id.field-0.0 NodeLimit c.from_residual-in_err-id.ensures.1 is)))
+returns-in_err-id-clause-none_added g c = if_handed _ c.in_err-id.field-0.0 _ c.from_residual-in_err-id.ensures.1
+    (λ whole id own. c.in_ok-node.ensures.none_added no_error id (c.in_err-id.ensures.none_added whole id own))

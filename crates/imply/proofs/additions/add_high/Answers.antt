@@ -1,5 +1,5 @@
 -- The hints of the high addition close, and its clause is over the nodes.
-use Rattle.std.proofs.Common.{◌≡◌, ◌∙◌, pos, neg_ℤ, ℕ, List, [], ◌∷◌, ℤ, ap, sym, subst, Some}
+use Rattle.std.proofs.Common.{◌≡◌, ◌∙◌, pos, neg_ℤ, ℕ, List, [], ◌∷◌, ℤ, Err, ap, sym, subst, Some}
 use Rattle.lrat_rules.specs.Strict.{RefutesStrictly}
 use Rattle.lrat_rules.specs.Chain.{literals_of}
 use Rattle.lrat_rules.specs.State.{clause_at}
@@ -14,6 +14,9 @@ use Rattle.imply.proofs.ImplicationClauses.{high_apart, high_over, high_clause}
 use Rattle.node_table.specs.Just.{IsJustified}
 use Rattle.hint_chain.specs.Additions.{Justifies}
 use Rattle.hint_chain.specs.declared.atom.Atom.{Atom}
+use Rattle.node_table.specs.declared.error.TableError.TheVariants.{IdLimit}
+use Rattle.node_table.specs.HandedOn.{came_from}
+use Rattle.node_table.specs.Refused.{steps_handed_on, used_up}
 use Rattle.imply.proofs.additions.add_high.Goals as goal
 
 pub imply_high-hints-requires-clause-close : goal.imply_high-hints-requires-clause-close
@@ -88,13 +91,33 @@ returns-clause-clause g c =
       ap (clause_at new.live) c.new.ensures.id ∙ at ∙ ap Some (sym same),
     )
 
+-- the variable's literal stands in front
+not_empty : (literal : ℤ) (rest clause : List ℤ) → clause ≡ literal ∷ rest → clause ≡ [] → ⊥
+not_empty literal rest clause is empty = cc
+
+pub returns-clause-steps : goal.returns-clause-steps
+returns-clause-steps g c =
+    c.in_ok-id.ensures.no_empty (not_empty c.negated.result c.args.clause.now _ (c.as_slice-2.ensures.literals ∙ c.behind-long.ensures))
+
+pub returns-in_err-id-clause-steps : goal.returns-in_err-id-clause-steps
+returns-in_err-id-clause-steps g c =
+    steps_handed_on _ c.in_err-id.field-0.0 c.from_residual.ensures.1
+    (c.in_err-id.ensures.no_empty (not_empty c.negated.result c.args.clause.now _
+    (c.as_slice-2.ensures.literals ∙ c.behind-long.ensures)))
+
 pub returns-clause-added : goal.returns-clause-added
 returns-clause-added g c =
     let own = c.new.ensures.id in record {
-      steps = c.in_ok-id.ensures.steps;
+      steps = c.in_ok-id.ensures.no_empty
+          (not_empty c.negated.result c.args.clause.now _ (c.as_slice-2.ensures.literals ∙ c.behind-long.ensures));
       number = own ∙ c.in_ok-id.ensures.added.0;
       top = ap (λ s. s.top) c.in_ok-id.ensures.added.1 ∙ sym c.in_ok-id.ensures.added.0 ∙ sym own;
       own = rw own c.in_ok-id.ensures.own;
       retired = c.justify.ensures.retired;
       unretired = rw own c.in_ok-id.ensures.unretired;
     }
+
+pub returns-in_err-id-clause-id_limit : goal.returns-in_err-id-clause-id_limit
+returns-in_err-id-clause-id_limit g c is =
+    used_up c.args.table.now c.justify.new.self {T = ℕ} (Err c.in_err-id.field-0.0) c.in_err-id.ensures.refused
+    c.in_err-id.ensures.id_limit.0 (ap Err (came_from _ c.in_err-id.field-0.0 IdLimit c.from_residual.ensures.1 is))

@@ -1,5 +1,6 @@
 -- The hints of the low addition close behind the high clause, and its clause is over the nodes.
-use Rattle.std.proofs.Common.{◌≡◌, ◌<◌, ◌∙◌, pos, ℕ, List, [], ◌∷◌, true, arith, Some, ap, sym, subst}
+use Rattle.std.proofs.Common.{◌≡◌, ◌<◌, ◌+◌, ◌∙◌, pos, ℕ, ℤ, Bool, List, [], ◌∷◌, Contains, true, arith, Some, Result, Ok, Err, ap, sym}
+use Rattle.std.proofs.Common.{subst}
 use Rattle.lrat_rules.specs.Strict.{RefutesStrictly}
 use Rattle.lrat_rules.specs.Soundness.{is_nonzero}
 use Rattle.node_table.specs.Diagram.{variable_at}
@@ -11,7 +12,18 @@ use Rattle.imply.proofs.ImplicationClauses.{low_apart, low_over, high_clause}
 use Rattle.node_table.specs.Just.{IsJustified}
 use Rattle.hint_chain.specs.Additions.{Justifies}
 use Rattle.hint_chain.specs.declared.atom.Atom.{Atom}
+use Rattle.node_table.specs.Refused.{used_up}
+use Rattle.std.specs.Prelude.{IfOk}
+use Rattle.host_io.specs.Channel.{Channel}
+use Rattle.lrat_rules.specs.State.{State}
+use Rattle.clause_ledger.specs.Book.{with_next}
+use Rattle.node_table.specs.declared.error.TableError.{TableError}
+use Rattle.node_table.specs.Progress.{Steps, error_of}
+use Rattle.node_table.specs.Table.{TableState, IsAddedTo}
+use Rattle.operations.specs.Additions.{IsAdded}
+use Rattle.imply.proofs.additions.add_low.Given.{Over}
 use Rattle.imply.proofs.additions.add_low.Goals as goal
+use Rattle.imply.proofs.additions.add_low.Goals.{After-justify}
 
 nonzero_variable : (n : ℕ) → 0 < n → is_nonzero (pos n) ≡ true
 nonzero_variable n positive = grind (arith, positive)
@@ -69,3 +81,40 @@ justify-requires-clause-over_nodes g c =
     let graph = c.args.table.now.graph in
     low_over c.literal_law.ensures c.operand_law.ensures graph c.requires.sound.tied.reduced c.args.operands.now c.requires.split
     c.args.clause.now c.requires.clause
+
+pub returns-clause-id_limit : goal.returns-clause-id_limit
+returns-clause-id_limit g c = used_up c.args.table.now c.justify.new.self c.justify.result c.justify.ensures.refused
+    c.justify.ensures.id_limit.0
+
+-- the clause isn't empty, since u is an inner node
+steps : (g : Over) (c : After-justify g)
+    → Steps g.S.Sink.tells (g.S.Sink.channel c.args.table.now.book.sink) (g.S.Sink.channel c.justify.new.self.book.sink) c.args.table.now
+    c.justify.new.self 1 (error_of c.justify.result)
+steps g c =
+    let graph = c.args.table.now.graph in
+    let o = c.args.operands.now in
+    c.justify.ensures.no_empty
+    (λ is. c.literal_law.ensures.some graph o.u (atom_of graph o.v ∷ []) c.requires.split.first (c.requires.clause ∙ ap Some is))
+
+pub returns-clause-steps : goal.returns-clause-steps
+returns-clause-steps g c = steps g (goal.at.returns-clause-steps g c).After-justify
+
+added_by : {S : Type 0} (tells : Bool) (channel : S → Channel) (old new : TableState S) (clause : List ℤ) (r : Result ℕ TableError)
+    → Steps tells (channel old.book.sink) (channel new.book.sink) old new 1 (error_of r)
+    → IfOk r (λ id. (id ≡ old.book.state.top + 1) × (new.book.state ≡ with_next old.book.state clause)) → IfOk r (λ id. IsAddedTo new id)
+    → new.retired ≡ old.retired → IfOk r (λ id. Contains new.retired id → ⊥) → IfOk r (λ id. IsAdded tells channel old new id)
+added_by tells channel old new clause (Ok id) steps added own retired unretired = record {
+  steps = steps;
+  number = added.0;
+  top = ap (λ (s : State). s.top) added.1 ∙ sym added.0;
+  own = own;
+  retired = retired;
+  unretired = unretired;
+}
+added_by tells channel old new clause (Err error) steps added own retired unretired = tt
+
+pub returns-clause-added : goal.returns-clause-added
+returns-clause-added g c =
+    added_by g.S.Sink.tells g.S.Sink.channel c.args.table.now c.justify.new.self c.args.clause.now c.justify.result
+    (steps g (goal.at.returns-clause-added g c).After-justify) c.justify.ensures.added c.justify.ensures.own c.justify.ensures.retired
+    c.justify.ensures.unretired

@@ -4,8 +4,9 @@ use Rattle.hint_chain.specs.Atoms.{clause_of}
 use Rattle.node_table.specs.declared.error.TableError.TheVariants.{WriteFault}
 use Rattle.node_table.specs.declared.node.Just.TheVariants.{Clause}
 use Rattle.node_table.specs.Diagram.{Graph}
+use Rattle.node_table.specs.HandedOn.{same_error}
 use Rattle.node_table.specs.Just.{IsJustified}
-use Rattle.node_table.specs.Table.{TableState}
+use Rattle.node_table.specs.Table.{TableState, IsAddedTo, IsUsedUp}
 use Rattle.node_table.specs.Progress.{Steps}
 use Rattle.host_io.specs.Channel.{Channel}
 use Rattle.operations.specs.Additions.{RetiresHigh}
@@ -87,3 +88,14 @@ returns-in-Err-2-clause-gives g c untorn =
     (record { steps = c.in-Err.ensures.steps; whole = other; same = c.in-Err.ensures.refused other })
     (gone _ _ c.add_low.new.table c.retire-in-Err-2.new.self c.id-high_clause.result c.in_ok-first.first.id c.id-high_clause.ensures
     c.retire-in-Err-2.ensures.steps c.retire-in-Err-2.ensures.retired)).2
+
+pub returns-in-Err-2-clause-id_limit : goal.returns-in-Err-2-clause-id_limit
+returns-in-Err-2-clause-id_limit g c is = subst (λ (t : TableState g.row.S.Denot). IsUsedUp t)
+    (sym c.retire-in-Err-2.ensures.retired) (c.in-Err.ensures.id_limit (ap Err (same_error is)))
+
+pub retire-requires-clause-own : goal.retire-requires-clause-own
+retire-requires-clause-own g c =
+    let high = c.in_ok-first.ensures.added in
+    subst (λ (id : ℕ). IsAddedTo c.add_low.new.table id) (sym c.id-high_clause.ensures)
+    (c.steps_law.ensures.added c.add_high.new.table c.add_low.new.table high.steps.leaves.sound c.in-Ok.ensures.steps.leaves.sound
+    c.in-Ok.ensures.steps.extends c.in_ok-first.first.id high.own)

@@ -2,6 +2,7 @@
 use Rattle.std.proofs.Common.{Some, Ok, Contains, arith, ap, refl, inl, subst}
 use Rattle.node_table.specs.declared.node.Just.{Just}
 use Rattle.node_table.specs.declared.node.Just.TheVariants.{Clause}
+use Rattle.node_table.specs.HandedOn.{no_error}
 use Rattle.operations.specs.Entries.{Implication}
 use Rattle.imply.specs.Cache.{entries}
 use Rattle.imply.proofs.Calls.{given_same, no_limit, some_same}
@@ -24,6 +25,7 @@ returns-in-Some-clause-answers g c =
         steps = c.steps_law.ensures.at_most _ _ _ _ _ _ _ (omega arith) (c.steps_law.ensures.none table can.sound);
         nodes = refl;
         no_node_limit = no_limit found;
+        id_limit = λ is. absurd (no_error is);
         accounts = c.accounts_law.ensures.none table before _ can.sound can.fits;
         unretired = λ id is. absurd (plain_no_clause u v found plain id (given_same found (Some (Clause id)) is));
         kept = λ differ first second just is. absurd (not_plain u v found differ first second plain);
@@ -71,6 +73,7 @@ returns-in-Some-look-clause-answers g c =
         steps = c.steps_law.ensures.at_most _ _ _ _ _ _ _ (omega arith) (c.steps_law.ensures.none table can.sound);
         nodes = refl;
         no_node_limit = no_limit (Some just);
+        id_limit = λ is. absurd (no_error is);
         accounts = c.accounts_law.ensures.same table before looked _ can.sound same_list can.fits;
         unretired = λ id is. can.fits.unretired id (own, there, some_same just (Clause id) (given_same (Some just) (Some (Clause id)) is));
         kept = λ differ first second other is. subst (λ (j : Just). Contains looked (Implication u v j))

@@ -1,7 +1,7 @@
 -- The implication of both sides is kept, or its step or the cache is refused.
 use Rattle.std.proofs.Common.{◌≡◌, ◌∙◌, ℕ, Bool, Err, None, Some, List, Contains, arith, inl, refl, sym, ap, subst}
 use Rattle.host_io.specs.Channel.{Channel}
-use Rattle.node_table.specs.declared.error.TableError.TheVariants.{OutOfMemory}
+use Rattle.node_table.specs.declared.error.TableError.TheVariants.{NodeLimit, IdLimit, OutOfMemory}
 use Rattle.node_table.specs.declared.node.Just.{Just}
 use Rattle.node_table.specs.declared.node.Just.TheVariants.{Clause}
 use Rattle.node_table.specs.Diagram.{Graph}
@@ -15,7 +15,8 @@ use Rattle.operations.specs.Results.{Implied, implication_atoms}
 use Rattle.imply.specs.declared.cache.ImplyCache.{ImplyCache}
 use Rattle.imply.specs.Cache.{entries}
 use Rattle.imply.specs.Calls.{IsClosed}
-use Rattle.imply.proofs.Calls.{Answer, failed_no_answer, given_same, limit_came, memory_no_limit, no_limit, none_failed, some_same}
+use Rattle.imply.proofs.Calls.{Answer, failed_no_answer, given_same, limit_came, memory_no_limit, memory_no_numbers}
+use Rattle.imply.proofs.Calls.{no_limit, none_failed, some_same}
 use Rattle.imply.proofs.Refuted.{implied_both}
 use Rattle.imply.proofs.implication.finish.Goals as goal
 
@@ -46,7 +47,8 @@ returns-in_err-just g c =
       decided = tt;
       steps = done.steps;
       nodes = done.nodes;
-      no_node_limit = λ is. done.no_node_limit (limit_came came is);
+      no_node_limit = λ is. done.no_node_limit (limit_came came NodeLimit is);
+      id_limit = λ is. done.id_limit (limit_came came IdLimit is);
       accounts = c.accounts_law.ensures.failed _ _ _ old new before _ _ c.requires.sound c.requires.fits done.steps done.retires
           (λ whole. done.gives (whole_error _ whole));
       unretired = λ id is. absurd (failed_no_answer came (Some (Clause id)) is);
@@ -104,6 +106,7 @@ returns-in-Ok g c =
       steps = law.further _ _ _ _ _ _ 2 0 _ done.steps one.steps;
       nodes = same ∙ done.nodes;
       no_node_limit = no_limit (Some just);
+      id_limit = λ is. absurd (no_error is);
       accounts = ended.accounts;
       unretired = λ id is. ended.unretired id (some_same just (Clause id) (given_same (Some just) (Some (Clause id)) is));
       kept = λ other is. subst (λ (j : Just). Contains (entries after) (Implication o.u o.v j))
@@ -134,6 +137,7 @@ returns-in-Err g c =
       steps = law.further _ _ _ _ _ _ 2 0 _ done.steps (law.further _ _ _ _ _ _ 0 0 _ one.steps (law.no_memory new one.steps.leaves.sound));
       nodes = same ∙ done.nodes;
       no_node_limit = memory_no_limit;
+      id_limit = λ is. absurd (memory_no_numbers is);
       accounts = c.accounts_law.ensures.refused _ _ old mid new before just given _ has c.clause_of.ensures one;
       unretired = λ id is. absurd (failed_no_answer OutOfMemory (Some (Clause id)) is);
       kept = λ other is. absurd (failed_no_answer OutOfMemory (Some other) is);

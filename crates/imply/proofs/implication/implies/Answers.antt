@@ -11,6 +11,7 @@ returns g c =
       steps = call.steps;
       nodes = call.nodes;
       no_node_limit = call.no_node_limit;
+      id_limit = call.id_limit;
       fits = λ whole. call.accounts.fits (whole_result c.work_off.result whole);
       others = λ list fits apart whole.
           c.accounts_law.ensures.beside _ _ _ c.args.table.now c.work_off.new.table (entries c.args.cache.now)

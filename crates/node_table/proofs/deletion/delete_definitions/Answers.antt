@@ -7,7 +7,7 @@ use Rattle.node_table.specs.Deleted.{Deletes, DeletesTorn, unmarked_below}
 use Rattle.node_table.specs.Places.{AreNumberedAbove}
 use Rattle.node_table.proofs.Deletable.{below_added}
 use Rattle.node_table.proofs.Deleting.{IsDeleting-start, IsDeleting-pass, IsDeleting-more, IsDeleting-done, IsDeleting-torn, deleted_among}
-use Rattle.node_table.proofs.Deleting.{deleted_gone, deleted_stay, on_err, pending}
+use Rattle.node_table.proofs.Deleting.{deleted_are, deleted_gone, deleted_stay, on_err, pending}
 use Rattle.node_table.proofs.deletion.delete_definitions.Given.{Over}
 use Rattle.node_table.proofs.deletion.delete_definitions.Goals as goal
 use Rattle.node_table.proofs.deletion.delete_definitions.Goals.{After-make_room, After-delete_all}
@@ -147,3 +147,32 @@ returns-clause-kept g c clauses above proof =
     let after = (goal.at.returns-clause-kept g c).After-delete_all in
     let all = all_deleted g after c.in_ok-delete_all.ensures.deleted in
     all.kept clauses proof (added_last g after (length clauses) above)
+
+pub returns-clause-lines : goal.returns-clause-lines
+returns-clause-lines g c =
+    let all = all_deleted g (goal.at.returns-clause-lines g c).After-delete_all c.in_ok-delete_all.ensures.deleted in
+    record {
+      ids = unmarked_below c.args.diagram.now c.args.marks.now c.keys.index;
+      are = deleted_are c.args.diagram.now c.args.marks.now c.args.ledger.now.state c.delete_all.new.ledger.state c.keys.index all.state;
+      deletes = all.lines;
+    }
+
+pub returns-in_err-make_room-clause-front : goal.returns-in_err-make_room-clause-front
+returns-in_err-make_room-clause-front g c =
+    let torn = IsDeleting-torn g.S.Sink.tells g.S.Sink.channel c.args.ledger.now c.keys.ledger c.args.diagram.now c.args.marks.now
+    c.keys.ids.items c.keys.index c.keys.invariant.deleting
+    c.make_room.new.ledger c.in_err-make_room.ensures.torn in
+    on_err c.from_residual.result (record {
+      ids = unmarked_below c.args.diagram.now c.args.marks.now c.keys.index;
+      are = deleted_are c.args.diagram.now c.args.marks.now c.args.ledger.now.state c.make_room.new.ledger.state c.keys.index torn.state;
+      deletes = torn.front;
+    })
+
+pub returns-in_err-delete_all-clause-front : goal.returns-in_err-delete_all-clause-front
+returns-in_err-delete_all-clause-front g c =
+    let torn = torn_last g (goal.at.returns-in_err-delete_all-clause-front g c).After-delete_all c.in_err-delete_all.ensures.torn in
+    on_err c.from_residual-in_err-delete_all.result (record {
+      ids = unmarked_below c.args.diagram.now c.args.marks.now c.keys.index;
+      are = deleted_are c.args.diagram.now c.args.marks.now c.args.ledger.now.state c.delete_all.new.ledger.state c.keys.index torn.state;
+      deletes = torn.front;
+    })

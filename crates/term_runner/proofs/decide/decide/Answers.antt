@@ -5,6 +5,9 @@ use Rattle.node_table.specs.declared.node.Node.{Node}
 use Rattle.node_table.specs.declared.node.Node.TheVariants.{True}
 use Rattle.clause_terms.specs.Recovery.{IsRecoveredFrom}
 use Rattle.term_runner.specs.Price.{IsPaid}
+use Rattle.node_table.specs.declared.error.TableError.TheVariants.{OutOfMemory}
+use Rattle.node_table.specs.HandedOn.{if_handed}
+use Rattle.term_runner.proofs.NoEmpty.{no_change}
 use Rattle.term_runner.proofs.Paid.{kind_of_memory, lean_here, none_added}
 use Rattle.term_runner.proofs.Plans.{all_hold}
 use Rattle.term_runner.proofs.Priced.{no_nodes}
@@ -79,3 +82,9 @@ returns-then-are_tautologies-clause-lean g c some =
 
 pub returns-clause-lean : goal.returns-clause-lean
 returns-clause-lean g c = c.take_moves.ensures.lean
+
+pub returns-clause-no_empty : goal.returns-clause-no_empty
+returns-clause-no_empty g c = c.take_moves.ensures.no_empty
+
+pub returns-in_err-model-clause-no_empty : goal.returns-in_err-model-clause-no_empty
+returns-in_err-model-clause-no_empty g c = if_handed _ OutOfMemory _ c.from_residual.ensures.1 (λ whole. no_change c.args.table.now)

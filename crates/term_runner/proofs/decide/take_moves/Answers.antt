@@ -7,7 +7,7 @@ use Rattle.cnf_base.specs.Formula.{Formula}
 use Rattle.node_table.specs.declared.node.Node.{Node}
 use Rattle.node_table.specs.Diagram.{is_node, levels}
 use Rattle.node_table.specs.Value.{by_level, value_of}
-use Rattle.node_table.specs.declared.error.TableError.TheVariants.{NodeLimit}
+use Rattle.node_table.specs.declared.error.TableError.TheVariants.{NodeLimit, OutOfMemory}
 use Rattle.node_table.specs.declared.error.TableError.{TableError}
 use Rattle.node_table.specs.Progress.{Leaves}
 use Rattle.node_table.specs.Table.{live_nodes}
@@ -20,7 +20,7 @@ use Rattle.term_runner.specs.Nodes.{RunsShort}
 use Rattle.term_runner.specs.Opened.{LeavesKind}
 use Rattle.term_runner.specs.Held.{IsReady, top_node}
 use Rattle.term_runner.specs.Recovered.{IsRecovered}
-use Rattle.node_table.specs.HandedOn.{no_error, came_from, no_answer}
+use Rattle.node_table.specs.HandedOn.{no_error, came_from, if_handed, no_answer, same_error}
 use Rattle.term_runner.proofs.Stacks.{top_stands, top_value}
 use Rattle.term_runner.proofs.Between.{at_first, at_last, next_at, some_at}
 use Rattle.term_runner.specs.Caches.{all_entries}
@@ -28,6 +28,7 @@ use Rattle.term_runner.proofs.Giving.{units_none}
 use Rattle.term_runner.proofs.Least.{recovered}
 use Rattle.term_runner.proofs.Trails.{are_variables, kept_there}
 use Rattle.term_runner.proofs.Leaving.{error_handed, memory_left}
+use Rattle.term_runner.proofs.NoEmpty.{further_empty, no_change, no_true}
 use Rattle.term_runner.proofs.InHand.{in_hand_before, short_at_limit}
 use Rattle.term_runner.proofs.Planned.{moved_on}
 use Rattle.term_runner.proofs.Few.{added_between, has_added, held_length}
@@ -60,6 +61,7 @@ moves-init g c =
       own = units_none table (all_entries c.args.caches.now) c.new-stack.result.items c.requires.ready.sound c.requires.fresh
           (search rules);
       continues = (c.steps_law.ensures.none table c.requires.ready.sound).leaves;
+      no_empty = no_change table;
       beside = refl;
     }
 
@@ -178,6 +180,8 @@ moves-preserved g c =
       own = c.in_ok-take_move.ensures.own c.if-branch.false;
       continues = c.steps_law.ensures.go_on _ _ _ c.args.table.now c.moves.table c.take_move.new.table c.moves.invariant.continues
           c.in_ok-take_move.ensures.leaves;
+      no_empty = further_empty c.args.table.now c.moves.table c.take_move.new.table c.moves.invariant.no_empty
+          (c.in_ok-take_move.ensures.no_empty no_error (no_true _ c.if-branch.false));
       beside = c.in_ok-take_move.ensures.beside ∙ c.moves.invariant.beside;
     }
 
@@ -397,3 +401,13 @@ returns-clause-lean g c some =
     (arith, own, one, c.requires.plan.one_term) in
     subst (λ (vars : ℕ). IsLeanAtEnd vars first.inputs c.args.capacity table.book.state) (ap length so_far.order)
     (subst (λ (inputs : ℕ). IsLeanAtEnd (levels table.graph) inputs c.args.capacity table.book.state) so_far.inputs more)
+
+pub returns-in_err-take_move-clause-no_empty : goal.returns-in_err-take_move-clause-no_empty
+returns-in_err-take_move-clause-no_empty g c =
+    let came = c.in_err-take_move.field-0.0 in
+    if_handed _ came _ c.from_residual.ensures.1
+    (λ whole. further_empty c.args.table.now c.moves.table c.take_move.new.table c.moves.invariant.no_empty
+    (c.in_err-take_move.ensures.no_empty (λ torn. whole (same_error torn)) (λ is. no_error (sym is))))
+
+pub returns-in_err-model-clause-no_empty : goal.returns-in_err-model-clause-no_empty
+returns-in_err-model-clause-no_empty g c = if_handed _ OutOfMemory _ c.from_residual-in_err-model.ensures.1 (λ whole. c.moves.invariant.no_empty)

@@ -2,7 +2,7 @@
 use Rattle.std.proofs.Common.{◌≡◌, ℕ, ◌+◌, ◌*◌, ◌≤◌, [], length, reverse}
 use Rattle.node_table.specs.Diagram.{levels}
 use Rattle.node_table.specs.Progress.{Continues}
-use Rattle.node_table.specs.Table.{live_nodes}
+use Rattle.node_table.specs.Table.{AddsNoEmpty, live_nodes}
 use Rattle.term_runner.specs.Caches.{HaveSize, all_entries}
 use Rattle.term_runner.specs.Held.{IsReady, HasUnits}
 use Rattle.term_runner.specs.Price.{IsMovePrice}
@@ -25,5 +25,6 @@ invariant-moves g l = record {
   settled : l.table.retired ≡ [];
   own : HasUnits l.table (all_entries l.caches) (reverse l.stack.items);
   continues : Continues g.S.Sink.tells (g.S.Sink.channel l.fn.table.book.sink) (g.S.Sink.channel l.table.book.sink) l.fn.table l.table;
+  no_empty : AddsNoEmpty l.fn.table l.table;
   beside : g.S.Sink.beside l.table.book.sink ≡ g.S.Sink.beside l.fn.table.book.sink;
 }

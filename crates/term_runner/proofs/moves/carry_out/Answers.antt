@@ -344,3 +344,12 @@ returns-in-Exists-clause-pairs g c stage next at is width room most =
     (few_of_term formula order stage next (some_value x move.top)
     (inr (inr (result_is (some_value x move.top) move.rest next.stack (some_value x move.top)
     (ap (λ (s : Stage). s.stack) move.after) refl))) width most)
+
+pub returns-in-Push-clause-no_empty : goal.returns-in-Push-clause-no_empty
+returns-in-Push-clause-no_empty g c whole unrefuted = c.push.ensures.steps.no_empty
+
+pub returns-in-And-clause-no_empty : goal.returns-in-And-clause-no_empty
+returns-in-And-clause-no_empty g c = c.conjoin.ensures.no_empty
+
+pub returns-in-Exists-clause-no_empty : goal.returns-in-Exists-clause-no_empty
+returns-in-Exists-clause-no_empty g c whole unrefuted = c.quantify_out.ensures.steps.no_empty

@@ -1,5 +1,6 @@
 -- What is left to show of `conjoin`.
-use Rattle.std.proofs.Common.{◌≡◌, ◌∙◌, ◌+◌, ◌*◌, ◌<◌, ℕ, Bool, List, [], ◌∷◌, Contains, length, reverse, None, Some, Result, Err, ap, sym}
+use Rattle.std.proofs.Common.{◌≡◌, ◌∙◌, ◌+◌, ◌*◌, ◌<◌, ℕ, Bool, List, [], ◌∷◌, Contains, length, reverse, None, Some, Result, Err, refl}
+use Rattle.std.proofs.Common.{ap, sym}
 use Rattle.std.proofs.Common.{subst, arith, inl, inr}
 use Rattle.operations.specs.Accounts.{none_whole, whole_result}
 use Rattle.term_runner.specs.Caches.{HaveRoom, all_entries}
@@ -16,10 +17,12 @@ use Rattle.term_runner.specs.Held.{AreHeld, HasUnits}
 use Rattle.node_table.specs.declared.error.TableError.TheVariants.{NodeLimit, WriteFault}
 use Rattle.node_table.specs.declared.error.TableError.{TableError}
 use Rattle.node_table.specs.declared.node.Just.{Just}
-use Rattle.node_table.specs.HandedOn.{came_from, no_answer, no_error, other_cause, same_error}
+use Rattle.node_table.specs.HandedOn.{came_from, handed_on, no_answer, no_error, other_cause, same_error}
+use Rattle.node_table.specs.Progress.{Steps}
 use Rattle.term_runner.proofs.Pairs.{adds_pairs, at_most_same}
 use Rattle.term_runner.proofs.Planned.{both_function, node_function}
-use Rattle.term_runner.proofs.Leaving.{limit_left, limit_whole, steps_handed, went_on}
+use Rattle.term_runner.proofs.Leaving.{limit_left, limit_whole, refutes_handed, steps_handed, went_on}
+use Rattle.term_runner.proofs.NoEmpty.{further_empty}
 use Rattle.term_runner.proofs.Stacks.{held_kept, held_one_kept, few_left, false_refutes, conjunction_kept}
 use Rattle.term_runner.proofs.Giving.{two_give, units_behind}
 use Rattle.term_runner.proofs.Replaced.{first_unit, free_after, later_unit, none_retired, one_more_retired, unit_left, units_replaced}
@@ -27,7 +30,7 @@ use Rattle.term_runner.proofs.Replaced.{RetiresUnits}
 use Rattle.term_runner.proofs.Units.{not_both}
 use Rattle.term_runner.proofs.moves.conjoin.Given.{Over}
 use Rattle.term_runner.proofs.moves.conjoin.Goals as goal
-use Rattle.term_runner.proofs.moves.conjoin.Goals.{After-and}
+use Rattle.term_runner.proofs.moves.conjoin.Goals.{After-and, After-retire_unit-2}
 
 pub unreachable-requires : goal.unreachable-requires
 unreachable-requires g c =
@@ -235,19 +238,22 @@ returns-then-is_same-clause-steps g c =
     let new = c.unit_of.new.table in
     let channel = g.S.Sink.channel in
     let most = most_additions (levels old.graph) in
-    let two = c.steps_law.ensures.further (channel old.book.sink) (channel mid.book.sink)
-    (channel new.book.sink) old mid new most 1 None c.in_ok-node.ensures.steps c.in_ok-unit.ensures.steps in
-    two
+    c.steps_law.ensures.refute (channel old.book.sink) (channel mid.book.sink) (channel new.book.sink) old mid new most 1 None
+    c.in_ok-node.ensures.steps c.in_ok-unit.ensures.steps
 
-pub returns-clause-steps : goal.returns-clause-steps
-returns-clause-steps g c =
+-- where the node isn't False no empty clause came
+open_steps : (g : Over) (c : After-retire_unit-2 g)
+    → Steps g.S.Sink.tells (g.S.Sink.channel c.args.table.now.book.sink) (g.S.Sink.channel c.retire_unit-2.new.table.book.sink)
+    c.args.table.now c.retire_unit-2.new.table (most_additions (levels c.args.table.now.graph) + 1) None
+open_steps g c =
     let old = c.args.table.now in
     let mid = c.and.new.table in
     let new = c.unit_of.new.table in
     let channel = g.S.Sink.channel in
     let most = most_additions (levels old.graph) in
     let two = c.steps_law.ensures.further (channel old.book.sink) (channel mid.book.sink)
-    (channel new.book.sink) old mid new most 1 None c.in_ok-node.ensures.steps c.in_ok-unit.ensures.steps in
+    (channel new.book.sink) old mid new most 1 None c.in_ok-node.ensures.steps
+    (c.in_ok-unit.ensures.some (λ is. not_both c.is_same.result (c.is_same.ensures.1 is) c.if-is_same.false)) in
     let third = c.retire_unit.new.table in
     let last = c.retire_unit-2.new.table in
     let three = c.steps_law.ensures.further (channel old.book.sink) (channel new.book.sink) (channel third.book.sink) old new third (most
@@ -256,6 +262,24 @@ returns-clause-steps g c =
     + 1 + 0) 0 None three c.retire_unit-2.ensures.steps in
     c.steps_law.ensures.at_most (channel old.book.sink) (channel last.book.sink) old last (most + 1 + 0 + 0) (most
     + 1) None (omega arith) four
+
+pub returns-clause-steps : goal.returns-clause-steps
+returns-clause-steps g c = c.steps_law.ensures.anyhow _ _ _ _ _ _ (open_steps g (goal.at.returns-clause-steps g c).After-retire_unit-2)
+
+pub returns-clause-no_empty : goal.returns-clause-no_empty
+returns-clause-no_empty g c whole unrefuted = (open_steps g (goal.at.returns-clause-no_empty g c).After-retire_unit-2).no_empty
+
+pub returns-then-is_same-clause-no_empty : goal.returns-then-is_same-clause-no_empty
+returns-then-is_same-clause-no_empty g c whole unrefuted = absurd (unrefuted refl)
+
+pub returns-in_err-node-clause-no_empty : goal.returns-in_err-node-clause-no_empty
+returns-in_err-node-clause-no_empty g c whole unrefuted = c.in_err-node.ensures.steps.no_empty
+
+pub returns-in_err-unit-clause-no_empty : goal.returns-in_err-unit-clause-no_empty
+returns-in_err-unit-clause-no_empty g c whole unrefuted =
+    further_empty c.args.table.now c.and.new.table c.unit_of.new.table c.in_ok-node.ensures.steps.no_empty
+    (c.in_err-unit.ensures.refused (λ torn. whole (handed_on _ c.in_err-unit.field-0.0 WriteFault c.from_residual-in_err-unit.ensures.1
+    torn)))
 
 pub returns-then-is_same-clause-fits : goal.returns-then-is_same-clause-fits
 returns-then-is_same-clause-fits g c whole =
@@ -382,9 +406,9 @@ pub returns-in_err-node-clause-steps : goal.returns-in_err-node-clause-steps
 returns-in_err-node-clause-steps g c =
     let old = c.args.table.now in
     let mid = c.and.new.table in
-    steps_handed _ _ _ old mid _ _ c.in_err-node.field-0.0 c.from_residual.ensures.1
+    c.steps_law.ensures.anyhow _ _ _ _ _ _ (steps_handed _ _ _ old mid _ _ c.in_err-node.field-0.0 c.from_residual.ensures.1
     (c.steps_law.ensures.at_most _ _ old mid (most_additions (levels old.graph)) (most_additions (levels old.graph)
-    + 1) _ (omega arith) c.in_err-node.ensures.steps)
+    + 1) _ (omega arith) c.in_err-node.ensures.steps))
 
 pub returns-in_err-node-clause-fits : goal.returns-in_err-node-clause-fits
 returns-in_err-node-clause-fits g c whole =
@@ -428,9 +452,9 @@ returns-in_err-unit-clause-steps g c =
     let first = g.S.Sink.channel old.book.sink in
     let second = g.S.Sink.channel mid.book.sink in
     let third = g.S.Sink.channel new.book.sink in
-    steps_handed g.S.Sink.tells first third old new (most_additions (levels old.graph)
+    refutes_handed g.S.Sink.tells first third old new (most_additions (levels old.graph)
     + 1) _ c.in_err-unit.field-0.0 c.from_residual-in_err-unit.ensures.1
-    (c.steps_law.ensures.further first second third old mid new (most_additions (levels old.graph)) 1
+    (c.steps_law.ensures.refute first second third old mid new (most_additions (levels old.graph)) 1
     (Some c.in_err-unit.field-0.0) c.in_ok-node.ensures.steps c.in_err-unit.ensures.steps)
 
 pub returns-in_err-unit-clause-fits : goal.returns-in_err-unit-clause-fits

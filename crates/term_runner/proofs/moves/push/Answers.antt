@@ -11,6 +11,7 @@ use Rattle.term_runner.specs.declared.held.HeldTerm.{HeldTerm}
 use Rattle.term_runner.specs.Held.{AreHeld, HasUnits}
 use Rattle.node_table.specs.declared.error.TableError.TheVariants.{NodeLimit}
 use Rattle.node_table.specs.HandedOn.{came_from, no_answer}
+use Rattle.node_table.specs.Refused.{no_nodes_left}
 use Rattle.term_runner.proofs.Planned.{no_limit}
 use Rattle.term_runner.proofs.Inputs.{input_live, input_literals, input_some}
 use Rattle.term_runner.proofs.Leaving.{after_all, limit_left, steps_handed}
@@ -154,4 +155,4 @@ returns-in_err-found-clause-again g c kept fits has is =
     (reverse c.args.stack.now.items) c.requires.ready.1.sound sound found.steps.extends has
     (record { each = λ id gone. inl (subst (λ (ids : List ℕ). Contains ids id) found.retired gone) })
     (record { each = λ entry there. inl there })
-    (none_added old new kept c.requires.ready.1.sound found.retired (found.none_added (ap Err limit)))
+    (none_added old new kept c.requires.ready.1.sound found.retired (found.none_added (λ torn. no_nodes_left (sym limit ∙ torn))))

@@ -13,6 +13,7 @@ use Rattle.term_runner.specs.Width.{top_function}
 use Rattle.term_runner.specs.Nodes.{KeepsOrMakes}
 use Rattle.term_runner.proofs.Leaving.{error_handed, limit_left}
 use Rattle.term_runner.proofs.Giving.{units_settled}
+use Rattle.term_runner.proofs.NoEmpty.{fewer_empty, further_empty}
 use Rattle.term_runner.proofs.OwnUnits.{held_settled, ready_settled}
 use Rattle.term_runner.proofs.moves.try_move.Goals as goal
 
@@ -219,3 +220,23 @@ pub returns-in_ok-settle-in-Err-clause-pairs : goal.returns-in_ok-settle-in-Err-
 returns-in_ok-settle-in-Err-clause-pairs g c stage next at is width room most =
     let few = c.carry_out.ensures.pairs stage next at is width room most in
     omega (arith, few, c.settle-in-Err.ensures.top, ap live_nodes c.settle-in-Err.ensures.nodes)
+
+pub returns-in_err-settle-in-Ok-2-clause-no_empty : goal.returns-in_err-settle-in-Ok-2-clause-no_empty
+returns-in_err-settle-in-Ok-2-clause-no_empty g c whole unrefuted =
+    absurd (whole (handed_on _ c.in_err-settle-in-Ok-2.field-0.0 WriteFault c.from_residual.ensures.1
+    c.in_err-settle-in-Ok-2.ensures.error))
+
+pub returns-in_ok-settle-in-Ok-2-clause-no_empty : goal.returns-in_ok-settle-in-Ok-2-clause-no_empty
+returns-in_ok-settle-in-Ok-2-clause-no_empty g c whole unrefuted =
+    further_empty c.args.table.now c.carry_out.new.table c.settle.new.self (c.in-Ok.ensures.no_empty no_error unrefuted)
+    (fewer_empty _ _ _ c.carry_out.new.table c.settle.new.self c.in_ok-settle-in-Ok-2.ensures.leaves c.settle.ensures.top)
+
+pub returns-in_err-settle-in-Err-clause-no_empty : goal.returns-in_err-settle-in-Err-clause-no_empty
+returns-in_err-settle-in-Err-clause-no_empty g c whole unrefuted =
+    absurd (whole (handed_on _ c.in_err-settle-in-Err.field-0.0 WriteFault c.from_residual-in_err-settle-in-Err.ensures.1
+    c.in_err-settle-in-Err.ensures.error))
+
+pub returns-in_ok-settle-in-Err-clause-no_empty : goal.returns-in_ok-settle-in-Err-clause-no_empty
+returns-in_ok-settle-in-Err-clause-no_empty g c whole unrefuted =
+    further_empty c.args.table.now c.carry_out.new.table c.settle-in-Err.new.self (c.in-Err.ensures.no_empty whole unrefuted)
+    (fewer_empty _ _ _ c.carry_out.new.table c.settle-in-Err.new.self c.in_ok-settle-in-Err.ensures.leaves c.settle-in-Err.ensures.top)

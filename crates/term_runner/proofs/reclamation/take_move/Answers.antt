@@ -1,18 +1,24 @@
 -- Behind a move that succeeded the nodes are few, or those that its terms reach.
-use Rattle.std.proofs.Common.{List, Err, ap, sym, subst, arith, inr}
-use Rattle.node_table.specs.declared.error.TableError.TheVariants.{NodeLimit}
+use Rattle.std.proofs.Common.{◌≡◌, ℕ, List, Err, ap, sym, subst, arith, inr}
+use Rattle.node_table.specs.declared.error.TableError.TheVariants.{NodeLimit, WriteFault}
 use Rattle.node_table.specs.Diagram.{Graph}
-use Rattle.node_table.specs.HandedOn.{came_from}
+use Rattle.node_table.specs.HandedOn.{came_from, handed_on, no_error, same_error}
 use Rattle.node_table.specs.Table.{live_nodes}
 use Rattle.term_runner.specs.declared.held.HeldTerm.{HeldTerm}
 use Rattle.term_runner.specs.Held.{IsAt}
 use Rattle.term_runner.specs.Width.{top_function}
 use Rattle.term_runner.specs.Nodes.{KeepsOrMakes}
 use Rattle.term_runner.specs.Price.{AddsFew}
-use Rattle.term_runner.specs.Tidy.{held_nodes}
+use Rattle.term_runner.specs.Tidy.{IsTidy, held_nodes}
+use Rattle.term_runner.proofs.Due.{due_behind}
 use Rattle.term_runner.proofs.FewLeft.{few_left, in_hand_behind}
+use Rattle.term_runner.proofs.NoEmpty.{fewer_empty, fewer_left, further_empty, no_true}
+use Rattle.term_runner.proofs.Units.{not_both}
 use Rattle.term_runner.proofs.Tidied.{made_behind, none_made, were_left}
 use Rattle.term_runner.proofs.reclamation.take_move.Goals as goal
+
+many : {live nodes : ℕ} (left : ℕ) → live ≡ nodes → IsTidy nodes left → IsTidy live left
+many left same tidy = subst (λ (n : ℕ). IsTidy n left) (sym same) tidy
 
 pub returns-in_err-refuted-clause-full : goal.returns-in_err-refuted-clause-full
 returns-in_err-refuted-clause-full g c stage next at is limit =
@@ -87,3 +93,47 @@ pub returns-clause-price : goal.returns-clause-price
 returns-clause-price g c stage next at is size width price have paid most =
     let own = c.try_twice.ensures.price stage next at is size width price have paid most in
     omega (arith, own, c.give_back.ensures.top)
+
+pub returns-in_err-refuted-clause-no_empty : goal.returns-in_err-refuted-clause-no_empty
+returns-in_err-refuted-clause-no_empty g c whole unrefuted =
+    c.in_err-refuted.ensures.no_empty
+    (λ torn. whole (handed_on _ c.in_err-refuted.field-0.0 WriteFault c.from_residual.ensures.1 (same_error torn)))
+    (λ is. no_error (sym is))
+
+pub returns-then-refuted-clause-no_empty : goal.returns-then-refuted-clause-no_empty
+returns-then-refuted-clause-no_empty g c whole unrefuted = c.in_ok-refuted.ensures.no_empty no_error unrefuted
+
+pub returns-then-is_tidy-clause-no_empty : goal.returns-then-is_tidy-clause-no_empty
+returns-then-is_tidy-clause-no_empty g c whole unrefuted = c.in_ok-refuted.ensures.no_empty no_error unrefuted
+
+pub returns-in_err-left-clause-no_empty : goal.returns-in_err-left-clause-no_empty
+returns-in_err-left-clause-no_empty g c whole unrefuted =
+    let came = c.in_err-left.field-0.0 in
+    further_empty c.args.table.now c.try_twice.new.table c.give_back.new.table
+    (c.in_ok-refuted.ensures.no_empty no_error (no_true c.in_ok-refuted.refuted c.if-refuted.false))
+    (fewer_left {T = ℕ} _ _ _ c.try_twice.new.table c.give_back.new.table (Err came) c.in_err-left.ensures.leaves
+    (λ torn. whole (handed_on _ came WriteFault c.from_residual-in_err-left.ensures.1 (same_error torn))) c.give_back.ensures.top)
+
+pub returns-clause-no_empty : goal.returns-clause-no_empty
+returns-clause-no_empty g c whole unrefuted =
+    further_empty c.args.table.now c.try_twice.new.table c.give_back.new.table
+    (c.in_ok-refuted.ensures.no_empty no_error (no_true c.in_ok-refuted.refuted c.if-refuted.false))
+    (fewer_empty _ _ _ c.try_twice.new.table c.give_back.new.table c.in_ok-left.ensures.leaves c.give_back.ensures.top)
+
+pub returns-in_err-left-clause-rule : goal.returns-in_err-left-clause-rule
+returns-in_err-left-clause-rule g c stage next at is =
+    due_behind c.args.table.now.graph c.try_twice.new.table.graph c.give_back.new.table.graph _ _ _ _ _
+    c.in_ok-refuted.ensures.leaves.sound.tied.reduced (c.try_twice.ensures.made stage next at is)
+    (λ tidy. not_both c.is_tidy.result (c.is_tidy.ensures.1 (many _ c.live.ensures tidy)) c.if-is_tidy.false)
+    (c.try_twice.ensures.rule stage next at is)
+
+pub returns-clause-rule : goal.returns-clause-rule
+returns-clause-rule g c stage next at is =
+    due_behind c.args.table.now.graph c.try_twice.new.table.graph c.give_back.new.table.graph _ _ _ _ _
+    c.in_ok-refuted.ensures.leaves.sound.tied.reduced (c.try_twice.ensures.made stage next at is)
+    (λ tidy. not_both c.is_tidy.result (c.is_tidy.ensures.1 (many _ c.live.ensures tidy)) c.if-is_tidy.false)
+    (c.try_twice.ensures.rule stage next at is)
+
+pub returns-clause-leaves : goal.returns-clause-leaves
+returns-clause-leaves g c = c.steps_law.ensures.go_on _ _ _ c.args.table.now c.try_twice.new.table c.give_back.new.table
+    c.in_ok-refuted.ensures.leaves c.in_ok-left.ensures.leaves

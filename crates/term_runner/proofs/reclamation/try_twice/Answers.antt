@@ -1,6 +1,6 @@
 -- A move that was refused is tried once more over the nodes that its terms reach.
 use Rattle.std.proofs.Common.{◌≡◌, ℕ, ◌+◌, ◌*◌, ◌≤◌, ◌∙◌, List, Err, Some, length, refl, ap, sym, subst, arith, inl, inr}
-use Rattle.node_table.specs.declared.error.TableError.TheVariants.{NodeLimit}
+use Rattle.node_table.specs.declared.error.TableError.TheVariants.{NodeLimit, WriteFault}
 use Rattle.node_table.specs.Diagram.{Graph, levels}
 use Rattle.node_table.specs.Made.{LacksPart}
 use Rattle.node_table.specs.Progress.{Continues, error_of}
@@ -12,7 +12,11 @@ use Rattle.term_runner.specs.Price.{AddsFew, IsMovePrice}
 use Rattle.term_runner.specs.Width.{HoldsAtMost, top_function}
 use Rattle.term_runner.specs.Nodes.{KeepsOrMakes}
 use Rattle.term_runner.specs.Tidy.{LeavesReached, WereLeft, held_nodes}
+use Rattle.node_table.specs.HandedOn.{handed_on, no_error, same_error}
+use Rattle.node_table.specs.Refused.{no_nodes_left}
+use Rattle.term_runner.proofs.Due.{due_at_limit}
 use Rattle.term_runner.proofs.Leaving.{limit_left}
+use Rattle.term_runner.proofs.NoEmpty.{fewer_empty, fewer_left, further_empty}
 use Rattle.term_runner.proofs.FewLeft.{few_left}
 use Rattle.term_runner.proofs.InHand.{in_hand_before}
 use Rattle.term_runner.specs.Caches.{HaveSize}
@@ -195,3 +199,57 @@ returns-in_ok-left-in-Err-clause-few g c stage next at is width most =
     let left = few_left c.subfunction_law.ensures c.canonical_law.ensures formula old.graph.order c.requires.ready.sound.tied.ordered stage
     next stage (in_hand_before stage next) _ (left_mid g c stage at) width most in
     inr (omega (arith, second, left, c.in_ok-left-in-Err.ensures.count))
+
+pub returns-in_err-left-in-Err-clause-no_empty : goal.returns-in_err-left-in-Err-clause-no_empty
+returns-in_err-left-in-Err-clause-no_empty g c whole unrefuted =
+    let came = c.in_err-left-in-Err.field-0.0 in
+    further_empty c.args.table.now c.try_move.new.table c.give_back.new.table
+    (c.in-Err.ensures.no_empty (λ torn. no_nodes_left (sym (c.is_node_limit.ensures.0 c.if-is_node_limit.true) ∙ same_error torn))
+    (λ is. no_error (sym is)))
+    (fewer_left {T = ℕ} _ _ _ c.try_move.new.table c.give_back.new.table (Err came) c.in_err-left-in-Err.ensures.leaves
+    (λ torn. whole (handed_on _ came WriteFault c.from_residual.ensures.1 (same_error torn))) c.give_back.ensures.top)
+
+pub returns-in_ok-left-in-Err-clause-no_empty : goal.returns-in_ok-left-in-Err-clause-no_empty
+returns-in_ok-left-in-Err-clause-no_empty g c whole unrefuted =
+    let mid = c.give_back.new.table in
+    further_empty c.args.table.now mid c.try_move-in-Err.new.table
+    (further_empty c.args.table.now c.try_move.new.table mid
+    (c.in-Err.ensures.no_empty (λ torn. no_nodes_left (sym (c.is_node_limit.ensures.0 c.if-is_node_limit.true) ∙ same_error torn))
+    (λ is. no_error (sym is)))
+    (fewer_empty _ _ _ c.try_move.new.table mid c.in_ok-left-in-Err.ensures.leaves c.give_back.ensures.top))
+    (c.try_move-in-Err.ensures.no_empty whole unrefuted)
+
+-- at the limit a reclamation is due
+pub returns-in_err-left-in-Err-clause-rule : goal.returns-in_err-left-in-Err-clause-rule
+returns-in_err-left-in-Err-clause-rule g c stage next at is =
+    inr (due_at_limit g.S.Sink.tells _ _ c.args.table.now c.try_move.new.table _ _ c.in-Err.e
+    (c.is_node_limit.ensures.0 c.if-is_node_limit.true) c.in-Err.ensures.leaves (c.try_move.ensures.made stage next at is))
+
+pub returns-in_ok-left-in-Err-clause-rule : goal.returns-in_ok-left-in-Err-clause-rule
+returns-in_ok-left-in-Err-clause-rule g c stage next at is =
+    inr (due_at_limit g.S.Sink.tells _ _ c.args.table.now c.try_move.new.table _ _ c.in-Err.e
+    (c.is_node_limit.ensures.0 c.if-is_node_limit.true) c.in-Err.ensures.leaves (c.try_move.ensures.made stage next at is))
+
+pub returns-in-Ok-clause-rule : goal.returns-in-Ok-clause-rule
+returns-in-Ok-clause-rule g c stage next at is = inl (c.try_move.ensures.nodes, refl)
+
+pub returns-in-Err-2-clause-rule : goal.returns-in-Err-2-clause-rule
+returns-in-Err-2-clause-rule g c stage next at is = inl (c.try_move.ensures.nodes, refl)
+
+pub try_move-requires-in-Err-clause-possible : goal.try_move-requires-in-Err-clause-possible
+try_move-requires-in-Err-clause-possible g c =
+    let formula = c.args.formula.now in
+    let one = c.try_move.new.table in
+    let mid = c.give_back.new.table in
+    let trail = c.try_move.new.trail in
+    let possible = c.requires.possible in
+    let stage = possible.0 in
+    let limit = c.is_node_limit.ensures.0 c.if-is_node_limit.true in (
+      stage,
+      possible.1,
+      subst (λ (stack : List HeldTerm). IsAt formula mid.graph mid.book.state.live stack trail stage) c.as_slice.ensures.value
+          (c.in_ok-left-in-Err.ensures.at stage
+          (subst (λ (stack : List HeldTerm). IsAt formula one.graph one.book.state.live stack trail stage) (sym c.as_slice.ensures.value)
+          (c.in-Err.ensures.at_again stage possible.2 (ap Err limit)))),
+      possible.3,
+    )

@@ -138,6 +138,7 @@ returns-clause-ends g c =
       short = told.short;
       paid = told.paid;
       lean = told.lean;
+      no_empty = told.no_empty;
       few = c.table_law.ensures.few_nodes;
     }) in
     let outcome = subst (λ (o : Result Outcome RunError). Leads tells before after formula table.graph.order moves limits new.book o)

@@ -1,5 +1,5 @@
 -- What is left to show of `unit_of`.
-use Rattle.std.proofs.Common.{◌≡◌, ◌≢◌, ◌⊎◌, ℕ, [], ◌∷◌, subst, inl, inr}
+use Rattle.std.proofs.Common.{◌≡◌, ◌≢◌, ◌⊎◌, ℕ, [], ◌∷◌, arith, subst, inl, inr}
 use Rattle.node_table.specs.declared.node.Just.{Just}
 use Rattle.node_table.specs.Defined.{atom_of}
 use Rattle.node_table.specs.Just.{IsJustified}
@@ -93,3 +93,20 @@ returns-then-is_same-clause-alone g c id added = inl added
 
 pub returns-then-is_same-2-clause-alone : goal.returns-then-is_same-2-clause-alone
 returns-then-is_same-2-clause-alone g c id added = inl added
+
+pub returns-clause-some : goal.returns-clause-some
+returns-clause-some g c = c.add_unit.ensures.some
+
+pub returns-clause-refused : goal.returns-clause-refused
+returns-clause-refused g c = c.add_unit.ensures.refused
+
+pub returns-clause-steps : goal.returns-clause-steps
+returns-clause-steps g c = c.add_unit.ensures.steps
+
+pub returns-then-is_same-clause-some : goal.returns-then-is_same-clause-some
+returns-then-is_same-clause-some g c open_w =
+    c.steps_law.ensures.at_most _ _ _ _ 0 1 _ (omega arith) (c.steps_law.ensures.none c.args.table.now c.requires.sound)
+
+pub returns-then-is_same-2-clause-some : goal.returns-then-is_same-2-clause-some
+returns-then-is_same-2-clause-some g c open_w =
+    c.steps_law.ensures.at_most _ _ _ _ 0 1 _ (omega arith) (c.steps_law.ensures.none c.args.table.now c.requires.sound)

@@ -9,6 +9,7 @@ use Rattle.node_table.specs.Just.{IsJustified}
 use Rattle.operations.specs.Results.{implication_atoms}
 use Rattle.term_runner.proofs.Units.{not_both, implying_named, implication_named, implied_refuted}
 use Rattle.node_table.specs.Table.{IsAddedTo}
+use Rattle.term_runner.proofs.NoEmpty.{implied_open}
 use Rattle.term_runner.proofs.OwnUnits.{no_clause, given_one}
 use Rattle.term_runner.proofs.Stacks.{if_ok}
 use Rattle.term_runner.proofs.unit.unit_of_implied.Goals as goal
@@ -89,3 +90,9 @@ returns-then-is_same-2-clause-added g c = inr (λ id is. absurd (no_clause id is
 
 pub returns-then-is_same-2-clause-alone : goal.returns-then-is_same-2-clause-alone
 returns-then-is_same-2-clause-alone g c id added = inl added
+
+pub returns-clause-steps : goal.returns-clause-steps
+returns-clause-steps g c =
+    c.add_unit.ensures.some
+    (implied_open c.canonical_law.ensures c.args.table.now.graph c.requires.sound.tied.reduced c.args.u.now.node c.args.w c.requires.first
+    c.requires.first_open c.requires.implied.value)

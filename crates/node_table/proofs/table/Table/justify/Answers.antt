@@ -1,16 +1,17 @@
 -- What is left to show of `Table::justify`.
-use Rattle.std.proofs.Common.{◌∙◌, ◌+◌, ℕ, List, Option, Some, Contains, is_some, sym, ap, subst}
+use Rattle.std.proofs.Common.{◌≢◌, ◌∙◌, ◌+◌, ℕ, List, [], Option, Some, Contains, is_some, sym, ap, subst}
 use Rattle.std.specs.Prelude.{vec_capacity}
 use Rattle.lrat_rules.specs.State.{State, clause_at}
 use Rattle.clause_ledger.specs.Book.{next_line}
 use Rattle.node_table.specs.declared.error.TableError.{TableError}
 use Rattle.node_table.specs.Tied.{IsAdded, IsOverNodes}
 use Rattle.node_table.specs.Places.{HavePlaces}
-use Rattle.node_table.specs.Table.{TableState, IsSound}
-use Rattle.node_table.specs.Progress.{Steps}
+use Rattle.node_table.specs.Table.{TableState, AddsNoEmpty, IsSound}
+use Rattle.node_table.specs.Progress.{StepsOrRefutes}
 use Rattle.node_table.proofs.Added.{added_next, not_next}
 use Rattle.node_table.proofs.CallSteps.{Aside, table_of}
-use Rattle.node_table.proofs.Justifying.{Answers, told, justify_steps}
+use Rattle.node_table.proofs.Justifying.{Answers, told, justify_no_empty, justify_steps}
+use Rattle.node_table.proofs.Progressed.{Steps-no_empty}
 use Rattle.node_table.proofs.Places.{HavePlaces-next}
 use Rattle.node_table.proofs.table.Table.justify.Given.{Over}
 use Rattle.node_table.proofs.table.Table.justify.Goals as goal
@@ -57,9 +58,12 @@ returns-in-Ok-clause-unretired g c among =
 
 -- the steps, as the ledger answered
 steps : (g : Over) (c : After-add g)
-    → Steps g.S.Sink.tells (g.S.Sink.channel c.args.self.now.book.sink) (g.S.Sink.channel c.add.new.self.sink) c.args.self.now
+    → StepsOrRefutes g.S.Sink.tells (g.S.Sink.channel c.args.self.now.book.sink) (g.S.Sink.channel c.add.new.self.sink) c.args.self.now
     (table_of (record { max_nodes = c.self.inside.max_nodes; inputs = c.self.inside.inputs; retired = c.reserve_place.new.retired.items })
     c.self.inside.diagram c.add.new.self) 1 (told c.add.result)
+    × (c.args.clause.now ≢ [] → AddsNoEmpty c.args.self.now
+    (table_of (record { max_nodes = c.self.inside.max_nodes; inputs = c.self.inside.inputs; retired = c.reserve_place.new.retired.items })
+    c.self.inside.diagram c.add.new.self))
 steps g c =
     let inside = c.self.inside in
     let new = c.add.new.self in
@@ -69,6 +73,7 @@ steps g c =
     let answers : Answers g.S.Sink.tells g.S.Sink.channel inside.ledger new c.args.clause.now
     (next_line inside.ledger.state c.args.clause.now c.args.hints.now) c.add.result = record {
       added = own.added;
+      written = own.line;
       kept = own.kept;
       in_step = own.in_step;
       limit = own.limit;
@@ -84,28 +89,43 @@ steps g c =
     } in
     let all = justify_steps g.S.Sink.tells g.S.Sink.channel (aside g c) inside.diagram inside.ledger new c.args.clause.now _
     (sound g c) over c.self.invariant.1 c.marks_law.ensures.fewer c.add.result answers in
-    subst (λ (ids : List ℕ). Steps g.S.Sink.tells (g.S.Sink.channel c.args.self.now.book.sink) (g.S.Sink.channel new.sink) c.args.self.now
-    (table_of (record { max_nodes = inside.max_nodes; inputs = inside.inputs; retired = ids }) inside.diagram new) 1 (told c.add.result))
-    (sym c.reserve_place.ensures.items)
-    (subst {A = TableState g.row.S.Denot} (λ t. Steps g.S.Sink.tells (g.S.Sink.channel t.book.sink) (g.S.Sink.channel new.sink) t
-    (table_of (aside g c) inside.diagram new) 1 (told c.add.result)) c.self.view_is all)
+    let none = justify_no_empty g.S.Sink.tells g.S.Sink.channel (aside g c) inside.diagram inside.ledger new c.args.clause.now _
+    (sound g c) over c.self.invariant.1 c.marks_law.ensures.fewer c.add.result answers in (
+      subst (λ (ids : List ℕ). StepsOrRefutes g.S.Sink.tells (g.S.Sink.channel c.args.self.now.book.sink) (g.S.Sink.channel new.sink)
+          c.args.self.now (table_of (record { max_nodes = inside.max_nodes; inputs = inside.inputs; retired = ids }) inside.diagram new) 1 (told c.add.result))
+          (sym c.reserve_place.ensures.items)
+          (subst {A = TableState g.row.S.Denot} (λ t. StepsOrRefutes g.S.Sink.tells (g.S.Sink.channel t.book.sink) (g.S.Sink.channel new.sink) t
+          (table_of (aside g c) inside.diagram new) 1 (told c.add.result)) c.self.view_is all),
+      λ some. record {
+        each = λ id empty. sym (ap (λ (t : TableState g.row.S.Denot). clause_at t.book.state.live id) c.self.view_is)
+            ∙ (none some).each id empty;
+      },
+    )
 
 pub returns-in-Ok-clause-steps : goal.returns-in-Ok-clause-steps
 returns-in-Ok-clause-steps g c =
     let inside = c.self.inside in
     let new = c.add.new.self in
-    subst (λ (e : Option TableError). Steps g.S.Sink.tells (g.S.Sink.channel c.args.self.now.book.sink)
+    subst (λ (e : Option TableError). StepsOrRefutes g.S.Sink.tells (g.S.Sink.channel c.args.self.now.book.sink)
     (g.S.Sink.channel new.sink) c.args.self.now
     (table_of (record { max_nodes = inside.max_nodes; inputs = inside.inputs; retired = c.reserve_place.new.retired.items }) inside.diagram
     new) 1 e) (ap told c.in-Ok.is)
-    (steps g (goal.at.returns-in-Ok-clause-steps g c).After-add)
+    (steps g (goal.at.returns-in-Ok-clause-steps g c).After-add).0
 
 pub returns-in-Err-clause-steps : goal.returns-in-Err-clause-steps
 returns-in-Err-clause-steps g c =
     let inside = c.self.inside in
     let new = c.add.new.self in
-    subst (λ (e : Option TableError). Steps g.S.Sink.tells (g.S.Sink.channel c.args.self.now.book.sink)
+    subst (λ (e : Option TableError). StepsOrRefutes g.S.Sink.tells (g.S.Sink.channel c.args.self.now.book.sink)
     (g.S.Sink.channel new.sink) c.args.self.now
     (table_of (record { max_nodes = inside.max_nodes; inputs = inside.inputs; retired = c.reserve_place.new.retired.items }) inside.diagram
     new) 1 e) (ap told c.in-Err.is ∙ ap Some (sym c.from.ensures))
-    (steps g (goal.at.returns-in-Err-clause-steps g c).After-add)
+    (steps g (goal.at.returns-in-Err-clause-steps g c).After-add).0
+
+pub returns-in-Ok-clause-no_empty : goal.returns-in-Ok-clause-no_empty
+returns-in-Ok-clause-no_empty g c some = Steps-no_empty _ _ _ _ _ _ _ (returns-in-Ok-clause-steps g c)
+    ((steps g (goal.at.returns-in-Ok-clause-no_empty g c).After-add).1 some)
+
+pub returns-in-Err-clause-no_empty : goal.returns-in-Err-clause-no_empty
+returns-in-Err-clause-no_empty g c some = Steps-no_empty _ _ _ _ _ _ _ (returns-in-Err-clause-steps g c)
+    ((steps g (goal.at.returns-in-Err-clause-no_empty g c).After-add).1 some)

@@ -10,13 +10,14 @@ use Rattle.node_table.specs.declared.error.TableError.TheVariants.{WriteFault}
 use Rattle.node_table.specs.Diagram.{branch_at, is_node}
 use Rattle.node_table.specs.Defined.{IsNewVariable, definition_lines}
 use Rattle.node_table.specs.Made.{inner}
-use Rattle.node_table.specs.Table.{TableState, IsSound, AddsNone, HasChildren, IsFree, IsMade, node_definitions}
+use Rattle.node_table.specs.Table.{TableState, IsSound, AddsNone, HasChildren, IsLeastFree, IsMade, node_definitions}
 use Rattle.node_table.specs.Errors.{table_error}
 use Rattle.node_table.specs.HandedOn.{handed_on}
 use Rattle.node_table.specs.Tied.{IsTied}
 use Rattle.node_table.specs.Places.{AreNumberedAbove}
 use Rattle.node_table.specs.Progress.{Steps}
 use Rattle.node_table.proofs.CallSteps.{Aside, Wrote, Tore, table_of}
+use Rattle.node_table.proofs.Progressed.{torn_more}
 use Rattle.node_table.proofs.Making.{Making, asked_at, joined_as, enough, told_torn, making_on, making_torn, making_only, making_made}
 use Rattle.node_table.proofs.Making.{making_cut, making_before}
 use Rattle.node_table.proofs.Places.{HavePlaces-same, AreNumberedAbove-new}
@@ -129,7 +130,14 @@ returns-clause-steps g c =
     let new = c.write_definitions.new.ledger in
     let own = c.in_ok-write_definitions.ensures in
     let wrote : Wrote g.S.Sink.tells (g.S.Sink.channel c.reserve.new.self.sink) (g.S.Sink.channel new.sink) c.reserve.new.self new =
-    record { in_step = own.in_step; kept = own.kept; limit = own.limit; unfailed = own.unfailed; writes = own.only_writes } in
+    record {
+      in_step = own.in_step;
+      kept = own.kept;
+      limit = own.limit;
+      unfailed = own.unfailed;
+      writes = own.only_writes;
+      grows = λ told. record { more = _; written = own.lines told };
+    } in
     subst (λ (t : TableState g.row.S.Denot). Steps g.S.Sink.tells (g.S.Sink.channel t.book.sink) (g.S.Sink.channel new.sink) t
     (table_of (aside_at c.self.inside.max_nodes c.self.inside.inputs c.self.inside.retired.items) c.push.new.self new) 0 None)
     c.self.view_is
@@ -165,6 +173,7 @@ returns-in_err-write_definitions-clause-steps g c =
       out_of_step = own.out_of_step refl;
       limit = own.limit;
       writes = own.only_writes;
+      grows = λ told. torn_more (own.write_fault refl) told;
     } in
     let steps = making_torn g.S.Sink.tells g.S.Sink.channel (making g
     (goal.at.returns-in_err-write_definitions-clause-steps g c).After-write_definitions) new own.front tore c.marks_law.ensures.fewer in
@@ -190,7 +199,7 @@ returns-in_err-write_definitions-clause-torn g c failed =
     let cut = making_cut g.S.Sink.tells g.S.Sink.channel (making g
     (goal.at.returns-in_err-write_definitions-clause-torn g c).After-write_definitions) new
     (c.in_err-write_definitions.ensures.write_fault refl) in
-    subst (λ (t : TableState g.row.S.Denot). (variable : ℕ) × IsFree t.graph t.book.state.live variable
+    subst (λ (t : TableState g.row.S.Denot). (variable : ℕ) × IsLeastFree t.graph t.book.state.live variable
     × IsTorn g.S.Sink.tells (g.S.Sink.channel t.book.sink) (g.S.Sink.channel new.sink)
     (definition_lines t.book.state (node_definitions t.graph t.book.state c.args.level c.args.high c.args.low variable))) c.self.view_is
     (c.in_ok-key.variable, cut.0, cut.1)

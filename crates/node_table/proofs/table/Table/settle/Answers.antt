@@ -11,6 +11,7 @@ use Rattle.node_table.specs.Places.{HavePlaces}
 use Rattle.node_table.specs.Table.{TableState, IsSound, without_retired}
 use Rattle.node_table.specs.Progress.{Continues, BreaksOff, Leaves}
 use Rattle.node_table.proofs.CallSteps.{Aside, table_of}
+use Rattle.node_table.proofs.Progressed.{torn_more}
 use Rattle.node_table.proofs.Places.{HavePlaces-settled, retired_few}
 use Rattle.node_table.proofs.Settled.{retired_added, settled_gone, settled_stays}
 use Rattle.node_table.proofs.Settling.{settled_on, settled_torn}
@@ -110,7 +111,7 @@ returns-in-Ok-clause-leaves g c =
     let after = (goal.at.returns-in-Ok-clause-leaves g c).After-delete in
     let own = c.in-Ok.ensures in
     let on = settled_on g.S.Sink.tells g.S.Sink.channel (aside g after) inside.diagram inside.ledger new (sound g after)
-    (state_is g after) own.limit own.only_writes own.in_step
+    (state_is g after) own.limit own.only_writes (λ told. record { more = _; written = own.line told }) own.in_step
     (λ clauses proof added. own.kept clauses proof (subst (λ (ids : List ℕ). are_added (length clauses) inside.ledger.state.live ids
     ≡ true) (sym c.as_slice.ensures.value) added)) own.unfailed in
     subst (λ (ids : List ℕ). Continues g.S.Sink.tells (g.S.Sink.channel c.args.self.now.book.sink)
@@ -127,7 +128,7 @@ returns-in-Err-clause-leaves g c =
     let after = (goal.at.returns-in-Err-clause-leaves g c).After-delete in
     let own = c.in-Err.ensures in
     let torn = settled_torn g.S.Sink.tells g.S.Sink.channel (aside g after) inside.diagram inside.ledger new (sound g after)
-    (state_is g after) own.limit own.only_writes
+    (state_is g after) own.limit own.only_writes (torn_more own.write_fault.1)
     (subst (λ (ids : List ℕ). IsTorn g.S.Sink.tells (g.S.Sink.channel inside.ledger.sink) (g.S.Sink.channel new.sink)
     (deletion_line inside.ledger.state ids)) c.as_slice.ensures.value own.write_fault.1)
     (λ clauses proof added told. own.cut clauses proof (subst (λ (ids : List ℕ). are_added (length clauses) inside.ledger.state.live ids

@@ -10,6 +10,7 @@ use Rattle.node_table.specs.Marks.{AreMarks}
 use Rattle.node_table.specs.Table.{TableState, IsAddedTo, IsSound}
 use Rattle.node_table.specs.Progress.{Continues, BreaksOff, Leaves}
 use Rattle.node_table.proofs.CallSteps.{Aside, table_of}
+use Rattle.node_table.proofs.Progressed.{torn_more}
 use Rattle.node_table.proofs.Deletable.{defines_above}
 use Rattle.node_table.proofs.SweptTable.{AreLeft, sweep_on, sweep_torn, swept_numbered, swept_places, was_added}
 use Rattle.node_table.proofs.table.Table.sweep.Given.{Over}
@@ -69,6 +70,7 @@ returns-in-Ok-clause-leaves g c =
     } in
     let on = sweep_on g.S.Sink.tells g.S.Sink.channel (aside g after) inside.diagram inside.ledger new
     (sound g after) c.self.invariant.3 own.top own.limit own.only_writes
+    (λ told. record { more = _; written = own.lines.deletes.written told })
     c.sweep.new.self c.args.marks.now (marks_are g after) c.sweep.ensures.swept clear left own.in_step own.kept own.unfailed in
     subst {A = TableState g.row.S.Denot} (λ t. Continues g.S.Sink.tells (g.S.Sink.channel t.book.sink) (g.S.Sink.channel new.sink) t
     (table_of (aside g after) c.sweep.new.self new)) c.self.view_is on
@@ -81,6 +83,7 @@ returns-in-Err-clause-leaves g c =
     let own = c.in-Err.ensures in
     let torn = sweep_torn g.S.Sink.tells g.S.Sink.channel (aside g after) inside.diagram inside.ledger new
     (sound g after) c.self.invariant.3 own.top own.limit own.only_writes
+    (torn_more own.front.deletes.torn)
     own.among own.rose own.cut own.in_step c.marks_law.ensures.fewer c.self.invariant.1 in
     let cause : WriteFault ≡ c.from.result = ap table_error (sym own.error) ∙ sym c.from.ensures in
     subst (λ (e : TableError). Leaves g.S.Sink.tells (g.S.Sink.channel c.args.self.now.book.sink)
