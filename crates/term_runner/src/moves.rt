@@ -59,9 +59,9 @@ pub fn try_move<S: Sink + Drop>(
     ensures at_again { (stage : Stage) → IsAt formula.now table.old.graph table.old.book.state.live stack.old.items trail.old stage
         → result ≡ Err NodeLimit → IsAt formula.now table.new.graph table.new.book.state.live stack.new.items trail.new stage }
     ensures leaves { Leaves S.tells (S.channel table.old.book.sink) (S.channel table.new.book.sink) table.old table.new (error_of result) }
+    ensures no_empty { IsUnrefuted table.old table.new result }
     // However it ends, nodes stay, and the new clauses are those of new nodes and no more beside them than this, or, where the
     // caches have room for all pairs of parts in hand, than two for each of these.
-    ensures no_empty { IsUnrefuted table.old table.new result }
     ensures nodes { KeepsNodes table.old.graph table.new.graph }
     ensures adds { AddsAtMost (most_additions (levels table.old.graph) + 1) table.old table.new }
     ensures pairs { (stage next : Stage) → IsAt formula.now table.old.graph table.old.book.state.live stack.old.items trail.old stage
