@@ -87,12 +87,12 @@ fn plans(rt: HostRuntime) -> Result<(), Fail> {
 }
 
 // The call on standard output that fails, of those that move 16 bytes each: how the run ends, how many bytes of the help are
-// shown, and the first of them. The text has 1,177 bytes.
+// shown, and the first of them. The text has 1,182 bytes.
 const HELP: &str = "\
 1;WriteFault 0 ''
 3;WriteFault 32 'Decides FILE, and writes the pro'
-75;WriteFault 1177 'Decides FILE, and writes the pro'
-76;Help 1177 'Decides FILE, and writes the pro'";
+75;WriteFault 1182 'Decides FILE, and writes the pro'
+76;Help 1182 'Decides FILE, and writes the pro'";
 
 fn helped(alloc: Global, number: u64) -> Result<String, Fail> {
     let words = words_of(alloc, "bddsat solve --help")?;
