@@ -14,8 +14,8 @@ use Rattle.cnf_base.specs.ProofText.{max_id, is_id, is_printable, line_of_step}
 use Rattle.host_io.specs.Channel.{Channel}
 use Rattle.lrat_rules.specs.State.{State, Live, clause_at, without_clauses}
 use Rattle.lrat_rules.specs.Derivation.{IsCutProof, are_added}
-use Rattle.clause_ledger.specs.Book.{IsProofOf, IsWritten-IsProofOf}
-use Rattle.clause_ledger.proofs.Kept.{AreNumbers, MoreLaw, TextLaw}
+use Rattle.clause_ledger.specs.Book.{IsProofOf, IsWritten-IsProofOf, AreNumbers}
+use Rattle.clause_ledger.proofs.Added.{MoreLaw, TextLaw}
 
 -- one number more is taken out
 without-append : (live : Live) (front back : List ℕ) → without_clauses live (front ++ back)
@@ -23,7 +23,7 @@ without-append : (live : Live) (front back : List ℕ) → without_clauses live 
 without-append live [] back = refl
 without-append live (id ∷ front) back = without-append (finmap.remove live id) front back
 
-removed_at : (live : Live) (id other : ℕ) (b : Bool) → (nat_eq other id) ≡ b → clause_at (finmap.remove live id) other
+pub removed_at : (live : Live) (id other : ℕ) (b : Bool) → (nat_eq other id) ≡ b → clause_at (finmap.remove live id) other
     ≡ cond b None (clause_at live other)
 removed_at live id other b is = finmap.get-remove nat_cmp_total live id other
     ∙ ap (λ b. cond b None (clause_at live other)) (unsigned_tied other id ∙ is)
@@ -40,7 +40,7 @@ was_live live id other clause is =
 fewer_numbers : (live : Live) (top id : ℕ) → AreNumbers live top → AreNumbers (finmap.remove live id) top
 fewer_numbers live top id numbers other clause is = numbers other clause (was_live live id other clause is)
 
-numbers_without : (live : Live) (top : ℕ) (ids : List ℕ) → AreNumbers live top → AreNumbers (without_clauses live ids) top
+pub numbers_without : (live : Live) (top : ℕ) (ids : List ℕ) → AreNumbers live top → AreNumbers (without_clauses live ids) top
 numbers_without live top [] numbers = numbers
 numbers_without live top (id ∷ ids) numbers = numbers_without (finmap.remove live id) top ids (fewer_numbers live top id numbers)
 

@@ -1,6 +1,4 @@
-pub mod Kept
-pub mod Chunks
-pub mod Rooms
-pub mod Counts
+pub mod Added
 pub mod Deleted
-pub mod Spans
+pub mod Places
+mod Walks

@@ -5,25 +5,31 @@ use Rattle.cnf_base.specs.declared.step.Step.{Step}
 use Rattle.cnf_base.specs.declared.step.Step.TheVariants.{Add, Delete}
 use Rattle.cnf_base.specs.ProofText.{line_of_step}
 use Rattle.host_io.specs.Channel.{Channel, Rose}
-use Rattle.lrat_rules.specs.State.{State, state_code, clause_at, with_clause}
+use Rattle.lrat_rules.specs.State.{State, Live, state_code, clause_at, with_clause}
 use Rattle.lrat_rules.specs.Derivation.{IsDerivation, IsWritten, text_of}
 use Rattle.lrat_write.specs.LineText.{bare_groups}
 
--- its sink, its live clauses with the greatest number, the greatest number allowed, whether no write failed yet, and
--- for how many more clauses of at most four literals it has room
+-- its sink, its live clauses with the greatest number, the greatest number allowed, whether no write failed yet, whether
+-- the live clauses can be read, and for how many more clauses of at most four literals it has room
 pub record Book (S : Type 0) : Type 0 where
   pub sink : S
   pub state : State
   pub limit : ℕ
   pub in_step : Bool
+  pub keeps : Bool
   pub spare : ℕ
 
 -- a book can be a model's value: it is stored as its fields
 abbrev pub book_code : {S : Type 0} → Coded S → Coded (Book S)
 book_code {S} code =
-    code_by (S × (State × (ℕ × (Bool × ℕ)))) (coded× code (coded× state_code (coded× coded_ℕ (coded× coded_bool coded_ℕ))))
-    (λ b. (b.sink, (b.state, (b.limit, (b.in_step, b.spare)))))
-    (λ p. record { sink = p.0; state = p.1.0; limit = p.1.1.0; in_step = p.1.1.1.0; spare = p.1.1.1.1 }) (λ _. refl)
+    code_by (S × (State × (ℕ × (Bool × (Bool × ℕ)))))
+    (coded× code (coded× state_code (coded× coded_ℕ (coded× coded_bool (coded× coded_bool coded_ℕ)))))
+    (λ b. (b.sink, (b.state, (b.limit, (b.in_step, (b.keeps, b.spare))))))
+    (λ p. record { sink = p.0; state = p.1.0; limit = p.1.1.0; in_step = p.1.1.1.0; keeps = p.1.1.1.1.0; spare = p.1.1.1.1.1 }) (λ _. refl)
+
+-- live numbers are from 1 up to the greatest
+abbrev pub AreNumbers : Live → ℕ → Type 0
+AreNumbers live top = (id : ℕ) (clause : List ℤ) → clause_at live id ≡ Some clause → (0 < id) × (id ≤ top)
 
 -- A derivation leads from the formula's clauses to this state, and the sink's bytes are exactly its written form. The
 -- formula's clauses stand under 1, 2, .. and no number is above the greatest.

@@ -1,3 +1,4 @@
-pub mod Chunks
 pub mod Book
+pub mod History
+pub mod Kept
 pub mod Spans

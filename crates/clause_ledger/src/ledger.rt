@@ -1,18 +1,18 @@
 // The ledger: live clauses, and the lines that made them.
 ghost use Rattle.std.specs.Prelude.{◌≡◌, ◌≢◌, ◌<◌, ◌≤◌, ◌+◌, ◌-◌, ◌++◌, ◌↔◌, ℕ, ℤ, List, [], Some, true, false, IsTrue, OnOk, IfOk, IfErr};
-ghost use Rattle.std.specs.Prelude.{IsErrOf, OnErr, is_ok, length};
+ghost use Rattle.std.specs.Prelude.{IsErrOf, OnErr, IfSome, is_ok, is_some, length};
 ghost use Rattle.std.specs.Option.{option_copied};
-ghost use Rattle.std.specs.List.{list_all};
-ghost use Rattle.cnf_base.specs.Truth.{is_literal_of};
-ghost use Rattle.cnf_base.specs.ProofText.{max_id, max_literal};
+ghost use Rattle.cnf_base.specs.ProofText.{max_id};
 ghost use Rattle.host_io.specs.Channel.{Rose, Flushes};
 ghost use Rattle.lrat_rules.specs.State.{start, clause_at, without_clauses};
 ghost use Rattle.lrat_rules.specs.Strict.{RefutesStrictly, IsDefinition};
 ghost use Rattle.lrat_rules.specs.Derivation.{IsCutProof, are_added};
 ghost use Rattle.clause_ledger.specs.Book.{IsProofOf, OnlyWrites, IsTorn, next_line, definition_line, deletion_line, with_next};
+ghost use Rattle.clause_ledger.specs.Kept.{AreKept, ample_room, room_of};
 
 use crate::error::LedgerError;
-use crate::live::LiveClauses;
+use crate::history::{Change, History};
+use crate::kept::{Kept, push_kept, remove_kept, reserve_kept};
 use cnf_base::{Cnf, Id, Lit, OutOfMemory};
 use host_io::Sink;
 use lrat_rules::{definition_law, derivation_law, live_law, start_law, strict_addition_law};
@@ -20,32 +20,45 @@ use lrat_write::{write_add, write_define, write_delete};
 use std::alloc::Global;
 use std::marker::Model;
 
-/// The live clauses of a run and its proof, which goes to a sink line by line.
+/// The live clauses of a run and its proof, which goes to a sink line by line. The clauses themselves are kept only where
+/// they are to be read.
 #[derive(Drop)]
 pub struct Ledger<S: Sink + Drop> {
     sink: S,
-    live: LiveClauses,
+    history: History,
+    kept: Option<Kept>,
+    top: u64,
     max_ids: u64,
     in_step: bool,
 }
 
 impl<S: Sink + Drop> Model for Ledger<S> {
-    ghost use Rattle.std.specs.Prelude.{◌≤◌};
+    ghost use Rattle.std.specs.Prelude.{◌≡◌, ◌≤◌, IfSome, is_some};
     ghost use Rattle.cnf_base.specs.ProofText.{max_id};
-    ghost use Rattle.clause_ledger.specs.Book.{Book, book_code};
+    ghost use Rattle.clause_ledger.specs.Book.{Book, book_code, AreNumbers};
+    ghost use Rattle.clause_ledger.specs.Kept.{AreKept, room_of};
 
     ghost Value = { Book S };
 
     ghost coded = { book_code S.code };
 
-    ghost view = { λ l. record { sink = l.sink; state = l.live.state; limit = l.max_ids; in_step = l.in_step; spare = l.live.spare } };
+    ghost view = { λ l. record {
+      sink = l.sink;
+      state = l.history.state;
+      limit = l.max_ids;
+      in_step = l.in_step;
+      keeps = is_some l.kept;
+      spare = room_of l.kept;
+    } };
 
-    ghost invariant = { λ l. (l.max_ids ≤ max_id) × (l.live.state.top ≤ max_id) };
+    ghost invariant = { λ l. (l.max_ids ≤ max_id) × (l.top ≤ max_id) × (l.history.state.top ≡ l.top) × AreNumbers l.history.state.live l.top
+        × IfSome l.kept (AreKept l.history.state) };
 }
 
 impl<S: Sink + Drop> Ledger<S> {
-    /// Opens a ledger with the clauses of a formula, whose numbers are 1, 2, .. `max_ids` is the greatest number
-    /// allowed for additions. A refusal for want of memory hands the sink back.
+    /// Opens a ledger with the clauses of a formula, whose numbers are 1, 2, .., and keeps all live clauses, so that `clause`
+    /// can be called. `max_ids` is the greatest number allowed for additions. A refusal for want of memory hands the sink
+    /// back.
     pub fn open(
         alloc: Global,
         formula: &Cnf,
@@ -59,6 +72,7 @@ impl<S: Sink + Drop> Ledger<S> {
           state = start formula.now.clauses;
           limit = max_ids;
           in_step = true;
+          keeps = true;
           spare = ledger.spare;
         }) }
         ensures proof { IfOk result (λ ledger. IsProofOf formula.now.clauses S.tells (S.channel ledger.sink) ledger.state) }
@@ -67,21 +81,50 @@ impl<S: Sink + Drop> Ledger<S> {
         derivation_law();
         start_law();
         formula.formula_law();
-        match start_clauses(alloc, formula) {
-            Ok(live) => Ok(Ledger::new(live, sink, max_ids)),
+        match Kept::of(alloc, formula) {
+            Ok(kept) => Ok(Ledger::begin(formula, Some(kept), sink, max_ids)),
             Err(e) => Err((sink, e)),
         }
     }
 
-    /// A ledger over clauses that stand already, as `start_clauses` makes them.
-    pub fn new(live: LiveClauses, sink: S, max_ids: u64) -> Self
+    /// A ledger with the clauses of a formula, whose numbers are 1, 2, .. It keeps no clause, so that it takes no memory, now
+    /// and later.
+    pub fn new(formula: &Cnf, sink: S, max_ids: u64) -> Self
         requires limit { max_ids ≤ max_id }
-        requires top { live.state.top ≤ max_id }
-        ensures { result ≡ record { sink = sink; state = live.state; limit = max_ids; in_step = true; spare = live.spare } }
+        ensures { result ≡ record {
+          sink = sink;
+          state = start formula.now.clauses;
+          limit = max_ids;
+          in_step = true;
+          keeps = false;
+          spare = ample_room;
+        } }
     {
+        Ledger::begin(formula, None, sink, max_ids)
+    }
+
+    // A ledger with the clauses of a formula, and what is kept of them.
+    fn begin(formula: &Cnf, kept: Option<Kept>, sink: S, max_ids: u64) -> Self
+        requires limit { max_ids ≤ max_id }
+        requires kept { IfSome kept (AreKept (start formula.now.clauses)) }
+        ensures { result ≡ record {
+          sink = sink;
+          state = start formula.now.clauses;
+          limit = max_ids;
+          in_step = true;
+          keeps = is_some kept;
+          spare = room_of kept;
+        } }
+    {
+        start_law();
+        formula.formula_law();
+        let top = formula.len() as u64;
+        let history = History::new().then(&Change::Start(formula));
         Ledger {
             sink,
-            live,
+            history,
+            kept,
+            top,
             max_ids,
             in_step: true,
         }
@@ -98,14 +141,17 @@ impl<S: Sink + Drop> Ledger<S> {
             → OnOk result (IsProofOf clauses S.tells (S.channel self.new.sink) self.new.state) }
         ensures in_step { OnOk result (IsTrue self.new.in_step) }
         ensures limit { self.new.limit ≡ self.old.limit }
+        ensures keeps { self.new.keeps ≡ self.old.keeps }
 
         // The number limit is tried first; it and want of memory change nothing.
         ensures id_limit { IsErrOf result LedgerError.IdLimit ↔ (self.old.limit ≤ self.old.state.top) }
         ensures limit_unchanged { IsErrOf result LedgerError.IdLimit → self.new ≡ self.old }
         ensures memory_unchanged { IsErrOf result LedgerError.OutOfMemory → self.new ≡ self.old }
 
-        // Short clauses use up the room that `reserve` made one by one, and find memory while there is some.
+        // Short clauses use up the room that `reserve` made one by one, and find memory while there is some. Where no clause
+        // is kept none is wanted.
         ensures memory { IsErrOf result LedgerError.OutOfMemory → length clause.now ≤ 4 → self.old.spare ≡ 0 }
+        ensures memory_to_keep { IsErrOf result LedgerError.OutOfMemory → IsTrue self.old.keeps }
         ensures spare { length clause.now ≤ 4 → self.old.spare ≤ self.new.spare + 1 }
 
         // A failed write leaves the ledger out of step: its clause is live, behind the proof stands a front of one good
@@ -144,11 +190,13 @@ impl<S: Sink + Drop> Ledger<S> {
             → OnOk result (IsProofOf clauses S.tells (S.channel self.new.sink) self.new.state) }
         ensures in_step { OnOk result (IsTrue self.new.in_step) }
         ensures limit { self.new.limit ≡ self.old.limit }
+        ensures keeps { self.new.keeps ≡ self.old.keeps }
 
         ensures id_limit { IsErrOf result LedgerError.IdLimit ↔ (self.old.limit ≤ self.old.state.top) }
         ensures limit_unchanged { IsErrOf result LedgerError.IdLimit → self.new ≡ self.old }
         ensures memory_unchanged { IsErrOf result LedgerError.OutOfMemory → self.new ≡ self.old }
         ensures memory { IsErrOf result LedgerError.OutOfMemory → length clause.now ≤ 4 → self.old.spare ≡ 0 }
+        ensures memory_to_keep { IsErrOf result LedgerError.OutOfMemory → IsTrue self.old.keeps }
         ensures spare { length clause.now ≤ 4 → self.old.spare ≤ self.new.spare + 1 }
 
         ensures write_fault { IsErrOf result LedgerError.WriteFault
@@ -188,6 +236,7 @@ impl<S: Sink + Drop> Ledger<S> {
             → OnOk result (IsProofOf clauses S.tells (S.channel self.new.sink) self.new.state) }
         ensures in_step { self.new.in_step ≡ is_ok result }
         ensures limit { self.new.limit ≡ self.old.limit }
+        ensures keeps { self.new.keeps ≡ self.old.keeps }
         ensures spare { self.new.spare ≡ self.old.spare }
         ensures write_fault { IfErr result (λ e. (e ≡ LedgerError.WriteFault)
             × IsTorn S.tells (S.channel self.old.sink) (S.channel self.new.sink) (deletion_line self.old.state ids.now)) }
@@ -202,8 +251,8 @@ impl<S: Sink + Drop> Ledger<S> {
         if ids.is_empty() {
             return Ok(());
         }
-        remove_all(&mut self.live, ids);
-        match write_delete(&mut self.sink, Id(self.live.top()), ids) {
+        self.forget(ids);
+        match write_delete(&mut self.sink, Id(self.top), ids) {
             Ok(()) => Ok(()),
             Err(_) => Err(self.fault()),
         }
@@ -214,16 +263,28 @@ impl<S: Sink + Drop> Ledger<S> {
     pub fn reserve(&mut self, n: usize) -> Result<(), OutOfMemory>
         ensures room { OnOk result (n ≤ self.new.spare) }
         ensures not_less { self.old.spare ≤ self.new.spare }
+        ensures memory_to_keep { OnErr result (IsTrue self.old.keeps) }
         ensures unchanged { self.new ≡ record self.old { spare = self.new.spare } }
     {
-        self.live.reserve(n)
+        reserve_kept(&mut self.kept, n)
     }
 
-    /// The clause of a number, where it is live.
+    /// The clause of a number, where it is live. Only a ledger that keeps clauses can tell it.
     pub fn clause(&self, id: Id) -> Option<&[Lit]>
+        requires { IsTrue self.now.keeps }
         ensures { option_copied result ≡ clause_at self.now.state.live id }
     {
-        self.live.get(id)
+        match &self.kept {
+            Some(kept) => kept.clause(id),
+            None => None,
+        }
+    }
+
+    /// Whether clauses are kept, so that `clause` can be called: true as `open` left it, false as `new` did.
+    pub fn keeps_clauses(&self) -> bool
+        ensures { result ≡ self.now.keeps }
+    {
+        self.kept.is_some()
     }
 
     /// The greatest number so far; live clauses have the numbers from 1 up to it.
@@ -233,15 +294,14 @@ impl<S: Sink + Drop> Ledger<S> {
         ensures numbers { (id : ℕ) (clause : List ℤ) → clause_at self.now.state.live id ≡ Some clause → (0 < id)
             × (id ≤ self.now.state.top) }
     {
-        let _ = self.max_ids;
-        self.live.top()
+        self.top
     }
 
     /// How many numbers are left under the limit.
     pub fn ids_left(&self) -> u64
         ensures { result ≡ self.now.limit - self.now.state.top }
     {
-        self.max_ids.saturating_sub(self.live.top())
+        self.max_ids.saturating_sub(self.top)
     }
 
     /// False exactly once a call has answered `WriteFault`.
@@ -256,6 +316,7 @@ impl<S: Sink + Drop> Ledger<S> {
         requires { IsTrue self.old.in_step }
         ensures state { self.new.state ≡ self.old.state }
         ensures limit { self.new.limit ≡ self.old.limit }
+        ensures keeps { self.new.keeps ≡ self.old.keeps }
         ensures spare { self.new.spare ≡ self.old.spare }
         ensures in_step { self.new.in_step ≡ is_ok result }
         ensures written { (S.channel self.new.sink).written ≡ (S.channel self.old.sink).written }
@@ -276,26 +337,39 @@ impl<S: Sink + Drop> Ledger<S> {
         }
     }
 
-    // Keeps a clause under the next number, before its line is written.
+    // Puts a clause under the next number, before its line is written.
     fn keep(&mut self, clause: &[Lit]) -> Result<Id, LedgerError>
         ensures kept { IfOk result (λ id. (id ≡ self.old.state.top + 1)
             × (self.new ≡ record self.old { state = with_next self.old.state clause.now; spare = self.new.spare })) }
+        ensures memory_to_keep { IsErrOf result LedgerError.OutOfMemory → IsTrue self.old.keeps }
         ensures spare { OnOk result (length clause.now ≤ 4 → self.old.spare ≤ self.new.spare + 1) }
         ensures id_limit { IsErrOf result LedgerError.IdLimit ↔ (self.old.limit ≤ self.old.state.top) }
         ensures refused { IfErr result (λ e. e ≢ LedgerError.WriteFault) }
         ensures unchanged { OnErr result (self.new ≡ self.old) }
         ensures memory { IsErrOf result LedgerError.OutOfMemory → length clause.now ≤ 4 → self.old.spare ≡ 0 }
         ensures next { OnOk result (self.old.state.top + 1 ≤ max_id) }
-        ensures range { OnOk result (IsTrue (list_all (is_literal_of max_literal) clause.now)) }
         ensures numbers { (id : ℕ) (clause : List ℤ) → clause_at self.old.state.live id ≡ Some clause → (0 < id)
             × (id ≤ self.old.state.top) }
     {
-        let top = self.live.top();
-        if top >= self.max_ids {
+        live_law();
+        let next = self.top + 1;
+        if next > self.max_ids {
             return Err(LedgerError::IdLimit);
         }
-        self.live.push(clause)?;
-        Ok(Id(top + 1))
+        push_kept(&mut self.kept, clause)?;
+        self.history = self.history.then(&Change::Add(clause));
+        self.top = next;
+        Ok(Id(next))
+    }
+
+    // Takes the clauses of these numbers out, before the line that deletes them is written.
+    fn forget(&mut self, ids: &[Id])
+        ensures { self.new ≡ record self.old {
+          state = record { live = without_clauses self.old.state.live ids.now; top = self.old.state.top };
+        } }
+    {
+        remove_kept(&mut self.kept, ids);
+        self.history = self.history.then(&Change::Delete(ids));
     }
 
     // Remembers that a call of the sink failed.
@@ -313,31 +387,12 @@ impl<S: Sink + Drop> Ledger<S> {
     {
         let Ledger {
             sink,
-            live: _,
+            history: _,
+            kept: _,
+            top: _,
             max_ids: _,
             in_step: _,
         } = self;
         sink
     }
-}
-
-fn remove_all(live: &mut LiveClauses, ids: &[Id])
-    ensures state { live.new.state ≡ record { live = without_clauses live.old.state.live ids.now; top = live.old.state.top } }
-    ensures spare { live.new.spare ≡ live.old.spare }
-{
-    for id in ids {
-        live.remove(*id);
-    }
-}
-
-/// The clauses of a formula under 1, 2, ..
-pub fn start_clauses(alloc: Global, formula: &Cnf) -> Result<LiveClauses, OutOfMemory>
-    ensures { IfOk result (λ live. live.state ≡ start formula.now.clauses) }
-{
-    start_law();
-    let mut live = LiveClauses::new(alloc);
-    for i in 0..formula.len() {
-        live.push(formula.clause(i + 1))?;
-    }
-    Ok(live)
 }

@@ -4,11 +4,10 @@
 //! be deleted. Each call's condition is proved by its caller and not tested.
 #![tactic(auto)]
 
-mod chunk;
 mod error;
+mod history;
+mod kept;
 mod ledger;
-mod live;
 
 pub use error::LedgerError;
-pub use ledger::{Ledger, start_clauses};
-pub use live::LiveClauses;
+pub use ledger::Ledger;

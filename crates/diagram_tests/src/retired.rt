@@ -43,6 +43,9 @@ fn deleted(alloc: Global, room: &str) -> Result<String, Fail> {
 
 fn left_of(alloc: Global, table: Table<ProofText>) -> Result<String, Fail> {
     let ledger = table.into_ledger();
+    if !ledger.keeps_clauses() {
+        return Err(Fail::from("no clauses are kept"));
+    }
     let input = ledger.clause(Id(1)).is_some();
     let first = ledger.clause(Id(2)).is_some();
     let second = ledger.clause(Id(3)).is_some();

@@ -1,6 +1,9 @@
 // A line's text at the end of a buffer, made from its last number back to its first: digits come from the last one to the
 // first, so each byte is put where it stays.
 ghost use Rattle.std.specs.Prelude.{◌≡◌, ◌≤◌, ◌<◌, ◌+◌, ◌++◌, ◌∷◌, ℕ, IfSome, IsTrue, drop};
+ghost use Rattle.std.specs.List.{list_all};
+ghost use Rattle.cnf_base.specs.Truth.{is_literal_of};
+ghost use Rattle.cnf_base.specs.ProofText.{max_literal};
 ghost use Rattle.lrat_write.specs.LineText.{lead, led_number, literals_text, ids_text, line_text, deletion_text};
 
 use cnf_base::{Id, Lit};
@@ -22,6 +25,7 @@ pub fn put_line(
 ) -> Option<usize>
     ensures within { IfSome result (λ start. start ≤ 256) }
     ensures text { IfSome result (λ start. drop start buffer.new ≡ line_text id clause.now (lead minus) ids.now) }
+    ensures range { IfSome result (λ _. IsTrue (list_all (is_literal_of max_literal) clause.now)) }
 {
     let newline = put_byte(buffer, BUFFER, b'\n');
     let end = put_zero(buffer, newline);
@@ -70,11 +74,12 @@ pub fn put_number(buffer: &mut [u8; BUFFER], end: usize, minus: bool, number: u6
     put_byte(buffer, digits, b' ')
 }
 
-// Puts the literals of a clause, each behind a space.
+// Puts the literals of a clause, each behind a space. The type of a literal gives its range.
 fn put_literals(buffer: &mut [u8; BUFFER], end: usize, literals: &[Lit]) -> Option<usize>
     requires { end ≤ 256 }
     ensures within { IfSome result (λ start. start ≤ 256) }
     ensures text { IfSome result (λ start. drop start buffer.new ≡ literals_text literals.now ++ drop end buffer.old) }
+    ensures range { IfSome result (λ _. IsTrue (list_all (is_literal_of max_literal) literals.now)) }
 {
     let mut at = end;
     let mut left = literals.len();

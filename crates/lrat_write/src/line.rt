@@ -2,7 +2,8 @@
 ghost use Rattle.std.specs.Prelude.{◌≡◌, [], IsTrue};
 ghost use Rattle.std.specs.List.{list_all};
 ghost use Rattle.cnf_base.specs.declared.step.Step.TheVariants.{Add, Delete};
-ghost use Rattle.cnf_base.specs.ProofText.{line_of_step, is_id};
+ghost use Rattle.cnf_base.specs.ProofText.{line_of_step, is_id, max_literal};
+ghost use Rattle.cnf_base.specs.Truth.{is_literal_of};
 ghost use Rattle.host_io.specs.Channel.{WritesAll};
 ghost use Rattle.host_io.specs.Emitted.{Emits};
 ghost use Rattle.lrat_write.specs.LineText.{line_text, deletion_text, bare_groups, lead};
@@ -17,6 +18,7 @@ use itoa::Buffer;
 /// the line was written. Takes no memory.
 pub fn write_add<S: Sink>(sink: &mut S, id: Id, clause: &[Lit], hints: &[Id]) -> Result<(), Failed>
     ensures writes { WritesAll S.tells (S.channel sink.old) (S.channel sink.new) (line_of_step (Add id clause.now hints.now [])) result }
+    ensures range { IsTrue (list_all (is_literal_of max_literal) clause.now) }
     ensures beside { S.beside sink.new ≡ S.beside sink.old }
 {
     write_line(sink, id, clause, false, hints)
@@ -33,6 +35,7 @@ pub fn write_define<S: Sink>(
     requires { IsTrue (list_all is_id candidates.now) }
     ensures writes { WritesAll S.tells (S.channel sink.old) (S.channel sink.new)
         (line_of_step (Add id clause.now [] (bare_groups candidates.now))) result }
+    ensures range { IsTrue (list_all (is_literal_of max_literal) clause.now) }
     ensures beside { S.beside sink.new ≡ S.beside sink.old }
 {
     write_line(sink, id, clause, true, candidates)
@@ -92,6 +95,7 @@ fn write_line<S: Sink>(
     ids: &[Id],
 ) -> Result<(), Failed>
     ensures writes { WritesAll S.tells (S.channel sink.old) (S.channel sink.new) (line_text id clause.now (lead minus) ids.now) result }
+    ensures range { IsTrue (list_all (is_literal_of max_literal) clause.now) }
     ensures beside { S.beside sink.new ≡ S.beside sink.old }
 {
     let mut buffer = [0; BUFFER];
@@ -110,11 +114,22 @@ fn write_long_line<S: Sink>(
     ids: &[Id],
 ) -> Result<(), Failed>
     ensures writes { WritesAll S.tells (S.channel sink.old) (S.channel sink.new) (line_text id clause.now (lead minus) ids.now) result }
+    ensures range { IsTrue (list_all (is_literal_of max_literal) clause.now) }
     ensures beside { S.beside sink.new ≡ S.beside sink.old }
 {
+    look_at(clause);
     let mut held = HeldBytes::new();
     emit_line(sink, &mut held, id, clause, minus, ids)?;
     write_all(sink, held.as_slice())
+}
+
+// Looks at each literal, also where a write fails before its turn: the type of a literal gives its range.
+fn look_at(clause: &[Lit])
+    ensures range { IsTrue (list_all (is_literal_of max_literal) clause.now) }
+{
+    for literal in clause {
+        let _var = literal.var();
+    }
 }
 
 fn emit_line<S: Sink>(

@@ -1,6 +1,7 @@
 // What no clause of the ledger shows: that calls succeed where there is memory, the bytes of a proof, and its errors.
 ghost use Rattle.std.specs.Prelude.{◌≡◌, ◌≢◌, ◌<◌, ◌≤◌, ◌+◌, pos, negsuc, [], ◌∷◌, length, true, None, Some, IfOk, IfErr, OnOk, IsTrue};
 ghost use Rattle.std.specs.Prelude.{is_some};
+ghost use Rattle.std.specs.Option.{option_copied};
 ghost use Rattle.cnf_base.specs.ProofText.{max_id};
 ghost use Rattle.lrat_rules.specs.State.{start, clause_at};
 
@@ -102,6 +103,7 @@ fn open<S: Sink + Drop>(
       state = start formula.now.clauses;
       limit = max_ids;
       in_step = true;
+      keeps = true;
       spare = ledger.spare;
     }) }
 {
@@ -142,6 +144,18 @@ fn expect_counts<S: Sink + Drop>(
     Ok(())
 }
 
+// The clause of a number, from a ledger that keeps clauses.
+fn kept_clause<'a, S: Sink + Drop>(
+    rt: &impl Abort,
+    ledger: &'a Ledger<S>,
+    id: u64,
+) -> Option<&'a [Lit]>
+    ensures { option_copied result ≡ clause_at ledger.now.state.live id }
+{
+    assert!(rt; ledger.keeps_clauses());
+    ledger.clause(Id(id))
+}
+
 // The clause of a number, a row of both.
 fn expect_clause<S: Sink + Drop>(
     rt: &impl Abort,
@@ -150,7 +164,7 @@ fn expect_clause<S: Sink + Drop>(
     row: &str,
 ) -> Result<(), Fail> {
     let (id, wanted) = cut(row)?;
-    let clause = ledger.clause(Id(id.parse::<u64>()?));
+    let clause = kept_clause(rt, ledger, id.parse::<u64>()?);
     assert_eq!(rt; format!(in alloc; "{clause:?}")?.as_str(), wanted, "{id}");
     Ok(())
 }
@@ -211,6 +225,20 @@ fn proof_file(rt: HostRuntime) -> Result<(), Fail> {
     expect_refuted(&rt, rt.alloc(), sink)?;
     assert_eq!(rt; host.file("proof"), Some(b"3 0 1 2 0\n".as_slice()));
     Ok(())
+}
+
+/// The same proof where no clause is kept.
+#[test]
+fn nothing_kept(rt: HostRuntime) -> Result<(), Fail> {
+    let alloc = rt.alloc();
+    let formula = opposite_units(alloc)?;
+    let mut ledger = Ledger::new(&formula, FailingSink::new(alloc, 1), 3);
+    assert_eq!(rt; ledger.keeps_clauses(), false);
+    expect_counts(&rt, alloc, &ledger, "2 1 true")?;
+    assert_eq!(rt; ledger.reserve(usize::MAX), Ok(()));
+    assert_eq!(rt; refute(&mut ledger), Ok(Id(3)));
+    expect_counts(&rt, alloc, &ledger, "3 0 true")?;
+    expect_written(&rt, ledger, "3 0 1 2 0\n")
 }
 
 // Adds the empty clause to a formula that has it: the answer of `add` and, where that was Ok, of `finish`; and whether
@@ -406,7 +434,7 @@ fn add_by_conflict<S: Sink + Drop>(
     ensures { OnOk result (IsTrue ledger.new.in_step) }
 {
     conflict_law();
-    let conflict = matches!(ledger.clause(Id(1)), Some([]));
+    let conflict = matches!(kept_clause(rt, ledger, 1), Some([]));
     assert!(rt; conflict);
     ledger.add(clause, &[Id(1)])
 }
@@ -420,7 +448,7 @@ fn delete_live<S: Sink + Drop>(
     requires { IsTrue ledger.old.in_step }
     ensures { OnOk result (IsTrue ledger.new.in_step) }
 {
-    let live = ledger.clause(Id(id)).is_some();
+    let live = kept_clause(rt, ledger, id).is_some();
     assert!(rt; live && id > 0);
     ledger.delete(&[Id(id)])
 }
@@ -470,8 +498,9 @@ fn expect_deletions<S: Sink + Drop>(
     expect_clauses(rt, alloc, ledger, ONE_DELETED)?;
     ledger.delete(&[])?;
     expect_counts(rt, alloc, ledger, "4 1 true")?;
-    let live = ledger.clause(Id(2)).is_some() && ledger.clause(Id(4)).is_some();
-    assert!(rt; live);
+    let first = kept_clause(rt, ledger, 2).is_some();
+    let second = kept_clause(rt, ledger, 4).is_some();
+    assert!(rt; first && second);
     delete_both(ledger, 2, 4)?;
     expect_clauses(rt, alloc, ledger, ALL_DELETED)
 }
@@ -523,7 +552,7 @@ fn expect_live<S: Sink + Drop>(
 ) -> Result<(), Fail> {
     let (mut missing, mut literals) = (0u64, 0u64);
     for id in 0..143u64 {
-        match ledger.clause(Id(id)) {
+        match kept_clause(rt, ledger, id) {
             None => missing = missing.saturating_add(1),
             Some(clause) => literals = literals.saturating_add(clause.len() as u64),
         }
@@ -532,9 +561,9 @@ fn expect_live<S: Sink + Drop>(
     Ok(())
 }
 
-/// All clauses of a chunk go, and more come.
+/// All clauses that were added go, and more come.
 #[test]
-fn whole_chunk_deleted(rt: HostRuntime) -> Result<(), Fail> {
+fn all_deleted(rt: HostRuntime) -> Result<(), Fail> {
     let alloc = rt.alloc();
     let literals = literals_in(alloc, "1 -2 3 -4 5")?;
     let mut ledger = open_on_empty_clause(alloc, 210, 141)?;

@@ -13,7 +13,7 @@ use crate::finish::{finish, refute};
 use crate::open::first_empty;
 use crate::outcome::{Run, outcome_of};
 use crate::progress::Progress;
-use clause_ledger::{Ledger, start_clauses};
+use clause_ledger::Ledger;
 use cnf_base::Cnf;
 use host_io::Sink;
 use lrat_rules::{derivation_law, marks_law, soundness_law, start_law};
@@ -116,10 +116,7 @@ pub(crate) fn run_with<S: Sink + Drop>(
     lean_law::<S>();
     canonical_law();
     formula.formula_law();
-    let Ok(live) = start_clauses(alloc, formula) else {
-        return Err(RunError::OutOfMemory);
-    };
-    let mut ledger = Ledger::new(live, sink, limits.max_ids);
+    let mut ledger = Ledger::new(formula, sink, limits.max_ids);
     if let Some(number) = first_empty(formula) {
         let result = refute(&mut ledger, number);
         let _sink = ledger.close();

@@ -16,24 +16,6 @@ use Rattle.term_runner.proofs.OneLine.{some_moves, start_paid, start_within}
 use Rattle.term_runner.proofs.Opening.{proof_at_start, whole_at_start, opened_at, ready_at, decided_leads}
 use Rattle.term_runner.proofs.run.run_with.Goals as goal
 
-pub returns-in_default-clause-ends : goal.returns-in_default-clause-ends
-returns-in_default-clause-ends g c =
-    let formula = c.args.formula.now in
-    let tells = g.S.Sink.tells in
-    let channel : Channel = g.S.Sink.channel c.args.sink.now in
-    let proof = proof_at_start c.start_law.ensures.clauses c.start_law.ensures.none_at_zero c.start_law.ensures.none_above
-    c.derivation_law.ensures.none formula.clauses tells channel c.requires.fresh in
-    record {
-      ends = nothing_ends tells channel channel formula c.args.order.now c.args.plan.now c.args.limits
-          (whole_at_start formula (KeepsWithin formula c.args.limits)
-          (start_within c.marks_law.ensures.start formula c.args.limits c.formula_law.ensures.literals) tells channel proof)
-          (λ width price. whole_at_start formula (IsPaidFor formula c.args.limits c.args.plan.now width price)
-          (start_paid c.marks_law.ensures.start c.start_law.ensures.none_above c.lean_law.ensures.few formula c.args.limits c.args.plan.now width
-          price c.formula_law.ensures.literals) tells channel proof)
-          refl refl refl;
-      last = tt;
-    }
-
 pub returns-in-Some-clause-ends : goal.returns-in-Some-clause-ends
 returns-in-Some-clause-ends g c =
     let formula = c.args.formula.now in
@@ -45,8 +27,8 @@ returns-in-Some-clause-ends g c =
     c.derivation_law.ensures.none formula.clauses g.S.Sink.tells (g.S.Sink.channel ledger.sink.now) fresh in
     let opened = opened_at g.S.Sink.tells (g.S.Sink.channel ledger.sink.now) formula c.args.limits.max_ids ledger
     c.formula_law.ensures.literals
-    (ap (λ (b : Book (MutBor g.row.S.Denot)). b.state) c.new-ledger.ensures
-    ∙ c.in-Ok.ensures) (ap (λ (b : Book (MutBor g.row.S.Denot)). b.limit) c.new-ledger.ensures)
+    (ap (λ (b : Book (MutBor g.row.S.Denot)). b.state) c.new-ledger.ensures)
+    (ap (λ (b : Book (MutBor g.row.S.Denot)). b.limit) c.new-ledger.ensures)
     (ap (λ (b : Book (MutBor g.row.S.Denot)). b.in_step) c.new-ledger.ensures) proof fresh in
     subst (λ (s : g.row.S.Denot). EndsWithin g.S.Sink.tells (g.S.Sink.channel c.args.sink.now)
     (g.S.Sink.channel s) formula c.args.order.now c.args.plan.now c.args.limits c.refute-result.result) (search rules)
@@ -81,16 +63,16 @@ decide-found-requires-clause-ready g c =
     let order = c.args.order.now in
     let table = c.new-table.result in
     let graph : table.graph ≡ record { order = order; nodes = map.empty } =
-    ap (λ (t : TableState (MutBor g.row.S.Denot)). t.graph) c.new-table.ensures ∙ c.in-Ok-new.ensures
+    ap (λ (t : TableState (MutBor g.row.S.Denot)). t.graph) c.new-table.ensures ∙ c.in-Ok.ensures
     ∙ (λ k. record { order = c.as_slice.ensures.value k; nodes = map.empty }) in
     let book : table.book ≡ c.new-ledger.result = ap (λ (t : TableState (MutBor g.row.S.Denot)). t.book) c.new-table.ensures in
     ready_at c.start_law.ensures.clauses c.opening_law.ensures.tied c.opening_law.ensures.retired c.args.formula.now order table graph
-    (ap (λ (b : Book (MutBor g.row.S.Denot)). b.state) (book ∙ c.new-ledger.ensures) ∙ c.in-Ok.ensures)
+    (ap (λ (b : Book (MutBor g.row.S.Denot)). b.state) (book ∙ c.new-ledger.ensures))
     (ap (λ (b : Book (MutBor g.row.S.Denot)). b.in_step) (book ∙ c.new-ledger.ensures))
     (ap (λ (t : TableState (MutBor g.row.S.Denot)). t.inputs) c.new-table.ensures
     ∙ sym (ap (λ (b : Book (MutBor g.row.S.Denot)). b.state.top) book))
     (ap (λ (t : TableState (MutBor g.row.S.Denot)). t.retired) c.new-table.ensures)
-    c.as_slice.ensures.order c.requires.order c.formula_law.ensures.literals c.in_default-first_empty.ensures
+    c.as_slice.ensures.order c.requires.order c.formula_law.ensures.literals c.in_default.ensures
 
 pub returns-clause-ends : goal.returns-clause-ends
 returns-clause-ends g c =
@@ -104,10 +86,10 @@ returns-clause-ends g c =
     let new = c.decide-found.new.table in
     let found = c.decide-found.result in
     let graph : table.graph ≡ record { order = order; nodes = map.empty } =
-    ap (λ (t : TableState (MutBor g.row.S.Denot)). t.graph) c.new-table.ensures ∙ c.in-Ok-new.ensures
+    ap (λ (t : TableState (MutBor g.row.S.Denot)). t.graph) c.new-table.ensures ∙ c.in-Ok.ensures
     ∙ (λ k. record { order = c.as_slice.ensures.value k; nodes = map.empty }) in
     let made : table.book ≡ c.new-ledger.result = ap (λ (t : TableState (MutBor g.row.S.Denot)). t.book) c.new-table.ensures in
-    let state = ap (λ (b : Book (MutBor g.row.S.Denot)). b.state) (made ∙ c.new-ledger.ensures) ∙ c.in-Ok.ensures in
+    let state = ap (λ (b : Book (MutBor g.row.S.Denot)). b.state) (made ∙ c.new-ledger.ensures) in
     let in_step = ap (λ (b : Book (MutBor g.row.S.Denot)). b.in_step) (made ∙ c.new-ledger.ensures) in
     let inputs : table.inputs ≡ table.book.state.top =
     ap (λ (t : TableState (MutBor g.row.S.Denot)). t.inputs) c.new-table.ensures
@@ -124,7 +106,7 @@ returns-clause-ends g c =
     let ready = ready_at c.start_law.ensures.clauses c.opening_law.ensures.tied c.opening_law.ensures.retired formula order table graph
     state in_step inputs
     (ap (λ (t : TableState (MutBor g.row.S.Denot)). t.retired) c.new-table.ensures) c.as_slice.ensures.order c.requires.order literals
-    c.in_default-first_empty.ensures in
+    c.in_default.ensures in
     let told = c.decide-found.ensures in
     let leads = decided_leads c.canonical_law.ensures c.soundness_law.ensures.derived c.derivation_law.ensures.refutes c.in_use_law.ensures
     tells before after formula table.graph.order moves limits table new found opened ready inputs

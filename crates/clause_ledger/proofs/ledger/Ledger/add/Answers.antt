@@ -6,7 +6,7 @@ use Rattle.lrat_rules.specs.State.{State}
 use Rattle.lrat_rules.specs.Addition.{fault}
 use Rattle.lrat_rules.specs.Derivation.{IsCutProof}
 use Rattle.clause_ledger.specs.Book.{Book, IsProofOf}
-use Rattle.clause_ledger.proofs.Kept.{addition_kept, addition_cut, hints_printable}
+use Rattle.clause_ledger.proofs.Added.{addition_kept, addition_cut, hints_printable}
 use Rattle.clause_ledger.proofs.ledger.Ledger.add.Goals as goal
 
 pub returns-in-Ok-clause-kept : goal.returns-in-Ok-clause-kept
@@ -16,7 +16,7 @@ returns-in-Ok-clause-kept g c clauses proof =
     ≡ None = c.strict_addition_law.ensures.good state (state.top
     + 1) c.args.clause.now c.args.hints.now (omega arith) c.requires.strict in
     let printable : is_printable (Add (state.top + 1) c.args.clause.now c.args.hints.now []) ≡ true =
-    hints_printable state.live state.top c.in_ok-id.ensures.numbers c.in_ok-id.ensures.next c.args.clause.now c.in_ok-id.ensures.range
+    hints_printable state.live state.top c.in_ok-id.ensures.numbers c.in_ok-id.ensures.next c.args.clause.now c.write_add.ensures.range
     c.args.hints.now
     (c.strict_addition_law.ensures.live state.live c.args.clause.now c.args.hints.now c.requires.strict) in
     let now = c.self.view_is ∙ c.in_ok-id.ensures.kept.1 in
@@ -35,7 +35,7 @@ returns-in-Err-clause-cut g c clauses proof t fault_is =
     ≡ None = c.strict_addition_law.ensures.good state (state.top
     + 1) c.args.clause.now c.args.hints.now (omega arith) c.requires.strict in
     let printable : is_printable (Add (state.top + 1) c.args.clause.now c.args.hints.now []) ≡ true =
-    hints_printable state.live state.top c.in_ok-id.ensures.numbers c.in_ok-id.ensures.next c.args.clause.now c.in_ok-id.ensures.range
+    hints_printable state.live state.top c.in_ok-id.ensures.numbers c.in_ok-id.ensures.next c.args.clause.now c.write_add.ensures.range
     c.args.hints.now
     (c.strict_addition_law.ensures.live state.live c.args.clause.now c.args.hints.now c.requires.strict) in
     let now = c.self.view_is ∙ c.in_ok-id.ensures.kept.1 in

@@ -7,7 +7,7 @@ use Rattle.lrat_rules.specs.Addition.{fault}
 use Rattle.lrat_rules.specs.Derivation.{IsCutProof}
 use Rattle.lrat_write.specs.LineText.{bare_groups}
 use Rattle.clause_ledger.specs.Book.{Book, IsProofOf}
-use Rattle.clause_ledger.proofs.Kept.{addition_kept, addition_cut, candidates_in_range, candidates_printable}
+use Rattle.clause_ledger.proofs.Added.{addition_kept, addition_cut, candidates_in_range, candidates_printable}
 use Rattle.clause_ledger.proofs.ledger.Ledger.define.Goals as goal
 
 pub write_define-requires : goal.write_define-requires
@@ -23,8 +23,8 @@ returns-in-Ok-clause-kept g c clauses proof =
     ≡ None = c.definition_law.ensures state (state.top + 1) c.args.clause.now c.args.candidates.now
     (omega arith) c.requires.definition in
     let printable : is_printable (Add (state.top + 1) c.args.clause.now [] (bare_groups c.args.candidates.now)) ≡ true =
-    candidates_printable state.live state.top c.in_ok-id.ensures.numbers c.in_ok-id.ensures.next c.args.clause.now c.in_ok-id.ensures.range
-    c.args.candidates.now c.requires.definition in
+    candidates_printable state.live state.top c.in_ok-id.ensures.numbers c.in_ok-id.ensures.next c.args.clause.now
+    c.write_define.ensures.range c.args.candidates.now c.requires.definition in
     let now = c.self.view_is ∙ c.in_ok-id.ensures.kept.1 in
     let sink = ap (λ (b : Book _). b.sink) now in
     subst (λ (s : State). IsProofOf clauses g.S.Sink.tells (g.S.Sink.channel c.write_define.new.sink) s)
@@ -41,8 +41,8 @@ returns-in-Err-clause-cut g c clauses proof t fault_is =
     ≡ None = c.definition_law.ensures state (state.top + 1) c.args.clause.now c.args.candidates.now
     (omega arith) c.requires.definition in
     let printable : is_printable (Add (state.top + 1) c.args.clause.now [] (bare_groups c.args.candidates.now)) ≡ true =
-    candidates_printable state.live state.top c.in_ok-id.ensures.numbers c.in_ok-id.ensures.next c.args.clause.now c.in_ok-id.ensures.range
-    c.args.candidates.now c.requires.definition in
+    candidates_printable state.live state.top c.in_ok-id.ensures.numbers c.in_ok-id.ensures.next c.args.clause.now
+    c.write_define.ensures.range c.args.candidates.now c.requires.definition in
     let now = c.self.view_is ∙ c.in_ok-id.ensures.kept.1 in
     let sink = ap (λ (b : Book _). b.sink) now in
     let front = c.in-Err.ensures.writes.failed t refl in

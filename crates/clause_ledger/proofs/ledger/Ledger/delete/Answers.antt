@@ -12,11 +12,11 @@ pub returns-in-Ok-clause-kept : goal.returns-in-Ok-clause-kept
 returns-in-Ok-clause-kept g c clauses proof added =
     let state = c.args.self.now.state in
     let ids = c.args.ids.now in
-    let was = ap (λ (b : Book _). b.state) c.self.view_is in
-    let sink = ap (λ (b : Book _). b.sink) c.self.view_is in
-    let now : c.remove_all.new.live.state ≡ without state ids = c.remove_all.ensures.state ∙ ap (λ (s : State). without s ids) was in
-    let top = c.top.ensures.value ∙ ap (λ (s : State). s.top) now in
-    let small : state.top ≤ max_id = omega (arith, c.self.invariant.1, ap (λ (s : State). s.top) was) in
+    let after = c.self.view_is ∙ c.forget.ensures in
+    let sink = ap (λ (b : Book _). b.sink) after in
+    let now : c.self.inside.history.state ≡ without state ids = ap (λ (b : Book _). b.state) after in
+    let top : c.self.inside.top ≡ state.top = sym c.self.invariant.2 ∙ ap (λ (s : State). s.top) now in
+    let small : state.top ≤ max_id = omega (arith, c.self.invariant.1, top) in
     subst (λ (s : State). IsProofOf clauses g.S.Sink.tells (g.S.Sink.channel c.write_delete.new.sink) s) (sym now)
     (deletion_kept state ids small proof added c.derivation_law.ensures.one_more c.derivation_law.ensures.text
     (λ t. c.in-Ok.ensures.writes.done t refl ∙ (λ i. (g.S.Sink.channel (sink i)).written ++ line_of_step (Delete (top i) ids))))
@@ -25,11 +25,11 @@ pub returns-in-Err-clause-cut : goal.returns-in-Err-clause-cut
 returns-in-Err-clause-cut g c clauses proof added t =
     let state = c.args.self.now.state in
     let ids = c.args.ids.now in
-    let was = ap (λ (b : Book _). b.state) c.self.view_is in
-    let sink = ap (λ (b : Book _). b.sink) c.self.view_is in
-    let now : c.remove_all.new.live.state ≡ without state ids = c.remove_all.ensures.state ∙ ap (λ (s : State). without s ids) was in
-    let top = c.top.ensures.value ∙ ap (λ (s : State). s.top) now in
-    let small : state.top ≤ max_id = omega (arith, c.self.invariant.1, ap (λ (s : State). s.top) was) in
+    let after = c.self.view_is ∙ c.forget.ensures in
+    let sink = ap (λ (b : Book _). b.sink) after in
+    let now : c.self.inside.history.state ≡ without state ids = ap (λ (b : Book _). b.state) after in
+    let top : c.self.inside.top ≡ state.top = sym c.self.invariant.2 ∙ ap (λ (s : State). s.top) now in
+    let small : state.top ≤ max_id = omega (arith, c.self.invariant.1, top) in
     let front = c.in-Err.ensures.writes.failed t refl in
     subst (λ (b : Book _). IsCutProof clauses (g.S.Sink.channel b.sink).written state b.state) (sym c.fault.ensures.state)
     (subst (λ (s : State). IsCutProof clauses (g.S.Sink.channel c.write_delete.new.sink).written state s) (sym now)

@@ -1,0 +1,9 @@
+-- What the loops of `look_at` keep.
+use Rattle.std.proofs.Common.{◌≡◌, true, take}
+use Rattle.std.specs.List.{list_all}
+use Rattle.cnf_base.specs.Truth.{is_literal_of}
+use Rattle.cnf_base.specs.ProofText.{max_literal}
+use Rattle.lrat_write.proofs.line.look_at.Given as goal
+
+abbrev pub invariant-loop-literal : goal.invariant-loop-literal
+invariant-loop-literal l = list_all (is_literal_of max_literal) (take l.literal-index l.clause) ≡ true
