@@ -1,7 +1,5 @@
 -- A call of a conjunction from its parts: it is refused, its sides fail, or it is closed from the results of both.
-use Rattle.std.proofs.Common.{◌≡◌, ◌∙◌, arith, refl, Bool, Result, Ok, Err, None, Some, IfOk, inl}
-use Rattle.host_io.specs.Channel.{Channel}
-use Rattle.host_io.specs.Beside.{Beside}
+use Rattle.std.proofs.Common.{◌≡◌, arith, refl, Result, Ok, Err, None, Some, IfOk, inl}
 use Rattle.node_table.specs.declared.error.TableError.{TableError}
 use Rattle.node_table.specs.declared.error.TableError.TheVariants.{NodeLimit, OutOfMemory}
 use Rattle.node_table.specs.declared.node.Node.{Node}
@@ -40,14 +38,14 @@ when_ok (Err came) holds none = absurd (some_error none)
 pub memory_no_limit : ◌≡◌ {A = Answer} (Err OutOfMemory) (Err NodeLimit) → ⊥
 memory_no_limit is = cc
 
-module _ {S : Type 0} {tells : Bool} {channel : S → Channel} {lent : S → Beside} where
+module _ {S : Type 0} where
   -- a call that is refused for want of memory before anything changed
-  pub refused : StepByStep tells channel → Accounting S → Pricing S Found → Subfunctions → (table : TableState S) (cache : AndCache)
+  pub refused : StepByStep S → Accounting S → Pricing S Found → Subfunctions → (table : TableState S) (cache : AndCache)
       → IsSound table → Fits table (entries cache) → (u v : Node)
-      → Conjoins tells channel lent table cache u v table cache (Err OutOfMemory)
+      → Conjoins table cache u v table cache (Err OutOfMemory)
   refused law accounts pricing parts table cache sound fits u v = record {
     conjoined = tt;
-    steps = law.at_most _ _ _ _ _ _ _ (omega arith) (law.no_memory table sound);
+    steps = law.at_most _ _ _ _ _ (omega arith) (law.no_memory table sound);
     accounts = accounts.none table (entries cache) (Some OutOfMemory) sound fits;
     unretired = tt;
     kept = λ differ first second. tt;
@@ -56,18 +54,17 @@ module _ {S : Type 0} {tells : Bool} {channel : S → Channel} {lent : S → Bes
     made = parts.none_made table.graph (conjunction_of table.graph u v);
     reachable = tt;
     lacks = λ is. absurd (memory_no_limit is);
-    beside = refl;
   }
 
   -- a call that is split: its high side, its low one, and the node of their results
-  module _ (law : StepByStep tells channel) (budget : Budget tells channel) (splits : Splitting) (growth : Growth) (fitting : Fitting S)
+  module _ (law : StepByStep S) (budget : Budget S) (splits : Splitting) (growth : Growth) (fitting : Fitting S)
       (accounts : Accounting S) (caches : Keeping Pair Found same_pair) (pricing : Pricing S Found) (parts : Subfunctions)
       (paths : Reachability)
       (old : TableState S) (before : AndCache) (sound : IsSound old) (o : Operands) (split : AreSplit old.graph o)
       (unknown : IsUnknown before o.u o.v) where
     pub high_failed : (one : TableState S) (cache_one : AndCache) (came : TableError)
-        → Conjoins tells channel lent old before o.u_high o.v_high one cache_one (Err came)
-        → Conjoins tells channel lent old before o.u o.v one cache_one (Err came)
+        → Conjoins old before o.u_high o.v_high one cache_one (Err came)
+        → Conjoins old before o.u o.v one cache_one (Err came)
     high_failed one cache_one came by_high = record {
       conjoined = tt;
       steps = budget.high old one o (Some came) sound split by_high.steps;
@@ -79,11 +76,10 @@ module _ {S : Type 0} {tells : Bool} {channel : S → Channel} {lent : S → Bes
       made = made_high parts growth splits old.graph sound.tied.reduced o split o.u o.v (refl, refl) one.graph by_high.made;
       reachable = tt;
       lacks = λ is. lacks_high parts growth splits old.graph sound.tied.reduced o split o.u o.v (refl, refl) one.graph (by_high.lacks is);
-      beside = by_high.beside;
     }
 
     module _ (one : TableState S) (cache_one : AndCache) (high : Node
-        × Just) (by_high : Conjoins tells channel lent old before o.u_high o.v_high one cache_one (Ok high)) where
+        × Just) (by_high : Conjoins old before o.u_high o.v_high one cache_one (Ok high)) where
       sound_one : IsSound one
       sound_one = by_high.steps.leaves.sound
 
@@ -92,7 +88,7 @@ module _ {S : Type 0} {tells : Bool} {channel : S → Channel} {lent : S → Bes
 
       -- what the low side adds to the high one, however it ends
       module _ (two : TableState S) (cache_two : AndCache) (by : Answer)
-          (by_low : Conjoins tells channel lent one cache_one o.u_low o.v_low two cache_two by) where
+          (by_low : Conjoins one cache_one o.u_low o.v_low two cache_two by) where
         accounts_both : AccountsFor old two (entries before) (entries cache_two) (error_of by)
         accounts_both = accounts.further old one two (entries before) (entries cache_one) (entries cache_two)
             (error_of by) by_high.steps.extends by_low.steps.extends by_high.accounts by_low.accounts
@@ -101,8 +97,8 @@ module _ {S : Type 0} {tells : Bool} {channel : S → Channel} {lent : S → Bes
         remembers_both = caches.further entry_of before.results cache_one.results cache_two.results by_high.remembers by_low.remembers
 
       pub low_failed : (two : TableState S) (cache_two : AndCache) (came : TableError)
-          → Conjoins tells channel lent one cache_one o.u_low o.v_low two cache_two (Err came)
-          → Conjoins tells channel lent old before o.u o.v two cache_two (Err came)
+          → Conjoins one cache_one o.u_low o.v_low two cache_two (Err came)
+          → Conjoins old before o.u o.v two cache_two (Err came)
       low_failed two cache_two came by_low = record {
         conjoined = tt;
         steps = budget.low old one two o (Some came) sound split by_high.steps by_low.steps;
@@ -119,11 +115,10 @@ module _ {S : Type 0} {tells : Bool} {channel : S → Channel} {lent : S → Bes
         reachable = tt;
         lacks = λ is. lacks_low parts growth splits old.graph sound.tied.reduced o split o.u o.v
             (refl, refl) one.graph sound_one.tied.reduced by_high.steps.extends.nodes two.graph (by_low.lacks is);
-        beside = by_low.beside ∙ by_high.beside;
       }
 
       module _ (two : TableState S) (cache_two : AndCache) (low : Node
-          × Just) (by_low : Conjoins tells channel lent one cache_one o.u_low o.v_low two cache_two (Ok low)) where
+          × Just) (by_low : Conjoins one cache_one o.u_low o.v_low two cache_two (Ok low)) where
         pub ready : IsReady two.graph two.book.state.live o high low
         ready = record {
           split = splits.kept one.graph two.graph by_low.steps.extends.nodes o split_high;
@@ -132,7 +127,7 @@ module _ {S : Type 0} {tells : Bool} {channel : S → Channel} {lent : S → Bes
         }
 
         price_all : (three : TableState S) (cache_three : AndCache) (result : Answer)
-            → Closes tells channel lent two cache_two o high low three cache_three result
+            → Closes two cache_two o high low three cache_three result
             → Prices old before.results o.u o.v three cache_three.results (error_of result)
         price_all three cache_three result closes =
             pricing.closed old one two three before.results cache_one.results cache_two.results cache_three.results o
@@ -142,7 +137,7 @@ module _ {S : Type 0} {tells : Bool} {channel : S → Channel} {lent : S → Bes
             (λ used front unused few. when_ok result (closes.used used front unused few))
 
         reached : (three : TableState S) (cache_three : AndCache) (result : Answer)
-            → Closes tells channel lent two cache_two o high low three cache_three result
+            → Closes two cache_two o high low three cache_three result
             → IfOk result (λ found. ReachesNew old.graph three.graph found.0)
         reached three cache_three (Err came) closes = tt
         reached three cache_three (Ok found) closes =
@@ -152,8 +147,8 @@ module _ {S : Type 0} {tells : Bool} {channel : S → Channel} {lent : S → Bes
             closes.reachable closes.children
 
         pub closed : (three : TableState S) (cache_three : AndCache) (result : Answer)
-            → Closes tells channel lent two cache_two o high low three cache_three result
-            → Conjoins tells channel lent old before o.u o.v three cache_three result
+            → Closes two cache_two o high low three cache_three result
+            → Conjoins old before o.u o.v three cache_three result
         closed three cache_three result closes = record {
           conjoined = closes.conjoined;
           steps = budget.both old one two three o (error_of result) sound split by_high.steps by_low.steps closes.steps;
@@ -174,5 +169,4 @@ module _ {S : Type 0} {tells : Bool} {channel : S → Channel} {lent : S → Bes
           lacks = λ is. lacks_both parts growth splits old.graph sound.tied.reduced o split o.u o.v
               (refl, refl) one.graph sound_one.tied.reduced by_high.steps.extends.nodes
               two.graph three.graph by_low.steps.extends.nodes (closes.lacks is);
-          beside = closes.beside ∙ (by_low.beside ∙ by_high.beside);
         }

@@ -1,7 +1,5 @@
 -- A call that is split: its sides may be called and closed, and however they end, the call has ended.
-use Rattle.std.proofs.Common.{◌≡◌, Bool, true, is_some, Option, None, Some, Ok, Err, refl, sym, subst}
-use Rattle.host_io.specs.Channel.{Channel}
-use Rattle.host_io.specs.Beside.{Beside}
+use Rattle.std.proofs.Common.{◌≡◌, true, is_some, Option, None, Some, Ok, Err, refl, sym, subst}
 use Rattle.node_table.specs.declared.error.TableError.TheVariants.{OutOfMemory}
 use Rattle.node_table.specs.declared.node.Node.{Node}
 use Rattle.node_table.specs.declared.node.Just.{Just}
@@ -38,31 +36,31 @@ inner_of graph (Inner key) stands apart = inner_by graph (Inner key) (branch_at 
     inner_by graph node None is stands = cc
     inner_by graph node (Some branch) is stands = record { branch = branch; is = is }
 
-module _ {S : Type 0} {tells : Bool} {channel : S → Channel} {lent : S → Beside} where
+module _ {S : Type 0} where
   -- a pair whose answer isn't known is neither kept nor plain
   answers_unknown : (old : TableState S) (before : AndCache) (u v : Node) → IsUnknown before u v
-      → (new : TableState S) (after : AndCache) (result : Answer) → Conjoins tells channel lent old before u v new after result
-      → Answers tells channel lent old before u v new after result
+      → (new : TableState S) (after : AndCache) (result : Answer) → Conjoins old before u v new after result
+      → Answers old before u v new after result
   answers_unknown old before u v unknown new after result call = record {
     call = call;
     known = λ w just there. absurd (unknown.none w just there);
     plain = λ w plain. absurd (not_plain u v w unknown.differ unknown.first unknown.second plain);
   }
 
-  module _ (law : StepByStep tells channel) (budget : Budget tells channel) (splits : Splitting) (growth : Growth) (fitting : Fitting S)
+  module _ (law : StepByStep S) (budget : Budget S) (splits : Splitting) (growth : Growth) (fitting : Fitting S)
       (accounts : Accounting S) (caches : Keeping Pair Found same_pair) (pricing : Pricing S Found) (parts : Subfunctions)
       (paths : Reachability)
       (old : TableState S) (before : AndCache) (sound : IsSound old) (fits : Fits old (entries before)) (o : Operands)
       (split : AreSplit old.graph o) (unknown : IsUnknown before o.u o.v) where
-    ended : (new : TableState S) (after : AndCache) (result : Answer) → Conjoins tells channel lent old before o.u o.v new after result
-        → Answers tells channel lent old before o.u o.v new after result
+    ended : (new : TableState S) (after : AndCache) (result : Answer) → Conjoins old before o.u o.v new after result
+        → Answers old before o.u o.v new after result
     ended = answers_unknown old before o.u o.v unknown
 
     module _ (one : TableState S) (cache_one : AndCache) (high : Node
-        × Just) (by_high : Conjoins tells channel lent old before o.u_high o.v_high one cache_one (Ok high)) where
+        × Just) (by_high : Conjoins old before o.u_high o.v_high one cache_one (Ok high)) where
       low_came : (two : TableState S) (cache_two : AndCache) (result : Answer)
-          → Conjoins tells channel lent one cache_one o.u_low o.v_low two cache_two result
-          → LowCame (conjunctions tells channel lent) (Answers tells channel lent old before o.u o.v) o high two cache_two result
+          → Conjoins one cache_one o.u_low o.v_low two cache_two result
+          → LowCame (conjunctions) (Answers old before o.u o.v) o high two cache_two result
       low_came two cache_two (Err came) by_low =
           ended two cache_two (Err came)
           (low_failed law budget splits growth fitting accounts caches pricing parts paths old before sound o split unknown one
@@ -83,7 +81,7 @@ module _ {S : Type 0} {tells : Bool} {channel : S → Channel} {lent : S → Bes
                 cache_one high by_high two cache_two low by_low three cache_three result closing);
           }
 
-      awaits_low : AwaitsLow (conjunctions tells channel lent) (Answers tells channel lent old before o.u o.v) one cache_one o high
+      awaits_low : AwaitsLow (conjunctions) (Answers old before o.u o.v) one cache_one o high
           (o.u_low, o.v_low)
       awaits_low =
           let sound_one = by_high.steps.leaves.sound in
@@ -99,14 +97,14 @@ module _ {S : Type 0} {tells : Bool} {channel : S → Channel} {lent : S → Bes
           }
 
     high_came : (one : TableState S) (cache_one : AndCache) (result : Answer)
-        → Conjoins tells channel lent old before o.u_high o.v_high one cache_one result
-        → HighCame (conjunctions tells channel lent) (Answers tells channel lent old before o.u o.v) o one cache_one result
+        → Conjoins old before o.u_high o.v_high one cache_one result
+        → HighCame (conjunctions) (Answers old before o.u o.v) o one cache_one result
     high_came one cache_one (Err came) by_high = ended one cache_one (Err came)
         (high_failed law budget splits growth fitting accounts caches pricing parts paths old before sound o split unknown one cache_one
         came by_high)
     high_came one cache_one (Ok high) by_high = awaits_low one cache_one high by_high
 
-    opened : IsOpened (conjunctions tells channel lent) (Answers tells channel lent old before o.u o.v) old before o
+    opened : IsOpened (conjunctions) (Answers old before o.u o.v) old before o
     opened =
         let first = splits.u_high old.graph sound.tied.reduced o split in
         let second = splits.v_high old.graph sound.tied.reduced o split in record {
@@ -118,19 +116,19 @@ module _ {S : Type 0} {tells : Bool} {channel : S → Channel} {lent : S → Bes
         }
 
   -- what a call is answered that was split
-  pub split_answered : StepByStep tells channel → Budget tells channel → Splitting → Growth → Fitting S → Accounting S
+  pub split_answered : StepByStep S → Budget S → Splitting → Growth → Fitting S → Accounting S
       → Keeping Pair Found same_pair → Pricing S Found → Subfunctions → Reachability
       → (old : TableState S) (before after : AndCache) (u v : Node) → CanConjoin old before u v
       → (o : Operands) → AreSplit old.graph o → (o.u ≡ u) × (o.v ≡ v) → (after ≡ before) × IsUnknown before u v
-      → IsAnswer (conjunctions tells channel lent) old before (u, v) old after (Ok (Open o))
+      → IsAnswer (conjunctions) old before (u, v) old after (Ok (Open o))
   split_answered law budget splits growth fitting accounts caches pricing parts paths old before after u v can o split same missed =
       let unknown : IsUnknown before o.u o.v = subst (λ (x : Node). IsUnknown before x o.v) (sym same.0)
       (subst (λ (y : Node). IsUnknown before u y) (sym same.1) missed.1) in
-      let own : IsAnswer (conjunctions tells channel lent) old before (o.u, o.v) old before (Ok (Open o)) = (
+      let own : IsAnswer (conjunctions) old before (o.u, o.v) old before (Ok (Open o)) = (
         no_later old.graph o split,
         opened law budget splits growth fitting accounts caches pricing parts paths old before can.sound can.fits
             o split unknown,
       ) in
-      subst (λ (c : AndCache). IsAnswer (conjunctions tells channel lent) old before (u, v) old c (Ok (Open o))) (sym missed.0)
-      (subst (λ (y : Node). IsAnswer (conjunctions tells channel lent) old before (u, y) old before (Ok (Open o))) same.1
-      (subst (λ (x : Node). IsAnswer (conjunctions tells channel lent) old before (x, o.v) old before (Ok (Open o))) same.0 own))
+      subst (λ (c : AndCache). IsAnswer (conjunctions) old before (u, v) old c (Ok (Open o))) (sym missed.0)
+      (subst (λ (y : Node). IsAnswer (conjunctions) old before (u, y) old before (Ok (Open o))) same.1
+      (subst (λ (x : Node). IsAnswer (conjunctions) old before (x, o.v) old before (Ok (Open o))) same.0 own))

@@ -1,8 +1,6 @@
 -- A whole call of a conjunction, however it ends: as one relation, from which the calls around it go on. Beside it the last
 -- step of a call that was split, and the operation of both.
-use Rattle.std.specs.Prelude.{◌≡◌, ◌≢◌, ◌<◌, ◌∷◌, ℕ, Bool, List, Some, Result, Ok, Err, Contains, IfOk, IsFalse, IsTrue, length, min}
-use Rattle.host_io.specs.Channel.{Channel}
-use Rattle.host_io.specs.Beside.{Beside}
+use Rattle.std.specs.Prelude.{◌≡◌, ◌≢◌, ◌<◌, ◌∷◌, ℕ, List, Some, Result, Ok, Err, Contains, IfOk, IsFalse, IsTrue, length, min}
 use Rattle.node_table.specs.declared.error.TableError.{TableError}
 use Rattle.node_table.specs.declared.error.TableError.TheVariants.{NodeLimit}
 use Rattle.node_table.specs.declared.node.Node.{Node}
@@ -27,11 +25,10 @@ use Rattle.apply_and.specs.Cache.{Pair, StandInFront, entries, entry_of, is_one,
 
 -- The call for u and v began with this table and this cache, and ended with those and this result: what it found, made,
 -- kept and retired, and how many clauses it added.
-pub record Conjoins {S : Type 0} (tells : Bool) (channel : S → Channel) (lent : S
-    → Beside) (old : TableState S) (before : AndCache) (u v : Node) (new : TableState S) (after : AndCache)
+pub record Conjoins {S : Type 0} (old : TableState S) (before : AndCache) (u v : Node) (new : TableState S) (after : AndCache)
     (result : Result (Node × Just) TableError) : Type 0 where
   pub conjoined : IfOk result (λ found. Conjoined new.graph new.book.state.live u v found.0 found.1)
-  pub steps : Steps tells (channel old.book.sink) (channel new.book.sink) old new (most_additions (levels_from old.graph u v))
+  pub steps : Steps old new (most_additions (levels_from old.graph u v))
       (error_of result)
   pub accounts : AccountsFor old new (entries before) (entries after) (error_of result)
   pub unretired : IfOk result (λ found. (id : ℕ) → found.1 ≡ Clause id → Contains new.retired id → ⊥)
@@ -41,14 +38,12 @@ pub record Conjoins {S : Type 0} (tells : Bool) (channel : S → Channel) (lent 
   pub made : MakesOnly old.graph new.graph (conjunction_of old.graph u v)
   pub reachable : IfOk result (λ found. ReachesNew old.graph new.graph found.0)
   pub lacks : result ≡ Err NodeLimit → LacksPart new.graph (conjunction_of old.graph u v)
-  pub beside : lent new.book.sink ≡ lent old.book.sink
 
 -- The step from the results of both sides to the conjunction of these operands, which is kept.
-pub record Closes {S : Type 0} (tells : Bool) (channel : S → Channel) (lent : S
-    → Beside) (old : TableState S) (before : AndCache) (o : Operands) (high low : Node × Just) (new : TableState S) (after : AndCache)
+pub record Closes {S : Type 0} (old : TableState S) (before : AndCache) (o : Operands) (high low : Node × Just) (new : TableState S) (after : AndCache)
     (result : Result (Node × Just) TableError) : Type 0 where
   pub conjoined : IfOk result (λ found. Conjoined new.graph new.book.state.live o.u o.v found.0 found.1)
-  pub steps : Steps tells (channel old.book.sink) (channel new.book.sink) old new 2 (error_of result)
+  pub steps : Steps old new 2 (error_of result)
   pub accounts : AccountsFor old new (entries before) (entries after) (error_of result)
   pub unretired : IfOk result (λ found. (id : ℕ) → found.1 ≡ Clause id → Contains new.retired id → ⊥)
   pub kept : IfOk result (λ found. Contains (entries after) (Conjunction o.u o.v found.0 found.1))
@@ -59,7 +54,6 @@ pub record Closes {S : Type 0} (tells : Bool) (channel : S → Channel) (lent : 
   pub made : MakesOnly old.graph new.graph (conjunction_of old.graph o.u o.v)
   pub reachable : IfOk result (λ found. ReachesNew old.graph new.graph found.0)
   pub lacks : result ≡ Err NodeLimit → LacksPart new.graph (conjunction_of old.graph o.u o.v)
-  pub beside : lent new.book.sink ≡ lent old.book.sink
 
 -- No plain pair, and no entry has it, so that it isn't one of those that stand in front.
 pub record IsUnknown (cache : AndCache) (u v : Node) : Type 0 where
@@ -85,21 +79,20 @@ pub record CanClose {S : Type 0} (table : TableState S) (cache : AndCache) (o : 
   pub on_low : Conjoined table.graph table.book.state.live o.u_low o.v_low low.0 low.1
 
 -- A call, and what a plain pair and one that is kept are answered.
-pub record Answers {S : Type 0} (tells : Bool) (channel : S → Channel) (lent : S
-    → Beside) (old : TableState S) (before : AndCache) (u v : Node) (new : TableState S) (after : AndCache)
+pub record Answers {S : Type 0} (old : TableState S) (before : AndCache) (u v : Node) (new : TableState S) (after : AndCache)
     (result : Result (Node × Just) TableError) : Type 0 where
-  pub call : Conjoins tells channel lent old before u v new after result
+  pub call : Conjoins old before u v new after result
   pub known : (w : Node) (just : Just) → Contains (entries before) (Conjunction u v w just) → (result ≡ Ok (w, just)) × (new ≡ old)
       × HaveSame (entries before) (entries after)
   pub plain : (w : Node) → IsPlain u v w → (result ≡ Ok (w, Trivial)) × (new ≡ old) × (after ≡ before)
 
 -- The conjunction as an operation on diagrams: a pair is split into that of its high cofactors and that of its low ones.
-abbrev pub conjunctions : {S : Type 0} → Bool → (S → Channel) → (S → Beside) → Calls S AndCache Pair Operands (Node × Just)
-conjunctions tells channel lent = record {
+abbrev pub conjunctions : {S : Type 0} → Calls S AndCache Pair Operands (Node × Just)
+conjunctions = record {
   can = λ table cache pair. CanConjoin table cache pair.0 pair.1;
-  ends = λ old before pair new after result. Answers tells channel lent old before pair.0 pair.1 new after result;
+  ends = λ old before pair new after result. Answers old before pair.0 pair.1 new after result;
   can_close = CanClose;
-  closes = Closes tells channel lent;
+  closes = Closes;
   high = λ o. (o.u_high, o.v_high);
   low = λ o high. Some (o.u_low, o.v_low);
   level = λ o. o.level;

@@ -53,12 +53,11 @@ pub fn justify<S: Sink + Drop>(
     ensures two_added { (id : ℕ) → result ≡ Ok (Clause id) → (id ≡ table.old.book.state.top + 2) × (table.new.book.state.top ≡ id)
         × (table.new.retired ≡ table.old.retired ++ (table.old.book.state.top + 1) ∷ []) }
     ensures nodes { table.new.graph ≡ table.old.graph }
-    ensures steps { Steps S.tells (S.channel table.old.book.sink) (S.channel table.new.book.sink) table.old table.new 2 (error_of result) }
+    ensures steps { Steps table.old table.new 2 (error_of result) }
     ensures retires { RetiresNew table.old table.new }
     // All clauses that were added are retired, but for the one that is given.
     ensures gives { UnlessTorn result (GivesOne table.old table.new (given_just result)) }
     ensures no_node_limit { result ≢ Err NodeLimit }
-    ensures beside { S.beside table.new.book.sink ≡ S.beside table.old.book.sink }
 {
     steps_law::<S>();
     operand_law();
@@ -125,11 +124,10 @@ fn add_high<S: Sink + Drop>(
     ensures own { IfOk result (λ part. IsAddedTo table.new part.id) }
     ensures unretired { IfOk result (λ part. Contains table.new.retired part.id → ⊥) }
     ensures nodes { table.new.graph ≡ table.old.graph }
-    ensures steps { Steps S.tells (S.channel table.old.book.sink) (S.channel table.new.book.sink) table.old table.new 1 (error_of result) }
+    ensures steps { Steps table.old table.new 1 (error_of result) }
     ensures retired { table.new.retired ≡ table.old.retired }
     ensures no_node_limit { result ≢ Err NodeLimit }
     ensures refused { IfErr result (λ e. e ≢ WriteFault → IsSame table.old table.new) }
-    ensures beside { S.beside table.new.book.sink ≡ S.beside table.old.book.sink }
 {
     operand_law();
     closing_law();
@@ -173,11 +171,10 @@ fn add_low<S: Sink + Drop>(
     ensures own { IfOk result (λ id. IsAddedTo table.new id) }
     ensures unretired { IfOk result (λ id. Contains table.new.retired id → ⊥) }
     ensures nodes { table.new.graph ≡ table.old.graph }
-    ensures steps { Steps S.tells (S.channel table.old.book.sink) (S.channel table.new.book.sink) table.old table.new 1 (error_of result) }
+    ensures steps { Steps table.old table.new 1 (error_of result) }
     ensures retired { table.new.retired ≡ table.old.retired }
     ensures no_node_limit { result ≢ Err NodeLimit }
     ensures refused { IfErr result (λ e. e ≢ WriteFault → IsSame table.old table.new) }
-    ensures beside { S.beside table.new.book.sink ≡ S.beside table.old.book.sink }
 {
     operand_law();
     closing_law();

@@ -120,8 +120,7 @@ impl AndCache {
         requires fits { Fits table.old (entries self.old) }
         ensures purged { IsPurged table.old table.new marks.now (entries self.old) (entries self.new) }
         ensures most { most_entries self.new ≡ most_entries self.old }
-        ensures steps { Steps S.tells (S.channel table.old.book.sink) (S.channel table.new.book.sink) table.old table.new 0 None }
-        ensures beside { S.beside table.new.book.sink ≡ S.beside table.old.book.sink }
+        ensures steps { Steps table.old table.new 0 None }
     {
         cache_turn_law::<NodePair, Found>();
         table_turn_law::<S, NodePair, Found>();
@@ -138,8 +137,7 @@ impl AndCache {
         ensures cache { (last : Pair × FoundValue) → last_of self.old.results.entries ≡ Some last
             → HasTurn entry_of marks.now same_pair self.old.results self.new.results last }
         ensures table { (last : Pair × FoundValue) → last_of self.old.results.entries ≡ Some last
-            → RetiresTurn entry_of marks.now S.tells S.channel table.old table.new last }
-        ensures beside { S.beside table.new.book.sink ≡ S.beside table.old.book.sink }
+            → RetiresTurn entry_of marks.now table.old table.new last }
     {
         let Some(last) = self.results.last() else {
             return;

@@ -47,7 +47,7 @@ pub fn and<S: Sink + Drop>(
     requires second { IsTrue (is_node table.old.graph v) }
     requires fits { Fits table.old (entries cache.old) }
     ensures conjoined { IfOk result (λ found. Conjoined table.new.graph table.new.book.state.live u v found.0 found.1) }
-    ensures steps { Steps S.tells (S.channel table.old.book.sink) (S.channel table.new.book.sink) table.old table.new
+    ensures steps { Steps table.old table.new
         (most_additions (levels_from table.old.graph u v)) (error_of result) }
     // The cache fits, and so does it together with others that did, of which none names a clause that it named.
     ensures fits { UnlessTorn result (Fits table.new (entries cache.new)) }
@@ -79,7 +79,6 @@ pub fn and<S: Sink + Drop>(
     ensures plain { (w : NodeValue) → IsPlain u v w → (result ≡ Ok (w, Trivial)) × (table.new ≡ table.old) × (cache.new ≡ cache.old) }
     // Where the nodes are used up, some part of the conjunction is the function of none.
     ensures lacks { result ≡ Err NodeLimit → LacksPart table.new.graph (conjunction_of table.old.graph u v) }
-    ensures beside { S.beside table.new.book.sink ≡ S.beside table.old.book.sink }
 {
     accounts_law::<S>();
     steps_law::<S>();
@@ -99,7 +98,7 @@ impl<S: Sink + Drop> Operation<S> for AndOperation {
 
     type Answer = (Node, Just);
 
-    ghost calls = { conjunctions S.tells S.channel S.beside };
+    ghost calls = { conjunctions };
 
     fn alloc(cache: &AndCache) -> Global {
         cache.alloc()
@@ -170,7 +169,7 @@ fn answer<S: Sink + Drop>(
     v: Node,
 ) -> Option<(Node, Just)>
     requires can { CanConjoin table.now cache.old u v }
-    ensures answers { IfSome result (λ found. Answers S.tells S.channel S.beside table.now cache.old u v table.now cache.new (Ok found)) }
+    ensures answers { IfSome result (λ found. Answers table.now cache.old u v table.now cache.new (Ok found)) }
     ensures unknown { result ≡ None → (cache.new ≡ cache.old) × IsUnknown cache.old u v }
 {
     steps_law::<S>();
@@ -215,7 +214,7 @@ fn finish<S: Sink + Drop>(
     requires low { Conjoined table.old.graph table.old.book.state.live operands.now.u_low operands.now.v_low low.now.0 low.now.1 }
     ensures conjoined { IfOk result
         (λ found. Conjoined table.new.graph table.new.book.state.live operands.now.u operands.now.v found.0 found.1) }
-    ensures steps { Steps S.tells (S.channel table.old.book.sink) (S.channel table.new.book.sink) table.old table.new 2 (error_of result) }
+    ensures steps { Steps table.old table.new 2 (error_of result) }
     ensures retires { RetiresNew table.old table.new }
     ensures gives { UnlessTorn result (GivesOne table.old table.new (found_just result)) }
     ensures named { IfOk result (λ found. IsNewJust table.old.book.state table.new.book.state found.1) }
@@ -223,7 +222,6 @@ fn finish<S: Sink + Drop>(
     ensures made { MakesOnly table.old.graph table.new.graph (conjunction_of table.old.graph operands.now.u operands.now.v) }
     ensures reachable { IfOk result (λ found. ReachesNew table.old.graph table.new.graph found.0) }
     ensures lacks { result ≡ Err NodeLimit → LacksPart table.new.graph (conjunction_of table.old.graph operands.now.u operands.now.v) }
-    ensures beside { S.beside table.new.book.sink ≡ S.beside table.old.book.sink }
 {
     steps_law::<S>();
     accounts_law::<S>();

@@ -1,23 +1,22 @@
--- One good line more keeps the proof, and the front of one leaves a proof that was cut short.
-use Rattle.std.proofs.Common.{◌≡◌, ℕ, ◌+◌, ◌≤◌, Bool, true, ◌&&◌, ℤ, List, [], ◌∷◌, ◌++◌, length, take, drop, Option, Some, None, inl}
+-- A good addition under the next number keeps a proof one.
+use Rattle.std.proofs.Common.{◌≡◌, ℕ, ◌+◌, ◌≤◌, true, ◌&&◌, ℤ, List, [], ◌∷◌, ◌++◌, length, Option, Some, None, inl}
 use Rattle.std.proofs.Common.{inr, refl, sym, ◌∙◌, ap, arith, eq-eqb}
 use Rattle.std.proofs.lemmas.Bool.{and_parts, and_from, or_left, or_right, lt-ltb, le-leb, ne_eqb, cases_eq}
-use Rattle.std.proofs.lemmas.List.{take-append-drop}
 use Rattle.std.specs.Prelude.{IsTrue, is_some, nat_lt, nat_le, if◌then◌else◌, ◌==◌}
 use Rattle.std.specs.List.{list_any, list_all}
 use Rattle.cnf_base.specs.declared.list.Group.{Group}
 use Rattle.cnf_base.specs.declared.step.Step.{Step}
 use Rattle.cnf_base.specs.declared.step.Step.TheVariants.{Add}
 use Rattle.cnf_base.specs.Truth.{is_literal_of}
-use Rattle.cnf_base.specs.ProofText.{max_id, max_literal, is_id, is_group, is_printable, line_of_step}
-use Rattle.host_io.specs.Channel.{Channel}
-use Rattle.lrat_rules.specs.State.{State, Live, clause_at, with_clause}
+use Rattle.cnf_base.specs.ProofText.{max_id, max_literal, is_id, is_group, is_printable}
+use Rattle.lrat_rules.specs.State.{State, Live, clause_at, start, with_clause}
 use Rattle.lrat_rules.specs.Addition.{holds_negated, if_live, is_candidate, fault}
 use Rattle.lrat_rules.specs.Strict.{IsDefinition}
 use Rattle.lrat_rules.specs.Run.{step_fault, after_step}
-use Rattle.lrat_rules.specs.Derivation.{IsDerivation, IsCutProof, deletes_added, text_of}
+use Rattle.lrat_rules.specs.Derivation.{IsDerivation, deletes_added}
 use Rattle.lrat_write.specs.LineText.{bare_groups}
-use Rattle.clause_ledger.specs.Book.{IsProofOf, IsWritten-IsProofOf, AreNumbers, with_next}
+use Rattle.clause_ledger.specs.Book.{IsProofOf, AreNumbers, after_steps, with_next}
+use Rattle.clause_ledger.specs.Told.{after_steps-append}
 
 -- live numbers are in range
 ids_in_range : (live : Live) (top : ℕ) → AreNumbers live top → top ≤ max_id
@@ -95,57 +94,35 @@ pub at_other : LiveLaw → (live : Live) (id other : ℕ) (clause : List ℤ) �
 at_other law live id other clause ne = law live id other clause ∙ ap (λ b. if b then Some clause else clause_at live other)
     (ne_eqb other id ne)
 
--- a derivation with one good step more, and its written form
+-- a derivation with one good step more
 abbrev pub MoreLaw : Type 0
 MoreLaw = (clauses : List (List ℤ)) (steps : List Step) (state : State) (step : Step) → IsDerivation clauses steps state
     → step_fault state step ≡ None
     → IsTrue (is_printable step) → IsTrue (deletes_added (length clauses) state step)
     → IsDerivation clauses (steps ++ step ∷ []) (after_step state step)
 
-abbrev pub TextLaw : Type 0
-TextLaw = (steps : List Step) (step : Step) → text_of (steps ++ step ∷ []) ≡ text_of steps ++ line_of_step step
+-- the steps lead where one more leads from where they led
+pub more_leads : (clauses : List (List ℤ)) (steps : List Step) (state : State) (step : Step) → after_steps (start clauses) steps ≡ state
+    → after_steps (start clauses) (steps ++ step ∷ []) ≡ after_step state step
+more_leads clauses steps state step is = after_steps-append (start clauses) steps (step ∷ []) ∙ ap (λ s. after_step s step) is
 
-module _ (state : State) (clause : List ℤ) (hints : List ℕ) (groups : List Group) (good : fault state (state.top + 1) clause hints groups
-    ≡ None)
-    (printable : is_printable (Add (state.top + 1) clause hints groups) ≡ true) where
-  abbrev step : Step
-  step = Add (state.top + 1) clause hints groups
-
-  -- the whole line of a good addition under the next number
-  pub addition_kept : LiveLaw → MoreLaw → TextLaw → {clauses : List (List ℤ)} {tells : Bool} {before after : Channel}
-      → IsProofOf clauses tells before state
-      → (IsTrue tells → after.written ≡ before.written ++ line_of_step step) → IsProofOf clauses tells after (with_next state clause)
-  addition_kept law more text {clauses = clauses} proof wrote = record {
-    steps = proof.steps ++ step ∷ [];
-    derived = more clauses proof.steps state step proof.derived good printable refl;
-    text = λ t. wrote t ∙ ap (λ (bytes : List ℕ). bytes ++ line_of_step step) (proof.text t) ∙ sym (text proof.steps step);
-    formula = λ i lt. at_other law state.live (state.top + 1) (i + 1) clause (λ same. omega (arith, proof.from_formula))
-        ∙ proof.formula i lt;
-    numbers = λ id other is.
-        elim (cases_eq id (state.top + 1)) [
-          | inl same ↦ (omega arith, omega arith)
-          | inr differ ↦ let range = proof.numbers id other (sym (at_other law state.live (state.top + 1) id clause differ) ∙ is) in
-              (range.0, omega (arith, range.1))
-        ];
-    from_formula = omega (arith, proof.from_formula);
-  }
-
-  -- a front of it
-  pub addition_cut : {clauses : List (List ℤ)} {tells : Bool} {before : Channel} → IsProofOf clauses tells before state → IsTrue tells
-      → (n : ℕ) (written : List ℕ) → written ≡ before.written ++ take n (line_of_step step)
-      → IsCutProof clauses written state (with_next state clause)
-  addition_cut {before = before} proof t n written is = record {
-    whole = before.written;
-    cut = take n (line_of_step step);
-    parts = is;
-    written = IsWritten-IsProofOf proof t;
-    line = record {
-      step = step;
-      good = good;
-      printable = printable;
-      deletions = refl;
-      leads = refl;
-      rest = drop n (line_of_step step);
-      line = sym (take-append-drop n (line_of_step step));
-    };
-  }
+-- a good addition under the next number keeps a proof one
+pub addition_proof : LiveLaw → MoreLaw → (clauses : List (List ℤ)) (steps : List Step) (state : State) (clause : List ℤ)
+    (hints : List ℕ) (groups : List Group) → fault state (state.top + 1) clause hints groups ≡ None
+    → is_printable (Add (state.top + 1) clause hints groups) ≡ true → IsProofOf clauses steps state
+    → IsProofOf clauses (steps ++ Add (state.top + 1) clause hints groups ∷ []) (with_next state clause)
+addition_proof law more clauses steps state clause hints groups good printable proof =
+    let step = Add (state.top + 1) clause hints groups in
+    record {
+      derived = more clauses steps state step proof.derived good printable refl;
+      leads = more_leads clauses steps state step proof.leads;
+      formula = λ i lt. at_other law state.live (state.top + 1) (i + 1) clause (λ same. omega (arith, proof.from_formula))
+          ∙ proof.formula i lt;
+      numbers = λ id other is.
+          elim (cases_eq id (state.top + 1)) [
+            | inl same ↦ (omega arith, omega arith)
+            | inr differ ↦ let range = proof.numbers id other (sym (at_other law state.live (state.top + 1) id clause differ) ∙ is) in
+                (range.0, omega (arith, range.1))
+          ];
+      from_formula = omega (arith, proof.from_formula);
+    }

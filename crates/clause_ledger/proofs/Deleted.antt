@@ -1,21 +1,20 @@
 -- One deletion more keeps the proof, where it deletes only clauses that were added.
-use Rattle.std.proofs.Common.{◌≡◌, ℕ, ◌+◌, ◌<◌, ◌≤◌, ◌≢◌, Bool, true, ◌&&◌, cond, ℤ, List, [], ◌∷◌, ◌++◌, length, get_or, take, drop, Some}
+use Rattle.std.proofs.Common.{◌≡◌, ◌==◌, ℕ, ◌+◌, ◌<◌, ◌≤◌, ◌≢◌, Bool, true, ◌&&◌, not, cond, ℤ, List, [], ◌∷◌, ◌++◌, length, get_or, take, Some}
 use Rattle.std.proofs.Common.{None, inl, inr, refl, sym, ◌∙◌, ap, arith, eq-eqb}
 use Rattle.std.proofs.lemmas.Bool.{and_parts, and_from, lt-ltb, le-leb, ltb-true, ne_eqb, cases_eq}
 use Rattle.std.proofs.lemmas.Cmp.{nat_cmp_total}
-use Rattle.std.proofs.lemmas.List.{take-append-drop, take_more}
-use Rattle.std.specs.Prelude.{IsTrue, is_some, nat_eq, nat_lt, nat_le}
+use Rattle.std.proofs.lemmas.List.{take_more}
+use Rattle.std.specs.Prelude.{is_some, nat_eq, nat_lt, nat_le}
 use Rattle.std.specs.List.{list_all}
 use Rattle.std.specs.Cmp.{unsigned_tied}
 use Rattle.std.specs.FinMap as finmap
 use Rattle.cnf_base.specs.declared.step.Step.{Step}
 use Rattle.cnf_base.specs.declared.step.Step.TheVariants.{Delete}
-use Rattle.cnf_base.specs.ProofText.{max_id, is_id, is_printable, line_of_step}
-use Rattle.host_io.specs.Channel.{Channel}
+use Rattle.cnf_base.specs.ProofText.{max_id, is_empty, is_id, is_printable}
 use Rattle.lrat_rules.specs.State.{State, Live, clause_at, without_clauses}
-use Rattle.lrat_rules.specs.Derivation.{IsCutProof, are_added}
-use Rattle.clause_ledger.specs.Book.{IsProofOf, IsWritten-IsProofOf, AreNumbers}
-use Rattle.clause_ledger.proofs.Added.{MoreLaw, TextLaw}
+use Rattle.lrat_rules.specs.Derivation.{are_added}
+use Rattle.clause_ledger.specs.Book.{IsProofOf, AreNumbers, deletion}
+use Rattle.clause_ledger.proofs.Added.{MoreLaw, more_leads}
 
 -- one number more is taken out
 without-append : (live : Live) (front back : List ℕ) → without_clauses live (front ++ back)
@@ -75,48 +74,35 @@ formula_stays count live (id ∷ ids) h other le =
 abbrev pub without : State → List ℕ → State
 without state ids = record { live = without_clauses state.live ids; top = state.top }
 
-module _ (state : State) (ids : List ℕ) (small : state.top ≤ max_id) {clauses : List (List ℤ)} {tells : Bool} {before : Channel}
-    (proof : IsProofOf clauses tells before state) (added : are_added (length clauses) state.live ids ≡ true) where
-  abbrev step : Step
-  step = Delete state.top ids
+some_ids : (ids : List ℕ) → (ids ≡ [] → ⊥) → not (is_empty ids) ≡ true
+some_ids [] some = absurd (some refl)
+some_ids (id ∷ ids) some = refl
 
-  printable : is_printable step ≡ true
-  printable = and_from (nat_le state.top max_id) (list_all is_id ids) (le-leb state.top max_id small)
-      (added_in_range (length clauses) state.live state.top proof.numbers small ids added)
-
-  -- the whole line of the deletion
-  pub deletion_kept : MoreLaw → TextLaw → {after : Channel} → (IsTrue tells → after.written ≡ before.written ++ line_of_step step)
-      → IsProofOf clauses tells after (without state ids)
-  deletion_kept more text wrote = record {
-    steps = proof.steps ++ step ∷ [];
-    derived = more clauses proof.steps state step proof.derived refl printable added;
-    text = λ t. wrote t ∙ ap (λ (bytes : List ℕ). bytes ++ line_of_step step) (proof.text t) ∙ sym (text proof.steps step);
-    formula = λ i lt. formula_stays (length clauses) state.live ids added (i + 1) (omega (arith, lt)) ∙ proof.formula i lt;
-    numbers = numbers_without state.live state.top ids proof.numbers;
-    from_formula = proof.from_formula;
-  }
-
-  -- a front of it
-  pub deletion_cut : IsTrue tells → (n : ℕ) (written : List ℕ) → written ≡ before.written ++ take n (line_of_step step)
-      → IsCutProof clauses written state (without state ids)
-  deletion_cut t n written is = record {
-    whole = before.written;
-    cut = take n (line_of_step step);
-    parts = is;
-    written = IsWritten-IsProofOf proof t;
-    line = record {
-      step = step;
-      good = refl;
-      printable = printable;
-      deletions = added;
-      leads = refl;
-      rest = drop n (line_of_step step);
-      line = sym (take-append-drop n (line_of_step step));
-    };
-  }
+-- so does a deletion of clauses that were added
+pub deletion_proof : MoreLaw → (clauses : List (List ℤ)) (steps : List Step) (state : State) (ids : List ℕ) → state.top ≤ max_id
+    → (ids ≡ [] → ⊥) → are_added (length clauses) state.live ids ≡ true → IsProofOf clauses steps state
+    → IsProofOf clauses (steps ++ Delete state.top ids ∷ []) (without state ids)
+deletion_proof more clauses steps state ids small some added proof =
+    let step = Delete state.top ids in
+    let printable : is_printable step ≡ true = and_from (nat_le state.top max_id) (list_all is_id ids) (le-leb state.top max_id small)
+    (added_in_range (length clauses) state.live state.top proof.numbers small ids added) in
+    record {
+      derived = more clauses steps state step proof.derived refl printable
+          (and_from (state.top == state.top && not (is_empty ids)) (are_added (length clauses) state.live ids)
+          (and_from (state.top == state.top) (not (is_empty ids)) (eq-eqb state.top state.top refl) (some_ids ids some)) added);
+      leads = more_leads clauses steps state step proof.leads;
+      formula = λ i lt. formula_stays (length clauses) state.live ids added (i + 1) (omega (arith, lt)) ∙ proof.formula i lt;
+      numbers = numbers_without state.live state.top ids proof.numbers;
+      from_formula = proof.from_formula;
+    }
 
 pub without_more : (live : Live) (ids : List ℕ) (i id : ℕ) → i < length ids → id ≡ get_or ids i id → without_clauses live (take (i + 1) ids)
     ≡ finmap.remove (without_clauses live (take i ids)) id
 without_more live ids i id lt is =
     ap (without_clauses live) (take_more ids i id lt) ∙ without-append live (take i ids) (get_or ids i id ∷ [])
     ∙ ap (finmap.remove (without_clauses live (take i ids))) (sym is)
+
+-- some numbers are deleted by one step
+pub one_deletion : (state : State) (ids : List ℕ) → (ids ≡ [] → ⊥) → deletion state ids ≡ Delete state.top ids ∷ []
+one_deletion state [] some = absurd (some refl)
+one_deletion state (id ∷ ids) some = refl

@@ -1,13 +1,13 @@
-// The ledger: live clauses, and the lines that made them.
-ghost use Rattle.std.specs.Prelude.{◌≡◌, ◌≢◌, ◌<◌, ◌≤◌, ◌+◌, ◌-◌, ◌++◌, ◌↔◌, ℕ, ℤ, List, [], Some, true, false, IsTrue, OnOk, IfOk, IfErr};
+// The ledger: a formula, the steps of its proof, and what is live behind them.
+ghost use Rattle.std.specs.Prelude.{◌≡◌, ◌≢◌, ◌<◌, ◌≤◌, ◌+◌, ◌-◌, ◌++◌, ◌↔◌, ◌∷◌, ℕ, ℤ, List, [], Some, true, false, IsTrue, OnOk, IfOk, IfErr};
 ghost use Rattle.std.specs.Prelude.{IsErrOf, OnErr, IfSome, is_ok, is_some, length};
 ghost use Rattle.std.specs.Option.{option_copied};
+ghost use Rattle.cnf_base.specs.declared.step.Step.{Step};
 ghost use Rattle.cnf_base.specs.ProofText.{max_id};
-ghost use Rattle.host_io.specs.Channel.{Rose, Flushes};
-ghost use Rattle.lrat_rules.specs.State.{start, clause_at, without_clauses};
+ghost use Rattle.lrat_rules.specs.State.{start, clause_at};
 ghost use Rattle.lrat_rules.specs.Strict.{RefutesStrictly, IsDefinition};
-ghost use Rattle.lrat_rules.specs.Derivation.{IsCutProof, are_added};
-ghost use Rattle.clause_ledger.specs.Book.{IsProofOf, OnlyWrites, IsTorn, next_line, definition_line, deletion_line, with_next};
+ghost use Rattle.lrat_rules.specs.Derivation.{IsCutProof, IsWritten, are_added};
+ghost use Rattle.clause_ledger.specs.Book.{AreTold, IsBook, IsTextOf, addition, after_steps, definition, deletion};
 ghost use Rattle.clause_ledger.specs.Kept.{AreKept, ample_room, room_of};
 
 use crate::error::LedgerError;
@@ -19,12 +19,14 @@ use lrat_rules::{definition_law, derivation_law, live_law, start_law, strict_add
 use lrat_write::{write_add, write_define, write_delete};
 use std::alloc::Global;
 use std::marker::Model;
+use std::snapshot::Snapshot;
 
-/// The live clauses of a run and its proof, which goes to a sink line by line. The clauses themselves are kept only where
-/// they are to be read.
+/// A formula, the steps of its proof, which go to a sink line by line, and the clauses that are live behind them. The
+/// clauses themselves are kept only where they are to be read.
 #[derive(Drop)]
 pub struct Ledger<S: Sink + Drop> {
     sink: S,
+    origin: Snapshot<S>,
     history: History,
     kept: Option<Kept>,
     top: u64,
@@ -35,7 +37,7 @@ pub struct Ledger<S: Sink + Drop> {
 impl<S: Sink + Drop> Model for Ledger<S> {
     ghost use Rattle.std.specs.Prelude.{◌≡◌, ◌≤◌, IfSome, is_some};
     ghost use Rattle.cnf_base.specs.ProofText.{max_id};
-    ghost use Rattle.clause_ledger.specs.Book.{Book, book_code, AreNumbers};
+    ghost use Rattle.clause_ledger.specs.Book.{Book, IsProofOf, IsSince, book_code};
     ghost use Rattle.clause_ledger.specs.Kept.{AreKept, room_of};
 
     ghost Value = { Book S };
@@ -44,15 +46,21 @@ impl<S: Sink + Drop> Model for Ledger<S> {
 
     ghost view = { λ l. record {
       sink = l.sink;
-      state = l.history.state;
+      origin = l.origin.value;
+      formula = l.history.story.formula;
+      steps = l.history.story.steps;
+      state = l.history.story.state;
       limit = l.max_ids;
       in_step = l.in_step;
+      finished = l.history.story.finished;
       keeps = is_some l.kept;
       spare = room_of l.kept;
     } };
 
-    ghost invariant = { λ l. (l.max_ids ≤ max_id) × (l.top ≤ max_id) × (l.history.state.top ≡ l.top) × AreNumbers l.history.state.live l.top
-        × IfSome l.kept (AreKept l.history.state) };
+    ghost invariant = { λ l. (l.max_ids ≤ max_id) × (l.top ≤ max_id) × (l.history.story.state.top ≡ l.top)
+        × IsProofOf l.history.story.formula l.history.story.steps l.history.story.state
+        × IsSince S.tells l.in_step l.history.story.finished l.history.story.steps (S.channel l.origin.value) (S.channel l.sink)
+        × (S.beside l.sink ≡ S.beside l.origin.value) × IfSome l.kept (AreKept l.history.story.state) };
 }
 
 impl<S: Sink + Drop> Ledger<S> {
@@ -66,19 +74,20 @@ impl<S: Sink + Drop> Ledger<S> {
         max_ids: u64,
     ) -> Result<Ledger<S>, (S, OutOfMemory)>
         requires limit { max_ids ≤ max_id }
-        requires fresh { IsTrue S.tells → (S.channel sink).written ≡ [] }
         ensures opened { IfOk result (λ ledger. ledger ≡ record {
           sink = sink;
+          origin = sink;
+          formula = formula.now.clauses;
+          steps = [];
           state = start formula.now.clauses;
           limit = max_ids;
           in_step = true;
+          finished = false;
           keeps = true;
           spare = ledger.spare;
         }) }
-        ensures proof { IfOk result (λ ledger. IsProofOf formula.now.clauses S.tells (S.channel ledger.sink) ledger.state) }
         ensures refused { IfErr result (λ back. back.0 ≡ sink) }
     {
-        derivation_law();
         start_law();
         formula.formula_law();
         match Kept::of(alloc, formula) {
@@ -93,9 +102,13 @@ impl<S: Sink + Drop> Ledger<S> {
         requires limit { max_ids ≤ max_id }
         ensures { result ≡ record {
           sink = sink;
+          origin = sink;
+          formula = formula.now.clauses;
+          steps = [];
           state = start formula.now.clauses;
           limit = max_ids;
           in_step = true;
+          finished = false;
           keeps = false;
           spare = ample_room;
         } }
@@ -109,19 +122,26 @@ impl<S: Sink + Drop> Ledger<S> {
         requires kept { IfSome kept (AreKept (start formula.now.clauses)) }
         ensures { result ≡ record {
           sink = sink;
+          origin = sink;
+          formula = formula.now.clauses;
+          steps = [];
           state = start formula.now.clauses;
           limit = max_ids;
           in_step = true;
+          finished = false;
           keeps = is_some kept;
           spare = room_of kept;
         } }
     {
         start_law();
+        derivation_law();
         formula.formula_law();
         let top = formula.len() as u64;
+        let origin = Snapshot::of(&sink);
         let history = History::new().then(&Change::Start(formula));
         Ledger {
             sink,
+            origin,
             history,
             kept,
             top,
@@ -130,23 +150,29 @@ impl<S: Sink + Drop> Ledger<S> {
         }
     }
 
+    /// For the prover alone: the steps prove the live clauses, and the sink has their lines. So what was written is a proof of
+    /// what is live, or, out of step, one that was cut short in the line of its last step.
+    pub fn book_law(&self)
+        ensures book { IsBook S.tells S.channel S.beside self.now }
+        ensures written { (bytes : List ℕ) → IsTextOf true self.now.steps bytes → IsWritten self.now.formula bytes self.now.state }
+        ensures cut { (bytes : List ℕ) (earlier : List Step) (last : Step) → IsTextOf false self.now.steps bytes
+            → self.now.steps ≡ earlier ++ last ∷ []
+            → IsCutProof self.now.formula bytes (after_steps (start self.now.formula) earlier) self.now.state }
+    {
+        derivation_law();
+        let _top = self.top;
+    }
+
     /// Adds a clause under the next number, with a strict refutation of its negation as hints.
     pub fn add(&mut self, clause: &[Lit], hints: &[Id]) -> Result<Id, LedgerError>
         requires in_step { IsTrue self.old.in_step }
         requires strict { RefutesStrictly self.old.state.live clause.now hints.now }
-        ensures added { IfOk result (λ id. (id ≡ self.old.state.top + 1) × (self.new.state ≡ with_next self.old.state clause.now)) }
-        ensures line { IsTrue S.tells → OnOk result ((S.channel self.new.sink).written ≡ (S.channel self.old.sink).written
-            ++ next_line self.old.state clause.now hints.now) }
-        ensures kept { (clauses : List (List ℤ)) → IsProofOf clauses S.tells (S.channel self.old.sink) self.old.state
-            → OnOk result (IsProofOf clauses S.tells (S.channel self.new.sink) self.new.state) }
-        ensures in_step { OnOk result (IsTrue self.new.in_step) }
-        ensures limit { self.new.limit ≡ self.old.limit }
-        ensures keeps { self.new.keeps ≡ self.old.keeps }
+        ensures added { IfOk result (λ id. (id ≡ self.old.state.top + 1)
+            × AreTold true self.old self.new (addition self.old.state clause.now hints.now ∷ [])) }
 
         // The number limit is tried first; it and want of memory change nothing.
         ensures id_limit { IsErrOf result LedgerError.IdLimit ↔ (self.old.limit ≤ self.old.state.top) }
-        ensures limit_unchanged { IsErrOf result LedgerError.IdLimit → self.new ≡ self.old }
-        ensures memory_unchanged { IsErrOf result LedgerError.OutOfMemory → self.new ≡ self.old }
+        ensures unchanged { IfErr result (λ e. e ≢ LedgerError.WriteFault → self.new ≡ self.old) }
 
         // Short clauses use up the room that `reserve` made one by one, and find memory while there is some. Where no clause
         // is kept none is wanted.
@@ -154,27 +180,20 @@ impl<S: Sink + Drop> Ledger<S> {
         ensures memory_to_keep { IsErrOf result LedgerError.OutOfMemory → IsTrue self.old.keeps }
         ensures spare { length clause.now ≤ 4 → self.old.spare ≤ self.new.spare + 1 }
 
-        // A failed write leaves the ledger out of step: its clause is live, behind the proof stands a front of one good
-        // line.
-        ensures write_fault { IsErrOf result LedgerError.WriteFault
-            → IsTorn S.tells (S.channel self.old.sink) (S.channel self.new.sink) (next_line self.old.state clause.now hints.now) }
-        ensures out_of_step { IsErrOf result LedgerError.WriteFault → self.new.in_step ≡ false }
-        ensures fault_state { IsErrOf result LedgerError.WriteFault → self.new.state ≡ with_next self.old.state clause.now }
-        ensures cut { (clauses : List (List ℤ)) → IsProofOf clauses S.tells (S.channel self.old.sink) self.old.state → IsTrue S.tells
-            → IsErrOf result LedgerError.WriteFault → IsCutProof clauses (S.channel self.new.sink).written self.old.state self.new.state }
-
-        // no failed write is told as anything else
-        ensures unfailed { result ≢ Err LedgerError.WriteFault → (S.channel self.new.sink).faults ≡ (S.channel self.old.sink).faults }
-        ensures only_writes { OnlyWrites (S.channel self.old.sink) (S.channel self.new.sink) }
-        ensures beside { S.beside self.new.sink ≡ S.beside self.old.sink }
+        // A failed write leaves the ledger out of step: its line may be cut short.
+        ensures torn { IsErrOf result LedgerError.WriteFault
+            → AreTold false self.old self.new (addition self.old.state clause.now hints.now ∷ []) }
     {
         derivation_law();
         strict_addition_law();
         live_law();
-        let id = self.keep(clause)?;
+        let id = self.next_id()?;
+        push_kept(&mut self.kept, clause)?;
+        self.history = self.history.then(&Change::Add(clause, hints));
+        self.top = id.get();
         match write_add(&mut self.sink, id, clause, hints) {
             Ok(()) => Ok(id),
-            Err(_) => Err(self.fault()),
+            Err(_) => Err(put_out(&mut self.in_step)),
         }
     }
 
@@ -183,41 +202,26 @@ impl<S: Sink + Drop> Ledger<S> {
     pub fn define(&mut self, clause: &[Lit], candidates: &[Id]) -> Result<Id, LedgerError>
         requires in_step { IsTrue self.old.in_step }
         requires definition { IsDefinition self.old.state.live clause.now candidates.now }
-        ensures added { IfOk result (λ id. (id ≡ self.old.state.top + 1) × (self.new.state ≡ with_next self.old.state clause.now)) }
-        ensures line { IsTrue S.tells → OnOk result ((S.channel self.new.sink).written ≡ (S.channel self.old.sink).written
-            ++ definition_line self.old.state clause.now candidates.now) }
-        ensures kept { (clauses : List (List ℤ)) → IsProofOf clauses S.tells (S.channel self.old.sink) self.old.state
-            → OnOk result (IsProofOf clauses S.tells (S.channel self.new.sink) self.new.state) }
-        ensures in_step { OnOk result (IsTrue self.new.in_step) }
-        ensures limit { self.new.limit ≡ self.old.limit }
-        ensures keeps { self.new.keeps ≡ self.old.keeps }
-
+        ensures added { IfOk result (λ id. (id ≡ self.old.state.top + 1)
+            × AreTold true self.old self.new (definition self.old.state clause.now candidates.now ∷ [])) }
         ensures id_limit { IsErrOf result LedgerError.IdLimit ↔ (self.old.limit ≤ self.old.state.top) }
-        ensures limit_unchanged { IsErrOf result LedgerError.IdLimit → self.new ≡ self.old }
-        ensures memory_unchanged { IsErrOf result LedgerError.OutOfMemory → self.new ≡ self.old }
+        ensures unchanged { IfErr result (λ e. e ≢ LedgerError.WriteFault → self.new ≡ self.old) }
         ensures memory { IsErrOf result LedgerError.OutOfMemory → length clause.now ≤ 4 → self.old.spare ≡ 0 }
         ensures memory_to_keep { IsErrOf result LedgerError.OutOfMemory → IsTrue self.old.keeps }
         ensures spare { length clause.now ≤ 4 → self.old.spare ≤ self.new.spare + 1 }
-
-        ensures write_fault { IsErrOf result LedgerError.WriteFault
-            → IsTorn S.tells (S.channel self.old.sink) (S.channel self.new.sink)
-            (definition_line self.old.state clause.now candidates.now) }
-        ensures out_of_step { IsErrOf result LedgerError.WriteFault → self.new.in_step ≡ false }
-        ensures fault_state { IsErrOf result LedgerError.WriteFault → self.new.state ≡ with_next self.old.state clause.now }
-        ensures cut { (clauses : List (List ℤ)) → IsProofOf clauses S.tells (S.channel self.old.sink) self.old.state → IsTrue S.tells
-            → IsErrOf result LedgerError.WriteFault → IsCutProof clauses (S.channel self.new.sink).written self.old.state self.new.state }
-
-        ensures unfailed { result ≢ Err LedgerError.WriteFault → (S.channel self.new.sink).faults ≡ (S.channel self.old.sink).faults }
-        ensures only_writes { OnlyWrites (S.channel self.old.sink) (S.channel self.new.sink) }
-        ensures beside { S.beside self.new.sink ≡ S.beside self.old.sink }
+        ensures torn { IsErrOf result LedgerError.WriteFault
+            → AreTold false self.old self.new (definition self.old.state clause.now candidates.now ∷ []) }
     {
         derivation_law();
         definition_law();
         live_law();
-        let id = self.keep(clause)?;
+        let id = self.next_id()?;
+        push_kept(&mut self.kept, clause)?;
+        self.history = self.history.then(&Change::Define(clause, candidates));
+        self.top = id.get();
         match write_define(&mut self.sink, id, clause, candidates) {
             Ok(()) => Ok(id),
-            Err(_) => Err(self.fault()),
+            Err(_) => Err(put_out(&mut self.in_step)),
         }
     }
 
@@ -225,36 +229,22 @@ impl<S: Sink + Drop> Ledger<S> {
     /// `WriteFault` may come.
     pub fn delete(&mut self, ids: &[Id]) -> Result<(), LedgerError>
         requires in_step { IsTrue self.old.in_step }
-        // distinct numbers of live clauses
-        requires live { IsTrue (are_added 0 self.old.state.live ids.now) }
-        ensures state { self.new.state ≡ record { live = without_clauses self.old.state.live ids.now; top = self.old.state.top } }
-        ensures line { IsTrue S.tells → OnOk result ((S.channel self.new.sink).written ≡ (S.channel self.old.sink).written
-            ++ deletion_line self.old.state ids.now) }
-        // none of the formula's clauses may be among them
-        ensures kept { (clauses : List (List ℤ)) → IsProofOf clauses S.tells (S.channel self.old.sink) self.old.state
-            → IsTrue (are_added (length clauses) self.old.state.live ids.now)
-            → OnOk result (IsProofOf clauses S.tells (S.channel self.new.sink) self.new.state) }
-        ensures in_step { self.new.in_step ≡ is_ok result }
-        ensures limit { self.new.limit ≡ self.old.limit }
-        ensures keeps { self.new.keeps ≡ self.old.keeps }
-        ensures spare { self.new.spare ≡ self.old.spare }
-        ensures write_fault { IfErr result (λ e. (e ≡ LedgerError.WriteFault)
-            × IsTorn S.tells (S.channel self.old.sink) (S.channel self.new.sink) (deletion_line self.old.state ids.now)) }
-        ensures cut { (clauses : List (List ℤ)) → IsProofOf clauses S.tells (S.channel self.old.sink) self.old.state
-            → IsTrue (are_added (length clauses) self.old.state.live ids.now)
-            → IsTrue S.tells → OnErr result (IsCutProof clauses (S.channel self.new.sink).written self.old.state self.new.state) }
-        ensures unfailed { OnOk result ((S.channel self.new.sink).faults ≡ (S.channel self.old.sink).faults) }
-        ensures only_writes { OnlyWrites (S.channel self.old.sink) (S.channel self.new.sink) }
-        ensures beside { S.beside self.new.sink ≡ S.beside self.old.sink }
+        // distinct numbers of live clauses, above those of the formula
+        requires live { IsTrue (are_added (length self.old.formula) self.old.state.live ids.now) }
+        ensures told { AreTold (is_ok result) self.old self.new (deletion self.old.state ids.now) }
+        ensures room { self.new.spare ≡ self.old.spare }
+        ensures error { IfErr result (λ e. e ≡ LedgerError.WriteFault) }
+        ensures some { OnErr result (ids.now ≢ []) }
     {
         derivation_law();
         if ids.is_empty() {
             return Ok(());
         }
-        self.forget(ids);
+        remove_kept(&mut self.kept, ids);
+        self.history = self.history.then(&Change::Delete(ids));
         match write_delete(&mut self.sink, Id(self.top), ids) {
             Ok(()) => Ok(()),
-            Err(_) => Err(self.fault()),
+            Err(_) => Err(put_out(&mut self.in_step)),
         }
     }
 
@@ -314,71 +304,29 @@ impl<S: Sink + Drop> Ledger<S> {
     /// Flushes all that was written. Only `WriteFault` may come.
     pub fn finish(&mut self) -> Result<(), LedgerError>
         requires { IsTrue self.old.in_step }
-        ensures state { self.new.state ≡ self.old.state }
-        ensures limit { self.new.limit ≡ self.old.limit }
-        ensures keeps { self.new.keeps ≡ self.old.keeps }
-        ensures spare { self.new.spare ≡ self.old.spare }
-        ensures in_step { self.new.in_step ≡ is_ok result }
+        ensures state { self.new ≡ record self.old { sink = self.new.sink; in_step = is_ok result; finished = true } }
         ensures written { (S.channel self.new.sink).written ≡ (S.channel self.old.sink).written }
         ensures flushed { IsTrue S.tells → OnOk result ((S.channel self.new.sink).flushed ≡ length (S.channel self.new.sink).written) }
         ensures unflushed { OnErr result ((S.channel self.new.sink).flushed ≡ (S.channel self.old.sink).flushed) }
-        ensures write_fault { IfErr result (λ e. (e ≡ LedgerError.WriteFault)
-            × Rose (S.channel self.old.sink).faults (S.channel self.new.sink).faults) }
-        ensures unfailed { OnOk result ((S.channel self.new.sink).faults ≡ (S.channel self.old.sink).faults) }
-        ensures counts { (S.channel self.old.sink).faults ≤ (S.channel self.new.sink).faults }
-        ensures taken { (S.channel self.new.sink).taken ≡ (S.channel self.old.sink).taken }
-        ensures left { (S.channel self.new.sink).left ≡ (S.channel self.old.sink).left }
-        ensures name { (S.channel self.new.sink).name ≡ (S.channel self.old.sink).name }
-        ensures beside { S.beside self.new.sink ≡ S.beside self.old.sink }
+        ensures error { IfErr result (λ e. e ≡ LedgerError.WriteFault) }
     {
+        self.history = self.history.then(&Change::Finish);
         match self.sink.flush() {
             Ok(()) => Ok(()),
-            Err(_) => Err(self.fault()),
+            Err(_) => Err(put_out(&mut self.in_step)),
         }
     }
 
-    // Puts a clause under the next number, before its line is written.
-    fn keep(&mut self, clause: &[Lit]) -> Result<Id, LedgerError>
-        ensures kept { IfOk result (λ id. (id ≡ self.old.state.top + 1)
-            × (self.new ≡ record self.old { state = with_next self.old.state clause.now; spare = self.new.spare })) }
-        ensures memory_to_keep { IsErrOf result LedgerError.OutOfMemory → IsTrue self.old.keeps }
-        ensures spare { OnOk result (length clause.now ≤ 4 → self.old.spare ≤ self.new.spare + 1) }
-        ensures id_limit { IsErrOf result LedgerError.IdLimit ↔ (self.old.limit ≤ self.old.state.top) }
-        ensures refused { IfErr result (λ e. e ≢ LedgerError.WriteFault) }
-        ensures unchanged { OnErr result (self.new ≡ self.old) }
-        ensures memory { IsErrOf result LedgerError.OutOfMemory → length clause.now ≤ 4 → self.old.spare ≡ 0 }
-        ensures next { OnOk result (self.old.state.top + 1 ≤ max_id) }
-        ensures numbers { (id : ℕ) (clause : List ℤ) → clause_at self.old.state.live id ≡ Some clause → (0 < id)
-            × (id ≤ self.old.state.top) }
+    // The next number, unless the limit is reached.
+    fn next_id(&self) -> Result<Id, LedgerError>
+        ensures next { IfOk result (λ id. (id ≡ self.now.state.top + 1) × (id ≤ max_id) × (self.now.state.top < self.now.limit)) }
+        ensures limit { IfErr result (λ e. (e ≡ LedgerError.IdLimit) × (self.now.limit ≤ self.now.state.top)) }
     {
-        live_law();
         let next = self.top + 1;
         if next > self.max_ids {
             return Err(LedgerError::IdLimit);
         }
-        push_kept(&mut self.kept, clause)?;
-        self.history = self.history.then(&Change::Add(clause));
-        self.top = next;
         Ok(Id(next))
-    }
-
-    // Takes the clauses of these numbers out, before the line that deletes them is written.
-    fn forget(&mut self, ids: &[Id])
-        ensures { self.new ≡ record self.old {
-          state = record { live = without_clauses self.old.state.live ids.now; top = self.old.state.top };
-        } }
-    {
-        remove_kept(&mut self.kept, ids);
-        self.history = self.history.then(&Change::Delete(ids));
-    }
-
-    // Remembers that a call of the sink failed.
-    fn fault(&mut self) -> LedgerError
-        ensures error { result ≡ LedgerError.WriteFault }
-        ensures state { self.new ≡ record self.old { in_step = false } }
-    {
-        self.in_step = false;
-        LedgerError::WriteFault
     }
 
     /// Hands the sink back.
@@ -387,6 +335,7 @@ impl<S: Sink + Drop> Ledger<S> {
     {
         let Ledger {
             sink,
+            origin: _,
             history: _,
             kept: _,
             top: _,
@@ -395,4 +344,13 @@ impl<S: Sink + Drop> Ledger<S> {
         } = self;
         sink
     }
+}
+
+// Remembers that a call of the sink failed.
+fn put_out(in_step: &mut bool) -> LedgerError
+    ensures error { result ≡ LedgerError.WriteFault }
+    ensures out_of_step { in_step.new ≡ false }
+{
+    *in_step = false;
+    LedgerError::WriteFault
 }

@@ -1,7 +1,6 @@
 -- The steps of a call after which there is no memory, and a refusal that adds no clause.
-use Rattle.std.proofs.Common.{◌≢◌, ℕ, Bool, Some, None, Result, Ok, Err, subst}
+use Rattle.std.proofs.Common.{◌≢◌, ℕ, Some, None, Result, Ok, Err, subst}
 use Rattle.std.specs.Prelude.{IfErr}
-use Rattle.host_io.specs.Channel.{Channel}
 use Rattle.node_table.specs.declared.error.TableError.{TableError}
 use Rattle.node_table.specs.declared.error.TableError.TheVariants.{OutOfMemory, WriteFault}
 use Rattle.node_table.specs.Table.{TableState, AddsNone, IsAddedTo, IsSame}
@@ -15,6 +14,6 @@ adds_none {S = S} old new (Err error) refused = λ whole id own. let same : IsAd
     λ added. (subst (λ (t : TableState S). IsAddedTo t id) (refused whole) added) in same own
 
 -- what succeeded stays where memory runs out behind it
-pub steps_kept : {S : Type 0} {tells : Bool} {before after : Channel} {old new : TableState S} {count : ℕ}
-    → Steps tells before after old new count None → Steps tells before after old new count (Some OutOfMemory)
+pub steps_kept : {S : Type 0} {old new : TableState S} {count : ℕ}
+    → Steps old new count None → Steps old new count (Some OutOfMemory)
 steps_kept steps = record { leaves = steps.leaves; extends = steps.extends; adds = steps.adds; no_empty = steps.no_empty }

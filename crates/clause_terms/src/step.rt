@@ -42,10 +42,9 @@ pub fn take_literal<S: Sink + Drop>(
         (reverse path.new.items)) }
     ensures made { MakesOnly table.old.graph table.new.graph (placed_function (drop i placed.now)) }
     ensures lacks { result ≡ Err NodeLimit → LacksPart table.new.graph (placed_function (drop i placed.now)) }
-    ensures steps { Steps S.tells (S.channel table.old.book.sink) (S.channel table.new.book.sink) table.old table.new 0 (error_of result) }
+    ensures steps { Steps table.old table.new 0 (error_of result) }
     ensures none_added { UnlessTorn result (AddsNone table.old table.new) }
     ensures retired { table.new.retired ≡ table.old.retired }
-    ensures beside { S.beside table.new.book.sink ≡ S.beside table.old.book.sink }
 {
     steps_law::<S>();
     subfunction_law();
@@ -88,10 +87,9 @@ fn add_literal<S: Sink + Drop>(
         → MakesOnly table.old.graph table.new.graph (placed_function (placed.now ∷ more)) }
     ensures lacks { (more : List PlacedValue) → ((a : Levels) → value_of table.old.graph a below ≡ list_any (placed_holds a) more)
         → result ≡ Err NodeLimit → LacksPart table.new.graph (placed_function (placed.now ∷ more)) }
-    ensures steps { Steps S.tells (S.channel table.old.book.sink) (S.channel table.new.book.sink) table.old table.new 0 (error_of result) }
+    ensures steps { Steps table.old table.new 0 (error_of result) }
     ensures none_added { UnlessTorn result (AddsNone table.old table.new) }
     ensures retired { table.new.retired ≡ table.old.retired }
-    ensures beside { S.beside table.new.book.sink ≡ S.beside table.old.book.sink }
 {
     growth_law();
     cofactor_law();
@@ -117,10 +115,9 @@ fn literal_node<S: Sink + Drop>(
         → MakesOnly table.old.graph table.new.graph (placed_function (placed.now ∷ more)) }
     ensures lacks { (more : List PlacedValue) → ((a : Levels) → value_of table.old.graph a below ≡ list_any (placed_holds a) more)
         → result ≡ Err NodeLimit → LacksPart table.new.graph (placed_function (placed.now ∷ more)) }
-    ensures steps { Steps S.tells (S.channel table.old.book.sink) (S.channel table.new.book.sink) table.old table.new 0 (error_of result) }
+    ensures steps { Steps table.old table.new 0 (error_of result) }
     ensures none_added { UnlessTorn result (AddsNone table.old table.new) }
     ensures retired { table.new.retired ≡ table.old.retired }
-    ensures beside { S.beside table.new.book.sink ≡ S.beside table.old.book.sink }
 {
     growth_law();
     cofactor_law();

@@ -52,13 +52,12 @@ pub fn push_clause<S: Sink + Drop>(
     // A refusal adds none.
     ensures none_added { IfErr result (λ e. e ≢ WriteFault → AddsNone table.old table.new) }
     ensures made { MakesOnly table.old.graph table.new.graph (clause_function table.old.graph.order clause.now) }
-    ensures steps { Steps S.tells (S.channel table.old.book.sink) (S.channel table.new.book.sink) table.old table.new 1 (error_of result) }
+    ensures steps { Steps table.old table.new 1 (error_of result) }
     ensures retired { table.new.retired ≡ table.old.retired }
     ensures tautology { IsTautology clause.now → (table.new ≡ table.old) × IfOk result (λ found. (found.0 ≡ True) × (found.1 ≡ Trivial))
         × IfErr result (λ e. e ≡ OutOfMemory) }
     // Where the nodes are used up, some part of the clause is the function of none.
     ensures lacks { result ≡ Err NodeLimit → LacksPart table.new.graph (clause_function table.old.graph.order clause.now) }
-    ensures beside { S.beside table.new.book.sink ≡ S.beside table.old.book.sink }
 {
     steps_law::<S>();
     subfunction_law();
@@ -86,10 +85,9 @@ fn build<S: Sink + Drop>(
     ensures diagram { IfOk result (λ found. IsDiagramOf table.new.graph table.new.book.state.live placed.now found.0 found.1.items) }
     ensures made { MakesOnly table.old.graph table.new.graph (placed_function placed.now) }
     ensures lacks { result ≡ Err NodeLimit → LacksPart table.new.graph (placed_function placed.now) }
-    ensures steps { Steps S.tells (S.channel table.old.book.sink) (S.channel table.new.book.sink) table.old table.new 0 (error_of result) }
+    ensures steps { Steps table.old table.new 0 (error_of result) }
     ensures none_added { UnlessTorn result (AddsNone table.old table.new) }
     ensures retired { table.new.retired ≡ table.old.retired }
-    ensures beside { S.beside table.new.book.sink ≡ S.beside table.old.book.sink }
 {
     steps_law::<S>();
     subfunction_law();
@@ -119,10 +117,9 @@ fn add_unit<S: Sink + Drop>(
     ensures own { IfOk result (λ id. IsAddedTo table.new id) }
     ensures none_added { IfErr result (λ e. e ≢ WriteFault → AddsNone table.old table.new) }
     ensures nodes { table.new.graph ≡ table.old.graph }
-    ensures steps { Steps S.tells (S.channel table.old.book.sink) (S.channel table.new.book.sink) table.old table.new 1 (error_of result) }
+    ensures steps { Steps table.old table.new 1 (error_of result) }
     ensures retired { table.new.retired ≡ table.old.retired }
     ensures no_node_limit { result ≢ Err NodeLimit }
-    ensures beside { S.beside table.new.book.sink ≡ S.beside table.old.book.sink }
 {
     steps_law::<S>();
     unit_law();

@@ -7,7 +7,6 @@ use Rattle.std.specs.FinMap as map
 use Rattle.std.proofs.lemmas.Bool.{cases_Bool, cases_lt}
 use Rattle.lrat_rules.specs.State.{Live, clause_at}
 use Rattle.clause_ledger.specs.Book.{Book}
-use Rattle.host_io.specs.Channel.{Channel}
 use Rattle.node_table.specs.declared.error.TableError.{TableError}
 use Rattle.node_table.specs.declared.node.Branch.{Branch}
 use Rattle.node_table.specs.Defined.{defs_of, is_defined_by}
@@ -85,10 +84,10 @@ module _ {S : Type 0} where
         ];
   }
 
-  pub made_plain : {T : Type 0} (tells : Bool) (before after : Channel) (old new : TableState S) (r : Result T TableError) → IsSound old
-      → Steps tells before after old new 0 (error_of r) → UnlessTorn r (AddsNone old new) → IsPlain old → OnOk r (IsPlain new)
-  made_plain tells before after old new (Ok x) sound steps none plain = kept_plain old new sound steps.extends (none (λ same. cc)) plain
-  made_plain tells before after old new (Err e) sound steps none plain = tt
+  pub made_plain : {T : Type 0} (old new : TableState S) (r : Result T TableError) → IsSound old
+      → Steps old new 0 (error_of r) → UnlessTorn r (AddsNone old new) → IsPlain old → OnOk r (IsPlain new)
+  made_plain old new (Ok x) sound steps none plain = kept_plain old new sound steps.extends (none (λ same. cc)) plain
+  made_plain old new (Err e) sound steps none plain = tt
 
   -- A clause of the formula holds no extension variable, and each other one defines a node.
   pub plain_clear : (table : TableState S) (marks : List Bool) → IsSound table → IsPlain table

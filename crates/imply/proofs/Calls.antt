@@ -1,8 +1,6 @@
 -- A call of an implication from its parts: it is refused, it ends as one of its sides does, or it is closed from both.
-use Rattle.std.proofs.Common.{◌≡◌, ◌∙◌, ℕ, arith, refl, ap, Bool, Option, Result, Ok, Err, None, Some, inl}
+use Rattle.std.proofs.Common.{◌≡◌, ◌∙◌, ℕ, arith, refl, ap, Option, Result, Ok, Err, None, Some, inl}
 use Rattle.std.specs.Prelude.{IfOk}
-use Rattle.host_io.specs.Channel.{Channel}
-use Rattle.host_io.specs.Beside.{Beside}
 use Rattle.node_table.specs.declared.error.TableError.{TableError}
 use Rattle.node_table.specs.declared.error.TableError.TheVariants.{NodeLimit, IdLimit, OutOfMemory}
 use Rattle.node_table.specs.declared.node.Node.{Node}
@@ -63,14 +61,14 @@ some_same one other is = cc
 abbrev pub IsNoYes : Answer → Type 0
 IsNoYes result = (just : Just) → result ≡ Ok (Some just) → ⊥
 
-module _ {S : Type 0} {tells : Bool} {channel : S → Channel} {lent : S → Beside} where
+module _ {S : Type 0} where
   -- a call that is refused for want of memory before anything changed
-  pub refused : StepByStep tells channel → Accounting S → Pricing S ℕ → (table : TableState S) (cache : ImplyCache) → IsSound table
+  pub refused : StepByStep S → Accounting S → Pricing S ℕ → (table : TableState S) (cache : ImplyCache) → IsSound table
       → Fits table (entries cache) → (u v : Node)
-      → Implies tells channel lent table cache u v table cache (Err OutOfMemory)
+      → Implies table cache u v table cache (Err OutOfMemory)
   refused law accounts pricing table cache sound fits u v = record {
     decided = tt;
-    steps = law.at_most _ _ _ _ _ _ _ (omega arith) (law.no_memory table sound);
+    steps = law.at_most _ _ _ _ _ (omega arith) (law.no_memory table sound);
     nodes = refl;
     no_node_limit = memory_no_limit;
     id_limit = λ is. absurd (memory_no_numbers is);
@@ -79,16 +77,15 @@ module _ {S : Type 0} {tells : Bool} {channel : S → Channel} {lent : S → Bes
     kept = λ differ first second just is. absurd (failed_no_answer OutOfMemory (Some just) is);
     remembers = record { entries = λ entry there. inl there; no_fewer = omega arith; capacity = refl };
     price = pricing.none table cache.results u v (Some OutOfMemory);
-    beside = refl;
   }
 
   -- a call that is split
-  module _ (law : StepByStep tells channel) (splits : Splitting) (cofactors : Cofactors) (fitting : Fitting S) (accounts : Accounting S)
-      (caches : Keeping Pair ℕ same_pair) (pricing : Pricing S ℕ) (budget : Budget tells channel)
+  module _ (law : StepByStep S) (splits : Splitting) (cofactors : Cofactors) (fitting : Fitting S) (accounts : Accounting S)
+      (caches : Keeping Pair ℕ same_pair) (pricing : Pricing S ℕ) (budget : Budget S)
       (old : TableState S) (before : ImplyCache) (sound : IsSound old) (o : Operands) (split : AreSplit old.graph o)
       (unknown : IsUnknown before o.u o.v) where
     decided_high : (one : TableState S) (cache_one : ImplyCache) (result : Answer)
-        → Implies tells channel lent old before o.u_high o.v_high one cache_one result → IsNoYes result
+        → Implies old before o.u_high o.v_high one cache_one result → IsNoYes result
         → IfOk result (λ answer. IsDecided one.graph one.book.state.live o.u o.v answer)
     decided_high one cache_one (Err came) by_high never = tt
     decided_high one cache_one (Ok None) by_high never =
@@ -97,8 +94,8 @@ module _ {S : Type 0} {tells : Bool} {channel : S → Channel} {lent : S → Bes
     decided_high one cache_one (Ok (Some just)) by_high never = absurd (never just refl)
 
     pub high_only : (one : TableState S) (cache_one : ImplyCache) (result : Answer)
-        → Implies tells channel lent old before o.u_high o.v_high one cache_one result → IsNoYes result
-        → Implies tells channel lent old before o.u o.v one cache_one result
+        → Implies old before o.u_high o.v_high one cache_one result → IsNoYes result
+        → Implies old before o.u o.v one cache_one result
     high_only one cache_one result by_high never = record {
       decided = decided_high one cache_one result by_high never;
       steps = budget.high old one o (error_of result) sound split by_high.steps;
@@ -110,11 +107,10 @@ module _ {S : Type 0} {tells : Bool} {channel : S → Channel} {lent : S → Bes
       kept = λ differ first second just is. absurd (never just is);
       remembers = by_high.remembers;
       price = pricing.high_only old one before.results cache_one.results o (error_of result) sound.tied.reduced split by_high.price;
-      beside = by_high.beside;
     }
 
     module _ (one : TableState S) (cache_one : ImplyCache) (high : Just)
-        (by_high : Implies tells channel lent old before o.u_high o.v_high one cache_one (Ok (Some high))) where
+        (by_high : Implies old before o.u_high o.v_high one cache_one (Ok (Some high))) where
       sound_one : IsSound one
       sound_one = by_high.steps.leaves.sound
 
@@ -123,7 +119,7 @@ module _ {S : Type 0} {tells : Bool} {channel : S → Channel} {lent : S → Bes
 
       -- what the low side adds to the high one, however it ends
       module _ (two : TableState S) (cache_two : ImplyCache) (by : Answer)
-          (by_low : Implies tells channel lent one cache_one o.u_low o.v_low two cache_two by) where
+          (by_low : Implies one cache_one o.u_low o.v_low two cache_two by) where
         accounts_both : AccountsFor old two (entries before) (entries cache_two) (error_of by)
         accounts_both = accounts.further old one two (entries before) (entries cache_one) (entries cache_two)
             (error_of by) by_high.steps.extends by_low.steps.extends by_high.accounts by_low.accounts
@@ -132,7 +128,7 @@ module _ {S : Type 0} {tells : Bool} {channel : S → Channel} {lent : S → Bes
         remembers_both = caches.further entry_of before.results cache_one.results cache_two.results by_high.remembers by_low.remembers
 
       decided_low : (two : TableState S) (cache_two : ImplyCache) (result : Answer)
-          → Implies tells channel lent one cache_one o.u_low o.v_low two cache_two result → IsNoYes result
+          → Implies one cache_one o.u_low o.v_low two cache_two result → IsNoYes result
           → IfOk result (λ answer. IsDecided two.graph two.book.state.live o.u o.v answer)
       decided_low two cache_two (Err came) by_low never = tt
       decided_low two cache_two (Ok None) by_low never =
@@ -141,8 +137,8 @@ module _ {S : Type 0} {tells : Bool} {channel : S → Channel} {lent : S → Bes
       decided_low two cache_two (Ok (Some just)) by_low never = absurd (never just refl)
 
       pub low_last : (two : TableState S) (cache_two : ImplyCache) (result : Answer)
-          → Implies tells channel lent one cache_one o.u_low o.v_low two cache_two result → IsNoYes result
-          → Implies tells channel lent old before o.u o.v two cache_two result
+          → Implies one cache_one o.u_low o.v_low two cache_two result → IsNoYes result
+          → Implies old before o.u o.v two cache_two result
       low_last two cache_two result by_low never = record {
         decided = decided_low two cache_two result by_low never;
         steps = budget.low old one two o (error_of result) sound split by_high.steps by_low.steps;
@@ -156,11 +152,10 @@ module _ {S : Type 0} {tells : Bool} {channel : S → Channel} {lent : S → Bes
         price = pricing.low_last old one two before.results cache_one.results cache_two.results o
             (error_of result) sound.tied.reduced sound_one.tied.reduced by_high.steps.extends.nodes split
             by_high.remembers.capacity by_high.price by_low.price;
-        beside = by_low.beside ∙ by_high.beside;
       }
 
       module _ (two : TableState S) (cache_two : ImplyCache) (low : Option Just)
-          (by_low : Implies tells channel lent one cache_one o.u_low o.v_low two cache_two (Ok low)) where
+          (by_low : Implies one cache_one o.u_low o.v_low two cache_two (Ok low)) where
         pub split_low : AreSplit two.graph o
         split_low = splits.kept one.graph two.graph by_low.steps.extends.nodes o split_high
 
@@ -173,8 +168,8 @@ module _ {S : Type 0} {tells : Bool} {channel : S → Channel} {lent : S → Bes
             (record { first = first.stands; second = second.stands }, by_high.decided)).1
 
         pub closed : (three : TableState S) (cache_three : ImplyCache) (result : Answer)
-            → IsClosed tells channel lent two cache_two o three cache_three result
-            → Implies tells channel lent old before o.u o.v three cache_three result
+            → IsClosed two cache_two o three cache_three result
+            → Implies old before o.u o.v three cache_three result
         closed three cache_three result closes = record {
           decided = closes.decided;
           steps = budget.both old one two three o (error_of result) sound split by_high.steps by_low.steps closes.steps;
@@ -193,5 +188,4 @@ module _ {S : Type 0} {tells : Bool} {channel : S → Channel} {lent : S → Bes
               (error_of result) sound.tied.reduced sound_one.tied.reduced by_high.steps.extends.nodes split
               unknown.first unknown.second unknown.unused by_high.remembers.capacity by_low.remembers.capacity by_high.price by_low.price
               closes.steps.adds closes.used;
-          beside = closes.beside ∙ (by_low.beside ∙ by_high.beside);
         }

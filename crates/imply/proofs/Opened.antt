@@ -1,8 +1,6 @@
 -- A call that is split: its sides may be called and closed, and however they end, the call has ended.
-use Rattle.std.proofs.Common.{◌≡◌, ◌<◌, ◌≤◌, ◌⊎◌, ℕ, min, Bool, true, is_some, Option, None, Some, Ok, Err, refl, sym, subst, arith, inl}
+use Rattle.std.proofs.Common.{◌≡◌, ◌<◌, ◌≤◌, ◌⊎◌, ℕ, min, true, is_some, Option, None, Some, Ok, Err, refl, sym, subst, arith, inl}
 use Rattle.std.proofs.Common.{inr}
-use Rattle.host_io.specs.Channel.{Channel}
-use Rattle.host_io.specs.Beside.{Beside}
 use Rattle.node_table.specs.declared.error.TableError.TheVariants.{OutOfMemory}
 use Rattle.node_table.specs.declared.node.Node.{Node}
 use Rattle.node_table.specs.declared.node.Just.{Just}
@@ -51,14 +49,14 @@ no_later graph o split = lesser (level_of graph o.u) (level_of graph o.v) o.leve
     lesser one two level (inl is) = omega (arith, is)
     lesser one two level (inr is) = omega (arith, is)
 
-module _ {S : Type 0} {tells : Bool} {channel : S → Channel} {lent : S → Beside} where
-  module _ (law : StepByStep tells channel) (splits : Splitting) (cofactors : Cofactors) (fitting : Fitting S) (accounts : Accounting S)
-      (caches : Keeping Pair ℕ same_pair) (pricing : Pricing S ℕ) (budget : Budget tells channel)
+module _ {S : Type 0} where
+  module _ (law : StepByStep S) (splits : Splitting) (cofactors : Cofactors) (fitting : Fitting S) (accounts : Accounting S)
+      (caches : Keeping Pair ℕ same_pair) (pricing : Pricing S ℕ) (budget : Budget S)
       (old : TableState S) (before : ImplyCache) (sound : IsSound old) (fits : Fits old (entries before)) (o : Operands)
       (split : AreSplit old.graph o) (unknown : IsUnknown before o.u o.v) where
     -- a pair whose answer isn't known is neither kept nor plain
-    ended : (new : TableState S) (after : ImplyCache) (result : Answer) → Implies tells channel lent old before o.u o.v new after result
-        → Answers tells channel lent old before o.u o.v new after result
+    ended : (new : TableState S) (after : ImplyCache) (result : Answer) → Implies old before o.u o.v new after result
+        → Answers old before o.u o.v new after result
     ended new after result call = record {
       call = call;
       known = λ just there. absurd (unknown.none just there);
@@ -66,17 +64,17 @@ module _ {S : Type 0} {tells : Bool} {channel : S → Channel} {lent : S → Bes
     }
 
     module _ (one : TableState S) (cache_one : ImplyCache) (high : Just)
-        (by_high : Implies tells channel lent old before o.u_high o.v_high one cache_one (Ok (Some high))) where
+        (by_high : Implies old before o.u_high o.v_high one cache_one (Ok (Some high))) where
       -- the step from both sides, of which the low one may not hold
       last : (two : TableState S) (cache_two : ImplyCache) (low : Option Just)
-          → Implies tells channel lent one cache_one o.u_low o.v_low two cache_two (Ok low)
+          → Implies one cache_one o.u_low o.v_low two cache_two (Ok low)
           → (three : TableState S) (cache_three : ImplyCache) (result : Answer)
-          → Closes tells channel lent two cache_two o low three cache_three result
-          → Answers tells channel lent old before o.u o.v three cache_three result
+          → Closes two cache_two o low three cache_three result
+          → Answers old before o.u o.v three cache_three result
       last two cache_two None by_low three cache_three result closing =
-          subst (λ (r : Answer). Answers tells channel lent old before o.u o.v three cache_three r) (sym closing.0)
-          (subst (λ (t : TableState S). Answers tells channel lent old before o.u o.v t cache_three (Ok None)) (sym closing.1)
-          (subst (λ (c : ImplyCache). Answers tells channel lent old before o.u o.v two c (Ok None)) (sym closing.2)
+          subst (λ (r : Answer). Answers old before o.u o.v three cache_three r) (sym closing.0)
+          (subst (λ (t : TableState S). Answers old before o.u o.v t cache_three (Ok None)) (sym closing.1)
+          (subst (λ (c : ImplyCache). Answers old before o.u o.v two c (Ok None)) (sym closing.2)
           (ended two cache_two (Ok None)
           (low_last law splits cofactors fitting accounts caches pricing budget old before sound o split unknown one cache_one high
           by_high two cache_two (Ok None) by_low none_no_answer))))
@@ -86,8 +84,8 @@ module _ {S : Type 0} {tells : Bool} {channel : S → Channel} {lent : S → Bes
           by_high two cache_two (Some low) by_low three cache_three result closing)
 
       low_came : (two : TableState S) (cache_two : ImplyCache) (result : Answer)
-          → Implies tells channel lent one cache_one o.u_low o.v_low two cache_two result
-          → LowCame (implications tells channel lent) (Answers tells channel lent old before o.u o.v) o (Some high) two cache_two result
+          → Implies one cache_one o.u_low o.v_low two cache_two result
+          → LowCame (implications) (Answers old before o.u o.v) o (Some high) two cache_two result
       low_came two cache_two (Err came) by_low =
           ended two cache_two (Err came)
           (low_last law splits cofactors fitting accounts caches pricing budget old before sound o split unknown one cache_one high by_high
@@ -107,7 +105,7 @@ module _ {S : Type 0} {tells : Bool} {channel : S → Channel} {lent : S → Bes
         closes = last two cache_two low by_low;
       }
 
-      awaits_low : AwaitsLow (implications tells channel lent) (Answers tells channel lent old before o.u o.v) one cache_one o (Some high)
+      awaits_low : AwaitsLow (implications) (Answers old before o.u o.v) one cache_one o (Some high)
           (o.u_low, o.v_low)
       awaits_low =
           let sound_one = by_high.steps.leaves.sound in
@@ -123,8 +121,8 @@ module _ {S : Type 0} {tells : Bool} {channel : S → Channel} {lent : S → Bes
           }
 
     high_came : (one : TableState S) (cache_one : ImplyCache) (result : Answer)
-        → Implies tells channel lent old before o.u_high o.v_high one cache_one result
-        → HighCame (implications tells channel lent) (Answers tells channel lent old before o.u o.v) o one cache_one result
+        → Implies old before o.u_high o.v_high one cache_one result
+        → HighCame (implications) (Answers old before o.u o.v) o one cache_one result
     high_came one cache_one (Err came) by_high =
         ended one cache_one (Err came)
         (high_only law splits cofactors fitting accounts caches pricing budget old before sound o split unknown one cache_one
@@ -135,7 +133,7 @@ module _ {S : Type 0} {tells : Bool} {channel : S → Channel} {lent : S → Bes
         (Ok None) by_high none_no_answer)
     high_came one cache_one (Ok (Some high)) by_high = awaits_low one cache_one high by_high
 
-    opened : IsOpened (implications tells channel lent) (Answers tells channel lent old before o.u o.v) old before o
+    opened : IsOpened (implications) (Answers old before o.u o.v) old before o
     opened =
         let first = splits.u_high old.graph sound.tied.reduced o split in
         let second = splits.v_high old.graph sound.tied.reduced o split in record {
@@ -147,18 +145,18 @@ module _ {S : Type 0} {tells : Bool} {channel : S → Channel} {lent : S → Bes
         }
 
   -- what a call is answered that was split
-  pub split_answered : StepByStep tells channel → Splitting → Cofactors → Fitting S → Accounting S → Keeping Pair ℕ same_pair → Pricing S ℕ
-      → Budget tells channel → (old : TableState S) (before after : ImplyCache) (u v : Node)
+  pub split_answered : StepByStep S → Splitting → Cofactors → Fitting S → Accounting S → Keeping Pair ℕ same_pair → Pricing S ℕ
+      → Budget S → (old : TableState S) (before after : ImplyCache) (u v : Node)
       → CanImply old before u v → (o : Operands) → AreSplit old.graph o → (o.u ≡ u) × (o.v ≡ v) → (after ≡ before) × IsUnknown before u v
-      → IsAnswer (implications tells channel lent) old before (u, v) old after (Ok (Open o))
+      → IsAnswer (implications) old before (u, v) old after (Ok (Open o))
   split_answered law splits cofactors fitting accounts caches pricing budget old before after u v can o split same missed =
       let unknown : IsUnknown before o.u o.v = subst (λ (x : Node). IsUnknown before x o.v) (sym same.0)
       (subst (λ (y : Node). IsUnknown before u y) (sym same.1) missed.1) in
-      let own : IsAnswer (implications tells channel lent) old before (o.u, o.v) old before (Ok (Open o)) = (
+      let own : IsAnswer (implications) old before (o.u, o.v) old before (Ok (Open o)) = (
         no_later old.graph o split,
         opened law splits cofactors fitting accounts caches pricing budget old before can.sound can.fits o split
             unknown,
       ) in
-      subst (λ (c : ImplyCache). IsAnswer (implications tells channel lent) old before (u, v) old c (Ok (Open o))) (sym missed.0)
-      (subst (λ (y : Node). IsAnswer (implications tells channel lent) old before (u, y) old before (Ok (Open o))) same.1
-      (subst (λ (x : Node). IsAnswer (implications tells channel lent) old before (x, o.v) old before (Ok (Open o))) same.0 own))
+      subst (λ (c : ImplyCache). IsAnswer (implications) old before (u, v) old c (Ok (Open o))) (sym missed.0)
+      (subst (λ (y : Node). IsAnswer (implications) old before (u, y) old before (Ok (Open o))) same.1
+      (subst (λ (x : Node). IsAnswer (implications) old before (x, o.v) old before (Ok (Open o))) same.0 own))

@@ -1,9 +1,7 @@
 -- A whole call of an implication, however it ends: as one relation, from which the calls around it go on. Beside it the last
 -- step of a call that was split, and the operation of both.
-use Rattle.std.specs.Prelude.{◌≡◌, ◌≢◌, ◌<◌, ◌∷◌, ℕ, Bool, List, Option, None, Some, Result, Ok, Err, Contains, IfOk, IsFalse, IsTrue}
+use Rattle.std.specs.Prelude.{◌≡◌, ◌≢◌, ◌<◌, ◌∷◌, ℕ, List, Option, None, Some, Result, Ok, Err, Contains, IfOk, IsFalse, IsTrue}
 use Rattle.std.specs.Prelude.{length, min}
-use Rattle.host_io.specs.Channel.{Channel}
-use Rattle.host_io.specs.Beside.{Beside}
 use Rattle.node_table.specs.declared.error.TableError.{TableError}
 use Rattle.node_table.specs.declared.error.TableError.TheVariants.{NodeLimit, IdLimit}
 use Rattle.node_table.specs.declared.node.Node.{Node}
@@ -28,11 +26,10 @@ use Rattle.imply.specs.Implication.{IsDecided, IsPlain}
 
 -- The call for u and v began with this table and this cache, and ended with those and this result: what it found, kept and
 -- retired, and how many clauses it added.
-pub record Implies {S : Type 0} (tells : Bool) (channel : S → Channel) (lent : S
-    → Beside) (old : TableState S) (before : ImplyCache) (u v : Node) (new : TableState S) (after : ImplyCache)
+pub record Implies {S : Type 0} (old : TableState S) (before : ImplyCache) (u v : Node) (new : TableState S) (after : ImplyCache)
     (result : Result (Option Just) TableError) : Type 0 where
   pub decided : IfOk result (λ answer. IsDecided new.graph new.book.state.live u v answer)
-  pub steps : Steps tells (channel old.book.sink) (channel new.book.sink) old new (most_additions (levels_from old.graph u v))
+  pub steps : Steps old new (most_additions (levels_from old.graph u v))
       (error_of result)
   pub nodes : new.graph ≡ old.graph
   pub no_node_limit : result ≢ Err NodeLimit
@@ -43,14 +40,12 @@ pub record Implies {S : Type 0} (tells : Bool) (channel : S → Channel) (lent :
       → Contains (entries after) (Implication u v just)
   pub remembers : Remembers entry_of before.results after.results
   pub price : Prices old before.results u v new after.results (error_of result)
-  pub beside : lent new.book.sink ≡ lent old.book.sink
 
 -- The step from the justifications of both sides to that of the operands, which is kept.
-pub record IsClosed {S : Type 0} (tells : Bool) (channel : S → Channel) (lent : S
-    → Beside) (old : TableState S) (before : ImplyCache) (o : Operands) (new : TableState S) (after : ImplyCache)
+pub record IsClosed {S : Type 0} (old : TableState S) (before : ImplyCache) (o : Operands) (new : TableState S) (after : ImplyCache)
     (result : Result (Option Just) TableError) : Type 0 where
   pub decided : IfOk result (λ answer. IsDecided new.graph new.book.state.live o.u o.v answer)
-  pub steps : Steps tells (channel old.book.sink) (channel new.book.sink) old new 2 (error_of result)
+  pub steps : Steps old new 2 (error_of result)
   pub nodes : new.graph ≡ old.graph
   pub no_node_limit : result ≢ Err NodeLimit
   pub id_limit : result ≡ Err IdLimit → IsUsedUp new
@@ -60,13 +55,12 @@ pub record IsClosed {S : Type 0} (tells : Bool) (channel : S → Channel) (lent 
   pub room : MakesRoom entry_of before.results after.results (o.u, o.v)
   pub used : (used : List Pair) → StandInFront before used → IsFalse (is_one used (o.u, o.v)) → length used < most_entries before
       → error_of result ≡ None → StandInFront after ((o.u, o.v) ∷ used)
-  pub beside : lent new.book.sink ≡ lent old.book.sink
 
 -- Where the low side doesn't hold, neither does the whole, and nothing changes.
-abbrev pub Closes : {S : Type 0} → Bool → (S → Channel) → (S → Beside) → TableState S → ImplyCache → Operands → Option Just → TableState S
+abbrev pub Closes : {S : Type 0} → TableState S → ImplyCache → Operands → Option Just → TableState S
     → ImplyCache → Result (Option Just) TableError → Type 0
-Closes tells channel lent old before o None new after result = (result ≡ Ok None) × (new ≡ old) × (after ≡ before)
-Closes tells channel lent old before o (Some low) new after result = IsClosed tells channel lent old before o new after result
+Closes old before o None new after result = (result ≡ Ok None) × (new ≡ old) × (after ≡ before)
+Closes old before o (Some low) new after result = IsClosed old before o new after result
 
 -- No plain pair, and no entry has it, so that it isn't one of those that stand in front.
 pub record IsUnknown (cache : ImplyCache) (u v : Node) : Type 0 where
@@ -94,10 +88,9 @@ pub record CanClose {S : Type 0} (table : TableState S) (cache : ImplyCache) (o 
   pub on_low : IsDecided table.graph table.book.state.live o.u_low o.v_low low
 
 -- A call, and what a plain pair and one that is kept are answered.
-pub record Answers {S : Type 0} (tells : Bool) (channel : S → Channel) (lent : S
-    → Beside) (old : TableState S) (before : ImplyCache) (u v : Node) (new : TableState S) (after : ImplyCache)
+pub record Answers {S : Type 0} (old : TableState S) (before : ImplyCache) (u v : Node) (new : TableState S) (after : ImplyCache)
     (result : Result (Option Just) TableError) : Type 0 where
-  pub call : Implies tells channel lent old before u v new after result
+  pub call : Implies old before u v new after result
   pub known : (just : Just) → Contains (entries before) (Implication u v just) → (result ≡ Ok (Some just)) × (new ≡ old)
       × HaveSame (entries before) (entries after)
   pub plain : (answer : Option Just) → IsPlain u v answer → (result ≡ Ok answer) × (new ≡ old) × (after ≡ before)
@@ -108,12 +101,12 @@ low_question o None = None
 low_question o (Some just) = Some (o.u_low, o.v_low)
 
 -- The implication as an operation on diagrams: a pair is split into that of its high cofactors and that of its low ones.
-abbrev pub implications : {S : Type 0} → Bool → (S → Channel) → (S → Beside) → Calls S ImplyCache Pair Operands (Option Just)
-implications tells channel lent = record {
+abbrev pub implications : {S : Type 0} → Calls S ImplyCache Pair Operands (Option Just)
+implications = record {
   can = λ table cache pair. CanImply table cache pair.0 pair.1;
-  ends = λ old before pair new after result. Answers tells channel lent old before pair.0 pair.1 new after result;
+  ends = λ old before pair new after result. Answers old before pair.0 pair.1 new after result;
   can_close = CanClose;
-  closes = λ old before o high low new after result. Closes tells channel lent old before o low new after result;
+  closes = λ old before o high low new after result. Closes old before o low new after result;
   high = λ o. (o.u_high, o.v_high);
   low = low_question;
   level = λ o. o.level;

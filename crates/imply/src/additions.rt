@@ -44,13 +44,12 @@ pub fn justify<S: Sink + Drop>(
     ensures justified { IfOk result (λ just. IsJustified table.new.book.state.live
         (implication_atoms table.new.graph operands.now.u operands.now.v) just) }
     ensures nodes { table.new.graph ≡ table.old.graph }
-    ensures steps { Steps S.tells (S.channel table.old.book.sink) (S.channel table.new.book.sink) table.old table.new 2 (error_of result) }
+    ensures steps { Steps table.old table.new 2 (error_of result) }
     ensures retires { RetiresNew table.old table.new }
     // All clauses that were added are retired, but for the one that is given.
     ensures gives { UnlessTorn result (GivesOne table.old table.new (given_just result)) }
     ensures no_node_limit { result ≢ Err NodeLimit }
     ensures id_limit { result ≡ Err IdLimit → IsUsedUp table.new }
-    ensures beside { S.beside table.new.book.sink ≡ S.beside table.old.book.sink }
 {
     steps_law::<S>();
     operand_law();
@@ -105,14 +104,13 @@ fn add_high<S: Sink + Drop>(
     requires clause { clause_of (implication_atoms table.old.graph operands.now.u operands.now.v) ≡ Some clause.now }
     ensures clause { IfOk result (λ part. (part.clause ≡ neg_ℤ (pos (variable_at table.old.graph operands.now.level)) ∷ clause.now)
         × (clause_at table.new.book.state.live part.id ≡ Some part.clause)) }
-    ensures added { IfOk result (λ part. IsAdded S.tells S.channel table.old table.new part.id) }
+    ensures added { IfOk result (λ part. IsAdded table.old table.new part.id) }
     ensures nodes { table.new.graph ≡ table.old.graph }
-    ensures steps { Steps S.tells (S.channel table.old.book.sink) (S.channel table.new.book.sink) table.old table.new 1 (error_of result) }
+    ensures steps { Steps table.old table.new 1 (error_of result) }
     ensures retired { table.new.retired ≡ table.old.retired }
     ensures no_node_limit { result ≢ Err NodeLimit }
     ensures id_limit { result ≡ Err IdLimit → IsUsedUp table.new }
     ensures refused { IfErr result (λ e. e ≢ WriteFault → IsSame table.old table.new) }
-    ensures beside { S.beside table.new.book.sink ≡ S.beside table.old.book.sink }
 {
     operand_law();
     closing_law();
@@ -150,14 +148,13 @@ fn add_low<S: Sink + Drop>(
     requires first { first.clause ≡ neg_ℤ (pos (variable_at table.old.graph operands.now.level)) ∷ clause.now }
     requires live { clause_at table.old.book.state.live first.id ≡ Some first.clause }
     ensures clause { IfOk result (λ id. clause_at table.new.book.state.live id ≡ Some clause.now) }
-    ensures added { IfOk result (λ id. IsAdded S.tells S.channel table.old table.new id) }
+    ensures added { IfOk result (λ id. IsAdded table.old table.new id) }
     ensures nodes { table.new.graph ≡ table.old.graph }
-    ensures steps { Steps S.tells (S.channel table.old.book.sink) (S.channel table.new.book.sink) table.old table.new 1 (error_of result) }
+    ensures steps { Steps table.old table.new 1 (error_of result) }
     ensures retired { table.new.retired ≡ table.old.retired }
     ensures no_node_limit { result ≢ Err NodeLimit }
     ensures id_limit { result ≡ Err IdLimit → IsUsedUp table.new }
     ensures refused { IfErr result (λ e. e ≢ WriteFault → IsSame table.old table.new) }
-    ensures beside { S.beside table.new.book.sink ≡ S.beside table.old.book.sink }
 {
     operand_law();
     closing_law();

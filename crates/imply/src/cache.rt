@@ -94,8 +94,7 @@ impl ImplyCache {
         requires fits { Fits table.old (entries self.old) }
         ensures purged { IsPurged table.old table.new marks.now (entries self.old) (entries self.new) }
         ensures most { most_entries self.new ≡ most_entries self.old }
-        ensures steps { Steps S.tells (S.channel table.old.book.sink) (S.channel table.new.book.sink) table.old table.new 0 None }
-        ensures beside { S.beside table.new.book.sink ≡ S.beside table.old.book.sink }
+        ensures steps { Steps table.old table.new 0 None }
     {
         cache_turn_law::<(Node, Node), u64>();
         table_turn_law::<S, (Node, Node), u64>();
@@ -112,8 +111,7 @@ impl ImplyCache {
         ensures cache { (last : Pair × ℕ) → last_of self.old.results.entries ≡ Some last
             → HasTurn entry_of marks.now same_pair self.old.results self.new.results last }
         ensures table { (last : Pair × ℕ) → last_of self.old.results.entries ≡ Some last
-            → RetiresTurn entry_of marks.now S.tells S.channel table.old table.new last }
-        ensures beside { S.beside table.new.book.sink ≡ S.beside table.old.book.sink }
+            → RetiresTurn entry_of marks.now table.old table.new last }
     {
         let Some((pair, number)) = self.results.last() else {
             return;

@@ -42,7 +42,7 @@ pub fn implies<S: Sink + Drop>(
     requires second { IsTrue (is_node table.old.graph v) }
     requires fits { Fits table.old (entries cache.old) }
     ensures decided { IfOk result (λ answer. IsDecided table.new.graph table.new.book.state.live u v answer) }
-    ensures steps { Steps S.tells (S.channel table.old.book.sink) (S.channel table.new.book.sink) table.old table.new
+    ensures steps { Steps table.old table.new
         (most_additions (levels_from table.old.graph u v)) (error_of result) }
     ensures nodes { table.new.graph ≡ table.old.graph }
     ensures no_node_limit { result ≢ Err NodeLimit }
@@ -74,7 +74,6 @@ pub fn implies<S: Sink + Drop>(
     // A constant, and a node with itself: nothing changes.
     ensures plain { (answer : Option JustValue) → IsPlain u v answer → (result ≡ Ok answer) × (table.new ≡ table.old)
         × (cache.new ≡ cache.old) }
-    ensures beside { S.beside table.new.book.sink ≡ S.beside table.old.book.sink }
 {
     accounts_law::<S>();
     price_law::<S, u64>();
@@ -93,7 +92,7 @@ impl<S: Sink + Drop> Operation<S> for ImplyOperation {
 
     type Answer = Option<Just>;
 
-    ghost calls = { implications S.tells S.channel S.beside };
+    ghost calls = { implications };
 
     fn alloc(cache: &ImplyCache) -> Global {
         cache.alloc()
@@ -153,7 +152,7 @@ fn answer<S: Sink + Drop>(
     v: Node,
 ) -> Option<Option<Just>>
     requires can { CanImply table.now cache.old u v }
-    ensures answers { IfSome result (λ found. Answers S.tells S.channel S.beside table.now cache.old u v table.now cache.new (Ok found)) }
+    ensures answers { IfSome result (λ found. Answers table.now cache.old u v table.now cache.new (Ok found)) }
     ensures unknown { result ≡ None → (cache.new ≡ cache.old) × IsUnknown cache.old u v }
 {
     steps_law::<S>();
@@ -195,7 +194,7 @@ fn finish<S: Sink + Drop>(
     requires split { AreSplit table.old.graph operands.now }
     requires high { Implied table.old.graph table.old.book.state.live operands.now.u_high operands.now.v_high high.now }
     requires low { Implied table.old.graph table.old.book.state.live operands.now.u_low operands.now.v_low low.now }
-    ensures { IsClosed S.tells S.channel S.beside table.old cache.old operands.now table.new cache.new result }
+    ensures { IsClosed table.old cache.old operands.now table.new cache.new result }
 {
     steps_law::<S>();
     accounts_law::<S>();

@@ -1,12 +1,12 @@
 -- A proof as the list of its steps, and the bytes that are its written form: a line for each step and nothing else. The
 -- solver deletes only clauses that it added itself, while they are live. (The format: Cruz-Filipe, Heule, Hunt,
 -- Kaufmann, Schneider-Kamp: Efficient Certified RAT Verification, CADE 2017; what may be deleted: this project's own.)
-use Rattle.std.specs.Prelude.{◌≡◌, ℕ, ◌+◌, Bool, true, ◌&&◌, ℤ, List, [], ◌∷◌, ◌++◌, length, None, Some, is_some, IsTrue, nat_lt}
+use Rattle.std.specs.Prelude.{◌≡◌, ◌==◌, ℕ, ◌+◌, Bool, true, not, ◌&&◌, ℤ, List, [], ◌∷◌, ◌++◌, length, None, Some, is_some, IsTrue, nat_lt}
 use Rattle.std.specs.List.{flat_map, list_all}
 use Rattle.std.specs.FinMap as map
 use Rattle.cnf_base.specs.declared.step.Step.{Step}
 use Rattle.cnf_base.specs.declared.step.Step.TheVariants.{Add, Delete}
-use Rattle.cnf_base.specs.ProofText.{Line, is_printable, line_of_step}
+use Rattle.cnf_base.specs.ProofText.{Line, is_empty, is_printable, line_of_step}
 use Rattle.lrat_rules.specs.State.{State, Live, clause_at, start}
 use Rattle.lrat_rules.specs.Run.{Reached, run, step_fault, after_step}
 
@@ -24,10 +24,10 @@ abbrev pub are_added : ℕ → Live → List ℕ → Bool
 are_added count live [] = true
 are_added count live (id ∷ ids) = nat_lt count id && is_some (clause_at live id) && are_added count (map.remove live id) ids
 
--- the step deletes nothing but live clauses that were added
+-- A deletion stands under the last number, and names live clauses that were added, at least one.
 abbrev pub deletes_added : ℕ → State → Step → Bool
 deletes_added count state (Add id clause hints groups) = true
-deletes_added count state (Delete id ids) = are_added count state.live ids
+deletes_added count state (Delete id ids) = (id == state.top && not (is_empty ids)) && are_added count state.live ids
 
 -- so does each of the steps at its turn
 abbrev pub delete_added : ℕ → State → List Step → Bool

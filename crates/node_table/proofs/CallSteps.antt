@@ -1,19 +1,19 @@
 -- The steps of one call of a table: nothing but room, one clause more, or one node more, whole or cut short.
-use Rattle.std.proofs.Common.{◌≡◌, ◌+◌, ◌*◌, ◌≤◌, ◌<◌, ℕ, ℤ, Bool, false, List, [], Option, None, Some, refl, sym, ap, subst, arith, inl}
-use Rattle.std.proofs.Common.{inr, take, append-nil, pos, ◌∙◌}
-use Rattle.std.specs.Prelude.{IsTrue, max}
-use Rattle.host_io.specs.Channel.{Channel, Rose}
+use Rattle.std.proofs.Common.{◌≡◌, ◌+◌, ◌*◌, ◌≤◌, ◌<◌, ℕ, ℤ, true, false, List, [], ◌∷◌, None, Some, refl, sym, ap, subst, arith, inl}
+use Rattle.std.proofs.Common.{inr, append-nil, pos, ◌∙◌}
+use Rattle.std.specs.Prelude.{max}
+use Rattle.cnf_base.specs.declared.step.Step.{Step}
 use Rattle.lrat_rules.specs.State.{State, clause_at}
 use Rattle.lrat_rules.specs.Marks.{in_use}
-use Rattle.clause_ledger.specs.Book.{Book, IsProofOf, OnlyWrites, with_next}
+use Rattle.clause_ledger.specs.Book.{AreTold, Book, with_next}
+use Rattle.clause_ledger.specs.Told.{told_in_step, told_limit, told_none}
 use Rattle.node_table.specs.declared.node.Node.{Node}
-use Rattle.node_table.specs.declared.error.TableError.{TableError}
 use Rattle.node_table.specs.declared.error.TableError.TheVariants.{IdLimit, OutOfMemory, WriteFault}
 use Rattle.node_table.specs.Diagram.{Graph, IsBelow, IsNew, IsReduced, KeepsNodes, levels, variable_at}
-use Rattle.node_table.specs.Defined.{atom_of, definition_count, with_definitions}
+use Rattle.node_table.specs.Defined.{IsDefinedInPart, atom_of, definition_count, with_definitions}
 use Rattle.node_table.specs.Tied.{IsTied, IsAdded, IsOverNodes}
 use Rattle.node_table.specs.Table.{TableState, IsSound, IsAddedTo, IsSame, IsWanted, Extends, live_nodes, new_branch, node_definitions}
-use Rattle.node_table.specs.Progress.{Continues, Steps, StepsOrRefutes, WritesMore}
+use Rattle.node_table.specs.Progress.{Continues, Steps, StepsOrRefutes}
 use Rattle.node_table.proofs.Added.{added_kept}
 use Rattle.node_table.proofs.Grown.{KeepsNodes-none}
 use Rattle.node_table.proofs.Stands.{Grows, Grows-next}
@@ -21,37 +21,32 @@ use Rattle.node_table.proofs.Made.{made_is_tied, definitions_top, few_definition
 use Rattle.node_table.proofs.Justified.{justified_tied}
 use Rattle.node_table.proofs.InUseSame.{in_use_nodes}
 use Rattle.node_table.proofs.Fresh.{IsNobodys, live_more, KeepsNodes-new}
-use Rattle.node_table.proofs.Fronts.{IsCutBefore, Grows-definitions, Grows-front, Grows-rest}
-use Rattle.node_table.proofs.NoEmpty.{definitions_some, front_some, none_empty}
+use Rattle.node_table.proofs.Fronts.{IsCutBefore, Grows-definitions, cut_at_once, part_cut, part_grows, part_none_empty}
+use Rattle.node_table.proofs.Fronts.{part_rest}
+use Rattle.node_table.proofs.NoEmpty.{definitions_some, none_empty}
 use Rattle.node_table.proofs.Progressed.{Continues-none, Extends-none, Steps-no_empty}
 use Rattle.node_table.proofs.Since.{ComesSince-grown}
 use Rattle.node_table.proofs.Retired.{AreRetired-kept}
 
 -- A call that was refused: nothing changed but the room that is reserved, and a limit that is told is met.
-module _ {S : Type 0} (tells : Bool) (channel : S → Channel) where
-  abbrev StepsFrom : TableState S → TableState S → ℕ → Option TableError → Type 0
-  StepsFrom old new = Steps tells (channel old.book.sink) (channel new.book.sink) old new
-
+module _ {S : Type 0} where
   refused : (table : TableState S) → IsSound table → (spare : ℕ)
-      → Continues tells (channel table.book.sink) (channel table.book.sink) table
-      (record table { book = record table.book { spare = spare } })
+      → Continues table (record table { book = record table.book { spare = spare } })
       × Extends table (record table { book = record table.book { spare = spare } })
   refused table sound spare =
-      let same = Continues-none tells (channel table.book.sink) table sound in
+      let same = Continues-none table sound in
       let extends = Extends-none table sound in (
         record {
           sound = record { in_step = sound.in_step; tied = sound.tied; inputs = sound.inputs; retired = sound.retired };
           order = refl;
           inputs = refl;
-          kept = same.kept;
           max_nodes = refl;
           limit = refl;
+          more = [];
+          told = told_none table.book spare sound.in_step;
           no_less = same.no_less;
           numbers = same.numbers;
           since = same.since;
-          unfailed = refl;
-          writes = same.writes;
-          grows = same.grows;
         },
         record {
           inputs = refl;
@@ -63,17 +58,17 @@ module _ {S : Type 0} (tells : Bool) (channel : S → Channel) where
         },
       )
 
-  pub no_room : (old new : TableState S) → IsSound old → IsSame old new → StepsFrom old new 0 (Some OutOfMemory)
+  pub no_room : (old new : TableState S) → IsSound old → IsSame old new → Steps old new 0 (Some OutOfMemory)
   no_room old new sound same =
       let both = refused old sound new.book.spare in
-      subst (λ (t : TableState S). StepsFrom old t 0 (Some OutOfMemory)) (sym same)
+      subst (λ (t : TableState S). Steps old t 0 (Some OutOfMemory)) (sym same)
       (record { leaves = both.0; extends = both.1; adds = omega arith; no_empty = record { each = λ id is. is } })
 
   pub no_ids_left : (old new : TableState S) → IsSound old → IsSame old new → old.book.limit < old.book.state.top + 4
-      → StepsFrom old new 0 (Some IdLimit)
+      → Steps old new 0 (Some IdLimit)
   no_ids_left old new sound same met =
       let both = refused old sound new.book.spare in
-      subst (λ (t : TableState S). StepsFrom old t 0 (Some IdLimit)) (sym same)
+      subst (λ (t : TableState S). Steps old t 0 (Some IdLimit)) (sym same)
       (record { leaves = (both.0, met); extends = both.1; adds = omega arith; no_empty = record { each = λ id is. is } })
 
 -- a clause that was added stays so in a table that has more
@@ -94,24 +89,6 @@ IsAddedTo-before old new extends id within own = record {
   above = omega (arith, own.above, extends.inputs);
   defines_none = λ key branch at. own.defines_none key branch (extends.nodes.nodes key branch at);
 }
-
--- what a call of the ledger leaves as it ends well, and as a write of it fails
-pub record Wrote {S : Type 0} (tells : Bool) (before after : Channel) (old new : Book S) : Type 0 where
-  pub in_step : IsTrue new.in_step
-  pub kept : (clauses : List (List ℤ)) → IsProofOf clauses tells before old.state → IsProofOf clauses tells after new.state
-  pub limit : new.limit ≡ old.limit
-  pub unfailed : after.faults ≡ before.faults
-  pub writes : OnlyWrites before after
-  pub grows : IsTrue tells → WritesMore before after
-
-pub record Tore {S : Type 0} (tells : Bool) (before after : Channel) (old new : Book S) : Type 0 where
-  pub rose : Rose before.faults after.faults
-  pub cut : (clauses : List (List ℤ)) → IsProofOf clauses tells before old.state → IsTrue tells
-      → IsCutBefore clauses after.written old.state new.state
-  pub out_of_step : new.in_step ≡ false
-  pub limit : new.limit ≡ old.limit
-  pub writes : OnlyWrites before after
-  pub grows : IsTrue tells → WritesMore before after
 
 -- no fewer extension variables are in use where there are more live clauses
 abbrev pub FewerInUse : Type 0
@@ -143,7 +120,7 @@ pub record Grew {S : Type 0} (justified : ℕ) (graph later : Graph) (old new : 
   pub within : new.state.top ≤ max old.state.top old.limit
   pub adds : new.state.top + 4 * live_nodes graph ≤ old.state.top + 4 * live_nodes later + justified
 
-module _ {S : Type 0} (tells : Bool) (aside : Aside) (before after : Channel) (graph later : Graph) (old new : Book S) (justified : ℕ)
+module _ {S : Type 0} (aside : Aside) (graph later : Graph) (old new : Book S) (justified : ℕ)
     (grew : Grew justified graph later old new) where
   extends : Extends (table_of aside graph old) (table_of aside later new)
   extends = record {
@@ -155,12 +132,12 @@ module _ {S : Type 0} (tells : Bool) (aside : Aside) (before after : Channel) (g
     retired = sym (append-nil aside.retired);
   }
 
-  pub went_on : IsSound (table_of aside graph old) → Wrote tells before after old new → IsTied later new.state
-      → StepsOrRefutes tells before after (table_of aside graph old) (table_of aside later new) justified None
-  went_on sound wrote tied = record {
+  pub went_on : IsSound (table_of aside graph old) → (more : List Step) → AreTold true old new more → IsTied later new.state
+      → StepsOrRefutes (table_of aside graph old) (table_of aside later new) justified None
+  went_on sound more told tied = record {
     leaves = record {
       sound = record {
-        in_step = wrote.in_step;
+        in_step = told_in_step told;
         tied = tied;
         inputs = ≤-then aside.inputs old.state.top new.state.top sound.inputs grew.grows.gives.no_less;
         retired = AreRetired-kept graph later old.state new.state sound.tied tied grew.nodes grew.grows.clauses aside.inputs aside.retired
@@ -168,59 +145,58 @@ module _ {S : Type 0} (tells : Bool) (aside : Aside) (before after : Channel) (g
       };
       order = grew.nodes.order;
       inputs = refl;
-      kept = λ clauses few. wrote.kept clauses;
       max_nodes = refl;
-      limit = wrote.limit;
+      limit = told_limit told;
+      more = more;
+      told = told;
       no_less = grew.grows.gives.no_less;
       numbers = grew.within;
       since = ComesSince-grown old.state new.state grew.grows;
-      unfailed = wrote.unfailed;
-      writes = wrote.writes;
-      grows = wrote.grows;
     };
     extends = extends;
     adds = grew.adds;
   }
 
-  pub broke_off : IsReduced later → Tore tells before after old new → FewerInUse → in_use (levels graph) new.state ≤ live_nodes later
+  pub broke_off : IsReduced later → (more : List Step) → AreTold false old new more → IsCutBefore old.state new.state more → FewerInUse
+      → in_use (levels graph) new.state ≤ live_nodes later
       → live_nodes later ≤ aside.max_nodes
-      → StepsOrRefutes tells before after (table_of aside graph old) (table_of aside later new) justified (Some WriteFault)
-  broke_off reduced tore fewer used few = record {
+      → StepsOrRefutes (table_of aside graph old) (table_of aside later new) justified (Some WriteFault)
+  broke_off reduced more told cut fewer used few = record {
     leaves = record {
-      rose = tore.rose;
-      cut = λ clauses few_clauses proof told.
-          let cut = tore.cut clauses proof told in
-          record {
-            before = cut.0;
-            cut = cut.1;
-            no_less = cut.3;
-            from = cut.4;
-            since = cut.5;
-            within_before = record {
-              numbers = ≤-then cut.0.top new.state.top (max old.state.top old.limit) cut.3 grew.within;
-              nodes = ≤-then (in_use (levels graph) cut.0) (in_use (levels graph) new.state) (live_nodes later)
-                  (fewer (levels graph) cut.0 new.state cut.2) used;
-            };
-            within_after = record { numbers = grew.within; nodes = used };
-          };
+      more = more;
+      told = told;
+      cut = record {
+        earlier = cut.earlier;
+        last = cut.last;
+        parts = cut.parts;
+        before = cut.before;
+        leads = cut.leads;
+        no_less = cut.no_less;
+        from = cut.from;
+        since = cut.since;
+        within_before = record {
+          numbers = ≤-then cut.before.top new.state.top (max old.state.top old.limit) cut.no_less grew.within;
+          nodes = ≤-then (in_use (levels graph) cut.before) (in_use (levels graph) new.state) (live_nodes later)
+              (fewer (levels graph) cut.before new.state cut.keeps) used;
+        };
+        within_after = record { numbers = grew.within; nodes = used };
+      };
       few = few;
-      out_of_step = tore.out_of_step;
+      out_of_step = told_in_step told;
       reduced = reduced;
       order = grew.nodes.order;
       max_nodes = refl;
-      limit = tore.limit;
+      limit = told_limit told;
       no_less = grew.grows.gives.no_less;
       numbers = grew.within;
       since = ComesSince-grown old.state new.state grew.grows;
-      writes = tore.writes;
-      grows = tore.grows;
     };
     extends = extends;
     adds = grew.adds;
   }
 
 -- A clause more over the variables of nodes.
-module _ {S : Type 0} (tells : Bool) (aside : Aside) (before after : Channel) (graph : Graph) (old new : Book S) (clause : List ℤ)
+module _ {S : Type 0} (aside : Aside) (graph : Graph) (old new : Book S) (clause : List ℤ)
     (sound : IsSound (table_of aside graph old))
     (over : IsOverNodes graph clause) (room : old.state.top < old.limit) (added : new.state ≡ with_next old.state clause) where
   one_more : Grew 1 graph graph old new
@@ -236,14 +212,15 @@ module _ {S : Type 0} (tells : Bool) (aside : Aside) (before after : Channel) (g
   tied_still : IsTied graph new.state
   tied_still = subst (IsTied graph) (sym added) (justified_tied graph old.state clause sound.tied over)
 
-  pub justified_on : Wrote tells before after old new → StepsOrRefutes tells before after (table_of aside graph old)
+  pub justified_on : (more : List Step) → AreTold true old new more → StepsOrRefutes (table_of aside graph old)
       (table_of aside graph new) 1 None
-  justified_on wrote = went_on tells aside before after graph graph old new 1 one_more sound wrote tied_still
+  justified_on more told = went_on aside graph graph old new 1 one_more sound more told tied_still
 
-  pub justified_torn : Tore tells before after old new → FewerInUse → live_nodes graph ≤ aside.max_nodes
-      → StepsOrRefutes tells before after (table_of aside graph old) (table_of aside graph new) 1 (Some WriteFault)
-  justified_torn tore fewer few =
-      broke_off tells aside before after graph graph old new 1 one_more sound.tied.reduced tore fewer
+  pub justified_torn : (step : Step) → AreTold false old new (step ∷ []) → FewerInUse → live_nodes graph ≤ aside.max_nodes
+      → StepsOrRefutes (table_of aside graph old) (table_of aside graph new) 1 (Some WriteFault)
+  justified_torn step told fewer few =
+      broke_off aside graph graph old new 1 one_more sound.tied.reduced (step ∷ []) told
+      (cut_at_once old.state new.state step one_more.grows) fewer
       (let same = in_use_nodes graph new.state tied_still in omega (arith, same)) few
 
 -- a node that may be made with this variable
@@ -257,7 +234,7 @@ pub record IsAsked (graph : Graph) (state : State) (level : ℕ) (high low : Nod
   pub own : IsNobodys graph variable
 
 -- A node more, by its definitions or a front of them.
-module _ {S : Type 0} (tells : Bool) (aside : Aside) (before after : Channel) (graph later : Graph) (old new : Book S) (level : ℕ)
+module _ {S : Type 0} (aside : Aside) (graph later : Graph) (old new : Book S) (level : ℕ)
     (high low : Node) (variable : ℕ)
     (sound : IsSound (table_of aside graph old)) (asked : IsAsked graph old.state level high low variable) (key : ℕ)
     (joined : IsNew graph later key (new_branch old.state level high low variable))
@@ -286,39 +263,37 @@ module _ {S : Type 0} (tells : Bool) (aside : Aside) (before after : Channel) (g
         adds = omega (arith, few, whole_top, four, nodes);
       }
 
-  pub made_on : new.state ≡ whole → Wrote tells before after old new
-      → Steps tells before after (table_of aside graph old) (table_of aside later new) 0 None
-  made_on is wrote =
-      Steps-no_empty tells before after (table_of aside graph old) (table_of aside later new) 0 None
-      (went_on tells aside before after graph later old new 0
+  pub made_on : new.state ≡ whole → (more : List Step) → AreTold true old new more
+      → Steps (table_of aside graph old) (table_of aside later new) 0 None
+  made_on is more told =
+      Steps-no_empty (table_of aside graph old) (table_of aside later new) 0 None
+      (went_on aside graph later old new 0
       (made_more (subst (Grows old.state) (sym is) (Grows-definitions old.state
       (node_definitions graph old.state level high low variable) asked.tied.numbers))
       (let top = ap (λ (s : State). s.top) is in omega (arith, top)))
-      sound wrote (subst (IsTied later) (sym is) tied_whole))
+      sound more told (subst (IsTied later) (sym is) tied_whole))
       (record {
         each = λ id empty. none_empty old.state (node_definitions graph old.state level high low variable)
             (definitions_some (pos variable) (pos (variable_at graph level)) (atom_of graph high) (atom_of graph low) (old.state.top + 1)) id
             (sym (ap (λ (s : State). clause_at s.live id) is) ∙ empty);
       })
 
-  pub made_torn : (n : ℕ) → new.state ≡ with_definitions old.state (take n (node_definitions graph old.state level high low variable))
-      → Tore tells before after old new → FewerInUse
-      → live_nodes graph < aside.max_nodes → Steps tells before after (table_of aside graph old) (table_of aside later new) 0
-      (Some WriteFault)
-  made_torn n is tore fewer few =
+  pub made_torn : (more : List Step) → AreTold false old new more
+      → IsDefinedInPart old.state new.state (node_definitions graph old.state level high low variable) more → FewerInUse
+      → live_nodes graph < aside.max_nodes → Steps (table_of aside graph old) (table_of aside later new) 0 (Some WriteFault)
+  made_torn more told part fewer few =
       let all = node_definitions graph old.state level high low variable in
-      let grows : Grows old.state new.state = subst (Grows old.state) (sym is) (Grows-front old.state n all asked.tied.numbers) in
-      let rest : Grows new.state whole = subst (λ (s : State). Grows s whole) (sym is) (Grows-rest old.state n all asked.tied.numbers) in
+      let grows : Grows old.state new.state = part_grows old.state new.state all more asked.tied.numbers part in
+      let rest : Grows new.state whole = part_rest old.state new.state all more asked.tied.numbers part in
       let same : levels later ≡ levels graph = ap levels joined.joined in
       let used : in_use (levels graph) whole ≡ live_nodes later = subst (λ (vars : ℕ). in_use vars whole
       ≡ live_nodes later) same (in_use_nodes later whole tied_whole) in
       let less = fewer (levels graph) new.state whole rest.clauses in
       let nodes = live_more graph later key joined in
-      Steps-no_empty tells before after (table_of aside graph old) (table_of aside later new) 0 (Some WriteFault)
-      (broke_off tells aside before after graph later old new 0 (made_more grows rest.gives.no_less) tied_whole.reduced tore fewer
-      (omega (arith, less, used)) (omega (arith, nodes, few)))
+      Steps-no_empty (table_of aside graph old) (table_of aside later new) 0 (Some WriteFault)
+      (broke_off aside graph later old new 0 (made_more grows rest.gives.no_less) tied_whole.reduced more told
+      (part_cut old.state new.state all more asked.tied.numbers part) fewer (omega (arith, less, used)) (omega (arith, nodes, few)))
       (record {
-        each = λ id empty. none_empty old.state (take n all) (front_some n all
-            (definitions_some (pos variable) (pos (variable_at graph level)) (atom_of graph high) (atom_of graph low) (old.state.top + 1)))
-            id (sym (ap (λ (s : State). clause_at s.live id) is) ∙ empty);
+        each = part_none_empty old.state new.state all more
+            (definitions_some (pos variable) (pos (variable_at graph level)) (atom_of graph high) (atom_of graph low) (old.state.top + 1)) part;
       })

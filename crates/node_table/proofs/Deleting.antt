@@ -1,6 +1,6 @@
 -- Deleting clauses line by line: what the lines of a walk over the keys leave is what one line would.
-use Rattle.std.proofs.Common.{◌≡◌, ◌<◌, ◌+◌, ◌&&◌, ◌∙◌, ℕ, Bool, true, false, List, [], ◌∷◌, ◌++◌, length, Option, None, Some, Result, Ok}
-use Rattle.std.proofs.Common.{Err, is_some, refl, sym, ap, subst, take, append_assoc, append-nil, add-one}
+use Rattle.std.proofs.Common.{◌≡◌, ◌≢◌, ◌<◌, ◌+◌, ◌&&◌, ◌∙◌, ℕ, Bool, true, false, List, [], ◌∷◌, ◌++◌, Option, None, Some, Result, Ok}
+use Rattle.std.proofs.Common.{Err, is_some, refl, sym, ap, subst, append_assoc, append-nil, add-one}
 use Rattle.std.specs.Prelude.{IsTrue, OnErr, nat_eq, nat_lt}
 use Rattle.std.specs.FinMap as map
 use Rattle.std.specs.Cmp.{nat_eq_equiv}
@@ -8,23 +8,21 @@ use Rattle.std.specs.List.{concat}
 use Rattle.std.specs.Set.{is_member}
 use Rattle.std.proofs.lemmas.Bool.{and_parts, false_from_ne_true}
 use Rattle.std.proofs.lemmas.Map.Views.{list_any-from_Contains}
+use Rattle.cnf_base.specs.declared.step.Step.{Step}
 use Rattle.cnf_base.specs.declared.step.Step.TheVariants.{Delete}
-use Rattle.cnf_base.specs.ProofText.{line_of_step}
-use Rattle.host_io.specs.Channel.{Channel, Rose}
 use Rattle.lrat_rules.specs.State.{State, Live, clause_at, without_clauses}
 use Rattle.lrat_rules.specs.Derivation.{are_added}
-use Rattle.clause_ledger.specs.Book.{Book, IsTorn, deletion_line}
+use Rattle.clause_ledger.specs.Book.{AreTold, Book, after_steps, deletion}
+use Rattle.clause_ledger.specs.Told.{after_steps-append, told_further, told_none, told_state}
 use Rattle.node_table.specs.declared.node.Branch.{Branch}
 use Rattle.node_table.specs.declared.node.Defs.{Defs}
 use Rattle.node_table.specs.Diagram.{Graph, branch_at}
-use Rattle.node_table.specs.Deleted.{AreOfUnmarked, DefinesUnmarked, Deletes, DeletesTorn, TearsDeletions, WritesDeletions}
-use Rattle.node_table.specs.Deleted.{deletion_lines, unmarked_below, unmarked_defs, with_defs, with_given, with_some_defs}
+use Rattle.node_table.specs.Deleted.{AreOfUnmarked, DefinesUnmarked, Deletes, DeletesTorn}
+use Rattle.node_table.specs.Deleted.{deletion_steps, unmarked_below, unmarked_defs, with_defs, with_given, with_some_defs}
 use Rattle.node_table.specs.Made.{inner}
 use Rattle.node_table.specs.Marks.{is_marked}
 use Rattle.node_table.specs.Tied.{KeepsClauses}
 use Rattle.node_table.proofs.Deletable.{below_defines, defines_below}
-use Rattle.node_table.proofs.DefineSteps.{take_behind}
-use Rattle.node_table.proofs.Progressed.{OnlyWrites-same, OnlyWrites-further}
 use Rattle.node_table.proofs.Settled.{gone_without, stays_without}
 
 pub on_err : {T E : Type 0} {P : Type 0} (r : Result T E) → P → OnErr r P
@@ -75,150 +73,150 @@ with_defs-behind done ids defs =
     ∙ ap (λ l. with_given l defs.hd) (behind done one defs.lu
     ∙ ap (λ l. with_given l defs.lu) (behind done ids defs.hu)))
 
--- Lines of deletions, one after another: the state gives its greatest number alone.
-lines-same : (one other : State) → one.top ≡ other.top → (lines : List (List ℕ)) → deletion_lines one lines ≡ deletion_lines other lines
-lines-same one other same [] = refl
-lines-same one other same ([] ∷ more) = lines-same one other same more
-lines-same one other same ((id ∷ ids) ∷ more) = let rest = lines-same one other same more in
-    λ i. line_of_step (Delete (same i) (id ∷ ids)) ++ rest i
+-- the last of these steps deletes what stands among the clauses of the old state
+pub record IsCutAmong (old : State) (steps : List Step) : Type 0 where
+  pub earlier : List Step
+  pub last : Step
+  pub parts : steps ≡ earlier ++ last ∷ []
+  pub before : State
+  pub leads : after_steps old earlier ≡ before
+  pub among : KeepsClauses before.live old.live
+  pub top : before.top ≡ old.top
 
-lines-append : (state : State) (lines more : List (List ℕ)) → deletion_lines state (lines ++ more)
-    ≡ deletion_lines state lines ++ deletion_lines state more
-lines-append state [] more = refl
-lines-append state (ids ∷ lines) more =
-    ap (λ (bytes : List ℕ). deletion_line state ids ++ bytes) (lines-append state lines more)
-    ∙ sym (append_assoc (deletion_line state ids) (deletion_lines state lines) (deletion_lines state more))
+pub some_step : (state : State) (ids : List ℕ) → (ids ≡ [] → ⊥) → deletion state ids ≡ Delete state.top ids ∷ []
+some_step state [] some = absurd (some refl)
+some_step state (id ∷ ids) some = refl
+
+-- The steps of deletions, one after another: the state gives its greatest number alone.
+one_same : (one other : State) → one.top ≡ other.top → (ids : List ℕ) → deletion one ids ≡ deletion other ids
+one_same one other same [] = refl
+one_same one other same (id ∷ ids) = λ i. Delete (same i) (id ∷ ids) ∷ []
+
+steps-same : (one other : State) → one.top ≡ other.top → (lines : List (List ℕ)) → deletion_steps one lines ≡ deletion_steps other lines
+steps-same one other same [] = refl
+steps-same one other same (ids ∷ more) =
+    let first = one_same one other same ids in
+    let rest = steps-same one other same more in
+    λ i. first i ++ rest i
+
+pub steps-append : (state : State) (lines more : List (List ℕ)) → deletion_steps state (lines ++ more)
+    ≡ deletion_steps state lines ++ deletion_steps state more
+steps-append state [] more = refl
+steps-append state (ids ∷ lines) more =
+    ap (λ (steps : List Step). deletion state ids ++ steps) (steps-append state lines more)
+    ∙ sym (append_assoc (deletion state ids) (deletion_steps state lines) (deletion_steps state more))
 
 concat-append : (lines more : List (List ℕ)) → concat (lines ++ more) ≡ concat lines ++ concat more
 concat-append [] more = refl
 concat-append (ids ∷ lines) more = ap (λ (l : List ℕ). ids ++ l) (concat-append lines more)
     ∙ sym (append_assoc ids (concat lines) (concat more))
 
-pub WritesDeletions-none : (tells : Bool) (channel : Channel) (state : State) → WritesDeletions tells channel channel state []
-WritesDeletions-none tells channel state = record { lines = []; all = refl; written = λ told. sym (append-nil channel.written) }
+abbrev pub without : State → List ℕ → State
+without state ids = record { live = without_clauses state.live ids; top = state.top }
 
--- one line
-pub WritesDeletions-one : (tells : Bool) (before after : Channel) (state : State) (ids : List ℕ)
-    → (IsTrue tells → after.written ≡ before.written ++ deletion_line state ids) → WritesDeletions tells before after state ids
-WritesDeletions-one tells before after state ids line = record {
-  lines = ids ∷ [];
-  all = append-nil ids;
-  written = λ told. line told ∙ ap (λ (bytes : List ℕ). before.written ++ bytes) (sym (append-nil (deletion_line state ids)));
-}
+pub one_leads : (state : State) (ids : List ℕ) → after_steps state (deletion state ids) ≡ without state ids
+one_leads state [] = refl
+one_leads state (id ∷ ids) = refl
 
-pub TearsDeletions-one : (tells : Bool) (before after : Channel) (state : State) (ids : List ℕ)
-    → IsTorn tells before after (deletion_line state ids) → TearsDeletions tells before after state ids
-TearsDeletions-one tells before after state ids torn = record {
-  lines = ids ∷ [];
-  all = append-nil ids;
-  torn = subst (IsTorn tells before after) (sym (append-nil (deletion_line state ids))) torn;
-}
+-- they lead to the state without these clauses
+pub deletions_lead : (state : State) (lines : List (List ℕ)) → after_steps state (deletion_steps state lines) ≡ without state (concat lines)
+deletions_lead state [] = refl
+deletions_lead state (ids ∷ more) =
+    after_steps-append state (deletion state ids) (deletion_steps state more)
+    ∙ ap (λ (s : State). after_steps s (deletion_steps state more)) (one_leads state ids)
+    ∙ ap (after_steps (without state ids)) (steps-same state (without state ids) refl more)
+    ∙ deletions_lead (without state ids) more
+    ∙ ap (λ (live : Live). record { live = live; top = state.top }) (sym (without-append state.live ids (concat more)))
 
-module _ {tells : Bool} {before between after : Channel} {state later : State} {ids more : List ℕ} (same : later.top ≡ state.top)
-    (one : WritesDeletions tells before between state ids) where
-  pub WritesDeletions-further : WritesDeletions tells between after later more → WritesDeletions tells before after state (ids ++ more)
-  WritesDeletions-further two =
-      let still = lines-same later state same two.lines in
-      record {
-        lines = one.lines ++ two.lines;
-        all = concat-append one.lines two.lines ∙ (λ i. one.all i ++ two.all i);
-        written = λ told.
-            two.written told ∙ (λ i. one.written told i ++ still i)
-            ∙ append_assoc before.written (deletion_lines state one.lines) (deletion_lines state two.lines)
-            ∙ ap (λ (bytes : List ℕ). before.written ++ bytes) (sym (lines-append state one.lines two.lines));
-      }
-
-  pub TearsDeletions-further : between.faults ≡ before.faults → TearsDeletions tells between after later more
-      → TearsDeletions tells before after state (ids ++ more)
-  TearsDeletions-further faults two =
-      let still = lines-same later state same two.lines in
-      let front = deletion_lines state one.lines in
-      let rest = deletion_lines state two.lines in
-      record {
-        lines = one.lines ++ two.lines;
-        all = concat-append one.lines two.lines ∙ (λ i. one.all i ++ two.all i);
-        torn = record {
-          rose = subst (λ (n : ℕ). Rose n after.faults) faults two.torn.rose;
-          cut = λ told.
-              let cut = two.torn.cut told in
-              let whole = take_behind front rest [] cut.0 in (
-                whole.0,
-                cut.1 ∙ (λ i. one.written told i ++ take cut.0 (still i))
-                    ∙ append_assoc before.written front (take cut.0 rest)
-                    ∙ ap (λ (bytes : List ℕ). before.written ++ bytes)
-                    (sym (ap (take whole.0) (lines-append state one.lines two.lines
-                    ∙ ap (λ (bytes : List ℕ). front ++ bytes) (sym (append-nil rest))) ∙ whole.1)),
-              );
-        };
-      }
-
-module _ {S : Type 0} (tells : Bool) (channel : S → Channel) where
-  pub Deletes-none : (book : Book S) → IsTrue book.in_step → Deletes tells channel book book []
+module _ {S : Type 0} where
+  pub Deletes-none : (book : Book S) → IsTrue book.in_step → Deletes true book book []
   Deletes-none book in_step = record {
     state = refl;
-    kept = λ clauses proof added. proof;
-    in_step = in_step;
-    limit = refl;
     spare = refl;
-    unfailed = refl;
-    writes = OnlyWrites-same (channel book.sink);
-    lines = WritesDeletions-none tells (channel book.sink) book.state;
+    lines = [];
+    all = refl;
+    told = told_none book book.spare in_step;
   }
 
-  module _ (old mid new : Book S) (ids more : List ℕ) (one : Deletes tells channel old mid ids) where
+  -- one line
+  pub Deletes-one : (in_step : Bool) (old new : Book S) (ids : List ℕ) → AreTold in_step old new (deletion old.state ids)
+      → new.spare ≡ old.spare → Deletes in_step old new ids
+  Deletes-one in_step old new ids told spare = record {
+    state = told_state told ∙ one_leads old.state ids;
+    spare = spare;
+    lines = ids ∷ [];
+    all = append-nil ids;
+    told = subst (AreTold in_step old new) (sym (append-nil (deletion old.state ids))) told;
+  }
+
+  pub DeletesTorn-one : (old new : Book S) (ids : List ℕ) → AreTold false old new (deletion old.state ids)
+      → new.spare ≡ old.spare → ids ≢ [] → DeletesTorn old new ids
+  unfolding Deletes-one
+  DeletesTorn-one old new ids told spare some = record {
+    deletes = Deletes-one false old new ids told spare;
+    earlier = [];
+    last = ids;
+    parts = refl;
+    some = some;
+  }
+
+  module _ (old mid new : Book S) (ids more : List ℕ) (one : Deletes true old mid ids) where
     live_is : mid.state.live ≡ without_clauses old.state.live ids
     live_is = ap (λ (s : State). s.live) one.state
 
-    state_further : new.state ≡ record { live = without_clauses mid.state.live more; top = mid.state.top } → new.state
-        ≡ record { live = without_clauses old.state.live (ids ++ more); top = old.state.top }
+    state_further : new.state ≡ without mid.state more → new.state ≡ without old.state (ids ++ more)
     state_further is =
-        is ∙ ap (λ (s : State). record { live = without_clauses s.live more; top = s.top }) one.state
+        is ∙ ap (λ (s : State). without s more) one.state
         ∙ ap (λ (live : Live). record { live = live; top = old.state.top }) (sym (without-append old.state.live ids more))
 
     added_further : (count : ℕ) → are_added count old.state.live (ids ++ more) ≡ true → are_added count mid.state.live more ≡ true
     added_further count added = subst (λ (live : Live). are_added count live more
         ≡ true) (sym live_is) (added_parts count old.state.live ids more added).1
 
-    pub Deletes-further : Deletes tells channel mid new more → Deletes tells channel old new (ids ++ more)
-    Deletes-further two = record {
-      state = state_further two.state;
-      kept = λ clauses proof added.
-          two.kept clauses (one.kept clauses proof (added_parts (length clauses) old.state.live ids more added).0)
-          (added_further (length clauses) added);
-      in_step = two.in_step;
-      limit = two.limit ∙ one.limit;
-      spare = two.spare ∙ one.spare;
-      unfailed = two.unfailed ∙ one.unfailed;
-      writes = OnlyWrites-further (channel old.sink) (channel mid.sink) (channel new.sink) one.writes two.writes;
-      lines = WritesDeletions-further (ap (λ (s : State). s.top) one.state) one.lines two.lines;
+    pub Deletes-further : (in_step : Bool) → Deletes in_step mid new more → Deletes in_step old new (ids ++ more)
+    Deletes-further in_step two =
+        let same : deletion_steps mid.state two.lines ≡ deletion_steps old.state two.lines =
+        steps-same mid.state old.state (ap (λ (s : State). s.top) one.state) two.lines in
+        record {
+          state = state_further two.state;
+          spare = two.spare ∙ one.spare;
+          lines = one.lines ++ two.lines;
+          all = concat-append one.lines two.lines ∙ (λ i. one.all i ++ two.all i);
+          told = subst (AreTold in_step old new)
+              (ap (λ (steps : List Step). deletion_steps old.state one.lines ++ steps) same ∙ sym (steps-append old.state one.lines two.lines))
+              (told_further in_step old mid new (deletion_steps old.state one.lines) (deletion_steps mid.state two.lines) one.told two.told);
+        }
+
+    pub DeletesTorn-further : DeletesTorn mid new more → DeletesTorn old new (ids ++ more)
+    unfolding Deletes-further
+    DeletesTorn-further two = record {
+      deletes = Deletes-further false two.deletes;
+      earlier = one.lines ++ two.earlier;
+      last = two.last;
+      parts = ap (λ (l : List (List ℕ)). one.lines ++ l) two.parts ∙ sym (append_assoc one.lines two.earlier (two.last ∷ []));
+      some = two.some;
     }
 
-    pub DeletesTorn-further : DeletesTorn tells channel mid new more → DeletesTorn tells channel old new (ids ++ more)
-    DeletesTorn-further two = record {
-      state = state_further two.state;
-      cut = λ clauses proof added told.
-          let c = two.cut clauses (one.kept clauses proof (added_parts (length clauses) old.state.live ids more added).0)
-          (added_further (length clauses) added) told in
-          record {
-            before = c.before;
-            cut = c.cut;
-            among = λ id clause is. was_without old.state.live ids id clause (sym (ap (λ (live : Live). clause_at live id) live_is)
-                ∙ c.among id clause is);
-            top = c.top ∙ ap (λ (s : State). s.top) one.state;
-          };
-      out_of_step = two.out_of_step;
-      limit = two.limit ∙ one.limit;
-      spare = two.spare ∙ one.spare;
-      rose = subst (λ (n : ℕ). Rose n (channel new.sink).faults) one.unfailed two.rose;
-      writes = OnlyWrites-further (channel old.sink) (channel mid.sink) (channel new.sink) one.writes two.writes;
-      front = TearsDeletions-further (ap (λ (s : State). s.top) one.state) one.lines one.unfailed two.front;
-    }
+  -- the step before the last one
+  pub torn_cut : (old new : Book S) (ids : List ℕ) (torn : DeletesTorn old new ids)
+      → IsCutAmong old.state (deletion_steps old.state torn.deletes.lines)
+  torn_cut old new ids torn = record {
+    earlier = deletion_steps old.state torn.earlier;
+    last = Delete old.state.top torn.last;
+    parts = ap (deletion_steps old.state) torn.parts ∙ steps-append old.state torn.earlier (torn.last ∷ [])
+        ∙ ap (λ (steps : List Step). deletion_steps old.state torn.earlier ++ steps)
+        (append-nil (deletion old.state torn.last) ∙ some_step old.state torn.last torn.some);
+    before = without old.state (concat torn.earlier);
+    leads = deletions_lead old.state torn.earlier;
+    among = was_without old.state.live (concat torn.earlier);
+    top = refl;
+  }
 
   -- On the way: the numbers of the unmarked nodes below the key are those that were deleted and those that were collected.
   pub record IsDeleting (old now : Book S) (graph : Graph) (marks : List Bool) (ids : List ℕ) (key : ℕ) : Type 0 where
     pub done : List ℕ
     pub parts : done ++ ids ≡ unmarked_below graph marks key
-    pub deletes : Deletes tells channel old now done
+    pub deletes : Deletes true old now done
 
   pub IsDeleting-start : (old : Book S) (graph : Graph) (marks : List Bool) (ids : List ℕ) → IsTrue old.in_step → ids ≡ []
       → IsDeleting old old graph marks ids 0
@@ -246,7 +244,7 @@ module _ {S : Type 0} (tells : Bool) (channel : S → Channel) where
     -- some were deleted, and a node's were collected
     pub IsDeleting-more : (later : Book S) (deleted left after : List ℕ) (defs : Defs) → Some defs
         ≡ unmarked_defs (is_marked marks (inner key)) (branch_at graph key)
-        → deleted ++ left ≡ ids → Deletes tells channel now later deleted → after ≡ with_defs left defs
+        → deleted ++ left ≡ ids → Deletes true now later deleted → after ≡ with_defs left defs
         → IsDeleting old later graph marks after (key + 1)
     IsDeleting-more later deleted left after defs some parts deletes pushed = record {
       done = is.done ++ deleted;
@@ -254,18 +252,18 @@ module _ {S : Type 0} (tells : Bool) (channel : S → Channel) where
           ap (λ l. (is.done ++ deleted) ++ l) pushed ∙ with_defs-behind (is.done ++ deleted) left defs
           ∙ ap (λ l. with_defs l defs) (append_assoc is.done deleted left ∙ ap (λ l. is.done ++ l) parts ∙ is.parts)
           ∙ sym (next_is (Some defs) some);
-      deletes = Deletes-further old now later is.done deleted is.deletes deletes;
+      deletes = Deletes-further old now later is.done deleted is.deletes true deletes;
     }
 
     -- the last line
-    pub IsDeleting-done : (later : Book S) → Deletes tells channel now later ids
-        → Deletes tells channel old later (unmarked_below graph marks key)
-    IsDeleting-done later deletes = subst (λ (all : List ℕ). Deletes tells channel old later all) is.parts
-        (Deletes-further old now later is.done ids is.deletes deletes)
+    pub IsDeleting-done : (later : Book S) → Deletes true now later ids
+        → Deletes true old later (unmarked_below graph marks key)
+    IsDeleting-done later deletes = subst (λ (all : List ℕ). Deletes true old later all) is.parts
+        (Deletes-further old now later is.done ids is.deletes true deletes)
 
-    pub IsDeleting-torn : (later : Book S) → DeletesTorn tells channel now later ids
-        → DeletesTorn tells channel old later (unmarked_below graph marks key)
-    IsDeleting-torn later torn = subst (λ (all : List ℕ). DeletesTorn tells channel old later all) is.parts
+    pub IsDeleting-torn : (later : Book S) → DeletesTorn now later ids
+        → DeletesTorn old later (unmarked_below graph marks key)
+    IsDeleting-torn later torn = subst (λ (all : List ℕ). DeletesTorn old later all) is.parts
         (DeletesTorn-further old now later is.done ids is.deletes torn)
 
 -- What is left once those below a key are deleted.

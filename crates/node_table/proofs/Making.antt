@@ -1,11 +1,12 @@
 -- A call that makes a node, as its parts leave it: the node joined, and its definitions were handed to the ledger.
-use Rattle.std.proofs.Common.{◌≡◌, ◌∙◌, ◌⊎◌, ◌+◌, ◌-◌, ◌≤◌, ◌<◌, ◌++◌, ℕ, ℤ, Bool, List, Result, Ok, Err, Some, None, refl, sym, ap, subst}
-use Rattle.std.proofs.Common.{arith, take}
-use Rattle.std.specs.Prelude.{IsTrue, IsErrAnd}
-use Rattle.host_io.specs.Channel.{Channel}
+use Rattle.std.proofs.Common.{◌≡◌, ◌∙◌, ◌⊎◌, ◌+◌, ◌-◌, ◌≤◌, ◌<◌, ℕ, ℤ, Bool, true, false, List, Result, Ok, Err, Some, None, refl, sym, ap, subst}
+use Rattle.std.proofs.Common.{arith}
+use Rattle.std.specs.Prelude.{IsErrAnd}
+use Rattle.cnf_base.specs.declared.step.Step.{Step}
 use Rattle.lrat_rules.specs.State.{State}
 use Rattle.hint_chain.specs.declared.atom.Atom.{Atom}
-use Rattle.clause_ledger.specs.Book.{Book, IsTorn}
+use Rattle.clause_ledger.specs.Book.{AreTold, Book}
+use Rattle.clause_ledger.specs.Told.{told_state}
 use Rattle.clause_ledger.specs.declared.error.LedgerError.{LedgerError}
 use Rattle.clause_ledger.specs.declared.error.LedgerError.TheVariants.{WriteFault as LedgerWriteFault}
 use Rattle.node_table.specs.declared.node.Node.{Node}
@@ -16,11 +17,12 @@ use Rattle.node_table.specs.declared.error.TableError.{TableError}
 use Rattle.node_table.specs.declared.error.TableError.TheVariants.{WriteFault}
 use Rattle.node_table.specs.Errors.{table_error}
 use Rattle.node_table.specs.Diagram.{Graph, IsBelow, IsNew, branch_at, levels}
-use Rattle.node_table.specs.Defined.{Definition, definition_count, definition_lines, definitions, with_definitions}
+use Rattle.node_table.specs.Defined.{Definition, IsDefinedInPart, definition_count, definition_steps, definitions, with_definitions}
 use Rattle.node_table.specs.Made.{inner}
 use Rattle.node_table.specs.Tied.{IsTied, IsAdded, IsOwned}
 use Rattle.node_table.specs.Table.{TableState, IsSound, IsWanted, IsFree, IsLeastFree, IsMade, HasChildren, live_nodes, new_branch}
-use Rattle.node_table.specs.Table.{node_definitions}
+use Rattle.node_table.specs.Table.{IsMadeInPart, node_definitions}
+use Rattle.node_table.proofs.DefineSteps.{steps_lead}
 use Rattle.node_table.specs.Progress.{Steps, error_of}
 use Rattle.node_table.proofs.Added.{added_before}
 use Rattle.node_table.proofs.Fresh.{IsNobodys, unused}
@@ -28,7 +30,7 @@ use Rattle.node_table.proofs.Fronts.{IsHanded, Grows-definitions, definitions_ha
 use Rattle.node_table.proofs.Made.{definitions_top}
 use Rattle.node_table.proofs.Stands.{Grows}
 use Rattle.node_table.proofs.Outcome.{new_only}
-use Rattle.node_table.proofs.CallSteps.{IsAsked, FewerInUse, Tore, Wrote, made_on, made_torn, Aside, table_of}
+use Rattle.node_table.proofs.CallSteps.{IsAsked, FewerInUse, made_on, made_torn, Aside, table_of}
 
 -- what was required of the table holds of its parts
 pub asked_at : {S : Type 0} {table inside : TableState S} {level : ℕ} {high low : Node} (variable : ℕ) → inside ≡ table
@@ -83,7 +85,7 @@ pub record Making {S : Type 0} (graph later : Graph) (book ready : Book S) (asid
   pub reserved : ready ≡ record book { spare = ready.spare }
   pub handed : IsHanded graph book.state ready.state level high low variable u x high_atom low_atom
 
-module _ {S : Type 0} (tells : Bool) (channel : S → Channel) {graph later : Graph} {book ready : Book S} {aside : Aside} {level : ℕ}
+module _ {S : Type 0} {graph later : Graph} {book ready : Book S} {aside : Aside} {level : ℕ}
     {high low : Node} {key : NodeKey} {variable : ℕ} {u x : ℤ}
     {high_atom low_atom : Atom} (making : Making graph later book ready aside level high low key variable u x high_atom low_atom)
     (new : Book S) where
@@ -100,21 +102,13 @@ module _ {S : Type 0} (tells : Bool) (channel : S → Channel) {graph later : Gr
   new_table = table_of aside later new
 
   -- the room that was reserved changes nothing else
-  wrote_from : Wrote tells (channel ready.sink) (channel new.sink) ready new → Wrote tells (channel book.sink) (channel new.sink) book new
-  wrote_from wrote =
-      let w = subst (λ (b : Book S). Wrote tells (channel b.sink) (channel new.sink) b new) making.reserved wrote in
-      record { in_step = w.in_step; kept = w.kept; limit = w.limit; unfailed = w.unfailed; writes = w.writes; grows = w.grows }
+  told_from : (in_step : Bool) (more : List Step) → AreTold in_step ready new more → AreTold in_step book new more
+  told_from in_step more told =
+      let t = subst (λ (b : Book S). AreTold in_step b new more) making.reserved told in
+      record { is = t.is }
 
-  tore_from : Tore tells (channel ready.sink) (channel new.sink) ready new → Tore tells (channel book.sink) (channel new.sink) book new
-  tore_from tore =
-      let t = subst (λ (b : Book S). Tore tells (channel b.sink) (channel new.sink) b new) making.reserved tore in
-      record { rose = t.rose; cut = t.cut; out_of_step = t.out_of_step; limit = t.limit; writes = t.writes; grows = t.grows }
-
-  same_lines : definition_lines ready.state handed_over ≡ definition_lines book.state asked_for
-  same_lines i = definition_lines (making.handed.still i) (definitions_handed making.handed i)
-
-  same_sink : channel ready.sink ≡ channel book.sink
-  same_sink = ap (λ (b : Book S). channel b.sink) making.reserved
+  same_steps : definition_steps ready.state handed_over ≡ definition_steps book.state asked_for
+  same_steps i = definition_steps (making.handed.still i) (definitions_handed making.handed i)
 
   free : IsFree graph book.state.live variable
   free = record {
@@ -126,29 +120,36 @@ module _ {S : Type 0} (tells : Bool) (channel : S → Channel) {graph later : Gr
   least_free : IsLeastFree graph book.state.live variable
   least_free = record { free = free; least = making.least }
 
-  written : new.state ≡ with_definitions ready.state handed_over → new.state ≡ with_definitions book.state asked_for
-  written is = is ∙ (λ i. with_definitions (making.handed.still i) (definitions_handed making.handed i))
+  pub told_asked : AreTold true ready new (definition_steps ready.state handed_over)
+      → AreTold true book new (definition_steps book.state asked_for)
+  told_asked told = told_from true (definition_steps book.state asked_for) (subst (AreTold true ready new) same_steps told)
 
-  pub making_on : new.state ≡ with_definitions ready.state handed_over → Wrote tells (channel ready.sink) (channel new.sink) ready new
-      → Steps tells (channel book.sink) (channel new.sink) old_table new_table 0 None
-  making_on is wrote =
-      made_on tells aside (channel book.sink) (channel new.sink) graph later book new level high low variable making.sound making.asked
-      key.index making.joined making.room (written is) (wrote_from wrote)
+  pub written : AreTold true ready new (definition_steps ready.state handed_over) → new.state ≡ with_definitions book.state asked_for
+  written told = told_state (told_asked told) ∙ steps_lead book.state asked_for
 
-  pub making_torn : (n : ℕ) × (new.state ≡ with_definitions ready.state (take n handed_over))
-      → Tore tells (channel ready.sink) (channel new.sink) ready new → FewerInUse
-      → Steps tells (channel book.sink) (channel new.sink) old_table new_table 0 (Some WriteFault)
-  making_torn front tore fewer =
-      made_torn tells aside (channel book.sink) (channel new.sink) graph later book new level high low variable making.sound making.asked
-      key.index making.joined making.room front.0
-      (front.1 ∙ (λ i. with_definitions (making.handed.still i) (take front.0 (definitions_handed making.handed i))))
-      (tore_from tore) fewer making.few
+  pub making_on : AreTold true ready new (definition_steps ready.state handed_over) → Steps old_table new_table 0 None
+  making_on told =
+      made_on aside graph later book new level high low variable making.sound making.asked
+      key.index making.joined making.room (written told) (definition_steps book.state asked_for) (told_asked told)
+
+  -- what was written of them
+  pub part_asked : (more : List Step) → IsDefinedInPart ready.state new.state handed_over more
+      → IsDefinedInPart book.state new.state asked_for more
+  part_asked more part = subst (λ (all : List Definition). IsDefinedInPart book.state new.state all more)
+      (definitions_handed making.handed)
+      (subst (λ (s : State). IsDefinedInPart s new.state handed_over more) making.handed.still part)
+
+  pub making_torn : (more : List Step) → AreTold false ready new more → IsDefinedInPart ready.state new.state handed_over more
+      → FewerInUse → Steps old_table new_table 0 (Some WriteFault)
+  making_torn more told part fewer =
+      made_torn aside graph later book new level high low variable making.sound making.asked
+      key.index making.joined making.room more (told_from false more told) (part_asked more part) fewer making.few
 
   -- no clause beside the definitions was added
-  pub making_before : new.state ≡ with_definitions ready.state handed_over → (inputs id : ℕ) → IsAdded later new.state.live inputs id
-      → IsAdded graph book.state.live inputs id
-  making_before is =
-      let now = written is in
+  pub making_before : AreTold true ready new (definition_steps ready.state handed_over) → (inputs id : ℕ)
+      → IsAdded later new.state.live inputs id → IsAdded graph book.state.live inputs id
+  making_before told =
+      let now = written told in
       let grows : Grows book.state new.state = subst (Grows book.state) (sym now)
       (Grows-definitions book.state asked_for making.asked.tied.numbers) in
       let top : new.state.top ≡ book.state.top + definition_count high low =
@@ -160,25 +161,17 @@ module _ {S : Type 0} (tells : Bool) (channel : S → Channel) {graph later : Gr
       ⊎ HasChildren later level high low (inner other)
   making_only = new_only graph later key.index (new_branch book.state level high low variable) making.joined
 
-  pub making_made : new.state ≡ with_definitions ready.state handed_over
-      → (IsTrue tells → (channel new.sink).written ≡ (channel ready.sink).written ++ definition_lines ready.state handed_over)
+  pub making_made : AreTold true ready new (definition_steps ready.state handed_over)
       → IsMade old_table new_table level high low variable (Inner key)
-      × (IsTrue tells → (channel new.sink).written ≡ (channel book.sink).written ++ definition_lines book.state asked_for)
-  making_made is lines = (
-    record {
-      free = least_free;
-      key = key;
-      named = refl;
-      joined = making.joined;
-      defined = written is;
-    },
-    λ told. lines told ∙ (λ i. (same_sink i).written ++ same_lines i),
-  )
+  making_made told = record {
+    free = least_free;
+    key = key;
+    named = refl;
+    joined = making.joined;
+    defined = written told;
+    told = told_asked told;
+  }
 
-  pub making_cut : IsTorn tells (channel ready.sink) (channel new.sink) (definition_lines ready.state handed_over)
-      → IsLeastFree graph book.state.live variable × IsTorn tells (channel book.sink) (channel new.sink) (definition_lines book.state asked_for)
-  making_cut torn = (
-    least_free,
-    subst (IsTorn tells (channel book.sink) (channel new.sink)) same_lines
-        (subst (λ (c : Channel). IsTorn tells c (channel new.sink) (definition_lines ready.state handed_over)) same_sink torn),
-  )
+  pub making_cut : (more : List Step) → AreTold false ready new more → IsDefinedInPart ready.state new.state handed_over more
+      → IsMadeInPart old_table new_table level high low variable
+  making_cut more told part = record { free = least_free; more = more; told = told_from false more told; part = part_asked more part }

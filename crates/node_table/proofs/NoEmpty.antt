@@ -1,5 +1,5 @@
 -- No clause that defines a node is empty, and one more clause that isn't leaves none.
-use Rattle.std.proofs.Common.{◌≡◌, ◌≢◌, ℕ, ◌+◌, zero, suc, ℤ, neg_ℤ, List, [], ◌∷◌, Option, None, Some, sym, take, inl, inr}
+use Rattle.std.proofs.Common.{◌≡◌, ◌≢◌, ℕ, ℤ, neg_ℤ, List, [], ◌∷◌, ◌++◌, Option, None, Some, sym, inl, inr}
 use Rattle.std.specs.Option.{option_map}
 use Rattle.lrat_rules.specs.State.{State, clause_at}
 use Rattle.clause_ledger.specs.Book.{with_next}
@@ -32,10 +32,9 @@ definitions_some u x high low first = (
   ),
 )
 
-pub front_some : (n : ℕ) (all : List Definition) → AreSome all → AreSome (take n all)
-front_some zero all are = tt
-front_some (suc n) [] are = tt
-front_some (suc n) (definition ∷ more) are = (are.0, front_some n more are.1)
+pub AreSome-front : (some more : List Definition) → AreSome (some ++ more) → AreSome some
+AreSome-front [] more are = tt
+AreSome-front (d ∷ some) more are = (are.0, AreSome-front some more are.1)
 
 -- one clause more
 pub next_empty : (state : State) (clause : List ℤ) → clause ≢ [] → (id : ℕ) → clause_at (with_next state clause).live id ≡ Some []

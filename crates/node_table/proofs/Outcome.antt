@@ -38,23 +38,21 @@ module _ {S : Type 0} (old new : TableState S) (level : ℕ) (high low : Node) w
       ∙ joined_at old.graph made.key.index b in
       subst (HasChildren new.graph level high low) (sym made.named) (children_of new.graph level high low made.key b at refl refl refl)
 
-  -- what was made, with what else is said of it
-  module _ (P : ℕ → Type 0) where
-    pub outcome_children : (result : Result Node TableError) → IfOk result (λ node. (variable : ℕ)
-        × IsMade old new level high low variable node × P variable)
-        → IfOk result (λ node. HasChildren new.graph level high low node)
-    outcome_children (Ok node) made = made_children made.0 node made.1
-    outcome_children (Err e) made = made
+  pub outcome_children : (result : Result Node TableError) → IfOk result (λ node. (variable : ℕ)
+      × IsMade old new level high low variable node)
+      → IfOk result (λ node. HasChildren new.graph level high low node)
+  outcome_children (Ok node) made = made_children made.0 node made.1
+  outcome_children (Err e) made = made
 
-    pub outcome_given : (result : Result Node TableError) → IfOk result (λ node. (variable : ℕ)
-        × IsMade old new level high low variable node × P variable)
-        → IfErr result (λ e. e ≢ WriteFault → IsSame old new) → result ≢ Err WriteFault → (key : ℕ) (b : Branch) → branch_at new.graph key
-        ≡ Some b
-        → (branch_at old.graph key ≡ Some b) ⊎ (result ≡ Ok (inner key))
-    outcome_given (Ok node) made refused whole key b at =
-        elim (new_cases old.graph new.graph made.1.key.index (new_branch old.book.state level high low made.0) made.1.joined key b at) [
-          | inl here ↦ inr (ap Ok (made.1.named ∙ ap (λ i. Inner (record { index = i })) (sym here.0)))
-          | inr there ↦ inl there
-        ]
-    outcome_given (Err e) made refused whole key b at =
-        inl (sym (ap (λ (t : TableState S). branch_at t.graph key) (refused (λ is. whole (ap Err is)))) ∙ at)
+  pub outcome_given : (result : Result Node TableError) → IfOk result (λ node. (variable : ℕ)
+      × IsMade old new level high low variable node)
+      → IfErr result (λ e. e ≢ WriteFault → IsSame old new) → result ≢ Err WriteFault → (key : ℕ) (b : Branch) → branch_at new.graph key
+      ≡ Some b
+      → (branch_at old.graph key ≡ Some b) ⊎ (result ≡ Ok (inner key))
+  outcome_given (Ok node) made refused whole key b at =
+      elim (new_cases old.graph new.graph made.1.key.index (new_branch old.book.state level high low made.0) made.1.joined key b at) [
+        | inl here ↦ inr (ap Ok (made.1.named ∙ ap (λ i. Inner (record { index = i })) (sym here.0)))
+        | inr there ↦ inl there
+      ]
+  outcome_given (Err e) made refused whole key b at =
+      inl (sym (ap (λ (t : TableState S). branch_at t.graph key) (refused (λ is. whole (ap Err is)))) ∙ at)

@@ -1,49 +1,22 @@
 -- Calls one after another: what both kept is kept, and what they added adds up.
-use Rattle.std.proofs.Common.{◌≡◌, ◌+◌, ◌≤◌, ℕ, Bool, true, is_some, refl, sym, ap, ◌∙◌, subst, arith, inl, inr, List, [], ◌∷◌, ◌++◌}
+use Rattle.std.proofs.Common.{◌≡◌, ◌+◌, ◌≤◌, ℕ, true, false, is_some, refl, sym, ap, ◌∙◌, subst, arith, inl, inr, List, [], ◌∷◌, ◌++◌}
 use Rattle.std.proofs.Common.{length, Option, None, Some}
 use Rattle.std.proofs.lemmas.Bool.{cases_lt}
 use Rattle.std.proofs.lemmas.List.{append_assoc, append-nil}
-use Rattle.std.specs.Prelude.{IsTrue}
-use Rattle.host_io.specs.Channel.{Channel}
+use Rattle.cnf_base.specs.declared.step.Step.{Step}
 use Rattle.lrat_rules.specs.State.{State, Live, clause_at}
 use Rattle.lrat_rules.specs.Marks.{IsWithin, in_use}
-use Rattle.clause_ledger.specs.Book.{IsTorn, OnlyWrites}
+use Rattle.clause_ledger.specs.Book.{AreTold, Book, after_steps}
+use Rattle.clause_ledger.specs.Told.{after_steps-append, told_further, told_none, told_state}
 use Rattle.node_table.specs.declared.error.TableError.{TableError}
 use Rattle.node_table.specs.declared.error.TableError.TheVariants.{NodeLimit, IdLimit, OutOfMemory, WriteFault}
 use Rattle.node_table.specs.Diagram.{levels}
 use Rattle.node_table.specs.Tied.{KeepsClauses, GivesNumbers}
 use Rattle.node_table.specs.Table.{TableState, AddsNoEmpty, IsSound, Extends, live_nodes}
-use Rattle.node_table.specs.Progress.{Continues, BreaksOff, Leaves, Steps, StepsOrRefutes, WritesMore, number_limit}
+use Rattle.node_table.specs.Progress.{Continues, BreaksOff, IsCutWithin, Leaves, Steps, StepsOrRefutes, number_limit}
 use Rattle.node_table.proofs.Grown.{KeepsNodes-none, KeepsNodes-further}
 use Rattle.node_table.proofs.Stands.{Grows-none}
 use Rattle.node_table.proofs.Since.{ComesSince-fewer, ComesSince-further}
-
-pub OnlyWrites-same : (channel : Channel) → OnlyWrites channel channel
-OnlyWrites-same channel = record { flushed = refl; taken = refl; left = refl; name = refl; faults = omega arith }
-
-pub OnlyWrites-further : (one two three : Channel) → OnlyWrites one two → OnlyWrites two three → OnlyWrites one three
-OnlyWrites-further one two three first second = record {
-  flushed = second.flushed ∙ first.flushed;
-  taken = second.taken ∙ first.taken;
-  left = second.left ∙ first.left;
-  name = second.name ∙ first.name;
-  faults = omega (arith, first.faults, second.faults);
-}
-
-pub WritesMore-same : (channel : Channel) → WritesMore channel channel
-WritesMore-same channel = record { more = []; written = sym (append-nil channel.written) }
-
-pub WritesMore-further : (one two three : Channel) → WritesMore one two → WritesMore two three → WritesMore one three
-WritesMore-further one two three first second = record {
-  more = first.more ++ second.more;
-  written = second.written ∙ ap (λ (bytes : List ℕ). bytes ++ second.more) first.written
-      ∙ append_assoc one.written first.more second.more;
-}
-
--- a front of a line stands behind what was written
-pub torn_more : {tells : Bool} {before after : Channel} {line : List ℕ} → IsTorn tells before after line → IsTrue tells
-    → WritesMore before after
-torn_more torn told = let cut = torn.cut told in record { more = _; written = cut.1 }
 
 some_of : {A : Type 0} (o : Option A) → is_some o ≡ true → (x : A) × (o ≡ Some x)
 some_of None is = cc
@@ -105,188 +78,188 @@ module _ {S : Type 0} where
       ≤ number_limit old
   limit_further old mid same within = omega (arith, same, within)
 
-  still_inputs : (old mid : TableState S) → mid.inputs ≡ old.inputs → (count : ℕ) → count ≤ old.inputs → count ≤ mid.inputs
-  still_inputs old mid same count few = omega (arith, same, few)
+  -- steps that follow others lead where both lead
+  pub leads_further : (old mid : Book S) (first second : List Step) → AreTold true old mid first → after_steps old.state (first ++ second)
+      ≡ after_steps mid.state second
+  leads_further old mid first second told = after_steps-append old.state first second
+      ∙ ap (λ (s : State). after_steps s second) (sym (told_state told))
 
-  module _ (tells : Bool) where
-    pub Continues-none : (channel : Channel) (table : TableState S) → IsSound table → Continues tells channel channel table table
-    Continues-none channel table sound = record {
-      sound = sound;
-      order = refl;
-      inputs = refl;
-      kept = λ clauses few is. is;
-      max_nodes = refl;
-      limit = refl;
-      no_less = omega arith;
-      numbers = omega arith;
-      since = ComesSince-fewer table.book.state table.book.state (λ id clause is. is);
-      unfailed = refl;
-      writes = OnlyWrites-same channel;
-      grows = λ told. WritesMore-same channel;
-    }
+  pub Continues-none : (table : TableState S) → IsSound table → Continues table table
+  Continues-none table sound = record {
+    sound = sound;
+    order = refl;
+    inputs = refl;
+    max_nodes = refl;
+    limit = refl;
+    more = [];
+    told = told_none table.book table.book.spare sound.in_step;
+    no_less = omega arith;
+    numbers = omega arith;
+    since = ComesSince-fewer table.book.state table.book.state (λ id clause is. is);
+  }
 
-    pub Continues-further : (first second third : Channel) (old mid new : TableState S) → Continues tells first second old mid
-        → Continues tells second third mid new → Continues tells first third old new
-    Continues-further first second third old mid new before after =
-        let within = limit_further old mid before.limit before.numbers in
-        record {
-          sound = after.sound;
-          order = after.order ∙ before.order;
-          inputs = after.inputs ∙ before.inputs;
-          kept = λ clauses few is. after.kept clauses (still_inputs old mid before.inputs (length clauses) few)
-              (before.kept clauses few is);
-          max_nodes = after.max_nodes ∙ before.max_nodes;
-          limit = after.limit ∙ before.limit;
-          no_less = omega (arith, before.no_less, after.no_less);
-          numbers = ≤-further new.book.state.top (number_limit mid) (number_limit old) after.numbers within;
-          since = ComesSince-further old.book.state mid.book.state new.book.state before.no_less after.no_less before.since after.since;
-          unfailed = after.unfailed ∙ before.unfailed;
-          writes = OnlyWrites-further first second third before.writes after.writes;
-          grows = λ told. WritesMore-further first second third (before.grows told) (after.grows told);
-        }
+  pub Continues-further : (old mid new : TableState S) → Continues old mid → Continues mid new → Continues old new
+  Continues-further old mid new before after =
+      let within = limit_further old mid before.limit before.numbers in
+      record {
+        sound = after.sound;
+        order = after.order ∙ before.order;
+        inputs = after.inputs ∙ before.inputs;
+        max_nodes = after.max_nodes ∙ before.max_nodes;
+        limit = after.limit ∙ before.limit;
+        more = before.more ++ after.more;
+        told = told_further true old.book mid.book new.book before.more after.more before.told after.told;
+        no_less = omega (arith, before.no_less, after.no_less);
+        numbers = ≤-further new.book.state.top (number_limit mid) (number_limit old) after.numbers within;
+        since = ComesSince-further old.book.state mid.book.state new.book.state before.no_less after.no_less before.since after.since;
+      }
 
-    BreaksOff-after : (first second third : Channel) (old mid new : TableState S) → Continues tells first second old mid
-        → BreaksOff tells second third mid new → BreaksOff tells first third old new
-    BreaksOff-after first second third old mid new before after =
-        let within = limit_further old mid before.limit before.numbers in
-        record {
-          rose = omega (arith, before.writes.faults, after.rose);
-          cut = λ clauses few is told.
-              let cut = after.cut clauses (still_inputs old mid before.inputs (length clauses) few) (before.kept clauses few is) told in
-              record {
-                before = cut.before;
-                cut = cut.cut;
-                no_less = cut.no_less;
-                from = omega (arith, before.no_less, cut.from);
-                since = ComesSince-further old.book.state mid.book.state cut.before before.no_less cut.from before.since cut.since;
-                within_before = IsWithin-further old mid before.order (live_nodes new.graph) within cut.before cut.within_before;
-                within_after = IsWithin-further old mid before.order (live_nodes new.graph) within new.book.state cut.within_after;
-              };
-          few = subst (λ (n : ℕ). live_nodes new.graph ≤ n) before.max_nodes after.few;
-          out_of_step = after.out_of_step;
-          reduced = after.reduced;
-          order = after.order ∙ before.order;
-          max_nodes = after.max_nodes ∙ before.max_nodes;
-          limit = after.limit ∙ before.limit;
-          no_less = omega (arith, before.no_less, after.no_less);
-          numbers = ≤-further new.book.state.top (number_limit mid) (number_limit old) after.numbers within;
-          since = ComesSince-further old.book.state mid.book.state new.book.state before.no_less after.no_less before.since after.since;
-          writes = OnlyWrites-further first second third before.writes after.writes;
-          grows = λ told. WritesMore-further first second third (before.grows told) (after.grows told);
-        }
+  IsCutWithin-further : (old mid new : TableState S) (before : Continues old mid) → (steps : List Step) → (nodes : ℕ)
+      → IsCutWithin (levels mid.graph) (number_limit mid) nodes mid.book.state new.book.state steps
+      → IsCutWithin (levels old.graph) (number_limit old) nodes old.book.state new.book.state (before.more ++ steps)
+  IsCutWithin-further old mid new before steps nodes cut =
+      let within = limit_further old mid before.limit before.numbers in
+      record {
+        earlier = before.more ++ cut.earlier;
+        last = cut.last;
+        parts = ap (λ (more : List Step). before.more ++ more) cut.parts ∙ sym (append_assoc before.more cut.earlier (cut.last ∷ []));
+        before = cut.before;
+        leads = leads_further old.book mid.book before.more cut.earlier before.told ∙ cut.leads;
+        no_less = cut.no_less;
+        from = omega (arith, before.no_less, cut.from);
+        since = ComesSince-further old.book.state mid.book.state cut.before before.no_less cut.from before.since cut.since;
+        within_before = IsWithin-further old mid before.order nodes within cut.before cut.within_before;
+        within_after = IsWithin-further old mid before.order nodes within new.book.state cut.within_after;
+      }
 
-    pub leaves_further : (first second third : Channel) (old mid new : TableState S) (error : Option TableError)
-        → Continues tells first second old mid
-        → Leaves tells second third mid new error → Leaves tells first third old new error
-    leaves_further first second third old mid new None before after = Continues-further first second third old mid new before after
-    leaves_further first second third old mid new (Some NodeLimit) before after =
-        (Continues-further first second third old mid new before after.0, after.1)
-    leaves_further first second third old mid new (Some IdLimit) before after =
-        (Continues-further first second third old mid new before after.0, after.1)
-    leaves_further first second third old mid new (Some OutOfMemory) before after =
-        Continues-further first second third old mid new before after
-    leaves_further first second third old mid new (Some WriteFault) before after =
-        BreaksOff-after first second third old mid new before after
+  BreaksOff-after : (old mid new : TableState S) → Continues old mid → BreaksOff mid new → BreaksOff old new
+  BreaksOff-after old mid new before after =
+      let within = limit_further old mid before.limit before.numbers in
+      record {
+        more = before.more ++ after.more;
+        told = told_further false old.book mid.book new.book before.more after.more before.told after.told;
+        cut = IsCutWithin-further old mid new before after.more (live_nodes new.graph) after.cut;
+        few = subst (λ (n : ℕ). live_nodes new.graph ≤ n) before.max_nodes after.few;
+        out_of_step = after.out_of_step;
+        reduced = after.reduced;
+        order = after.order ∙ before.order;
+        max_nodes = after.max_nodes ∙ before.max_nodes;
+        limit = after.limit ∙ before.limit;
+        no_less = omega (arith, before.no_less, after.no_less);
+        numbers = ≤-further new.book.state.top (number_limit mid) (number_limit old) after.numbers within;
+        since = ComesSince-further old.book.state mid.book.state new.book.state before.no_less after.no_less before.since after.since;
+      }
 
-    NoEmpty-further : (old mid new : TableState S) → AddsNoEmpty old mid → AddsNoEmpty mid new → AddsNoEmpty old new
-    NoEmpty-further old mid new before after = record { each = λ id is. before.each id (after.each id is) }
+  pub leaves_further : (old mid new : TableState S) (error : Option TableError)
+      → Continues old mid
+      → Leaves mid new error → Leaves old new error
+  leaves_further old mid new None before after = Continues-further old mid new before after
+  leaves_further old mid new (Some NodeLimit) before after =
+      (Continues-further old mid new before after.0, after.1)
+  leaves_further old mid new (Some IdLimit) before after =
+      (Continues-further old mid new before after.0, after.1)
+  leaves_further old mid new (Some OutOfMemory) before after =
+      Continues-further old mid new before after
+  leaves_further old mid new (Some WriteFault) before after =
+      BreaksOff-after old mid new before after
 
-    pub Steps-further : (first second third : Channel) (old mid new : TableState S) (few more : ℕ) (error : Option TableError)
-        → Steps tells first second old mid few None
-        → Steps tells second third mid new more error → Steps tells first third old new (few + more) error
-    Steps-further first second third old mid new few more error before after = record {
-      leaves = leaves_further first second third old mid new error before.leaves after.leaves;
-      extends = Extends-further old mid new before.extends after.extends;
-      adds = omega (arith, before.adds, after.adds);
-      no_empty = NoEmpty-further old mid new before.no_empty after.no_empty;
-    }
+  NoEmpty-further : (old mid new : TableState S) → AddsNoEmpty old mid → AddsNoEmpty mid new → AddsNoEmpty old new
+  NoEmpty-further old mid new before after = record { each = λ id is. before.each id (after.each id is) }
 
-    pub Steps-refute : (first second third : Channel) (old mid new : TableState S) (few more : ℕ) (error : Option TableError)
-        → Steps tells first second old mid few None
-        → StepsOrRefutes tells second third mid new more error → StepsOrRefutes tells first third old new (few + more) error
-    Steps-refute first second third old mid new few more error before after = record {
-      leaves = leaves_further first second third old mid new error before.leaves after.leaves;
-      extends = Extends-further old mid new before.extends after.extends;
-      adds = omega (arith, before.adds, after.adds);
-    }
+  pub Steps-further : (old mid new : TableState S) (few more : ℕ) (error : Option TableError)
+      → Steps old mid few None
+      → Steps mid new more error → Steps old new (few + more) error
+  Steps-further old mid new few more error before after = record {
+    leaves = leaves_further old mid new error before.leaves after.leaves;
+    extends = Extends-further old mid new before.extends after.extends;
+    adds = omega (arith, before.adds, after.adds);
+    no_empty = NoEmpty-further old mid new before.no_empty after.no_empty;
+  }
 
-    pub Steps-anyhow : (before after : Channel) (old new : TableState S) (count : ℕ) (error : Option TableError)
-        → Steps tells before after old new count error → StepsOrRefutes tells before after old new count error
-    Steps-anyhow before after old new count error steps = record { leaves = steps.leaves; extends = steps.extends; adds = steps.adds }
+  pub Steps-refute : (old mid new : TableState S) (few more : ℕ) (error : Option TableError)
+      → Steps old mid few None
+      → StepsOrRefutes mid new more error → StepsOrRefutes old new (few + more) error
+  Steps-refute old mid new few more error before after = record {
+    leaves = leaves_further old mid new error before.leaves after.leaves;
+    extends = Extends-further old mid new before.extends after.extends;
+    adds = omega (arith, before.adds, after.adds);
+  }
 
-    pub Steps-no_empty : (before after : Channel) (old new : TableState S) (count : ℕ) (error : Option TableError)
-        → StepsOrRefutes tells before after old new count error → AddsNoEmpty old new → Steps tells before after old new count error
-    Steps-no_empty before after old new count error steps none = record {
-      leaves = steps.leaves;
-      extends = steps.extends;
-      adds = steps.adds;
-      no_empty = none;
-    }
+  pub Steps-anyhow : (old new : TableState S) (count : ℕ) (error : Option TableError)
+      → Steps old new count error → StepsOrRefutes old new count error
+  Steps-anyhow old new count error steps = record { leaves = steps.leaves; extends = steps.extends; adds = steps.adds }
 
-    pub Steps-at_most : (before after : Channel) (old new : TableState S) (few more : ℕ) (error : Option TableError) → few ≤ more
-        → Steps tells before after old new few error → Steps tells before after old new more error
-    Steps-at_most before after old new few more error less steps = record {
-      leaves = steps.leaves;
-      extends = steps.extends;
-      adds = omega (arith, less, steps.adds);
-      no_empty = steps.no_empty;
-    }
+  pub Steps-no_empty : (old new : TableState S) (count : ℕ) (error : Option TableError)
+      → StepsOrRefutes old new count error → AddsNoEmpty old new → Steps old new count error
+  Steps-no_empty old new count error steps none = record {
+    leaves = steps.leaves;
+    extends = steps.extends;
+    adds = steps.adds;
+    no_empty = none;
+  }
 
-    -- nothing was changed
-    pub Steps-none : (channel : Channel) (table : TableState S) → IsSound table → Steps tells channel channel table table 0 None
-    Steps-none channel table sound = record {
-      leaves = Continues-none channel table sound;
-      extends = Extends-none table sound;
-      adds = omega arith;
-      no_empty = record { each = λ id is. is };
-    }
+  pub Steps-at_most : (old new : TableState S) (few more : ℕ) (error : Option TableError) → few ≤ more
+      → Steps old new few error → Steps old new more error
+  Steps-at_most old new few more error less steps = record {
+    leaves = steps.leaves;
+    extends = steps.extends;
+    adds = omega (arith, less, steps.adds);
+    no_empty = steps.no_empty;
+  }
 
-    pub Steps-no_memory : (channel : Channel) (table : TableState S) → IsSound table
-        → Steps tells channel channel table table 0 (Some OutOfMemory)
-    Steps-no_memory channel table sound = record {
-      leaves = Continues-none channel table sound;
-      extends = Extends-none table sound;
-      adds = omega arith;
-      no_empty = record { each = λ id is. is };
-    }
+  -- nothing was changed
+  pub Steps-none : (table : TableState S) → IsSound table → Steps table table 0 None
+  Steps-none table sound = record {
+    leaves = Continues-none table sound;
+    extends = Extends-none table sound;
+    adds = omega arith;
+    no_empty = record { each = λ id is. is };
+  }
 
-    -- a clause more is retired
-    Continues-retired : (channel : Channel) (table : TableState S) (id : ℕ) → IsSound table
-        → IsSound (record table { retired = table.retired ++ id ∷ [] })
-        → Continues tells channel channel table (record table { retired = table.retired ++ id ∷ [] })
-    Continues-retired channel table id sound still =
-        let none = Continues-none channel table sound in
-        record {
-          sound = still;
-          order = none.order;
+  pub Steps-no_memory : (table : TableState S) → IsSound table
+      → Steps table table 0 (Some OutOfMemory)
+  Steps-no_memory table sound = record {
+    leaves = Continues-none table sound;
+    extends = Extends-none table sound;
+    adds = omega arith;
+    no_empty = record { each = λ id is. is };
+  }
+
+  -- a clause more is retired
+  Continues-retired : (table : TableState S) (id : ℕ) → IsSound table
+      → IsSound (record table { retired = table.retired ++ id ∷ [] })
+      → Continues table (record table { retired = table.retired ++ id ∷ [] })
+  Continues-retired table id sound still =
+      let none = Continues-none table sound in
+      record {
+        sound = still;
+        order = none.order;
+        inputs = none.inputs;
+        max_nodes = none.max_nodes;
+        limit = none.limit;
+        no_less = none.no_less;
+        numbers = none.numbers;
+        since = none.since;
+        more = none.more;
+        told = none.told;
+      }
+
+  pub Steps-retired : (table : TableState S) (id : ℕ) → IsSound table
+      → IsSound (record table { retired = table.retired ++ id ∷ [] })
+      → Steps table (record table { retired = table.retired ++ id ∷ [] }) 0 None
+  Steps-retired table id sound still =
+      let none = Extends-none table sound in
+      record {
+        leaves = Continues-retired table id sound still;
+        extends = record {
           inputs = none.inputs;
-          kept = none.kept;
-          max_nodes = none.max_nodes;
-          limit = none.limit;
-          no_less = none.no_less;
+          nodes = none.nodes;
+          clauses = none.clauses;
           numbers = none.numbers;
-          since = none.since;
-          unfailed = none.unfailed;
-          writes = none.writes;
-          grows = none.grows;
-        }
-
-    pub Steps-retired : (channel : Channel) (table : TableState S) (id : ℕ) → IsSound table
-        → IsSound (record table { retired = table.retired ++ id ∷ [] })
-        → Steps tells channel channel table (record table { retired = table.retired ++ id ∷ [] }) 0 None
-    Steps-retired channel table id sound still =
-        let none = Extends-none table sound in
-        record {
-          leaves = Continues-retired channel table id sound still;
-          extends = record {
-            inputs = none.inputs;
-            nodes = none.nodes;
-            clauses = none.clauses;
-            numbers = none.numbers;
-            more = id
-                ∷ [];
-            retired = refl;
-          };
-          adds = omega arith;
-          no_empty = record { each = λ id is. is };
-        }
+          more = id
+              ∷ [];
+          retired = refl;
+        };
+        adds = omega arith;
+        no_empty = record { each = λ id is. is };
+      }

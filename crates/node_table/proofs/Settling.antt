@@ -1,78 +1,74 @@
 -- The call that deletes the retired clauses, as the ledger's answer leaves it.
-use Rattle.std.proofs.Common.{◌≡◌, ◌≤◌, Bool, true, false, ℤ, List, [], length, refl, sym, ap, ◌∙◌, subst, arith}
-use Rattle.std.specs.Prelude.{IsTrue}
-use Rattle.host_io.specs.Channel.{Channel}
+use Rattle.std.proofs.Common.{◌≡◌, ◌≢◌, ◌≤◌, Bool, true, false, [], refl, sym, ap, ◌∙◌, subst, arith}
+use Rattle.cnf_base.specs.declared.step.Step.TheVariants.{Delete}
 use Rattle.lrat_rules.specs.State.{State, clause_at}
-use Rattle.lrat_rules.specs.Derivation.{IsCutProof, are_added}
-use Rattle.clause_ledger.specs.Book.{Book, IsProofOf, IsTorn, OnlyWrites, deletion_line}
+use Rattle.clause_ledger.specs.Book.{AreTold, Book, deletion}
+use Rattle.clause_ledger.specs.Told.{told_in_step, told_limit, told_state}
 use Rattle.node_table.specs.Diagram.{Graph, levels}
 use Rattle.node_table.specs.Tied.{IsTied, KeepsClauses}
 use Rattle.node_table.specs.Table.{IsSound, live_nodes, without_retired}
-use Rattle.node_table.specs.Progress.{Continues, BreaksOff, WritesMore}
+use Rattle.node_table.specs.Progress.{Continues, BreaksOff}
 use Rattle.node_table.proofs.CallSteps.{Aside, FewerInUse, table_of}
+use Rattle.node_table.proofs.Deleting.{one_leads, some_step}
 use Rattle.node_table.proofs.InUseSame.{in_use_nodes}
 use Rattle.node_table.proofs.Retired.{AreRetired-none}
 use Rattle.node_table.proofs.Since.{ComesSince-fewer}
-use Rattle.node_table.proofs.Settled.{retired_added, settled_tied, settled_was}
+use Rattle.node_table.proofs.Settled.{settled_tied, settled_was}
 
-module _ {S : Type 0} (tells : Bool) (channel : S → Channel) (aside : Aside) (graph : Graph) (old new : Book S)
+module _ {S : Type 0} (aside : Aside) (graph : Graph) (old new : Book S) (in_step : Bool)
     (sound : IsSound (table_of aside graph old))
-    (state : new.state ≡ without_retired (table_of aside graph old)) (limit : new.limit
-    ≡ old.limit) (writes : OnlyWrites (channel old.sink) (channel new.sink))
-    (grows : IsTrue tells → WritesMore (channel old.sink) (channel new.sink)) where
+    (told : AreTold in_step old new (deletion old.state aside.retired)) where
   -- the table once the retired clauses are deleted
   abbrev rest : Aside
   rest = record { max_nodes = aside.max_nodes; inputs = aside.inputs; retired = [] }
 
+  pub state_is : new.state ≡ without_retired (table_of aside graph old)
+  state_is = told_state told ∙ one_leads old.state aside.retired
+
   top : new.state.top ≡ old.state.top
-  top = ap (λ (s : State). s.top) state
+  top = ap (λ (s : State). s.top) state_is
 
   -- what is still live was live
   was : KeepsClauses new.state.live old.state.live
   was id clause is = settled_was graph old.state aside.inputs aside.retired sound.tied sound.retired id clause
-      (sym (ap (λ (s : State). clause_at s.live id) state) ∙ is)
+      (sym (ap (λ (s : State). clause_at s.live id) state_is) ∙ is)
 
-  pub settled_on : IsTrue new.in_step
-      → ((clauses : List (List ℤ)) → IsProofOf clauses tells (channel old.sink) old.state
-      → are_added (length clauses) old.state.live aside.retired ≡ true → IsProofOf clauses tells (channel new.sink) new.state)
-      → (channel new.sink).faults ≡ (channel old.sink).faults
-      → Continues tells (channel old.sink) (channel new.sink) (table_of aside graph old) (table_of rest graph new)
-  settled_on in_step kept unfailed = record {
+  limit : new.limit ≡ old.limit
+  limit = told_limit told
+
+  pub settled_on : in_step ≡ true → Continues (table_of aside graph old) (table_of rest graph new)
+  settled_on whole = record {
     sound = record {
-      in_step = in_step;
-      tied = subst (IsTied graph) (sym state) (settled_tied graph old.state aside.inputs aside.retired sound.tied sound.retired);
+      in_step = told_in_step told ∙ whole;
+      tied = subst (IsTied graph) (sym state_is) (settled_tied graph old.state aside.inputs aside.retired sound.tied sound.retired);
       inputs = omega (arith, sound.inputs, top);
       retired = AreRetired-none graph new.state.live aside.inputs;
     };
     order = refl;
     inputs = refl;
-    kept = λ clauses few proof. kept clauses proof (retired_added graph old.state.live aside.inputs aside.retired sound.retired
-        (length clauses) few);
     max_nodes = refl;
     limit = limit;
+    more = deletion old.state aside.retired;
+    told = subst (λ (b : Bool). AreTold b old new (deletion old.state aside.retired)) whole told;
     no_less = omega (arith, top);
     numbers = omega (arith, top);
     since = ComesSince-fewer old.state new.state was;
-    unfailed = unfailed;
-    writes = writes;
-    grows = grows;
   }
 
-  pub settled_torn : IsTorn tells (channel old.sink) (channel new.sink) (deletion_line old.state aside.retired)
-      → ((clauses : List (List ℤ)) → IsProofOf clauses tells (channel old.sink) old.state
-      → are_added (length clauses) old.state.live aside.retired ≡ true → IsTrue tells
-      → IsCutProof clauses (channel new.sink).written old.state new.state)
-      → new.in_step ≡ false → FewerInUse → live_nodes graph ≤ aside.max_nodes
-      → BreaksOff tells (channel old.sink) (channel new.sink) (table_of aside graph old) (table_of aside graph new)
-  settled_torn torn cut out_of_step fewer few =
+  pub settled_torn : in_step ≡ false → aside.retired ≢ [] → FewerInUse → live_nodes graph ≤ aside.max_nodes
+      → BreaksOff (table_of aside graph old) (table_of aside graph new)
+  settled_torn torn some fewer few =
       let used = in_use_nodes graph old.state sound.tied in
       let less = fewer (levels graph) new.state old.state was in
       record {
-        rose = torn.rose;
-        cut = λ clauses few_clauses proof told. record {
+        more = deletion old.state aside.retired;
+        told = subst (λ (b : Bool). AreTold b old new (deletion old.state aside.retired)) torn told;
+        cut = record {
+          earlier = [];
+          last = Delete old.state.top aside.retired;
+          parts = some_step old.state aside.retired some;
           before = old.state;
-          cut = cut clauses proof (retired_added graph old.state.live aside.inputs aside.retired sound.retired
-              (length clauses) few_clauses) told;
+          leads = refl;
           no_less = omega (arith, top);
           from = omega arith;
           since = ComesSince-fewer old.state old.state (λ id clause is. is);
@@ -80,7 +76,7 @@ module _ {S : Type 0} (tells : Bool) (channel : S → Channel) (aside : Aside) (
           within_after = record { numbers = omega (arith, top); nodes = omega (arith, less, used) };
         };
         few = few;
-        out_of_step = out_of_step;
+        out_of_step = told_in_step told ∙ torn;
         reduced = sound.tied.reduced;
         order = refl;
         max_nodes = refl;
@@ -88,6 +84,4 @@ module _ {S : Type 0} (tells : Bool) (channel : S → Channel) (aside : Aside) (
         no_less = omega (arith, top);
         numbers = omega (arith, top);
         since = ComesSince-fewer old.state new.state was;
-        writes = writes;
-        grows = grows;
       }

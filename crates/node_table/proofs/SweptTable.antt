@@ -2,27 +2,28 @@
 -- live clauses that are left.
 use Rattle.std.proofs.Common.{◌≡◌, ◌<◌, ◌≤◌, ◌∙◌, ℕ, Bool, true, false, ℤ, pos, List, length, Option, None, Some, is_some, refl, sym, ap}
 use Rattle.std.proofs.Common.{subst, arith}
-use Rattle.std.specs.Prelude.{IsTrue, nat_abs, slice_index_or}
+use Rattle.std.specs.Prelude.{nat_abs, slice_index_or}
 use Rattle.std.specs.List.{list_any}
 use Rattle.std.specs.Ordering.{int_eq}
 use Rattle.std.proofs.lemmas.Bool.{false_from_ne_true}
-use Rattle.host_io.specs.Channel.{Channel, Rose}
 use Rattle.lrat_rules.specs.State.{State, clause_at}
-use Rattle.clause_ledger.specs.Book.{Book, IsProofOf, OnlyWrites}
+use Rattle.clause_ledger.specs.Book.{Book}
+use Rattle.clause_ledger.specs.Told.{told_in_step, told_limit}
 use Rattle.hint_chain.specs.Atoms.{clause_of, high_up, low_up, high_down, low_down}
 use Rattle.node_table.specs.declared.node.Branch.{Branch}
 use Rattle.node_table.specs.Diagram.{Graph, branch_at, levels, variable_at, IsOrder}
 use Rattle.node_table.specs.Defined.{IsDefined, atom_of, defs_of, is_defined_by}
-use Rattle.node_table.specs.Deleted.{AreClear, Defines, DefinesUnmarked, IsCutAmong}
+use Rattle.node_table.specs.Deleted.{AreClear, Defines, DefinesUnmarked, Deletes, DeletesTorn, deletion_steps}
 use Rattle.node_table.specs.Made.{inner}
 use Rattle.node_table.specs.Marks.{AreMarks, is_marked}
 use Rattle.node_table.specs.Places.{AreNumberedAbove, HavePlaces}
-use Rattle.node_table.specs.Progress.{Continues, BreaksOff, WritesMore}
+use Rattle.node_table.specs.Progress.{Continues, BreaksOff}
 use Rattle.node_table.specs.Swept.{IsSwept}
 use Rattle.node_table.specs.Table.{IsSound, live_nodes}
 use Rattle.node_table.specs.Tied.{IsTied, IsAdded, IsOwned, IsOverNodes, AreRetired, KeepsClauses}
 use Rattle.node_table.proofs.CallSteps.{Aside, FewerInUse, table_of}
 use Rattle.node_table.proofs.DefinedOver.{definition_over}
+use Rattle.node_table.proofs.Deleting.{torn_cut}
 use Rattle.node_table.proofs.Deletable.{same_owner}
 use Rattle.node_table.proofs.InUseSame.{in_use_nodes}
 use Rattle.node_table.proofs.Places.{HavePlaces-same}
@@ -173,67 +174,64 @@ module _ (graph later : Graph) (marks : List Bool) (are : AreMarks graph marks) 
   pub swept_numbered : (inputs : ℕ) → AreNumberedAbove inputs graph → AreNumberedAbove inputs later
   swept_numbered inputs above key b at = above key b (was_there key b at)
 
-module _ {S : Type 0} (tells : Bool) (channel : S → Channel) (aside : Aside) (graph : Graph) (old new : Book S)
-    (sound : IsSound (table_of aside graph old)) (above : AreNumberedAbove aside.inputs graph)
-    (top : new.state.top ≡ old.state.top) (limit : new.limit ≡ old.limit) (writes : OnlyWrites (channel old.sink) (channel new.sink))
-    (grows : IsTrue tells → WritesMore (channel old.sink) (channel new.sink)) where
-  pub sweep_on : (later : Graph) (marks : List Bool) → AreMarks graph marks → IsSwept graph later marks
-      → AreClear graph marks old.state.live → AreLeft graph marks old.state new.state → IsTrue new.in_step
-      → ((clauses : List (List ℤ)) → AreNumberedAbove (length clauses) graph → IsProofOf clauses tells (channel old.sink) old.state
-      → IsProofOf clauses tells (channel new.sink) new.state)
-      → (channel new.sink).faults ≡ (channel old.sink).faults
-      → Continues tells (channel old.sink) (channel new.sink) (table_of aside graph old) (table_of aside later new)
-  sweep_on later marks are swept clear left in_step kept unfailed = record {
-    sound = record {
-      in_step = in_step;
-      tied = swept_tied graph later marks are swept old.state new.state sound.tied left clear;
-      inputs = omega (arith, sound.inputs, top);
-      retired = swept_retired graph later marks are swept old.state new.state sound.tied left aside.inputs aside.retired sound.retired;
-    };
-    order = swept.order;
-    inputs = refl;
-    kept = λ clauses few proof. kept clauses (numbered_less graph aside.inputs (length clauses) few above) proof;
-    max_nodes = refl;
-    limit = limit;
-    no_less = omega (arith, top);
-    numbers = omega (arith, top);
-    since = ComesSince-fewer old.state new.state left.among;
-    unfailed = unfailed;
-    writes = writes;
-    grows = grows;
-  }
+module _ {S : Type 0} (aside : Aside) (graph : Graph) (old new : Book S) (sound : IsSound (table_of aside graph old)) where
+  -- what deletions leave beside the live clauses
+  top_is : (in_step : Bool) (ids : List ℕ) → Deletes in_step old new ids → new.state.top ≡ old.state.top
+  top_is in_step ids deletes = ap (λ (s : State). s.top) deletes.state
 
-  pub sweep_torn : KeepsClauses new.state.live old.state.live → Rose (channel old.sink).faults (channel new.sink).faults
-      → ((clauses : List (List ℤ)) → AreNumberedAbove (length clauses) graph → IsProofOf clauses tells (channel old.sink) old.state
-      → IsTrue tells → IsCutAmong clauses (channel new.sink).written old.state new.state)
-      → new.in_step ≡ false → FewerInUse → live_nodes graph ≤ aside.max_nodes
-      → BreaksOff tells (channel old.sink) (channel new.sink) (table_of aside graph old) (table_of aside graph new)
-  sweep_torn among rose cut out_of_step fewer few =
+  pub sweep_on : (later : Graph) (marks : List Bool) → AreMarks graph marks → IsSwept graph later marks
+      → AreClear graph marks old.state.live → AreLeft graph marks old.state new.state → (ids : List ℕ) → Deletes true old new ids
+      → Continues (table_of aside graph old) (table_of aside later new)
+  sweep_on later marks are swept clear left ids deletes =
+      let top = top_is true ids deletes in
+      record {
+        sound = record {
+          in_step = told_in_step deletes.told;
+          tied = swept_tied graph later marks are swept old.state new.state sound.tied left clear;
+          inputs = omega (arith, sound.inputs, top);
+          retired = swept_retired graph later marks are swept old.state new.state sound.tied left aside.inputs aside.retired sound.retired;
+        };
+        order = swept.order;
+        inputs = refl;
+        max_nodes = refl;
+        limit = told_limit deletes.told;
+        more = deletion_steps old.state deletes.lines;
+        told = deletes.told;
+        no_less = omega (arith, top);
+        numbers = omega (arith, top);
+        since = ComesSince-fewer old.state new.state left.among;
+      }
+
+  pub sweep_torn : KeepsClauses new.state.live old.state.live → (ids : List ℕ) → DeletesTorn old new ids
+      → FewerInUse → live_nodes graph ≤ aside.max_nodes → BreaksOff (table_of aside graph old) (table_of aside graph new)
+  sweep_torn among ids torn fewer few =
+      let top = top_is false ids torn.deletes in
       let used = in_use_nodes graph old.state sound.tied in
       let less = fewer (levels graph) new.state old.state among in
+      let cut = torn_cut old new ids torn in
+      let less_before = fewer (levels graph) cut.before old.state cut.among in
       record {
-        rose = rose;
-        cut = λ clauses few_clauses proof told.
-            let c = cut clauses (numbered_less graph aside.inputs (length clauses) few_clauses above) proof told in
-            let less_before = fewer (levels graph) c.before old.state c.among in
-            record {
-              before = c.before;
-              cut = c.cut;
-              no_less = omega (arith, c.top, top);
-              from = omega (arith, c.top);
-              since = ComesSince-fewer old.state c.before c.among;
-              within_before = record { numbers = omega (arith, c.top); nodes = omega (arith, less_before, used) };
-              within_after = record { numbers = omega (arith, top); nodes = omega (arith, less, used) };
-            };
+        more = deletion_steps old.state torn.deletes.lines;
+        told = torn.deletes.told;
+        cut = record {
+          earlier = cut.earlier;
+          last = cut.last;
+          parts = cut.parts;
+          before = cut.before;
+          leads = cut.leads;
+          no_less = omega (arith, cut.top, top);
+          from = omega (arith, cut.top);
+          since = ComesSince-fewer old.state cut.before cut.among;
+          within_before = record { numbers = omega (arith, cut.top); nodes = omega (arith, less_before, used) };
+          within_after = record { numbers = omega (arith, top); nodes = omega (arith, less, used) };
+        };
         few = few;
-        out_of_step = out_of_step;
+        out_of_step = told_in_step torn.deletes.told;
         reduced = sound.tied.reduced;
         order = refl;
         max_nodes = refl;
-        limit = limit;
+        limit = told_limit torn.deletes.told;
         no_less = omega (arith, top);
         numbers = omega (arith, top);
         since = ComesSince-fewer old.state new.state among;
-        writes = writes;
-        grows = grows;
       }

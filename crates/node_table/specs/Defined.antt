@@ -5,9 +5,10 @@ use Rattle.std.specs.Prelude.{Option, None, Some, if◌then◌else◌}
 use Rattle.std.specs.Option.{option_to_list}
 use Rattle.std.specs.List.{list_any}
 use Rattle.std.specs.Ordering.{int_eq}
+use Rattle.cnf_base.specs.declared.step.Step.{Step}
 use Rattle.cnf_base.specs.ProofText.{given_if}
 use Rattle.lrat_rules.specs.State.{State, Live, clause_at}
-use Rattle.clause_ledger.specs.Book.{with_next, definition_line}
+use Rattle.clause_ledger.specs.Book.{AreTold, Book, definition, with_next}
 use Rattle.hint_chain.specs.declared.atom.Atom.{Atom}
 use Rattle.hint_chain.specs.declared.atom.Atom.TheVariants.{Always, Never, Of}
 use Rattle.hint_chain.specs.Atoms.{clause_of, high_up, low_up, high_down, low_down}
@@ -136,19 +137,35 @@ abbrev pub with_some : State → Option (List ℤ) → State
 with_some state None = state
 with_some state (Some clause) = with_next state clause
 
-abbrev pub line_of_some : State → Option (List ℤ) → List ℕ → List ℕ
-line_of_some state None candidates = []
-line_of_some state (Some clause) candidates = definition_line state clause candidates
+abbrev pub step_of_some : State → Option (List ℤ) → List ℕ → List Step
+step_of_some state None candidates = []
+step_of_some state (Some clause) candidates = definition state clause candidates ∷ []
 
--- the state and the lines once they are written
+-- the state once they are written, and the steps that write them
 abbrev pub with_definitions : State → List Definition → State
 with_definitions state [] = state
 with_definitions state (definition ∷ more) = with_definitions (with_some state definition.clause) more
 
-abbrev pub definition_lines : State → List Definition → List ℕ
-definition_lines state [] = []
-definition_lines state (definition ∷ more) = line_of_some state definition.clause definition.candidates
-    ++ definition_lines (with_some state definition.clause) more
+abbrev pub definition_steps : State → List Definition → List Step
+definition_steps state [] = []
+definition_steps state (d ∷ more) = step_of_some state d.clause d.candidates ++ definition_steps (with_some state d.clause) more
+
+-- These steps write some of the definitions, the last of which is a clause.
+pub record IsDefinedInPart (old after : State) (all : List Definition) (steps : List Step) : Type 0 where
+  pub earlier : List Definition
+  pub last : Definition
+  pub rest : List Definition
+  pub parts : all ≡ earlier ++ last ∷ rest
+  pub clause : List ℤ
+  pub is : last.clause ≡ Some clause
+  pub written : steps ≡ definition_steps old (earlier ++ last ∷ [])
+  pub reached : after ≡ with_definitions old (earlier ++ last ∷ [])
+
+-- a clause that there is was told, and a write failed
+pub record IsTornStep {S : Type 0} (old new : Book S) (o : Option (List ℤ)) (candidates : List ℕ) : Type 0 where
+  pub clause : List ℤ
+  pub is : o ≡ Some clause
+  pub told : AreTold false old new (step_of_some old.state o candidates)
 
 -- no live clause holds the variable
 abbrev pub IsUnused : Live → ℕ → Type 0

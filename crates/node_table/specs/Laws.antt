@@ -1,6 +1,5 @@
 -- The laws of diagrams and of tables, each as one record: functions without work ensure them, and lemmas above take them.
 use Rattle.std.specs.Prelude.{◌≡◌, ◌≤◌, ◌<◌, ◌+◌, ℕ, Bool, true, false, List, Option, None, Some, IsTrue, if◌then◌else◌}
-use Rattle.host_io.specs.Channel.{Channel}
 use Rattle.lrat_rules.specs.State.{Live}
 use Rattle.hint_chain.specs.declared.atom.Atom.{Atom}
 use Rattle.node_table.specs.declared.error.TableError.{TableError}
@@ -108,27 +107,27 @@ pub record Reachability : Type 0 where
 
 -- The steps of an operation: none, with or without memory; those of one call after another; and with room for more. Clauses
 -- that were added beside definitions stay so, and those that come to be so are new.
-pub record StepByStep {S : Type 0} (tells : Bool) (channel : S → Channel) : Type 0 where
-  pub none : (table : TableState S) → IsSound table → Steps tells (channel table.book.sink) (channel table.book.sink) table table 0 None
-  pub no_memory : (table : TableState S) → IsSound table → Steps tells (channel table.book.sink) (channel table.book.sink) table table 0
+pub record StepByStep (S : Type 0) : Type 0 where
+  pub none : (table : TableState S) → IsSound table → Steps table table 0 None
+  pub no_memory : (table : TableState S) → IsSound table → Steps table table 0
       (Some OutOfMemory)
-  pub further : (first second third : Channel) (old mid new : TableState S) (few more : ℕ) (error : Option TableError)
-      → Steps tells first second old mid few None
-      → Steps tells second third mid new more error → Steps tells first third old new (few + more) error
-  pub at_most : (before after : Channel) (old new : TableState S) (few more : ℕ) (error : Option TableError) → few ≤ more
-      → Steps tells before after old new few error → Steps tells before after old new more error
-  pub refute : (first second third : Channel) (old mid new : TableState S) (few more : ℕ) (error : Option TableError)
-      → Steps tells first second old mid few None
-      → StepsOrRefutes tells second third mid new more error → StepsOrRefutes tells first third old new (few + more) error
-  pub anyhow : (before after : Channel) (old new : TableState S) (count : ℕ) (error : Option TableError)
-      → Steps tells before after old new count error → StepsOrRefutes tells before after old new count error
-  pub no_empty : (before after : Channel) (old new : TableState S) (count : ℕ) (error : Option TableError)
-      → StepsOrRefutes tells before after old new count error → AddsNoEmpty old new → Steps tells before after old new count error
-  pub go_on : (first second third : Channel) (old mid new : TableState S) → Continues tells first second old mid
-      → Continues tells second third mid new
-      → Continues tells first third old new
-  pub leave : (first second third : Channel) (old mid new : TableState S) (error : Option TableError) → Continues tells first second old mid
-      → Leaves tells second third mid new error → Leaves tells first third old new error
+  pub further : (old mid new : TableState S) (few more : ℕ) (error : Option TableError)
+      → Steps old mid few None
+      → Steps mid new more error → Steps old new (few + more) error
+  pub at_most : (old new : TableState S) (few more : ℕ) (error : Option TableError) → few ≤ more
+      → Steps old new few error → Steps old new more error
+  pub refute : (old mid new : TableState S) (few more : ℕ) (error : Option TableError)
+      → Steps old mid few None
+      → StepsOrRefutes mid new more error → StepsOrRefutes old new (few + more) error
+  pub anyhow : (old new : TableState S) (count : ℕ) (error : Option TableError)
+      → Steps old new count error → StepsOrRefutes old new count error
+  pub no_empty : (old new : TableState S) (count : ℕ) (error : Option TableError)
+      → StepsOrRefutes old new count error → AddsNoEmpty old new → Steps old new count error
+  pub go_on : (old mid new : TableState S) → Continues old mid
+      → Continues mid new
+      → Continues old new
+  pub leave : (old mid new : TableState S) (error : Option TableError) → Continues old mid
+      → Leaves mid new error → Leaves old new error
   pub extend : (old mid new : TableState S) → Extends old mid → Extends mid new → Extends old new
   pub added : (old new : TableState S) → IsSound old → IsSound new → Extends old new → (id : ℕ) → IsAddedTo old id → IsAddedTo new id
   pub was_added : (old new : TableState S) → Extends old new → (id : ℕ) → id ≤ old.book.state.top → IsAddedTo new id → IsAddedTo old id

@@ -1,9 +1,8 @@
 -- Laws of a call of a table that is refused: want of memory is no other refusal, and a limit leaves the nodes as they were.
-use Rattle.std.proofs.Common.{◌≡◌, ◌≢◌, ℕ, Bool, Some, Result, Ok, Err, ap, sym, subst}
+use Rattle.std.proofs.Common.{◌≡◌, ◌≢◌, ℕ, Some, Result, Ok, Err, ap, sym, subst}
 use Rattle.std.specs.Prelude.{IfErr, IsErrAnd}
 use Rattle.node_table.specs.declared.error.TableError.{TableError}
 use Rattle.node_table.specs.declared.error.TableError.TheVariants.{NodeLimit, IdLimit, OutOfMemory, WriteFault}
-use Rattle.host_io.specs.Channel.{Channel}
 use Rattle.node_table.specs.HandedOn.{came_from}
 use Rattle.node_table.specs.Progress.{Steps, error_of}
 use Rattle.node_table.specs.Table.{TableState, IsSame, IsUsedUp}
@@ -43,13 +42,13 @@ used_up {S} old new {T} result refused met is =
     (sym (subst (λ (r : Result T TableError). IfErr r (λ e. e ≢ WriteFault → IsSame old new)) is refused no_ids_no_fault)) (met is)
 
 -- the steps of a call whose error is handed on
-pub steps_handed_on : {S T : Type 0} {tells : Bool} {before after : Channel} {old new : TableState S} {count : ℕ}
+pub steps_handed_on : {S T : Type 0} {old new : TableState S} {count : ℕ}
     (result : Result T TableError) (came : TableError)
-    → IsErrAnd result (λ e. e ≡ came) → Steps tells before after old new count (Some came)
-    → Steps tells before after old new count (error_of result)
+    → IsErrAnd result (λ e. e ≡ came) → Steps old new count (Some came)
+    → Steps old new count (error_of result)
 steps_handed_on (Ok answer) came is steps = absurd is
-steps_handed_on {tells = tells} {before = before} {after = after} {old = old} {new = new} {count = count} (Err error) came is steps =
-    subst (λ (e : TableError). Steps tells before after old new count (Some e)) (sym is) steps
+steps_handed_on {old = old} {new = new} {count = count} (Err error) came is steps =
+    subst (λ (e : TableError). Steps old new count (Some e)) (sym is) steps
 
 pub same_nodes : {S : Type 0} (old new : TableState S) {T : Type 0} (result : Result T TableError)
     → IfErr result (λ e. e ≢ WriteFault → IsSame old new) → result ≡ Err NodeLimit

@@ -1,9 +1,10 @@
 -- A table as its callers see it, and what its calls do.
-use Rattle.std.specs.Prelude.{◌≡◌, ◌≢◌, ℕ, ◌<◌, ◌≤◌, ◌+◌, ◌*◌, ◌++◌, pos, List, [], Some, Result, Err, IsTrue, refl}
+use Rattle.std.specs.Prelude.{◌≡◌, ◌≢◌, ℕ, ◌<◌, ◌≤◌, ◌+◌, ◌*◌, ◌++◌, pos, true, false, List, [], Some, Result, Err, IsTrue, refl}
 use Rattle.std.specs.Coded.{Coded, code_by, coded×, coded_ℕ, coded_list}
 use Rattle.std.specs.FinMap as map
+use Rattle.cnf_base.specs.declared.step.Step.{Step}
 use Rattle.lrat_rules.specs.State.{State, Live, clause_at, without_clauses}
-use Rattle.clause_ledger.specs.Book.{Book, book_code}
+use Rattle.clause_ledger.specs.Book.{AreTold, Book, book_code}
 use Rattle.node_table.specs.declared.node.Node.{Node}
 use Rattle.node_table.specs.declared.node.Node.TheVariants.{Inner}
 use Rattle.node_table.specs.declared.node.NodeKey.{NodeKey}
@@ -12,7 +13,7 @@ use Rattle.node_table.specs.declared.error.TableError.{TableError}
 use Rattle.node_table.specs.declared.error.TableError.TheVariants.{WriteFault}
 pub use Rattle.node_table.specs.Diagram.{IsMissing, IsWanted}
 use Rattle.node_table.specs.Diagram.{Graph, graph_code, IsNew, KeepsNodes, is_node, levels, level_of, high_at, low_at, variable_at}
-use Rattle.node_table.specs.Defined.{Definition, IsUnused, atom_of, definitions, with_definitions}
+use Rattle.node_table.specs.Defined.{Definition, IsDefinedInPart, IsUnused, atom_of, definition_steps, definitions, with_definitions}
 use Rattle.node_table.specs.Tied.{IsTied, IsAdded, IsOwned, AreRetired, GivesNumbers, KeepsClauses}
 
 -- how many inner nodes are live
@@ -99,6 +100,15 @@ pub record IsMade {S : Type 0} (old new : TableState S) (level : ℕ) (high low 
   pub named : node ≡ Inner key
   pub joined : IsNew old.graph new.graph key.index (new_branch old.book.state level high low variable)
   pub defined : new.book.state ≡ with_definitions old.book.state (node_definitions old.graph old.book.state level high low variable)
+  pub told : AreTold true old.book new.book
+      (definition_steps old.book.state (node_definitions old.graph old.book.state level high low variable))
+
+-- A write failed while the node with the least free variable was made: some of its definitions were told.
+pub record IsMadeInPart {S : Type 0} (old new : TableState S) (level : ℕ) (high low : Node) (variable : ℕ) : Type 0 where
+  pub free : IsLeastFree old.graph old.book.state.live variable
+  pub more : List Step
+  pub told : AreTold false old.book new.book more
+  pub part : IsDefinedInPart old.book.state new.book.state (node_definitions old.graph old.book.state level high low variable) more
 
 -- no clause number is left
 abbrev pub IsUsedUp : {S : Type 0} → TableState S → Type 0

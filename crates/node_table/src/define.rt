@@ -1,20 +1,17 @@
 // The defining clauses of a new node on the proof: those from the children up to the node, then those from the node
 // down, whose candidates are the first ones. (Bryant, Heule: Generating Extended Resolution Proofs with a BDD-Based
 // SAT Solver, 2021, section 4.)
-ghost use Rattle.std.specs.Prelude.{◌≡◌, ◌≤◌, ◌<◌, ◌+◌, ◌++◌, ℕ, ℤ, List, Some, IsTrue, IsErr, OnOk, IfOk, IfErr, false, is_some, length};
+ghost use Rattle.std.specs.Prelude.{◌≡◌, ◌≤◌, ◌<◌, ◌+◌, ◌++◌, ℤ, List, Some, IsTrue, OnOk, OnErr, IfOk, IfErr, true, false, is_some, length};
 ghost use Rattle.std.specs.Prelude.{take};
 ghost use Rattle.std.specs.Option.{option_to_list};
+ghost use Rattle.cnf_base.specs.declared.step.Step.{Step};
 ghost use Rattle.cnf_base.specs.ProofText.{given_if};
-ghost use Rattle.lrat_rules.specs.State.{State};
-ghost use Rattle.lrat_rules.specs.Derivation.{IsCutProof};
 ghost use Rattle.lrat_rules.specs.Strict.{IsDefinition};
 ghost use Rattle.hint_chain.specs.Atoms.{clause_of};
-ghost use Rattle.clause_ledger.specs.Book.{IsProofOf, IsTorn, OnlyWrites};
+ghost use Rattle.clause_ledger.specs.Book.{AreTold};
 ghost use Rattle.clause_ledger.specs.declared.error.LedgerError.TheVariants.{WriteFault};
-ghost use Rattle.node_table.specs.Defined.{IsNewVariable, definitions, count_atoms, one_if, with_some, line_of_some, with_definitions};
-ghost use Rattle.node_table.specs.Defined.{definition_lines};
-ghost use Rattle.node_table.specs.Tied.{KeepsClauses};
-ghost use Rattle.node_table.specs.Progress.{ComesSince};
+ghost use Rattle.node_table.specs.Defined.{IsDefinedInPart, IsNewVariable, IsTornStep, count_atoms, definition_steps, definitions};
+ghost use Rattle.node_table.specs.Defined.{one_if, step_of_some};
 
 use clause_ledger::{Ledger, LedgerError};
 use cnf_base::{Id, Lit};
@@ -34,31 +31,12 @@ pub fn write_definitions<S: Sink + Drop>(
     requires new_variable { IsNewVariable ledger.old.state.live u x high.now low.now }
     requires room { ledger.old.state.top + count_atoms high.now low.now ≤ ledger.old.limit }
     requires spare { 4 ≤ ledger.old.spare }
-    ensures written { OnOk result (ledger.new.state ≡ with_definitions ledger.old.state
-        (definitions u x high.now low.now (ledger.old.state.top + 1))) }
-    ensures lines { IsTrue S.tells → OnOk result ((S.channel ledger.new.sink).written
-        ≡ (S.channel ledger.old.sink).written ++ definition_lines ledger.old.state
-        (definitions u x high.now low.now (ledger.old.state.top + 1))) }
-    ensures kept { (clauses : List (List ℤ)) → IsProofOf clauses S.tells (S.channel ledger.old.sink) ledger.old.state
-        → OnOk result (IsProofOf clauses S.tells (S.channel ledger.new.sink) ledger.new.state) }
-    ensures in_step { OnOk result (IsTrue ledger.new.in_step) }
-    ensures limit { ledger.new.limit ≡ ledger.old.limit }
-    // However the call ends, a front of the definitions stands.
-    ensures front { (n : ℕ)
-        × (ledger.new.state ≡ with_definitions ledger.old.state (take n (definitions u x high.now low.now (ledger.old.state.top + 1)))) }
-
+    ensures told { OnOk result (AreTold true ledger.old ledger.new
+        (definition_steps ledger.old.state (definitions u x high.now low.now (ledger.old.state.top + 1)))) }
     ensures error { IfErr result (λ e. e ≡ WriteFault) }
-    ensures write_fault { IsErr result → IsTorn S.tells (S.channel ledger.old.sink) (S.channel ledger.new.sink)
-        (definition_lines ledger.old.state (definitions u x high.now low.now (ledger.old.state.top + 1))) }
-    ensures out_of_step { IsErr result → ledger.new.in_step ≡ false }
-    ensures cut { (clauses : List (List ℤ)) → IsProofOf clauses S.tells (S.channel ledger.old.sink) ledger.old.state → IsTrue S.tells
-        → IsErr result → (before : State) × IsCutProof clauses (S.channel ledger.new.sink).written before ledger.new.state
-        × KeepsClauses before.live ledger.new.state.live × (before.top ≤ ledger.new.state.top)
-        × (ledger.old.state.top ≤ before.top) × ComesSince ledger.old.state before }
-
-    ensures unfailed { OnOk result ((S.channel ledger.new.sink).faults ≡ (S.channel ledger.old.sink).faults) }
-    ensures only_writes { OnlyWrites (S.channel ledger.old.sink) (S.channel ledger.new.sink) }
-    ensures beside { S.beside ledger.new.sink ≡ S.beside ledger.old.sink }
+    // A write failed: the definitions up to one of them were told.
+    ensures torn { OnErr result ((more : List Step) × AreTold false ledger.old ledger.new more
+        × IsDefinedInPart ledger.old.state ledger.new.state (definitions u x high.now low.now (ledger.old.state.top + 1)) more) }
 {
     // Cited: what is live under a new number, and that live numbers are none above the greatest.
     live_law();
@@ -98,26 +76,11 @@ fn write_one<S: Sink + Drop>(
     requires room { ledger.old.state.top + one_if (is_some (clause_of atoms.now)) ≤ ledger.old.limit }
     requires spare { 0 < ledger.old.spare }
     ensures id { IfOk result (λ id. id ≡ given_if (is_some (clause_of atoms.now)) (ledger.old.state.top + 1)) }
-    ensures written { OnOk result (ledger.new.state ≡ with_some ledger.old.state (clause_of atoms.now)) }
-    ensures lines { IsTrue S.tells → OnOk result ((S.channel ledger.new.sink).written
-        ≡ (S.channel ledger.old.sink).written ++ line_of_some ledger.old.state (clause_of atoms.now) candidates.now) }
-    ensures kept { (clauses : List (List ℤ)) → IsProofOf clauses S.tells (S.channel ledger.old.sink) ledger.old.state
-        → OnOk result (IsProofOf clauses S.tells (S.channel ledger.new.sink) ledger.new.state) }
-    ensures in_step { OnOk result (IsTrue ledger.new.in_step) }
-    ensures limit { ledger.new.limit ≡ ledger.old.limit }
+    ensures told { OnOk result (AreTold true ledger.old ledger.new
+        (step_of_some ledger.old.state (clause_of atoms.now) candidates.now)) }
     ensures spare { ledger.old.spare ≤ ledger.new.spare + 1 }
-
     ensures error { IfErr result (λ e. e ≡ WriteFault) }
-    ensures write_fault { IsErr result → IsTorn S.tells (S.channel ledger.old.sink) (S.channel ledger.new.sink)
-        (line_of_some ledger.old.state (clause_of atoms.now) candidates.now) }
-    ensures out_of_step { IsErr result → ledger.new.in_step ≡ false }
-    ensures fault_state { IsErr result → ledger.new.state ≡ with_some ledger.old.state (clause_of atoms.now) }
-    ensures cut { (clauses : List (List ℤ)) → IsProofOf clauses S.tells (S.channel ledger.old.sink) ledger.old.state → IsTrue S.tells
-        → IsErr result → IsCutProof clauses (S.channel ledger.new.sink).written ledger.old.state ledger.new.state }
-
-    ensures unfailed { OnOk result ((S.channel ledger.new.sink).faults ≡ (S.channel ledger.old.sink).faults) }
-    ensures only_writes { OnlyWrites (S.channel ledger.old.sink) (S.channel ledger.new.sink) }
-    ensures beside { S.beside ledger.new.sink ≡ S.beside ledger.old.sink }
+    ensures torn { OnErr result (IsTornStep ledger.old ledger.new (clause_of atoms.now) candidates.now) }
 {
     let Some(clause) = clause_of(atoms) else {
         return Ok(None);

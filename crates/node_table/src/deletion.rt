@@ -1,16 +1,14 @@
 // The clauses that define nodes which aren't marked are deleted, some hundred by one line. Their numbers are collected on
 // the stack, so that it takes no memory.
-ghost use Rattle.std.specs.Prelude.{◌≡◌, ◌≤◌, ◌<◌, ◌+◌, ◌++◌, ℕ, ℤ, List, Some, IsTrue, OnOk, OnErr, IfErr, is_ok, length};
+ghost use Rattle.std.specs.Prelude.{◌≡◌, ◌≤◌, ◌<◌, ◌+◌, ◌++◌, ℕ, List, Some, None, IsTrue, OnOk, OnErr, IfErr, true, length};
 ghost use Rattle.arrayvec.specs.ArrayVec.{array_vec_len};
-ghost use Rattle.host_io.specs.Channel.{Rose};
 ghost use Rattle.lrat_rules.specs.State.{clause_at};
 ghost use Rattle.lrat_rules.specs.Derivation.{are_added};
-ghost use Rattle.clause_ledger.specs.Book.{IsProofOf, OnlyWrites};
 ghost use Rattle.clause_ledger.specs.declared.error.LedgerError.TheVariants.{WriteFault};
 ghost use Rattle.node_table.specs.declared.node.Branch.{Branch as BranchValue};
 ghost use Rattle.node_table.specs.Diagram.{IsReduced, branch_at};
 ghost use Rattle.node_table.specs.Defined.{IsDefined};
-ghost use Rattle.node_table.specs.Deleted.{DefinesUnmarked, Deletes, DeletesTorn, IsCutAmong, TearsUnmarked, WritesUnmarked};
+ghost use Rattle.node_table.specs.Deleted.{DefinesUnmarked, Deletes, DeletesTorn, DeletesUnmarked, TearsUnmarked};
 ghost use Rattle.node_table.specs.Deleted.{unmarked_defs, with_defs, with_given};
 ghost use Rattle.node_table.specs.Made.{inner};
 ghost use Rattle.node_table.specs.Marks.{is_marked};
@@ -42,33 +40,18 @@ pub fn delete_definitions<S: Sink + Drop>(
     requires reduced { IsReduced diagram.now }
     requires defined { (key : ℕ) (branch : BranchValue) → branch_at diagram.now key ≡ Some branch
         → IsDefined ledger.old.state.live diagram.now branch }
-    requires numbered { AreNumberedAbove 0 diagram.now }
+    // no clause of the formula is among them
+    requires numbered { AreNumberedAbove (length ledger.old.formula) diagram.now }
     ensures gone { OnOk result ((id : ℕ) → DefinesUnmarked diagram.now marks.now id → clause_at ledger.new.state.live id ≡ None) }
-    // However it ends, the others stay, and all else is as it was.
+    // However it ends, the others stay.
     ensures stay { (id : ℕ) → (DefinesUnmarked diagram.now marks.now id → ⊥) → clause_at ledger.new.state.live id
         ≡ clause_at ledger.old.state.live id }
     ensures among { KeepsClauses ledger.new.state.live ledger.old.state.live }
     ensures top { ledger.new.state.top ≡ ledger.old.state.top }
-    ensures limit { ledger.new.limit ≡ ledger.old.limit }
-    ensures spare { ledger.new.spare ≡ ledger.old.spare }
-    ensures in_step { ledger.new.in_step ≡ is_ok result }
-    // No clause of the formula may be among them.
-    ensures kept { (clauses : List (List ℤ)) → AreNumberedAbove (length clauses) diagram.now
-        → IsProofOf clauses S.tells (S.channel ledger.old.sink) ledger.old.state
-        → OnOk result (IsProofOf clauses S.tells (S.channel ledger.new.sink) ledger.new.state) }
-    // What is written are the lines of these deletions.
-    ensures lines { OnOk result (WritesUnmarked S.tells (S.channel ledger.old.sink) (S.channel ledger.new.sink) ledger.old.state
-        diagram.now marks.now) }
-    ensures front { OnErr result (TearsUnmarked S.tells (S.channel ledger.old.sink) (S.channel ledger.new.sink) ledger.old.state
-        diagram.now marks.now) }
+    // The steps that were told are these deletions.
+    ensures lines { OnOk result (DeletesUnmarked ledger.old ledger.new diagram.now marks.now) }
+    ensures front { OnErr result (TearsUnmarked ledger.old ledger.new diagram.now marks.now) }
     ensures error { IfErr result (λ e. e ≡ WriteFault) }
-    ensures rose { OnErr result (Rose (S.channel ledger.old.sink).faults (S.channel ledger.new.sink).faults) }
-    ensures cut { (clauses : List (List ℤ)) → AreNumberedAbove (length clauses) diagram.now
-        → IsProofOf clauses S.tells (S.channel ledger.old.sink) ledger.old.state → IsTrue S.tells
-        → OnErr result (IsCutAmong clauses (S.channel ledger.new.sink).written ledger.old.state ledger.new.state) }
-    ensures unfailed { OnOk result ((S.channel ledger.new.sink).faults ≡ (S.channel ledger.old.sink).faults) }
-    ensures only_writes { OnlyWrites (S.channel ledger.old.sink) (S.channel ledger.new.sink) }
-    ensures beside { S.beside ledger.new.sink ≡ S.beside ledger.old.sink }
 {
     let mut ids = Ids::new();
     'keys: for index in 0..diagram.key_end() {
@@ -99,13 +82,12 @@ fn unmarked_at(diagram: &Diagram, marks: &Marks, index: u32) -> Option<Defs>
 // Deletes what was collected where the clauses of one more node may not fit.
 fn make_room<S: Sink + Drop>(ledger: &mut Ledger<S>, ids: &mut Ids) -> Result<(), LedgerError>
     requires in_step { IsTrue ledger.old.in_step }
-    requires live { IsTrue (are_added 0 ledger.old.state.live ids.old.items) }
+    requires live { IsTrue (are_added (length ledger.old.formula) ledger.old.state.live ids.old.items) }
     ensures room { OnOk result (array_vec_len ids.new ≤ 508) }
     ensures deleted { OnOk result ((deleted : List ℕ) × (deleted ++ ids.new.items ≡ ids.old.items)
-        × Deletes S.tells S.channel ledger.old ledger.new deleted) }
+        × Deletes true ledger.old ledger.new deleted) }
     ensures error { IfErr result (λ e. e ≡ WriteFault) }
-    ensures torn { OnErr result (DeletesTorn S.tells S.channel ledger.old ledger.new ids.old.items) }
-    ensures beside { S.beside ledger.new.sink ≡ S.beside ledger.old.sink }
+    ensures torn { OnErr result (DeletesTorn ledger.old ledger.new ids.old.items) }
 {
     if ids.len() <= FULL {
         return Ok(());
@@ -118,11 +100,10 @@ fn make_room<S: Sink + Drop>(ledger: &mut Ledger<S>, ids: &mut Ids) -> Result<()
 // Deletes clauses by one line.
 fn delete_all<S: Sink + Drop>(ledger: &mut Ledger<S>, ids: &[Id]) -> Result<(), LedgerError>
     requires in_step { IsTrue ledger.old.in_step }
-    requires live { IsTrue (are_added 0 ledger.old.state.live ids.now) }
-    ensures deleted { OnOk result (Deletes S.tells S.channel ledger.old ledger.new ids.now) }
+    requires live { IsTrue (are_added (length ledger.old.formula) ledger.old.state.live ids.now) }
+    ensures deleted { OnOk result (Deletes true ledger.old ledger.new ids.now) }
     ensures error { IfErr result (λ e. e ≡ WriteFault) }
-    ensures torn { OnErr result (DeletesTorn S.tells S.channel ledger.old ledger.new ids.now) }
-    ensures beside { S.beside ledger.new.sink ≡ S.beside ledger.old.sink }
+    ensures torn { OnErr result (DeletesTorn ledger.old ledger.new ids.now) }
 {
     ledger.delete(ids)?;
     Ok(())

@@ -35,7 +35,7 @@ pub fn kept_law()
 
 /// The steps of an operation, one call after another.
 pub fn steps_law<S: Sink + Drop>()
-    ensures { StepByStep S.tells S.channel }
+    ensures { StepByStep S }
 {}
 
 /// A node by its cofactors at a level, whether or not it is of it.

@@ -1,7 +1,7 @@
 // The unique table: nodes with their extension variables and defining clauses on the proof. (Bryant, 1986; Bryant,
 // Heule: Generating Extended Resolution Proofs with a BDD-Based SAT Solver, 2021.)
 ghost use Rattle.std.specs.Prelude.{◌≡◌, ◌≢◌, ◌↔◌, ◌⊎◌, ◌≤◌, ◌<◌, ◌+◌, ◌-◌, ◌++◌, ℕ, ℤ, pos, List, [], ◌∷◌, Contains, None, Some, Ok, Err};
-ghost use Rattle.std.specs.Prelude.{IsTrue, IsFalse, IsOk, IsErr, OnOk, OnErr, IfOk, IfErr, IsErrOf, MatchOption, true, false, is_some};
+ghost use Rattle.std.specs.Prelude.{IsTrue, IsFalse, IsOk, IsErr, OnOk, OnErr, IfOk, IfErr, IsErrOf, MatchOption, true, false, is_ok, is_some};
 ghost use Rattle.std.specs.Prelude.{length, vec_capacity};
 ghost use Rattle.std.specs.Option.{option_copied, option_map};
 ghost use Rattle.std.specs.FinMap as map;
@@ -9,23 +9,23 @@ ghost use Rattle.cnf_base.specs.Truth.{assignment_of, AreClausesOf};
 ghost use Rattle.cnf_base.specs.Limits.{max_vars, most_nodes_allowed};
 ghost use Rattle.lrat_rules.specs.State.{clause_at, start};
 ghost use Rattle.lrat_rules.specs.Strict.{RefutesStrictly};
-ghost use Rattle.clause_ledger.specs.Book.{IsTorn, deletion_line, next_line, with_next};
+ghost use Rattle.clause_ledger.specs.Book.{AreTold, addition, deletion, with_next};
 ghost use Rattle.node_table.specs.declared.node.Branch.{Branch as BranchValue};
 ghost use Rattle.node_table.specs.declared.error.TableError.TheVariants.{NodeLimit, IdLimit, WriteFault};
 ghost use Rattle.node_table.specs.Diagram.{Graph, IsOrder, IsReduced, IsBelow, branch_at, branch_of, is_node, levels, level_of, high_at};
 ghost use Rattle.node_table.specs.Diagram.{low_at, variable_at};
 ghost use Rattle.node_table.specs.Value.{value_of, by_level};
-ghost use Rattle.node_table.specs.Defined.{IsDefined, atom_of, defs_of, definition_count, definition_lines, literal_of_branch};
+ghost use Rattle.node_table.specs.Defined.{IsDefined, atom_of, defs_of, definition_count, literal_of_branch};
 ghost use Rattle.node_table.specs.Tied.{IsOverNodes};
 ghost use Rattle.node_table.specs.Stored.{HasSmallKey};
-ghost use Rattle.node_table.specs.Table.{TableState, IsSound, IsAddedTo, AddsNone, HasChildren, IsMissing, IsWanted, IsLeastFree, IsMade};
-ghost use Rattle.node_table.specs.Table.{IsSame, UnlessTorn, live_nodes, node_definitions, without_retired};
+ghost use Rattle.node_table.specs.Table.{TableState, IsSound, IsAddedTo, AddsNone, HasChildren, IsMissing, IsWanted, IsMade, IsMadeInPart};
+ghost use Rattle.node_table.specs.Table.{IsSame, UnlessTorn, live_nodes, without_retired};
 ghost use Rattle.node_table.specs.Progress.{Leaves, Steps, StepsOrRefutes, error_of};
 ghost use Rattle.node_table.specs.Made.{inner};
 ghost use Rattle.node_table.specs.declared.node.Node.{Node as NodeValue};
 ghost use Rattle.node_table.specs.Marks.{AreMarks, AreReached};
 ghost use Rattle.node_table.specs.Swept.{IsSwept};
-ghost use Rattle.node_table.specs.Deleted.{DefinesUnmarked, AreClear, TearsUnmarked, WritesUnmarked};
+ghost use Rattle.node_table.specs.Deleted.{AreClear, DefinesUnmarked, DeletesUnmarked, TearsUnmarked};
 
 use crate::define::write_definitions;
 use crate::deletion::delete_definitions;
@@ -56,7 +56,7 @@ pub struct Table<S: Sink + Drop> {
 }
 
 impl<S: Sink + Drop> Model for Table<S> {
-    ghost use Rattle.std.specs.Prelude.{◌≤◌, IsTrue, vec_capacity};
+    ghost use Rattle.std.specs.Prelude.{◌≤◌, IsTrue, length, vec_capacity};
     ghost use Rattle.cnf_base.specs.Limits.{most_nodes_allowed};
     ghost use Rattle.node_table.specs.Table.{TableState, table_code, live_nodes};
     ghost use Rattle.node_table.specs.Places.{HavePlaces, AreNumberedAbove};
@@ -75,7 +75,7 @@ impl<S: Sink + Drop> Model for Table<S> {
 
     ghost invariant = { λ t. (t.max_nodes ≤ most_nodes_allowed) × (live_nodes t.diagram ≤ t.max_nodes)
         × (IsTrue t.ledger.in_step → HavePlaces t.diagram t.ledger.state.live t.inputs t.places (vec_capacity t.retired))
-        × AreNumberedAbove t.inputs t.diagram };
+        × AreNumberedAbove t.inputs t.diagram × (length t.ledger.formula ≤ t.inputs) };
 }
 
 impl<S: Sink + Drop> Table<S> {
@@ -112,6 +112,7 @@ impl<S: Sink + Drop> Table<S> {
         requires empty { diagram.nodes ≡ map.empty }
         ensures { result ≡ record { graph = diagram; book = ledger; max_nodes = max_nodes; inputs = ledger.state.top; retired = [] } }
     {
+        ledger.book_law();
         let inputs = ledger.last_id();
         Table {
             diagram,
@@ -157,7 +158,7 @@ impl<S: Sink + Drop> Table<S> {
         requires high { IsBelow self.old.graph level high }
         requires low { IsBelow self.old.graph level low }
         ensures children { IfOk result (λ node. HasChildren self.new.graph level high low node) }
-        ensures steps { Steps S.tells (S.channel self.old.book.sink) (S.channel self.new.book.sink) self.old self.new 0 (error_of result) }
+        ensures steps { Steps self.old self.new 0 (error_of result) }
         ensures retired { self.new.retired ≡ self.old.retired }
         ensures none_added { UnlessTorn result (AddsNone self.old self.new) }
         // No other node is new, however the call ends.
@@ -172,13 +173,9 @@ impl<S: Sink + Drop> Table<S> {
             → (result ≡ Ok (inner key)) × (self.new ≡ self.old) }
         // A node that is wanted is made by its definitions.
         ensures made { IsWanted self.old.graph level high low → IfOk result (λ node. (variable : ℕ)
-            × IsMade self.old self.new level high low variable node
-            × (IsTrue S.tells → (S.channel self.new.book.sink).written
-            ≡ (S.channel self.old.book.sink).written ++ definition_lines self.old.book.state
-            (node_definitions self.old.graph self.old.book.state level high low variable))) }
-        ensures torn { result ≡ Err WriteFault → (variable : ℕ) × IsLeastFree self.old.graph self.old.book.state.live variable
-            × IsTorn S.tells (S.channel self.old.book.sink) (S.channel self.new.book.sink)
-            (definition_lines self.old.book.state (node_definitions self.old.graph self.old.book.state level high low variable)) }
+            × IsMade self.old self.new level high low variable node) }
+        ensures torn { result ≡ Err WriteFault → (variable : ℕ)
+            × IsMadeInPart self.old self.new level high low variable }
         // The limits, tried in this order.
         ensures node_limit { (result ≡ Err NodeLimit) ↔ (IsWanted self.old.graph level high low
             × (self.old.max_nodes ≤ live_nodes self.old.graph)) }
@@ -190,7 +187,6 @@ impl<S: Sink + Drop> Table<S> {
             × (live_nodes self.old.graph < self.old.max_nodes)
             × (self.old.book.state.top + definition_count high low ≤ self.old.book.limit) }
         ensures refused { IfErr result (λ e. e ≢ WriteFault → IsSame self.old self.new) }
-        ensures beside { S.beside self.new.book.sink ≡ S.beside self.old.book.sink }
     {
         if same_node(high, low) {
             return Ok(high);
@@ -211,21 +207,20 @@ impl<S: Sink + Drop> Table<S> {
             × (self.new.book.state ≡ with_next self.old.book.state clause.now)) }
         ensures own { IfOk result (λ id. IsAddedTo self.new id) }
         ensures unretired { IfOk result (λ id. Contains self.new.retired id → ⊥) }
-        ensures steps { StepsOrRefutes S.tells (S.channel self.old.book.sink) (S.channel self.new.book.sink) self.old self.new 1
+        ensures steps { StepsOrRefutes self.old self.new 1
             (error_of result) }
-        ensures no_empty { clause.now ≢ [] → Steps S.tells (S.channel self.old.book.sink) (S.channel self.new.book.sink) self.old self.new 1
+        ensures no_empty { clause.now ≢ [] → Steps self.old self.new 1
             (error_of result) }
         ensures nodes { self.new.graph ≡ self.old.graph }
         ensures retired { self.new.retired ≡ self.old.retired }
-        ensures line { IsTrue S.tells → OnOk result ((S.channel self.new.book.sink).written ≡ (S.channel self.old.book.sink).written
-            ++ next_line self.old.book.state clause.now hints.now) }
-        ensures torn { result ≡ Err WriteFault → IsTorn S.tells (S.channel self.old.book.sink) (S.channel self.new.book.sink)
-            (next_line self.old.book.state clause.now hints.now) }
+        // exactly this step is told
+        ensures step { OnOk result (AreTold true self.old.book self.new.book (addition self.old.book.state clause.now hints.now ∷ [])) }
+        ensures torn { result ≡ Err WriteFault
+            → AreTold false self.old.book self.new.book (addition self.old.book.state clause.now hints.now ∷ []) }
         ensures id_limit { (result ≡ Err IdLimit) ↔ (self.old.book.limit ≤ self.old.book.state.top) }
         ensures memory { result ≡ Err TableError.OutOfMemory → self.old.book.state.top < self.old.book.limit }
         ensures no_node_limit { result ≢ Err NodeLimit }
         ensures refused { IfErr result (λ e. e ≢ WriteFault → IsSame self.old self.new) }
-        ensures beside { S.beside self.new.book.sink ≡ S.beside self.old.book.sink }
     {
         marks_law();
         if self.ledger.ids_left() == 0 {
@@ -248,7 +243,7 @@ impl<S: Sink + Drop> Table<S> {
         requires own { IsAddedTo self.old id }
         requires unretired { Contains self.old.retired id → ⊥ }
         ensures retired { self.new ≡ record self.old { retired = self.old.retired ++ id ∷ [] } }
-        ensures steps { Steps S.tells (S.channel self.old.book.sink) (S.channel self.new.book.sink) self.old self.new 0 None }
+        ensures steps { Steps self.old self.new 0 None }
     {
         self.retired.push_reserved(id);
     }
@@ -256,24 +251,19 @@ impl<S: Sink + Drop> Table<S> {
     /// Deletes the retired clauses by one line. Only `WriteFault` may come.
     pub fn settle(&mut self) -> Result<(), TableError>
         requires sound { IsSound self.old }
-        ensures settled { OnOk result (self.new
-            ≡ record self.old {
-              book = record self.old.book { sink = self.new.book.sink; state = without_retired self.old };
-              retired = [];
-            }) }
+        // exactly the step of this deletion is told
+        ensures told { AreTold (is_ok result) self.old.book self.new.book (deletion self.old.book.state self.old.retired) }
+        ensures state { self.new.book.state ≡ without_retired self.old }
+        ensures settled { OnOk result (self.new ≡ record self.old { book = self.new.book; retired = [] }) }
+        ensures some { OnErr result (self.old.retired ≢ []) }
         // However it ends, they are live no more, and all else is as it was.
         ensures gone { (id : ℕ) → Contains self.old.retired id → clause_at self.new.book.state.live id ≡ None }
         ensures stay { (id : ℕ) → (Contains self.old.retired id → ⊥) → clause_at self.new.book.state.live id
             ≡ clause_at self.old.book.state.live id }
         ensures nodes { self.new.graph ≡ self.old.graph }
         ensures top { self.new.book.state.top ≡ self.old.book.state.top }
-        ensures leaves { Leaves S.tells (S.channel self.old.book.sink) (S.channel self.new.book.sink) self.old self.new (error_of result) }
-        ensures line { IsTrue S.tells → OnOk result ((S.channel self.new.book.sink).written ≡ (S.channel self.old.book.sink).written
-            ++ deletion_line self.old.book.state self.old.retired) }
-        ensures torn { IsErr result → IsTorn S.tells (S.channel self.old.book.sink) (S.channel self.new.book.sink)
-            (deletion_line self.old.book.state self.old.retired) }
+        ensures leaves { Leaves self.old self.new (error_of result) }
         ensures error { IfErr result (λ e. e ≡ WriteFault) }
-        ensures beside { S.beside self.new.book.sink ≡ S.beside self.old.book.sink }
     {
         marks_law();
         match self.ledger.delete(self.retired.as_slice()) {
@@ -301,16 +291,13 @@ impl<S: Sink + Drop> Table<S> {
         ensures none_added { OnOk result (AddsNone self.old self.new) }
         ensures top { self.new.book.state.top ≡ self.old.book.state.top }
         ensures retired { self.new.retired ≡ self.old.retired }
-        ensures leaves { Leaves S.tells (S.channel self.old.book.sink) (S.channel self.new.book.sink) self.old self.new (error_of result) }
+        ensures leaves { Leaves self.old self.new (error_of result) }
         ensures count { IfOk result (λ count. live_nodes self.new.graph + count ≡ live_nodes self.old.graph) }
         ensures error { IfErr result (λ e. e ≡ WriteFault) }
         ensures torn { OnErr result (self.new.graph ≡ self.old.graph) }
-        // What is written are the lines of these deletions, or a front of them.
-        ensures lines { OnOk result (WritesUnmarked S.tells (S.channel self.old.book.sink) (S.channel self.new.book.sink)
-            self.old.book.state self.old.graph marks.now) }
-        ensures front { OnErr result (TearsUnmarked S.tells (S.channel self.old.book.sink) (S.channel self.new.book.sink)
-            self.old.book.state self.old.graph marks.now) }
-        ensures beside { S.beside self.new.book.sink ≡ S.beside self.old.book.sink }
+        // The steps that are told are these deletions.
+        ensures lines { OnOk result (DeletesUnmarked self.old.book self.new.book self.old.graph marks.now) }
+        ensures front { OnErr result (TearsUnmarked self.old.book self.new.book self.old.graph marks.now) }
     {
         marks_law();
         match delete_definitions(&mut self.ledger, &self.diagram, marks) {
@@ -454,25 +441,20 @@ impl<S: Sink + Drop> Table<S> {
         requires high { IsBelow self.old.graph level high }
         requires low { IsBelow self.old.graph level low }
         requires wanted { IsWanted self.old.graph level high low }
-        ensures steps { Steps S.tells (S.channel self.old.book.sink) (S.channel self.new.book.sink) self.old self.new 0 (error_of result) }
+        ensures steps { Steps self.old self.new 0 (error_of result) }
         ensures retired { self.new.retired ≡ self.old.retired }
         ensures none_added { UnlessTorn result (AddsNone self.old self.new) }
         ensures only { (key : ℕ) (branch : BranchValue) → branch_at self.new.graph key ≡ Some branch
             → (branch_at self.old.graph key ≡ Some branch) ⊎ HasChildren self.new.graph level high low (inner key) }
-        ensures made { IfOk result (λ node. (variable : ℕ) × IsMade self.old self.new level high low variable node
-            × (IsTrue S.tells → (S.channel self.new.book.sink).written
-            ≡ (S.channel self.old.book.sink).written ++ definition_lines self.old.book.state
-            (node_definitions self.old.graph self.old.book.state level high low variable))) }
-        ensures torn { result ≡ Err WriteFault → (variable : ℕ) × IsLeastFree self.old.graph self.old.book.state.live variable
-            × IsTorn S.tells (S.channel self.old.book.sink) (S.channel self.new.book.sink)
-            (definition_lines self.old.book.state (node_definitions self.old.graph self.old.book.state level high low variable)) }
+        ensures made { IfOk result (λ node. (variable : ℕ) × IsMade self.old self.new level high low variable node) }
+        ensures torn { result ≡ Err WriteFault → (variable : ℕ)
+            × IsMadeInPart self.old self.new level high low variable }
         ensures node_limit { (result ≡ Err NodeLimit) ↔ (self.old.max_nodes ≤ live_nodes self.old.graph) }
         ensures id_limit { (result ≡ Err IdLimit) ↔ ((live_nodes self.old.graph < self.old.max_nodes)
             × (self.old.book.limit < self.old.book.state.top + definition_count high low)) }
         ensures memory { result ≡ Err TableError.OutOfMemory → (live_nodes self.old.graph < self.old.max_nodes)
             × (self.old.book.state.top + definition_count high low ≤ self.old.book.limit) }
         ensures refused { IfErr result (λ e. e ≢ WriteFault → IsSame self.old self.new) }
-        ensures beside { S.beside self.new.book.sink ≡ S.beside self.old.book.sink }
     {
         marks_law();
         if self.diagram.len() >= self.max_nodes {

@@ -1,9 +1,8 @@
 -- The entries of a cache, and the clauses that are named or retired, through one call after another, and as a call ends.
-use Rattle.std.proofs.Common.{◌≡◌, ◌∙◌, ◌≤◌, ◌<◌, ◌⊎◌, ◌++◌, ◌∷◌, ℕ, zero, suc, ℤ, Bool, true, List, [], Option, None, Some, Contains}
+use Rattle.std.proofs.Common.{◌≡◌, ◌∙◌, ◌≤◌, ◌<◌, ◌⊎◌, ◌++◌, ◌∷◌, ℕ, zero, suc, ℤ, true, List, [], Option, None, Some, Contains}
 use Rattle.std.proofs.Common.{is_some, refl, sym, ap, subst, arith, inl, inr}
 use Rattle.std.proofs.lemmas.Bool.{cases_lt}
 use Rattle.std.proofs.lemmas.List.Elements.{Contains-append_cases, Contains-append_left, Contains-append_right}
-use Rattle.host_io.specs.Channel.{Channel}
 use Rattle.lrat_rules.specs.State.{State, clause_at}
 use Rattle.node_table.specs.declared.error.TableError.{TableError}
 use Rattle.node_table.specs.declared.node.Just.{Just}
@@ -173,7 +172,7 @@ module _ {S : Type 0} where
   still_retired old new extends id there = subst (λ (list : List ℕ). Contains list id) (sym extends.retired)
       (Contains-append_left old.retired extends.more id there)
 
-module _ {S : Type 0} {tells : Bool} {channel : S → Channel} (law : StepByStep tells channel) (fitting : Fitting S) where
+module _ {S : Type 0} (law : StepByStep S) (fitting : Fitting S) where
   accounts_same : (table : TableState S) (before after : List Entry) (error : Option TableError) → IsSound table → HaveSame before after
       → Fits table before → AccountsFor table table before after error
   accounts_same table before after error sound same fits = record {
@@ -227,8 +226,7 @@ module _ {S : Type 0} {tells : Bool} {channel : S → Channel} (law : StepByStep
     }
 
   -- a result was found, and a clause is retired, if one is given
-  module _ (old mid new : TableState S) (before : List Entry) (just : Just) (has : HasFound old mid before just) (given : Option ℕ)
-      {tells_one : Bool} {channel_one : S → Channel} (one : RetiresOne tells_one channel_one mid new given) where
+  module _ (old mid new : TableState S) (before : List Entry) (just : Just) (has : HasFound old mid before just) (given : Option ℕ) (one : RetiresOne mid new given) where
     sound_new : IsSound new
     sound_new = one.steps.leaves.sound
 
@@ -289,8 +287,7 @@ module _ {S : Type 0} {tells : Bool} {channel : S → Channel} (law : StepByStep
   -- it is kept
   module _ (old mid new : TableState S) (before after : List Entry) (found : Entry) (given : Option ℕ)
       (has : HasFound old mid before (just_of found)) (fits : FitsEntry mid.graph mid.book.state.live found)
-      (kept : IsOneKept before after found given) {tells_one : Bool} {channel_one : S
-      → Channel} (one : RetiresOne tells_one channel_one mid new given) where
+      (kept : IsOneKept before after found given) (one : RetiresOne mid new given) where
     mid_fits : Fits mid before
     mid_fits = fits_mid old mid new before (just_of found) has given one
 
@@ -352,24 +349,24 @@ module _ {S : Type 0} {tells : Bool} {channel : S → Channel} (law : StepByStep
     has_kept : HasKept old new before after found
     has_kept = record { accounts = accounts_kept; right = right_new; unretired = λ id names. kept_unretired id (found, kept.kept, names) }
 
-pub accounting : {S : Type 0} {tells : Bool} {channel : S → Channel} → StepByStep tells channel → Fitting S → Accounting S
+pub accounting : {S : Type 0} → StepByStep S → Fitting S → Accounting S
 accounting law fitting = record {
   none = λ table entries error sound fits. accounts_same law fitting table entries entries error sound (HaveSame-itself entries) fits;
   same = accounts_same law fitting;
   further = accounts_further law fitting;
-  beside = λ tells one other old new before after others count error sound steps accounts fits apart whole.
-      fitting.beside old new before after others sound (sound_left tells one other old new error steps.leaves whole) steps.extends
+  beside = λ old new before after others count error sound steps accounts fits apart whole.
+      fitting.beside old new before after others sound (sound_left old new error steps.leaves whole) steps.extends
       accounts.retires (accounts.named whole) fits apart (accounts.fits whole);
   gives_none = gives_none;
   gives_further = λ old mid new just sound none first second. gives_further old mid new just sound none first.numbers.no_less
       (law.was_added mid new second);
   retires_further = retires_further;
-  failed = λ tells one other old new before count error sound fits steps retires.
+  failed = λ old new before count error sound fits steps retires.
       accounts_failed law fitting old new before sound fits steps.extends retires error
-      (sound_left tells one other old new error steps.leaves);
+      (sound_left old new error steps.leaves);
   found = λ old new before just has. fits_still law fitting old new before has.sound has.fits has.extends has.retires has.still;
-  kept = λ tells channel old mid new before after own given has fits kept one.
+  kept = λ old mid new before after own given has fits kept one.
       has_kept law fitting old mid new before after own given has fits kept one;
-  refused = λ tells channel old mid new before just given error has own one.
+  refused = λ old mid new before just given error has own one.
       accounts_refused law fitting old mid new before just has given one error own;
 }

@@ -1,7 +1,6 @@
 -- The additions over the levels: those of both sides, and two more.
-use Rattle.std.proofs.Common.{◌≡◌, ◌≤◌, ◌<◌, ◌+◌, ◌-◌, ℕ, zero, suc, Bool, true, Option, None, ap, subst, arith, length}
+use Rattle.std.proofs.Common.{◌≡◌, ◌≤◌, ◌<◌, ◌+◌, ◌-◌, ℕ, zero, suc, true, Option, None, ap, subst, arith, length}
 use Rattle.std.specs.Prelude.{min}
-use Rattle.host_io.specs.Channel.{Channel}
 use Rattle.node_table.specs.declared.error.TableError.{TableError}
 use Rattle.node_table.specs.declared.node.Node.{Node}
 use Rattle.node_table.specs.Diagram.{Graph, KeepsNodes, is_node, levels, level_of}
@@ -56,16 +55,16 @@ module _ (splits : Splitting) (growth : Growth) {S : Type 0} (old : TableState S
         (splits.fewer one.graph sound_one.tied.reduced o split_one o.u_low o.v_low
         (splits.u_low one.graph sound_one.tied.reduced o split_one) (splits.v_low one.graph sound_one.tied.reduced o split_one))
 
-  module _ {tells : Bool} {channel : S → Channel} (law : StepByStep tells channel) where
+  module _ (law : StepByStep S) where
     pub steps_high : (one : TableState S) (error : Option TableError)
-        → Steps tells (channel old.book.sink) (channel one.book.sink) old one
+        → Steps old one
         (most_additions (levels_from old.graph o.u_high o.v_high)) error
-        → Steps tells (channel old.book.sink) (channel one.book.sink) old one (most_additions (levels_from old.graph o.u o.v)) error
+        → Steps old one (most_additions (levels_from old.graph o.u o.v)) error
     steps_high one error steps =
-        law.at_most _ _ _ _ _ _ _ (most_more (levels_from old.graph o.u_high o.v_high) (levels_from old.graph o.u o.v)
+        law.at_most _ _ _ _ _ (most_more (levels_from old.graph o.u_high o.v_high) (levels_from old.graph o.u o.v)
         (omega (arith, high_falls))) steps
 
-    module _ (one : TableState S) (first : Steps tells (channel old.book.sink) (channel one.book.sink) old one
+    module _ (one : TableState S) (first : Steps old one
         (most_additions (levels_from old.graph o.u_high o.v_high)) None) where
       enough : most_additions (levels_from old.graph o.u_high o.v_high) + (most_additions (levels_from one.graph o.u_low o.v_low) + 2)
           ≤ most_additions (levels_from old.graph o.u o.v)
@@ -75,25 +74,25 @@ module _ (splits : Splitting) (growth : Growth) {S : Type 0} (old : TableState S
           (low_falls one first.leaves.sound first.extends.nodes)
 
       pub steps_low : (two : TableState S) (error : Option TableError)
-          → Steps tells (channel one.book.sink) (channel two.book.sink) one two
+          → Steps one two
           (most_additions (levels_from one.graph o.u_low o.v_low)) error
-          → Steps tells (channel old.book.sink) (channel two.book.sink) old two (most_additions (levels_from old.graph o.u o.v)) error
+          → Steps old two (most_additions (levels_from old.graph o.u o.v)) error
       steps_low two error second =
-          law.at_most _ _ _ _ _ _ _ (fewer_of _ _ _ enough) (law.further _ _ _ _ _ _ _ _ _ first second)
+          law.at_most _ _ _ _ _ (fewer_of _ _ _ enough) (law.further _ _ _ _ _ _ first second)
         where
           fewer_of : (a b c : ℕ) → a + (b + 2) ≤ c → a + b ≤ c
           fewer_of a b c h = omega arith
 
       pub steps_both : (two three : TableState S) (error : Option TableError)
-          → Steps tells (channel one.book.sink) (channel two.book.sink) one two
+          → Steps one two
           (most_additions (levels_from one.graph o.u_low o.v_low)) None
-          → Steps tells (channel two.book.sink) (channel three.book.sink) two three 2 error
-          → Steps tells (channel old.book.sink) (channel three.book.sink) old three (most_additions (levels_from old.graph o.u o.v)) error
+          → Steps two three 2 error
+          → Steps old three (most_additions (levels_from old.graph o.u o.v)) error
       steps_both two three error second third =
-          law.at_most _ _ _ _ _ _ _ enough (law.further _ _ _ _ _ _ _ _ _ first (law.further _ _ _ _ _ _ _ _ _ second third))
+          law.at_most _ _ _ _ _ enough (law.further _ _ _ _ _ _ first (law.further _ _ _ _ _ _ second third))
 
-pub budgeted : {S : Type 0} (tells : Bool) (channel : S → Channel) → Splitting → Growth → StepByStep tells channel → Budget tells channel
-budgeted tells channel splits growth law = record {
+pub budgeted : {S : Type 0} → Splitting → Growth → StepByStep S → Budget S
+budgeted splits growth law = record {
   high = λ old new o error sound split. steps_high splits growth old sound o split law new error;
   low = λ old one new o error sound split first. steps_low splits growth old sound o split law one first new error;
   both = λ old one two new o error sound split first. steps_both splits growth old sound o split law one first two new error;

@@ -7,7 +7,6 @@ use Rattle.std.specs.Map.{keys_of}
 use Rattle.std.proofs.lemmas.Bool.{cases_Bool}
 use Rattle.std.proofs.lemmas.List.{drop_all, drop-map, get_or-drop, get_or-map, length-drop, length-map}
 use Rattle.std.proofs.lemmas.List.Elements.{All-contains, All-from_recursion}
-use Rattle.host_io.specs.Channel.{Channel}
 use Rattle.node_table.specs.Laws.{StepByStep}
 use Rattle.node_table.specs.Table.{TableState, IsSound}
 use Rattle.op_cache.specs.Cache.{Cache, IsBounded, last_of, looked, without_last}
@@ -130,10 +129,9 @@ module _ {K V : Type 0} (eq : K → K → Bool) (law : TakesTurns K V eq) (entry
         behind_apart eq equal place before.entries last by.0 bounded.distinct (sym last_is ∙ is) by.1 (tells_keys.own by.0 last by.2)
 
 -- The table beside it.
-module _ {S : Type 0} {K V : Type 0} (eq : K → K → Bool) (equal : IsEquivalence eq) (law : TakesTurns K V eq) (tells : Bool) (channel : S
-    → Channel) (fitting : Fitting S) (purging : Purging S)
-    (one_by_one : PurgingTurns tells channel) (step_by_step : StepByStep tells channel) (entry_of : K × V → Entry) (marks : List Bool) where
-  table_begins : (old : TableState S) (cache : Cache K V) → IsSound old → HaveRetired entry_of marks tells channel old old cache 0
+module _ {S : Type 0} {K V : Type 0} (eq : K → K → Bool) (equal : IsEquivalence eq) (law : TakesTurns K V eq) (fitting : Fitting S) (purging : Purging S)
+    (one_by_one : PurgingTurns S) (step_by_step : StepByStep S) (entry_of : K × V → Entry) (marks : List Bool) where
+  table_begins : (old : TableState S) (cache : Cache K V) → IsSound old → HaveRetired entry_of marks old old cache 0
   table_begins old cache sound = record {
     rest = [];
     purged = subst (λ (es : List (K × V)). IsPurged old old marks (map entry_of es) [])
@@ -143,7 +141,7 @@ module _ {S : Type 0} {K V : Type 0} (eq : K → K → Bool) (equal : IsEquivale
   }
 
   table_ends : (old new : TableState S) (before after : Cache K V) → HadTurns entry_of marks before after (length before.entries)
-      → HaveRetired entry_of marks tells channel old new before (length before.entries)
+      → HaveRetired entry_of marks old new before (length before.entries)
       → IsPurged old new marks (listed entry_of before) (listed entry_of after)
   table_ends old new before after had have =
       let none : length before.entries - length before.entries ≡ 0 = omega arith in
@@ -154,7 +152,7 @@ module _ {S : Type 0} {K V : Type 0} (eq : K → K → Bool) (equal : IsEquivale
   module _ (old now : TableState S) (before middle : Cache K V) (turns : ℕ) (tells_keys : TellsKeys eq entry_of)
       (bounded : IsBounded eq before) (within : turns < length before.entries)
       (fits : Fits old (listed entry_of before)) (had : HadTurns entry_of marks before middle turns)
-      (have : HaveRetired entry_of marks tells channel old now before turns) where
+      (have : HaveRetired entry_of marks old now before turns) where
     abbrev behind : List Entry
     behind = map entry_of (drop (length before.entries - turns) before.entries)
 
@@ -170,15 +168,15 @@ module _ {S : Type 0} {K V : Type 0} (eq : K → K → Bool) (equal : IsEquivale
         (alone eq law entry_of marks before middle turns within had equal tells_keys bounded last is) have.purged
 
     table_turn : (new : TableState S) → ((last : K × V) → last_of middle.entries ≡ Some last
-        → RetiresTurn entry_of marks tells channel now new last)
-        → HaveRetired entry_of marks tells channel old new before (turns + 1)
+        → RetiresTurn entry_of marks now new last)
+        → HaveRetired entry_of marks old new before (turns + 1)
     table_turn new each =
         let there = there_last eq law entry_of marks before middle turns within had in
         let last = there.0 in
         let one = each last there.1 in
         let more = behind_more eq law entry_of marks before middle turns within had last there.1 in
         elim (cases_Bool (is_kept entry_of marks last)) [
-          | inl stays ↦ subst (λ (t : TableState S). HaveRetired entry_of marks tells channel old t before (turns + 1))
+          | inl stays ↦ subst (λ (t : TableState S). HaveRetired entry_of marks old t before (turns + 1))
               (sym (one.stays stays)) (record {
                 rest = entry_of last ∷ have.rest;
                 purged = subst (λ (l : List Entry). IsPurged old now marks l (entry_of last ∷ have.rest)) (sym more)
@@ -192,8 +190,7 @@ module _ {S : Type 0} {K V : Type 0} (eq : K → K → Bool) (equal : IsEquivale
                 purged = subst (λ (l : List Entry). IsPurged old new marks l have.rest) (sym more)
                     (one_by_one.goes old now new marks behind have.rest (entry_of last) gone.0 have.purged goes gone.1
                     (may last there.1) gone.2);
-                steps = step_by_step.further (channel old.book.sink) (channel now.book.sink)
-                    (channel new.book.sink) old now new 0 0 None have.steps gone.2.steps;
+                steps = step_by_step.further old now new 0 0 None have.steps gone.2.steps;
               }
         ]
 
@@ -206,15 +203,15 @@ cache_turns eq law = record {
 }
 
 pub table_turns : {S : Type 0} {K V : Type 0} (eq : K → K → Bool) → IsEquivalence eq → TakesTurns K V eq
-    → (tells : Bool) (channel : S → Channel) → Fitting S → Purging S
-    → PurgingTurns tells channel → StepByStep tells channel → TableTurns K V eq tells channel
-table_turns eq equal law tells channel fitting purging one_by_one step_by_step = record {
-  begins = table_begins eq equal law tells channel fitting purging one_by_one step_by_step;
+    → Fitting S → Purging S
+    → PurgingTurns S → StepByStep S → TableTurns S K V eq
+table_turns eq equal law fitting purging one_by_one step_by_step = record {
+  begins = table_begins eq equal law fitting purging one_by_one step_by_step;
   may = λ entry_of marks old now before middle turns last tells_keys bounded within fits had have is.
-      may eq equal law tells channel fitting purging one_by_one step_by_step entry_of marks old now before middle turns tells_keys bounded
+      may eq equal law fitting purging one_by_one step_by_step entry_of marks old now before middle turns tells_keys bounded
       within fits had have last is;
   turn = λ entry_of marks old now new before middle turns tells_keys bounded within fits had have each.
-      table_turn eq equal law tells channel fitting purging one_by_one step_by_step entry_of marks old now before middle turns tells_keys
+      table_turn eq equal law fitting purging one_by_one step_by_step entry_of marks old now before middle turns tells_keys
       bounded within fits had have new each;
-  ends = table_ends eq equal law tells channel fitting purging one_by_one step_by_step;
+  ends = table_ends eq equal law fitting purging one_by_one step_by_step;
 }

@@ -1,11 +1,10 @@
 -- The high clause is retired, behind the low one or where that was refused: what the additions retire, and what they give.
-use Rattle.std.proofs.Common.{◌≡◌, ◌≢◌, ◌+◌, ◌<◌, ◌≤◌, ℕ, ℤ, Bool, true, List, [], ◌∷◌, ◌++◌, None, Some, cond, is_some, Contains}
+use Rattle.std.proofs.Common.{◌≡◌, ◌≢◌, ◌+◌, ◌<◌, ◌≤◌, ℕ, ℤ, true, List, [], ◌∷◌, ◌++◌, None, Some, cond, is_some, Contains}
 use Rattle.std.proofs.Common.{slice_index_or, zero, suc, refl, sym, ap, ◌∙◌, subst, arith, inl, inr, eq-eqb}
 use Rattle.std.proofs.lemmas.Bool.{cases_eq}
 use Rattle.std.proofs.lemmas.List.Elements.{Contains-append_cases, Contains-append_right}
 use Rattle.std.specs.FinMap as finmap
 use Rattle.std.specs.Cmp.{nat_cmp_total, unsigned_tied}
-use Rattle.host_io.specs.Channel.{Channel}
 use Rattle.lrat_rules.specs.State.{State, clause_at}
 use Rattle.clause_ledger.specs.Book.{with_next}
 use Rattle.node_table.specs.declared.error.TableError.{TableError}
@@ -108,27 +107,27 @@ module _ {S : Type 0} (old one two : TableState S) (high : ℕ) (number : high �
         })
 
 -- a refused call whose table retires a clause then
-module _ {S : Type 0} {tells : Bool} {channel : S → Channel} (law : StepByStep tells channel) (one two new : TableState S) (high : ℕ)
+module _ {S : Type 0} (law : StepByStep S) (one two new : TableState S) (high : ℕ)
     (is : new ≡ with_retired two high)
-    (retiring : Steps tells (channel two.book.sink) (channel new.book.sink) two new 0 None) where
-  leaves_retired : (error : TableError) → error ≢ WriteFault → Leaves tells (channel one.book.sink) (channel two.book.sink) one two
+    (retiring : Steps two new 0 None) where
+  leaves_retired : (error : TableError) → error ≢ WriteFault → Leaves one two
       (Some error)
-      → Leaves tells (channel one.book.sink) (channel new.book.sink) one new (Some error)
+      → Leaves one new (Some error)
   leaves_retired NodeLimit other leaves = (
-    law.go_on _ _ _ one two new leaves.0 retiring.leaves,
+    law.go_on one two new leaves.0 retiring.leaves,
     subst (λ (t : TableState S). t.max_nodes ≤ live_nodes t.graph) (sym is) leaves.1,
   )
   leaves_retired IdLimit other leaves = (
-    law.go_on _ _ _ one two new leaves.0 retiring.leaves,
+    law.go_on one two new leaves.0 retiring.leaves,
     subst (λ (t : TableState S). t.book.limit < t.book.state.top
         + 4) (sym is) leaves.1,
   )
-  leaves_retired OutOfMemory other leaves = law.go_on _ _ _ one two new leaves retiring.leaves
+  leaves_retired OutOfMemory other leaves = law.go_on one two new leaves retiring.leaves
   leaves_retired WriteFault other leaves = absurd (other refl)
 
   steps_retired : (few : ℕ) (error : TableError) → error ≢ WriteFault
-      → Steps tells (channel one.book.sink) (channel two.book.sink) one two few (Some error)
-      → Steps tells (channel one.book.sink) (channel new.book.sink) one new few (Some error)
+      → Steps one two few (Some error)
+      → Steps one new few (Some error)
   steps_retired few error other steps = record {
     leaves = leaves_retired error other steps.leaves;
     extends = law.extend one two new steps.extends retiring.extends;
@@ -148,19 +147,19 @@ added_at old new id clause is =
 same_list : {S : Type 0} (one two : TableState S) → IsSame one two → two.retired ≡ one.retired
 same_list one two same = ap (λ t. t.retired) same
 
-pub high_clauses : {S : Type 0} (tells : Bool) (channel : S → Channel) → StepByStep tells channel → HighClauses tells channel
-high_clauses tells channel law = record {
+pub high_clauses : {S : Type 0} → StepByStep S → HighClauses S
+high_clauses law = record {
   none = gives_nothing;
   refused = gives_same;
   added = added_at;
   served = λ old one two new high low first second gone. (
-    law.further _ _ _ old one new 1 1 None first.steps (law.further _ _ _ one two new 1 0 None second.steps gone.steps),
+    law.further old one new 1 1 None first.steps (law.further one two new 1 0 None second.steps gone.steps),
     retires_new old one two high first.number first.retired second.retired new gone.is,
     gives_low old one two high first.number first.retired second.retired first.top low second.number second.top second.steps.leaves.sound
         second.own second.unretired new gone.is,
   );
   left = λ old one two new high error first second gone. (
-    law.further _ _ _ old one new 1 1 (Some error) first.steps
+    law.further old one new 1 1 (Some error) first.steps
         (steps_retired law one two new high gone.is gone.steps 1 error second.whole second.steps),
     retires_new old one two high first.number first.retired (same_list one two second.same) new gone.is,
     gives_none old one two high first.number first.retired (same_list one two second.same) first.top first.steps.leaves.sound second.same

@@ -1,9 +1,8 @@
 -- What operations found stays right as nodes and clauses are added, and so do the entries of their caches.
-use Rattle.std.proofs.Common.{◌≡◌, ◌<◌, ◌++◌, ◌⊎◌, ℕ, Bool, true, List, [], Option, Some, Contains, None, ℤ, is_some, sym, ap, ◌∙◌, subst}
+use Rattle.std.proofs.Common.{◌≡◌, ◌<◌, ◌++◌, ◌⊎◌, ℕ, true, List, [], Option, Some, Contains, None, ℤ, is_some, sym, ap, ◌∙◌, subst}
 use Rattle.std.proofs.Common.{arith, inl, inr, refl}
 use Rattle.std.specs.Prelude.{IsTrue, IsFalse}
 use Rattle.std.proofs.lemmas.List.Elements.{Contains-append_right, Contains-append_cases}
-use Rattle.host_io.specs.Channel.{Channel}
 use Rattle.lrat_rules.specs.State.{Live, clause_at}
 use Rattle.hint_chain.specs.declared.atom.Atom.{Atom}
 use Rattle.hint_chain.specs.Atoms.{clause_of, is_trivial}
@@ -78,7 +77,7 @@ module _ (given : (atoms : List Atom) → IsFalse (is_trivial atoms) → IsTrue 
   named_before old list fits entry there id names = named_live old.graph old.book.state.live entry (fits.each entry there) id names
 
   -- The entries of a table that grew.
-  module _ {S : Type 0} {tells : Bool} {channel : S → Channel} (law : StepByStep tells channel) (laws : Growth) (old new : TableState S)
+  module _ {S : Type 0} (law : StepByStep S) (laws : Growth) (old new : TableState S)
       (sound : IsSound old) (still : IsSound new) (extends : Extends old new) where
     one_kept : (entry : Entry) → FitsEntry old.graph old.book.state.live entry → FitsEntry new.graph new.book.state.live entry
     one_kept = entry_kept laws old.graph new.graph extends.nodes sound.tied.reduced old.book.state.live new.book.state.live extends.clauses
@@ -219,7 +218,7 @@ fits_settled old new entries nodes inputs none stay fits = record {
     in_none : (id : ℕ) → Contains [] id → ⊥
     in_none id there = absurd (omega (arith, there.1))
 
-pub fitting : {S : Type 0} {tells : Bool} {channel : S → Channel} → StepByStep tells channel → Growth
+pub fitting : {S : Type 0} → StepByStep S → Growth
     → ((atoms : List Atom) → IsFalse (is_trivial atoms) → IsTrue (is_some (clause_of atoms))) → Fitting S
 fitting law laws given = record {
   none = λ table. fits_none given table;

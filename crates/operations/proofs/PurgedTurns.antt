@@ -6,7 +6,6 @@ use Rattle.std.specs.List.{IsDistinct}
 use Rattle.std.proofs.lemmas.List.{append_assoc, get_or_append_left, get_or-append-add, length-append}
 use Rattle.std.proofs.lemmas.List.Elements.{Contains-append_left, Contains-append_right, Contains-append_cases}
 use Rattle.std.proofs.lemmas.Map.Keys.{apart_from_distinct}
-use Rattle.host_io.specs.Channel.{Channel}
 use Rattle.node_table.specs.Table.{TableState, IsAddedTo}
 use Rattle.operations.specs.Accounts.{RetiresOne}
 use Rattle.operations.specs.Entries.{Entry, Fits, IsClauseOf, Names, just_of}
@@ -55,9 +54,9 @@ module _ {S : Type 0} (old middle : TableState S) (marks : List Bool) (before af
     ];
   }
 
-  module _ {tells : Bool} {channel : S → Channel} (new : TableState S) (given : Option ℕ) (unmarked : are_marked marks entry
+  module _ (new : TableState S) (given : Option ℕ) (unmarked : are_marked marks entry
       ≡ false) (is : IsClauseOf (just_of entry) given) (free : MayRetire middle entry)
-      (one : RetiresOne tells channel middle new given) where
+      (one : RetiresOne middle new given) where
     abbrev more : List ℕ
     more = one.steps.extends.more
 
@@ -102,8 +101,8 @@ module _ {S : Type 0} (old middle : TableState S) (marks : List Bool) (before af
       once = λ _. distinct_new;
     }
 
-pub purging_turns : {S : Type 0} (tells : Bool) (channel : S → Channel) → PurgingTurns tells channel
-purging_turns tells channel = record {
+pub purging_turns : {S : Type 0} → PurgingTurns S
+purging_turns = record {
   stays = λ old new marks before after entry purged. stays old new marks before after entry purged;
   goes = λ old middle new marks before after entry given purged unmarked is free one.
       goes old middle marks before after entry purged new given unmarked is free one;

@@ -1,6 +1,5 @@
 -- Clauses as a call adds, gives, keeps and retires them, and what it leaves of its cache: no clause is lost.
-use Rattle.std.specs.Prelude.{◌≡◌, ◌≢◌, ◌≤◌, ◌<◌, ◌⊎◌, ◌++◌, ℕ, Bool, List, Option, None, Some, Result, Ok, Err, Contains}
-use Rattle.host_io.specs.Channel.{Channel}
+use Rattle.std.specs.Prelude.{◌≡◌, ◌≢◌, ◌≤◌, ◌<◌, ◌⊎◌, ◌++◌, ℕ, List, Option, None, Some, Result, Ok, Err, Contains}
 use Rattle.node_table.specs.declared.error.TableError.{TableError}
 use Rattle.node_table.specs.declared.error.TableError.TheVariants.{WriteFault}
 use Rattle.node_table.specs.declared.node.Node.{Node}
@@ -34,8 +33,8 @@ abbrev pub RetiresNew : {S : Type 0} → TableState S → TableState S → Type 
 RetiresNew old new = (id : ℕ) → Contains new.retired id → Contains old.retired id ⊎ (old.book.state.top < id)
 
 -- A clause is retired, if one is given, and nothing else.
-pub record RetiresOne {S : Type 0} (tells : Bool) (channel : S → Channel) (old new : TableState S) (given : Option ℕ) : Type 0 where
-  pub steps : Steps tells (channel old.book.sink) (channel new.book.sink) old new 0 None
+pub record RetiresOne {S : Type 0} (old new : TableState S) (given : Option ℕ) : Type 0 where
+  pub steps : Steps old new 0 None
   pub same : new ≡ record old { retired = new.retired }
   pub only : (id : ℕ) → Contains new.retired id → Contains old.retired id ⊎ (given ≡ Some id)
   pub retired : (id : ℕ) → given ≡ Some id → Contains new.retired id
@@ -93,9 +92,9 @@ pub record Accounting (S : Type 0) : Type 0 where
       → Extends mid new
       → AccountsFor old mid first second None → AccountsFor mid new second third error → AccountsFor old new first third error
   -- and the entries of other caches stand beside
-  pub beside : (tells : Bool) (one other : Channel) (old new : TableState S) (before after others : List Entry) (count : ℕ)
+  pub beside : (old new : TableState S) (before after others : List Entry) (count : ℕ)
       (error : Option TableError) → IsSound old
-      → Steps tells one other old new count error → AccountsFor old new before after error
+      → Steps old new count error → AccountsFor old new before after error
       → Fits old (before ++ others) → AreApart before others → IsWhole error → Fits new (after ++ others) × AreApart after others
   -- where no clause was added beside definitions, none is given, and what later additions give is given by both
   pub gives_none : (old new : TableState S) → IsSound old → AddsNone old new → GivesOne old new Trivial
@@ -104,19 +103,19 @@ pub record Accounting (S : Type 0) : Type 0 where
   pub retires_further : (old mid new : TableState S) → mid.retired ≡ old.retired → old.book.state.top ≤ mid.book.state.top
       → RetiresNew mid new → RetiresNew old new
   -- nothing was found
-  pub failed : (tells : Bool) (one other : Channel) (old new : TableState S) (before : List Entry) (count : ℕ) (error : Option TableError)
+  pub failed : (old new : TableState S) (before : List Entry) (count : ℕ) (error : Option TableError)
       → IsSound old → Fits old before
-      → Steps tells one other old new count error → RetiresNew old new → (IsWhole error → GivesOne old new Trivial)
+      → Steps old new count error → RetiresNew old new → (IsWhole error → GivesOne old new Trivial)
       → AccountsFor old new before before error
   -- it was found: what was kept before still fits
   pub found : (old new : TableState S) (before : List Entry) (just : Just) → HasFound old new before just → Fits new before
   -- and it is kept, and the clause that is handed back is retired
-  pub kept : (tells : Bool) (channel : S → Channel) (old mid new : TableState S) (before after : List Entry) (own : Entry)
+  pub kept : (old mid new : TableState S) (before after : List Entry) (own : Entry)
       (given : Option ℕ) → HasFound old mid before (just_of own)
-      → FitsEntry mid.graph mid.book.state.live own → IsOneKept before after own given → RetiresOne tells channel mid new given
+      → FitsEntry mid.graph mid.book.state.live own → IsOneKept before after own given → RetiresOne mid new given
       → HasKept old new before after own
   -- or it is refused memory, and its own clause is retired
-  pub refused : (tells : Bool) (channel : S → Channel) (old mid new : TableState S) (before : List Entry) (just : Just) (given : Option ℕ)
+  pub refused : (old mid new : TableState S) (before : List Entry) (just : Just) (given : Option ℕ)
       (error : Option TableError)
-      → HasFound old mid before just → IsClauseOf just given → RetiresOne tells channel mid new given
+      → HasFound old mid before just → IsClauseOf just given → RetiresOne mid new given
       → AccountsFor old new before before error

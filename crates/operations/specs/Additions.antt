@@ -1,10 +1,9 @@
 -- The two additions of a step, and the first of them, the high clause, which is retired once the second one is there, or
 -- where that is refused. (Bryant, Heule: Generating Extended Resolution Proofs with a BDD-Based SAT Solver, 2021, section
 -- 4.2.)
-use Rattle.std.specs.Prelude.{◌≡◌, ◌≢◌, ◌+◌, ◌<◌, ◌++◌, ℕ, ℤ, pos, neg_ℤ, nat_abs, Bool, true, List, [], ◌∷◌, None, Some, Contains, IsTrue}
+use Rattle.std.specs.Prelude.{◌≡◌, ◌≢◌, ◌+◌, ◌<◌, ◌++◌, ℕ, ℤ, pos, neg_ℤ, nat_abs, true, List, [], ◌∷◌, None, Some, Contains, IsTrue}
 use Rattle.std.specs.Ordering.{int_eq}
 use Rattle.std.specs.List.{list_any}
-use Rattle.host_io.specs.Channel.{Channel}
 use Rattle.lrat_rules.specs.State.{State, clause_at}
 use Rattle.clause_ledger.specs.Book.{with_next}
 use Rattle.hint_chain.specs.declared.atom.Atom.{Atom}
@@ -24,8 +23,8 @@ use Rattle.operations.specs.Operands.{IsInner}
 use Rattle.operations.specs.Accounts.{GivesOne, RetiresNew}
 
 -- A clause was added, and nothing else; it isn't retired.
-pub record IsAdded {S : Type 0} (tells : Bool) (channel : S → Channel) (old new : TableState S) (id : ℕ) : Type 0 where
-  pub steps : Steps tells (channel old.book.sink) (channel new.book.sink) old new 1 None
+pub record IsAdded {S : Type 0} (old new : TableState S) (id : ℕ) : Type 0 where
+  pub steps : Steps old new 1 None
   pub number : id ≡ old.book.state.top + 1
   pub top : new.book.state.top ≡ id
   pub own : IsAddedTo new id
@@ -33,28 +32,28 @@ pub record IsAdded {S : Type 0} (tells : Bool) (channel : S → Channel) (old ne
   pub unretired : Contains new.retired id → ⊥
 
 -- the high clause is retired
-pub record RetiresHigh {S : Type 0} (tells : Bool) (channel : S → Channel) (old new : TableState S) (high : ℕ) : Type 0 where
-  pub steps : Steps tells (channel old.book.sink) (channel new.book.sink) old new 0 None
+pub record RetiresHigh {S : Type 0} (old new : TableState S) (high : ℕ) : Type 0 where
+  pub steps : Steps old new 0 None
   pub is : new ≡ record old { retired = old.retired ++ high ∷ [] }
 
 -- the low clause was refused, and no write failed
-pub record IsRefused {S : Type 0} (tells : Bool) (channel : S → Channel) (old new : TableState S) (error : TableError) : Type 0 where
-  pub steps : Steps tells (channel old.book.sink) (channel new.book.sink) old new 1 (Some error)
+pub record IsRefused {S : Type 0} (old new : TableState S) (error : TableError) : Type 0 where
+  pub steps : Steps old new 1 (Some error)
   pub whole : error ≢ WriteFault
   pub same : IsSame old new
 
 -- What the two additions leave, once the high clause is retired: of the clauses that were added, only the low one is given.
-pub record HighClauses {S : Type 0} (tells : Bool) (channel : S → Channel) : Type 0 where
+pub record HighClauses (S : Type 0) : Type 0 where
   pub none : (table : TableState S) → IsSound table → GivesOne table table Trivial
   pub added : (old new : State) (id : ℕ) (clause : List ℤ) → (id ≡ old.top + 1) × (new ≡ with_next old clause) → clause_at new.live id
       ≡ Some clause
   pub refused : (old new : TableState S) → IsSound old → IsSame old new → GivesOne old new Trivial
-  pub served : (old one two new : TableState S) (high low : ℕ) → IsAdded tells channel old one high → IsAdded tells channel one two low
-      → RetiresHigh tells channel two new high
-      → Steps tells (channel old.book.sink) (channel new.book.sink) old new 2 None × RetiresNew old new × GivesOne old new (Clause low)
-  pub left : (old one two new : TableState S) (high : ℕ) (error : TableError) → IsAdded tells channel old one high
-      → IsRefused tells channel one two error → RetiresHigh tells channel two new high
-      → Steps tells (channel old.book.sink) (channel new.book.sink) old new 2 (Some error) × RetiresNew old new × GivesOne old new Trivial
+  pub served : (old one two new : TableState S) (high low : ℕ) → IsAdded old one high → IsAdded one two low
+      → RetiresHigh two new high
+      → Steps old new 2 None × RetiresNew old new × GivesOne old new (Clause low)
+  pub left : (old one two new : TableState S) (high : ℕ) (error : TableError) → IsAdded old one high
+      → IsRefused one two error → RetiresHigh two new high
+      → Steps old new 2 (Some error) × RetiresNew old new × GivesOne old new Trivial
 
 -- each literal of the clause is that of a node, or its negation
 abbrev pub AreOwned : Graph → List ℤ → Type 0

@@ -1,7 +1,6 @@
 -- How calls end: a table is sound unless a write failed, a part that is missing is one of the whole function, and the result
 -- reaches what both sides made.
 use Rattle.std.proofs.Common.{◌≡◌, ℕ, true, Bool, Option, None, Some, refl, subst}
-use Rattle.host_io.specs.Channel.{Channel}
 use Rattle.node_table.specs.declared.error.TableError.{TableError}
 use Rattle.node_table.specs.declared.error.TableError.TheVariants.{NodeLimit, IdLimit, OutOfMemory, WriteFault}
 use Rattle.node_table.specs.declared.node.Node.{Node}
@@ -14,13 +13,13 @@ use Rattle.node_table.specs.Value.{Levels, IsSubfunction}
 use Rattle.operations.specs.Accounts.{IsWhole}
 
 -- a table is sound, unless a write failed
-pub sound_left : {S : Type 0} (tells : Bool) (before after : Channel) (old new : TableState S) (error : Option TableError)
-    → Leaves tells before after old new error → IsWhole error → IsSound new
-sound_left tells before after old new None leaves whole = leaves.sound
-sound_left tells before after old new (Some NodeLimit) leaves whole = leaves.0.sound
-sound_left tells before after old new (Some IdLimit) leaves whole = leaves.0.sound
-sound_left tells before after old new (Some OutOfMemory) leaves whole = leaves.sound
-sound_left tells before after old new (Some WriteFault) leaves whole = absurd (whole refl)
+pub sound_left : {S : Type 0} (old new : TableState S) (error : Option TableError)
+    → Leaves old new error → IsWhole error → IsSound new
+sound_left old new None leaves whole = leaves.sound
+sound_left old new (Some NodeLimit) leaves whole = leaves.0.sound
+sound_left old new (Some IdLimit) leaves whole = leaves.0.sound
+sound_left old new (Some OutOfMemory) leaves whole = leaves.sound
+sound_left old new (Some WriteFault) leaves whole = absurd (whole refl)
 
 -- what lacks a part of a part
 pub lacks_for : Subfunctions → (graph : Graph) (f g : Levels → Bool) → IsSubfunction f g → LacksPart graph g → LacksPart graph f

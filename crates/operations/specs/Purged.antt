@@ -2,7 +2,6 @@
 -- retired. What is left fits the table without those nodes.
 use Rattle.std.specs.Prelude.{◌≡◌, ◌∷◌, ◌++◌, ◌&&◌, ℕ, ℤ, Bool, true, false, List, Option, Some, Contains, nat_eq}
 use Rattle.std.specs.List.{IsDistinct, filter}
-use Rattle.host_io.specs.Channel.{Channel}
 use Rattle.lrat_rules.specs.State.{Live, clause_at}
 use Rattle.node_table.specs.declared.node.Just.TheVariants.{Trivial}
 use Rattle.node_table.specs.Deleted.{IsClear}
@@ -74,7 +73,7 @@ pub record MayRetire {S : Type 0} (table : TableState S) (entry : Entry) : Type 
   pub unretired : (id : ℕ) → Names entry id → Contains table.retired id → ⊥
 
 -- Purging entry by entry, the last one first.
-pub record PurgingTurns {S : Type 0} (tells : Bool) (channel : S → Channel) : Type 0 where
+pub record PurgingTurns (S : Type 0) : Type 0 where
   -- the entry before those that were looked at stays,
   pub stays : (old new : TableState S) (marks : List Bool) (before after : List Entry) (entry : Entry) → IsPurged old new marks before after
       → are_marked marks entry ≡ true
@@ -82,7 +81,7 @@ pub record PurgingTurns {S : Type 0} (tells : Bool) (channel : S → Channel) : 
   -- or it goes, and its clause is retired
   pub goes : (old middle new : TableState S) (marks : List Bool) (before after : List Entry) (entry : Entry) (given : Option ℕ)
       → IsPurged old middle marks before after → are_marked marks entry ≡ false
-      → IsClauseOf (just_of entry) given → MayRetire middle entry → RetiresOne tells channel middle new given
+      → IsClauseOf (just_of entry) given → MayRetire middle entry → RetiresOne middle new given
       → IsPurged old new marks (entry ∷ before) after
   -- as it may be, since no other entry names it
   pub may : (old middle : TableState S) (marks : List Bool) (before after : List Entry) (entry : Entry) → Fits old (entry ∷ before)

@@ -44,7 +44,7 @@ pub fn purge_law<S: Sink + Drop>()
 
 /// Purging entry by entry, the last one first.
 pub fn purge_turn_law<S: Sink + Drop>()
-    ensures { PurgingTurns S.tells S.channel }
+    ensures { PurgingTurns S }
 {}
 
 /// A bounded cache that is purged by turns of its last entry,
@@ -56,7 +56,7 @@ pub fn cache_turn_law<K: Eq + Hash + Copy, V: Copy>()
 
 /// and the table, where the clauses of the entries that go are retired.
 pub fn table_turn_law<S: Sink + Drop, K: Eq + Hash + Copy, V: Copy>()
-    ensures { TableTurns K V K.eq S.tells S.channel }
+    ensures { TableTurns S K V K.eq }
 {
     entry_law::<S>();
     purge_law::<S>();
@@ -94,7 +94,7 @@ pub fn price_law<S: Sink + Drop, V: Copy>()
 
 /// How many clauses a call adds over its levels, from what its sides do.
 pub fn budget_law<S: Sink + Drop>()
-    ensures { Budget S.tells S.channel }
+    ensures { Budget S }
 {
     operand_law();
     growth_law();
@@ -103,7 +103,7 @@ pub fn budget_law<S: Sink + Drop>()
 
 /// What the two additions of a step leave, of which the first one is retired.
 pub fn high_clause_law<S: Sink + Drop>()
-    ensures { HighClauses S.tells S.channel }
+    ensures { HighClauses S }
 {
     steps_law::<S>();
 }

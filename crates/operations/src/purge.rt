@@ -22,6 +22,5 @@ pub trait Purge {
         requires fits { Fits table.old (entries self.old) }
         ensures purged { IsPurged table.old table.new marks.now (entries self.old) (entries self.new) }
         ensures sizes { sizes self.new ≡ sizes self.old }
-        ensures steps { Steps S.tells (S.channel table.old.book.sink) (S.channel table.new.book.sink) table.old table.new 0 None }
-        ensures beside { S.beside table.new.book.sink ≡ S.beside table.old.book.sink };
+        ensures steps { Steps table.old table.new 0 None };
 }

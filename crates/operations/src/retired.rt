@@ -13,8 +13,7 @@ pub fn retire<S: Sink + Drop>(table: &mut Table<S>, clause: Option<Id>)
     requires sound { IsSound table.old }
     requires own { (id : ℕ) → clause ≡ Some id → IsAddedTo table.old id }
     requires unretired { (id : ℕ) → clause ≡ Some id → Contains table.old.retired id → ⊥ }
-    ensures one { RetiresOne S.tells S.channel table.old table.new clause }
-    ensures beside { S.beside table.new.book.sink ≡ S.beside table.old.book.sink }
+    ensures { RetiresOne table.old table.new clause }
 {
     steps_law::<S>();
     if let Some(id) = clause {

@@ -1,5 +1,5 @@
 // What no clause of the ledger shows: that calls succeed where there is memory, the bytes of a proof, and its errors.
-ghost use Rattle.std.specs.Prelude.{◌≡◌, ◌≢◌, ◌<◌, ◌≤◌, ◌+◌, pos, negsuc, [], ◌∷◌, length, true, None, Some, IfOk, IfErr, OnOk, IsTrue};
+ghost use Rattle.std.specs.Prelude.{◌≡◌, ◌≢◌, ◌<◌, ◌≤◌, ◌+◌, pos, negsuc, [], ◌∷◌, length, true, false, None, Some, IfOk, IfErr, OnOk, IsTrue};
 ghost use Rattle.std.specs.Prelude.{is_some};
 ghost use Rattle.std.specs.Option.{option_copied};
 ghost use Rattle.cnf_base.specs.ProofText.{max_id};
@@ -24,9 +24,7 @@ struct FailingSink {
 }
 
 impl FailingSink {
-    fn new(alloc: Global, calls: usize) -> Self
-        ensures { result.bytes.items ≡ [] }
-    {
+    fn new(alloc: Global, calls: usize) -> Self {
         FailingSink {
             calls,
             bytes: Vec::new(alloc),
@@ -97,12 +95,15 @@ fn open<S: Sink + Drop>(
     max_ids: u64,
 ) -> Result<Ledger<S>, OutOfMemory>
     requires limit { max_ids ≤ max_id }
-    requires fresh { IsTrue S.tells → (S.channel sink).written ≡ [] }
     ensures { IfOk result (λ ledger. ledger ≡ record {
       sink = sink;
+      origin = sink;
+      formula = formula.now.clauses;
+      steps = [];
       state = start formula.now.clauses;
       limit = max_ids;
       in_step = true;
+      finished = false;
       keeps = true;
       spare = ledger.spare;
     }) }
@@ -123,6 +124,7 @@ fn open_on_empty_clause(
     ensures state { IfOk result (λ ledger. ledger.state ≡ start ([] ∷ [])) }
     ensures one { IfOk result (λ ledger. clause_at ledger.state.live 1 ≡ Some []) }
     ensures in_step { IfOk result (λ ledger. IsTrue ledger.in_step) }
+    ensures formula { IfOk result (λ ledger. ledger.formula ≡ [] ∷ []) }
 {
     start_law();
     let formula = empty_clause(alloc)?;
@@ -204,9 +206,7 @@ const REFUTED: &str = "\
 4;None";
 
 // The same, with the clauses by their numbers before and after.
-fn expect_refuted<S: Sink + Drop>(rt: &impl Abort, alloc: Global, sink: S) -> Result<(), Fail>
-    requires { IsTrue S.tells → (S.channel sink).written ≡ [] }
-{
+fn expect_refuted<S: Sink + Drop>(rt: &impl Abort, alloc: Global, sink: S) -> Result<(), Fail> {
     let formula = opposite_units(alloc)?;
     let mut ledger = open(alloc, &formula, sink, 4)?;
     expect_counts(rt, alloc, &ledger, "2 2 true")?;
@@ -431,7 +431,8 @@ fn add_by_conflict<S: Sink + Drop>(
     clause: &[Lit],
 ) -> Result<Id, LedgerError>
     requires { IsTrue ledger.old.in_step }
-    ensures { OnOk result (IsTrue ledger.new.in_step) }
+    ensures in_step { OnOk result (IsTrue ledger.new.in_step) }
+    ensures formula { OnOk result (ledger.new.formula ≡ ledger.old.formula) }
 {
     conflict_law();
     let conflict = matches!(kept_clause(rt, ledger, 1), Some([]));
@@ -439,17 +440,19 @@ fn add_by_conflict<S: Sink + Drop>(
     ledger.add(clause, &[Id(1)])
 }
 
-// Deletes a clause that is live.
+// Deletes a clause that is live and isn't the formula's.
 fn delete_live<S: Sink + Drop>(
     rt: &impl Abort,
     ledger: &mut Ledger<S>,
     id: u64,
 ) -> Result<(), LedgerError>
-    requires { IsTrue ledger.old.in_step }
-    ensures { OnOk result (IsTrue ledger.new.in_step) }
+    requires in_step { IsTrue ledger.old.in_step }
+    requires formula { ledger.old.formula ≡ [] ∷ [] }
+    ensures in_step { OnOk result (IsTrue ledger.new.in_step) }
+    ensures formula { OnOk result (ledger.new.formula ≡ [] ∷ []) }
 {
     let live = kept_clause(rt, ledger, id).is_some();
-    assert!(rt; live && id > 0);
+    assert!(rt; live && id > 1);
     ledger.delete(&[Id(id)])
 }
 
@@ -462,8 +465,8 @@ fn delete_both<S: Sink + Drop>(
     requires in_step { IsTrue ledger.old.in_step }
     requires first { IsTrue (is_some (clause_at ledger.old.state.live first)) }
     requires second { IsTrue (is_some (clause_at ledger.old.state.live second)) }
-    requires order { (0 < first) × (first < second) }
-    ensures { OnOk result (IsTrue ledger.new.in_step) }
+    requires order { (1 < first) × (first < second) }
+    requires formula { ledger.old.formula ≡ [] ∷ [] }
 {
     ledger.delete(&[Id(first), Id(second)])
 }
@@ -488,7 +491,8 @@ fn expect_deletions<S: Sink + Drop>(
     ledger: &mut Ledger<S>,
     literals: &[Lit],
 ) -> Result<(), Fail>
-    requires { IsTrue ledger.old.in_step }
+    requires in_step { IsTrue ledger.old.in_step }
+    requires formula { ledger.old.formula ≡ [] ∷ [] }
 {
     assert_eq!(rt; literals.len(), 5);
     add_by_conflict(rt, ledger, &literals[..1])?;
@@ -522,8 +526,10 @@ fn add_seventy<S: Sink + Drop>(
     ledger: &mut Ledger<S>,
     literals: &[Lit],
 ) -> Result<(), Fail>
-    requires { IsTrue ledger.old.in_step }
-    ensures { OnOk result (IsTrue ledger.new.in_step) }
+    requires in_step { IsTrue ledger.old.in_step }
+    requires formula { ledger.old.formula ≡ [] ∷ [] }
+    ensures in_step { OnOk result (IsTrue ledger.new.in_step) }
+    ensures formula { OnOk result (ledger.new.formula ≡ [] ∷ []) }
 {
     assert_eq!(rt; literals.len(), 5);
     for i in 0..70usize {
@@ -534,8 +540,10 @@ fn add_seventy<S: Sink + Drop>(
 
 // Deletes the clauses from 2 to 71, each by a line.
 fn delete_seventy<S: Sink + Drop>(rt: &impl Abort, ledger: &mut Ledger<S>) -> Result<(), Fail>
-    requires { IsTrue ledger.old.in_step }
-    ensures { OnOk result (IsTrue ledger.new.in_step) }
+    requires in_step { IsTrue ledger.old.in_step }
+    requires formula { ledger.old.formula ≡ [] ∷ [] }
+    ensures in_step { OnOk result (IsTrue ledger.new.in_step) }
+    ensures formula { OnOk result (ledger.new.formula ≡ [] ∷ []) }
 {
     for id in 2..72u64 {
         delete_live(rt, ledger, id)?;
@@ -588,7 +596,8 @@ fn add_and_delete<S: Sink + Drop>(
     alloc: Global,
     ledger: &mut Ledger<S>,
 ) -> Result<String, Fail>
-    requires { IsTrue ledger.old.in_step }
+    requires in_step { IsTrue ledger.old.in_step }
+    requires formula { ledger.old.formula ≡ [] ∷ [] }
 {
     add_by_conflict(rt, ledger, &[])?;
     let deleted = delete_live(rt, ledger, 2);

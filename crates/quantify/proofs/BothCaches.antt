@@ -1,8 +1,6 @@
 -- The entries of both caches as one list: they name no clause, and a disjunction changes one part of it.
 use Rattle.std.proofs.Common.{◌≡◌, ℕ, Bool, List, refl, subst, sym}
 use Rattle.std.proofs.lemmas.List.Elements.{Contains-append_left, Contains-append_right}
-use Rattle.host_io.specs.Channel.{Channel}
-use Rattle.host_io.specs.Beside.{Beside}
 use Rattle.node_table.specs.Table.{TableState, IsSound}
 use Rattle.node_table.specs.Value.{Levels}
 use Rattle.operations.specs.Entries.{Entry, Fits, FitsEntry, Fitting, HaveSame, Quantification}
@@ -50,22 +48,21 @@ module _ {S : Type 0} (fitting : Fitting S) (table : TableState S) (cache : Exis
       (fitting.fewer table (quantifications after) (quantifications cache) same.back exists_part) ors_part
 
 -- a call of a disjunction, with the entries of quantifications beside those of its own
-pub runs_beside : {S : Type 0} {tells : Bool} {channel : S → Channel} {lent : S → Beside} → Fitting S → (old : TableState S) → IsSound old
+pub runs_beside : {S : Type 0} → Fitting S → (old : TableState S) → IsSound old
     → (cache : ExistsCache) (ors : OrCache) → Fits old (both_caches cache ors)
     → (function : Levels → Bool) (new : TableState S) (ors_after : OrCache) (result : Answer)
-    → Runs tells channel lent old (disjunctions ors) function new (disjunctions ors_after) result
-    → Runs tells channel lent old (both_caches cache ors) function new (both_caches cache ors_after) result
+    → Runs old (disjunctions ors) function new (disjunctions ors_after) result
+    → Runs old (both_caches cache ors) function new (both_caches cache ors_after) result
 runs_beside fitting old sound cache ors fits function new ors_after result runs = record {
   steps = runs.steps;
   retired = runs.retired;
   none_added = runs.none_added;
   fits = λ whole.
       fits_beside new (quantifications cache) (disjunctions ors_after) (quantifications_unnamed cache)
-      (fits_still fitting old new sound (sound_after _ _ _ old new result runs.steps.leaves whole) runs.steps.extends runs.retired
+      (fits_still fitting old new sound (sound_after old new result runs.steps.leaves whole) runs.steps.extends runs.retired
       (quantifications cache) (exists_part fitting old cache ors fits)) (runs.fits whole);
   made = runs.made;
   lacks = runs.lacks;
-  beside = runs.beside;
 }
 
 -- what holds of entries holds of those that a cache came back with

@@ -1,8 +1,6 @@
 -- A quantification that is split: its sides may be called and closed, and however they end, the call has ended.
 use Rattle.std.proofs.Common.{◌≡◌, ℕ, Bool, List, Result, Ok, Err, refl, ◌∙◌, arith, subst, sym}
 use Rattle.std.specs.Prelude.{IfOk, IsErrAnd}
-use Rattle.host_io.specs.Channel.{Channel}
-use Rattle.host_io.specs.Beside.{Beside}
 use Rattle.node_table.specs.declared.error.TableError.{TableError}
 use Rattle.node_table.specs.declared.error.TableError.TheVariants.{OutOfMemory}
 use Rattle.node_table.specs.declared.node.Node.{Node}
@@ -61,31 +59,31 @@ both_same caches = record {
   lent = lent_same caches;
 }
 
-module _ {S : Type 0} (tells : Bool) (channel : S → Channel) (lent : S → Beside) where
+module _ {S : Type 0} where
   -- a whole call, as the machine sees it
   abbrev pub Ends : TableState S → BothCaches → Node → ℕ → TableState S → BothCaches → Answer → Type 0
-  Ends old before u level new after result = Quantifies tells channel lent old before.exists.now before.ors.now u level new after.exists.now
+  Ends old before u level new after result = Quantifies old before.exists.now before.ors.now u level new after.exists.now
       after.ors.now result × AreLent before after
 
   abbrev pub RunsWith : TableState S → BothCaches → (Levels → Bool) → TableState S → BothCaches → Answer → Type 0
-  RunsWith old before function new after result = Runs tells channel lent old (both_caches before.exists.now before.ors.now) function new
+  RunsWith old before function new after result = Runs old (both_caches before.exists.now before.ors.now) function new
       (both_caches after.exists.now after.ors.now) result
 
-module _ {S : Type 0} {tells : Bool} {channel : S → Channel} {lent : S → Beside} where
+module _ {S : Type 0} where
   both_of : (old : TableState S) (before : BothCaches) (u : Node) (level : ℕ) (new : TableState S) (after : BothCaches) (result : Answer)
-      → Ends tells channel lent old before u level new after result → RemembersBoth before after
+      → Ends old before u level new after result → RemembersBoth before after
   both_of old before u level new after result ends = record { exists = ends.0.remembers; ors = ends.0.remembers_ors; lent = ends.1 }
 
-  module _ (law : StepByStep tells channel) (exists_keeping : Keeping Question Node same_question)
+  module _ (law : StepByStep S) (exists_keeping : Keeping Question Node same_question)
       (or_keeping : Keeping Pair Node same_pair) (laws : Cofactors) (growth : Growth) (fitting : Fitting S) (parts : Subfunctions)
       (paths : Reachability)
       (old : TableState S) (before : BothCaches) (sound : IsSound old) (fits : Fits old (both_caches before.exists.now before.ors.now))
       (p : Above) (above : IsAbove old.graph p) (missed : IsMissed before.exists.now p.node p.level) where
     -- the call failed
     failed : (new : TableState S) (after : BothCaches) (came : TableError)
-        → RunsWith tells channel lent old before (quantification_of old.graph p.node p.level) new after (Err came)
+        → RunsWith old before (quantification_of old.graph p.node p.level) new after (Err came)
         → RemembersBoth before after
-        → Ends tells channel lent old before p.node p.level new after (Err came)
+        → Ends old before p.node p.level new after (Err came)
     failed new after came runs both = (
       record {
         runs = runs;
@@ -101,7 +99,7 @@ module _ {S : Type 0} {tells : Bool} {channel : S → Channel} {lent : S → Bes
     )
 
     module _ (one : TableState S) (caches_one : BothCaches) (high : Node)
-        (by_high : Ends tells channel lent old before p.high p.level one caches_one (Ok high)) where
+        (by_high : Ends old before p.high p.level one caches_one (Ok high)) where
       sound_one : IsSound one
       sound_one = by_high.0.runs.steps.leaves.sound
 
@@ -111,7 +109,7 @@ module _ {S : Type 0} {tells : Bool} {channel : S → Channel} {lent : S → Bes
       both_one : RemembersBoth before caches_one
       both_one = both_of old before p.high p.level one caches_one (Ok high) by_high
 
-      runs_one : RunsWith tells channel lent old before (quantification_of old.graph p.node p.level) one caches_one (Ok high)
+      runs_one : RunsWith old before (quantification_of old.graph p.node p.level) one caches_one (Ok high)
       runs_one =
           runs_part law parts old (both_caches before.exists.now before.ors.now) (quantification_of old.graph p.node p.level) one
           (both_caches caches_one.exists.now caches_one.ors.now) (Ok high)
@@ -126,8 +124,8 @@ module _ {S : Type 0} {tells : Bool} {channel : S → Channel} {lent : S → Bes
 
       -- what the low side adds to the high one, however it ends
       runs_low : (two : TableState S) (caches_two : BothCaches) (by : Answer)
-          → RunsWith tells channel lent one caches_one (quantification_of one.graph p.low p.level) two caches_two by
-          → RunsWith tells channel lent old before (quantification_of old.graph p.node p.level) two caches_two by
+          → RunsWith one caches_one (quantification_of one.graph p.low p.level) two caches_two by
+          → RunsWith old before (quantification_of old.graph p.node p.level) two caches_two by
       runs_low two caches_two by runs =
           runs_further law parts old (both_caches before.exists.now before.ors.now) (quantification_of old.graph p.node p.level) two
           (both_caches caches_two.exists.now caches_two.ors.now) by
@@ -137,14 +135,14 @@ module _ {S : Type 0} {tells : Bool} {channel : S → Channel} {lent : S → Bes
           (quantification_of one.graph p.low p.level) low_is_part runs)
 
       low_failed : (two : TableState S) (caches_two : BothCaches) (came : TableError)
-          → RunsWith tells channel lent one caches_one (quantification_of one.graph p.low p.level) two caches_two (Err came)
+          → RunsWith one caches_one (quantification_of one.graph p.low p.level) two caches_two (Err came)
           → RemembersBoth caches_one caches_two
-          → Ends tells channel lent old before p.node p.level two caches_two (Err came)
+          → Ends old before p.node p.level two caches_two (Err came)
       low_failed two caches_two came runs both = failed two caches_two came (runs_low two caches_two (Err came) runs)
           (both_further exists_keeping or_keeping before caches_one caches_two both_one both)
 
       module _ (two : TableState S) (caches_two : BothCaches) (low : Node)
-          (by_low : Ends tells channel lent one caches_one p.low p.level two caches_two (Ok low)) where
+          (by_low : Ends one caches_one p.low p.level two caches_two (Ok low)) where
         on_high : Quantified two.graph p.high p.level high
         on_high =
             quantified_kept fitting one two sound_one by_low.0.runs.steps.extends p.high p.level high
@@ -164,7 +162,7 @@ module _ {S : Type 0} {tells : Bool} {channel : S → Channel} {lent : S → Bes
         -- the step that closes the call
         module _ (three : TableState S) (caches_three : BothCaches) where
           reached : (result : Answer)
-              → Closes tells channel lent two caches_two.exists.now caches_two.ors.now p high low three caches_three.exists.now
+              → Closes two caches_two.exists.now caches_two.ors.now p high low three caches_three.exists.now
               caches_three.ors.now result → IfOk result (λ w. ReachesNew old.graph three.graph w)
           reached (Err came) closes = tt
           reached (Ok w) closes =
@@ -174,15 +172,15 @@ module _ {S : Type 0} {tells : Bool} {channel : S → Channel} {lent : S → Bes
               closes.reachable closes.children
 
           closed : (result : Answer)
-              → Closes tells channel lent two caches_two.exists.now caches_two.ors.now p high low three caches_three.exists.now
+              → Closes two caches_two.exists.now caches_two.ors.now p high low three caches_three.exists.now
               caches_three.ors.now result × AreLent caches_two caches_three
-              → Ends tells channel lent old before p.node p.level three caches_three result
+              → Ends old before p.node p.level three caches_three result
           closed result (closes, same) = (
             record {
               runs = runs_further law parts old (both_caches before.exists.now before.ors.now)
                   (quantification_of old.graph p.node p.level) three (both_caches caches_three.exists.now caches_three.ors.now) result
                   two (both_caches caches_two.exists.now caches_two.ors.now) low (runs_low two caches_two (Ok low) by_low.0.runs)
-                  (subst (λ (f : Levels → Bool). RunsWith tells channel lent two caches_two f three caches_three result) asked_two
+                  (subst (λ (f : Levels → Bool). RunsWith two caches_two f three caches_three result) asked_two
                   closes.runs);
               remembers = exists_keeping.makes_room quantification before.exists.now.results caches_two.exists.now.results
                   caches_three.exists.now.results (p.node, p.level) missed both_two.exists closes.room;
@@ -197,8 +195,8 @@ module _ {S : Type 0} {tells : Bool} {channel : S → Channel} {lent : S → Bes
           )
 
       low_came : (two : TableState S) (caches_two : BothCaches) (result : Answer)
-          → Ends tells channel lent one caches_one p.low p.level two caches_two result
-          → LowCame (quantifying tells channel lent) (Ends tells channel lent old before p.node p.level) p high two caches_two result
+          → Ends one caches_one p.low p.level two caches_two result
+          → LowCame (quantifying) (Ends old before p.node p.level) p high two caches_two result
       low_came two caches_two (Err came) by_low = low_failed two caches_two came by_low.0.runs
           (both_of one caches_one p.low p.level two caches_two (Err came) by_low)
       low_came two caches_two (Ok low) by_low = record {
@@ -212,7 +210,7 @@ module _ {S : Type 0} {tells : Bool} {channel : S → Channel} {lent : S → Bes
         closes = closed two caches_two low by_low;
       }
 
-      awaits_low : AwaitsLow (quantifying tells channel lent) (Ends tells channel lent old before p.node p.level) one caches_one p high
+      awaits_low : AwaitsLow (quantifying) (Ends old before p.node p.level) one caches_one p high
           (p.low, p.level)
       awaits_low =
           let child = low_child_below laws one.graph sound_one.tied.reduced p above_one in record {
@@ -227,8 +225,8 @@ module _ {S : Type 0} {tells : Bool} {channel : S → Channel} {lent : S → Bes
           }
 
     high_came : (one : TableState S) (caches_one : BothCaches) (result : Answer)
-        → Ends tells channel lent old before p.high p.level one caches_one result
-        → HighCame (quantifying tells channel lent) (Ends tells channel lent old before p.node p.level) p one caches_one result
+        → Ends old before p.high p.level one caches_one result
+        → HighCame (quantifying) (Ends old before p.node p.level) p one caches_one result
     high_came one caches_one (Err came) by_high =
         failed one caches_one came
         (runs_part law parts old (both_caches before.exists.now before.ors.now) (quantification_of old.graph p.node p.level) one
@@ -237,7 +235,7 @@ module _ {S : Type 0} {tells : Bool} {channel : S → Channel} {lent : S → Bes
         (both_of old before p.high p.level one caches_one (Err came) by_high)
     high_came one caches_one (Ok high) by_high = awaits_low one caches_one high by_high
 
-    pub opened : IsOpened (quantifying tells channel lent) (Ends tells channel lent old before p.node p.level) old before p
+    pub opened : IsOpened (quantifying) (Ends old before p.node p.level) old before p
     opened =
         let child = high_child_below laws old.graph sound.tied.reduced p above in record {
           refused = failed old before OutOfMemory
@@ -249,34 +247,34 @@ module _ {S : Type 0} {tells : Bool} {channel : S → Channel} {lent : S → Bes
           high = high_came;
         }
 
-module _ {S : Type 0} {tells : Bool} {channel : S → Channel} {lent : S → Beside} where
+module _ {S : Type 0} where
   -- a call that failed before it was split
   pub failed_answer : (old : TableState S) (before after : BothCaches) (question : Question) (new : TableState S)
       (result : Result (Reply Above Node) TableError) (came : TableError) → IsErrAnd result (λ e. e ≡ came)
-      → Ends tells channel lent old before question.0 question.1 new after (Err came)
-      → IsAnswer (quantifying tells channel lent) old before question new after result
+      → Ends old before question.0 question.1 new after (Err came)
+      → IsAnswer (quantifying) old before question new after result
   failed_answer old before after question new result came handed ends =
-      subst (λ (r : Result (Reply Above Node) TableError). IsAnswer (quantifying tells channel lent) old before question new after r)
+      subst (λ (r : Result (Reply Above Node) TableError). IsAnswer (quantifying) old before question new after r)
       (sym (handed_on result came came handed refl)) ends
 
   -- a call that is split, with nothing changed
-  pub split_answered : StepByStep tells channel → Keeping Question Node same_question → Keeping Pair Node same_pair → Cofactors → Growth
+  pub split_answered : StepByStep S → Keeping Question Node same_question → Keeping Pair Node same_pair → Cofactors → Growth
       → Fitting S → Subfunctions → Reachability → (old new : TableState S) → new ≡ old → (before after : BothCaches) → after ≡ before
       → (question : Question)
       → CanQuantify old before.exists.now before.ors.now question.0 question.1 → IsMissed before.exists.now question.0 question.1
       → (p : Above) → IsAbove new.graph p → (p.node ≡ question.0) × (p.level ≡ question.1)
-      → IsAnswer (quantifying tells channel lent) old before question new after (Ok (Open p))
+      → IsAnswer (quantifying) old before question new after (Ok (Open p))
   split_answered law exists_keeping or_keeping laws growth fitting parts paths old new same before after same_caches question can missed p
       above asked =
       let above_old : IsAbove old.graph p = subst (λ (t : TableState S). IsAbove t.graph p) same above in
       let own : (p.node, p.level) ≡ question = λ i. (asked.0 i, asked.1 i) in
       let missed_own : IsMissed before.exists.now p.node p.level = subst (λ (q : Question). IsMissed before.exists.now q.0 q.1)
       (sym own) missed in
-      let answer : IsAnswer (quantifying tells channel lent) old before (p.node, p.level) old before (Ok (Open p)) = (
+      let answer : IsAnswer (quantifying) old before (p.node, p.level) old before (Ok (Open p)) = (
         omega (arith, above_old.own),
         opened law exists_keeping or_keeping laws growth fitting parts paths old before can.sound can.fits p
             above_old missed_own,
       ) in
-      subst (λ (t : TableState S). IsAnswer (quantifying tells channel lent) old before question t after (Ok (Open p))) (sym same)
-      (subst (λ (c : BothCaches). IsAnswer (quantifying tells channel lent) old before question old c (Ok (Open p))) (sym same_caches)
-      (subst (λ (q : Question). IsAnswer (quantifying tells channel lent) old before q old before (Ok (Open p))) own answer))
+      subst (λ (t : TableState S). IsAnswer (quantifying) old before question t after (Ok (Open p))) (sym same)
+      (subst (λ (c : BothCaches). IsAnswer (quantifying) old before question old c (Ok (Open p))) (sym same_caches)
+      (subst (λ (q : Question). IsAnswer (quantifying) old before q old before (Ok (Open p))) own answer))

@@ -1,8 +1,6 @@
 -- A disjunction that is split: its sides may be called and closed, and however they end, the call has ended.
 use Rattle.std.proofs.Common.{◌≡◌, Bool, List, Ok, Err, ◌∙◌, subst, sym}
 use Rattle.std.specs.Prelude.{IfOk}
-use Rattle.host_io.specs.Channel.{Channel}
-use Rattle.host_io.specs.Beside.{Beside}
 use Rattle.node_table.specs.declared.error.TableError.{TableError}
 use Rattle.node_table.specs.declared.error.TableError.TheVariants.{OutOfMemory}
 use Rattle.node_table.specs.declared.node.Node.{Node}
@@ -29,15 +27,14 @@ use Rattle.quantify.proofs.Disjunctions.{disjoined_kept, disjunction_of-kept, hi
 use Rattle.quantify.proofs.Lists.{remembers_all}
 use Rattle.quantify.proofs.Running.{Answer, runs_further, runs_part, runs_refused}
 
-module _ {S : Type 0} {tells : Bool} {channel : S → Channel} {lent : S
-    → Beside} (law : StepByStep tells channel) (keeping : Keeping Pair Node same_pair) (splits : Splitting) (growth : Growth)
+module _ {S : Type 0} (law : StepByStep S) (keeping : Keeping Pair Node same_pair) (splits : Splitting) (growth : Growth)
     (fitting : Fitting S) (parts : Subfunctions) (paths : Reachability)
     (old : TableState S) (before : OrCache) (sound : IsSound old) (fits : Fits old (disjunctions before)) (o : Operands)
     (split : AreSplit old.graph o) (unknown : IsUnknown old.graph before o.u o.v) where
   -- the call failed
   failed : (new : TableState S) (after : OrCache) (came : TableError)
-      → Runs tells channel lent old (disjunctions before) (disjunction_of old.graph o.u o.v) new (disjunctions after) (Err came)
-      → RemembersDisjunctions before after → Disjoins tells channel lent old before o.u o.v new after (Err came)
+      → Runs old (disjunctions before) (disjunction_of old.graph o.u o.v) new (disjunctions after) (Err came)
+      → RemembersDisjunctions before after → Disjoins old before o.u o.v new after (Err came)
   failed new after came runs remembers = record {
     runs = runs;
     remembers = remembers;
@@ -49,14 +46,14 @@ module _ {S : Type 0} {tells : Bool} {channel : S → Channel} {lent : S
   }
 
   module _ (one : TableState S) (cache_one : OrCache) (high : Node)
-      (by_high : Disjoins tells channel lent old before o.u_high o.v_high one cache_one (Ok high)) where
+      (by_high : Disjoins old before o.u_high o.v_high one cache_one (Ok high)) where
     sound_one : IsSound one
     sound_one = by_high.runs.steps.leaves.sound
 
     split_one : AreSplit one.graph o
     split_one = splits.kept old.graph one.graph by_high.runs.steps.extends.nodes o split
 
-    runs_one : Runs tells channel lent old (disjunctions before) (disjunction_of old.graph o.u o.v) one (disjunctions cache_one) (Ok high)
+    runs_one : Runs old (disjunctions before) (disjunction_of old.graph o.u o.v) one (disjunctions cache_one) (Ok high)
     runs_one =
         runs_part law parts old (disjunctions before) (disjunction_of old.graph o.u o.v) one (disjunctions cache_one) (Ok high)
         (disjunction_of old.graph o.u_high o.v_high) (high_part splits old.graph sound.tied.reduced o split parts) by_high.runs
@@ -70,8 +67,8 @@ module _ {S : Type 0} {tells : Bool} {channel : S → Channel} {lent : S
 
     -- what the low side adds to the high one, however it ends
     runs_low : (two : TableState S) (listed : List Entry) (by : Answer)
-        → Runs tells channel lent one (disjunctions cache_one) (disjunction_of one.graph o.u_low o.v_low) two listed by
-        → Runs tells channel lent old (disjunctions before) (disjunction_of old.graph o.u o.v) two listed by
+        → Runs one (disjunctions cache_one) (disjunction_of one.graph o.u_low o.v_low) two listed by
+        → Runs old (disjunctions before) (disjunction_of old.graph o.u o.v) two listed by
     runs_low two listed by runs =
         runs_further law parts old (disjunctions before) (disjunction_of old.graph o.u o.v) two listed by one
         (disjunctions cache_one) high runs_one
@@ -84,14 +81,14 @@ module _ {S : Type 0} {tells : Bool} {channel : S → Channel} {lent : S
         keeping.further disjunction before.results cache_one.results cache_two.results by_high.remembers next
 
     low_failed : (two : TableState S) (cache_two : OrCache) (came : TableError)
-        → Runs tells channel lent one (disjunctions cache_one) (disjunction_of one.graph o.u_low o.v_low) two (disjunctions cache_two)
+        → Runs one (disjunctions cache_one) (disjunction_of one.graph o.u_low o.v_low) two (disjunctions cache_two)
         (Err came)
-        → RemembersDisjunctions cache_one cache_two → Disjoins tells channel lent old before o.u o.v two cache_two (Err came)
+        → RemembersDisjunctions cache_one cache_two → Disjoins old before o.u o.v two cache_two (Err came)
     low_failed two cache_two came runs remembers = failed two cache_two came (runs_low two (disjunctions cache_two) (Err came) runs)
         (remembers_low cache_two remembers)
 
     module _ (two : TableState S) (cache_two : OrCache) (low : Node)
-        (by_low : Disjoins tells channel lent one cache_one o.u_low o.v_low two cache_two (Ok low)) where
+        (by_low : Disjoins one cache_one o.u_low o.v_low two cache_two (Ok low)) where
       on_high : Disjoined two.graph o.u_high o.v_high high
       on_high =
           disjoined_kept fitting one two sound_one by_low.runs.steps.extends o.u_high o.v_high high
@@ -107,7 +104,7 @@ module _ {S : Type 0} {tells : Bool} {channel : S → Channel} {lent : S
           (splits.first old.graph o split) (splits.second old.graph o split)
 
       reached : (three : TableState S) (cache_three : OrCache) (result : Answer)
-          → Closes tells channel lent two cache_two o high low three cache_three result
+          → Closes two cache_two o high low three cache_three result
           → IfOk result (λ w. ReachesNew old.graph three.graph w)
       reached three cache_three (Err came) closes = tt
       reached three cache_three (Ok w) closes =
@@ -117,12 +114,12 @@ module _ {S : Type 0} {tells : Bool} {channel : S → Channel} {lent : S
           closes.children
 
       closed : (three : TableState S) (cache_three : OrCache) (result : Answer)
-          → Closes tells channel lent two cache_two o high low three cache_three result
-          → Disjoins tells channel lent old before o.u o.v three cache_three result
+          → Closes two cache_two o high low three cache_three result
+          → Disjoins old before o.u o.v three cache_three result
       closed three cache_three result closes = record {
         runs = runs_further law parts old (disjunctions before) (disjunction_of old.graph o.u o.v) three
             (disjunctions cache_three) result two (disjunctions cache_two) low (runs_low two (disjunctions cache_two) (Ok low) by_low.runs)
-            (subst (λ (f : Levels → Bool). Runs tells channel lent two (disjunctions cache_two) f three
+            (subst (λ (f : Levels → Bool). Runs two (disjunctions cache_two) f three
             (disjunctions cache_three) result) asked_two closes.runs);
         remembers = keeping.makes_room disjunction before.results cache_two.results cache_three.results (o.u, o.v) unknown.none
             (remembers_low cache_two by_low.remembers) closes.room;
@@ -134,8 +131,8 @@ module _ {S : Type 0} {tells : Bool} {channel : S → Channel} {lent : S
       }
 
     low_came : (two : TableState S) (cache_two : OrCache) (result : Answer)
-        → Disjoins tells channel lent one cache_one o.u_low o.v_low two cache_two result
-        → LowCame (disjoining tells channel lent) (Disjoins tells channel lent old before o.u o.v) o high two cache_two result
+        → Disjoins one cache_one o.u_low o.v_low two cache_two result
+        → LowCame (disjoining) (Disjoins old before o.u o.v) o high two cache_two result
     low_came two cache_two (Err came) by_low = low_failed two cache_two came by_low.runs by_low.remembers
     low_came two cache_two (Ok low) by_low = record {
       ready = record {
@@ -148,7 +145,7 @@ module _ {S : Type 0} {tells : Bool} {channel : S → Channel} {lent : S
       closes = closed two cache_two low by_low;
     }
 
-    awaits_low : AwaitsLow (disjoining tells channel lent) (Disjoins tells channel lent old before o.u o.v) one cache_one o high
+    awaits_low : AwaitsLow (disjoining) (Disjoins old before o.u o.v) one cache_one o high
         (o.u_low, o.v_low)
     awaits_low =
         let first = splits.u_low one.graph sound_one.tied.reduced o split_one in
@@ -162,8 +159,8 @@ module _ {S : Type 0} {tells : Bool} {channel : S → Channel} {lent : S
         }
 
   high_came : (one : TableState S) (cache_one : OrCache) (result : Answer)
-      → Disjoins tells channel lent old before o.u_high o.v_high one cache_one result
-      → HighCame (disjoining tells channel lent) (Disjoins tells channel lent old before o.u o.v) o one cache_one result
+      → Disjoins old before o.u_high o.v_high one cache_one result
+      → HighCame (disjoining) (Disjoins old before o.u o.v) o one cache_one result
   high_came one cache_one (Err came) by_high =
       failed one cache_one came
       (runs_part law parts old (disjunctions before) (disjunction_of old.graph o.u o.v) one (disjunctions cache_one) (Err came)
@@ -171,7 +168,7 @@ module _ {S : Type 0} {tells : Bool} {channel : S → Channel} {lent : S
       by_high.remembers
   high_came one cache_one (Ok high) by_high = awaits_low one cache_one high by_high
 
-  pub opened : IsOpened (disjoining tells channel lent) (Disjoins tells channel lent old before o.u o.v) old before o
+  pub opened : IsOpened (disjoining) (Disjoins old before o.u o.v) old before o
   opened =
       let first = splits.u_high old.graph sound.tied.reduced o split in
       let second = splits.v_high old.graph sound.tied.reduced o split in record {
@@ -183,16 +180,16 @@ module _ {S : Type 0} {tells : Bool} {channel : S → Channel} {lent : S
         high = high_came;
       }
 
-module _ {S : Type 0} {tells : Bool} {channel : S → Channel} {lent : S → Beside} where
-  pub split_answered : StepByStep tells channel → Keeping Pair Node same_pair → Splitting → Growth → Fitting S → Subfunctions → Reachability
+module _ {S : Type 0} where
+  pub split_answered : StepByStep S → Keeping Pair Node same_pair → Splitting → Growth → Fitting S → Subfunctions → Reachability
       → (old : TableState S) (before after : OrCache) (u v : Node) → CanDisjoin old before u v
       → (o : Operands) → AreSplit old.graph o → (o.u ≡ u) × (o.v ≡ v) → (after ≡ before) × IsUnknown old.graph before u v
-      → IsAnswer (disjoining tells channel lent) old before (u, v) old after (Ok (Open o))
+      → IsAnswer (disjoining) old before (u, v) old after (Ok (Open o))
   split_answered law keeping splits growth fitting parts paths old before after u v can o split same missed =
       let unknown : IsUnknown old.graph before o.u o.v = subst (λ (x : Node). IsUnknown old.graph before x o.v) (sym same.0)
       (subst (λ (y : Node). IsUnknown old.graph before u y) (sym same.1) missed.1) in
-      let own : IsAnswer (disjoining tells channel lent) old before (o.u, o.v) old before (Ok (Open o)) =
+      let own : IsAnswer (disjoining) old before (o.u, o.v) old before (Ok (Open o)) =
       (no_later old.graph o split, opened law keeping splits growth fitting parts paths old before can.sound can.fits o split unknown) in
-      subst (λ (c : OrCache). IsAnswer (disjoining tells channel lent) old before (u, v) old c (Ok (Open o))) (sym missed.0)
-      (subst (λ (y : Node). IsAnswer (disjoining tells channel lent) old before (u, y) old before (Ok (Open o))) same.1
-      (subst (λ (x : Node). IsAnswer (disjoining tells channel lent) old before (x, o.v) old before (Ok (Open o))) same.0 own))
+      subst (λ (c : OrCache). IsAnswer (disjoining) old before (u, v) old c (Ok (Open o))) (sym missed.0)
+      (subst (λ (y : Node). IsAnswer (disjoining) old before (u, y) old before (Ok (Open o))) same.1
+      (subst (λ (x : Node). IsAnswer (disjoining) old before (x, o.v) old before (Ok (Open o))) same.0 own))

@@ -1,8 +1,6 @@
 -- The disjunction as an operation on diagrams: what is asked, a whole call, however it ends, and the step that closes one
 -- that was split. (Bryant: Graph-Based Algorithms for Boolean Function Manipulation, 1986, section 4.3: apply.)
 use Rattle.std.specs.Prelude.{◌≡◌, ◌≢◌, ◌⊎◌, ◌||◌, Bool, Some, Result, Ok, Contains, IfOk, IsTrue, min}
-use Rattle.host_io.specs.Channel.{Channel}
-use Rattle.host_io.specs.Beside.{Beside}
 use Rattle.node_table.specs.declared.error.TableError.{TableError}
 use Rattle.node_table.specs.declared.node.Node.{Node}
 use Rattle.node_table.specs.declared.node.Node.TheVariants.{False, True}
@@ -43,10 +41,9 @@ pub record IsUnknown (graph : Graph) (cache : OrCache) (u v : Node) : Type 0 whe
   pub none : (w : Node) → Contains (disjunctions cache) (Disjunction u v w) → ⊥
 
 -- The call for u and v began with this table and this cache, and ended with those and this result.
-pub record Disjoins {S : Type 0} (tells : Bool) (channel : S → Channel) (lent : S
-    → Beside) (old : TableState S) (before : OrCache) (u v : Node) (new : TableState S) (after : OrCache)
+pub record Disjoins {S : Type 0} (old : TableState S) (before : OrCache) (u v : Node) (new : TableState S) (after : OrCache)
     (result : Result Node TableError) : Type 0 where
-  pub runs : Runs tells channel lent old (disjunctions before) (disjunction_of old.graph u v) new (disjunctions after) result
+  pub runs : Runs old (disjunctions before) (disjunction_of old.graph u v) new (disjunctions after) result
   pub remembers : RemembersDisjunctions before after
   pub disjoined : IfOk result (λ w. Disjoined new.graph u v w)
   pub reachable : IfOk result (λ w. ReachesNew old.graph new.graph w)
@@ -64,10 +61,9 @@ pub record CanClose {S : Type 0} (table : TableState S) (cache : OrCache) (o : O
   pub on_low : Disjoined table.graph o.u_low o.v_low low
 
 -- The step from the results of both sides to the disjunction of these operands, which is kept.
-pub record Closes {S : Type 0} (tells : Bool) (channel : S → Channel) (lent : S
-    → Beside) (old : TableState S) (before : OrCache) (o : Operands) (high low : Node) (new : TableState S) (after : OrCache)
+pub record Closes {S : Type 0} (old : TableState S) (before : OrCache) (o : Operands) (high low : Node) (new : TableState S) (after : OrCache)
     (result : Result Node TableError) : Type 0 where
-  pub runs : Runs tells channel lent old (disjunctions before) (disjunction_of old.graph o.u o.v) new (disjunctions after) result
+  pub runs : Runs old (disjunctions before) (disjunction_of old.graph o.u o.v) new (disjunctions after) result
   pub room : MakesRoomFor before after o.u o.v
   pub disjoined : IfOk result (λ w. Disjoined new.graph o.u o.v w)
   pub kept : IfOk result (λ w. Contains (disjunctions after) (Disjunction o.u o.v w))
@@ -75,12 +71,12 @@ pub record Closes {S : Type 0} (tells : Bool) (channel : S → Channel) (lent : 
   pub reachable : IfOk result (λ w. ReachesNew old.graph new.graph w)
 
 -- A pair is split into that of its high cofactors and that of its low ones.
-abbrev pub disjoining : {S : Type 0} → Bool → (S → Channel) → (S → Beside) → Calls S OrCache Pair Operands Node
-disjoining tells channel lent = record {
+abbrev pub disjoining : {S : Type 0} → Calls S OrCache Pair Operands Node
+disjoining = record {
   can = λ table cache pair. CanDisjoin table cache pair.0 pair.1;
-  ends = λ old before pair new after result. Disjoins tells channel lent old before pair.0 pair.1 new after result;
+  ends = λ old before pair new after result. Disjoins old before pair.0 pair.1 new after result;
   can_close = CanClose;
-  closes = Closes tells channel lent;
+  closes = Closes;
   high = λ o. (o.u_high, o.v_high);
   low = λ o high. Some (o.u_low, o.v_low);
   level = λ o. o.level;

@@ -2,8 +2,6 @@
 -- ends, and the step that closes one that was split. (Bryant: Graph-Based Algorithms for Boolean Function Manipulation, 1986,
 -- sections 4.3 and 4.4: apply and restrict.)
 use Rattle.std.specs.Prelude.{◌≡◌, ◌≤◌, ◌<◌, ◌||◌, ℕ, Bool, true, false, Option, None, Some, Result, Ok, Err, Contains, IfOk, IsTrue}
-use Rattle.host_io.specs.Channel.{Channel}
-use Rattle.host_io.specs.Beside.{Beside}
 use Rattle.node_table.specs.declared.error.TableError.{TableError}
 use Rattle.node_table.specs.declared.node.Node.{Node}
 use Rattle.node_table.specs.Diagram.{Graph, is_node, level_of, levels, high_at, low_at}
@@ -37,10 +35,9 @@ abbrev pub IsMissed : ExistsCache → Node → ℕ → Type 0
 IsMissed cache u level = (w : Node) → Contains (quantifications cache) (Quantification u level w) → ⊥
 
 -- The call for u and this level began with this table and these caches, and ended with those and this result.
-pub record Quantifies {S : Type 0} (tells : Bool) (channel : S → Channel) (lent : S
-    → Beside) (old : TableState S) (before : ExistsCache) (ors : OrCache) (u : Node) (level : ℕ)
+pub record Quantifies {S : Type 0} (old : TableState S) (before : ExistsCache) (ors : OrCache) (u : Node) (level : ℕ)
     (new : TableState S) (after : ExistsCache) (ors_after : OrCache) (result : Result Node TableError) : Type 0 where
-  pub runs : Runs tells channel lent old (both_caches before ors) (quantification_of old.graph u level) new
+  pub runs : Runs old (both_caches before ors) (quantification_of old.graph u level) new
       (both_caches after ors_after) result
   pub remembers : RemembersQuantifications before after
   pub remembers_ors : RemembersDisjunctions ors ors_after
@@ -52,13 +49,13 @@ pub record Quantifies {S : Type 0} (tells : Bool) (channel : S → Channel) (len
   pub plain : level < level_of old.graph u → (result ≡ Ok u) × (new ≡ old) × (after ≡ before) × (ors_after ≡ ors)
 
 -- A call that isn't split: it has ended, or its node stands above the level, and no entry is of it.
-abbrev pub IsAnswered : {S : Type 0} → Bool → (S → Channel) → (S → Beside) → TableState S → ExistsCache → OrCache → Node → ℕ → TableState S
+abbrev pub IsAnswered : {S : Type 0} → TableState S → ExistsCache → OrCache → Node → ℕ → TableState S
     → ExistsCache → OrCache → Result (Option Node) TableError → Type 0
-IsAnswered tells channel lent old before ors u level new after ors_after
-    (Err error) = Quantifies tells channel lent old before ors u level new after ors_after (Err error)
-IsAnswered tells channel lent old before ors u level new after ors_after
-    (Ok (Some w)) = Quantifies tells channel lent old before ors u level new after ors_after (Ok w)
-IsAnswered tells channel lent old before ors u level new after ors_after (Ok None) =
+IsAnswered old before ors u level new after ors_after
+    (Err error) = Quantifies old before ors u level new after ors_after (Err error)
+IsAnswered old before ors u level new after ors_after
+    (Ok (Some w)) = Quantifies old before ors u level new after ors_after (Ok w)
+IsAnswered old before ors u level new after ors_after (Ok None) =
     (new ≡ old) × (after ≡ before) × (ors_after ≡ ors) × (level_of old.graph u < level) × IsMissed before u level
 
 -- A node above the level that is quantified, its own level, and its children.
@@ -79,10 +76,9 @@ pub record CanClose {S : Type 0} (table : TableState S) (cache : ExistsCache) (o
   pub on_low : Quantified table.graph p.low p.level low
 
 -- The step from the results of both sides to the quantification, which is kept.
-pub record Closes {S : Type 0} (tells : Bool) (channel : S → Channel) (lent : S
-    → Beside) (old : TableState S) (before : ExistsCache) (ors : OrCache) (p : Above) (high low : Node)
+pub record Closes {S : Type 0} (old : TableState S) (before : ExistsCache) (ors : OrCache) (p : Above) (high low : Node)
     (new : TableState S) (after : ExistsCache) (ors_after : OrCache) (result : Result Node TableError) : Type 0 where
-  pub runs : Runs tells channel lent old (both_caches before ors) (quantification_of old.graph p.node p.level) new
+  pub runs : Runs old (both_caches before ors) (quantification_of old.graph p.node p.level) new
       (both_caches after ors_after) result
   pub room : MakesRoomFor before after p.node p.level
   pub same_ors : ors_after ≡ ors
@@ -97,15 +93,15 @@ pub record AreLent (before after : BothCaches) : Type 0 where
   pub ors : after.ors.ghost_name ≡ before.ors.ghost_name
 
 -- A node above the level is split into its children.
-abbrev pub quantifying : {S : Type 0} → Bool → (S → Channel) → (S → Beside) → Calls S BothCaches Question Above Node
-quantifying tells channel lent = record {
+abbrev pub quantifying : {S : Type 0} → Calls S BothCaches Question Above Node
+quantifying = record {
   can = λ table caches question. CanQuantify table caches.exists.now caches.ors.now question.0 question.1;
   ends = λ old before question new after result.
-      Quantifies tells channel lent old before.exists.now before.ors.now question.0 question.1 new after.exists.now after.ors.now result
+      Quantifies old before.exists.now before.ors.now question.0 question.1 new after.exists.now after.ors.now result
       × AreLent before after;
   can_close = λ table caches p high low. CanClose table caches.exists.now caches.ors.now p high low;
   closes = λ old before p high low new after result.
-      Closes tells channel lent old before.exists.now before.ors.now p high low new after.exists.now after.ors.now result
+      Closes old before.exists.now before.ors.now p high low new after.exists.now after.ors.now result
       × AreLent before after;
   high = λ p. (p.high, p.level);
   low = λ p high. Some (p.low, p.level);

@@ -37,7 +37,7 @@ pub fn or<S: Sink + Drop>(
     requires second { IsTrue (is_node table.old.graph v) }
     requires fits { Fits table.old (disjunctions cache.old) }
     ensures disjoined { IfOk result (λ w. Disjoined table.new.graph u v w) }
-    ensures steps { Steps S.tells (S.channel table.old.book.sink) (S.channel table.new.book.sink) table.old table.new 0 (error_of result) }
+    ensures steps { Steps table.old table.new 0 (error_of result) }
     ensures retired { table.new.retired ≡ table.old.retired }
     ensures none_added { UnlessTorn result (AddsNone table.old table.new) }
     // The cache fits, and so does it together with others that did.
@@ -61,7 +61,6 @@ pub fn or<S: Sink + Drop>(
     ensures reachable { IfOk result (λ w. ReachesNew table.old.graph table.new.graph w) }
     // Where the nodes are used up, some part of the disjunction is the function of none.
     ensures lacks { result ≡ Err NodeLimit → LacksPart table.new.graph (disjunction_of table.old.graph u v) }
-    ensures beside { S.beside table.new.book.sink ≡ S.beside table.old.book.sink }
 {
     entry_law::<S>();
     work_off::<S, OrOperation>(table, cache, (u, v))
@@ -79,7 +78,7 @@ impl<S: Sink + Drop> Operation<S> for OrOperation {
 
     type Answer = Node;
 
-    ghost calls = { disjoining S.tells S.channel S.beside };
+    ghost calls = { disjoining };
 
     fn alloc(cache: &OrCache) -> Global {
         cache.alloc()
@@ -135,7 +134,7 @@ impl<S: Sink + Drop> Operation<S> for OrOperation {
 // The disjunction of a plain pair, and one that is kept.
 fn answer<S: Sink + Drop>(table: &Table<S>, cache: &mut OrCache, u: Node, v: Node) -> Option<Node>
     requires can { CanDisjoin table.now cache.old u v }
-    ensures answers { IfSome result (λ w. Disjoins S.tells S.channel S.beside table.now cache.old u v table.now cache.new (Ok w)) }
+    ensures answers { IfSome result (λ w. Disjoins table.now cache.old u v table.now cache.new (Ok w)) }
     ensures unknown { result ≡ None → (cache.new ≡ cache.old) × IsUnknown table.now.graph cache.old u v }
 {
     steps_law::<S>();

@@ -22,7 +22,7 @@ pub(crate) fn join<S: Sink + Drop>(
     requires level { level < levels table.old.graph }
     requires high { IsBelow table.old.graph level high }
     requires low { IsBelow table.old.graph level low }
-    ensures { Joins S.tells S.channel S.beside table.old level high low table.new result }
+    ensures { Joins table.old level high low table.new result }
 {
     steps_law::<S>();
     entry_law::<S>();

@@ -39,7 +39,7 @@ pub fn exists<S: Sink + Drop>(
     requires stands { IsTrue (is_node table.old.graph u) }
     requires fits { Fits table.old (both_caches cache.old ors.old) }
     ensures quantified { IfOk result (λ w. Quantified table.new.graph u level w) }
-    ensures steps { Steps S.tells (S.channel table.old.book.sink) (S.channel table.new.book.sink) table.old table.new 0 (error_of result) }
+    ensures steps { Steps table.old table.new 0 (error_of result) }
     ensures retired { table.new.retired ≡ table.old.retired }
     ensures none_added { UnlessTorn result (AddsNone table.old table.new) }
     // Both caches fit as one list, and so do they together with others that did.
@@ -68,7 +68,6 @@ pub fn exists<S: Sink + Drop>(
     ensures reachable { IfOk result (λ w. ReachesNew table.old.graph table.new.graph w) }
     // Where the nodes are used up, some part of the quantification is the function of none.
     ensures lacks { result ≡ Err NodeLimit → LacksPart table.new.graph (quantification_of table.old.graph u level) }
-    ensures beside { S.beside table.new.book.sink ≡ S.beside table.old.book.sink }
 {
     steps_law::<S>();
     entry_law::<S>();
@@ -120,7 +119,7 @@ impl<'a, S: Sink + Drop> Operation<S> for ExistsOperation<'a> {
 
     type Answer = Node;
 
-    ghost calls = { quantifying S.tells S.channel S.beside };
+    ghost calls = { quantifying };
 
     fn alloc(caches: &BothCaches<'a>) -> Global {
         caches.exists.alloc()
@@ -186,7 +185,7 @@ fn answer<S: Sink + Drop>(
     level: u32,
 ) -> Result<Option<Node>, TableError>
     requires can { CanQuantify table.old cache.old ors.old u level }
-    ensures { IsAnswered S.tells S.channel S.beside table.old cache.old ors.old u level table.new cache.new ors.new result }
+    ensures { IsAnswered table.old cache.old ors.old u level table.new cache.new ors.new result }
 {
     steps_law::<S>();
     entry_law::<S>();
@@ -219,7 +218,7 @@ fn disjoin_children<S: Sink + Drop>(
     requires can { CanQuantify table.old cache.old ors.old u level }
     requires at { level_of table.old.graph u ≡ level }
     requires missed { IsMissed cache.old u level }
-    ensures { Quantifies S.tells S.channel S.beside table.old cache.old ors.old u level table.new cache.new ors.new result }
+    ensures { Quantifies table.old cache.old ors.old u level table.new cache.new ors.new result }
 {
     steps_law::<S>();
     entry_law::<S>();

@@ -31,9 +31,8 @@ pub fn reclaim<S: Sink + Drop, P: Purge>(
     ensures sizes { P.sizes caches.new ≡ P.sizes caches.old }
     // A refusal leaves the nodes as they were.
     ensures kept { OnErr result (table.new.graph ≡ table.old.graph) }
-    ensures leaves { Leaves S.tells (S.channel table.old.book.sink) (S.channel table.new.book.sink) table.old table.new (error_of result) }
+    ensures leaves { Leaves table.old table.new (error_of result) }
     ensures error { IfErr result (λ e. (e ≡ OutOfMemory) ⊎ (e ≡ WriteFault)) }
-    ensures beside { S.beside table.new.book.sink ≡ S.beside table.old.book.sink }
 {
     entry_law::<S>();
     purge_law::<S>();

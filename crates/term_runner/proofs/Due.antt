@@ -1,6 +1,5 @@
 -- When a reclamation is due: at the limit of nodes, or where a move left many.
-use Rattle.std.proofs.Common.{◌≡◌, ◌≤◌, ℕ, Bool, Option, Some, inl, inr, sym, subst}
-use Rattle.host_io.specs.Channel.{Channel}
+use Rattle.std.proofs.Common.{◌≡◌, ◌≤◌, ℕ, Bool, Some, inl, inr, sym, subst}
 use Rattle.node_table.specs.declared.error.TableError.{TableError}
 use Rattle.node_table.specs.declared.error.TableError.TheVariants.{NodeLimit}
 use Rattle.node_table.specs.Diagram.{Graph, IsReduced}
@@ -10,11 +9,11 @@ use Rattle.node_table.specs.Value.{Levels}
 use Rattle.term_runner.specs.Nodes.{KeepsOrMakes}
 use Rattle.term_runner.specs.Tidy.{IsByRule, IsTidy, WasDue}
 
-pub due_at_limit : {S : Type 0} (tells : Bool) (before after : Channel) (old one : TableState S) (function : Levels → Bool) (left : ℕ)
-    (came : TableError) → came ≡ NodeLimit → Leaves tells before after old one (Some came) → KeepsOrMakes old.graph one.graph function
+pub due_at_limit : {S : Type 0} (old one : TableState S) (function : Levels → Bool) (left : ℕ)
+    (came : TableError) → came ≡ NodeLimit → Leaves old one (Some came) → KeepsOrMakes old.graph one.graph function
     → WasDue old.graph function old.max_nodes left
-due_at_limit tells before after old one function left came is leaves made =
-    let met = subst (λ (e : TableError). Leaves tells before after old one (Some e)) is leaves in
+due_at_limit old one function left came is leaves made =
+    let met = subst (λ (e : TableError). Leaves old one (Some e)) is leaves in
     record {
       graph = one.graph;
       reduced = met.0.sound.tied.reduced;

@@ -1,13 +1,14 @@
 -- How a run ends, by what its moves led to and by the flush.
-use Rattle.std.proofs.Common.{◌≡◌, ◌≢◌, ◌≤◌, ℕ, max, Bool, true, false, ℤ, List, length, Option, None, Some, Result, Ok, Err, refl, sym, ap, ◌∙◌}
+use Rattle.std.proofs.Common.{◌≡◌, ◌≢◌, ◌≤◌, ◌++◌, ◌∷◌, [], ℕ, max, Bool, true, false, ℤ, List, length, Option, None, Some, Result, Ok, Err, refl, sym, ap, ◌∙◌}
 use Rattle.std.proofs.Common.{subst, arith, inl, inr}
 use Rattle.std.specs.Prelude.{IsTrue, IfOk}
 use Rattle.std.specs.List.{list_all}
 use Rattle.cnf_base.specs.Formula.{Formula}
 use Rattle.host_io.specs.Channel.{Channel, Rose}
-use Rattle.lrat_rules.specs.State.{State}
-use Rattle.lrat_rules.specs.Derivation.{IsWritten}
-use Rattle.clause_ledger.specs.Book.{Book, IsProofOf}
+use Rattle.cnf_base.specs.declared.step.Step.{Step}
+use Rattle.lrat_rules.specs.State.{start}
+use Rattle.lrat_rules.specs.Derivation.{IsCutProof, IsWritten, text_of}
+use Rattle.clause_ledger.specs.Book.{Book, IsBook, IsProofOf, IsTextOf, after_steps}
 use Rattle.node_table.specs.declared.error.TableError.{TableError}
 use Rattle.node_table.specs.declared.error.TableError.TheVariants as table
 use Rattle.schedule_plan.specs.declared.plan.Move.{Move}
@@ -22,12 +23,44 @@ use Rattle.term_runner.specs.Price.{AreAmple, IsDecision, IsMovePrice, IsPaidFor
 use Rattle.term_runner.specs.Proofs.{IsProof, IsProofOfKind, LeadsTo}
 use Rattle.term_runner.specs.Width.{HasWidth}
 use Rattle.term_runner.specs.Ends.{Ends, Says, Shows, outcome_of}
-use Rattle.term_runner.specs.Opened.{EndsWithin, IsFlushed, Leads}
+use Rattle.term_runner.specs.Opened.{EndsWithin, IsBehind, IsFlushed, Leads}
 
--- what the bytes of a proof are
-pub written_of : (clauses : List (List ℤ)) (tells : Bool) (channel : Channel) (state : State) → IsProofOf clauses tells channel state
-    → IsTrue tells → IsWritten clauses channel.written state
-written_of clauses tells channel state proof t = record { steps = proof.steps; derived = proof.derived; text = proof.text t }
+-- in step the bytes are a proof of what is live
+pub written_of : {S : Type 0} (tells : Bool) (before after : Channel) (clauses : List (List ℤ)) (book : Book S)
+    → IsBehind tells before after clauses book → IsTrue tells → IsTrue book.in_step → IsWritten clauses after.written book.state
+written_of tells before after clauses book behind t in_step = record {
+  steps = book.steps;
+  derived = behind.proof.derived;
+  text = behind.text t in_step;
+}
+
+-- what the ledger's law says of one over these clauses whose sink had no bytes
+module _ {S B : Type 0} (tells : Bool) (channel : S → Channel) (beside : S → B) (book : Book S) (clauses : List (List ℤ))
+    (of_formula : book.formula ≡ clauses) (fresh : IsTrue tells → (channel book.origin).written ≡ [])
+    (is : IsBook tells channel beside book)
+    (cut : (bytes : List ℕ) (earlier : List Step) (last : Step) → IsTextOf false book.steps bytes → book.steps ≡ earlier ++ last ∷ []
+    → IsCutProof book.formula bytes (after_steps (start book.formula) earlier) book.state) where
+  bytes_are : (t : IsTrue tells) → (channel book.sink).written ≡ (is.since.text t).0
+  bytes_are t = (is.since.text t).1 ∙ ap (λ (front : List ℕ). front ++ (is.since.text t).0) (fresh t)
+
+  in_step_text : (in_step : Bool) (steps : List Step) (bytes : List ℕ) → in_step ≡ true → IsTextOf in_step steps bytes → bytes ≡ text_of steps
+  in_step_text in_step steps bytes on (inl whole) = whole
+  in_step_text in_step steps bytes on (inr torn) = absurd (let e : true ≡ false = sym on ∙ torn.0 in cc)
+
+  pub behind_of : IsBehind tells (channel book.origin) (channel book.sink) clauses book
+  behind_of = record {
+    proof = subst (λ (all : List (List ℤ)). IsProofOf all book.steps book.state) of_formula is.proof;
+    text = λ t on. bytes_are t ∙ in_step_text book.in_step book.steps (is.since.text t).0 on (is.since.text t).2;
+    cut = λ t off earlier last parts.
+        subst (λ (all : List (List ℤ)). IsCutProof all (channel book.sink).written (after_steps (start all) earlier) book.state) of_formula
+        (subst (λ (bytes : List ℕ). IsCutProof book.formula bytes (after_steps (start book.formula) earlier) book.state) (sym (bytes_are t))
+        (cut (is.since.text t).0 earlier last
+        (subst (λ (b : Bool). IsTextOf b book.steps (is.since.text t).0) off (is.since.text t).2) parts));
+    name = is.since.name;
+    faults = is.since.faults;
+    unfailed = is.since.unfailed;
+    rose = is.since.rose;
+  }
 
 -- a fact of each outcome that the moves may come to
 pub by_outcome : (P : Outcome → Type 0) (found : Result (Option (List Bool)) TableError) → (found ≡ Ok None → P Unsat)
@@ -121,8 +154,7 @@ module _ (tells : Bool) (before mid after : Channel) (formula : Formula) (order 
         → IsTrue tells → IsProof formula limits mid.written
     proof_of found leads whole t = record {
       state = book.state;
-      written = written_of formula.clauses tells mid book.state
-          (leads.proof whole) t;
+      written = leads.written whole t;
       within = leads.within whole;
     }
 
@@ -132,7 +164,7 @@ module _ (tells : Bool) (before mid after : Channel) (formula : Formula) (order 
     priced_of found leads whole width price has paid t =
         record {
           state = book.state;
-          written = written_of formula.clauses tells mid book.state (leads.proof whole) t;
+          written = leads.written whole t;
           within = leads.paid width price has paid whole;
         }
 

@@ -1,6 +1,6 @@
 -- The unit that a move gives, and no clause lost: through calls one after another, at the start of a run, and where the
 -- retired clauses are deleted.
-use Rattle.std.proofs.Common.{◌≡◌, ◌⊎◌, ◌∙◌, ◌≤◌, ◌<◌, ℕ, Bool, true, false, List, [], ◌∷◌, reverse, Contains, None, Some, is_some, sym, ap}
+use Rattle.std.proofs.Common.{◌≡◌, ◌⊎◌, ◌∙◌, ◌≤◌, ◌<◌, ℕ, true, false, List, [], ◌∷◌, reverse, Contains, None, Some, is_some, sym, ap}
 use Rattle.std.proofs.Common.{subst, arith, inl, inr}
 use Rattle.std.specs.Prelude.{IsTrue}
 use Rattle.std.proofs.lemmas.Bool.{cases_lt}
@@ -10,7 +10,6 @@ use Rattle.node_table.specs.declared.node.Just.TheVariants.{Clause, Trivial}
 use Rattle.node_table.specs.Diagram.{Graph, branch_at}
 use Rattle.node_table.specs.Laws.{StepByStep}
 use Rattle.node_table.specs.Table.{TableState, AddsNone, Extends, IsAddedTo, IsSound}
-use Rattle.host_io.specs.Channel.{Channel}
 use Rattle.operations.specs.Accounts.{none_whole}
 use Rattle.operations.specs.Entries.{Entry, Accounts, Fits, IsAccounted, IsNewJust, NamesOnly, RetiresOwn}
 use Rattle.term_runner.specs.Caches.{KeepsEntries}
@@ -162,11 +161,11 @@ module _ {S : Type 0} where
       (λ id none. absurd (no_clause id none)) (inr (inr (λ id is. new_unit old new id (last id is)))))
 
   -- a call that loses no clause leaves the units of all terms
-  pub units_behind : (tells : Bool) (channel : S → Channel) → StepByStep tells channel
+  pub units_behind : StepByStep S
       → (old new : TableState S) (before after : List Entry) (stack : List HeldTerm) → IsSound old → IsSound new → Extends old new
       → HasUnits old before stack → RetiresOwn old new before → NamesOnly before after old.book.state new.book.state
       → Accounts old new before after → HasUnits new after stack
-  units_behind tells channel laws old new before after stack sound more extends has retires named accounts = record {
+  units_behind laws old new before after stack sound more extends has retires named accounts = record {
     own = λ held there id is. free_after old new before after stack sound has retires named id
         (record { held = held; stacked = there; unit = is });
     apart = has.apart;

@@ -1,7 +1,7 @@
 -- What calls leave that may end with an error, one after another.
-use Rattle.std.proofs.Common.{◌≡◌, ◌≢◌, ℕ, zero, suc, ◌-◌, ◌≤◌, Bool, Option, None, Some, Result, Ok, Err, refl, sym, ap, ◌∙◌, subst, arith}
+use Rattle.std.proofs.Common.{◌≡◌, ◌≢◌, ℕ, zero, suc, ◌-◌, ◌≤◌, Option, None, Some, Result, Ok, Err, refl, sym, ap, ◌∙◌, subst, arith}
 use Rattle.std.specs.Prelude.{IfErr, IsErrAnd}
-use Rattle.host_io.specs.Channel.{Channel}
+use Rattle.clause_ledger.specs.Told.{told_formula, told_origin}
 use Rattle.node_table.specs.declared.error.TableError.{TableError}
 use Rattle.node_table.specs.declared.error.TableError.TheVariants.{NodeLimit, IdLimit, OutOfMemory, WriteFault}
 use Rattle.node_table.specs.Table.{TableState}
@@ -13,49 +13,48 @@ pub error_handed : {T E : Type 0} (r : Result T E) (came : E) → IsErrAnd r (λ
 error_handed (Ok x) came is = absurd is
 error_handed (Err e) came is = ap Some is
 
-pub steps_handed : {S T : Type 0} (tells : Bool) (before after : Channel) (old new : TableState S) (justified : ℕ) (r : Result T TableError)
+pub steps_handed : {S T : Type 0} (old new : TableState S) (justified : ℕ) (r : Result T TableError)
     (came : TableError) → IsErrAnd r (λ e. e ≡ came)
-    → Steps tells before after old new justified (Some came) → Steps tells before after old new justified (error_of r)
-steps_handed tells before after old new justified r came is steps = subst
-    (λ (error : Option TableError). Steps tells before after old new justified error) (sym (error_handed r came is)) steps
+    → Steps old new justified (Some came) → Steps old new justified (error_of r)
+steps_handed old new justified r came is steps = subst
+    (λ (error : Option TableError). Steps old new justified error) (sym (error_handed r came is)) steps
 
-pub refutes_handed : {S T : Type 0} (tells : Bool) (before after : Channel) (old new : TableState S) (justified : ℕ)
+pub refutes_handed : {S T : Type 0} (old new : TableState S) (justified : ℕ)
     (r : Result T TableError) (came : TableError) → IsErrAnd r (λ e. e ≡ came)
-    → StepsOrRefutes tells before after old new justified (Some came) → StepsOrRefutes tells before after old new justified (error_of r)
-refutes_handed tells before after old new justified r came is steps = subst
-    (λ (error : Option TableError). StepsOrRefutes tells before after old new justified error) (sym (error_handed r came is)) steps
+    → StepsOrRefutes old new justified (Some came) → StepsOrRefutes old new justified (error_of r)
+refutes_handed old new justified r came is steps = subst
+    (λ (error : Option TableError). StepsOrRefutes old new justified error) (sym (error_handed r came is)) steps
 
 -- unless a write failed, the call went on
-pub went_on : {S T : Type 0} (tells : Bool) (before after : Channel) (old new : TableState S) (r : Result T TableError)
-    → Leaves tells before after old new (error_of r) → r ≢ Err WriteFault
-    → Continues tells before after old new
-went_on tells before after old new (Ok x) leaves whole = leaves
-went_on tells before after old new (Err NodeLimit) leaves whole = leaves.0
-went_on tells before after old new (Err IdLimit) leaves whole = leaves.0
-went_on tells before after old new (Err OutOfMemory) leaves whole = leaves
-went_on tells before after old new (Err WriteFault) leaves whole = absurd (whole refl)
+pub went_on : {S T : Type 0} (old new : TableState S) (r : Result T TableError)
+    → Leaves old new (error_of r) → r ≢ Err WriteFault
+    → Continues old new
+went_on old new (Ok x) leaves whole = leaves
+went_on old new (Err NodeLimit) leaves whole = leaves.0
+went_on old new (Err IdLimit) leaves whole = leaves.0
+went_on old new (Err OutOfMemory) leaves whole = leaves
+went_on old new (Err WriteFault) leaves whole = absurd (whole refl)
 
 -- the limit of nodes leaves all in step
-pub limit_left : {S : Type 0} (tells : Bool) (channel : S → Channel) (old new : TableState S) (came : TableError) → came ≡ NodeLimit
-    → Leaves tells (channel old.book.sink) (channel new.book.sink) old new (Some came)
-    → Leaves tells (channel old.book.sink) (channel new.book.sink) old new (Some NodeLimit)
-limit_left tells channel old new came is leaves = subst (λ (e : TableError). Leaves tells (channel old.book.sink)
-    (channel new.book.sink) old new (Some e)) is leaves
+pub limit_left : {S : Type 0} (old new : TableState S) (came : TableError) → came ≡ NodeLimit
+    → Leaves old new (Some came)
+    → Leaves old new (Some NodeLimit)
+limit_left old new came is leaves = subst (λ (e : TableError). Leaves old new (Some e)) is leaves
 
 -- want of memory leaves all in step
-pub memory_left : {S T : Type 0} (tells : Bool) (before after : Channel) (old new : TableState S) (r : Result T TableError)
-    → IsErrAnd r (λ e. e ≡ OutOfMemory) → Continues tells before after old new
-    → Leaves tells before after old new (error_of r)
-memory_left tells before after old new r is continues = subst (λ (error : Option TableError). Leaves tells before after old new error)
+pub memory_left : {S T : Type 0} (old new : TableState S) (r : Result T TableError)
+    → IsErrAnd r (λ e. e ≡ OutOfMemory) → Continues old new
+    → Leaves old new (error_of r)
+memory_left old new r is continues = subst (λ (error : Option TableError). Leaves old new error)
     (sym (error_handed r OutOfMemory is)) continues
 
 -- want of memory after steps that succeeded leaves what they left
-pub after_all : {S T : Type 0} (tells : Bool) (before after : Channel) (old new : TableState S) (justified : ℕ) (r : Result T TableError)
+pub after_all : {S T : Type 0} (old new : TableState S) (justified : ℕ) (r : Result T TableError)
     → IfErr r (λ e. e ≡ OutOfMemory)
-    → Steps tells before after old new justified None → Steps tells before after old new justified (error_of r)
-after_all tells before after old new justified (Ok x) failed steps = steps
-after_all tells before after old new justified (Err e) failed steps =
-    subst (λ (error : TableError). Steps tells before after old new justified (Some error)) (turned e failed)
+    → Steps old new justified None → Steps old new justified (error_of r)
+after_all old new justified (Ok x) failed steps = steps
+after_all old new justified (Err e) failed steps =
+    subst (λ (error : TableError). Steps old new justified (Some error)) (turned e failed)
     (record { leaves = steps.leaves; extends = steps.extends; adds = steps.adds; no_empty = steps.no_empty })
   where
     turned : (e : TableError) → e ≡ OutOfMemory → OutOfMemory ≡ e
@@ -79,3 +78,20 @@ same_cause one other is = cc
 
 pub limit_whole : (came : TableError) → came ≡ NodeLimit → Some came ≢ Some WriteFault
 limit_whole came limit is = no_fault (sym limit ∙ same_cause came WriteFault is)
+
+-- however a call ends, the ledger is over the same sink and formula
+pub origin_left : {S : Type 0} (old new : TableState S) (error : Option TableError) → Leaves old new error
+    → new.book.origin ≡ old.book.origin
+origin_left old new None leaves = told_origin leaves.told
+origin_left old new (Some NodeLimit) leaves = told_origin leaves.0.told
+origin_left old new (Some IdLimit) leaves = told_origin leaves.0.told
+origin_left old new (Some OutOfMemory) leaves = told_origin leaves.told
+origin_left old new (Some WriteFault) leaves = told_origin leaves.told
+
+pub formula_left : {S : Type 0} (old new : TableState S) (error : Option TableError) → Leaves old new error
+    → new.book.formula ≡ old.book.formula
+formula_left old new None leaves = told_formula leaves.told
+formula_left old new (Some NodeLimit) leaves = told_formula leaves.0.told
+formula_left old new (Some IdLimit) leaves = told_formula leaves.0.told
+formula_left old new (Some OutOfMemory) leaves = told_formula leaves.told
+formula_left old new (Some WriteFault) leaves = told_formula leaves.told

@@ -1,9 +1,7 @@
 -- Calls that add no empty clause, one after another, and those that give no number.
-use Rattle.std.proofs.Common.{◌≡◌, ◌≢◌, ℕ, Bool, true, false, List, [], Option, None, Some, is_some, Result, Ok, Err, refl, sym, ap, ◌∙◌}
-use Rattle.std.proofs.Common.{arith, inl, inr, subst}
+use Rattle.std.proofs.Common.{◌≡◌, ◌≢◌, Bool, true, false, [], Option, None, Some, is_some, Result, Ok, Err, refl, sym, ap, ◌∙◌}
+use Rattle.std.proofs.Common.{arith, inl, inr}
 use Rattle.std.specs.Option.{option_map}
-use Rattle.std.specs.Prelude.{IfErr}
-use Rattle.host_io.specs.Channel.{Channel}
 use Rattle.lrat_rules.specs.State.{clause_at}
 use Rattle.node_table.specs.declared.error.TableError.{TableError}
 use Rattle.node_table.specs.declared.error.TableError.TheVariants.{WriteFault}
@@ -26,19 +24,19 @@ module _ {S : Type 0} where
   further_empty old mid new one two = record { each = λ id is. one.each id (two.each id is) }
 
   -- where no number is given none came
-  pub fewer_empty : (tells : Bool) (before after : Channel) (old new : TableState S) → Continues tells before after old new
+  pub fewer_empty : (old new : TableState S) → Continues old new
       → new.book.state.top ≡ old.book.state.top → AddsNoEmpty old new
-  fewer_empty tells before after old new continues top = record {
+  fewer_empty old new continues top = record {
     each = λ id is. elim (continues.since id [] is) [
       | inl was ↦ was
       | inr came ↦ absurd (omega (arith, came.0, came.1, top))
     ];
   }
 
-  pub fewer_left : {T : Type 0} (tells : Bool) (before after : Channel) (old new : TableState S) (r : Result T TableError)
-      → Leaves tells before after old new (error_of r) → r ≢ Err WriteFault → new.book.state.top ≡ old.book.state.top → AddsNoEmpty old new
-  fewer_left tells before after old new r leaves whole top =
-      fewer_empty tells before after old new (went_on tells before after old new r leaves whole) top
+  pub fewer_left : {T : Type 0} (old new : TableState S) (r : Result T TableError)
+      → Leaves old new (error_of r) → r ≢ Err WriteFault → new.book.state.top ≡ old.book.state.top → AddsNoEmpty old new
+  fewer_left old new r leaves whole top =
+      fewer_empty old new (went_on old new r leaves whole) top
 
   -- a refusal that changes nothing
   pub same_empty : (old new : TableState S) → IsSame old new → AddsNoEmpty old new

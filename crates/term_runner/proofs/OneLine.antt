@@ -1,22 +1,23 @@
 -- The line that refutes a formula with an empty clause.
 use Rattle.std.proofs.Common.{◌≡◌, ◌≢◌, ℕ, zero, suc, ◌+◌, ◌*◌, ◌^◌, ◌<◌, ◌≤◌, ◌++◌, Bool, true, false, List, ℤ, [], ◌∷◌, length, Option}
 use Rattle.std.proofs.Common.{None, Some, Contains, is_some, Result, Ok, Err, refl, sym, ap, ◌∙◌, subst, arith, inl, inr}
-use Rattle.std.specs.Prelude.{◌↔◌, IsTrue, IsOk, IfOk, IfErr, nat_lt, nat_le, ◌&&◌}
-use Rattle.std.specs.List.{list_all}
+use Rattle.std.specs.Prelude.{◌↔◌, IsTrue, IfOk, IfErr, ◌&&◌}
+use Rattle.std.specs.List.{list_all, list_any}
 use Rattle.std.proofs.Math.Nat.{one-le-mul, two-pow-succ}
-use Rattle.std.proofs.lemmas.Bool.{and_from, cases_lt, lt-ltb, le-leb}
-use Rattle.std.proofs.lemmas.List.{length-append}
+use Rattle.std.proofs.lemmas.Bool.{and_from, cases_lt}
+use Rattle.std.proofs.lemmas.List.{append-nil, length-append}
 use Rattle.std.proofs.lemmas.List.Folds.{list_all-append}
 use Rattle.cnf_base.specs.Truth.{AreClausesOf, is_literal_of}
 use Rattle.cnf_base.specs.Formula.{Formula}
-use Rattle.cnf_base.specs.declared.step.Step.TheVariants.{Add}
-use Rattle.cnf_base.specs.ProofText.{is_id, is_printable, max_id}
-use Rattle.host_io.specs.Channel.{Channel, Rose}
+use Rattle.cnf_base.specs.declared.step.Step.{Step}
+use Rattle.cnf_base.specs.ProofText.{line_of_step}
+use Rattle.host_io.specs.Channel.{Channel}
 use Rattle.lrat_rules.specs.State.{State, Live, clause_at, start, with_clause}
-use Rattle.lrat_rules.specs.Derivation.{IsCutProof}
+use Rattle.lrat_rules.specs.Derivation.{IsDerivation, text_of}
 use Rattle.lrat_rules.specs.Marks.{in_use}
-use Rattle.lrat_rules.specs.Run.{Refutes}
-use Rattle.clause_ledger.specs.Book.{Book, IsProofOf, OnlyWrites, next_line, with_next}
+use Rattle.lrat_rules.specs.Run.{Refutes, step_adds_empty}
+use Rattle.clause_ledger.specs.Book.{AreNumbers, AreTold, Book, addition, with_next}
+use Rattle.clause_ledger.specs.Told.{told_formula, told_in_step, told_origin, told_state, told_steps}
 use Rattle.node_table.specs.Lean.{IsLean, live_above}
 use Rattle.node_table.specs.declared.error.TableError.{TableError}
 use Rattle.node_table.specs.declared.error.TableError.TheVariants as table
@@ -28,17 +29,9 @@ use Rattle.term_runner.specs.Clauses.{is_tautology, has_empty_clause, first_empt
 use Rattle.term_runner.specs.Price.{IsDecision, IsMovePrice, IsPaidFor, most_ids, most_nodes}
 use Rattle.term_runner.specs.Proofs.{IsBrokenOfKind, KeepsWithin}
 use Rattle.term_runner.specs.Ends.{Says, Shows, outcome_of}
-use Rattle.term_runner.specs.Opened.{IsOpened, Leads}
+use Rattle.term_runner.specs.Opened.{IsBehind, IsOpened, Leads}
 use Rattle.term_runner.proofs.Ending.{by_outcome, torn_of, whole_of, written_of}
 use Rattle.term_runner.proofs.FirstEmpty.{none_satisfies}
-
--- the line of the empty clause by one hint can be read again
-pub one_hint_printable : (id hint : ℕ) → 0 < id → id ≤ max_id → 0 < hint → hint ≤ max_id → is_printable (Add id [] (hint ∷ []) []) ≡ true
-one_hint_printable id hint some small some_hint small_hint =
-    let number : is_id id ≡ true = and_from (nat_lt 0 id) (nat_le id max_id) (lt-ltb 0 id some) (le-leb id max_id small) in
-    let one : is_id hint ≡ true = and_from (nat_lt 0 hint) (nat_le hint max_id) (lt-ltb 0 hint some_hint) (le-leb hint max_id small_hint) in
-    and_from ((is_id id && true) && (is_id hint && true)) true (and_from (is_id id && true) (is_id hint
-    && true) (and_from (is_id id) true number refl) (and_from (is_id hint) true one refl)) refl
 
 -- an empty clause is no tautology
 pub empty_is_open : (clauses : List (List ℤ)) → has_empty_clause clauses ≡ true → list_all is_tautology clauses ≡ false
@@ -158,30 +151,67 @@ some_moves formula [] plan has = absurd (none_pushed formula.clauses has plan.al
 some_moves formula (move ∷ moves) plan has = omega arith
 
 -- what the addition of the empty clause left
-pub record Added {S : Type 0} (tells : Bool) (before after : Channel) (hint : ℕ) (old new : Book S)
-    (result : Result (Option (List Bool)) TableError) : Type 0 where
-  pub found : IfOk result (λ found. (found ≡ None) × (new.state ≡ with_next old.state []))
-  pub refutes : (clauses : List (List ℤ)) → IsProofOf clauses tells before old.state → IsTrue tells → IsOk result
-      → Refutes clauses after.written
-  pub line : IsTrue tells → IsOk result → after.written ≡ before.written ++ next_line old.state [] (hint ∷ [])
-  pub in_step : result ≢ Err table.WriteFault → IsTrue new.in_step
-  pub kept : (clauses : List (List ℤ)) → IsProofOf clauses tells before old.state → result ≢ Err table.WriteFault
-      → IsProofOf clauses tells after new.state
-  pub cut : (clauses : List (List ℤ)) → IsProofOf clauses tells before old.state → IsTrue tells → result ≡ Err table.WriteFault
-      → IsCutProof clauses after.written old.state new.state
-  pub fault_state : result ≡ Err table.WriteFault → new.state ≡ with_next old.state []
-  pub fault : result ≡ Err table.WriteFault → Rose before.faults after.faults
-  pub unfailed : result ≢ Err table.WriteFault → after.faults ≡ before.faults
+pub record Added {S : Type 0} (hint : ℕ) (old new : Book S) (result : Result (Option (List Bool)) TableError) : Type 0 where
+  pub found : IfOk result (λ found. (found ≡ None) × AreTold true old new (addition old.state [] (hint ∷ []) ∷ []))
+  pub torn : result ≡ Err table.WriteFault → AreTold false old new (addition old.state [] (hint ∷ []) ∷ [])
   pub no_node_limit : result ≢ Err table.NodeLimit
   pub id_limit : (result ≡ Err table.IdLimit) ↔ (old.limit ≤ old.state.top)
-  pub refused : IfErr result (λ e. e ≢ table.WriteFault → new.state ≡ old.state)
-  pub only_writes : OnlyWrites before after
+  pub refused : IfErr result (λ e. e ≢ table.WriteFault → new ≡ old)
 
-module _ {S : Type 0} (unused : Unused) (appended : Appended) (none_above : NoneAbove) (few_live : FewLive) (tells : Bool)
-    (before after : Channel) (hint : ℕ) (old new : Book S) (result : Result (Option (List Bool)) TableError)
-    (added : Added tells before after hint old new result) (formula : Formula) (order : List ℕ) (moves : List Move) (limits : Limits)
-    (opened : IsOpened tells before formula limits.max_ids old)
+-- however it ended, the ledger is over the same sink and formula
+pub added_book : {S : Type 0} (hint : ℕ) (old new : Book S) (result : Result (Option (List Bool)) TableError) → Added hint old new result
+    → (new.origin ≡ old.origin) × (new.formula ≡ old.formula)
+added_book {S} hint old new result added = both result added.found added.torn added.refused
+  where
+    same : new ≡ old → (new.origin ≡ old.origin) × (new.formula ≡ old.formula)
+    same is = (ap (λ (b : Book S). b.origin) is, ap (λ (b : Book S). b.formula) is)
+
+    both : (r : Result (Option (List Bool)) TableError)
+        → IfOk r (λ found. (found ≡ None) × AreTold true old new (addition old.state [] (hint ∷ []) ∷ []))
+        → (r ≡ Err table.WriteFault → AreTold false old new (addition old.state [] (hint ∷ []) ∷ []))
+        → IfErr r (λ e. e ≢ table.WriteFault → new ≡ old) → (new.origin ≡ old.origin) × (new.formula ≡ old.formula)
+    both (Ok found) ok torn refused = (told_origin ok.1, told_formula ok.1)
+    both (Err table.NodeLimit) ok torn refused = same (refused (λ e. cc))
+    both (Err table.IdLimit) ok torn refused = same (refused (λ e. cc))
+    both (Err table.OutOfMemory) ok torn refused = same (refused (λ e. cc))
+    both (Err table.WriteFault) ok torn refused = let told = torn refl in (told_origin told, told_formula told)
+
+abbrev pub RefutesByStep : Type 0
+RefutesByStep = (clauses : List (List ℤ)) (steps : List Step) (state : State) → IsDerivation clauses steps state
+    → IsTrue (list_any step_adds_empty steps) → Refutes clauses (text_of steps)
+
+module _ {S : Type 0} (unused : Unused) (appended : Appended) (none_above : NoneAbove) (few_live : FewLive) (refutes : RefutesByStep)
+    (tells : Bool) (before after : Channel) (hint : ℕ) (old new : Book S) (result : Result (Option (List Bool)) TableError)
+    (added : Added hint old new result) (formula : Formula) (order : List ℕ) (moves : List Move) (limits : Limits)
+    (opened : IsOpened formula limits.max_ids old) (numbers : AreNumbers old.state.live old.state.top)
+    (behind : IsBehind tells before after formula.clauses new)
     (first : hint ≡ first_empty formula.clauses) (has : IsTrue (has_empty_clause formula.clauses)) (some : 0 < length moves) where
+  abbrev last : Step
+  last = addition old.state [] (hint ∷ [])
+
+  -- the only step
+  steps_are : (in_step : Bool) → AreTold in_step old new (last ∷ []) → new.steps ≡ last ∷ []
+  steps_are in_step told = told_steps told ∙ ap (λ (steps : List Step). steps ++ last ∷ []) opened.steps
+
+  state_of : (r : Result (Option (List Bool)) TableError) → IfOk r (λ found. (found ≡ None) × AreTold true old new (last ∷ []))
+      → IfOk r (λ found. (found ≡ None) × (new.state ≡ with_next old.state []))
+  state_of (Ok found) ok = (ok.0, told_state ok.1)
+  state_of (Err e) ok = tt
+
+  refused_state : (r : Result (Option (List Bool)) TableError) → IfErr r (λ e. e ≢ table.WriteFault → new ≡ old)
+      → IfErr r (λ e. e ≢ table.WriteFault → new.state ≡ old.state)
+  refused_state (Ok found) refused = tt
+  refused_state (Err e) refused = λ whole. ap (λ (b : Book S). b.state) (refused whole)
+
+  in_step_of : (r : Result (Option (List Bool)) TableError) → r ≢ Err table.WriteFault
+      → IfOk r (λ found. (found ≡ None) × AreTold true old new (last ∷ []))
+      → IfErr r (λ e. e ≢ table.WriteFault → new ≡ old) → IsTrue new.in_step
+  in_step_of (Ok found) whole ok refused = told_in_step ok.1
+  in_step_of (Err e) whole ok refused = ap (λ (b : Book S). b.in_step) (refused (λ torn. whole (ap Err torn))) ∙ opened.in_step
+
+  in_step_now : result ≢ Err table.WriteFault → IsTrue new.in_step
+  in_step_now whole = in_step_of result whole added.found added.refused
+
   top_at_start : old.state.top ≡ length formula.clauses
   top_at_start = ap (λ (s : State). s.top) opened.state
 
@@ -240,29 +270,30 @@ module _ {S : Type 0} (unused : Unused) (appended : Appended) (none_above : None
 
   none_found : (values : List Bool) → result ≡ Ok (Some values) → ⊥
   none_found values is = refuted (subst (λ (r : Result (Option (List Bool)) TableError). IfOk r (λ found. (found ≡ None)
-      × (new.state ≡ with_next old.state []))) is added.found).0
+      × (new.state ≡ with_next old.state []))) is (state_of result added.found)).0
     where
       refuted : Some values ≡ None → ⊥
       refuted e = cc
 
-  ok_of : (r : Result (Option (List Bool)) TableError) (found : Option (List Bool)) → r ≡ Ok found → IsOk r
-  ok_of (Ok x) found is = refl
-  ok_of (Err e) found is = cc
+  -- the step of the empty clause
+  told_ok : result ≡ Ok None → AreTold true old new (last ∷ [])
+  told_ok is = (subst (λ (r : Result (Option (List Bool)) TableError). IfOk r (λ found. (found ≡ None) × AreTold true old new (last ∷ [])))
+      is added.found).1
 
   refused_at_limit : result ≡ Err table.IdLimit → new.state ≡ old.state
   refused_at_limit is = subst (λ (r : Result (Option (List Bool)) TableError). IfErr r (λ e. e ≢ table.WriteFault → new.state
-      ≡ old.state)) is added.refused (λ e. cc)
+      ≡ old.state)) is (refused_state result added.refused) (λ e. cc)
 
   pub added_leads : Leads tells before after formula order moves limits new (outcome_of result)
   added_leads = record {
-    in_step = λ whole. added.in_step (whole_of result whole);
-    proof = λ whole. added.kept formula.clauses opened.proof (whole_of result whole);
-    within = λ whole. within_of limits result room_of (whole_of result whole) added.found added.refused;
-    paid = λ width price has paid whole. paid_of width price paid result (whole_of result whole) added.found added.refused;
+    in_step = λ whole. in_step_now (whole_of result whole);
+    written = λ whole t. written_of tells before after formula.clauses new behind t (in_step_now (whole_of result whole));
+    within = λ whole. within_of limits result room_of (whole_of result whole) (state_of result added.found) (refused_state result added.refused);
+    paid = λ width price has paid whole. paid_of width price paid result (whole_of result whole) (state_of result added.found) (refused_state result added.refused);
     broken = λ is t. broken_of_kind (KeepsWithin formula limits) is t (at_start_within limits)
-        (more_within limits (room_of (λ e. two_causes (sym (torn_of result is) ∙ e))) (added.fault_state (torn_of result is)));
+        (more_within limits (room_of (λ e. two_causes (sym (torn_of result is) ∙ e))) (told_state (added.torn (torn_of result is))));
     broken_paid = λ width price has paid is t. broken_of_kind (IsPaidFor formula limits moves width price) is t (at_start_paid width price)
-        (more_paid width price paid (added.fault_state (torn_of result is)));
+        (more_paid width price paid (told_state (added.torn (torn_of result is))));
     certain = λ width price has_width paid ample.
         by_outcome IsDecision result (λ _. tt) (λ values is. tt) (λ is. absurd (added.no_node_limit is))
         (λ is.
@@ -274,32 +305,34 @@ module _ {S : Type 0} (unused : Unused) (appended : Appended) (none_above : None
     shows = λ t.
         by_outcome (Shows formula limits after.written) result
         (λ is. record {
-          refutes = added.refutes formula.clauses opened.proof t (ok_of result None is);
-          at_once = λ _. added.line t (ok_of result None is) ∙ (λ k. opened.fresh t k ++ next_line (opened.state k) [] (first k ∷ []));
+          refutes = subst (Refutes formula.clauses) (sym (behind.text t (told_in_step (told_ok is))))
+              (refutes formula.clauses new.steps new.state behind.proof.derived
+              (ap (list_any step_adds_empty) (steps_are true (told_ok is))));
+          at_once = λ _. behind.text t (told_in_step (told_ok is)) ∙ ap text_of (steps_are true (told_ok is))
+              ∙ append-nil (line_of_step last) ∙ (λ k. line_of_step (addition (opened.state k) [] (first k ∷ [])));
         })
         (λ values is. absurd (none_found values is)) (λ is. absurd (added.no_node_limit is))
         (λ is.
         let limit = added.id_limit.0 is in
-        let proof = added.kept formula.clauses opened.proof (λ e. two_causes (sym e ∙ is)) in
         let same : new.state.top ≡ old.state.top = ap (λ (s : State). s.top) (refused_at_limit is) in
         record {
           some_open = empty_is_open formula.clauses has;
           state = new.state;
-          written = written_of formula.clauses tells after new.state proof t;
+          written = written_of tells before after formula.clauses new behind t (in_step_now (λ e. two_causes (sym e ∙ is)));
           used = omega (arith, limit, opened.limit, same);
           at_once = λ _. omega (arith, limit, opened.limit, top_at_start);
           unrefuted = λ id above empty. omega (
             arith,
             above,
             top_at_start,
-            (opened.proof.numbers id [] (sym (ap (λ (s : State). clause_at s.live id) (refused_at_limit is)) ∙ empty)).1,
+            (numbers id [] (sym (ap (λ (s : State). clause_at s.live id) (refused_at_limit is)) ∙ empty)).1,
           );
         });
-    fault = λ is. added.fault (torn_of result is);
-    unfailed = λ whole. added.unfailed (whole_of result whole);
+    fault = λ is. behind.rose (told_in_step (added.torn (torn_of result is)));
+    unfailed = λ whole. behind.unfailed (in_step_now (whole_of result whole));
     tautologies = λ all. absurd (let e : true ≡ false = sym all ∙ empty_is_open formula.clauses has in cc);
-    name = added.only_writes.name;
-    faults = added.only_writes.faults;
+    name = behind.name;
+    faults = behind.faults;
   }
     where
       two_causes : ◌≡◌ {A = Result (Option (List Bool)) TableError} (Err table.WriteFault) (Err table.IdLimit) → ⊥
@@ -308,9 +341,9 @@ module _ {S : Type 0} (unused : Unused) (appended : Appended) (none_above : None
       broken_of_kind : (kind : State → Type 0) → outcome_of result ≡ Err WriteFault → IsTrue tells → kind old.state → kind new.state
           → IsBrokenOfKind formula.clauses kind after.written
       broken_of_kind kind is t before_is after_is = record {
-        before = old.state;
+        before = start formula.clauses;
         after = new.state;
-        cut = added.cut formula.clauses opened.proof t (torn_of result is);
-        within_before = before_is;
+        cut = behind.cut t (told_in_step (added.torn (torn_of result is))) [] last (steps_are false (added.torn (torn_of result is)));
+        within_before = subst kind opened.state before_is;
         within_after = after_is;
       }

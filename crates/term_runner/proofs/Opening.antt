@@ -1,20 +1,20 @@
 -- From an opened ledger to the end of the moves.
-use Rattle.std.proofs.Common.{◌≡◌, ◌≢◌, ℕ, zero, suc, ◌+◌, ◌<◌, ◌≤◌, ◌⊎◌, Bool, true, false, ℤ, List, [], length, Option, None, Some}
+use Rattle.std.proofs.Common.{◌≡◌, ◌≢◌, ℕ, ◌+◌, ◌++◌, ◌∷◌, ◌<◌, ◌≤◌, ◌⊎◌, Bool, true, false, ℤ, List, [], length, Option, None, Some}
 use Rattle.std.proofs.Common.{Result, Ok, Err, refl, sym, ap, ◌∙◌, subst, arith, inl, inr}
 use Rattle.std.specs.Prelude.{IsTrue, IsFalse, IsSome, IfErr, IfOk, MatchOption, slice_index_or}
 use Rattle.std.specs.List.{list_all, list_any}
 use Rattle.std.specs.FinMap as map
-use Rattle.std.proofs.lemmas.Bool.{cases_lt}
 use Rattle.cnf_base.specs.declared.step.Step.{Step}
 use Rattle.cnf_base.specs.Truth.{Assignment, AreClausesOf, Satisfies}
 use Rattle.cnf_base.specs.Formula.{Formula}
 use Rattle.cnf_base.specs.ProofText.{is_empty}
 use Rattle.host_io.specs.Channel.{Channel}
 use Rattle.lrat_rules.specs.State.{State, Live, clause_at, start}
-use Rattle.lrat_rules.specs.Derivation.{IsDerivation, IsWritten}
+use Rattle.lrat_rules.specs.Derivation.{IsCutProof, IsDerivation, IsWritten}
 use Rattle.lrat_rules.specs.Run.{Refutes}
 use Rattle.lrat_rules.specs.Marks.{IsWithin, in_use}
-use Rattle.clause_ledger.specs.Book.{Book, IsProofOf}
+use Rattle.clause_ledger.specs.Book.{AreTold, after_steps}
+use Rattle.clause_ledger.specs.Told.{told_in_step, told_steps}
 use Rattle.node_table.specs.declared.error.TableError.{TableError}
 use Rattle.node_table.specs.declared.error.TableError.TheVariants.{NodeLimit, IdLimit, OutOfMemory, WriteFault}
 use Rattle.node_table.specs.Diagram.{Graph, levels}
@@ -33,66 +33,23 @@ use Rattle.term_runner.specs.Held.{IsReady}
 use Rattle.term_runner.specs.Price.{IsDecision, IsLeanAtEnd, IsMovePrice, IsPaid, IsPaidFor}
 use Rattle.term_runner.specs.Width.{HasWidth}
 use Rattle.term_runner.specs.Nodes.{RunsShort}
-use Rattle.term_runner.specs.Opened.{IsOpened, Leads, LeavesKind}
+use Rattle.term_runner.specs.Opened.{IsBehind, IsOpened, Leads, LeavesKind}
 use Rattle.term_runner.proofs.Parts.{is_wider, wider_less}
 use Rattle.term_runner.proofs.Leaving.{went_on}
 use Rattle.term_runner.proofs.Ending.{by_outcome, torn_of, whole_of, written_of}
-use Rattle.term_runner.proofs.OneLine.{NoneAbove}
 
 abbrev pub StartClauses : Type 0
 StartClauses = (clauses : List (List ℤ)) (i : ℕ) → i < length clauses → clause_at (start clauses).live (i + 1)
     ≡ Some (slice_index_or clauses i [])
 
-abbrev pub NoneAtZero : Type 0
-NoneAtZero = (clauses : List (List ℤ)) → clause_at (start clauses).live 0 ≡ None
-
-some_is_some : (clause : List ℤ) → None ≡ Some clause → ⊥
-some_is_some clause e = cc
-
--- at the start the formula's clauses have the numbers from 1 on
-numbered : NoneAtZero → NoneAbove → (clauses : List (List ℤ)) (id : ℕ) (clause : List ℤ) → clause_at (start clauses).live id ≡ Some clause
-    → (0 < id) × (id ≤ length clauses)
-numbered zero_law above clauses zero clause at = absurd (some_is_some clause (sym (zero_law clauses) ∙ at))
-numbered zero_law above clauses (suc id) clause at = elim (cases_lt (length clauses) (suc id)) [
-  | inl large ↦ absurd (some_is_some clause (sym (above clauses (suc id) large) ∙ at))
-  | inr small ↦ (omega arith, small)
-]
-
-pub proof_at_start : StartClauses → NoneAtZero → NoneAbove → ((clauses : List (List ℤ)) → IsDerivation clauses [] (start clauses))
-    → (clauses : List (List ℤ)) (tells : Bool) (channel : Channel) → (IsTrue tells → channel.written ≡ [])
-    → IsProofOf clauses tells channel (start clauses)
-proof_at_start there zero_law above none clauses tells channel fresh = record {
-  steps = [];
-  derived = none clauses;
-  text = fresh;
-  formula = there clauses;
-  numbers = numbered zero_law above clauses;
-  from_formula = omega arith;
-}
-
 -- nothing was written yet
-pub whole_at_start : (formula : Formula) (kind : State → Type 0) → kind (start formula.clauses) → (tells : Bool) (channel : Channel)
-    → IsProofOf formula.clauses tells channel (start formula.clauses) → IsTrue tells
-    → IsProofOfKind formula.clauses kind channel.written
-whole_at_start formula kind is tells channel proof t =
-    record {
-      state = start formula.clauses;
-      written = written_of formula.clauses tells channel (start formula.clauses) proof t;
-      within = is;
-    }
+pub written_at_start : ((clauses : List (List ℤ)) → IsDerivation clauses [] (start clauses)) → (clauses : List (List ℤ)) (bytes : List ℕ)
+    → bytes ≡ [] → IsWritten clauses bytes (start clauses)
+written_at_start none clauses bytes fresh = record { steps = []; derived = none clauses; text = fresh }
 
-pub opened_at : {S : Type 0} (tells : Bool) (channel : Channel) (formula : Formula) (max_ids : ℕ) (book : Book S)
-    → AreClausesOf formula.vars formula.clauses → book.state ≡ start formula.clauses → book.limit ≡ max_ids → IsTrue book.in_step
-    → IsProofOf formula.clauses tells channel (start formula.clauses) → (IsTrue tells → channel.written ≡ [])
-    → IsOpened tells channel formula max_ids book
-opened_at tells channel formula max_ids book literals state limit in_step proof fresh = record {
-  literals = literals;
-  state = state;
-  limit = limit;
-  in_step = in_step;
-  proof = subst (λ (s : State). IsProofOf formula.clauses tells channel s) (sym state) proof;
-  fresh = fresh;
-}
+pub whole_at_start : (formula : Formula) (kind : State → Type 0) → kind (start formula.clauses) → (bytes : List ℕ)
+    → IsWritten formula.clauses bytes (start formula.clauses) → IsProofOfKind formula.clauses kind bytes
+whole_at_start formula kind is bytes written = record { state = start formula.clauses; written = written; within = is }
 
 -- a table over the opened ledger is ready
 pub ready_at : {S : Type 0} → StartClauses → ((order : List ℕ) (clauses : List (List ℤ)) → IsOrder order
@@ -136,32 +93,24 @@ IsDecided formula order moves live found = MatchOption found ((id : ℕ)
 pub record Decided {S : Type 0} (tells : Bool) (before after : Channel) (formula : Formula) (order : List ℕ) (moves : List Move) (size : ℕ)
     (old new : TableState S) (result : Result (Option (List Bool)) TableError) : Type 0 where
   pub found : IfOk result (IsDecided formula order moves new.book.state.live)
-  pub leaves : Leaves tells before after old new (error_of result)
+  pub leaves : Leaves old new (error_of result)
   pub tautologies : IsTrue (list_all is_tautology formula.clauses) → after.written ≡ before.written
   pub open_clause : (result ≡ Err NodeLimit) ⊎ (result ≡ Err IdLimit) → IsFalse (list_all is_tautology formula.clauses)
   pub short : result ≡ Err NodeLimit → RunsShort formula order moves new.graph
   pub paid : (width price : ℕ) → HasWidth formula order moves width → IsMovePrice (levels old.graph) size width price
-      → LeavesKind tells before after old new (IsPaid (levels old.graph) old.inputs (length moves) size width price) (error_of result)
+      → LeavesKind old new (IsPaid (levels old.graph) old.inputs (length moves) size width price) (error_of result)
   pub lean : IfOk result (λ found. IsSome found → IsLeanAtEnd (levels old.graph) old.inputs size new.book.state)
   pub no_empty : IfErr result (λ e. e ≢ WriteFault → AddsNoEmpty old new)
   pub few : live_nodes new.graph ≤ new.max_nodes
 
-either : (result : Result (Option (List Bool)) TableError) (X : Type 0) → (result ≢ Err WriteFault → X) → (result ≡ Err WriteFault → X) → X
-either (Ok found) X whole torn = whole (λ e. cc)
-either (Err NodeLimit) X whole torn = whole (λ e. cc)
-either (Err IdLimit) X whole torn = whole (λ e. cc)
-either (Err OutOfMemory) X whole torn = whole (λ e. cc)
-either (Err WriteFault) X whole torn = torn refl
-
 -- a call in step left a state of the kind
-kind_of_whole : {S : Type 0} (tells : Bool) (before after : Channel) (old new : TableState S) (kind : State
-    → Type 0) (result : Result (Option (List Bool)) TableError) → result ≢ Err WriteFault
-    → LeavesKind tells before after old new kind (error_of result) → kind new.book.state
-kind_of_whole tells before after old new kind (Ok found) whole is = is
-kind_of_whole tells before after old new kind (Err NodeLimit) whole is = is
-kind_of_whole tells before after old new kind (Err IdLimit) whole is = is
-kind_of_whole tells before after old new kind (Err OutOfMemory) whole is = is
-kind_of_whole tells before after old new kind (Err WriteFault) whole is = absurd (whole refl)
+kind_of_whole : {S : Type 0} (old new : TableState S) (kind : State → Type 0) (result : Result (Option (List Bool)) TableError) → result ≢ Err WriteFault
+    → LeavesKind old new kind (error_of result) → kind new.book.state
+kind_of_whole old new kind (Ok found) whole is = is
+kind_of_whole old new kind (Err NodeLimit) whole is = is
+kind_of_whole old new kind (Err IdLimit) whole is = is
+kind_of_whole old new kind (Err OutOfMemory) whole is = is
+kind_of_whole old new kind (Err WriteFault) whole is = absurd (whole refl)
 
 abbrev pub DerivedEmpty : Type 0
 DerivedEmpty = (vars : ℕ) (clauses : List (List ℤ)) (steps : List Step) (state : State) (id : ℕ) → AreClausesOf vars clauses
@@ -176,35 +125,43 @@ module _ {S : Type 0} (canonical : Canonical) (unsatisfied : DerivedEmpty) (refu
     → IsTied graph state → in_use (levels graph) state ≡ live_nodes graph)
     (tells : Bool) (before after : Channel) (formula : Formula) (order : List ℕ) (moves : List Move) (limits : Limits)
     (old new : TableState S) (result : Result (Option (List Bool)) TableError)
-    (opened : IsOpened tells before formula limits.max_ids old.book) (ready : IsReady formula old []) (inputs : old.inputs
+    (opened : IsOpened formula limits.max_ids old.book) (behind : IsBehind tells before after formula.clauses new.book) (ready : IsReady formula old []) (inputs : old.inputs
     ≡ old.book.state.top) (few_nodes : old.max_nodes ≡ limits.max_nodes)
     (decided : Decided tells before after formula order moves limits.cache old new result) where
   has_none : (has : IsTrue (has_empty_clause formula.clauses)) → ⊥
   has_none has = let e : true ≡ false = sym has ∙ ready.none_empty in cc
 
-  grown : result ≢ Err WriteFault → Continues tells before after old new
-  grown = went_on tells before after old new result decided.leaves
+  grown : result ≢ Err WriteFault → Continues old new
+  grown = went_on old new result decided.leaves
 
-  torn : result ≡ Err WriteFault → BreaksOff tells before after old new
-  torn is = subst (λ (r : Result (Option (List Bool)) TableError). Leaves tells before after old new (error_of r)) is decided.leaves
+  torn : result ≡ Err WriteFault → BreaksOff old new
+  torn is = subst (λ (r : Result (Option (List Bool)) TableError). Leaves old new (error_of r)) is decided.leaves
 
   at_node_limit : result ≡ Err NodeLimit → new.max_nodes ≤ live_nodes new.graph
-  at_node_limit is = (subst (λ (r : Result (Option (List Bool)) TableError). Leaves tells before after old new
+  at_node_limit is = (subst (λ (r : Result (Option (List Bool)) TableError). Leaves old new
       (error_of r)) is decided.leaves).1
 
   at_id_limit : result ≡ Err IdLimit → new.book.limit < new.book.state.top + 4
-  at_id_limit is = (subst (λ (r : Result (Option (List Bool)) TableError). Leaves tells before after old new
+  at_id_limit is = (subst (λ (r : Result (Option (List Bool)) TableError). Leaves old new
       (error_of r)) is decided.leaves).1
 
   top_at_start : old.book.state.top ≡ length formula.clauses
   top_at_start = ap (λ (s : State). s.top) opened.state
 
-  -- the clauses that are never deleted are all of the formula's
-  all_inputs : length formula.clauses ≤ old.inputs
-  all_inputs = omega (arith, top_at_start, inputs)
+  in_step_now : result ≢ Err WriteFault → IsTrue new.book.in_step
+  in_step_now whole = (grown whole).sound.in_step
 
-  proof_new : result ≢ Err WriteFault → IsProofOf formula.clauses tells after new.book.state
-  proof_new whole = (grown whole).kept formula.clauses all_inputs opened.proof
+  written : result ≢ Err WriteFault → IsTrue tells → IsWritten formula.clauses after.written new.book.state
+  written whole t = written_of tells before after formula.clauses new.book behind t (in_step_now whole)
+
+  -- the steps since the start, the last of which was cut short
+  cut_at : (more earlier : List Step) (last : Step) (middle : State) → AreTold false old.book new.book more → more ≡ earlier ++ last ∷ []
+      → after_steps old.book.state earlier ≡ middle → IsTrue tells → IsCutProof formula.clauses after.written middle new.book.state
+  cut_at more earlier last middle told parts leads t =
+      subst (λ (s : State). IsCutProof formula.clauses after.written s new.book.state)
+      (ap (λ (s : State). after_steps s earlier) (sym opened.state) ∙ leads)
+      (behind.cut t (told_in_step told) earlier last
+      (told_steps told ∙ (λ i. opened.steps i ++ parts i)))
 
   -- the extension variables in use are as many as the nodes
   used : (whole : result ≢ Err WriteFault) → in_use formula.vars new.book.state ≡ live_nodes new.graph
@@ -234,7 +191,7 @@ module _ {S : Type 0} (canonical : Canonical) (unsatisfied : DerivedEmpty) (refu
   same_inputs = inputs ∙ top_at_start
 
   own_price : (width price : ℕ) → HasWidth formula order moves width → IsMovePrice formula.vars limits.cache width price
-      → LeavesKind tells before after old new (IsPaid (levels old.graph) old.inputs (length moves) limits.cache width price)
+      → LeavesKind old new (IsPaid (levels old.graph) old.inputs (length moves) limits.cache width price)
       (error_of result)
   own_price width price has is = decided.paid width price has (subst (λ (vars : ℕ). IsMovePrice vars limits.cache width price)
       (sym ready.vars) is)
@@ -248,7 +205,7 @@ module _ {S : Type 0} (canonical : Canonical) (unsatisfied : DerivedEmpty) (refu
   paid : (width price : ℕ) → HasWidth formula order moves width → IsMovePrice formula.vars limits.cache width price → result
       ≢ Err WriteFault → IsPaidFor formula limits moves width price new.book.state
   paid width price has is whole =
-      as_paid width price new.book.state (kind_of_whole tells before after old new
+      as_paid width price new.book.state (kind_of_whole old new
       (IsPaid (levels old.graph) old.inputs (length moves) limits.cache width price) result whole (own_price width price has is))
 
   broken_paid : (width price : ℕ) → HasWidth formula order moves width → IsMovePrice formula.vars limits.cache width price → result
@@ -256,15 +213,14 @@ module _ {S : Type 0} (canonical : Canonical) (unsatisfied : DerivedEmpty) (refu
       → IsBrokenOfKind formula.clauses (IsPaidFor formula limits moves width price) after.written
   broken_paid width price has is torn_is t =
       let kind = IsPaid (levels old.graph) old.inputs (length moves) limits.cache width price in
-      let own = subst (λ (r : Result (Option (List Bool)) TableError). LeavesKind tells before after old new kind (error_of r)) torn_is
+      let own = subst (λ (r : Result (Option (List Bool)) TableError). LeavesKind old new kind (error_of r)) torn_is
       (own_price width price has is) in
-      let cut = own formula.clauses all_inputs opened.proof t in
       record {
-        before = cut.before;
-        after = cut.after;
-        cut = cut.cut;
-        within_before = as_paid width price cut.before cut.within_before;
-        within_after = as_paid width price cut.after cut.within_after;
+        before = own.before;
+        after = new.book.state;
+        cut = cut_at own.more own.earlier own.last own.before own.told own.parts own.leads t;
+        within_before = as_paid width price own.before own.within_before;
+        within_after = as_paid width price new.book.state own.within_after;
       }
 
   -- with a model few clauses are left
@@ -282,7 +238,7 @@ module _ {S : Type 0} (canonical : Canonical) (unsatisfied : DerivedEmpty) (refu
       let none = subst (λ (r : Result (Option (List Bool)) TableError). IfErr r (λ e. e ≢ WriteFault → AddsNoEmpty old new)) is
       decided.no_empty other in
       let was = none.each id empty in
-      omega (arith, (opened.proof.numbers id [] was).1, top_at_start, above)
+      omega (arith, (ready.sound.tied.numbers id [] was).1, top_at_start, above)
 
   not_torn : (other : Result (Option (List Bool)) TableError) → result ≡ other → other ≢ Err WriteFault → result ≢ Err WriteFault
   not_torn other is differs e = differs (sym is ∙ e)
@@ -294,9 +250,8 @@ module _ {S : Type 0} (canonical : Canonical) (unsatisfied : DerivedEmpty) (refu
   says : IfOk (outcome_of result) (Says formula order moves limits)
   says = by_outcome (Says formula order moves limits) result
       (λ is.
-      let proof = proof_new (not_torn (Ok None) is (λ e. cc)) in
       let empty = found_in None is in
-      unsatisfied formula.vars formula.clauses proof.steps new.book.state empty.0 opened.literals proof.derived empty.1)
+      unsatisfied formula.vars formula.clauses new.book.steps new.book.state empty.0 opened.literals behind.proof.derived empty.1)
       (λ values is. found_in (Some values) is)
       (λ is.
       let more = grown (not_torn (Err NodeLimit) is (λ e. cc)) in
@@ -310,13 +265,12 @@ module _ {S : Type 0} (canonical : Canonical) (unsatisfied : DerivedEmpty) (refu
       let empty = found_in None is in
       record {
         refutes = refutes formula.clauses after.written new.book.state empty.0
-            (written_of formula.clauses tells after new.book.state
-            (proof_new (not_torn (Ok None) is (λ e. cc))) t) ready.none_empty empty.1;
+            (written (not_torn (Ok None) is (λ e. cc)) t) ready.none_empty empty.1;
         at_once = λ has. absurd (has_none has);
       })
       (λ values is. record {
         state = new.book.state;
-        written = written_of formula.clauses tells after new.book.state (proof_new (not_torn (Ok (Some values)) is (λ e. cc))) t;
+        written = written (not_torn (Ok (Some values)) is (λ e. cc)) t;
         within = lean values is;
       })
       (λ is.
@@ -325,7 +279,7 @@ module _ {S : Type 0} (canonical : Canonical) (unsatisfied : DerivedEmpty) (refu
         none_empty = ready.none_empty;
         some_open = decided.open_clause (inl is);
         state = new.book.state;
-        written = written_of formula.clauses tells after new.book.state (proof_new whole) t;
+        written = written whole t;
         used = omega (arith, used whole, at_node_limit is, decided.few, (grown whole).max_nodes, few_nodes);
         unrefuted = unrefuted NodeLimit is (λ e. cc);
       })
@@ -334,7 +288,7 @@ module _ {S : Type 0} (canonical : Canonical) (unsatisfied : DerivedEmpty) (refu
       record {
         some_open = decided.open_clause (inr is);
         state = new.book.state;
-        written = written_of formula.clauses tells after new.book.state (proof_new whole) t;
+        written = written whole t;
         used = omega (arith, at_id_limit is, (grown whole).limit, opened.limit);
         at_once = λ has. absurd (has_none has);
         unrefuted = unrefuted IdLimit is (λ e. cc);
@@ -343,15 +297,16 @@ module _ {S : Type 0} (canonical : Canonical) (unsatisfied : DerivedEmpty) (refu
   pub decided_leads : Leads tells before after formula order moves limits new.book (outcome_of result)
   decided_leads = record {
     in_step = λ whole. (grown (whole_of result whole)).sound.in_step;
-    proof = λ whole. proof_new (whole_of result whole);
+    written = λ whole t. written (whole_of result whole) t;
     within = λ whole. within (whole_of result whole);
     broken = λ is t.
-        let cut = (torn (torn_of result is)).cut formula.clauses all_inputs opened.proof t in
-        let few = (torn (torn_of result is)).few in
+        let off = torn (torn_of result is) in
+        let cut = off.cut in
+        let few = off.few in
         record {
           before = cut.before;
           after = new.book.state;
-          cut = cut.cut;
+          cut = cut_at off.more cut.earlier cut.last cut.before off.told cut.parts cut.leads t;
           within_before = within_limits few cut.before cut.within_before;
           within_after = within_limits few new.book.state cut.within_after;
         };
@@ -370,9 +325,9 @@ module _ {S : Type 0} (canonical : Canonical) (unsatisfied : DerivedEmpty) (refu
         omega (arith, at_id_limit is, (grown whole).limit, opened.limit, last, ample.1));
     says = says;
     shows = shows;
-    fault = λ is. (torn (torn_of result is)).rose;
-    unfailed = λ whole. (grown (whole_of result whole)).unfailed;
+    fault = λ is. behind.rose (torn (torn_of result is)).out_of_step;
+    unfailed = λ whole. behind.unfailed (in_step_now (whole_of result whole));
     tautologies = decided.tautologies;
-    name = either result (after.name ≡ before.name) (λ whole. (grown whole).writes.name) (λ is. (torn is).writes.name);
-    faults = either result (before.faults ≤ after.faults) (λ whole. (grown whole).writes.faults) (λ is. (torn is).writes.faults);
+    name = behind.name;
+    faults = behind.faults;
   }

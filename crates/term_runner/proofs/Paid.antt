@@ -1,10 +1,13 @@
 -- What a move leaves, however it ends, keeps within the price of the plan's width.
-use Rattle.std.proofs.Common.{◌≡◌, ◌∙◌, ℕ, ◌+◌, ◌-◌, ◌*◌, ◌≤◌, ℤ, List, [], length, Bool, true, false, Option, None, Some, Result, is_some}
+use Rattle.std.proofs.Common.{◌≡◌, ◌∙◌, ℕ, ◌+◌, ◌-◌, ◌*◌, ◌≤◌, ◌++◌, ◌∷◌, ℤ, List, [], length, true, false, Option, None, Some, Result, is_some}
 use Rattle.std.proofs.Common.{refl, sym, ap, subst, arith, inl}
 use Rattle.std.specs.Prelude.{IsErrAnd}
-use Rattle.host_io.specs.Channel.{Channel}
+use Rattle.std.proofs.lemmas.List.{append_assoc}
+use Rattle.cnf_base.specs.declared.step.Step.{Step}
 use Rattle.lrat_rules.specs.State.{State, clause_at}
 use Rattle.lrat_rules.specs.Marks.{in_use}
+use Rattle.clause_ledger.specs.Book.{after_steps}
+use Rattle.clause_ledger.specs.Told.{after_steps-append, told_further, told_state}
 use Rattle.node_table.specs.declared.error.TableError.{TableError}
 use Rattle.node_table.specs.declared.error.TableError.TheVariants.{NodeLimit, IdLimit, OutOfMemory, WriteFault}
 use Rattle.node_table.specs.Diagram.{Graph, levels}
@@ -28,8 +31,8 @@ InUse = (graph : Graph) (state : State) → IsTied graph state → in_use (level
 lean_more : (vars inputs few more : ℕ) (state : State) → few ≤ more → IsLean vars inputs few state → IsLean vars inputs more state
 lean_more vars inputs few more state less lean = omega (arith, less, lean)
 
-module _ {S : Type 0} (lean : Lean S) (uses : InUse) (tells : Bool) (one two three : Channel) (first mid new : TableState S)
-    (so_far : Continues tells one two first mid) where
+module _ {S : Type 0} (lean : Lean S) (uses : InUse) (first mid new : TableState S)
+    (so_far : Continues first mid) where
   -- a state behind the table in the middle
   module _ (size number moves width price : ℕ) (added : HasAdded mid number) (few : number ≤ 2 * size
       + first.inputs) (ids : new.book.state.top ≤ first.inputs + moves * price)
@@ -48,7 +51,7 @@ module _ {S : Type 0} (lean : Lean S) (uses : InUse) (tells : Bool) (one two thr
         lean_more (levels first.graph) first.inputs (number + (state.top - mid.book.state.top)) (2 * size + first.inputs
         + price) state (omega (arith, few, near, within)) there
 
-    on : Continues tells two three mid new → Kind new.book.state
+    on : Continues mid new → Kind new.book.state
     on more = record {
       within = record {
         numbers = ids;
@@ -58,16 +61,21 @@ module _ {S : Type 0} (lean : Lean S) (uses : InUse) (tells : Bool) (one two thr
       lean = lean_behind new.book.state more.since (omega arith);
     }
 
-    off : BreaksOff tells two three mid new → LeavesKind tells one three first new Kind (Some WriteFault)
-    off broken clauses small proof told =
-        let cut = broken.cut clauses (omega (arith, small, so_far.inputs)) (so_far.kept clauses small proof) told in
+    off : BreaksOff mid new → LeavesKind first new Kind (Some WriteFault)
+    off broken =
+        let cut = broken.cut in
         let nodes_in : (state : State) → in_use (levels mid.graph) state ≤ live_nodes new.graph → in_use (levels first.graph) state
         ≤ most_nodes width =
         λ state own. subst (λ (vars : ℕ). in_use vars state ≤ most_nodes width) (ap length so_far.order) (omega (arith, own, nodes)) in
         record {
+          more = so_far.more ++ broken.more;
+          told = told_further false first.book mid.book new.book so_far.more broken.more so_far.told broken.told;
+          earlier = so_far.more ++ cut.earlier;
+          last = cut.last;
+          parts = ap (λ (more : List Step). so_far.more ++ more) cut.parts ∙ sym (append_assoc so_far.more cut.earlier (cut.last ∷ []));
           before = cut.before;
-          after = new.book.state;
-          cut = cut.cut;
+          leads = after_steps-append first.book.state so_far.more cut.earlier
+              ∙ ap (λ (s : State). after_steps s cut.earlier) (sym (told_state so_far.told)) ∙ cut.leads;
           within_before = record {
             within = record {
               numbers = omega (arith, cut.no_less, ids);
@@ -81,7 +89,7 @@ module _ {S : Type 0} (lean : Lean S) (uses : InUse) (tells : Bool) (one two thr
           };
         }
 
-    pub paid_behind : (error : Option TableError) → Leaves tells two three mid new error → LeavesKind tells one three first new Kind error
+    pub paid_behind : (error : Option TableError) → Leaves mid new error → LeavesKind first new Kind error
     paid_behind None leaves = on leaves
     paid_behind (Some NodeLimit) leaves = on leaves.0
     paid_behind (Some IdLimit) leaves = on leaves.0
@@ -110,8 +118,8 @@ lean_here lean table sound number added =
     (omega arith) own
 
 -- want of memory leaves all in step
-pub kind_of_memory : {S T : Type 0} (tells : Bool) (before after : Channel) (old new : TableState S) (kind : State
+pub kind_of_memory : {S T : Type 0} (old new : TableState S) (kind : State
     → Type 0) (r : Result T TableError) → IsErrAnd r (λ e. e ≡ OutOfMemory) → kind new.book.state
-    → LeavesKind tells before after old new kind (error_of r)
-kind_of_memory tells before after old new kind r is such = subst
-    (λ (error : Option TableError). LeavesKind tells before after old new kind error) (sym (error_handed r OutOfMemory is)) such
+    → LeavesKind old new kind (error_of r)
+kind_of_memory old new kind r is such = subst
+    (λ (error : Option TableError). LeavesKind old new kind error) (sym (error_handed r OutOfMemory is)) such

@@ -1,10 +1,9 @@
 -- How many numbers a try of a move gives, and a move in two tries.
-use Rattle.std.proofs.Common.{◌≡◌, ℕ, zero, suc, ◌+◌, ◌*◌, ◌^◌, ◌≤◌, ◌∙◌, Bool, nat_cmp, List, Option, None, Some, refl, sym, ap, subst}
+use Rattle.std.proofs.Common.{◌≡◌, ℕ, zero, suc, ◌+◌, ◌*◌, ◌^◌, ◌≤◌, ◌∙◌, nat_cmp, List, Option, None, Some, refl, sym, ap, subst}
 use Rattle.std.proofs.Common.{arith, inl, inr}
 use Rattle.std.specs.FinMap as map
 use Rattle.std.proofs.Math.Nat.{add-mul, mul-add, mul-one, one-mul, two-pow-succ}
 use Rattle.cnf_base.specs.Formula.{Formula}
-use Rattle.host_io.specs.Channel.{Channel}
 use Rattle.node_table.specs.declared.error.TableError.{TableError}
 use Rattle.node_table.specs.declared.error.TableError.TheVariants.{NodeLimit, IdLimit, OutOfMemory, WriteFault}
 use Rattle.node_table.specs.declared.node.Branch.{Branch}
@@ -40,13 +39,13 @@ half_price vars size width price is first last any room = elim is [
 ]
 
 -- however a call ends, the nodes are reduced
-reduced_left : {S : Type 0} (tells : Bool) (before after : Channel) (old new : TableState S) (error : Option TableError)
-    → Leaves tells before after old new error → IsReduced new.graph
-reduced_left tells before after old new None leaves = leaves.sound.tied.reduced
-reduced_left tells before after old new (Some NodeLimit) leaves = leaves.0.sound.tied.reduced
-reduced_left tells before after old new (Some IdLimit) leaves = leaves.0.sound.tied.reduced
-reduced_left tells before after old new (Some OutOfMemory) leaves = leaves.sound.tied.reduced
-reduced_left tells before after old new (Some WriteFault) leaves = leaves.reduced
+reduced_left : {S : Type 0} (old new : TableState S) (error : Option TableError)
+    → Leaves old new error → IsReduced new.graph
+reduced_left old new None leaves = leaves.sound.tied.reduced
+reduced_left old new (Some NodeLimit) leaves = leaves.0.sound.tied.reduced
+reduced_left old new (Some IdLimit) leaves = leaves.0.sound.tied.reduced
+reduced_left old new (Some OutOfMemory) leaves = leaves.sound.tied.reduced
+reduced_left old new (Some WriteFault) leaves = leaves.reduced
 
 -- so many moves and one more
 pub one_more : (count price : ℕ) → (count + 1) * price ≡ count * price + price
@@ -68,14 +67,13 @@ moved_few old new left width tidy few adds =
 
 -- one try, however it ends
 module _ {S : Type 0} (canonical : Canonical) (formula : Formula) (order : List ℕ) (before after : Stage) (step : Move)
-    (leads : after_move formula before step ≡ Some after) (old new : TableState S)
-    (tells : Bool) (one other : Channel) (error : Option TableError) (leaves : Leaves tells one other old new error)
+    (leads : after_move formula before step ≡ Some after) (old new : TableState S) (error : Option TableError) (leaves : Leaves old new error)
     (keeps : KeepsNodes old.graph new.graph)
     (made : KeepsOrMakes old.graph new.graph (top_function formula order after.stack)) (width : ℕ)
     (most : HoldsAtMost formula order before after width) where
   pub tried_few : live_nodes new.graph ≤ live_nodes old.graph + width
   tried_few =
-      few_made old.graph new.graph keeps canonical formula order before after (reduced_left tells one other old new error leaves)
+      few_made old.graph new.graph keeps canonical formula order before after (reduced_left old new error leaves)
       (λ key branch at none. elim (made.each key branch at) [
         | inl there ↦ absurd (let wrong : Some branch ≡ None = sym there.0 ∙ none in cc)
         | inr part ↦ result_part formula order before after step leads _ part

@@ -1,13 +1,12 @@
 -- The units of the stacked terms, as a move gives one in the place of its operands', which are retired, and as the retired
 -- clauses are deleted.
-use Rattle.std.proofs.Common.{◌≡◌, ◌⊎◌, ◌∙◌, ◌≤◌, ◌++◌, ℕ, zero, suc, Bool, List, [], ◌∷◌, Contains, refl, sym, ap, subst, arith, inl, inr}
+use Rattle.std.proofs.Common.{◌≡◌, ◌⊎◌, ◌∙◌, ◌≤◌, ◌++◌, ℕ, zero, suc, List, [], ◌∷◌, Contains, refl, sym, ap, subst, arith, inl, inr}
 use Rattle.std.proofs.lemmas.Bool.{cases_lt}
 use Rattle.std.proofs.lemmas.List.Elements.{Contains-append_left, Contains-append_right, Contains-append_cases}
 use Rattle.node_table.specs.declared.node.Just.{Just}
 use Rattle.node_table.specs.declared.node.Just.TheVariants.{Clause}
 use Rattle.node_table.specs.Laws.{StepByStep}
 use Rattle.node_table.specs.Table.{TableState, Extends, IsAddedTo, IsSound}
-use Rattle.host_io.specs.Channel.{Channel}
 use Rattle.operations.specs.Entries.{Entry, IsAccounted, NamesOnly, RetiresOwn}
 use Rattle.term_runner.specs.declared.held.HeldTerm.{HeldTerm}
 use Rattle.term_runner.specs.Held.{GivesUnit, HasUnits, IsUnitOf, RetiresBut, UnitsApart}
@@ -102,7 +101,7 @@ module _ {S : Type 0} where
       (has.own is.held is.stacked id is.unit) retires named
 
 -- The one unit takes the place of the operands'.
-module _ {S : Type 0} (tells : Bool) (channel : S → Channel) (laws : StepByStep tells channel) (old new last : TableState S)
+module _ {S : Type 0} (laws : StepByStep S) (old new last : TableState S)
     (before after : List Entry) (operands rest : List HeldTerm) (result : HeldTerm)
     (sound : IsSound old) (more : IsSound new) (extends : Extends old new) (has : HasUnits old before (operands ++ rest))
     (gives : GivesUnit old new before after operands result.unit)

@@ -1,8 +1,7 @@
 -- A unit that is retired unless it is kept.
-use Rattle.std.proofs.Common.{◌≡◌, ◌⊎◌, ◌∙◌, ℕ, Bool, List, Contains, Option, None, Some, sym, ap, subst, inl, inr}
+use Rattle.std.proofs.Common.{◌≡◌, ◌⊎◌, ◌∙◌, ℕ, List, Contains, Option, None, Some, sym, ap, subst, inl, inr}
 use Rattle.std.specs.Prelude.{MatchOption}
 use Rattle.std.proofs.lemmas.List.Elements.{Contains-append_left}
-use Rattle.host_io.specs.Channel.{Channel}
 use Rattle.node_table.specs.declared.node.Just.{Just}
 use Rattle.node_table.specs.declared.node.Just.TheVariants.{Clause}
 use Rattle.node_table.specs.Table.{TableState}
@@ -33,10 +32,10 @@ given_or_kept : (unit kept : Just) (given : Option ℕ) → IsGivenUp unit kept 
 given_or_kept unit kept None up id is = inr (up id is)
 given_or_kept unit kept (Some other) up id is = inl (ap Some (same_clause other id (sym up.0 ∙ is)))
 
-pub retired_but : {S : Type 0} (tells : Bool) (channel : S → Channel) (old new : TableState S) (unit kept : Just) (given : Option ℕ)
-    → IsGivenUp unit kept given → RetiresOne tells channel old new given
+pub retired_but : {S : Type 0} (old new : TableState S) (unit kept : Just) (given : Option ℕ)
+    → IsGivenUp unit kept given → RetiresOne old new given
     → RetiresBut old new unit kept
-retired_but tells channel old new unit kept given up one = record {
+retired_but old new unit kept given up one = record {
   same = one.same;
   still = λ id there. subst (λ (ids : List ℕ). Contains ids id) (sym one.steps.extends.retired)
       (Contains-append_left old.retired one.steps.extends.more id there);

@@ -1,11 +1,14 @@
 -- A run's beginning and its end, over the ledger.
-use Rattle.std.specs.Prelude.{◌≡◌, ◌≢◌, ◌⊎◌, ◌≤◌, ℕ, ℤ, max, Bool, List, [], length, Option, None, Some, Result, Err, IfOk, IsTrue}
+use Rattle.std.specs.Prelude.{◌≡◌, ◌≢◌, ◌⊎◌, ◌≤◌, ◌++◌, ℕ, ℤ, max, Bool, false, List, [], ◌∷◌, length, Option, None, Some, Result, Err}
+use Rattle.std.specs.Prelude.{IfOk, IsTrue}
 use Rattle.std.specs.List.{list_all}
+use Rattle.cnf_base.specs.declared.step.Step.{Step}
 use Rattle.cnf_base.specs.Truth.{AreClausesOf}
 use Rattle.cnf_base.specs.Formula.{Formula}
 use Rattle.host_io.specs.Channel.{Channel, Rose}
 use Rattle.lrat_rules.specs.State.{State, start}
-use Rattle.clause_ledger.specs.Book.{Book, IsProofOf}
+use Rattle.lrat_rules.specs.Derivation.{IsCutProof, IsWritten, text_of}
+use Rattle.clause_ledger.specs.Book.{AreTold, Book, IsProofOf, after_steps}
 use Rattle.node_table.specs.declared.error.TableError.{TableError}
 use Rattle.node_table.specs.declared.error.TableError.TheVariants as table
 use Rattle.node_table.specs.Table.{TableState}
@@ -21,14 +24,26 @@ use Rattle.term_runner.specs.Price.{AreAmple, IsDecision, IsMovePrice, IsPaidFor
 use Rattle.term_runner.specs.Proofs.{IsBroken, IsBrokenOfKind, KeepsWithin}
 use Rattle.term_runner.specs.Width.{HasWidth}
 
--- a ledger as it was opened over a formula: its clauses, over its variables, are live, and nothing was written
-pub record IsOpened {S : Type 0} (tells : Bool) (channel : Channel) (formula : Formula) (max_ids : ℕ) (book : Book S) : Type 0 where
+-- a ledger as it was opened over a formula: its clauses, over its variables, are live, and no step was told
+pub record IsOpened {S : Type 0} (formula : Formula) (max_ids : ℕ) (book : Book S) : Type 0 where
   pub literals : AreClausesOf formula.vars formula.clauses
+  pub of_formula : book.formula ≡ formula.clauses
+  pub steps : book.steps ≡ []
   pub state : book.state ≡ start formula.clauses
   pub limit : book.limit ≡ max_ids
   pub in_step : IsTrue book.in_step
-  pub proof : IsProofOf formula.clauses tells channel book.state
-  pub fresh : IsTrue tells → channel.written ≡ []
+
+-- What stands behind a ledger over these clauses, whose sink had no bytes: the lines of its steps, which prove what is live; out
+-- of step the last one may be cut short.
+pub record IsBehind {S : Type 0} (tells : Bool) (before after : Channel) (clauses : List (List ℤ)) (book : Book S) : Type 0 where
+  pub proof : IsProofOf clauses book.steps book.state
+  pub text : IsTrue tells → IsTrue book.in_step → after.written ≡ text_of book.steps
+  pub cut : IsTrue tells → book.in_step ≡ false → (earlier : List Step) (last : Step) → book.steps ≡ earlier ++ last ∷ []
+      → IsCutProof clauses after.written (after_steps (start clauses) earlier) book.state
+  pub name : after.name ≡ before.name
+  pub faults : before.faults ≤ after.faults
+  pub unfailed : IsTrue book.in_step → after.faults ≡ before.faults
+  pub rose : book.in_step ≡ false → Rose before.faults after.faults
 
 -- The result stands after a flush that didn't fail, or the flush failed; no byte changed.
 pub record IsFlushed (tells : Bool) (before after : Channel) (found result : Result Run RunError) : Type 0 where
@@ -38,22 +53,31 @@ pub record IsFlushed (tells : Bool) (before after : Channel) (found result : Res
   pub name : after.name ≡ before.name
   pub faults : before.faults ≤ after.faults
 
+-- these steps were told, the line of the last one cut short, and the states before it and behind it are of this kind
+pub record BreaksKind {S : Type 0} (kind : State → Type 0) (old new : Book S) : Type 0 where
+  pub more : List Step
+  pub told : AreTold false old new more
+  pub earlier : List Step
+  pub last : Step
+  pub parts : more ≡ earlier ++ last ∷ []
+  pub before : State
+  pub leads : after_steps old.state earlier ≡ before
+  pub within_before : kind before
+  pub within_after : kind new.state
+
 -- The state that a call left is of this kind; after a failed write, so are those before and behind the line that it cut.
-abbrev pub LeavesKind : {S : Type 0} → Bool → Channel → Channel → TableState S → TableState S → (State → Type 0) → Option TableError
-    → Type 0
-LeavesKind tells before after old new kind None = kind new.book.state
-LeavesKind tells before after old new kind (Some table.NodeLimit) = kind new.book.state
-LeavesKind tells before after old new kind (Some table.IdLimit) = kind new.book.state
-LeavesKind tells before after old new kind (Some table.OutOfMemory) = kind new.book.state
-LeavesKind tells before after old new kind (Some table.WriteFault) = (clauses : List (List ℤ)) → length clauses ≤ old.inputs
-    → IsProofOf clauses tells before old.book.state → IsTrue tells
-    → IsBrokenOfKind clauses kind after.written
+abbrev pub LeavesKind : {S : Type 0} → TableState S → TableState S → (State → Type 0) → Option TableError → Type 0
+LeavesKind old new kind None = kind new.book.state
+LeavesKind old new kind (Some table.NodeLimit) = kind new.book.state
+LeavesKind old new kind (Some table.IdLimit) = kind new.book.state
+LeavesKind old new kind (Some table.OutOfMemory) = kind new.book.state
+LeavesKind old new kind (Some table.WriteFault) = BreaksKind kind old.book new.book
 
 -- What the moves led to, before the proof is flushed: each outcome is true, and shown by what was written.
 pub record Leads {S : Type 0} (tells : Bool) (before after : Channel) (formula : Formula) (order : List ℕ) (moves : List Move)
     (limits : Limits) (book : Book S) (found : Result Outcome RunError) : Type 0 where
   pub in_step : found ≢ Err WriteFault → IsTrue book.in_step
-  pub proof : found ≢ Err WriteFault → IsProofOf formula.clauses tells after book.state
+  pub written : found ≢ Err WriteFault → IsTrue tells → IsWritten formula.clauses after.written book.state
   pub within : found ≢ Err WriteFault → KeepsWithin formula limits book.state
   pub broken : found ≡ Err WriteFault → IsTrue tells → IsBroken formula limits after.written
   -- the same by the price of the plan's width

@@ -72,7 +72,7 @@ impl Caches {
         requires second { IsTrue (is_node table.old.graph v) }
         requires fits { Fits table.old (all_entries self.old) }
         ensures conjoined { IfOk result (λ found. Conjoined table.new.graph table.new.book.state.live u v found.0 found.1) }
-        ensures steps { Steps S.tells (S.channel table.old.book.sink) (S.channel table.new.book.sink) table.old table.new
+        ensures steps { Steps table.old table.new
             (most_additions (levels table.old.graph)) (error_of result) }
         ensures keeps { KeepsEntries table.old table.new (all_entries self.old) (all_entries self.new) (error_of result) }
         ensures accounts { UnlessTorn result (Accounts table.old table.new (all_entries self.old) (all_entries self.new)) }
@@ -83,7 +83,6 @@ impl Caches {
         ensures sizes { sizes self.new ≡ sizes self.old }
         ensures made { MakesOnly table.old.graph table.new.graph (conjunction_of table.old.graph u v) }
         ensures lacks { result ≡ Err NodeLimit → LacksPart table.new.graph (conjunction_of table.old.graph u v) }
-        ensures beside { S.beside table.new.book.sink ≡ S.beside table.old.book.sink }
     {
         steps_law::<S>();
         entry_law::<S>();
@@ -102,7 +101,7 @@ impl Caches {
         requires second { IsTrue (is_node table.old.graph v) }
         requires fits { Fits table.old (all_entries self.old) }
         ensures decided { IfOk result (λ answer. IsDecided table.new.graph table.new.book.state.live u v answer) }
-        ensures steps { Steps S.tells (S.channel table.old.book.sink) (S.channel table.new.book.sink) table.old table.new
+        ensures steps { Steps table.old table.new
             (most_additions (levels table.old.graph)) (error_of result) }
         ensures keeps { KeepsEntries table.old table.new (all_entries self.old) (all_entries self.new) (error_of result) }
         ensures accounts { UnlessTorn result (Accounts table.old table.new (all_entries self.old) (all_entries self.new)) }
@@ -113,7 +112,6 @@ impl Caches {
         ensures sizes { sizes self.new ≡ sizes self.old }
         ensures nodes { table.new.graph ≡ table.old.graph }
         ensures no_node_limit { result ≢ Err NodeLimit }
-        ensures beside { S.beside table.new.book.sink ≡ S.beside table.old.book.sink }
     {
         steps_law::<S>();
         entry_law::<S>();
@@ -132,14 +130,13 @@ impl Caches {
         requires stands { IsTrue (is_node table.old.graph u) }
         requires fits { Fits table.old (all_entries self.old) }
         ensures quantified { IfOk result (λ w. Quantified table.new.graph u level w) }
-        ensures steps { Steps S.tells (S.channel table.old.book.sink) (S.channel table.new.book.sink) table.old table.new 0
+        ensures steps { Steps table.old table.new 0
             (error_of result) }
         ensures keeps { KeepsEntries table.old table.new (all_entries self.old) (all_entries self.new) (error_of result) }
         ensures accounts { UnlessTorn result (Accounts table.old table.new (all_entries self.old) (all_entries self.new)) }
         ensures sizes { sizes self.new ≡ sizes self.old }
         ensures made { MakesOnly table.old.graph table.new.graph (quantification_of table.old.graph u level) }
         ensures lacks { result ≡ Err NodeLimit → LacksPart table.new.graph (quantification_of table.old.graph u level) }
-        ensures beside { S.beside table.new.book.sink ≡ S.beside table.old.book.sink }
     {
         entry_law::<S>();
         exists(table, &mut self.quantifications, &mut self.ors, u, level)

@@ -56,13 +56,13 @@ pub fn decide<S: Sink + Drop>(
     requires fresh { table.old.inputs ≡ table.old.book.state.top }
     ensures found { IfOk result (λ found. MatchOption found ((id : ℕ) × (clause_at table.new.book.state.live id ≡ Some []))
         (λ model. IsRecovered formula.now table.old.graph.order plan.now model)) }
-    ensures leaves { Leaves S.tells (S.channel table.old.book.sink) (S.channel table.new.book.sink) table.old table.new (error_of result) }
+    ensures leaves { Leaves table.old table.new (error_of result) }
     ensures tautologies { IsTrue (list_all is_tautology formula.now.clauses) → table.new ≡ table.old }
     ensures open_clause { (result ≡ Err NodeLimit) ⊎ (result ≡ Err IdLimit) → IsFalse (list_all is_tautology formula.now.clauses) }
     // However it ends, it keeps within the price of the plan's width; with a model few clauses are left.
     ensures paid { (width price : ℕ) → HasWidth formula.now table.old.graph.order plan.now width
         → IsMovePrice (levels table.old.graph) capacity width price
-        → LeavesKind S.tells (S.channel table.old.book.sink) (S.channel table.new.book.sink) table.old table.new
+        → LeavesKind table.old table.new
         (IsPaid (levels table.old.graph) table.old.inputs (length plan.now) capacity width price) (error_of result) }
     ensures lean { IfOk result (λ found. IsSome found → IsLeanAtEnd
         (levels table.old.graph) table.old.inputs capacity table.new.book.state) }
@@ -71,7 +71,6 @@ pub fn decide<S: Sink + Drop>(
     // A refusal leaves the formula unrefuted.
     ensures no_empty { IfErr result (λ e. e ≢ WriteFault → AddsNoEmpty table.old table.new) }
     ensures counted { progress.new.moves ≤ length plan.now }
-    ensures beside { S.beside table.new.book.sink ≡ S.beside table.old.book.sink }
 {
     steps_law::<S>();
     in_use_law();
@@ -106,10 +105,10 @@ fn take_moves<S: Sink + Drop>(
     requires fresh { table.old.inputs ≡ table.old.book.state.top }
     ensures found { IfOk result (λ found. MatchOption found ((id : ℕ) × (clause_at table.new.book.state.live id ≡ Some []))
         (λ model. IsRecovered formula.now table.old.graph.order plan.now model)) }
-    ensures leaves { Leaves S.tells (S.channel table.old.book.sink) (S.channel table.new.book.sink) table.old table.new (error_of result) }
+    ensures leaves { Leaves table.old table.new (error_of result) }
     ensures paid { (width price : ℕ) → HasWidth formula.now table.old.graph.order plan.now width
         → IsMovePrice (levels table.old.graph) capacity width price
-        → LeavesKind S.tells (S.channel table.old.book.sink) (S.channel table.new.book.sink) table.old table.new
+        → LeavesKind table.old table.new
         (IsPaid (levels table.old.graph) table.old.inputs (length plan.now) capacity width price) (error_of result) }
     ensures lean { IfOk result (λ found. IsSome found → IsLeanAtEnd
         (levels table.old.graph) table.old.inputs capacity table.new.book.state) }
@@ -117,7 +116,6 @@ fn take_moves<S: Sink + Drop>(
     // A refusal leaves the formula unrefuted.
     ensures no_empty { IfErr result (λ e. e ≢ WriteFault → AddsNoEmpty table.old table.new) }
     ensures counted { progress.new.moves ≤ length plan.now }
-    ensures beside { S.beside table.new.book.sink ≡ S.beside table.old.book.sink }
 {
     steps_law::<S>();
     subfunction_law();

@@ -58,7 +58,7 @@ pub fn try_move<S: Sink + Drop>(
     ensures again { result ≡ Err NodeLimit → HasUnits table.new (all_entries caches.new) (reverse stack.new.items) }
     ensures at_again { (stage : Stage) → IsAt formula.now table.old.graph table.old.book.state.live stack.old.items trail.old stage
         → result ≡ Err NodeLimit → IsAt formula.now table.new.graph table.new.book.state.live stack.new.items trail.new stage }
-    ensures leaves { Leaves S.tells (S.channel table.old.book.sink) (S.channel table.new.book.sink) table.old table.new (error_of result) }
+    ensures leaves { Leaves table.old table.new (error_of result) }
     ensures no_empty { IsUnrefuted table.old table.new result }
     // However it ends, nodes stay, and the new clauses are those of new nodes and no more beside them than this, or, where the
     // caches have room for all pairs of parts in hand, than two for each of these.
@@ -75,7 +75,6 @@ pub fn try_move<S: Sink + Drop>(
     ensures lacks { (stage next : Stage) → IsAt formula.now table.old.graph table.old.book.state.live stack.old.items trail.old stage
         → after_move formula.now stage step ≡ Some next
         → result ≡ Err NodeLimit → LacksPart table.new.graph (top_function formula.now table.old.graph.order next.stack) }
-    ensures beside { S.beside table.new.book.sink ≡ S.beside table.old.book.sink }
 {
     entry_law::<S>();
     steps_law::<S>();
@@ -126,7 +125,7 @@ fn carry_out<S: Sink + Drop>(
     ensures again { result ≡ Err NodeLimit → HasUnits table.new (all_entries caches.new) (reverse stack.new.items) }
     ensures at_again { (stage : Stage) → IsAt formula.now table.old.graph table.old.book.state.live stack.old.items trail.old stage
         → result ≡ Err NodeLimit → IsAt formula.now table.new.graph table.new.book.state.live stack.new.items trail.new stage }
-    ensures leaves { Leaves S.tells (S.channel table.old.book.sink) (S.channel table.new.book.sink) table.old table.new (error_of result) }
+    ensures leaves { Leaves table.old table.new (error_of result) }
     ensures no_empty { IsUnrefuted table.old table.new result }
     ensures nodes { KeepsNodes table.old.graph table.new.graph }
     ensures adds { AddsAtMost (most_additions (levels table.old.graph) + 1) table.old table.new }
@@ -141,7 +140,6 @@ fn carry_out<S: Sink + Drop>(
     ensures lacks { (stage next : Stage) → IsAt formula.now table.old.graph table.old.book.state.live stack.old.items trail.old stage
         → after_move formula.now stage step ≡ Some next
         → result ≡ Err NodeLimit → LacksPart table.new.graph (top_function formula.now table.old.graph.order next.stack) }
-    ensures beside { S.beside table.new.book.sink ≡ S.beside table.old.book.sink }
 {
     entry_law::<S>();
     growth_law();
@@ -172,11 +170,10 @@ fn push<S: Sink + Drop>(
         → HasUnits table.new kept (reverse stack.new.items) }
     ensures own { (kept : List Entry) → Fits table.old kept → HasUnits table.old kept (reverse stack.old.items)
         → IfOk result (λ refuted. refuted ≡ false → HasUnits table.new kept (reverse stack.new.items)) }
-    ensures steps { Steps S.tells (S.channel table.old.book.sink) (S.channel table.new.book.sink) table.old table.new 1 (error_of result) }
+    ensures steps { Steps table.old table.new 1 (error_of result) }
     ensures retired { table.new.retired ≡ table.old.retired }
     ensures made { MakesOnly table.old.graph table.new.graph (term_function formula.now table.old.graph.order (input number)) }
     ensures lacks { result ≡ Err NodeLimit → LacksPart table.new.graph (term_function formula.now table.old.graph.order (input number)) }
-    ensures beside { S.beside table.new.book.sink ≡ S.beside table.old.book.sink }
 {
     growth_law();
     steps_law::<S>();
@@ -205,7 +202,7 @@ fn conjoin<S: Sink + Drop>(
     ensures unchanged { IsErr result → stack.new.items ≡ stack.old.items }
     ensures again { result ≡ Err NodeLimit → HasUnits table.new (all_entries caches.new) (reverse stack.new.items) }
     ensures own { IfOk result (λ refuted. refuted ≡ false → HasUnits table.new (all_entries caches.new) (reverse stack.new.items)) }
-    ensures steps { StepsOrRefutes S.tells (S.channel table.old.book.sink) (S.channel table.new.book.sink) table.old table.new
+    ensures steps { StepsOrRefutes table.old table.new
         (most_additions (levels table.old.graph) + 1) (error_of result) }
     ensures no_empty { IsUnrefuted table.old table.new result }
     ensures fits { UnlessTorn result (Fits table.new (all_entries caches.new)) }
@@ -222,7 +219,6 @@ fn conjoin<S: Sink + Drop>(
         → HasAtMost (term_function formula table.old.graph.order other) width
         → AddsAtMost (2 * (width * width) + 1) table.old table.new }
     ensures sizes { sizes caches.new ≡ sizes caches.old }
-    ensures beside { S.beside table.new.book.sink ≡ S.beside table.old.book.sink }
 {
     canonical_law();
     subfunction_law();

@@ -59,7 +59,7 @@ pub fn quantify_out<S: Sink + Drop>(
     ensures again { result ≡ Err NodeLimit → HasUnits table.new (all_entries caches.new) (reverse stack.new.items) }
     ensures refuted { IfOk result (λ refuted. IsTrue refuted → (id : ℕ) × (clause_at table.new.book.state.live id ≡ Some [])) }
     ensures own { IfOk result (λ refuted. refuted ≡ false → HasUnits table.new (all_entries caches.new) (reverse stack.new.items)) }
-    ensures steps { Steps S.tells (S.channel table.old.book.sink) (S.channel table.new.book.sink) table.old table.new
+    ensures steps { Steps table.old table.new
         (most_additions (levels table.old.graph) + 1) (error_of result) }
     ensures fits { UnlessTorn result (Fits table.new (all_entries caches.new)) }
     ensures made { (formula : Formula) (term : TermValue) (terms : List TermValue)
@@ -74,7 +74,6 @@ pub fn quantify_out<S: Sink + Drop>(
         → HasAtMost (term_function formula table.old.graph.order (some_value variable term)) width
         → AddsAtMost (2 * (width * width) + 1) table.old table.new }
     ensures sizes { sizes caches.new ≡ sizes caches.old }
-    ensures beside { S.beside table.new.book.sink ≡ S.beside table.old.book.sink }
 {
     growth_law();
     steps_law::<S>();
@@ -114,7 +113,7 @@ fn weaken<S: Sink + Drop>(
     ensures own { IfOk result (λ held. (id : ℕ) → held.unit ≡ Clause id → IsAccounted table.new (all_entries caches.new) id → ⊥) }
     ensures gives { IfOk result (λ held. GivesUnit table.old table.new (all_entries caches.old) (all_entries caches.new) (u.now
         ∷ []) held.unit) }
-    ensures steps { Steps S.tells (S.channel table.old.book.sink) (S.channel table.new.book.sink) table.old table.new
+    ensures steps { Steps table.old table.new
         (most_additions (levels table.old.graph) + 1) (error_of result) }
     ensures keeps { KeepsEntries table.old table.new (all_entries caches.old) (all_entries caches.new) (error_of result) }
     ensures accounts { result ≡ Err NodeLimit → Accounts table.old table.new (all_entries caches.old) (all_entries caches.new) }
@@ -124,7 +123,6 @@ fn weaken<S: Sink + Drop>(
         → HasAtMost (quantification_of table.old.graph u.now.node level) width
         → AddsAtMost (2 * (width * width) + 1) table.old table.new }
     ensures sizes { sizes caches.new ≡ sizes caches.old }
-    ensures beside { S.beside table.new.book.sink ≡ S.beside table.old.book.sink }
 {
     growth_law();
     steps_law::<S>();
@@ -153,7 +151,7 @@ fn implied_unit<S: Sink + Drop>(
     ensures gives { IfOk result (λ unit. GivesUnit table.old table.new (all_entries caches.old) (all_entries caches.new) (u.now
         ∷ []) unit) }
     ensures nodes { table.new.graph ≡ table.old.graph }
-    ensures steps { Steps S.tells (S.channel table.old.book.sink) (S.channel table.new.book.sink) table.old table.new
+    ensures steps { Steps table.old table.new
         (most_additions (levels table.old.graph) + 1) (error_of result) }
     ensures keeps { KeepsEntries table.old table.new (all_entries caches.old) (all_entries caches.new) (error_of result) }
     ensures no_node_limit { result ≢ Err NodeLimit }
@@ -161,7 +159,6 @@ fn implied_unit<S: Sink + Drop>(
         → HasAtMost (λ a. value_of table.old.graph a w) width
         → AddsAtMost (2 * (width * width) + 1) table.old table.new }
     ensures sizes { sizes caches.new ≡ sizes caches.old }
-    ensures beside { S.beside table.new.book.sink ≡ S.beside table.old.book.sink }
 {
     canonical_law();
     subfunction_law();

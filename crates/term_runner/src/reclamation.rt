@@ -59,7 +59,7 @@ pub fn take_move<S: Sink + Drop>(
     ensures ready { OnOk result (IsReady formula.now table.new (all_entries caches.new)) }
     ensures settled { result ≡ Ok false → table.new.retired ≡ [] }
     ensures own { IfOk result (λ refuted. refuted ≡ false → HasUnits table.new (all_entries caches.new) (reverse stack.new.items)) }
-    ensures leaves { Leaves S.tells (S.channel table.old.book.sink) (S.channel table.new.book.sink) table.old table.new (error_of result) }
+    ensures leaves { Leaves table.old table.new (error_of result) }
     ensures made { (stage next : Stage) → IsAt formula.now table.old.graph table.old.book.state.live stack.old.items trail.old stage
         → after_move formula.now stage step ≡ Some next
         → KeepsOrMakes table.old.graph table.new.graph (top_function formula.now table.old.graph.order next.stack) }
@@ -93,7 +93,6 @@ pub fn take_move<S: Sink + Drop>(
         → after_move formula.now stage step ≡ Some next
         → (width : ℕ) → HoldsAtMost formula.now table.old.graph.order stage next width
         → AddsFew (live_nodes table.old.graph) (live_nodes table.new.graph) width }
-    ensures beside { S.beside table.new.book.sink ≡ S.beside table.old.book.sink }
 {
     canonical_law();
     subfunction_law();
@@ -134,7 +133,7 @@ fn try_twice<S: Sink + Drop>(
     ensures ready { OnOk result (IsReady formula.now table.new (all_entries caches.new)) }
     ensures settled { result ≡ Ok false → table.new.retired ≡ [] }
     ensures own { IfOk result (λ refuted. refuted ≡ false → HasUnits table.new (all_entries caches.new) (reverse stack.new.items)) }
-    ensures leaves { Leaves S.tells (S.channel table.old.book.sink) (S.channel table.new.book.sink) table.old table.new (error_of result) }
+    ensures leaves { Leaves table.old table.new (error_of result) }
     ensures made { (stage next : Stage) → IsAt formula.now table.old.graph table.old.book.state.live stack.old.items trail.old stage
         → after_move formula.now stage step ≡ Some next
         → KeepsOrMakes table.old.graph table.new.graph (top_function formula.now table.old.graph.order next.stack) }
@@ -163,7 +162,6 @@ fn try_twice<S: Sink + Drop>(
         → after_move formula.now stage step ≡ Some next
         → (width : ℕ) → HoldsAtMost formula.now table.old.graph.order stage next width
         → AddsFew (live_nodes table.old.graph) (live_nodes table.new.graph) width }
-    ensures beside { S.beside table.new.book.sink ≡ S.beside table.old.book.sink }
 {
     subfunction_law();
     canonical_law();
@@ -202,9 +200,8 @@ fn give_back<S: Sink + Drop>(
     ensures kept { OnErr result (table.new.graph ≡ table.old.graph) }
     ensures top { table.new.book.state.top ≡ table.old.book.state.top }
     ensures sizes { sizes caches.new ≡ sizes caches.old }
-    ensures leaves { Leaves S.tells (S.channel table.old.book.sink) (S.channel table.new.book.sink) table.old table.new (error_of result) }
+    ensures leaves { Leaves table.old table.new (error_of result) }
     ensures error { IfErr result (λ e. (e ≡ OutOfMemory) ⊎ (e ≡ WriteFault)) }
-    ensures beside { S.beside table.new.book.sink ≡ S.beside table.old.book.sink }
 {
     growth_law();
     reach_law();

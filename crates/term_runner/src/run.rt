@@ -119,10 +119,12 @@ pub(crate) fn run_with<S: Sink + Drop>(
     let mut ledger = Ledger::new(formula, sink, limits.max_ids);
     if let Some(number) = first_empty(formula) {
         let result = refute(&mut ledger, number);
+        ledger.book_law();
         let _sink = ledger.close();
         return result;
     }
     let Ok(diagram) = Diagram::new(alloc, order.as_slice()) else {
+        ledger.book_law();
         let _sink = ledger.close();
         return Err(RunError::OutOfMemory);
     };
@@ -138,7 +140,9 @@ pub(crate) fn run_with<S: Sink + Drop>(
     );
     table.table_law();
     let mut ledger = table.into_ledger();
+    ledger.book_law();
     let result = finish(&mut ledger, outcome_of(found));
+    ledger.book_law();
     let _sink = ledger.close();
     result
 }

@@ -53,14 +53,13 @@ pub fn unit_of<S: Sink + Drop>(
         × (table.new.book.state.top ≡ table.old.book.state.top + 1)) }
     ensures nodes { table.new.graph ≡ table.old.graph }
     // The clause is empty where the node is False.
-    ensures steps { StepsOrRefutes S.tells (S.channel table.old.book.sink) (S.channel table.new.book.sink) table.old table.new 1
+    ensures steps { StepsOrRefutes table.old table.new 1
         (error_of result) }
-    ensures some { w ≢ False → Steps S.tells (S.channel table.old.book.sink) (S.channel table.new.book.sink) table.old table.new 1
+    ensures some { w ≢ False → Steps table.old table.new 1
         (error_of result) }
     ensures refused { IfErr result (λ e. e ≢ WriteFault → AddsNoEmpty table.old table.new) }
     ensures retired { table.new.retired ≡ table.old.retired }
     ensures no_node_limit { result ≢ Err NodeLimit }
-    ensures beside { S.beside table.new.book.sink ≡ S.beside table.old.book.sink }
 {
     steps_law::<S>();
     canonical_law();
@@ -106,10 +105,9 @@ pub fn unit_of_implied<S: Sink + Drop>(
     ensures number { w ≢ u.now.node → w ≢ True → IfOk result (λ unit. (unit ≡ Clause (table.old.book.state.top + 1))
         × (table.new.book.state.top ≡ table.old.book.state.top + 1)) }
     ensures nodes { table.new.graph ≡ table.old.graph }
-    ensures steps { Steps S.tells (S.channel table.old.book.sink) (S.channel table.new.book.sink) table.old table.new 1 (error_of result) }
+    ensures steps { Steps table.old table.new 1 (error_of result) }
     ensures retired { table.new.retired ≡ table.old.retired }
     ensures no_node_limit { result ≢ Err NodeLimit }
-    ensures beside { S.beside table.new.book.sink ≡ S.beside table.old.book.sink }
 {
     steps_law::<S>();
     canonical_law();
@@ -136,8 +134,7 @@ pub fn retire_unit<S: Sink + Drop>(table: &mut Table<S>, unit: &Just, kept: &Jus
     requires added { (id : ℕ) → unit.now ≡ Clause id → IsAddedTo table.old id }
     requires unretired { (id : ℕ) → unit.now ≡ Clause id → Contains table.old.retired id → ⊥ }
     ensures retired { RetiresBut table.old table.new unit.now kept.now }
-    ensures steps { Steps S.tells (S.channel table.old.book.sink) (S.channel table.new.book.sink) table.old table.new 0 None }
-    ensures beside { S.beside table.new.book.sink ≡ S.beside table.old.book.sink }
+    ensures steps { Steps table.old table.new 0 None }
 {
     retire(table, given_up(unit, kept));
 }
@@ -196,14 +193,13 @@ fn add_unit<S: Sink + Drop>(table: &mut Table<S>, w: Node, hints: &[Id]) -> Resu
     ensures added { IfOk result (λ unit. (id : ℕ) → unit ≡ Clause id → IsAddedTo table.new id) }
     ensures alone { IfOk result (λ unit. (id : ℕ) → IsAddedTo table.new id → IsAddedTo table.old id ⊎ (unit ≡ Clause id)) }
     ensures nodes { table.new.graph ≡ table.old.graph }
-    ensures steps { StepsOrRefutes S.tells (S.channel table.old.book.sink) (S.channel table.new.book.sink) table.old table.new 1
+    ensures steps { StepsOrRefutes table.old table.new 1
         (error_of result) }
-    ensures some { w ≢ False → Steps S.tells (S.channel table.old.book.sink) (S.channel table.new.book.sink) table.old table.new 1
+    ensures some { w ≢ False → Steps table.old table.new 1
         (error_of result) }
     ensures refused { IfErr result (λ e. e ≢ WriteFault → AddsNoEmpty table.old table.new) }
     ensures retired { table.new.retired ≡ table.old.retired }
     ensures no_node_limit { result ≢ Err NodeLimit }
-    ensures beside { S.beside table.new.book.sink ≡ S.beside table.old.book.sink }
 {
     live_law();
     steps_law::<S>();

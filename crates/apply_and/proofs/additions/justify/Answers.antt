@@ -1,6 +1,5 @@
 -- The low clause is given, and the high one is retired, also where the low one is refused.
-use Rattle.std.proofs.Common.{rules, ◌≡◌, ◌≢◌, ◌∙◌, ◌++◌, ◌∷◌, ℕ, Bool, true, List, [], None, Some, Result, Contains, refl, ap, sym, subst}
-use Rattle.host_io.specs.Channel.{Channel}
+use Rattle.std.proofs.Common.{rules, ◌≡◌, ◌≢◌, ◌∙◌, ◌++◌, ◌∷◌, ℕ, true, List, [], None, Some, Result, Contains, refl, ap, sym, subst}
 use Rattle.hint_chain.specs.Closing.{are_among}
 use Rattle.hint_chain.specs.Atoms.{clause_of}
 use Rattle.node_table.specs.declared.error.TableError.{TableError}
@@ -40,10 +39,10 @@ add_low-requires-clause-side g c =
     })
 
 -- the high clause, which has this number, is retired
-gone : {S : Type 0} (tells : Bool) (channel : S → Channel) (old new : TableState S) (high id : ℕ) → high ≡ id
-    → Steps tells (channel old.book.sink) (channel new.book.sink) old new 0 None
-    → new ≡ record old { retired = old.retired ++ high ∷ [] } → RetiresHigh tells channel old new id
-gone tells channel old new high id same steps is = record {
+gone : {S : Type 0} (old new : TableState S) (high id : ℕ) → high ≡ id
+    → Steps old new 0 None
+    → new ≡ record old { retired = old.retired ++ high ∷ [] } → RetiresHigh old new id
+gone old new high id same steps is = record {
   steps = steps;
   is = is
       ∙ ap (λ (i : ℕ). record old { retired = old.retired ++ i ∷ [] }) same;
@@ -103,8 +102,7 @@ returns-in-Ok-clause-justified g c =
     ))
 
 -- what both additions leave, once the high clause is retired
-served : (g : Over) (c : After-retire g) → Steps g.S.Sink.tells (g.S.Sink.channel c.args.table.now.book.sink)
-    (g.S.Sink.channel c.retire.new.self.book.sink) c.args.table.now c.retire.new.self 2 None
+served : (g : Over) (c : After-retire g) → Steps c.args.table.now c.retire.new.self 2 None
     × RetiresNew c.args.table.now c.retire.new.self × GivesOne c.args.table.now c.retire.new.self (Clause c.in-Ok.id)
 served g c =
     let first = c.in_ok-first.ensures in
@@ -127,7 +125,7 @@ served g c =
       retired = second.retired;
       unretired = second.unretired;
     })
-    (gone _ _ c.add_low.new.table c.retire.new.self c.id-high_clause.result c.in_ok-first.first.id c.id-high_clause.ensures
+    (gone c.add_low.new.table c.retire.new.self c.id-high_clause.result c.in_ok-first.first.id c.id-high_clause.ensures
     c.retire.ensures.steps c.retire.ensures.retired)
 
 pub returns-in-Ok-clause-steps : goal.returns-in-Ok-clause-steps
@@ -140,11 +138,10 @@ pub returns-in-Ok-clause-gives : goal.returns-in-Ok-clause-gives
 returns-in-Ok-clause-gives g c whole = (served g (goal.at.returns-in-Ok-clause-gives g c).After-retire).2
 
 pub returns-in-Err-clause-steps : goal.returns-in-Err-clause-steps
-returns-in-Err-clause-steps g c = c.steps_law.ensures.further _ _ _ _ _ _ _ _ _ c.in_ok-first.ensures.steps c.in-Err.ensures.steps
+returns-in-Err-clause-steps g c = c.steps_law.ensures.further _ _ _ _ _ _ c.in_ok-first.ensures.steps c.in-Err.ensures.steps
 
 -- and what the high one leaves where the low one is refused
-left : (g : Over) (c : After-retire-in-Err-2 g) → Steps g.S.Sink.tells (g.S.Sink.channel c.args.table.now.book.sink)
-    (g.S.Sink.channel c.retire-in-Err-2.new.self.book.sink) c.args.table.now c.retire-in-Err-2.new.self 2 (Some c.in-Err.e)
+left : (g : Over) (c : After-retire-in-Err-2 g) → Steps c.args.table.now c.retire-in-Err-2.new.self 2 (Some c.in-Err.e)
     × RetiresNew c.args.table.now c.retire-in-Err-2.new.self × GivesOne c.args.table.now c.retire-in-Err-2.new.self Trivial
 left g c =
     let first = c.in_ok-first.ensures in
@@ -160,7 +157,7 @@ left g c =
       unretired = first.unretired;
     })
     (record { steps = c.in-Err.ensures.steps; whole = other; same = c.in-Err.ensures.refused other })
-    (gone _ _ c.add_low.new.table c.retire-in-Err-2.new.self c.id-high_clause.result c.in_ok-first.first.id c.id-high_clause.ensures
+    (gone c.add_low.new.table c.retire-in-Err-2.new.self c.id-high_clause.result c.in_ok-first.first.id c.id-high_clause.ensures
     c.retire-in-Err-2.ensures.steps c.retire-in-Err-2.ensures.retired)
 
 pub returns-in-Err-2-clause-steps : goal.returns-in-Err-2-clause-steps

@@ -23,7 +23,7 @@ returns-in-Some-clause-answers g c =
     let can = c.requires.can in record {
       call = record {
         conjoined = c.in-Some.ensures.conjoined _ _ can.first can.second;
-        steps = c.steps_law.ensures.at_most _ _ _ _ _ _ _ (omega arith) (c.steps_law.ensures.none table can.sound);
+        steps = c.steps_law.ensures.at_most _ _ _ _ _ (omega arith) (c.steps_law.ensures.none table can.sound);
         accounts = c.accounts_law.ensures.none table before _ can.sound can.fits;
         unretired = λ id is. absurd (no_clause id is);
         kept = λ differ first second. absurd (not_plain u v c.in-Some.w differ first second c.in-Some.ensures.plain);
@@ -32,7 +32,6 @@ returns-in-Some-clause-answers g c =
         made = c.subfunction_law.ensures.none_made table.graph (conjunction_of table.graph u v);
         reachable = c.reach_law.ensures.none_made table.graph c.in-Some.w;
         lacks = λ is. absurd (no_error is);
-        beside = refl;
       };
       known = λ w just there.
           let same = only_answer c.canonical_law.ensures table.graph can.sound.tied.reduced table.book.state.live u v c.in-Some.w w just
@@ -52,7 +51,7 @@ returns-clause-answers g c =
     let can = c.requires.can in
     let apart = c.in_default.ensures.conjoined in
     elim (c.look.result) as (λ (r : Option (Node × Just)). c.look.result ≡ r
-    → IfSome r (λ found. Answers g.S.Sink.tells g.S.Sink.channel g.S.Sink.beside table c.args.cache.now u v table c.look.new.self
+    → IfSome r (λ found. Answers table c.args.cache.now u v table c.look.new.self
     (Ok found))) [
       | None ↦ λ is. tt
       | Some found ↦ λ is.
@@ -62,7 +61,7 @@ returns-clause-answers g c =
           let there = same_list.back own kept in record {
             call = record {
               conjoined = (can.fits.each own there).1;
-              steps = c.steps_law.ensures.at_most _ _ _ _ _ _ _ (omega arith) (c.steps_law.ensures.none table can.sound);
+              steps = c.steps_law.ensures.at_most _ _ _ _ _ (omega arith) (c.steps_law.ensures.none table can.sound);
               accounts = c.accounts_law.ensures.same table before looked _ can.sound same_list can.fits;
               unretired = λ id names. can.fits.unretired id (own, there, names);
               kept = λ differ first second. kept;
@@ -77,7 +76,6 @@ returns-clause-answers g c =
               made = c.subfunction_law.ensures.none_made table.graph (conjunction_of table.graph u v);
               reachable = c.reach_law.ensures.none_made table.graph found.0;
               lacks = λ error. absurd (no_error error);
-              beside = refl;
             };
             known = λ w just had. (ap Ok (same_some found (w, just) (sym is ∙ c.look.ensures.exact w just had)), refl, same_list);
             plain = λ w plain. absurd (not_plain u v w apart.0 apart.1 apart.2 plain);

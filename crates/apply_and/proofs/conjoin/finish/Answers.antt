@@ -73,9 +73,9 @@ returns-in_err-just-clause-steps g c =
     let old = c.args.table.now in
     let new = c.justify.new.table in
     let came = c.in_err-just.field-0.0 in
-    subst (λ (r : Answer). Steps g.S.Sink.tells (g.S.Sink.channel old.book.sink) (g.S.Sink.channel new.book.sink) old new 2 (error_of r))
+    subst (λ (r : Answer). Steps old new 2 (error_of r))
     (sym (handed_on _ came came c.from_residual-in_err-just.ensures.1 refl))
-    (c.steps_law.ensures.further _ _ _ _ _ _ _ _ _ c.in_ok-w.ensures.steps c.in_err-just.ensures.steps)
+    (c.steps_law.ensures.further _ _ _ _ _ _ c.in_ok-w.ensures.steps c.in_err-just.ensures.steps)
 
 pub returns-in_err-just-clause-made : goal.returns-in_err-just-clause-made
 returns-in_err-just-clause-made g c =
@@ -108,7 +108,7 @@ returns-clause-conjoined g c =
     new.book.state.live c.in_ok-just.just justified)
 
 pub returns-clause-steps : goal.returns-clause-steps
-returns-clause-steps g c = c.steps_law.ensures.further _ _ _ _ _ _ _ _ _ c.in_ok-w.ensures.steps c.in_ok-just.ensures.steps
+returns-clause-steps g c = c.steps_law.ensures.further _ _ _ _ _ _ c.in_ok-w.ensures.steps c.in_ok-just.ensures.steps
 
 pub returns-clause-made : goal.returns-clause-made
 returns-clause-made g c =

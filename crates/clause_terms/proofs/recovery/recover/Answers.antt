@@ -1,5 +1,5 @@
 -- What is left to show of `recover`.
-use Rattle.std.proofs.Common.{◌≡◌, ◌<◌, ◌≤◌, ℕ, Contains, List, sym, subst}
+use Rattle.std.proofs.Common.{◌<◌, ◌≤◌, ℕ, Contains, List, sym, subst}
 use Rattle.node_table.specs.declared.node.Node.{Node}
 use Rattle.node_table.specs.Diagram.{levels}
 use Rattle.clause_terms.proofs.recovery.recover.Goals as goal

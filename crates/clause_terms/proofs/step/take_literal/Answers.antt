@@ -76,9 +76,6 @@ returns-then-is_repeated-clause-lacks g c is = absurd (no_error is)
 pub returns-clause-steps : goal.returns-clause-steps
 returns-clause-steps g c = c.add_literal.ensures.steps
 
-pub returns-clause-beside : goal.returns-clause-beside
-returns-clause-beside g c = c.add_literal.ensures.beside
-
 pub returns-then-is_repeated-clause-none_added : goal.returns-then-is_repeated-clause-none_added
 returns-then-is_repeated-clause-none_added g c whole id own = own
 

@@ -10,7 +10,7 @@ pub returns-in_err-hints-clause-steps : goal.returns-in_err-hints-clause-steps
 returns-in_err-hints-clause-steps g c =
     let table = c.args.table.now in
     steps_handed_on _ OutOfMemory c.from_residual.ensures.1
-    (c.steps_law.ensures.at_most _ _ table table 0 1 _ (omega arith) (c.steps_law.ensures.no_memory table c.requires.sound))
+    (c.steps_law.ensures.at_most table table 0 1 _ (omega arith) (c.steps_law.ensures.no_memory table c.requires.sound))
 
 pub returns-clause-nodes : goal.returns-clause-nodes
 returns-clause-nodes g c = c.justify.ensures.nodes
@@ -20,9 +20,6 @@ returns-clause-no_node_limit g c = c.justify.ensures.no_node_limit
 
 pub returns-clause-steps : goal.returns-clause-steps
 returns-clause-steps g c = c.justify.ensures.no_empty (λ is. cc)
-
-pub returns-clause-beside : goal.returns-clause-beside
-returns-clause-beside g c = c.justify.ensures.beside
 
 pub returns-clause-own : goal.returns-clause-own
 returns-clause-own g c = c.justify.ensures.own

@@ -15,7 +15,7 @@ take_literal-requires-clause-sound g c = c.literals.invariant.steps.leaves.sound
 pub returns-in_err-node-clause-steps : goal.returns-in_err-node-clause-steps
 returns-in_err-node-clause-steps g c =
     steps_handed_on _ c.in_err-node.field-0.0 c.from_residual.ensures.1
-    (c.steps_law.ensures.further _ _ _ _ _ _ 0 0 _ c.literals.invariant.steps c.in_err-node.ensures.steps)
+    (c.steps_law.ensures.further _ _ _ 0 0 _ c.literals.invariant.steps c.in_err-node.ensures.steps)
 
 pub returns-in_err-node-clause-made : goal.returns-in_err-node-clause-made
 returns-in_err-node-clause-made g c =
@@ -38,7 +38,6 @@ literals-preserved g c =
     let old = c.args.table.now in
     let mid = c.literals.table in
     let new = c.take_literal.new.table in
-    let channel = g.S.Sink.channel in
     let part : IsSubfunction (placed_function placed) (placed_function (drop (c.literals.i - 1) placed)) =
     later_part c.subfunction_law.ensures (c.literals.i - 1) placed
     (omega (arith, c.literals.invariant.within, c.literals-test.true)) c.requires.sorted c.requires.signs in
@@ -50,11 +49,9 @@ literals-preserved g c =
           (placed_function placed) c.literals.invariant.made
           (c.subfunction_law.ensures.made_for_part mid.graph new.graph (placed_function placed)
           (placed_function (drop (c.literals.i - 1) placed)) part c.in_ok-node.ensures.made);
-      steps = c.steps_law.ensures.further (channel old.book.sink) (channel mid.book.sink)
-          (channel new.book.sink) old mid new 0 0 None c.literals.invariant.steps c.in_ok-node.ensures.steps;
+      steps = c.steps_law.ensures.further old mid new 0 0 None c.literals.invariant.steps c.in_ok-node.ensures.steps;
       none_added = λ id own. c.literals.invariant.none_added id (c.in_ok-node.ensures.none_added no_error id own);
       retired = c.in_ok-node.ensures.retired ∙ c.literals.invariant.retired;
-      beside = c.in_ok-node.ensures.beside ∙ c.literals.invariant.beside;
     }
 
 pub returns-in_err-node-clause-lacks : goal.returns-in_err-node-clause-lacks
@@ -72,9 +69,6 @@ returns-in_err-node-clause-diagram g c = no_answer _ c.in_err-node.field-0.0 _ c
 
 pub returns-in_err-node-clause-retired : goal.returns-in_err-node-clause-retired
 returns-in_err-node-clause-retired g c = c.in_err-node.ensures.retired ∙ c.literals.invariant.retired
-
-pub returns-in_err-node-clause-beside : goal.returns-in_err-node-clause-beside
-returns-in_err-node-clause-beside g c = c.in_err-node.ensures.beside ∙ c.literals.invariant.beside
 
 pub returns-clause-steps : goal.returns-clause-steps
 returns-clause-steps g c = c.literals.invariant.steps

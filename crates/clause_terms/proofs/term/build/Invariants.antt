@@ -12,10 +12,9 @@ invariant-literals g l = record {
   within : l.i ≤ length l.placed;
   diagram : IsDiagramOf l.table.graph l.table.book.state.live (drop l.i l.placed) l.node (reverse l.path.items);
   made : MakesOnly l.fn.table.graph l.table.graph (placed_function l.placed);
-  steps : Steps g.S.Sink.tells (g.S.Sink.channel l.fn.table.book.sink) (g.S.Sink.channel l.table.book.sink) l.fn.table l.table 0 None;
+  steps : Steps l.fn.table l.table 0 None;
   none_added : AddsNone l.fn.table l.table;
   retired : l.table.retired ≡ l.fn.table.retired;
-  beside : g.S.Sink.beside l.table.book.sink ≡ g.S.Sink.beside l.fn.table.book.sink;
 }
 
 abbrev pub decreases-literals : goal.decreases-literals

@@ -165,9 +165,6 @@ pub returns-in_err-id-clause-lacks : goal.returns-in_err-id-clause-lacks
 returns-in_err-id-clause-lacks g c is = absurd (c.in_err-id.ensures.no_node_limit
     (ap Err (came_from _ c.in_err-id.field-0.0 NodeLimit c.from_residual-in_err-id.ensures.1 is)))
 
-pub returns-in_err-id-clause-beside : goal.returns-in_err-id-clause-beside
-returns-in_err-id-clause-beside g c = c.in_err-id.ensures.beside ∙ c.in_ok-node.ensures.beside
-
 pub returns-then-has_opposites-clause-made : goal.returns-then-has_opposites-clause-made
 returns-then-has_opposites-clause-made g c = c.subfunction_law.ensures.none_made c.args.table.now.graph
     (clause_function c.args.table.now.graph.order c.args.clause.now)
@@ -177,9 +174,6 @@ returns-then-has_opposites-clause-lacks g c is = absurd (no_error is)
 
 pub returns-clause-lacks : goal.returns-clause-lacks
 returns-clause-lacks g c is = absurd (no_error is)
-
-pub returns-clause-beside : goal.returns-clause-beside
-returns-clause-beside g c = c.in_ok-id.ensures.beside ∙ c.in_ok-node.ensures.beside
 
 pub returns-in_err-placed-clause-term : goal.returns-in_err-placed-clause-term
 returns-in_err-placed-clause-term g c = no_answer _ OutOfMemory _ c.from_residual.ensures.1
@@ -201,25 +195,25 @@ pub returns-in_err-placed-clause-steps : goal.returns-in_err-placed-clause-steps
 returns-in_err-placed-clause-steps g c =
     let table = c.args.table.now in
     steps_handed_on _ OutOfMemory c.from_residual.ensures.1
-    (c.steps_law.ensures.at_most _ _ table table 0 1 _ (omega arith) (c.steps_law.ensures.no_memory table c.requires.sound))
+    (c.steps_law.ensures.at_most table table 0 1 _ (omega arith) (c.steps_law.ensures.no_memory table c.requires.sound))
 
 pub returns-then-has_opposites-clause-steps : goal.returns-then-has_opposites-clause-steps
 returns-then-has_opposites-clause-steps g c =
     let table = c.args.table.now in
-    c.steps_law.ensures.at_most _ _ table table 0 1 _ (omega arith) (c.steps_law.ensures.none table c.requires.sound)
+    c.steps_law.ensures.at_most table table 0 1 _ (omega arith) (c.steps_law.ensures.none table c.requires.sound)
 
 pub returns-in_err-node-clause-steps : goal.returns-in_err-node-clause-steps
 returns-in_err-node-clause-steps g c =
     steps_handed_on _ c.in_err-node.field-0.0 c.from_residual-in_err-node.ensures.1
-    (c.steps_law.ensures.at_most _ _ _ _ 0 1 _ (omega arith) c.in_err-node.ensures.steps)
+    (c.steps_law.ensures.at_most _ _ 0 1 _ (omega arith) c.in_err-node.ensures.steps)
 
 pub returns-in_err-id-clause-steps : goal.returns-in_err-id-clause-steps
 returns-in_err-id-clause-steps g c =
     steps_handed_on _ c.in_err-id.field-0.0 c.from_residual-in_err-id.ensures.1
-    (c.steps_law.ensures.further _ _ _ _ _ _ 0 1 _ c.in_ok-node.ensures.steps c.in_err-id.ensures.steps)
+    (c.steps_law.ensures.further _ _ _ 0 1 _ c.in_ok-node.ensures.steps c.in_err-id.ensures.steps)
 
 pub returns-clause-steps : goal.returns-clause-steps
-returns-clause-steps g c = c.steps_law.ensures.further _ _ _ _ _ _ 0 1 _ c.in_ok-node.ensures.steps c.in_ok-id.ensures.steps
+returns-clause-steps g c = c.steps_law.ensures.further _ _ _ 0 1 _ c.in_ok-node.ensures.steps c.in_ok-id.ensures.steps
 
 pub returns-in_err-id-clause-retired : goal.returns-in_err-id-clause-retired
 returns-in_err-id-clause-retired g c = c.in_err-id.ensures.retired ∙ c.in_ok-node.ensures.retired

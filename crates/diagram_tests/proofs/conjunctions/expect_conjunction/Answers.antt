@@ -4,7 +4,7 @@ use Rattle.diagram_tests.proofs.Settling.{settled_sound, settled_fits}
 use Rattle.diagram_tests.proofs.conjunctions.expect_conjunction.Goals as goal
 
 pub returns-clause-sound : goal.returns-clause-sound
-returns-clause-sound g c = settled_sound c.conjoin.new.table c.settle.new.self _ _ _ c.settle.result c.settle.ensures.leaves
+returns-clause-sound g c = settled_sound c.conjoin.new.table c.settle.new.self c.settle.result c.settle.ensures.leaves
 
 pub returns-clause-fits : goal.returns-clause-fits
 returns-clause-fits g c =

@@ -1,5 +1,5 @@
 -- The hints of the low addition close behind the high clause, and its clause is over the nodes.
-use Rattle.std.proofs.Common.{◌≡◌, ◌<◌, ◌+◌, ◌∙◌, pos, ℕ, ℤ, Bool, List, [], ◌∷◌, Contains, true, arith, Some, Result, Ok, Err, ap, sym}
+use Rattle.std.proofs.Common.{◌≡◌, ◌<◌, ◌+◌, ◌∙◌, pos, ℕ, ℤ, List, [], ◌∷◌, Contains, true, arith, Some, Result, Ok, Err, ap, sym}
 use Rattle.std.proofs.Common.{subst}
 use Rattle.lrat_rules.specs.Strict.{RefutesStrictly}
 use Rattle.lrat_rules.specs.Soundness.{is_nonzero}
@@ -14,7 +14,6 @@ use Rattle.hint_chain.specs.Additions.{Justifies}
 use Rattle.hint_chain.specs.declared.atom.Atom.{Atom}
 use Rattle.node_table.specs.Refused.{used_up}
 use Rattle.std.specs.Prelude.{IfOk}
-use Rattle.host_io.specs.Channel.{Channel}
 use Rattle.lrat_rules.specs.State.{State}
 use Rattle.clause_ledger.specs.Book.{with_next}
 use Rattle.node_table.specs.declared.error.TableError.{TableError}
@@ -88,7 +87,7 @@ returns-clause-id_limit g c = used_up c.args.table.now c.justify.new.self c.just
 
 -- the clause isn't empty, since u is an inner node
 steps : (g : Over) (c : After-justify g)
-    → Steps g.S.Sink.tells (g.S.Sink.channel c.args.table.now.book.sink) (g.S.Sink.channel c.justify.new.self.book.sink) c.args.table.now
+    → Steps c.args.table.now
     c.justify.new.self 1 (error_of c.justify.result)
 steps g c =
     let graph = c.args.table.now.graph in
@@ -99,11 +98,11 @@ steps g c =
 pub returns-clause-steps : goal.returns-clause-steps
 returns-clause-steps g c = steps g (goal.at.returns-clause-steps g c).After-justify
 
-added_by : {S : Type 0} (tells : Bool) (channel : S → Channel) (old new : TableState S) (clause : List ℤ) (r : Result ℕ TableError)
-    → Steps tells (channel old.book.sink) (channel new.book.sink) old new 1 (error_of r)
+added_by : {S : Type 0} (old new : TableState S) (clause : List ℤ) (r : Result ℕ TableError)
+    → Steps old new 1 (error_of r)
     → IfOk r (λ id. (id ≡ old.book.state.top + 1) × (new.book.state ≡ with_next old.book.state clause)) → IfOk r (λ id. IsAddedTo new id)
-    → new.retired ≡ old.retired → IfOk r (λ id. Contains new.retired id → ⊥) → IfOk r (λ id. IsAdded tells channel old new id)
-added_by tells channel old new clause (Ok id) steps added own retired unretired = record {
+    → new.retired ≡ old.retired → IfOk r (λ id. Contains new.retired id → ⊥) → IfOk r (λ id. IsAdded old new id)
+added_by old new clause (Ok id) steps added own retired unretired = record {
   steps = steps;
   number = added.0;
   top = ap (λ (s : State). s.top) added.1 ∙ sym added.0;
@@ -111,10 +110,10 @@ added_by tells channel old new clause (Ok id) steps added own retired unretired 
   retired = retired;
   unretired = unretired;
 }
-added_by tells channel old new clause (Err error) steps added own retired unretired = tt
+added_by old new clause (Err error) steps added own retired unretired = tt
 
 pub returns-clause-added : goal.returns-clause-added
 returns-clause-added g c =
-    added_by g.S.Sink.tells g.S.Sink.channel c.args.table.now c.justify.new.self c.args.clause.now c.justify.result
+    added_by c.args.table.now c.justify.new.self c.args.clause.now c.justify.result
     (steps g (goal.at.returns-clause-added g c).After-justify) c.justify.ensures.added c.justify.ensures.own c.justify.ensures.retired
     c.justify.ensures.unretired

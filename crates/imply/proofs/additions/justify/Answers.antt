@@ -1,5 +1,5 @@
 -- The low clause is given, and the high one is retired, also where the low one is refused.
-use Rattle.std.proofs.Common.{rules, ◌≡◌, ◌≢◌, ◌∙◌, ◌++◌, ◌∷◌, [], ℕ, Bool, None, Some, Err, ap, sym, subst}
+use Rattle.std.proofs.Common.{rules, ◌≡◌, ◌≢◌, ◌∙◌, ◌++◌, ◌∷◌, [], ℕ, None, Some, Err, ap, sym, subst}
 use Rattle.hint_chain.specs.Atoms.{clause_of}
 use Rattle.node_table.specs.declared.error.TableError.TheVariants.{WriteFault}
 use Rattle.node_table.specs.declared.node.Just.TheVariants.{Clause}
@@ -8,7 +8,6 @@ use Rattle.node_table.specs.HandedOn.{same_error}
 use Rattle.node_table.specs.Just.{IsJustified}
 use Rattle.node_table.specs.Table.{TableState, IsAddedTo, IsUsedUp}
 use Rattle.node_table.specs.Progress.{Steps}
-use Rattle.host_io.specs.Channel.{Channel}
 use Rattle.operations.specs.Additions.{RetiresHigh}
 use Rattle.operations.specs.Results.{implication_atoms}
 use Rattle.imply.proofs.ImplicationClauses.{is_open}
@@ -29,10 +28,10 @@ returns-in-Ok-clause-justified g c =
     ))
 
 -- the high clause, which has this number, is retired
-gone : {S : Type 0} (tells : Bool) (channel : S → Channel) (old new : TableState S) (high id : ℕ) → high ≡ id
-    → Steps tells (channel old.book.sink) (channel new.book.sink) old new 0 None
-    → new ≡ record old { retired = old.retired ++ high ∷ [] } → RetiresHigh tells channel old new id
-gone tells channel old new high id same steps is = record {
+gone : {S : Type 0} (old new : TableState S) (high id : ℕ) → high ≡ id
+    → Steps old new 0 None
+    → new ≡ record old { retired = old.retired ++ high ∷ [] } → RetiresHigh old new id
+gone old new high id same steps is = record {
   steps = steps;
   is = is
       ∙ ap (λ (i : ℕ). record old { retired = old.retired ++ i ∷ [] }) same;
@@ -42,25 +41,25 @@ pub returns-in-Ok-clause-steps : goal.returns-in-Ok-clause-steps
 returns-in-Ok-clause-steps g c =
     (c.high_clause_law.ensures.served c.args.table.now c.add_high.new.table c.add_low.new.table c.retire.new.self c.in_ok-first.first.id
     c.in-Ok.id c.in_ok-first.ensures.added c.in-Ok.ensures.added
-    (gone _ _ c.add_low.new.table c.retire.new.self c.id-high_clause.result c.in_ok-first.first.id c.id-high_clause.ensures
+    (gone c.add_low.new.table c.retire.new.self c.id-high_clause.result c.in_ok-first.first.id c.id-high_clause.ensures
     c.retire.ensures.steps c.retire.ensures.retired)).0
 
 pub returns-in-Ok-clause-retires : goal.returns-in-Ok-clause-retires
 returns-in-Ok-clause-retires g c =
     (c.high_clause_law.ensures.served c.args.table.now c.add_high.new.table c.add_low.new.table c.retire.new.self c.in_ok-first.first.id
     c.in-Ok.id c.in_ok-first.ensures.added c.in-Ok.ensures.added
-    (gone _ _ c.add_low.new.table c.retire.new.self c.id-high_clause.result c.in_ok-first.first.id c.id-high_clause.ensures
+    (gone c.add_low.new.table c.retire.new.self c.id-high_clause.result c.in_ok-first.first.id c.id-high_clause.ensures
     c.retire.ensures.steps c.retire.ensures.retired)).1
 
 pub returns-in-Ok-clause-gives : goal.returns-in-Ok-clause-gives
 returns-in-Ok-clause-gives g c whole =
     (c.high_clause_law.ensures.served c.args.table.now c.add_high.new.table c.add_low.new.table c.retire.new.self c.in_ok-first.first.id
     c.in-Ok.id c.in_ok-first.ensures.added c.in-Ok.ensures.added
-    (gone _ _ c.add_low.new.table c.retire.new.self c.id-high_clause.result c.in_ok-first.first.id c.id-high_clause.ensures
+    (gone c.add_low.new.table c.retire.new.self c.id-high_clause.result c.in_ok-first.first.id c.id-high_clause.ensures
     c.retire.ensures.steps c.retire.ensures.retired)).2
 
 pub returns-in-Err-clause-steps : goal.returns-in-Err-clause-steps
-returns-in-Err-clause-steps g c = c.steps_law.ensures.further _ _ _ _ _ _ _ _ _ c.in_ok-first.ensures.added.steps c.in-Err.ensures.steps
+returns-in-Err-clause-steps g c = c.steps_law.ensures.further _ _ _ _ _ _ c.in_ok-first.ensures.added.steps c.in-Err.ensures.steps
 
 pub returns-in-Err-2-clause-steps : goal.returns-in-Err-2-clause-steps
 returns-in-Err-2-clause-steps g c =
@@ -68,7 +67,7 @@ returns-in-Err-2-clause-steps g c =
     (c.high_clause_law.ensures.left c.args.table.now c.add_high.new.table c.add_low.new.table c.retire-in-Err-2.new.self
     c.in_ok-first.first.id c.in-Err.e c.in_ok-first.ensures.added
     (record { steps = c.in-Err.ensures.steps; whole = other; same = c.in-Err.ensures.refused other })
-    (gone _ _ c.add_low.new.table c.retire-in-Err-2.new.self c.id-high_clause.result c.in_ok-first.first.id c.id-high_clause.ensures
+    (gone c.add_low.new.table c.retire-in-Err-2.new.self c.id-high_clause.result c.in_ok-first.first.id c.id-high_clause.ensures
     c.retire-in-Err-2.ensures.steps c.retire-in-Err-2.ensures.retired)).0
 
 pub returns-in-Err-2-clause-retires : goal.returns-in-Err-2-clause-retires
@@ -77,7 +76,7 @@ returns-in-Err-2-clause-retires g c =
     (c.high_clause_law.ensures.left c.args.table.now c.add_high.new.table c.add_low.new.table c.retire-in-Err-2.new.self
     c.in_ok-first.first.id c.in-Err.e c.in_ok-first.ensures.added
     (record { steps = c.in-Err.ensures.steps; whole = other; same = c.in-Err.ensures.refused other })
-    (gone _ _ c.add_low.new.table c.retire-in-Err-2.new.self c.id-high_clause.result c.in_ok-first.first.id c.id-high_clause.ensures
+    (gone c.add_low.new.table c.retire-in-Err-2.new.self c.id-high_clause.result c.in_ok-first.first.id c.id-high_clause.ensures
     c.retire-in-Err-2.ensures.steps c.retire-in-Err-2.ensures.retired)).1
 
 pub returns-in-Err-2-clause-gives : goal.returns-in-Err-2-clause-gives
@@ -86,7 +85,7 @@ returns-in-Err-2-clause-gives g c untorn =
     (c.high_clause_law.ensures.left c.args.table.now c.add_high.new.table c.add_low.new.table c.retire-in-Err-2.new.self
     c.in_ok-first.first.id c.in-Err.e c.in_ok-first.ensures.added
     (record { steps = c.in-Err.ensures.steps; whole = other; same = c.in-Err.ensures.refused other })
-    (gone _ _ c.add_low.new.table c.retire-in-Err-2.new.self c.id-high_clause.result c.in_ok-first.first.id c.id-high_clause.ensures
+    (gone c.add_low.new.table c.retire-in-Err-2.new.self c.id-high_clause.result c.in_ok-first.first.id c.id-high_clause.ensures
     c.retire-in-Err-2.ensures.steps c.retire-in-Err-2.ensures.retired)).2
 
 pub returns-in-Err-2-clause-id_limit : goal.returns-in-Err-2-clause-id_limit

@@ -22,7 +22,7 @@ returns-in-Some-clause-answers g c =
       call = record {
         decided = decided_plainly c.cofactor_law.ensures table.graph can.sound.tied.reduced table.book.state.live u v can.first can.second
             found plain;
-        steps = c.steps_law.ensures.at_most _ _ _ _ _ _ _ (omega arith) (c.steps_law.ensures.none table can.sound);
+        steps = c.steps_law.ensures.at_most _ _ _ _ _ (omega arith) (c.steps_law.ensures.none table can.sound);
         nodes = refl;
         no_node_limit = no_limit found;
         id_limit = λ is. absurd (no_error is);
@@ -31,7 +31,6 @@ returns-in-Some-clause-answers g c =
         kept = λ differ first second just is. absurd (not_plain u v found differ first second plain);
         remembers = record { entries = λ entry there. inl there; no_fewer = omega arith; capacity = refl };
         price = c.price_law.ensures.none table c.args.cache.now.results u v _;
-        beside = refl;
       };
       known = λ just there.
           let same = only_answer c.cofactor_law.ensures table.graph can.sound.tied.reduced table.book.state.live u v can.first can.second
@@ -70,7 +69,7 @@ returns-in-Some-look-clause-answers g c =
     let there = same_list.back own look.found in record {
       call = record {
         decided = (can.fits.each own there).1;
-        steps = c.steps_law.ensures.at_most _ _ _ _ _ _ _ (omega arith) (c.steps_law.ensures.none table can.sound);
+        steps = c.steps_law.ensures.at_most _ _ _ _ _ (omega arith) (c.steps_law.ensures.none table can.sound);
         nodes = refl;
         no_node_limit = no_limit (Some just);
         id_limit = λ is. absurd (no_error is);
@@ -85,7 +84,6 @@ returns-in-Some-look-clause-answers g c =
         };
         price = c.price_law.ensures.looked table c.args.cache.now.results c.look.new.self.results u v apart.1 apart.2
             (λ used front. look.used used front);
-        beside = refl;
       };
       known = λ other had. (ap Ok (look.exact other had), refl, same_list);
       plain = λ answer plain. absurd (not_plain u v answer apart.0 apart.1 apart.2 plain);

@@ -14,7 +14,7 @@ returns g c =
       id_limit = call.id_limit;
       fits = λ whole. call.accounts.fits (whole_result c.work_off.result whole);
       others = λ list fits apart whole.
-          c.accounts_law.ensures.beside _ _ _ c.args.table.now c.work_off.new.table (entries c.args.cache.now)
+          c.accounts_law.ensures.beside c.args.table.now c.work_off.new.table (entries c.args.cache.now)
           (entries c.work_off.new.cache) list _ _ c.requires.sound call.steps call.accounts fits apart
           (whole_result c.work_off.result whole);
       named = λ whole. call.accounts.named (whole_result c.work_off.result whole);
@@ -30,5 +30,4 @@ returns g c =
       no_fewer = call.remembers.no_fewer;
       capacity = call.remembers.capacity;
       plain = answers.plain;
-      beside = call.beside;
     }

@@ -6,15 +6,15 @@ use Rattle.node_table.proofs.laws.steps_law.Goals as goal
 
 pub returns : goal.returns
 returns g c = record {
-  none = λ table sound. Steps-none g.S.Sink.tells (g.S.Sink.channel table.book.sink) table sound;
-  no_memory = λ table sound. Steps-no_memory g.S.Sink.tells (g.S.Sink.channel table.book.sink) table sound;
-  further = Steps-further g.S.Sink.tells;
-  at_most = Steps-at_most g.S.Sink.tells;
-  refute = Steps-refute g.S.Sink.tells;
-  anyhow = Steps-anyhow g.S.Sink.tells;
-  no_empty = Steps-no_empty g.S.Sink.tells;
-  go_on = Continues-further g.S.Sink.tells;
-  leave = leaves_further g.S.Sink.tells;
+  none = λ table sound. Steps-none table sound;
+  no_memory = λ table sound. Steps-no_memory table sound;
+  further = Steps-further;
+  at_most = Steps-at_most;
+  refute = Steps-refute;
+  anyhow = Steps-anyhow;
+  no_empty = Steps-no_empty;
+  go_on = Continues-further;
+  leave = leaves_further;
   extend = Extends-further;
   added = IsAddedTo-kept;
   was_added = IsAddedTo-before;

@@ -3,4 +3,4 @@ use Rattle.operations.proofs.HighClauses.{high_clauses}
 use Rattle.operations.proofs.laws.high_clause_law.Goals as goal
 
 pub returns : goal.returns
-returns g c = high_clauses _ _ c.steps_law.ensures
+returns g c = high_clauses c.steps_law.ensures

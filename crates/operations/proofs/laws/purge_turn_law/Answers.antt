@@ -3,4 +3,4 @@ use Rattle.operations.proofs.PurgedTurns.{purging_turns}
 use Rattle.operations.proofs.laws.purge_turn_law.Goals as goal
 
 pub returns : goal.returns
-returns g c = purging_turns _ _
+returns g c = purging_turns

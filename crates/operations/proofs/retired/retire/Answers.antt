@@ -7,8 +7,8 @@ use Rattle.operations.proofs.retired.retire.Goals as goal
 pub retire-requires-clause-own : goal.retire-requires-clause-own
 retire-requires-clause-own g c = c.requires.own c.in-Some.id c.in-Some.is
 
-pub returns-in-Some-clause-one : goal.returns-in-Some-clause-one
-returns-in-Some-clause-one g c =
+pub returns-in-Some : goal.returns-in-Some
+returns-in-Some g c =
     let list : c.retire.new.self.retired ≡ c.args.table.now.retired ++ c.in-Some.id
     ∷ [] = ap (λ (t : TableState g.row.S.Denot). t.retired) c.retire.ensures.retired in record {
       steps = c.retire.ensures.steps;

@@ -7,6 +7,7 @@ use Rattle.lrat_rules.specs.State.{State, Live, start, clause_at}
 use Rattle.lrat_rules.specs.Chain.{literals_of}
 use Rattle.lrat_rules.specs.Addition.{holds_negated, if_live, is_candidate, is_blocked_by, is_blocked}
 use Rattle.lrat_rules.specs.Strict.{IsDefinition}
+use Rattle.clause_ledger.specs.Told.{told_state}
 use Rattle.proof_tests.proofs.ledger.define_both.Goals as goal
 
 -- under each number there is nothing, or the empty clause
@@ -94,7 +95,7 @@ define-requires-2-clause-definition g c =
     let top : before.top + 1 ≡ 2 = ap (λ (s : State). s.top + 1) c.requires.state in
     second_definition before.live c.define.new.self.state.live (bare_start law.none_at_zero law.none_above
     (law.clauses ([] ∷ []) 0 (omega arith)) before.live live)
-    (λ id. ap (λ (s : State). clause_at s.live id) c.in_ok-first.ensures.added.1
+    (λ id. ap (λ (s : State). clause_at s.live id) (told_state c.in_ok-first.ensures.added.1)
     ∙ c.live_law.ensures before.live (before.top + 1) id (c.args.x3 ∷ c.negated.result ∷ [])
     ∙ (λ i. if id == top i then Some (clause i) else clause_at before.live id))
     (c.negated-2.result ∷ c.args.x2 ∷ []) (λ i. (c.negated-2.ensures ∙ ap neg_ℤ c.requires.x3) i ∷ c.requires.x2 i ∷ [])

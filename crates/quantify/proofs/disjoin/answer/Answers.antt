@@ -53,7 +53,7 @@ returns-clause-answers g c =
     let apart = c.in_default.ensures.disjoined in
     let inner = apart table.graph can.first can.second in
     elim (c.look.result) as (λ (r : Option Node). c.look.result ≡ r
-    → IfSome r (λ w. Disjoins g.S.Sink.tells g.S.Sink.channel g.S.Sink.beside table cache u v table after (Ok w))) [
+    → IfSome r (λ w. Disjoins table cache u v table after (Ok w))) [
       | None ↦ λ is. tt
       | Some w ↦ λ is.
           let kept : Contains (disjunctions after) (Disjunction u v w) = subst

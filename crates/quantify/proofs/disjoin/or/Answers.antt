@@ -11,6 +11,6 @@ returns-clause-others g c list fits whole =
     let old = c.args.table.now in
     let new = c.work_off.new.table in
     let after = c.work_off.new.cache in
-    others_still c.entry_law.ensures old new c.requires.sound (sound_after _ _ _ old new c.work_off.result runs.steps.leaves whole)
+    others_still c.entry_law.ensures old new c.requires.sound (sound_after old new c.work_off.result runs.steps.leaves whole)
     runs.steps.extends runs.retired (disjunctions c.args.cache.now) (disjunctions after) list
     (unnamed disjunction (λ x. refl) after.results.entries) (runs.fits whole) fits

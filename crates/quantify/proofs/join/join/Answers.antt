@@ -25,14 +25,13 @@ returns g c =
         retired = made.retired;
         none_added = made.none_added;
         fits = λ whole. fits_still c.entry_law.ensures old new c.requires.sound
-            (sound_after _ _ _ old new c.node-made.result made.steps.leaves whole) made.steps.extends made.retired listed fits;
+            (sound_after old new c.node-made.result made.steps.leaves whole) made.steps.extends made.retired listed fits;
         made = joined_made c.cofactor_law.ensures c.growth_law.ensures old.graph new.graph reduced c.table_law.ensures.reduced keeps level
             high low c.requires.high c.requires.low function sides c.subfunction_law.ensures made.only;
         lacks = λ is.
             subst (λ (graph : Graph). LacksPart graph function) (sym (same_nodes old new c.node-made.result made.refused is))
             (joined_lacks c.subfunction_law.ensures c.missing_law.ensures old.graph reduced level high low c.requires.level c.requires.high
             c.requires.low function sides (made.node_limit.0 is).0);
-        beside = made.beside;
       };
       children = made.children;
       value = λ function sides.

@@ -90,9 +90,9 @@ pub returns-in_err-w : goal.returns-in_err-w
 returns-in_err-w g c =
     let old = c.args.table.now in
     let came = c.in_err-w.field-0.0 in
-    subst (λ (r : Result (Option Node) TableError). IsAnswered g.S.Sink.tells g.S.Sink.channel g.S.Sink.beside old c.args.cache.now
+    subst (λ (r : Result (Option Node) TableError). IsAnswered old c.args.cache.now
     c.args.ors.now c.args.u c.args.level c.disjoin_children.new.table c.disjoin_children.new.cache
     c.disjoin_children.new.ors r) (sym (handed_on _ came came c.from_residual.ensures.1 refl))
-    (subst (λ (cache : ExistsCache). Quantifies g.S.Sink.tells g.S.Sink.channel g.S.Sink.beside old cache c.args.ors.now c.args.u
+    (subst (λ (cache : ExistsCache). Quantifies old cache c.args.ors.now c.args.u
     c.args.level c.disjoin_children.new.table c.disjoin_children.new.cache
     c.disjoin_children.new.ors (Err came)) (c.in_default.ensures.missed refl) c.in_err-w.ensures)

@@ -34,7 +34,7 @@ returns-in_err-w g c =
     let children = c.cofactors-high.ensures in
     let at = quantification_by c.cofactor_law.ensures old.graph can.sound.tied.reduced level u can.stands c.requires.at can.within
     c.cofactors-high.result.0 c.cofactors-high.result.1 children.high children.low in
-    let own : Runs g.S.Sink.tells g.S.Sink.channel g.S.Sink.beside old (disjunctions ors) (quantification_of old.graph u level) new
+    let own : Runs old (disjunctions ors) (quantification_of old.graph u level) new
     (disjunctions c.or.new.cache) (Err came) = record {
       steps = done.steps;
       retired = done.retired;
@@ -42,9 +42,8 @@ returns-in_err-w g c =
       fits = done.fits;
       made = subst (MakesOnly old.graph new.graph) at done.made;
       lacks = λ is. subst (LacksPart new.graph) at (done.lacks is);
-      beside = done.beside;
     } in
-    subst (λ (r : Answer). Quantifies g.S.Sink.tells g.S.Sink.channel g.S.Sink.beside old cache ors u level new cache c.or.new.cache r)
+    subst (λ (r : Answer). Quantifies old cache ors u level new cache c.or.new.cache r)
     (sym (handed_on _ came came c.from_residual.ensures.1 refl)) (record {
       runs = runs_beside c.entry_law.ensures old can.sound cache ors can.fits (quantification_of old.graph u level) new c.or.new.cache
           (Err came) own;
@@ -71,7 +70,7 @@ returns-in_err-keep g c =
     let children = c.cofactors-high.ensures in
     let at = quantification_by c.cofactor_law.ensures old.graph can.sound.tied.reduced level u can.stands c.requires.at can.within
     c.cofactors-high.result.0 c.cofactors-high.result.1 children.high children.low in
-    let own : Runs g.S.Sink.tells g.S.Sink.channel g.S.Sink.beside old (disjunctions ors) (quantification_of old.graph u level) new
+    let own : Runs old (disjunctions ors) (quantification_of old.graph u level) new
     (disjunctions c.or.new.cache) (Ok w) = record {
       steps = done.steps;
       retired = done.retired;
@@ -79,14 +78,13 @@ returns-in_err-keep g c =
       fits = done.fits;
       made = subst (MakesOnly old.graph new.graph) at done.made;
       lacks = λ is. subst (LacksPart new.graph) at (done.lacks is);
-      beside = done.beside;
     } in
     let first = runs_beside c.entry_law.ensures old can.sound cache ors can.fits (quantification_of old.graph u level) new c.or.new.cache
     (Ok w) own in
     let list = both_caches cache c.or.new.cache in
-    subst (λ (r : Answer). Quantifies g.S.Sink.tells g.S.Sink.channel g.S.Sink.beside old cache ors u level new c.keep.new.self
+    subst (λ (r : Answer). Quantifies old cache ors u level new c.keep.new.self
     c.or.new.cache r) (sym (handed_on _ OutOfMemory OutOfMemory c.from_residual-in_err-keep.ensures.1 refl))
-    (subst (λ (after : ExistsCache). Quantifies g.S.Sink.tells g.S.Sink.channel g.S.Sink.beside old cache ors u level new after
+    (subst (λ (after : ExistsCache). Quantifies old cache ors u level new after
     c.or.new.cache (Err OutOfMemory)) (sym c.in_err-keep.ensures.refused) (record {
       runs = runs_further c.steps_law.ensures c.subfunction_law.ensures old (both_caches cache ors)
           (quantification_of old.graph u level) new list (Err OutOfMemory) new list w first
@@ -115,7 +113,7 @@ returns g c =
     let children = c.cofactors-high.ensures in
     let at = quantification_by c.cofactor_law.ensures old.graph can.sound.tied.reduced level u can.stands c.requires.at can.within
     c.cofactors-high.result.0 c.cofactors-high.result.1 children.high children.low in
-    let own : Runs g.S.Sink.tells g.S.Sink.channel g.S.Sink.beside old (disjunctions ors) (quantification_of old.graph u level) new
+    let own : Runs old (disjunctions ors) (quantification_of old.graph u level) new
     (disjunctions c.or.new.cache) (Ok w) = record {
       steps = done.steps;
       retired = done.retired;
@@ -123,7 +121,6 @@ returns g c =
       fits = done.fits;
       made = subst (MakesOnly old.graph new.graph) at done.made;
       lacks = λ is. subst (LacksPart new.graph) at (done.lacks is);
-      beside = done.beside;
     } in
     let first = runs_beside c.entry_law.ensures old can.sound cache ors can.fits (quantification_of old.graph u level) new c.or.new.cache
     (Ok w) own in

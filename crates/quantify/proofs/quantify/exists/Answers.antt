@@ -3,7 +3,7 @@ use Rattle.std.proofs.Common.{◌++◌, ◌⊎◌, ◌≤◌, List, Contains, Ok
 use Rattle.std.proofs.lemmas.List.Elements.{Contains-append_left}
 use Rattle.node_table.specs.HandedOn.{no_error}
 use Rattle.operations.specs.Entries.{Entry, Fits, HaveSame, Quantification}
-use Rattle.quantify.specs.ExistsCache.{both_caches, most_quantifications, quantification, quantifications}
+use Rattle.quantify.specs.ExistsCache.{both_caches, most_quantifications, quantifications}
 use Rattle.quantify.specs.OrCache.{disjunction, disjunctions}
 use Rattle.quantify.specs.Quantification.{quantification_of}
 use Rattle.quantify.proofs.BothCaches.{caches_unnamed, carried}
@@ -20,7 +20,7 @@ returns-clause-others g c list fits whole =
     let after = c.work_off.new.cache.exists.now in
     let ors = c.work_off.new.cache.ors.now in
     carried (λ (all : List Entry). Fits new (all ++ list)) (both_caches after ors) _ (search rules)
-    (others_still c.entry_law.ensures old new c.requires.sound (sound_after _ _ _ old new c.work_off.result call.runs.steps.leaves whole)
+    (others_still c.entry_law.ensures old new c.requires.sound (sound_after old new c.work_off.result call.runs.steps.leaves whole)
     call.runs.steps.extends call.runs.retired
     (both_caches c.args.cache.now c.args.ors.now) (both_caches after ors) list (caches_unnamed after ors) (call.runs.fits whole) fits)
 

@@ -17,7 +17,7 @@ sweep-requires-clause-clear g c =
       graph = c.settle.ensures.nodes;
       retired = ap (λ (t : TableState g.row.S.Denot). t.retired) is;
       inputs = ap (λ (t : TableState g.row.S.Denot). t.inputs) is;
-      top = ap (λ (t : TableState g.row.S.Denot). t.book.state.top) is;
+      top = c.settle.ensures.top;
       gone = c.settle.ensures.gone;
       stay = c.settle.ensures.stay;
     } in
@@ -25,19 +25,27 @@ sweep-requires-clause-clear g c =
     (g.P.Purge.entries c.args.caches.now) (g.P.Purge.entries c.purge.new.self)
     c.requires.sound c.requires.fits c.in_ok-marks.ensures.reached c.in_ok-marks.ensures.marks c.purge.ensures.purged settled c.requires.may
 
+pub returns-in_err-settle-clause-leaves : goal.returns-in_err-settle-clause-leaves
+returns-in_err-settle-clause-leaves g c =
+    let old = c.args.table.now in
+    let one = c.purge.new.table in
+    let two = c.settle.new.self in
+    let came = c.in_err-settle.field-0.0 in
+    subst (λ (error : Option TableError). Leaves old two error)
+    (sym (ap error_of (handed_on _ came came c.from_residual-in_err-settle.ensures.1 refl)))
+    (c.steps_law.ensures.leave old one two (Some came) c.purge.ensures.steps.leaves c.in_err-settle.ensures.leaves)
+
 pub returns-in_err-count-clause-leaves : goal.returns-in_err-count-clause-leaves
 returns-in_err-count-clause-leaves g c =
-    let channel = g.S.Sink.channel in
     let old = c.args.table.now in
     let one = c.purge.new.table in
     let two = c.settle.new.self in
     let new = c.sweep.new.self in
     let came = c.in_err-count.field-0.0 in
-    let so_far = c.steps_law.ensures.go_on (channel old.book.sink) (channel one.book.sink)
-    (channel two.book.sink) old one two c.purge.ensures.steps.leaves c.in_ok-settle.ensures.leaves in
-    subst (λ (error : Option TableError). Leaves g.S.Sink.tells (channel old.book.sink) (channel new.book.sink) old new error)
+    let so_far = c.steps_law.ensures.go_on old one two c.purge.ensures.steps.leaves c.in_ok-settle.ensures.leaves in
+    subst (λ (error : Option TableError). Leaves old new error)
     (sym (ap error_of (handed_on _ came came c.from_residual-in_err-count.ensures.1 refl)))
-    (c.steps_law.ensures.leave (channel old.book.sink) (channel two.book.sink) (channel new.book.sink) old two new
+    (c.steps_law.ensures.leave old two new
     (Some came) so_far c.in_err-count.ensures.leaves)
 
 pub returns-clause-reclaims : goal.returns-clause-reclaims
@@ -51,7 +59,7 @@ returns-clause-reclaims g c =
       graph = c.settle.ensures.nodes;
       retired = ap (λ (t : TableState g.row.S.Denot). t.retired) is;
       inputs = ap (λ (t : TableState g.row.S.Denot). t.inputs) is;
-      top = ap (λ (t : TableState g.row.S.Denot). t.book.state.top) is;
+      top = c.settle.ensures.top;
       gone = c.settle.ensures.gone;
       stay = c.settle.ensures.stay;
     } in
@@ -71,12 +79,9 @@ returns-clause-reclaims g c =
 
 pub returns-clause-leaves : goal.returns-clause-leaves
 returns-clause-leaves g c =
-    let channel = g.S.Sink.channel in
     let old = c.args.table.now in
     let one = c.purge.new.table in
     let two = c.settle.new.self in
     let new = c.sweep.new.self in
-    let so_far = c.steps_law.ensures.go_on (channel old.book.sink) (channel one.book.sink)
-    (channel two.book.sink) old one two c.purge.ensures.steps.leaves c.in_ok-settle.ensures.leaves in
-    c.steps_law.ensures.go_on (channel old.book.sink) (channel two.book.sink)
-    (channel new.book.sink) old two new so_far c.in_ok-count.ensures.leaves
+    let so_far = c.steps_law.ensures.go_on old one two c.purge.ensures.steps.leaves c.in_ok-settle.ensures.leaves in
+    c.steps_law.ensures.go_on old two new so_far c.in_ok-count.ensures.leaves

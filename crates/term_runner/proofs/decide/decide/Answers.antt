@@ -40,9 +40,6 @@ returns-clause-leaves g c = c.take_moves.ensures.leaves
 pub returns-clause-short : goal.returns-clause-short
 returns-clause-short g c = c.take_moves.ensures.short
 
-pub returns-clause-beside : goal.returns-clause-beside
-returns-clause-beside g c = c.take_moves.ensures.beside
-
 -- nothing was added to the formula's clauses
 none_there : (g : Over) (c : After-are_tautologies g) (width price : ℕ)
     → IsPaid (levels c.args.table.now.graph) c.args.table.now.inputs
@@ -64,8 +61,7 @@ returns-then-are_tautologies-clause-paid g c width price has is = none_there g
 
 pub returns-in_err-model-clause-paid : goal.returns-in_err-model-clause-paid
 returns-in_err-model-clause-paid g c width price has is =
-    kind_of_memory g.S.Sink.tells (g.S.Sink.channel c.args.table.now.book.sink)
-    (g.S.Sink.channel c.args.table.now.book.sink) c.args.table.now c.args.table.now
+    kind_of_memory c.args.table.now c.args.table.now
     (IsPaid (levels c.args.table.now.graph) c.args.table.now.inputs (length c.args.plan.now) c.args.capacity width price) _
     (search rules)
     (none_there g (goal.at.returns-in_err-model-clause-paid g c).After-are_tautologies width price)

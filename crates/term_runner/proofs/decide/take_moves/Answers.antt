@@ -1,5 +1,5 @@
 -- What is left to show of `take_moves`.
-use Rattle.std.proofs.Common.{rules, ◌≡◌, ℕ, suc, ◌+◌, ◌*◌, ◌≤◌, true, List, Option, length, take, reverse, None, Some, Ok, Err, refl, ap}
+use Rattle.std.proofs.Common.{rules, ◌≡◌, ℕ, suc, ◌+◌, ◌*◌, ◌≤◌, true, List, Option, length, take, reverse, None, Some, Ok, Err, ap}
 use Rattle.std.proofs.Common.{sym, ◌∙◌, subst, arith, inl, inr}
 use Rattle.std.proofs.Math.Nat.{mul-le-mul_right}
 use Rattle.std.specs.List.{slice_get}
@@ -62,7 +62,6 @@ moves-init g c =
           (search rules);
       continues = (c.steps_law.ensures.none table c.requires.ready.sound).leaves;
       no_empty = no_change table;
-      beside = refl;
     }
 
 pub take_move-requires-clause-ready : goal.take_move-requires-clause-ready
@@ -178,11 +177,10 @@ moves-preserved g c =
       ready = c.in_ok-take_move.ensures.ready;
       settled = c.in_ok-take_move.ensures.settled (ap Ok c.if-branch.false);
       own = c.in_ok-take_move.ensures.own c.if-branch.false;
-      continues = c.steps_law.ensures.go_on _ _ _ c.args.table.now c.moves.table c.take_move.new.table c.moves.invariant.continues
+      continues = c.steps_law.ensures.go_on c.args.table.now c.moves.table c.take_move.new.table c.moves.invariant.continues
           c.in_ok-take_move.ensures.leaves;
       no_empty = further_empty c.args.table.now c.moves.table c.take_move.new.table c.moves.invariant.no_empty
           (c.in_ok-take_move.ensures.no_empty no_error (no_true _ c.if-branch.false));
-      beside = c.in_ok-take_move.ensures.beside ∙ c.moves.invariant.beside;
     }
 
 pub recover-requires-clause-node : goal.recover-requires-clause-node
@@ -240,9 +238,6 @@ returns-clause-leaves g c = c.moves.invariant.continues
 pub returns-clause-short : goal.returns-clause-short
 returns-clause-short g c is = absurd (no_error is)
 
-pub returns-clause-beside : goal.returns-clause-beside
-returns-clause-beside g c = c.moves.invariant.beside
-
 pub returns-in_err-take_move-clause-found : goal.returns-in_err-take_move-clause-found
 returns-in_err-take_move-clause-found g c = no_answer _ c.in_err-take_move.field-0.0 _ c.from_residual.ensures.1
 
@@ -251,10 +246,9 @@ returns-in_err-take_move-clause-leaves g c =
     let old = c.args.table.now in
     let mid = c.moves.table in
     let new = c.take_move.new.table in
-    let channel = g.S.Sink.channel in
-    subst (λ (error : Option TableError). Leaves g.S.Sink.tells (channel old.book.sink) (channel new.book.sink) old new error)
+    subst (λ (error : Option TableError). Leaves old new error)
     (sym (error_handed _ c.in_err-take_move.field-0.0 c.from_residual.ensures.1))
-    (c.steps_law.ensures.leave (channel old.book.sink) (channel mid.book.sink) (channel new.book.sink) old mid new
+    (c.steps_law.ensures.leave old mid new
     (Some c.in_err-take_move.field-0.0) c.moves.invariant.continues c.in_err-take_move.ensures.leaves)
 
 pub returns-in_err-take_move-clause-short : goal.returns-in_err-take_move-clause-short
@@ -276,23 +270,16 @@ returns-in_err-take_move-clause-short g c is =
     between.stage next.next
     (record { step = c.in-Some.step; is = at; reached = between.front; leads = next.is }) c.take_move.new.left full.0 new full.1 lacks)
 
-pub returns-in_err-take_move-clause-beside : goal.returns-in_err-take_move-clause-beside
-returns-in_err-take_move-clause-beside g c = c.in_err-take_move.ensures.beside ∙ c.moves.invariant.beside
-
 pub returns-then-branch-clause-leaves : goal.returns-then-branch-clause-leaves
 returns-then-branch-clause-leaves g c =
-    c.steps_law.ensures.go_on _ _ _ c.args.table.now c.moves.table c.take_move.new.table c.moves.invariant.continues
+    c.steps_law.ensures.go_on c.args.table.now c.moves.table c.take_move.new.table c.moves.invariant.continues
     c.in_ok-take_move.ensures.leaves
-
-pub returns-then-branch-clause-beside : goal.returns-then-branch-clause-beside
-returns-then-branch-clause-beside g c = c.in_ok-take_move.ensures.beside ∙ c.moves.invariant.beside
 
 pub returns-in_err-model-clause-leaves : goal.returns-in_err-model-clause-leaves
 returns-in_err-model-clause-leaves g c =
     let old = c.args.table.now in
     let new = c.moves.table in
-    let channel = g.S.Sink.channel in
-    memory_left g.S.Sink.tells (channel old.book.sink) (channel new.book.sink) old new _ (search rules) c.moves.invariant.continues
+    memory_left old new _ (search rules) c.moves.invariant.continues
 
 -- the nodes behind a move, however it ended
 nodes_so_far : (g : Over) (c : After-take_move g) (width : ℕ)
@@ -318,10 +305,8 @@ nodes_so_far g c width has =
 paid_so_far : (g : Over) (c : After-take_move g) (width price : ℕ)
     → HasWidth c.args.formula.now c.args.table.now.graph.order c.args.plan.now width
     → IsMovePrice (levels c.args.table.now.graph) c.args.capacity width price
-    → (error : Option TableError) → Leaves g.S.Sink.tells (g.S.Sink.channel c.moves.table.book.sink)
-    (g.S.Sink.channel c.take_move.new.table.book.sink) c.moves.table c.take_move.new.table error
-    → LeavesKind g.S.Sink.tells (g.S.Sink.channel c.args.table.now.book.sink)
-    (g.S.Sink.channel c.take_move.new.table.book.sink) c.args.table.now c.take_move.new.table
+    → (error : Option TableError) → Leaves c.moves.table c.take_move.new.table error
+    → LeavesKind c.args.table.now c.take_move.new.table
     (IsPaid (levels c.args.table.now.graph) c.args.table.now.inputs (length c.args.plan.now) c.args.capacity width price) error
 paid_so_far g c width price has is error leaves =
     let first = c.args.table.now in
@@ -333,7 +318,7 @@ paid_so_far g c width price has is error leaves =
     c.moves.invariant.settled c.moves.invariant.own c.moves.invariant.between in
     let all = within_all (c.moves.i + 1) (length c.args.plan.now) price first.book.state.top new.book.state.top
     (omega (arith, c.moves-test.true, c.len-i-end.ensures)) (so_far g c width price has is) in
-    paid_behind c.lean_law.ensures.lean c.in_use_law.ensures g.S.Sink.tells _ _ _ first mid new c.moves.invariant.continues c.args.capacity
+    paid_behind c.lean_law.ensures.lean c.in_use_law.ensures first mid new c.moves.invariant.continues c.args.capacity
     (2 * c.args.capacity + length (reverse c.moves.stack.items)) (length c.args.plan.now) width price
     added.0 (omega (arith, added.1, c.requires.ready.counted)) (omega (arith, all, c.requires.fresh)) (near_by g c width price has is)
     (nodes_so_far g c width has) error leaves
@@ -343,8 +328,7 @@ returns-in_err-take_move-clause-paid g c width price has is =
     let first = c.args.table.now in
     let new = c.take_move.new.table in
     let kind = IsPaid (levels first.graph) first.inputs (length c.args.plan.now) c.args.capacity width price in
-    subst (λ (error : Option TableError). LeavesKind g.S.Sink.tells (g.S.Sink.channel first.book.sink)
-    (g.S.Sink.channel new.book.sink) first new kind error) (sym (error_handed _ c.in_err-take_move.field-0.0 c.from_residual.ensures.1))
+    subst (λ (error : Option TableError). LeavesKind first new kind error) (sym (error_handed _ c.in_err-take_move.field-0.0 c.from_residual.ensures.1))
     (paid_so_far g (goal.at.returns-in_err-take_move-clause-paid g c).After-take_move width price has is
     (Some c.in_err-take_move.field-0.0) c.in_err-take_move.ensures.leaves)
 
@@ -368,15 +352,14 @@ paid_at_last g c width price has is =
     let all = within_all c.moves.i (length c.args.plan.now) price first.book.state.top mid.book.state.top c.moves.invariant.few
     (c.moves.invariant.price width price has is) in
     let few = tidy_few (live_nodes mid.graph) c.moves.left width c.moves.invariant.tidy (c.moves.invariant.left width has) in
-    paid_behind c.lean_law.ensures.lean c.in_use_law.ensures g.S.Sink.tells _ _ _ first mid mid c.moves.invariant.continues c.args.capacity
+    paid_behind c.lean_law.ensures.lean c.in_use_law.ensures first mid mid c.moves.invariant.continues c.args.capacity
     (2 * c.args.capacity + length (reverse c.moves.stack.items)) (length c.args.plan.now) width price
     added.0 (omega (arith, added.1, c.requires.ready.counted)) (omega (arith, all, c.requires.fresh)) (omega arith)
     (omega (arith, few)) None (c.steps_law.ensures.none mid c.moves.invariant.ready.sound).leaves
 
 pub returns-in_err-model-clause-paid : goal.returns-in_err-model-clause-paid
 returns-in_err-model-clause-paid g c width price has is =
-    kind_of_memory g.S.Sink.tells (g.S.Sink.channel c.args.table.now.book.sink)
-    (g.S.Sink.channel c.moves.table.book.sink) c.args.table.now c.moves.table
+    kind_of_memory c.args.table.now c.moves.table
     (IsPaid (levels c.args.table.now.graph) c.args.table.now.inputs (length c.args.plan.now) c.args.capacity width price) _
     (search rules)
     (paid_at_last g (goal.at.returns-in_err-model-clause-paid g c).After-few_law-2 width price has is)

@@ -24,7 +24,6 @@ invariant-moves g l = record {
   ready : IsReady l.formula l.table (all_entries l.caches);
   settled : l.table.retired ≡ [];
   own : HasUnits l.table (all_entries l.caches) (reverse l.stack.items);
-  continues : Continues g.S.Sink.tells (g.S.Sink.channel l.fn.table.book.sink) (g.S.Sink.channel l.table.book.sink) l.fn.table l.table;
+  continues : Continues l.fn.table l.table;
   no_empty : AddsNoEmpty l.fn.table l.table;
-  beside : g.S.Sink.beside l.table.book.sink ≡ g.S.Sink.beside l.fn.table.book.sink;
 }

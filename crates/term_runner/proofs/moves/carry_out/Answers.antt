@@ -49,7 +49,7 @@ returns-in-Push-clause-ready g c whole =
     let old = c.args.table.now in
     let new = c.push.new.table in
     let steps = c.push.ensures.steps in
-    let sound = (went_on _ _ _ old new c.push.result steps.leaves whole).sound in
+    let sound = (went_on old new c.push.result steps.leaves whole).sound in
     let kept = c.entry_law.ensures.kept old new (all_entries c.args.caches.now) c.requires.ready.sound sound steps.extends
     c.requires.ready.fits
     (λ id named gone. c.requires.ready.fits.unretired id named (subst (λ (list : List ℕ). Contains list id) c.push.ensures.retired gone)) in
@@ -94,7 +94,7 @@ returns-in-And-clause-ready g c whole =
     let new = c.conjoin.new.table in
     let steps = c.conjoin.ensures.steps in
     ready_after c.args.formula.now old new (all_entries c.args.caches.now) (all_entries c.conjoin.new.caches) c.requires.ready
-    (went_on _ _ _ old new c.conjoin.result steps.leaves whole).sound steps.extends (c.conjoin.ensures.fits whole)
+    (went_on old new c.conjoin.result steps.leaves whole).sound steps.extends (c.conjoin.ensures.fits whole)
 
 pub returns-in-Push-clause-made : goal.returns-in-Push-clause-made
 returns-in-Push-clause-made g c stage next at is =
@@ -139,17 +139,11 @@ returns-in-Push-clause-refuted g c = c.push.ensures.refuted
 pub returns-in-Push-clause-leaves : goal.returns-in-Push-clause-leaves
 returns-in-Push-clause-leaves g c = c.push.ensures.steps.leaves
 
-pub returns-in-Push-clause-beside : goal.returns-in-Push-clause-beside
-returns-in-Push-clause-beside g c = c.push.ensures.beside
-
 pub returns-in-And-clause-refuted : goal.returns-in-And-clause-refuted
 returns-in-And-clause-refuted g c = c.conjoin.ensures.refuted
 
 pub returns-in-And-clause-leaves : goal.returns-in-And-clause-leaves
 returns-in-And-clause-leaves g c = c.conjoin.ensures.steps.leaves
-
-pub returns-in-And-clause-beside : goal.returns-in-And-clause-beside
-returns-in-And-clause-beside g c = c.conjoin.ensures.beside
 
 pub returns-in-Push-clause-own : goal.returns-in-Push-clause-own
 returns-in-Push-clause-own g c = c.push.ensures.own (all_entries c.args.caches.now) c.requires.ready.fits c.requires.own
@@ -206,7 +200,7 @@ returns-in-Exists-clause-ready g c whole =
     let new = c.quantify_out.new.table in
     let steps = c.quantify_out.ensures.steps in
     ready_after c.args.formula.now old new (all_entries c.args.caches.now) (all_entries c.quantify_out.new.caches) c.requires.ready
-    (went_on _ _ _ old new c.quantify_out.result steps.leaves whole).sound steps.extends
+    (went_on old new c.quantify_out.result steps.leaves whole).sound steps.extends
     (c.quantify_out.ensures.fits whole)
 
 pub returns-in-Exists-clause-made : goal.returns-in-Exists-clause-made
@@ -239,9 +233,6 @@ returns-in-Exists-clause-refuted g c = c.quantify_out.ensures.refuted
 
 pub returns-in-Exists-clause-leaves : goal.returns-in-Exists-clause-leaves
 returns-in-Exists-clause-leaves g c = c.quantify_out.ensures.steps.leaves
-
-pub returns-in-Exists-clause-beside : goal.returns-in-Exists-clause-beside
-returns-in-Exists-clause-beside g c = c.quantify_out.ensures.beside
 
 pub returns-in-Exists-clause-own : goal.returns-in-Exists-clause-own
 returns-in-Exists-clause-own g c = c.quantify_out.ensures.own

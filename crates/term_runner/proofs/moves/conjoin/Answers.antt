@@ -222,7 +222,7 @@ returns-clause-own g c no_end =
     (none_retired new c.in_ok-unit.unit) c.retire_unit.ensures.retired) c.retire_unit-2.ensures.retired in
     let all = c.steps_law.ensures.extend old mid new found.steps.extends unit.steps.extends in
     subst (λ (s : List HeldTerm). HasUnits last after s) (sym (c.replace_two.ensures c.in-Some.v c.in-Some.u rest items))
-    (units_replaced g.S.Sink.tells g.S.Sink.channel c.steps_law.ensures old new last before after (c.in-Some.v ∷ c.in-Some.u
+    (units_replaced c.steps_law.ensures old new last before after (c.in-Some.v ∷ c.in-Some.u
     ∷ []) rest (record { node = c.in_ok-node.node; unit = c.in_ok-unit.unit })
     c.requires.sound unit.steps.leaves.sound all has gives retires)
 
@@ -236,35 +236,32 @@ returns-then-is_same-clause-steps g c =
     let old = c.args.table.now in
     let mid = c.and.new.table in
     let new = c.unit_of.new.table in
-    let channel = g.S.Sink.channel in
     let most = most_additions (levels old.graph) in
-    c.steps_law.ensures.refute (channel old.book.sink) (channel mid.book.sink) (channel new.book.sink) old mid new most 1 None
+    c.steps_law.ensures.refute old mid new most 1 None
     c.in_ok-node.ensures.steps c.in_ok-unit.ensures.steps
 
 -- where the node isn't False no empty clause came
 open_steps : (g : Over) (c : After-retire_unit-2 g)
-    → Steps g.S.Sink.tells (g.S.Sink.channel c.args.table.now.book.sink) (g.S.Sink.channel c.retire_unit-2.new.table.book.sink)
+    → Steps
     c.args.table.now c.retire_unit-2.new.table (most_additions (levels c.args.table.now.graph) + 1) None
 open_steps g c =
     let old = c.args.table.now in
     let mid = c.and.new.table in
     let new = c.unit_of.new.table in
-    let channel = g.S.Sink.channel in
     let most = most_additions (levels old.graph) in
-    let two = c.steps_law.ensures.further (channel old.book.sink) (channel mid.book.sink)
-    (channel new.book.sink) old mid new most 1 None c.in_ok-node.ensures.steps
+    let two = c.steps_law.ensures.further old mid new most 1 None c.in_ok-node.ensures.steps
     (c.in_ok-unit.ensures.some (λ is. not_both c.is_same.result (c.is_same.ensures.1 is) c.if-is_same.false)) in
     let third = c.retire_unit.new.table in
     let last = c.retire_unit-2.new.table in
-    let three = c.steps_law.ensures.further (channel old.book.sink) (channel new.book.sink) (channel third.book.sink) old new third (most
+    let three = c.steps_law.ensures.further old new third (most
     + 1) 0 None two c.retire_unit.ensures.steps in
-    let four = c.steps_law.ensures.further (channel old.book.sink) (channel third.book.sink) (channel last.book.sink) old third last (most
+    let four = c.steps_law.ensures.further old third last (most
     + 1 + 0) 0 None three c.retire_unit-2.ensures.steps in
-    c.steps_law.ensures.at_most (channel old.book.sink) (channel last.book.sink) old last (most + 1 + 0 + 0) (most
+    c.steps_law.ensures.at_most old last (most + 1 + 0 + 0) (most
     + 1) None (omega arith) four
 
 pub returns-clause-steps : goal.returns-clause-steps
-returns-clause-steps g c = c.steps_law.ensures.anyhow _ _ _ _ _ _ (open_steps g (goal.at.returns-clause-steps g c).After-retire_unit-2)
+returns-clause-steps g c = c.steps_law.ensures.anyhow _ _ _ _ (open_steps g (goal.at.returns-clause-steps g c).After-retire_unit-2)
 
 pub returns-clause-no_empty : goal.returns-clause-no_empty
 returns-clause-no_empty g c whole unrefuted = (open_steps g (goal.at.returns-clause-no_empty g c).After-retire_unit-2).no_empty
@@ -375,14 +372,6 @@ pub returns-clause-lacks : goal.returns-clause-lacks
 returns-clause-lacks g c formula one other terms are is =
     absurd (no_error is)
 
-pub returns-then-is_same-clause-beside : goal.returns-then-is_same-clause-beside
-returns-then-is_same-clause-beside g c =
-    c.in_ok-unit.ensures.beside ∙ c.in_ok-node.ensures.beside
-
-pub returns-clause-beside : goal.returns-clause-beside
-returns-clause-beside g c =
-    c.retire_unit-2.ensures.beside ∙ c.retire_unit.ensures.beside ∙ c.in_ok-unit.ensures.beside ∙ c.in_ok-node.ensures.beside
-
 pub returns-in_err-node-clause-held : goal.returns-in_err-node-clause-held
 returns-in_err-node-clause-held g c formula one other terms are = no_answer _ c.in_err-node.field-0.0 _ c.from_residual.ensures.1
 
@@ -406,8 +395,8 @@ pub returns-in_err-node-clause-steps : goal.returns-in_err-node-clause-steps
 returns-in_err-node-clause-steps g c =
     let old = c.args.table.now in
     let mid = c.and.new.table in
-    c.steps_law.ensures.anyhow _ _ _ _ _ _ (steps_handed _ _ _ old mid _ _ c.in_err-node.field-0.0 c.from_residual.ensures.1
-    (c.steps_law.ensures.at_most _ _ old mid (most_additions (levels old.graph)) (most_additions (levels old.graph)
+    c.steps_law.ensures.anyhow _ _ _ _ (steps_handed old mid _ _ c.in_err-node.field-0.0 c.from_residual.ensures.1
+    (c.steps_law.ensures.at_most old mid (most_additions (levels old.graph)) (most_additions (levels old.graph)
     + 1) _ (omega arith) c.in_err-node.ensures.steps))
 
 pub returns-in_err-node-clause-fits : goal.returns-in_err-node-clause-fits
@@ -440,21 +429,14 @@ returns-in_err-node-clause-lacks g c formula one other terms are is =
     subst (LacksPart c.and.new.table.graph) function (c.in_err-node.ensures.lacks
     (ap Err (came_from _ c.in_err-node.field-0.0 NodeLimit c.from_residual.ensures.1 is)))
 
-pub returns-in_err-node-clause-beside : goal.returns-in_err-node-clause-beside
-returns-in_err-node-clause-beside g c =
-    c.in_err-node.ensures.beside
-
 pub returns-in_err-unit-clause-steps : goal.returns-in_err-unit-clause-steps
 returns-in_err-unit-clause-steps g c =
     let old = c.args.table.now in
     let mid = c.and.new.table in
     let new = c.unit_of.new.table in
-    let first = g.S.Sink.channel old.book.sink in
-    let second = g.S.Sink.channel mid.book.sink in
-    let third = g.S.Sink.channel new.book.sink in
-    refutes_handed g.S.Sink.tells first third old new (most_additions (levels old.graph)
+    refutes_handed old new (most_additions (levels old.graph)
     + 1) _ c.in_err-unit.field-0.0 c.from_residual-in_err-unit.ensures.1
-    (c.steps_law.ensures.refute first second third old mid new (most_additions (levels old.graph)) 1
+    (c.steps_law.ensures.refute old mid new (most_additions (levels old.graph)) 1
     (Some c.in_err-unit.field-0.0) c.in_ok-node.ensures.steps c.in_err-unit.ensures.steps)
 
 pub returns-in_err-unit-clause-fits : goal.returns-in_err-unit-clause-fits
@@ -465,7 +447,7 @@ returns-in_err-unit-clause-fits g c whole =
     let came = c.in_err-unit.field-0.0 in
     let torn : ◌≡◌ {A = Result Just TableError} (Err came) (Err WriteFault)
     → ⊥ = other_cause _ came WriteFault c.from_residual-in_err-unit.ensures.1 whole in
-    let sound = (went_on _ _ _ mid new (Err came) c.in_err-unit.ensures.steps.leaves torn).sound in
+    let sound = (went_on mid new (Err came) c.in_err-unit.ensures.steps.leaves torn).sound in
     c.entry_law.ensures.kept mid new (all_entries c.and.new.self) c.in_ok-node.ensures.steps.leaves.sound sound
     c.in_err-unit.ensures.steps.extends kept
     (λ id named gone. kept.unretired id named (subst (λ (list : List ℕ). Contains list id) c.in_err-unit.ensures.retired gone))
@@ -489,10 +471,6 @@ returns-in_err-unit-clause-lacks g c formula one other terms are is =
     absurd (c.in_err-unit.ensures.no_node_limit
     (ap Err (came_from _ c.in_err-unit.field-0.0 NodeLimit c.from_residual-in_err-unit.ensures.1 is)))
 
-pub returns-in_err-unit-clause-beside : goal.returns-in_err-unit-clause-beside
-returns-in_err-unit-clause-beside g c =
-    c.in_err-unit.ensures.beside ∙ c.in_ok-node.ensures.beside
-
 pub returns-in_err-node-clause-again : goal.returns-in_err-node-clause-again
 returns-in_err-node-clause-again g c is =
     let old = c.args.table.now in
@@ -501,8 +479,8 @@ returns-in_err-node-clause-again g c is =
     let limit = came_from _ came NodeLimit c.from_residual.ensures.1 is in
     let whole = limit_whole came limit in
     let found = c.in_err-node.ensures in
-    let sound = (limit_left g.S.Sink.tells g.S.Sink.channel old mid came limit found.steps.leaves).0.sound in
-    units_behind g.S.Sink.tells g.S.Sink.channel c.steps_law.ensures old mid (all_entries c.args.caches.now) (all_entries c.and.new.self)
+    let sound = (limit_left old mid came limit found.steps.leaves).0.sound in
+    units_behind c.steps_law.ensures old mid (all_entries c.args.caches.now) (all_entries c.and.new.self)
     (reverse c.args.stack.now.items) c.requires.sound sound
     found.steps.extends c.requires.own found.keeps.retires (found.keeps.named whole)
     (found.accounts (λ torn. whole (ap Some (same_error torn))))

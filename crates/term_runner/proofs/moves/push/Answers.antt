@@ -82,7 +82,7 @@ returns-clause-own g c kept fits own =
     c.in_ok-found.ensures.retired c.in_ok-found.ensures.alone c.in_ok-found.ensures.last
     c.in_ok-found.ensures.own in
     subst (λ (list : List HeldTerm). HasUnits new kept list) (sym listed)
-    (units_replaced g.S.Sink.tells g.S.Sink.channel c.steps_law.ensures old new new kept kept []
+    (units_replaced c.steps_law.ensures old new new kept kept []
     (reverse stack) held c.requires.ready.1.sound steps.leaves.sound steps.extends own gives
     (none_retired new c.in_ok-found.found.1)))
     c.put.ensures.stacked
@@ -91,7 +91,7 @@ pub returns-in_err-found-clause-own : goal.returns-in_err-found-clause-own
 returns-in_err-found-clause-own g c kept fits own = no_answer _ c.in_err-found.field-0.0 _ c.from_residual.ensures.1
 
 pub returns-clause-steps : goal.returns-clause-steps
-returns-clause-steps g c = after_all _ _ _ c.args.table.now c.push_clause.new.table _ c.put.result c.put.ensures.failed
+returns-clause-steps g c = after_all c.args.table.now c.push_clause.new.table _ c.put.result c.put.ensures.failed
     c.in_ok-found.ensures.steps
 
 pub returns-clause-retired : goal.returns-clause-retired
@@ -106,9 +106,6 @@ returns-clause-made g c =
 pub returns-clause-lacks : goal.returns-clause-lacks
 returns-clause-lacks g c is = absurd (no_limit c.put.result c.put.ensures.failed is)
 
-pub returns-clause-beside : goal.returns-clause-beside
-returns-clause-beside g c = c.in_ok-found.ensures.beside
-
 pub returns-in_err-found-clause-held : goal.returns-in_err-found-clause-held
 returns-in_err-found-clause-held g c terms are = no_answer _ c.in_err-found.field-0.0 _ c.from_residual.ensures.1
 
@@ -116,7 +113,7 @@ pub returns-in_err-found-clause-refuted : goal.returns-in_err-found-clause-refut
 returns-in_err-found-clause-refuted g c = no_answer _ c.in_err-found.field-0.0 _ c.from_residual.ensures.1
 
 pub returns-in_err-found-clause-steps : goal.returns-in_err-found-clause-steps
-returns-in_err-found-clause-steps g c = steps_handed _ _ _ c.args.table.now c.push_clause.new.table _ _ c.in_err-found.field-0.0
+returns-in_err-found-clause-steps g c = steps_handed c.args.table.now c.push_clause.new.table _ _ c.in_err-found.field-0.0
     c.from_residual.ensures.1 c.in_err-found.ensures.steps
 
 pub returns-in_err-found-clause-retired : goal.returns-in_err-found-clause-retired
@@ -134,9 +131,6 @@ returns-in_err-found-clause-lacks g c is =
     subst (λ (clause : List ℤ). LacksPart c.push_clause.new.table.graph (clause_function old.order clause)) c.clause-clause.ensures
     (c.in_err-found.ensures.lacks (ap Err (came_from _ c.in_err-found.field-0.0 NodeLimit c.from_residual.ensures.1 is)))
 
-pub returns-in_err-found-clause-beside : goal.returns-in_err-found-clause-beside
-returns-in_err-found-clause-beside g c = c.in_err-found.ensures.beside
-
 pub returns-clause-unchanged : goal.returns-clause-unchanged
 returns-clause-unchanged g c = c.put.ensures.unchanged
 
@@ -150,8 +144,8 @@ returns-in_err-found-clause-again g c kept fits has is =
     let came = c.in_err-found.field-0.0 in
     let limit = came_from _ came NodeLimit c.from_residual.ensures.1 is in
     let found = c.in_err-found.ensures in
-    let sound = (limit_left g.S.Sink.tells g.S.Sink.channel old new came limit found.steps.leaves).0.sound in
-    units_behind g.S.Sink.tells g.S.Sink.channel c.steps_law.ensures old new kept kept
+    let sound = (limit_left old new came limit found.steps.leaves).0.sound in
+    units_behind c.steps_law.ensures old new kept kept
     (reverse c.args.stack.now.items) c.requires.ready.1.sound sound found.steps.extends has
     (record { each = λ id gone. inl (subst (λ (ids : List ℕ). Contains ids id) found.retired gone) })
     (record { each = λ entry there. inl there })

@@ -21,7 +21,7 @@ pub settle-requires-in-Err : goal.settle-requires-in-Err
 settle-requires-in-Err g c =
     let is = c.is_node_limit.ensures.0 c.if-is_node_limit.true in
     record {
-      sound = (limit_left g.S.Sink.tells g.S.Sink.channel c.args.table.now c.carry_out.new.table c.in-Err.e is
+      sound = (limit_left c.args.table.now c.carry_out.new.table c.in-Err.e is
           c.in-Err.ensures.leaves).0.sound;
     }
 
@@ -30,11 +30,10 @@ returns-in_err-settle-in-Ok-2-clause-leaves g c =
     let old = c.args.table.now in
     let mid = c.carry_out.new.table in
     let new = c.settle.new.self in
-    let channel = g.S.Sink.channel in
     let came = c.in_err-settle-in-Ok-2.field-0.0 in
-    subst (λ (error : Option TableError). Leaves g.S.Sink.tells (channel old.book.sink) (channel new.book.sink) old new error)
+    subst (λ (error : Option TableError). Leaves old new error)
     (sym (error_handed _ came c.from_residual.ensures.1))
-    (c.steps_law.ensures.leave (channel old.book.sink) (channel mid.book.sink) (channel new.book.sink) old mid new
+    (c.steps_law.ensures.leave old mid new
     (Some came) c.in-Ok-2.ensures.leaves c.in_err-settle-in-Ok-2.ensures.leaves)
 
 pub returns-in_err-settle-in-Ok-2-clause-made : goal.returns-in_err-settle-in-Ok-2-clause-made
@@ -45,7 +44,7 @@ returns-in_err-settle-in-Ok-2-clause-made g c stage next are is =
 
 pub returns-in_ok-settle-in-Ok-2-clause-leaves : goal.returns-in_ok-settle-in-Ok-2-clause-leaves
 returns-in_ok-settle-in-Ok-2-clause-leaves g c =
-    c.steps_law.ensures.go_on _ _ _ c.args.table.now c.carry_out.new.table c.settle.new.self c.in-Ok-2.ensures.leaves
+    c.steps_law.ensures.go_on c.args.table.now c.carry_out.new.table c.settle.new.self c.in-Ok-2.ensures.leaves
     c.in_ok-settle-in-Ok-2.ensures.leaves
 
 pub returns-in_ok-settle-in-Ok-2-clause-made : goal.returns-in_ok-settle-in-Ok-2-clause-made
@@ -96,13 +95,12 @@ returns-in_err-settle-in-Err-clause-leaves g c =
     let old = c.args.table.now in
     let mid = c.carry_out.new.table in
     let new = c.settle-in-Err.new.self in
-    let channel = g.S.Sink.channel in
     let came = c.in_err-settle-in-Err.field-0.0 in
-    let limit = limit_left g.S.Sink.tells channel old mid c.in-Err.e
+    let limit = limit_left old mid c.in-Err.e
     (c.is_node_limit.ensures.0 c.if-is_node_limit.true) c.in-Err.ensures.leaves in
-    subst (λ (error : Option TableError). Leaves g.S.Sink.tells (channel old.book.sink) (channel new.book.sink) old new error)
+    subst (λ (error : Option TableError). Leaves old new error)
     (sym (error_handed _ came c.from_residual-in_err-settle-in-Err.ensures.1))
-    (c.steps_law.ensures.leave (channel old.book.sink) (channel mid.book.sink) (channel new.book.sink) old mid new
+    (c.steps_law.ensures.leave old mid new
     (Some came) limit.0 c.in_err-settle-in-Err.ensures.leaves)
 
 pub returns-in_err-settle-in-Err-clause-made : goal.returns-in_err-settle-in-Err-clause-made
@@ -137,15 +135,14 @@ returns-in_ok-settle-in-Err-clause-leaves g c =
     let old = c.args.table.now in
     let mid = c.carry_out.new.table in
     let new = c.settle-in-Err.new.self in
-    let channel = g.S.Sink.channel in
     let is = c.is_node_limit.ensures.0 c.if-is_node_limit.true in
-    let limit = limit_left g.S.Sink.tells channel old mid c.in-Err.e is c.in-Err.ensures.leaves in
+    let limit = limit_left old mid c.in-Err.e is c.in-Err.ensures.leaves in
     let settled = c.in_ok-settle-in-Err.ensures.leaves in
-    let more : Leaves g.S.Sink.tells (channel old.book.sink) (channel new.book.sink) old new (Some NodeLimit) = (
-      c.steps_law.ensures.go_on _ _ _ old mid new limit.0 settled,
+    let more : Leaves old new (Some NodeLimit) = (
+      c.steps_law.ensures.go_on old mid new limit.0 settled,
       omega (arith, limit.1, settled.max_nodes, ap live_nodes c.settle-in-Err.ensures.nodes),
     ) in
-    subst (λ (e : TableError). Leaves g.S.Sink.tells (channel old.book.sink) (channel new.book.sink) old new (Some e)) (sym is) more
+    subst (λ (e : TableError). Leaves old new (Some e)) (sym is) more
 
 pub returns-in_ok-settle-in-Err-clause-again : goal.returns-in_ok-settle-in-Err-clause-again
 returns-in_ok-settle-in-Err-clause-again g c limit =
@@ -229,7 +226,7 @@ returns-in_err-settle-in-Ok-2-clause-no_empty g c whole unrefuted =
 pub returns-in_ok-settle-in-Ok-2-clause-no_empty : goal.returns-in_ok-settle-in-Ok-2-clause-no_empty
 returns-in_ok-settle-in-Ok-2-clause-no_empty g c whole unrefuted =
     further_empty c.args.table.now c.carry_out.new.table c.settle.new.self (c.in-Ok.ensures.no_empty no_error unrefuted)
-    (fewer_empty _ _ _ c.carry_out.new.table c.settle.new.self c.in_ok-settle-in-Ok-2.ensures.leaves c.settle.ensures.top)
+    (fewer_empty c.carry_out.new.table c.settle.new.self c.in_ok-settle-in-Ok-2.ensures.leaves c.settle.ensures.top)
 
 pub returns-in_err-settle-in-Err-clause-no_empty : goal.returns-in_err-settle-in-Err-clause-no_empty
 returns-in_err-settle-in-Err-clause-no_empty g c whole unrefuted =
@@ -239,4 +236,4 @@ returns-in_err-settle-in-Err-clause-no_empty g c whole unrefuted =
 pub returns-in_ok-settle-in-Err-clause-no_empty : goal.returns-in_ok-settle-in-Err-clause-no_empty
 returns-in_ok-settle-in-Err-clause-no_empty g c whole unrefuted =
     further_empty c.args.table.now c.carry_out.new.table c.settle-in-Err.new.self (c.in-Err.ensures.no_empty whole unrefuted)
-    (fewer_empty _ _ _ c.carry_out.new.table c.settle-in-Err.new.self c.in_ok-settle-in-Err.ensures.leaves c.settle-in-Err.ensures.top)
+    (fewer_empty c.carry_out.new.table c.settle-in-Err.new.self c.in_ok-settle-in-Err.ensures.leaves c.settle-in-Err.ensures.top)

@@ -83,7 +83,7 @@ returns-clause-nodes g c = c.unit_of_implied.ensures.nodes ∙ c.implies.ensures
 pub returns-clause-steps : goal.returns-clause-steps
 returns-clause-steps g c =
     let old = c.args.table.now in
-    c.steps_law.ensures.further _ _ _ old c.implies.new.table c.unit_of_implied.new.table
+    c.steps_law.ensures.further old c.implies.new.table c.unit_of_implied.new.table
     (most_additions (levels old.graph)) 1 _ c.in_ok-just.ensures.steps c.unit_of_implied.ensures.steps
 
 pub returns-clause-keeps : goal.returns-clause-keeps
@@ -96,15 +96,12 @@ returns-clause-keeps g c =
     let kept = all_entries c.implies.new.self in
     keeps_further old mid new (all_entries c.args.caches.now) kept kept _ done.steps.extends steps.extends done.keeps
     (keeps_all c.entry_law.ensures mid new kept _ done.steps.leaves.sound
-    (λ whole. (went_on _ _ _ mid new c.unit_of_implied.result steps.leaves (whole_error c.unit_of_implied.result whole)).sound)
+    (λ whole. (went_on mid new c.unit_of_implied.result steps.leaves (whole_error c.unit_of_implied.result whole)).sound)
     steps.extends c.unit_of_implied.ensures.retired
     (done.keeps.fits none_whole))
 
 pub returns-clause-no_node_limit : goal.returns-clause-no_node_limit
 returns-clause-no_node_limit g c = c.unit_of_implied.ensures.no_node_limit
-
-pub returns-clause-beside : goal.returns-clause-beside
-returns-clause-beside g c = c.unit_of_implied.ensures.beside ∙ c.implies.ensures.beside
 
 pub returns-clause-gives : goal.returns-clause-gives
 returns-clause-gives g c =

@@ -175,7 +175,7 @@ returns-clause-own g c no_end =
     one_more_retired new new last [] c.in-Some.u c.in_ok-held.held.unit
     (none_retired new c.in_ok-held.held.unit) c.retire_unit.ensures.retired in
     subst (λ (s : List HeldTerm). HasUnits last after s) (sym (c.replace_last.ensures c.in-Some.u rest items))
-    (units_replaced g.S.Sink.tells g.S.Sink.channel c.steps_law.ensures old new last before after (c.in-Some.u ∷ []) rest c.in_ok-held.held
+    (units_replaced c.steps_law.ensures old new last before after (c.in-Some.u ∷ []) rest c.in_ok-held.held
     c.requires.sound done.steps.leaves.sound done.steps.extends has done.gives retires)
 
 pub returns-clause-steps : goal.returns-clause-steps
@@ -183,9 +183,9 @@ returns-clause-steps g c =
     let old = c.args.table.now in
     let new = c.weaken.new.table in
     let last = c.retire_unit.new.table in
-    c.steps_law.ensures.at_most _ _ old last (most_additions (levels old.graph) + 1 + 0) (most_additions (levels old.graph)
+    c.steps_law.ensures.at_most old last (most_additions (levels old.graph) + 1 + 0) (most_additions (levels old.graph)
     + 1) None (omega arith)
-    (c.steps_law.ensures.further _ _ _ old new last (most_additions (levels old.graph)
+    (c.steps_law.ensures.further old new last (most_additions (levels old.graph)
     + 1) 0 None c.in_ok-held.ensures.steps c.retire_unit.ensures.steps)
 
 pub returns-then-is_same-clause-steps : goal.returns-then-is_same-clause-steps
@@ -250,10 +250,6 @@ pub returns-clause-lacks : goal.returns-clause-lacks
 returns-clause-lacks g c formula term terms are is =
     absurd (no_error is)
 
-pub returns-clause-beside : goal.returns-clause-beside
-returns-clause-beside g c =
-    c.retire_unit.ensures.beside ∙ c.in_ok-held.ensures.beside
-
 pub returns-in_err-held-clause-held : goal.returns-in_err-held-clause-held
 returns-in_err-held-clause-held g c formula term terms are = no_answer _ c.in_err-held.field-0.0 _ c.from_residual.ensures.1
 
@@ -267,7 +263,7 @@ pub returns-in_err-held-clause-own : goal.returns-in_err-held-clause-own
 returns-in_err-held-clause-own g c = no_answer _ c.in_err-held.field-0.0 _ c.from_residual.ensures.1
 
 pub returns-in_err-held-clause-steps : goal.returns-in_err-held-clause-steps
-returns-in_err-held-clause-steps g c = steps_handed _ _ _ c.args.table.now c.weaken.new.table _ _ c.in_err-held.field-0.0
+returns-in_err-held-clause-steps g c = steps_handed c.args.table.now c.weaken.new.table _ _ c.in_err-held.field-0.0
     c.from_residual.ensures.1 c.in_err-held.ensures.steps
 
 pub returns-in_err-held-clause-fits : goal.returns-in_err-held-clause-fits
@@ -319,8 +315,8 @@ returns-in_err-held-clause-again g c is =
     let came = c.in_err-held.field-0.0 in
     let limit = came_from _ came NodeLimit c.from_residual.ensures.1 is in
     let found = c.in_err-held.ensures in
-    let sound = (limit_left g.S.Sink.tells g.S.Sink.channel old new came limit found.steps.leaves).0.sound in
-    units_behind g.S.Sink.tells g.S.Sink.channel c.steps_law.ensures old new (all_entries c.args.caches.now)
+    let sound = (limit_left old new came limit found.steps.leaves).0.sound in
+    units_behind c.steps_law.ensures old new (all_entries c.args.caches.now)
     (all_entries c.weaken.new.caches) (reverse c.args.stack.now.items) c.requires.sound sound
     found.steps.extends c.requires.own found.keeps.retires (found.keeps.named (limit_whole came limit)) (found.accounts (ap Err limit))
 

@@ -69,9 +69,9 @@ returns-clause-steps g c =
     let new = c.implied_unit.new.table in
     let same : most_additions (levels mid.graph) ≡ most_additions (levels old.graph) = ap
     (λ (o : List ℕ). most_additions (length o)) c.in_ok-node.ensures.steps.extends.nodes.order in
-    c.steps_law.ensures.at_most _ _ old new (0 + (most_additions (levels mid.graph) + 1)) (most_additions (levels old.graph)
+    c.steps_law.ensures.at_most old new (0 + (most_additions (levels mid.graph) + 1)) (most_additions (levels old.graph)
     + 1) None (omega (arith, same))
-    (c.steps_law.ensures.further _ _ _ old mid new 0 (most_additions (levels mid.graph)
+    (c.steps_law.ensures.further old mid new 0 (most_additions (levels mid.graph)
     + 1) None c.in_ok-node.ensures.steps c.in_ok-unit.ensures.steps)
 
 pub returns-clause-keeps : goal.returns-clause-keeps
@@ -86,9 +86,6 @@ returns-clause-made g c =
     subst (λ (graph : Graph). MakesOnly old graph (quantification_of old c.args.u.now.node c.args.level))
     (sym c.in_ok-unit.ensures.nodes) c.in_ok-node.ensures.made
 
-pub returns-clause-beside : goal.returns-clause-beside
-returns-clause-beside g c = c.in_ok-unit.ensures.beside ∙ c.in_ok-node.ensures.beside
-
 pub returns-in_err-node-clause-quantified : goal.returns-in_err-node-clause-quantified
 returns-in_err-node-clause-quantified g c = no_answer _ c.in_err-node.field-0.0 _ c.from_residual.ensures.1
 
@@ -102,8 +99,8 @@ pub returns-in_err-node-clause-steps : goal.returns-in_err-node-clause-steps
 returns-in_err-node-clause-steps g c =
     let old = c.args.table.now in
     let mid = c.exists.new.table in
-    steps_handed _ _ _ old mid _ _ c.in_err-node.field-0.0 c.from_residual.ensures.1
-    (c.steps_law.ensures.at_most _ _ old mid 0 (most_additions (levels old.graph) + 1) _ (omega arith) c.in_err-node.ensures.steps)
+    steps_handed old mid _ _ c.in_err-node.field-0.0 c.from_residual.ensures.1
+    (c.steps_law.ensures.at_most old mid 0 (most_additions (levels old.graph) + 1) _ (omega arith) c.in_err-node.ensures.steps)
 
 pub returns-in_err-node-clause-keeps : goal.returns-in_err-node-clause-keeps
 returns-in_err-node-clause-keeps g c =
@@ -116,9 +113,6 @@ returns-in_err-node-clause-made g c = c.in_err-node.ensures.made
 pub returns-in_err-node-clause-lacks : goal.returns-in_err-node-clause-lacks
 returns-in_err-node-clause-lacks g c is = c.in_err-node.ensures.lacks
     (ap Err (came_from _ c.in_err-node.field-0.0 NodeLimit c.from_residual.ensures.1 is))
-
-pub returns-in_err-node-clause-beside : goal.returns-in_err-node-clause-beside
-returns-in_err-node-clause-beside g c = c.in_err-node.ensures.beside
 
 pub returns-in_err-unit-clause-quantified : goal.returns-in_err-unit-clause-quantified
 returns-in_err-unit-clause-quantified g c = no_answer _ c.in_err-unit.field-0.0 _ c.from_residual-in_err-unit.ensures.1
@@ -137,10 +131,10 @@ returns-in_err-unit-clause-steps g c =
     let came = c.in_err-unit.field-0.0 in
     let same : most_additions (levels mid.graph) ≡ most_additions (levels old.graph) = ap
     (λ (o : List ℕ). most_additions (length o)) c.in_ok-node.ensures.steps.extends.nodes.order in
-    steps_handed _ _ _ old new _ _ came c.from_residual-in_err-unit.ensures.1
-    (c.steps_law.ensures.at_most _ _ old new (0 + (most_additions (levels mid.graph) + 1)) (most_additions (levels old.graph)
+    steps_handed old new _ _ came c.from_residual-in_err-unit.ensures.1
+    (c.steps_law.ensures.at_most old new (0 + (most_additions (levels mid.graph) + 1)) (most_additions (levels old.graph)
     + 1) (Some came) (omega (arith, same))
-    (c.steps_law.ensures.further _ _ _ old mid new 0 (most_additions (levels mid.graph)
+    (c.steps_law.ensures.further old mid new 0 (most_additions (levels mid.graph)
     + 1) (Some came) c.in_ok-node.ensures.steps c.in_err-unit.ensures.steps))
 
 pub returns-in_err-unit-clause-keeps : goal.returns-in_err-unit-clause-keeps
@@ -163,9 +157,6 @@ returns-in_err-unit-clause-made g c =
 pub returns-in_err-unit-clause-lacks : goal.returns-in_err-unit-clause-lacks
 returns-in_err-unit-clause-lacks g c is = absurd (c.in_err-unit.ensures.no_node_limit
     (ap Err (came_from _ c.in_err-unit.field-0.0 NodeLimit c.from_residual-in_err-unit.ensures.1 is)))
-
-pub returns-in_err-unit-clause-beside : goal.returns-in_err-unit-clause-beside
-returns-in_err-unit-clause-beside g c = c.in_err-unit.ensures.beside ∙ c.in_ok-node.ensures.beside
 
 pub returns-clause-gives : goal.returns-clause-gives
 returns-clause-gives g c =

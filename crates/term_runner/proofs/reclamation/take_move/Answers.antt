@@ -58,7 +58,7 @@ returns-clause-left g c stage next at is ok =
     let trail = c.try_twice.new.trail in
     let moved = subst (λ (s : List HeldTerm). IsAt formula mid.graph mid.book.state.live s trail next) (sym c.as_slice.ensures.value)
     (c.in_ok-refuted.ensures.held stage next at is c.if-refuted.false) in
-    let so_far = c.steps_law.ensures.go_on _ _ _ c.args.table.now mid new c.in_ok-refuted.ensures.leaves c.in_ok-left.ensures.leaves in
+    let so_far = c.steps_law.ensures.go_on c.args.table.now mid new c.in_ok-refuted.ensures.leaves c.in_ok-left.ensures.leaves in
     let were = were_left formula mid.graph new.graph new.book.state.live stack trail next c.args.table.now.graph.order _
     (c.in_ok-left.ensures.at next moved) c.in_ok-left.ensures.reached so_far.order c.in_ok-left.ensures.count in
     inr (inr were)
@@ -77,7 +77,7 @@ returns-clause-few g c stage next at is width most =
     let trail = c.try_twice.new.trail in
     let moved = subst (λ (s : List HeldTerm). IsAt formula mid.graph mid.book.state.live s trail next) (sym c.as_slice.ensures.value)
     (c.in_ok-refuted.ensures.held stage next at is c.if-refuted.false) in
-    let so_far = c.steps_law.ensures.go_on _ _ _ c.args.table.now mid new c.in_ok-refuted.ensures.leaves c.in_ok-left.ensures.leaves in
+    let so_far = c.steps_law.ensures.go_on c.args.table.now mid new c.in_ok-refuted.ensures.leaves c.in_ok-left.ensures.leaves in
     let were = were_left formula mid.graph new.graph new.book.state.live stack trail next c.args.table.now.graph.order _
     (c.in_ok-left.ensures.at next moved) c.in_ok-left.ensures.reached so_far.order c.in_ok-left.ensures.count in
     let left = few_left c.subfunction_law.ensures c.canonical_law.ensures formula c.args.table.now.graph.order
@@ -111,14 +111,14 @@ returns-in_err-left-clause-no_empty g c whole unrefuted =
     let came = c.in_err-left.field-0.0 in
     further_empty c.args.table.now c.try_twice.new.table c.give_back.new.table
     (c.in_ok-refuted.ensures.no_empty no_error (no_true c.in_ok-refuted.refuted c.if-refuted.false))
-    (fewer_left {T = ℕ} _ _ _ c.try_twice.new.table c.give_back.new.table (Err came) c.in_err-left.ensures.leaves
+    (fewer_left {T = ℕ} c.try_twice.new.table c.give_back.new.table (Err came) c.in_err-left.ensures.leaves
     (λ torn. whole (handed_on _ came WriteFault c.from_residual-in_err-left.ensures.1 (same_error torn))) c.give_back.ensures.top)
 
 pub returns-clause-no_empty : goal.returns-clause-no_empty
 returns-clause-no_empty g c whole unrefuted =
     further_empty c.args.table.now c.try_twice.new.table c.give_back.new.table
     (c.in_ok-refuted.ensures.no_empty no_error (no_true c.in_ok-refuted.refuted c.if-refuted.false))
-    (fewer_empty _ _ _ c.try_twice.new.table c.give_back.new.table c.in_ok-left.ensures.leaves c.give_back.ensures.top)
+    (fewer_empty c.try_twice.new.table c.give_back.new.table c.in_ok-left.ensures.leaves c.give_back.ensures.top)
 
 pub returns-in_err-left-clause-rule : goal.returns-in_err-left-clause-rule
 returns-in_err-left-clause-rule g c stage next at is =
@@ -135,5 +135,5 @@ returns-clause-rule g c stage next at is =
     (c.try_twice.ensures.rule stage next at is)
 
 pub returns-clause-leaves : goal.returns-clause-leaves
-returns-clause-leaves g c = c.steps_law.ensures.go_on _ _ _ c.args.table.now c.try_twice.new.table c.give_back.new.table
+returns-clause-leaves g c = c.steps_law.ensures.go_on c.args.table.now c.try_twice.new.table c.give_back.new.table
     c.in_ok-refuted.ensures.leaves c.in_ok-left.ensures.leaves

@@ -1,9 +1,10 @@
 -- A move that was refused is tried once more over the nodes that its terms reach.
-use Rattle.std.proofs.Common.{◌≡◌, ℕ, ◌+◌, ◌*◌, ◌≤◌, ◌∙◌, List, Err, Some, length, refl, ap, sym, subst, arith, inl, inr}
+use Rattle.std.proofs.Common.{◌≡◌, ℕ, ◌+◌, ◌*◌, ◌≤◌, ◌∙◌, List, Option, Err, Some, length, refl, ap, sym, subst, arith, inl, inr}
+use Rattle.node_table.specs.declared.error.TableError.{TableError}
 use Rattle.node_table.specs.declared.error.TableError.TheVariants.{NodeLimit, WriteFault}
 use Rattle.node_table.specs.Diagram.{Graph, levels}
 use Rattle.node_table.specs.Made.{LacksPart}
-use Rattle.node_table.specs.Progress.{Continues, error_of}
+use Rattle.node_table.specs.Progress.{Continues, Leaves, error_of}
 use Rattle.node_table.specs.Table.{live_nodes}
 use Rattle.schedule_plan.specs.Plan.{Stage, after_move}
 use Rattle.term_runner.specs.declared.held.HeldTerm.{HeldTerm}
@@ -50,15 +51,13 @@ module _ (g : Over) (c : After-try_move-in-Err g) where
       subst (λ (stack : List HeldTerm). LeavesReached c.try_move.new.table.graph c.give_back.new.table.graph
       (held_nodes stack c.try_move.new.trail)) c.as_slice.ensures.value c.in_ok-left-in-Err.ensures.reached
 
-  continues_mid : Continues g.S.Sink.tells (g.S.Sink.channel c.args.table.now.book.sink)
-      (g.S.Sink.channel c.give_back.new.table.book.sink) c.args.table.now c.give_back.new.table
+  continues_mid : Continues c.args.table.now c.give_back.new.table
   continues_mid =
-      let channel = g.S.Sink.channel in
       let old = c.args.table.now in
       let one = c.try_move.new.table in
       let mid = c.give_back.new.table in
-      c.steps_law.ensures.go_on (channel old.book.sink) (channel one.book.sink) (channel mid.book.sink) old one mid
-      (limit_left g.S.Sink.tells channel old one c.in-Err.e at_limit c.in-Err.ensures.leaves).0 c.in_ok-left-in-Err.ensures.leaves
+      c.steps_law.ensures.go_on old one mid
+      (limit_left old one c.in-Err.e at_limit c.in-Err.ensures.leaves).0 c.in_ok-left-in-Err.ensures.leaves
 
   -- the second try's nodes, over the order at the start
   made_last : (stage next : Stage)
@@ -94,11 +93,10 @@ returns-in_ok-left-in-Err-clause-held g c stage next at is = c.try_move-in-Err.e
 
 pub returns-in_ok-left-in-Err-clause-leaves : goal.returns-in_ok-left-in-Err-clause-leaves
 returns-in_ok-left-in-Err-clause-leaves g c =
-    let channel = g.S.Sink.channel in
     let old = c.args.table.now in
     let mid = c.give_back.new.table in
     let new = c.try_move-in-Err.new.table in
-    c.steps_law.ensures.leave (channel old.book.sink) (channel mid.book.sink) (channel new.book.sink) old mid new
+    c.steps_law.ensures.leave old mid new
     (error_of c.try_move-in-Err.result) (continues_mid g c) c.try_move-in-Err.ensures.leaves
 
 pub returns-in_ok-left-in-Err-clause-made : goal.returns-in_ok-left-in-Err-clause-made
@@ -131,7 +129,7 @@ module _ (g : Over) (c : After-try_move g) (stage next : Stage)
       let own = c.try_move.ensures in
       tried c.canonical_law.ensures c.args.formula.now c.args.table.now.graph.order stage next c.args.step is c.args.table.now
       c.try_move.new.table
-      g.S.Sink.tells _ _ _ own.leaves own.nodes (own.made stage next at is) width most
+      _ own.leaves own.nodes (own.made stage next at is) width most
       (levels c.args.table.now.graph) size price refl paid own.adds
       (λ room. own.pairs stage next at is width (record { size = size; have = have; room = room }) most)
 
@@ -140,7 +138,7 @@ module _ (g : Over) (c : After-try_move g) (stage next : Stage)
       let own = c.try_move.ensures in
       inl (tried_few c.canonical_law.ensures c.args.formula.now c.args.table.now.graph.order stage next c.args.step is c.args.table.now
       c.try_move.new.table
-      g.S.Sink.tells _ _ _ own.leaves own.nodes (own.made stage next at is) width most)
+      _ own.leaves own.nodes (own.made stage next at is) width most)
 
 pub returns-in-Ok-clause-price : goal.returns-in-Ok-clause-price
 returns-in-Ok-clause-price g c stage next at is size width price have paid most =
@@ -179,7 +177,7 @@ returns-in_ok-left-in-Err-clause-price g c stage next at is size width price hav
     let order = (continues_mid g c).order in
     let first = once g (goal.at.returns-in_ok-left-in-Err-clause-price g c).After-try_move stage next at is width most size price have paid
     in
-    let second = tried c.canonical_law.ensures formula old.graph.order stage next c.args.step is mid new g.S.Sink.tells _ _ _ own.leaves
+    let second = tried c.canonical_law.ensures formula old.graph.order stage next c.args.step is mid new _ own.leaves
     own.nodes (made_last g c stage next at is) width most
     (levels old.graph) size price (ap length order) paid own.adds
     (λ room. own.pairs stage next (at_mid g c stage at) is width
@@ -194,7 +192,7 @@ returns-in_ok-left-in-Err-clause-few g c stage next at is width most =
     let mid = c.give_back.new.table in
     let new = c.try_move-in-Err.new.table in
     let own = c.try_move-in-Err.ensures in
-    let second = tried_few c.canonical_law.ensures formula old.graph.order stage next c.args.step is mid new g.S.Sink.tells _ _ _ own.leaves
+    let second = tried_few c.canonical_law.ensures formula old.graph.order stage next c.args.step is mid new _ own.leaves
     own.nodes (made_last g c stage next at is) width most in
     let left = few_left c.subfunction_law.ensures c.canonical_law.ensures formula old.graph.order c.requires.ready.sound.tied.ordered stage
     next stage (in_hand_before stage next) _ (left_mid g c stage at) width most in
@@ -206,7 +204,7 @@ returns-in_err-left-in-Err-clause-no_empty g c whole unrefuted =
     further_empty c.args.table.now c.try_move.new.table c.give_back.new.table
     (c.in-Err.ensures.no_empty (λ torn. no_nodes_left (sym (c.is_node_limit.ensures.0 c.if-is_node_limit.true) ∙ same_error torn))
     (λ is. no_error (sym is)))
-    (fewer_left {T = ℕ} _ _ _ c.try_move.new.table c.give_back.new.table (Err came) c.in_err-left-in-Err.ensures.leaves
+    (fewer_left {T = ℕ} c.try_move.new.table c.give_back.new.table (Err came) c.in_err-left-in-Err.ensures.leaves
     (λ torn. whole (handed_on _ came WriteFault c.from_residual.ensures.1 (same_error torn))) c.give_back.ensures.top)
 
 pub returns-in_ok-left-in-Err-clause-no_empty : goal.returns-in_ok-left-in-Err-clause-no_empty
@@ -216,18 +214,18 @@ returns-in_ok-left-in-Err-clause-no_empty g c whole unrefuted =
     (further_empty c.args.table.now c.try_move.new.table mid
     (c.in-Err.ensures.no_empty (λ torn. no_nodes_left (sym (c.is_node_limit.ensures.0 c.if-is_node_limit.true) ∙ same_error torn))
     (λ is. no_error (sym is)))
-    (fewer_empty _ _ _ c.try_move.new.table mid c.in_ok-left-in-Err.ensures.leaves c.give_back.ensures.top))
+    (fewer_empty c.try_move.new.table mid c.in_ok-left-in-Err.ensures.leaves c.give_back.ensures.top))
     (c.try_move-in-Err.ensures.no_empty whole unrefuted)
 
 -- at the limit a reclamation is due
 pub returns-in_err-left-in-Err-clause-rule : goal.returns-in_err-left-in-Err-clause-rule
 returns-in_err-left-in-Err-clause-rule g c stage next at is =
-    inr (due_at_limit g.S.Sink.tells _ _ c.args.table.now c.try_move.new.table _ _ c.in-Err.e
+    inr (due_at_limit c.args.table.now c.try_move.new.table _ _ c.in-Err.e
     (c.is_node_limit.ensures.0 c.if-is_node_limit.true) c.in-Err.ensures.leaves (c.try_move.ensures.made stage next at is))
 
 pub returns-in_ok-left-in-Err-clause-rule : goal.returns-in_ok-left-in-Err-clause-rule
 returns-in_ok-left-in-Err-clause-rule g c stage next at is =
-    inr (due_at_limit g.S.Sink.tells _ _ c.args.table.now c.try_move.new.table _ _ c.in-Err.e
+    inr (due_at_limit c.args.table.now c.try_move.new.table _ _ c.in-Err.e
     (c.is_node_limit.ensures.0 c.if-is_node_limit.true) c.in-Err.ensures.leaves (c.try_move.ensures.made stage next at is))
 
 pub returns-in-Ok-clause-rule : goal.returns-in-Ok-clause-rule
@@ -253,3 +251,15 @@ try_move-requires-in-Err-clause-possible g c =
           (c.in-Err.ensures.at_again stage possible.2 (ap Err limit)))),
       possible.3,
     )
+
+pub returns-in_err-left-in-Err-clause-leaves : goal.returns-in_err-left-in-Err-clause-leaves
+returns-in_err-left-in-Err-clause-leaves g c =
+    let old = c.args.table.now in
+    let one = c.try_move.new.table in
+    let new = c.give_back.new.table in
+    let came = c.in_err-left-in-Err.field-0.0 in
+    subst (λ (error : Option TableError). Leaves old new error)
+    (sym (ap error_of (handed_on _ came came c.from_residual.ensures.1 refl)))
+    (c.steps_law.ensures.leave old one new (Some came)
+    (limit_left old one c.in-Err.e (c.is_node_limit.ensures.0 c.if-is_node_limit.true) c.in-Err.ensures.leaves).0
+    c.in_err-left-in-Err.ensures.leaves)

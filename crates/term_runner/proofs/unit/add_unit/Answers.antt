@@ -1,5 +1,5 @@
 -- The clause of a node alone is empty where the node is False, and not else.
-use Rattle.std.proofs.Common.{[], ◌∷◌, sym}
+use Rattle.std.proofs.Common.{sym}
 use Rattle.node_table.specs.HandedOn.{if_handed}
 use Rattle.node_table.specs.Refused.{steps_handed_on}
 use Rattle.term_runner.proofs.Leaving.{refutes_handed}
@@ -7,7 +7,7 @@ use Rattle.term_runner.proofs.NoEmpty.{has_literal, same_empty}
 use Rattle.term_runner.proofs.unit.add_unit.Goals as goal
 
 pub returns-in_err-id-in-None-clause-steps : goal.returns-in_err-id-in-None-clause-steps
-returns-in_err-id-in-None-clause-steps g c = refutes_handed _ _ _ _ _ _ _ c.in_err-id-in-None.field-0.0 c.from_residual.ensures.1
+returns-in_err-id-in-None-clause-steps g c = refutes_handed _ _ _ _ c.in_err-id-in-None.field-0.0 c.from_residual.ensures.1
     c.in_err-id-in-None.ensures.steps
 
 pub returns-in_err-id-in-None-clause-some : goal.returns-in_err-id-in-None-clause-some
@@ -23,7 +23,7 @@ returns-in_ok-id-in-None-clause-some g c open_w = absurd
     (has_literal c.args.table.now.graph c.args.w c.requires.stands c.requires.not_true open_w (sym c.in-None.ensures))
 
 pub returns-in_err-id-in-Some-clause-steps : goal.returns-in_err-id-in-Some-clause-steps
-returns-in_err-id-in-Some-clause-steps g c = refutes_handed _ _ _ _ _ _ _ c.in_err-id-in-Some.field-0.0
+returns-in_err-id-in-Some-clause-steps g c = refutes_handed _ _ _ _ c.in_err-id-in-Some.field-0.0
     c.from_residual-in_err-id-in-Some.ensures.1 c.in_err-id-in-Some.ensures.steps
 
 pub returns-in_err-id-in-Some-clause-some : goal.returns-in_err-id-in-Some-clause-some

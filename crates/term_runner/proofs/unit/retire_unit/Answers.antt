@@ -12,5 +12,5 @@ retire-requires-clause-unretired g c id is = c.requires.unretired id
 
 pub returns-clause-retired : goal.returns-clause-retired
 returns-clause-retired g c =
-    retired_but g.S.Sink.tells g.S.Sink.channel c.args.table.now c.retire.new.table c.args.unit.now c.args.kept.now c.given_up.result
-    c.given_up.ensures c.retire.ensures.one
+    retired_but c.args.table.now c.retire.new.table c.args.unit.now c.args.kept.now c.given_up.result
+    c.given_up.ensures c.retire.ensures

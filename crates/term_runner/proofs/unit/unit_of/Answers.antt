@@ -105,8 +105,8 @@ returns-clause-steps g c = c.add_unit.ensures.steps
 
 pub returns-then-is_same-clause-some : goal.returns-then-is_same-clause-some
 returns-then-is_same-clause-some g c open_w =
-    c.steps_law.ensures.at_most _ _ _ _ 0 1 _ (omega arith) (c.steps_law.ensures.none c.args.table.now c.requires.sound)
+    c.steps_law.ensures.at_most _ _ 0 1 _ (omega arith) (c.steps_law.ensures.none c.args.table.now c.requires.sound)
 
 pub returns-then-is_same-2-clause-some : goal.returns-then-is_same-2-clause-some
 returns-then-is_same-2-clause-some g c open_w =
-    c.steps_law.ensures.at_most _ _ _ _ 0 1 _ (omega arith) (c.steps_law.ensures.none c.args.table.now c.requires.sound)
+    c.steps_law.ensures.at_most _ _ 0 1 _ (omega arith) (c.steps_law.ensures.none c.args.table.now c.requires.sound)

@@ -1,5 +1,5 @@
 -- What the loops of `AndCache::purge` keep.
-use Rattle.std.proofs.Common.{◌≡◌, ◌≤◌, length}
+use Rattle.std.proofs.Common.{◌≤◌, length}
 use Rattle.operations.specs.Turns.{HadTurns, HaveRetired}
 use Rattle.apply_and.specs.Cache.{entry_of}
 use Rattle.apply_and.proofs.cache.AndCache.purge.Given as goal
@@ -8,6 +8,5 @@ abbrev pub invariant-turns : goal.invariant-turns
 invariant-turns g l = record {
   few : l.counter ≤ length l.fn.self.results.entries;
   cache : HadTurns entry_of l.marks l.fn.self.results l.self.results l.counter;
-  table : HaveRetired entry_of l.marks g.S.Sink.tells g.S.Sink.channel l.fn.table l.table l.fn.self.results l.counter;
-  beside : g.S.Sink.beside l.table.book.sink ≡ g.S.Sink.beside l.fn.table.book.sink;
+  table : HaveRetired entry_of l.marks l.fn.table l.table l.fn.self.results l.counter;
 }

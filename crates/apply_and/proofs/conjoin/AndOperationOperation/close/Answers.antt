@@ -1,6 +1,5 @@
 -- The node of both results is kept as the conjunction of the operands, or its step or the cache is refused.
-use Rattle.std.proofs.Common.{◌≡◌, ◌∙◌, ℕ, Bool, Err, None, List, arith, inl, refl, sym, ap, subst}
-use Rattle.host_io.specs.Channel.{Channel}
+use Rattle.std.proofs.Common.{◌≡◌, ℕ, Err, None, List, arith, inl, refl, sym, ap, subst}
 use Rattle.node_table.specs.declared.error.TableError.TheVariants.{OutOfMemory}
 use Rattle.node_table.specs.declared.node.Just.{Just}
 use Rattle.node_table.specs.Diagram.{Graph}
@@ -18,10 +17,10 @@ use Rattle.apply_and.proofs.Calls.{Answer, memory_no_limit}
 use Rattle.apply_and.proofs.conjoin.AndOperationOperation.close.Goals as goal
 
 -- the step of the node has found a result
-found_by : {S : Type 0} (tells : Bool) (one other : Channel) (old mid : TableState S) (before : List Entry) (count : ℕ) (just : Just)
-    → IsSound old → Fits old before → Steps tells one other old mid count None
+found_by : {S : Type 0} (old mid : TableState S) (before : List Entry) (count : ℕ) (just : Just)
+    → IsSound old → Fits old before → Steps old mid count None
     → RetiresNew old mid → GivesOne old mid just → HasFound old mid before just
-found_by tells one other old mid before count just sound fits steps retires gives = record {
+found_by old mid before count just sound fits steps retires gives = record {
   sound = sound;
   fits = fits;
   still = steps.leaves.sound;
@@ -39,11 +38,11 @@ returns-in_err-found-clause-closes g c =
     let new = c.finish.new.table in
     let came = c.in_err-found.field-0.0 in
     let done = c.in_err-found.ensures in
-    subst (λ (r : Answer). Closes g.S.Sink.tells g.S.Sink.channel g.S.Sink.beside old cache o c.args.high.now c.args.low.now new cache r)
+    subst (λ (r : Answer). Closes old cache o c.args.high.now c.args.low.now new cache r)
     (sym (handed_on _ came came c.from_residual.ensures.1 refl)) (record {
       conjoined = tt;
       steps = done.steps;
-      accounts = c.accounts_law.ensures.failed _ _ _ old new before _ _ c.requires.sound c.requires.fits done.steps done.retires
+      accounts = c.accounts_law.ensures.failed old new before _ _ c.requires.sound c.requires.fits done.steps done.retires
           (λ whole. done.gives (whole_error _ whole));
       unretired = tt;
       kept = tt;
@@ -53,20 +52,19 @@ returns-in_err-found-clause-closes g c =
       made = done.made;
       reachable = tt;
       lacks = done.lacks;
-      beside = done.beside;
     })
 
 pub retire-requires-clause-own : goal.retire-requires-clause-own
 retire-requires-clause-own g c id is =
     let done = c.in_ok-found.ensures in
-    let has = found_by _ _ _ c.args.table.now c.finish.new.table
+    let has = found_by c.args.table.now c.finish.new.table
     (entries c.args.cache.now) _ c.in_ok-found.found.1 c.requires.sound c.requires.fits done.steps done.retires (done.gives no_error) in
     (c.accounts_law.ensures.found _ _ _ _ has).own id (c.in-Ok.ensures.kept.one.named id is)
 
 pub retire-requires-clause-unretired : goal.retire-requires-clause-unretired
 retire-requires-clause-unretired g c id is gone =
     let done = c.in_ok-found.ensures in
-    let has = found_by _ _ _ c.args.table.now c.finish.new.table
+    let has = found_by c.args.table.now c.finish.new.table
     (entries c.args.cache.now) _ c.in_ok-found.found.1 c.requires.sound c.requires.fits done.steps done.retires (done.gives no_error) in
     (c.accounts_law.ensures.found _ _ _ _ has).unretired id (c.in-Ok.ensures.kept.one.named id is) gone
 
@@ -83,7 +81,7 @@ returns-in-Ok-clause-closes g c =
     let given = c.in-Ok.given in
     let done = c.in_ok-found.ensures in
     let kept = c.in-Ok.ensures.kept in
-    let one : RetiresOne g.S.Sink.tells g.S.Sink.channel mid new given = c.retire.ensures.one in
+    let one : RetiresOne mid new given = c.retire.ensures in
     let same : new.graph ≡ mid.graph = ap (λ (t : TableState g.row.S.Denot). t.graph) one.same in
     let nodes : AreNodes mid.graph o.u o.v = record {
       first = c.growth_law.ensures.stands old.graph mid.graph done.steps.extends.nodes o.u
@@ -92,11 +90,11 @@ returns-in-Ok-clause-closes g c =
           (c.operand_law.ensures.second old.graph o c.requires.split);
     } in
     let law = c.steps_law.ensures in
-    let has = found_by _ _ _ old mid before _ found.1 c.requires.sound c.requires.fits done.steps done.retires (done.gives no_error) in
-    let ended = c.accounts_law.ensures.kept _ _ old mid new before (entries after) (Conjunction o.u o.v found.0 found.1) given has
+    let has = found_by old mid before _ found.1 c.requires.sound c.requires.fits done.steps done.retires (done.gives no_error) in
+    let ended = c.accounts_law.ensures.kept old mid new before (entries after) (Conjunction o.u o.v found.0 found.1) given has
     (nodes, done.conjoined) kept.one one in record {
       conjoined = ended.right.1;
-      steps = law.further _ _ _ _ _ _ 2 0 _ done.steps one.steps;
+      steps = law.further _ _ _ 2 0 _ done.steps one.steps;
       accounts = ended.accounts;
       unretired = ended.unretired;
       kept = kept.one.kept;
@@ -106,7 +104,6 @@ returns-in-Ok-clause-closes g c =
       made = subst (λ (graph : Graph). MakesOnly old.graph graph (conjunction_of old.graph o.u o.v)) (sym same) done.made;
       reachable = subst (λ (graph : Graph). ReachesNew old.graph graph found.0) (sym same) done.reachable;
       lacks = λ is. absurd (no_error is);
-      beside = c.retire.ensures.beside ∙ done.beside;
     }
 
 pub returns-in-Err-clause-closes : goal.returns-in-Err-clause-closes
@@ -120,15 +117,15 @@ returns-in-Err-clause-closes g c =
     let found = c.in_ok-found.found in
     let given = c.clause_of.result in
     let done = c.in_ok-found.ensures in
-    let one : RetiresOne g.S.Sink.tells g.S.Sink.channel mid new given = c.retire-in-Err.ensures.one in
+    let one : RetiresOne mid new given = c.retire-in-Err.ensures in
     let same : new.graph ≡ mid.graph = ap (λ (t : TableState g.row.S.Denot). t.graph) one.same in
     let law = c.steps_law.ensures in
-    let has = found_by _ _ _ old mid before _ found.1 c.requires.sound c.requires.fits done.steps done.retires (done.gives no_error) in
-    subst (λ (list : AndCache). Closes g.S.Sink.tells g.S.Sink.channel g.S.Sink.beside old cache o c.args.high.now c.args.low.now new list
+    let has = found_by old mid before _ found.1 c.requires.sound c.requires.fits done.steps done.retires (done.gives no_error) in
+    subst (λ (list : AndCache). Closes old cache o c.args.high.now c.args.low.now new list
     (Err OutOfMemory)) (sym c.in-Err.ensures.refused) (record {
       conjoined = tt;
-      steps = law.further _ _ _ _ _ _ 2 0 _ done.steps (law.further _ _ _ _ _ _ 0 0 _ one.steps (law.no_memory new one.steps.leaves.sound));
-      accounts = c.accounts_law.ensures.refused _ _ old mid new before found.1 given _ has c.clause_of.ensures one;
+      steps = law.further _ _ _ 2 0 _ done.steps (law.further _ _ _ 0 0 _ one.steps (law.no_memory new one.steps.leaves.sound));
+      accounts = c.accounts_law.ensures.refused old mid new before found.1 given _ has c.clause_of.ensures one;
       unretired = tt;
       kept = tt;
       room = record { others = λ entry there. inl there; no_fewer = omega arith; capacity = refl };
@@ -137,5 +134,4 @@ returns-in-Err-clause-closes g c =
       made = subst (λ (graph : Graph). MakesOnly old.graph graph (conjunction_of old.graph o.u o.v)) (sym same) done.made;
       reachable = tt;
       lacks = λ is. absurd (memory_no_limit is);
-      beside = c.retire-in-Err.ensures.beside ∙ done.beside;
     })

@@ -1,4 +1,4 @@
--- `new` gives the history no clause.
+-- `new` gives the story of no clause.
 use Rattle.std.proofs.Common.{[], ◌∷◌, refl}
 use seplogic.Ra.Ura.{Ura}
 use mir.Syntax.{Fn}
@@ -24,7 +24,7 @@ use denote.Triple.Spec.{Meets, triple_of}
 use denote.Triple.Table.{entered}
 use denote.Triple.Walked.{says, Stays, walk_of, ends_at, walk_Meets}
 use Rattle.clause_ledger.proofs.Walks.{none, none_made}
-use Rattle.lrat_rules.specs.State.{start}
+use Rattle.clause_ledger.specs.History.{begun}
 use Rattle.clause_ledger.specs.contracts.history.History as History
 use Rattle.clause_ledger.specs.contracts.history.History.new as F
 use Rattle.clause_ledger.specs.contracts.history.History.new.Key.{name as #self}
@@ -57,7 +57,7 @@ module _ {M : Type 1} {𝓤 : Ura M} (𝓛 : Logic 𝓤) (at_mem : Memory → SP
     walks =
         let a = z.0.3 in
         let vss = z.0.4 in
-        let history : (History.the_row).Denot = record { state = start [] } in
+        let history : (History.the_row).Denot = record { story = begun [] } in
         qed 𝓛 ((raw toks ⊛ ‵ (owns (types_at ended.signature.params z.0.0) a vss)) ∷ raw ((held z.0.0 a).requires z.1) ∷ []) ∵
         keep ! (0 ∷ []) $ split ! $ move ! (1 ∷ []) $ drop ! $
         enter ! C Λ function [] Post $ alloc_all ! (λ l. pass_all ! refl tt $

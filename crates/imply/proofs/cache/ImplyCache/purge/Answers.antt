@@ -1,5 +1,5 @@
 -- Turn by turn, by the laws of a bounded cache that is purged.
-use Rattle.std.proofs.Common.{◌<◌, ◌∙◌, length, arith}
+use Rattle.std.proofs.Common.{◌<◌, length, arith}
 use Rattle.imply.specs.Cache.{entry_of}
 use Rattle.imply.proofs.Cached.{tells_pairs}
 use Rattle.imply.proofs.cache.ImplyCache.purge.Goals as goal
@@ -9,7 +9,6 @@ turns-init g c = record {
   few = omega arith;
   cache = c.cache_turn_law.ensures.begins entry_of c.args.marks.now c.args.self.now.results;
   table = c.table_turn_law.ensures.begins entry_of c.args.marks.now c.args.table.now c.args.self.now.results c.requires.sound;
-  beside = λ i. g.S.Sink.beside c.args.table.now.book.sink;
 }
 
 pub turn-requires-clause-may : goal.turn-requires-clause-may
@@ -30,5 +29,4 @@ turns-preserved g c =
       table = c.table_turn_law.ensures.turn entry_of c.args.marks.now c.args.table.now c.turns.table c.turn.new.table
           c.args.self.now.results c.turns.self.results c.turns.counter
           tells_pairs c.len-end.ensures.bounded within c.requires.fits c.turns.invariant.cache c.turns.invariant.table c.turn.ensures.table;
-      beside = c.turn.ensures.beside ∙ c.turns.invariant.beside;
     }

@@ -1,8 +1,8 @@
 -- What is left to show of `Table::justify`.
-use Rattle.std.proofs.Common.{◌≢◌, ◌∙◌, ◌+◌, ℕ, List, [], Option, Some, Contains, is_some, sym, ap, subst}
+use Rattle.std.proofs.Common.{◌≢◌, ◌∙◌, ◌+◌, ◌≤◌, ℕ, List, length, [], Option, Some, Contains, is_some, sym, ap, subst}
 use Rattle.std.specs.Prelude.{vec_capacity}
 use Rattle.lrat_rules.specs.State.{State, clause_at}
-use Rattle.clause_ledger.specs.Book.{next_line}
+use Rattle.clause_ledger.specs.Told.{told_state, told_formula}
 use Rattle.node_table.specs.declared.error.TableError.{TableError}
 use Rattle.node_table.specs.Tied.{IsAdded, IsOverNodes}
 use Rattle.node_table.specs.Places.{HavePlaces}
@@ -32,18 +32,20 @@ invariant_of-self-in-Ok g c =
       c.self.invariant.1,
       λ _.
           subst (λ (s : State). HavePlaces inside.diagram s.live inside.inputs (inside.places
-          + 1) (vec_capacity c.reserve_place.new.retired)) (sym c.in-Ok.ensures.added.1)
+          + 1) (vec_capacity c.reserve_place.new.retired)) (sym (told_state c.in-Ok.ensures.added.1))
           (HavePlaces-next inside.diagram inside.ledger.state c.args.clause.now inside.inputs inside.places (vec_capacity inside.retired)
           (vec_capacity c.reserve_place.new.retired)
           c.reserve_place.ensures.no_less c.in_ok-reserve_place.ensures.room (c.self.invariant.2 is.in_step)),
       c.self.invariant.3,
+      subst (λ (n : ℕ). n ≤ inside.inputs) (sym (ap length (told_formula c.in-Ok.ensures.added.1))) c.self.invariant.4,
     )
 
 pub returns-in-Ok-clause-own : goal.returns-in-Ok-clause-own
 returns-in-Ok-clause-own g c =
     let inside = c.self.inside in
     let is = sound g (goal.at.returns-in-Ok-clause-own g c).After-add in
-    subst (λ (s : State). IsAdded inside.diagram s.live inside.inputs c.in-Ok.id) (sym c.in-Ok.ensures.added.1)
+    subst (λ (s : State). IsAdded inside.diagram s.live inside.inputs c.in-Ok.id)
+    (sym (told_state c.in-Ok.ensures.added.1))
     (subst (IsAdded inside.diagram _ inside.inputs) (sym c.in-Ok.ensures.added.0)
     (added_next inside.diagram inside.ledger.state is.tied inside.inputs is.inputs c.args.clause.now))
 
@@ -58,7 +60,7 @@ returns-in-Ok-clause-unretired g c among =
 
 -- the steps, as the ledger answered
 steps : (g : Over) (c : After-add g)
-    → StepsOrRefutes g.S.Sink.tells (g.S.Sink.channel c.args.self.now.book.sink) (g.S.Sink.channel c.add.new.self.sink) c.args.self.now
+    → StepsOrRefutes c.args.self.now
     (table_of (record { max_nodes = c.self.inside.max_nodes; inputs = c.self.inside.inputs; retired = c.reserve_place.new.retired.items })
     c.self.inside.diagram c.add.new.self) 1 (told c.add.result)
     × (c.args.clause.now ≢ [] → AddsNoEmpty c.args.self.now
@@ -70,31 +72,20 @@ steps g c =
     let over : IsOverNodes inside.diagram c.args.clause.now = subst {A = TableState g.row.S.Denot}
     (λ t. IsOverNodes t.graph c.args.clause.now) (sym c.self.view_is) c.requires.over_nodes in
     let own = c.add.ensures in
-    let answers : Answers g.S.Sink.tells g.S.Sink.channel inside.ledger new c.args.clause.now
-    (next_line inside.ledger.state c.args.clause.now c.args.hints.now) c.add.result = record {
+    let answers : Answers inside.ledger new c.args.clause.now c.args.hints.now c.add.result = record {
       added = own.added;
-      written = own.line;
-      kept = own.kept;
-      in_step = own.in_step;
-      limit = own.limit;
       id_limit = own.id_limit;
-      limit_unchanged = own.limit_unchanged;
-      memory_unchanged = own.memory_unchanged;
-      write_fault = own.write_fault;
-      out_of_step = own.out_of_step;
-      fault_state = own.fault_state;
-      cut = own.cut;
-      unfailed = own.unfailed;
-      only_writes = own.only_writes;
+      unchanged = own.unchanged;
+      torn = own.torn;
     } in
-    let all = justify_steps g.S.Sink.tells g.S.Sink.channel (aside g c) inside.diagram inside.ledger new c.args.clause.now _
+    let all = justify_steps (aside g c) inside.diagram inside.ledger new c.args.clause.now c.args.hints.now
     (sound g c) over c.self.invariant.1 c.marks_law.ensures.fewer c.add.result answers in
-    let none = justify_no_empty g.S.Sink.tells g.S.Sink.channel (aside g c) inside.diagram inside.ledger new c.args.clause.now _
+    let none = justify_no_empty (aside g c) inside.diagram inside.ledger new c.args.clause.now c.args.hints.now
     (sound g c) over c.self.invariant.1 c.marks_law.ensures.fewer c.add.result answers in (
-      subst (λ (ids : List ℕ). StepsOrRefutes g.S.Sink.tells (g.S.Sink.channel c.args.self.now.book.sink) (g.S.Sink.channel new.sink)
+      subst (λ (ids : List ℕ). StepsOrRefutes
           c.args.self.now (table_of (record { max_nodes = inside.max_nodes; inputs = inside.inputs; retired = ids }) inside.diagram new) 1 (told c.add.result))
           (sym c.reserve_place.ensures.items)
-          (subst {A = TableState g.row.S.Denot} (λ t. StepsOrRefutes g.S.Sink.tells (g.S.Sink.channel t.book.sink) (g.S.Sink.channel new.sink) t
+          (subst {A = TableState g.row.S.Denot} (λ t. StepsOrRefutes t
           (table_of (aside g c) inside.diagram new) 1 (told c.add.result)) c.self.view_is all),
       λ some. record {
         each = λ id empty. sym (ap (λ (t : TableState g.row.S.Denot). clause_at t.book.state.live id) c.self.view_is)
@@ -106,8 +97,7 @@ pub returns-in-Ok-clause-steps : goal.returns-in-Ok-clause-steps
 returns-in-Ok-clause-steps g c =
     let inside = c.self.inside in
     let new = c.add.new.self in
-    subst (λ (e : Option TableError). StepsOrRefutes g.S.Sink.tells (g.S.Sink.channel c.args.self.now.book.sink)
-    (g.S.Sink.channel new.sink) c.args.self.now
+    subst (λ (e : Option TableError). StepsOrRefutes c.args.self.now
     (table_of (record { max_nodes = inside.max_nodes; inputs = inside.inputs; retired = c.reserve_place.new.retired.items }) inside.diagram
     new) 1 e) (ap told c.in-Ok.is)
     (steps g (goal.at.returns-in-Ok-clause-steps g c).After-add).0
@@ -116,16 +106,15 @@ pub returns-in-Err-clause-steps : goal.returns-in-Err-clause-steps
 returns-in-Err-clause-steps g c =
     let inside = c.self.inside in
     let new = c.add.new.self in
-    subst (λ (e : Option TableError). StepsOrRefutes g.S.Sink.tells (g.S.Sink.channel c.args.self.now.book.sink)
-    (g.S.Sink.channel new.sink) c.args.self.now
+    subst (λ (e : Option TableError). StepsOrRefutes c.args.self.now
     (table_of (record { max_nodes = inside.max_nodes; inputs = inside.inputs; retired = c.reserve_place.new.retired.items }) inside.diagram
     new) 1 e) (ap told c.in-Err.is ∙ ap Some (sym c.from.ensures))
     (steps g (goal.at.returns-in-Err-clause-steps g c).After-add).0
 
 pub returns-in-Ok-clause-no_empty : goal.returns-in-Ok-clause-no_empty
-returns-in-Ok-clause-no_empty g c some = Steps-no_empty _ _ _ _ _ _ _ (returns-in-Ok-clause-steps g c)
+returns-in-Ok-clause-no_empty g c some = Steps-no_empty _ _ _ _ (returns-in-Ok-clause-steps g c)
     ((steps g (goal.at.returns-in-Ok-clause-no_empty g c).After-add).1 some)
 
 pub returns-in-Err-clause-no_empty : goal.returns-in-Err-clause-no_empty
-returns-in-Err-clause-no_empty g c some = Steps-no_empty _ _ _ _ _ _ _ (returns-in-Err-clause-steps g c)
+returns-in-Err-clause-no_empty g c some = Steps-no_empty _ _ _ _ (returns-in-Err-clause-steps g c)
     ((steps g (goal.at.returns-in-Err-clause-no_empty g c).After-add).1 some)

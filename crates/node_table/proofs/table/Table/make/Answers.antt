@@ -1,23 +1,23 @@
 -- What is left to show of `Table::make`.
-use Rattle.std.proofs.Common.{◌≡◌, ◌∙◌, ◌⊎◌, ◌++◌, ℕ, List, pos, true, false, Option, None, Some, refl, sym, ap, subst, arith}
-use Rattle.std.specs.Prelude.{IsTrue, vec_capacity}
+use Rattle.std.proofs.Common.{◌≡◌, ◌∙◌, ◌⊎◌, ◌≤◌, ℕ, ℤ, List, length, pos, true, false, Option, None, Some, sym, ap, subst, arith}
+use Rattle.std.specs.Prelude.{vec_capacity}
 use Rattle.lrat_rules.specs.State.{State}
-use Rattle.clause_ledger.specs.Book.{Book, IsTorn}
+use Rattle.clause_ledger.specs.Book.{Book}
+use Rattle.clause_ledger.specs.Told.{told_in_step, told_formula}
 use Rattle.node_table.specs.declared.node.Node.TheVariants.{Inner}
 use Rattle.node_table.specs.declared.node.Branch.{Branch}
 use Rattle.node_table.specs.declared.error.TableError.{TableError}
 use Rattle.node_table.specs.declared.error.TableError.TheVariants.{WriteFault}
 use Rattle.node_table.specs.Diagram.{branch_at, is_node}
-use Rattle.node_table.specs.Defined.{IsNewVariable, definition_lines}
+use Rattle.node_table.specs.Defined.{IsNewVariable}
 use Rattle.node_table.specs.Made.{inner}
-use Rattle.node_table.specs.Table.{TableState, IsSound, AddsNone, HasChildren, IsLeastFree, IsMade, node_definitions}
+use Rattle.node_table.specs.Table.{TableState, IsSound, AddsNone, HasChildren, IsMade, IsMadeInPart}
 use Rattle.node_table.specs.Errors.{table_error}
 use Rattle.node_table.specs.HandedOn.{handed_on}
 use Rattle.node_table.specs.Tied.{IsTied}
 use Rattle.node_table.specs.Places.{AreNumberedAbove}
 use Rattle.node_table.specs.Progress.{Steps}
-use Rattle.node_table.proofs.CallSteps.{Aside, Wrote, Tore, table_of}
-use Rattle.node_table.proofs.Progressed.{torn_more}
+use Rattle.node_table.proofs.CallSteps.{Aside, table_of}
 use Rattle.node_table.proofs.Making.{Making, asked_at, joined_as, enough, told_torn, making_on, making_torn, making_only, making_made}
 use Rattle.node_table.proofs.Making.{making_cut, making_before}
 use Rattle.node_table.proofs.Places.{HavePlaces-same, AreNumberedAbove-new}
@@ -91,6 +91,11 @@ numbered g c =
     AreNumberedAbove-new inside.inputs inside.diagram c.push.new.self c.in_ok-key.key.index _ c.in_ok-key.ensures.ok
     (omega (arith, few, c.last_id-first.ensures.value, ap (λ (s : State). s.top) live)) c.self.invariant.3
 
+formula_kept : (g : Over) (c : After-write_definitions g) → c.write_definitions.new.ledger.formula ≡ c.reserve.new.self.formula
+    → length c.write_definitions.new.ledger.formula ≤ c.self.inside.inputs
+formula_kept g c same = subst (λ (clauses : List (List ℤ)). length clauses ≤ c.self.inside.inputs)
+    (sym (same ∙ ap (λ (b : Book g.row.S.Denot). b.formula) c.reserve.ensures.unchanged)) c.self.invariant.4
+
 pub invariant_of-self-in_err-write_definitions : goal.invariant_of-self-in_err-write_definitions
 invariant_of-self-in_err-write_definitions g c = (
   c.self.invariant.0,
@@ -100,8 +105,11 @@ invariant_of-self-in_err-write_definitions g c = (
     c.if-len-self.false,
     c.len.ensures,
   ),
-  λ in_step. absurd (let out : c.write_definitions.new.ledger.in_step ≡ false = c.in_err-write_definitions.ensures.out_of_step refl in cc),
+  λ in_step. absurd (let out : c.write_definitions.new.ledger.in_step ≡ false =
+      told_in_step c.in_err-write_definitions.ensures.torn.1 in cc),
   numbered g (goal.at.invariant_of-self-in_err-write_definitions g c).After-write_definitions,
+  formula_kept g (goal.at.invariant_of-self-in_err-write_definitions g c).After-write_definitions
+      (told_formula c.in_err-write_definitions.ensures.torn.1),
 )
 
 pub invariant_of-self-2 : goal.invariant_of-self-2
@@ -119,70 +127,46 @@ invariant_of-self-2 g c =
       λ _.
           HavePlaces-same inside.diagram c.push.new.self inside.ledger.state.live c.write_definitions.new.ledger.state.live inside.inputs
           inside.places (vec_capacity inside.retired)
-          (making_before g.S.Sink.tells g.S.Sink.channel made c.write_definitions.new.ledger c.in_ok-write_definitions.ensures.written
-          inside.inputs)
+          (making_before made c.write_definitions.new.ledger c.in_ok-write_definitions.ensures.told inside.inputs)
           (c.self.invariant.2 made.sound.in_step),
       numbered g after,
+      formula_kept g after (told_formula c.in_ok-write_definitions.ensures.told),
     )
 
 pub returns-clause-steps : goal.returns-clause-steps
 returns-clause-steps g c =
     let new = c.write_definitions.new.ledger in
-    let own = c.in_ok-write_definitions.ensures in
-    let wrote : Wrote g.S.Sink.tells (g.S.Sink.channel c.reserve.new.self.sink) (g.S.Sink.channel new.sink) c.reserve.new.self new =
-    record {
-      in_step = own.in_step;
-      kept = own.kept;
-      limit = own.limit;
-      unfailed = own.unfailed;
-      writes = own.only_writes;
-      grows = λ told. record { more = _; written = own.lines told };
-    } in
-    subst (λ (t : TableState g.row.S.Denot). Steps g.S.Sink.tells (g.S.Sink.channel t.book.sink) (g.S.Sink.channel new.sink) t
+    subst (λ (t : TableState g.row.S.Denot). Steps t
     (table_of (aside_at c.self.inside.max_nodes c.self.inside.inputs c.self.inside.retired.items) c.push.new.self new) 0 None)
     c.self.view_is
-    (making_on g.S.Sink.tells g.S.Sink.channel (making g (goal.at.returns-clause-steps g c).After-write_definitions) new own.written wrote)
+    (making_on (making g (goal.at.returns-clause-steps g c).After-write_definitions) new c.in_ok-write_definitions.ensures.told)
 
 pub returns-clause-only : goal.returns-clause-only
 returns-clause-only g c =
     subst (λ (t : TableState g.row.S.Denot). (key : ℕ) (b : Branch) → branch_at c.push.new.self key ≡ Some b
     → (branch_at t.graph key ≡ Some b) ⊎ HasChildren c.push.new.self c.args.level c.args.high c.args.low (inner key))
-    c.self.view_is (making_only g.S.Sink.tells g.S.Sink.channel (making g
+    c.self.view_is (making_only (making g
     (goal.at.returns-clause-only g c).After-write_definitions) c.write_definitions.new.ledger)
 
 pub returns-clause-made : goal.returns-clause-made
 returns-clause-made g c =
     let new = c.write_definitions.new.ledger in
-    let own = c.in_ok-write_definitions.ensures in
-    let made = making_made g.S.Sink.tells g.S.Sink.channel (making g
-    (goal.at.returns-clause-made g c).After-write_definitions) new own.written own.lines in
+    let made = making_made (making g (goal.at.returns-clause-made g c).After-write_definitions) new c.in_ok-write_definitions.ensures.told in
     subst (λ (t : TableState g.row.S.Denot). (variable : ℕ) × IsMade t
     (table_of (aside_at c.self.inside.max_nodes c.self.inside.inputs c.self.inside.retired.items) c.push.new.self new) c.args.level
-    c.args.high c.args.low variable (Inner c.in_ok-key.key)
-    × (IsTrue g.S.Sink.tells → (g.S.Sink.channel new.sink).written ≡ (g.S.Sink.channel t.book.sink).written
-    ++ definition_lines t.book.state (node_definitions t.graph t.book.state c.args.level c.args.high c.args.low variable))) c.self.view_is
-    (c.in_ok-key.variable, made.0, made.1)
+    c.args.high c.args.low variable (Inner c.in_ok-key.key)) c.self.view_is (c.in_ok-key.variable, made)
 
 pub returns-in_err-write_definitions-clause-steps : goal.returns-in_err-write_definitions-clause-steps
 returns-in_err-write_definitions-clause-steps g c =
     let new = c.write_definitions.new.ledger in
     let own = c.in_err-write_definitions.ensures in
-    let tore : Tore g.S.Sink.tells (g.S.Sink.channel c.reserve.new.self.sink) (g.S.Sink.channel new.sink) c.reserve.new.self new = record {
-      rose = (own.write_fault refl).rose;
-      cut = λ clauses proof told. own.cut clauses proof told refl;
-      out_of_step = own.out_of_step refl;
-      limit = own.limit;
-      writes = own.only_writes;
-      grows = λ told. torn_more (own.write_fault refl) told;
-    } in
-    let steps = making_torn g.S.Sink.tells g.S.Sink.channel (making g
-    (goal.at.returns-in_err-write_definitions-clause-steps g c).After-write_definitions) new own.front tore c.marks_law.ensures.fewer in
-    subst (λ (e : Option TableError). Steps g.S.Sink.tells (g.S.Sink.channel c.args.self.now.book.sink)
-    (g.S.Sink.channel new.sink) c.args.self.now
+    let steps = making_torn (making g (goal.at.returns-in_err-write_definitions-clause-steps g c).After-write_definitions) new
+    own.torn.0 own.torn.1 own.torn.2 c.marks_law.ensures.fewer in
+    subst (λ (e : Option TableError). Steps c.args.self.now
     (table_of (aside_at c.self.inside.max_nodes c.self.inside.inputs c.self.inside.retired.items) c.push.new.self new) 0 e)
     (told_torn c.from_residual-in_err-write_definitions.result c.in_err-write_definitions.field-0.0
     c.from_residual-in_err-write_definitions.ensures.1 own.error)
-    (subst (λ (t : TableState g.row.S.Denot). Steps g.S.Sink.tells (g.S.Sink.channel t.book.sink) (g.S.Sink.channel new.sink) t
+    (subst (λ (t : TableState g.row.S.Denot). Steps t
     (table_of (aside_at c.self.inside.max_nodes c.self.inside.inputs c.self.inside.retired.items) c.push.new.self new) 0
     (Some WriteFault)) c.self.view_is steps)
 
@@ -190,27 +174,25 @@ pub returns-in_err-write_definitions-clause-only : goal.returns-in_err-write_def
 returns-in_err-write_definitions-clause-only g c =
     subst (λ (t : TableState g.row.S.Denot). (key : ℕ) (b : Branch) → branch_at c.push.new.self key ≡ Some b
     → (branch_at t.graph key ≡ Some b) ⊎ HasChildren c.push.new.self c.args.level c.args.high c.args.low (inner key))
-    c.self.view_is (making_only g.S.Sink.tells g.S.Sink.channel (making g
+    c.self.view_is (making_only (making g
     (goal.at.returns-in_err-write_definitions-clause-only g c).After-write_definitions) c.write_definitions.new.ledger)
 
 pub returns-in_err-write_definitions-clause-torn : goal.returns-in_err-write_definitions-clause-torn
 returns-in_err-write_definitions-clause-torn g c failed =
     let new = c.write_definitions.new.ledger in
-    let cut = making_cut g.S.Sink.tells g.S.Sink.channel (making g
-    (goal.at.returns-in_err-write_definitions-clause-torn g c).After-write_definitions) new
-    (c.in_err-write_definitions.ensures.write_fault refl) in
-    subst (λ (t : TableState g.row.S.Denot). (variable : ℕ) × IsLeastFree t.graph t.book.state.live variable
-    × IsTorn g.S.Sink.tells (g.S.Sink.channel t.book.sink) (g.S.Sink.channel new.sink)
-    (definition_lines t.book.state (node_definitions t.graph t.book.state c.args.level c.args.high c.args.low variable))) c.self.view_is
-    (c.in_ok-key.variable, cut.0, cut.1)
+    let own = c.in_err-write_definitions.ensures in
+    let cut = making_cut (making g (goal.at.returns-in_err-write_definitions-clause-torn g c).After-write_definitions) new
+    own.torn.0 own.torn.1 own.torn.2 in
+    subst (λ (t : TableState g.row.S.Denot). (variable : ℕ) × IsMadeInPart t
+    (table_of (aside_at c.self.inside.max_nodes c.self.inside.inputs c.self.inside.retired.items) c.push.new.self new) c.args.level
+    c.args.high c.args.low variable) c.self.view_is (c.in_ok-key.variable, cut)
 
 pub returns-clause-none_added : goal.returns-clause-none_added
 returns-clause-none_added g c whole =
     let aside = aside_at c.self.inside.max_nodes c.self.inside.inputs c.self.inside.retired.items in
     subst (λ (t : TableState g.row.S.Denot). AddsNone t (table_of aside c.push.new.self c.write_definitions.new.ledger)) c.self.view_is
-    (making_before g.S.Sink.tells g.S.Sink.channel (making g (goal.at.returns-clause-none_added g c).After-write_definitions)
-    c.write_definitions.new.ledger
-    c.in_ok-write_definitions.ensures.written c.self.inside.inputs)
+    (making_before (making g (goal.at.returns-clause-none_added g c).After-write_definitions) c.write_definitions.new.ledger
+    c.in_ok-write_definitions.ensures.told c.self.inside.inputs)
 
 pub returns-in_err-write_definitions-clause-none_added : goal.returns-in_err-write_definitions-clause-none_added
 returns-in_err-write_definitions-clause-none_added g c whole = absurd

@@ -21,4 +21,5 @@ invariant_of-result g c = (
       let range = c.last_id-inputs.ensures.numbers id clause.0 clause.1 in
       omega (arith, range.1, own.above, c.last_id-inputs.ensures.value)),
   AreNumberedAbove-none c.last_id-inputs.result c.args.diagram c.requires.empty,
+  omega (arith, c.book_law.ensures.book.proof.from_formula, c.last_id-inputs.ensures.value),
 )

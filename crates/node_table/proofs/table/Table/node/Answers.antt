@@ -1,16 +1,16 @@
 -- What is left to show of `Table::node`.
-use Rattle.std.proofs.Common.{refl, inl}
+use Rattle.std.proofs.Common.{inl}
 use Rattle.node_table.proofs.Outcome.{outcome_children, outcome_given}
 use Rattle.node_table.proofs.Progressed.{Steps-none}
 use Rattle.node_table.specs.HandedOn.{no_error}
 use Rattle.node_table.proofs.table.Table.node.Goals as goal
 
 pub returns-clause-children : goal.returns-clause-children
-returns-clause-children g c = outcome_children c.args.self.now c.make.new.self c.args.level c.args.high c.args.low _ c.make.result
+returns-clause-children g c = outcome_children c.args.self.now c.make.new.self c.args.level c.args.high c.args.low c.make.result
     c.make.ensures.made
 
 pub returns-clause-given : goal.returns-clause-given
-returns-clause-given g c whole = outcome_given c.args.self.now c.make.new.self c.args.level c.args.high c.args.low _ c.make.result
+returns-clause-given g c whole = outcome_given c.args.self.now c.make.new.self c.args.level c.args.high c.args.low c.make.result
     c.make.ensures.made c.make.ensures.refused whole
 
 pub returns-clause-steps : goal.returns-clause-steps
@@ -22,9 +22,6 @@ returns-clause-only g c = c.make.ensures.only
 pub returns-clause-refused : goal.returns-clause-refused
 returns-clause-refused g c = c.make.ensures.refused
 
-pub returns-clause-beside : goal.returns-clause-beside
-returns-clause-beside g c = c.make.ensures.beside
-
 pub returns-clause-made : goal.returns-clause-made
 returns-clause-made g c wanted = c.make.ensures.made
 
@@ -32,8 +29,7 @@ pub returns-clause-torn : goal.returns-clause-torn
 returns-clause-torn g c = c.make.ensures.torn
 
 pub returns-then-same_node-clause-steps : goal.returns-then-same_node-clause-steps
-returns-then-same_node-clause-steps g c = Steps-none g.S.Sink.tells
-    (g.S.Sink.channel c.args.self.now.book.sink) c.args.self.now c.requires.sound
+returns-then-same_node-clause-steps g c = Steps-none c.args.self.now c.requires.sound
 
 pub returns-then-same_node-clause-only : goal.returns-then-same_node-clause-only
 returns-then-same_node-clause-only g c key b at = inl at
@@ -44,11 +40,8 @@ returns-then-same_node-clause-given g c whole key b at = inl at
 pub returns-then-same_node-clause-torn : goal.returns-then-same_node-clause-torn
 returns-then-same_node-clause-torn g c is = absurd (no_error is)
 
-pub returns-then-same_node-clause-beside : goal.returns-then-same_node-clause-beside
-returns-then-same_node-clause-beside g c = refl
-
 pub returns-in-Some-clause-steps : goal.returns-in-Some-clause-steps
-returns-in-Some-clause-steps g c = Steps-none g.S.Sink.tells (g.S.Sink.channel c.args.self.now.book.sink) c.args.self.now c.requires.sound
+returns-in-Some-clause-steps g c = Steps-none c.args.self.now c.requires.sound
 
 pub returns-in-Some-clause-only : goal.returns-in-Some-clause-only
 returns-in-Some-clause-only g c key b at = inl at
@@ -58,9 +51,6 @@ returns-in-Some-clause-given g c whole key b at = inl at
 
 pub returns-in-Some-clause-torn : goal.returns-in-Some-clause-torn
 returns-in-Some-clause-torn g c is = absurd (no_error is)
-
-pub returns-in-Some-clause-beside : goal.returns-in-Some-clause-beside
-returns-in-Some-clause-beside g c = refl
 
 pub returns-clause-retired : goal.returns-clause-retired
 returns-clause-retired g c = c.make.ensures.retired

@@ -35,10 +35,6 @@ returns-clause-steps g c =
           (subst (λ (t : TableState g.row.S.Denot). IsAddedTo t c.args.id) (sym c.self.view_is) c.requires.own)
           (λ among. c.requires.unretired (subst (λ (t : TableState g.row.S.Denot). Contains t.retired c.args.id) c.self.view_is among));
     } in
-    let channel = g.S.Sink.channel inside.ledger.sink in
-    let steps : Steps g.S.Sink.tells channel channel old (record old { retired = old.retired ++ c.args.id ∷ [] }) 0 None =
-    Steps-retired g.S.Sink.tells channel old c.args.id sound still in
-    subst (λ (t : TableState g.row.S.Denot). Steps g.S.Sink.tells (g.S.Sink.channel t.book.sink) channel t
-    (record old { retired = c.push_reserved.new.self.items }) 0 None) c.self.view_is
-    (subst (λ (list : List ℕ). Steps g.S.Sink.tells channel channel old (record old { retired = list }) 0 None)
-    (sym c.push_reserved.ensures.items) steps)
+    let steps : Steps old (record old { retired = old.retired ++ c.args.id ∷ [] }) 0 None = Steps-retired old c.args.id sound still in
+    subst (λ (t : TableState g.row.S.Denot). Steps t (record old { retired = c.push_reserved.new.self.items }) 0 None) c.self.view_is
+    (subst (λ (list : List ℕ). Steps old (record old { retired = list }) 0 None) (sym c.push_reserved.ensures.items) steps)

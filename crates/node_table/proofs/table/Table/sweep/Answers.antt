@@ -1,7 +1,8 @@
 -- What is left to show of `Table::sweep`.
-use Rattle.std.proofs.Common.{◌≡◌, ◌≤◌, ◌∙◌, ℕ, Some, sym, ap, subst, arith}
+use Rattle.std.proofs.Common.{◌≡◌, ◌≤◌, ◌∙◌, ℕ, length, Some, sym, ap, subst, arith}
 use Rattle.std.specs.Prelude.{vec_capacity}
 use Rattle.lrat_rules.specs.State.{clause_at}
+use Rattle.clause_ledger.specs.Told.{told_formula}
 use Rattle.node_table.specs.declared.error.TableError.{TableError}
 use Rattle.node_table.specs.declared.error.TableError.TheVariants.{WriteFault}
 use Rattle.node_table.specs.Deleted.{AreClear, DefinesUnmarked}
@@ -10,9 +11,8 @@ use Rattle.node_table.specs.Marks.{AreMarks}
 use Rattle.node_table.specs.Table.{TableState, IsAddedTo, IsSound}
 use Rattle.node_table.specs.Progress.{Continues, BreaksOff, Leaves}
 use Rattle.node_table.proofs.CallSteps.{Aside, table_of}
-use Rattle.node_table.proofs.Progressed.{torn_more}
 use Rattle.node_table.proofs.Deletable.{defines_above}
-use Rattle.node_table.proofs.SweptTable.{AreLeft, sweep_on, sweep_torn, swept_numbered, swept_places, was_added}
+use Rattle.node_table.proofs.SweptTable.{AreLeft, numbered_less, sweep_on, sweep_torn, swept_numbered, swept_places, was_added}
 use Rattle.node_table.proofs.table.Table.sweep.Given.{Over}
 use Rattle.node_table.proofs.table.Table.sweep.Goals as goal
 use Rattle.node_table.proofs.table.Table.sweep.Goals.{After-delete_definitions}
@@ -35,6 +35,10 @@ delete_definitions-requires-clause-defined g c =
     subst {A = TableState g.row.S.Denot} (λ t. IsSound t) (sym c.self.view_is) c.requires.sound in
     is.tied.defined
 
+pub delete_definitions-requires-clause-numbered : goal.delete_definitions-requires-clause-numbered
+delete_definitions-requires-clause-numbered g c =
+    numbered_less c.self.inside.diagram c.self.inside.inputs (length c.self.inside.ledger.formula) c.self.invariant.4 c.self.invariant.3
+
 pub invariant_of-self : goal.invariant_of-self
 invariant_of-self g c =
     let inside = c.self.inside in
@@ -52,6 +56,8 @@ invariant_of-self g c =
           inside.inputs inside.places (vec_capacity inside.retired) (c.self.invariant.2 is.in_step),
       swept_numbered inside.diagram c.sweep.new.self c.args.marks.now are c.sweep.ensures.swept inside.ledger.state
           c.delete_definitions.new.ledger.state is.tied left inside.inputs c.self.invariant.3,
+      subst (λ (n : ℕ). n ≤ inside.inputs) (sym (ap length (told_formula own.lines.deletes.told)))
+          c.self.invariant.4,
     )
 
 pub returns-in-Ok-clause-leaves : goal.returns-in-Ok-clause-leaves
@@ -68,11 +74,9 @@ returns-in-Ok-clause-leaves g c =
       among = own.among;
       top = own.top;
     } in
-    let on = sweep_on g.S.Sink.tells g.S.Sink.channel (aside g after) inside.diagram inside.ledger new
-    (sound g after) c.self.invariant.3 own.top own.limit own.only_writes
-    (λ told. record { more = _; written = own.lines.deletes.written told })
-    c.sweep.new.self c.args.marks.now (marks_are g after) c.sweep.ensures.swept clear left own.in_step own.kept own.unfailed in
-    subst {A = TableState g.row.S.Denot} (λ t. Continues g.S.Sink.tells (g.S.Sink.channel t.book.sink) (g.S.Sink.channel new.sink) t
+    let on = sweep_on (aside g after) inside.diagram inside.ledger new (sound g after)
+    c.sweep.new.self c.args.marks.now (marks_are g after) c.sweep.ensures.swept clear left own.lines.ids own.lines.deletes in
+    subst {A = TableState g.row.S.Denot} (λ t. Continues t
     (table_of (aside g after) c.sweep.new.self new)) c.self.view_is on
 
 pub returns-in-Err-clause-leaves : goal.returns-in-Err-clause-leaves
@@ -81,14 +85,11 @@ returns-in-Err-clause-leaves g c =
     let new = c.delete_definitions.new.ledger in
     let after = (goal.at.returns-in-Err-clause-leaves g c).After-delete_definitions in
     let own = c.in-Err.ensures in
-    let torn = sweep_torn g.S.Sink.tells g.S.Sink.channel (aside g after) inside.diagram inside.ledger new
-    (sound g after) c.self.invariant.3 own.top own.limit own.only_writes
-    (torn_more own.front.deletes.torn)
-    own.among own.rose own.cut own.in_step c.marks_law.ensures.fewer c.self.invariant.1 in
+    let torn = sweep_torn (aside g after) inside.diagram inside.ledger new (sound g after) own.among own.front.ids own.front.torn
+    c.marks_law.ensures.fewer c.self.invariant.1 in
     let cause : WriteFault ≡ c.from.result = ap table_error (sym own.error) ∙ sym c.from.ensures in
-    subst (λ (e : TableError). Leaves g.S.Sink.tells (g.S.Sink.channel c.args.self.now.book.sink)
-    (g.S.Sink.channel new.sink) c.args.self.now (table_of (aside g after) inside.diagram new) (Some e)) cause
-    (subst {A = TableState g.row.S.Denot} (λ t. BreaksOff g.S.Sink.tells (g.S.Sink.channel t.book.sink) (g.S.Sink.channel new.sink) t
+    subst (λ (e : TableError). Leaves c.args.self.now (table_of (aside g after) inside.diagram new) (Some e)) cause
+    (subst {A = TableState g.row.S.Denot} (λ t. BreaksOff t
     (table_of (aside g after) inside.diagram new)) c.self.view_is torn)
 
 -- a clause of the formula defines no node

@@ -31,7 +31,7 @@ returns-in_err-w-clause-closes g c =
     let came = c.in_err-w.field-0.0 in
     let sides = disjunction_sides c.operand_law.ensures old.graph c.requires.sound.tied.reduced o c.requires.split c.args.high.now
     c.args.low.now c.requires.on_high c.requires.on_low c.cofactor_law.ensures in
-    subst (λ (r : Answer). Closes g.S.Sink.tells g.S.Sink.channel g.S.Sink.beside old cache o c.args.high.now c.args.low.now new cache r)
+    subst (λ (r : Answer). Closes old cache o c.args.high.now c.args.low.now new cache r)
     (sym (handed_on _ came came c.from_residual.ensures.1 refl)) (record {
       runs = c.in_err-w.ensures.runs list (disjunction_of old.graph o.u o.v) c.requires.fits sides;
       room = makes_no_room disjunction cache.results (o.u, o.v);
@@ -55,10 +55,10 @@ returns-in_err-keep-clause-closes g c =
     c.args.low.now c.requires.on_high c.requires.on_low c.cofactor_law.ensures in
     let function = disjunction_of old.graph o.u o.v in
     let first = c.in_ok-w.ensures.runs list function c.requires.fits sides in
-    subst (λ (r : Answer). Closes g.S.Sink.tells g.S.Sink.channel g.S.Sink.beside old cache o c.args.high.now c.args.low.now new
+    subst (λ (r : Answer). Closes old cache o c.args.high.now c.args.low.now new
     c.keep.new.self r)
     (sym (handed_on _ OutOfMemory OutOfMemory c.from_residual-in_err-keep.ensures.1 refl))
-    (subst (λ (after : OrCache). Closes g.S.Sink.tells g.S.Sink.channel g.S.Sink.beside old cache o c.args.high.now c.args.low.now new after
+    (subst (λ (after : OrCache). Closes old cache o c.args.high.now c.args.low.now new after
     (Err OutOfMemory)) (sym c.in_err-keep.ensures.refused) (record {
       runs = runs_further c.steps_law.ensures c.subfunction_law.ensures old list function new list
           (Err OutOfMemory) new list c.in_ok-w.w first

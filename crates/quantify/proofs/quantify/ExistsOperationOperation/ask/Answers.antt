@@ -16,7 +16,7 @@ returns-in-None-clause-answer g c =
     let caches = c.args.caches.now in
     let question = c.args.question in
     let new = c.answer.new.table in
-    let left = subst (λ (o : Option Node). IsAnswered g.S.Sink.tells g.S.Sink.channel g.S.Sink.beside old caches.exists.now caches.ors.now
+    let left = subst (λ (o : Option Node). IsAnswered old caches.exists.now caches.ors.now
     question.0 question.1 new c.answer.new.cache c.answer.new.ors (Ok o)) c.in-None.is c.in_ok-w.ensures in
     split_answered c.steps_law.ensures c.cache_law.ensures c.cache_law-2.ensures c.cofactor_law.ensures c.growth_law.ensures
     c.entry_law.ensures c.subfunction_law.ensures c.reach_law.ensures old new left.0 caches _

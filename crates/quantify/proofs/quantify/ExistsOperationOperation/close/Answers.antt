@@ -32,7 +32,7 @@ returns-in_err-w-clause-closes g c =
     let came = c.in_err-w.field-0.0 in
     let sides = quantification_sides c.cofactor_law.ensures old.graph c.requires.sound.tied.reduced p c.requires.above c.args.high.now
     c.args.low.now c.requires.on_high c.requires.on_low in (
-      subst (λ (r : Answer). Closes g.S.Sink.tells g.S.Sink.channel g.S.Sink.beside old cache ors p c.args.high.now c.args.low.now new cache
+      subst (λ (r : Answer). Closes old cache ors p c.args.high.now c.args.low.now new cache
           ors r) (sym (handed_on _ came came c.from_residual.ensures.1 refl)) (record {
             runs = c.in_err-w.ensures.runs list (quantification_of old.graph p.node p.level) c.requires.fits sides;
             room = makes_no_room quantification cache.results (p.node, p.level);
@@ -60,10 +60,10 @@ returns-in_err-keep-clause-closes g c =
     let sides = quantification_sides c.cofactor_law.ensures old.graph c.requires.sound.tied.reduced p c.requires.above c.args.high.now
     c.args.low.now c.requires.on_high c.requires.on_low in
     let first = c.in_ok-w.ensures.runs list function c.requires.fits sides in (
-      subst (λ (r : Answer). Closes g.S.Sink.tells g.S.Sink.channel g.S.Sink.beside old cache ors p c.args.high.now c.args.low.now new
+      subst (λ (r : Answer). Closes old cache ors p c.args.high.now c.args.low.now new
           c.keep.new.self ors r)
           (sym (handed_on _ OutOfMemory OutOfMemory c.from_residual-in_err-keep.ensures.1 refl))
-          (subst (λ (after : ExistsCache). Closes g.S.Sink.tells g.S.Sink.channel g.S.Sink.beside old cache ors p c.args.high.now
+          (subst (λ (after : ExistsCache). Closes old cache ors p c.args.high.now
           c.args.low.now new after ors (Err OutOfMemory)) (sym c.in_err-keep.ensures.refused) (record {
             runs = runs_further c.steps_law.ensures c.subfunction_law.ensures old list function new list
                 (Err OutOfMemory) new list c.in_ok-w.w first

@@ -13,7 +13,7 @@ use Rattle.term_runner.proofs.caches.Caches.and.Goals as goal
 pub returns-clause-steps : goal.returns-clause-steps
 returns-clause-steps g c =
     let old = c.args.table.now in
-    c.steps_law.ensures.at_most _ _ old c.and.new.table (most_additions (levels_from old.graph c.args.u c.args.v))
+    c.steps_law.ensures.at_most old c.and.new.table (most_additions (levels_from old.graph c.args.u c.args.v))
     (most_additions (levels old.graph)) _
     (within_most (levels old.graph) (min (level_of old.graph c.args.u) (level_of old.graph c.args.v))) c.and.ensures.steps
 
