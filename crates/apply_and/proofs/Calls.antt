@@ -3,7 +3,7 @@ use Rattle.std.proofs.Common.{◌≡◌, arith, refl, Result, Ok, Err, None, Som
 use Rattle.node_table.specs.declared.error.TableError.{TableError}
 use Rattle.node_table.specs.declared.error.TableError.TheVariants.{NodeLimit, OutOfMemory}
 use Rattle.node_table.specs.declared.node.Node.{Node}
-use Rattle.node_table.specs.declared.node.Just.{Just}
+use Rattle.node_table.specs.declared.node.Justification.{Justification}
 use Rattle.node_table.specs.Laws.{Growth, Reachability, StepByStep, Subfunctions}
 use Rattle.node_table.specs.Table.{TableState, IsSound}
 use Rattle.node_table.specs.Made.{ReachesNew}
@@ -14,11 +14,8 @@ use Rattle.operations.specs.Budget.{Budget}
 use Rattle.operations.specs.Caches.{Keeping, Remembers}
 use Rattle.operations.specs.Ended.{reached_all}
 use Rattle.operations.specs.Entries.{Fits, Fitting}
-use Rattle.operations.specs.Numbers.{just_numbered}
 use Rattle.operations.specs.Price.{Prices, Pricing}
-use Rattle.apply_and.specs.declared.cache.AndCache.{AndCache}
-use Rattle.apply_and.specs.Cache.{Pair, entries, entry_of, same_pair}
-use Rattle.apply_and.specs.declared.cache.Found.{Found}
+use Rattle.apply_and.specs.Cache.{AndCache, Found, Pair, entries, entry_of, same_pair}
 use Rattle.node_table.specs.Progress.{error_of}
 use Rattle.apply_and.specs.Calls.{Closes, Conjoins, IsUnknown}
 use Rattle.apply_and.specs.Conjunction.{conjunction_of}
@@ -26,7 +23,7 @@ use Rattle.apply_and.proofs.Conjunctions.{IsReady, high_kept}
 use Rattle.apply_and.proofs.Made.{made_high, made_low, made_all, lacks_high, lacks_low, lacks_both}
 
 abbrev pub Answer : Type 0
-Answer = Result (Node × Just) TableError
+Answer = Result (Node × Justification) TableError
 
 when_ok : {P : Type 0} (result : Answer) → IfOk result (λ found. P) → error_of result ≡ None → P
 when_ok (Ok found) holds none = holds
@@ -79,7 +76,7 @@ module _ {S : Type 0} where
     }
 
     module _ (one : TableState S) (cache_one : AndCache) (high : Node
-        × Just) (by_high : Conjoins old before o.u_high o.v_high one cache_one (Ok high)) where
+        × Justification) (by_high : Conjoins old before o.u_high o.v_high one cache_one (Ok high)) where
       sound_one : IsSound one
       sound_one = by_high.steps.leaves.sound
 
@@ -118,7 +115,7 @@ module _ {S : Type 0} where
       }
 
       module _ (two : TableState S) (cache_two : AndCache) (low : Node
-          × Just) (by_low : Conjoins one cache_one o.u_low o.v_low two cache_two (Ok low)) where
+          × Justification) (by_low : Conjoins one cache_one o.u_low o.v_low two cache_two (Ok low)) where
         pub ready : IsReady two.graph two.book.state.live o high low
         ready = record {
           split = splits.kept one.graph two.graph by_low.steps.extends.nodes o split_high;
@@ -158,7 +155,7 @@ module _ {S : Type 0} where
           unretired = closes.unretired;
           kept = λ differ first second. closes.kept;
           remembers = caches.makes_room entry_of before.results cache_two.results cache_three.results (o.u, o.v)
-              (λ found. unknown.none found.node (just_numbered found.clause))
+              (λ found. unknown.none found.0 found.1)
               (remembers_both two cache_two (Ok low) by_low) closes.room;
           price = price_all three cache_three result closes;
           made = made_all parts growth splits old.graph sound.tied.reduced o split o.u o.v

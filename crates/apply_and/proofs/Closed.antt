@@ -2,11 +2,11 @@
 use Rattle.std.proofs.Common.{◌≡◌, ℤ, pos, neg_ℤ, true, false, List, ◌∷◌, Some, ap}
 use Rattle.std.specs.Option.{option_map}
 use Rattle.lrat_rules.specs.State.{Live}
-use Rattle.hint_chain.specs.Atoms.{clause_of, is_trivial}
+use Rattle.hint_chain.specs.Atoms.{clause_from_atoms, is_trivial}
 use Rattle.hint_chain.specs.Closing.{are_apart, are_among}
 use Rattle.hint_chain.specs.Additions.{where_true}
 use Rattle.node_table.specs.declared.node.Node.{Node}
-use Rattle.node_table.specs.declared.node.Just.{Just}
+use Rattle.node_table.specs.declared.node.Justification.{Justification}
 use Rattle.node_table.specs.Diagram.{Graph, IsReduced, IsOrder, variable_at}
 use Rattle.node_table.specs.Tied.{IsOverNodes}
 use Rattle.operations.specs.Additions.{Literals}
@@ -18,8 +18,8 @@ use Rattle.apply_and.specs.Additions.{IsSide}
 use Rattle.apply_and.proofs.ConjunctionClauses.{conjunction_apart, conjunction_open, conjunction_owned}
 
 module _ (literals : Literals) (splits : Splitting) (graph : Graph) (reduced : IsReduced graph) (ordered : IsOrder graph.order)
-    (live : Live) (o : Operands) (split : AreSplit graph o) (w : Node) (side : Side) (found : Node × Just)
-    (finished : IsSide graph live o w side found) (clause : List ℤ) (is : clause_of (conjunction_atoms graph o.u o.v w)
+    (live : Live) (o : Operands) (split : AreSplit graph o) (w : Node) (side : Side) (found : Node × Justification)
+    (finished : IsSide graph live o w side found) (clause : List ℤ) (is : clause_from_atoms (conjunction_atoms graph o.u o.v w)
     ≡ Some clause) (among : are_among (conjunction_atoms graph o.u o.v w) clause ≡ true) where
   pub low_apart : are_apart clause ≡ true
   low_apart = conjunction_apart literals graph reduced o.u o.v w split.first split.second split.differ finished.first_differs
@@ -43,6 +43,6 @@ module _ (literals : Literals) (splits : Splitting) (graph : Graph) (reduced : I
   pub high_over : IsOverNodes graph (neg_ℤ (pos (variable_at graph o.level)) ∷ clause)
   high_over = high_both.1
 
-  pub high_clause : clause_of (where_true (pos (variable_at graph o.level)) (conjunction_atoms graph o.u o.v w))
+  pub high_clause : clause_from_atoms (where_true (pos (variable_at graph o.level)) (conjunction_atoms graph o.u o.v w))
       ≡ Some (neg_ℤ (pos (variable_at graph o.level)) ∷ clause)
   high_clause = ap (λ c. option_map (λ literals. neg_ℤ (pos (variable_at graph o.level)) ∷ literals) c) is

@@ -9,7 +9,7 @@ use Rattle.std.proofs.lemmas.Bool.Decides.{Decides-int_eq}
 use Rattle.lrat_rules.specs.Soundness.{is_nonzero}
 use Rattle.hint_chain.specs.declared.atom.Atom.{Atom}
 use Rattle.hint_chain.specs.declared.atom.Atom.TheVariants.{Always, Never, Of}
-use Rattle.hint_chain.specs.Atoms.{clause_of, neg_atom, is_literal, is_trivial}
+use Rattle.hint_chain.specs.Atoms.{clause_from_atoms, neg_atom, is_literal, is_trivial}
 use Rattle.hint_chain.specs.Closing.{are_among, are_apart}
 use Rattle.hint_chain.specs.Additions.{conjunction}
 use Rattle.node_table.specs.declared.node.Node.{Node}
@@ -69,7 +69,7 @@ record IsThird (x y : ℕ) (third : Atom) : Type 0 where
   apart : (l : ℤ) → third ≡ Of l → (0 < nat_abs l) × (nat_abs l ≢ x) × (nat_abs l ≢ y)
 
 module _ (x y : ℕ) (x_positive : 0 < x) (y_positive : 0 < y) (differ : x ≢ y) where
-  pair_apart : (third : Atom) → IsThird x y third → (clause : List ℤ) → clause_of (conjunction (Of (pos x)) (Of (pos y)) third)
+  pair_apart : (third : Atom) → IsThird x y third → (clause : List ℤ) → clause_from_atoms (conjunction (Of (pos x)) (Of (pos y)) third)
       ≡ Some clause → are_apart clause ≡ true
   pair_apart Always is clause e = cc
   pair_apart Never is clause e =
@@ -144,23 +144,23 @@ module _ (literals : Literals) (graph : Graph) (reduced : IsReduced graph) (u v 
   in_variables : conjunction_atoms graph u v w ≡ conjunction (Of (pos both.first)) (Of (pos both.second)) (atom_of graph w)
   in_variables i = conjunction (both.first_is i) (both.second_is i) (atom_of graph w)
 
-  pub conjunction_apart : (clause : List ℤ) → clause_of (conjunction_atoms graph u v w) ≡ Some clause → are_apart clause ≡ true
+  pub conjunction_apart : (clause : List ℤ) → clause_from_atoms (conjunction_atoms graph u v w) ≡ Some clause → are_apart clause ≡ true
   conjunction_apart clause e = pair_apart both.first both.second both.first_above both.second_above both.differ
-      (atom_of graph w) third clause (sym (ap clause_of in_variables) ∙ e)
+      (atom_of graph w) third clause (sym (ap clause_from_atoms in_variables) ∙ e)
 
-  pub conjunction_open : (clause : List ℤ) → clause_of (conjunction_atoms graph u v w) ≡ Some clause
+  pub conjunction_open : (clause : List ℤ) → clause_from_atoms (conjunction_atoms graph u v w) ≡ Some clause
       → is_trivial (conjunction_atoms graph u v w) ≡ false
   conjunction_open clause e =
       ap is_trivial in_variables ∙ pair_open both.first both.second both.first_above both.second_above both.differ (atom_of graph w) third
       (λ always. no_clause always)
     where
-      e_in_variables : clause_of (conjunction (Of (pos both.first)) (Of (pos both.second)) (atom_of graph w)) ≡ Some clause
-      e_in_variables = sym (ap clause_of in_variables) ∙ e
+      e_in_variables : clause_from_atoms (conjunction (Of (pos both.first)) (Of (pos both.second)) (atom_of graph w)) ≡ Some clause
+      e_in_variables = sym (ap clause_from_atoms in_variables) ∙ e
 
       no_clause : atom_of graph w ≡ Always → ⊥
       no_clause always =
-          let none : None ≡ clause_of (conjunction (Of (pos both.first)) (Of (pos both.second)) (atom_of graph w)) =
-          ap (λ t. clause_of (conjunction (Of (pos both.first)) (Of (pos both.second)) t)) (sym always) in
+          let none : None ≡ clause_from_atoms (conjunction (Of (pos both.first)) (Of (pos both.second)) (atom_of graph w)) =
+          ap (λ t. clause_from_atoms (conjunction (Of (pos both.first)) (Of (pos both.second)) t)) (sym always) in
           let never : None ≡ Some clause = none ∙ e_in_variables in
           cc
 

@@ -12,12 +12,12 @@ use Rattle.hint_chain.specs.declared.atom.Atom.TheVariants.{Of}
 use Rattle.hint_chain.specs.Atoms.{neg_atom, is_literal, is_trivial}
 use Rattle.hint_chain.specs.Additions.{conjunction}
 use Rattle.node_table.specs.declared.node.Node.{Node}
-use Rattle.node_table.specs.declared.node.Just.{Just}
-use Rattle.node_table.specs.declared.node.Just.TheVariants.{Trivial, Clause}
+use Rattle.node_table.specs.declared.node.Justification.{Justification}
+use Rattle.node_table.specs.declared.node.Justification.TheVariants.{Trivial, Clause}
 use Rattle.node_table.specs.Diagram.{Graph, IsReduced, IsBelow}
 use Rattle.node_table.specs.Value.{Levels, value_of}
 use Rattle.node_table.specs.Defined.{atom_of}
-use Rattle.node_table.specs.Just.{IsJustified}
+use Rattle.node_table.specs.Justification.{IsJustified}
 use Rattle.node_table.specs.Table.{TableState, IsSound, Extends, HasChildren}
 use Rattle.node_table.specs.Laws.{Canonical, Cofactors}
 use Rattle.operations.specs.Additions.{AreLiterals}
@@ -28,7 +28,7 @@ use Rattle.operations.specs.Entries.{Conjunction, Fitting}
 use Rattle.apply_and.specs.Additions.{AreSides}
 
 -- what was found of two nodes below a level stands below it
-pub found_below : (graph : Graph) (live : Live) (level : ℕ) (u v w : Node) (just : Just) → IsBelow graph level u → IsBelow graph level v
+pub found_below : (graph : Graph) (live : Live) (level : ℕ) (u v w : Node) (just : Justification) → IsBelow graph level u → IsBelow graph level v
     → Conjoined graph live u v w just → IsBelow graph level w
 found_below graph live level u v w just first second found = record {
   stands = found.stands;
@@ -36,18 +36,18 @@ found_below graph live level u v w just first second found = record {
 }
 
 -- A step whose two sides are found.
-pub record IsReady (graph : Graph) (live : Live) (o : Operands) (high low : Node × Just) : Type 0 where
+pub record IsReady (graph : Graph) (live : Live) (o : Operands) (high low : Node × Justification) : Type 0 where
   pub split : AreSplit graph o
   pub on_high : Conjoined graph live o.u_high o.v_high high.0 high.1
   pub on_low : Conjoined graph live o.u_low o.v_low low.0 low.1
 
-pub high_below : Splitting → (graph : Graph) → IsReduced graph → (live : Live) (o : Operands) (high low : Node × Just)
+pub high_below : Splitting → (graph : Graph) → IsReduced graph → (live : Live) (o : Operands) (high low : Node × Justification)
     → IsReady graph live o high low → IsBelow graph o.level high.0
 high_below splits graph reduced live o high low ready =
     found_below graph live o.level o.u_high o.v_high high.0 high.1 (splits.u_high graph reduced o ready.split)
     (splits.v_high graph reduced o ready.split) ready.on_high
 
-pub low_below : Splitting → (graph : Graph) → IsReduced graph → (live : Live) (o : Operands) (high low : Node × Just)
+pub low_below : Splitting → (graph : Graph) → IsReduced graph → (live : Live) (o : Operands) (high low : Node × Justification)
     → IsReady graph live o high low → IsBelow graph o.level low.0
 low_below splits graph reduced live o high low ready =
     found_below graph live o.level o.u_low o.v_low low.0 low.1 (splits.u_low graph reduced o ready.split)
@@ -56,7 +56,7 @@ low_below splits graph reduced live o high low ready =
 -- what was found stays right as the table grows
 module _ {S : Type 0} (splits : Splitting) (fitting : Fitting S) (old new : TableState S) (sound : IsSound old) (extends : Extends old new)
     (o : Operands) (split : AreSplit old.graph o) where
-  pub high_kept : (w : Node) (just : Just) → Conjoined old.graph old.book.state.live o.u_high o.v_high w just
+  pub high_kept : (w : Node) (just : Justification) → Conjoined old.graph old.book.state.live o.u_high o.v_high w just
       → Conjoined new.graph new.book.state.live o.u_high o.v_high w just
   high_kept w just found =
       let kept = fitting.one old new (Conjunction o.u_high o.v_high w just) sound extends (
@@ -68,7 +68,7 @@ module _ {S : Type 0} (splits : Splitting) (fitting : Fitting S) (old new : Tabl
       ) in
       kept.1
 
-  pub low_kept : (w : Node) (just : Just) → Conjoined old.graph old.book.state.live o.u_low o.v_low w just
+  pub low_kept : (w : Node) (just : Justification) → Conjoined old.graph old.book.state.live o.u_low o.v_low w just
       → Conjoined new.graph new.book.state.live o.u_low o.v_low w just
   low_kept w just found =
       let kept = fitting.one old new (Conjunction o.u_low o.v_low w just) sound extends (
@@ -80,7 +80,7 @@ module _ {S : Type 0} (splits : Splitting) (fitting : Fitting S) (old new : Tabl
       ) in
       kept.1
 
-  pub ready_kept : (high low : Node × Just) → Conjoined old.graph old.book.state.live o.u_high o.v_high high.0 high.1
+  pub ready_kept : (high low : Node × Justification) → Conjoined old.graph old.book.state.live o.u_high o.v_high high.0 high.1
       → Conjoined old.graph old.book.state.live o.u_low o.v_low low.0 low.1
       → IsReady new.graph new.book.state.live o high low
   ready_kept high low on_high on_low = record {
@@ -96,7 +96,7 @@ choose_both false w1 w0 u1 u0 v1 v0 high low = low
 
 -- The node of both sides' results is the conjunction: by its value, and as the answer.
 module _ (laws : Cofactors) (splits : Splitting) (graph : Graph) (reduced : IsReduced graph) (before : Live) (o : Operands) (high low : Node
-    × Just) (ready : IsReady graph before o high low) where
+    × Justification) (ready : IsReady graph before o high low) where
   pub sides_value : (a : Levels) → (if a o.level then value_of graph a high.0 else value_of graph a low.0)
       ≡ (value_of graph a o.u && value_of graph a o.v)
   sides_value a =
@@ -115,7 +115,7 @@ module _ (laws : Cofactors) (splits : Splitting) (graph : Graph) (reduced : IsRe
         ∙ (λ i. if a o.level then value_of graph a (children.high_child i) else value_of graph a (children.low_child i))
         ∙ sides_value a
 
-    pub conjoined_ready : (live : Live) (just : Just) → IsJustified live (conjunction_atoms graph o.u o.v w) just
+    pub conjoined_ready : (live : Live) (just : Justification) → IsJustified live (conjunction_atoms graph o.u o.v w) just
         → Conjoined graph live o.u o.v w just
     conjoined_ready live just justified = record {
       stands = children.stands;
@@ -177,13 +177,13 @@ trivial_operand graph u v w both (inr is) =
 not_both : (b : Bool) → b ≡ true → b ≡ false → ⊥
 not_both b holds fails = cc
 
-pub only_answer : Canonical → (graph : Graph) → IsReduced graph → (live : Live) (u v w other : Node) (just : Just)
+pub only_answer : Canonical → (graph : Graph) → IsReduced graph → (live : Live) (u v w other : Node) (just : Justification)
     → Conjoined graph live u v w Trivial → Conjoined graph live u v other just
     → (w ≡ other) × (Trivial ≡ just)
 only_answer canonical graph reduced live u v w other just one two =
     let same : w ≡ other = canonical graph reduced w other one.stands two.stands (λ a. one.value a ∙ sym (two.value a)) in
     (same, no_clause just (subst (λ (n : Node). IsJustified live (conjunction_atoms graph u v n) just) (sym same) two.justified))
   where
-    no_clause : (just : Just) → IsJustified live (conjunction_atoms graph u v w) just → Trivial ≡ just
+    no_clause : (just : Justification) → IsJustified live (conjunction_atoms graph u v w) just → Trivial ≡ just
     no_clause Trivial holds = refl
     no_clause (Clause id) holds = absurd (not_both (is_trivial (conjunction_atoms graph u v w)) one.justified holds.0)

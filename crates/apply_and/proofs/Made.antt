@@ -2,7 +2,7 @@
 use Rattle.std.proofs.Common.{◌≡◌, ◌≢◌, ◌+◌, ℕ, ◌&&◌, true, false, Bool, Some, sym, ◌∙◌, subst, inl, inr, ◌⊎◌}
 use Rattle.lrat_rules.specs.State.{Live}
 use Rattle.node_table.specs.declared.node.Node.{Node}
-use Rattle.node_table.specs.declared.node.Just.{Just}
+use Rattle.node_table.specs.declared.node.Justification.{Justification}
 use Rattle.node_table.specs.declared.node.Branch.{Branch}
 use Rattle.node_table.specs.Diagram.{Graph, IsReduced, KeepsNodes, branch_at, is_node}
 use Rattle.node_table.specs.Value.{Levels, value_of, IsSubfunction}
@@ -111,7 +111,7 @@ module _ (parts : Subfunctions) (growth : Growth) (splits : Splitting) (old : Gr
 -- The node of both results, where it is new: it has the function asked for, and is the result.
 pub made_node : Subfunctions → Growth → Cofactors → Splitting → (old new : Graph) → IsReduced old → IsReduced new → KeepsNodes old new
     → (live : Live) (o : Operands) → AreSplit old o
-    → (high low : Node × Just) → IsReady new live o high low
+    → (high low : Node × Justification) → IsReady new live o high low
     → ((key : ℕ) (branch : Branch) → branch_at new key ≡ Some branch → (branch_at old key ≡ Some branch)
     ⊎ HasChildren new o.level high.0 low.0 (inner key)) → MakesOnly old new (conjunction_of old o.u o.v)
 made_node parts growth laws splits old new reduced reduced_new keeps live o split high low ready only = record {
@@ -136,7 +136,7 @@ reached_node paths old new w only = record {
 
 -- the node of both results that is refused
 pub lacks_one : Cofactors → Subfunctions → Missing → Splitting → (graph : Graph) → IsReduced graph
-    → (live : Live) (o : Operands) (high low : Node × Just) → IsReady graph live o high low
+    → (live : Live) (o : Operands) (high low : Node × Justification) → IsReady graph live o high low
     → IsWanted graph o.level high.0 low.0 → LacksPart graph (conjunction_of graph o.u o.v)
 lacks_one laws parts missing splits graph reduced live o high low ready wanted = record {
   part = conjunction_of graph o.u o.v;

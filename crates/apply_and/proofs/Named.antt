@@ -3,8 +3,8 @@ use Rattle.std.proofs.Common.{◌≡◌, ℕ, Bool, true, false, None, Some, Res
 use Rattle.std.specs.Prelude.{IsErrAnd}
 use Rattle.node_table.specs.declared.error.TableError.{TableError}
 use Rattle.node_table.specs.declared.node.Node.{Node}
-use Rattle.node_table.specs.declared.node.Just.{Just}
-use Rattle.node_table.specs.declared.node.Just.TheVariants.{Trivial, Clause}
+use Rattle.node_table.specs.declared.node.Justification.{Justification}
+use Rattle.node_table.specs.declared.node.Justification.TheVariants.{Trivial, Clause}
 use Rattle.operations.specs.Accounts.{found_just}
 
 pub not_both : (b : Bool) → b ≡ true → b ≡ false → ⊥
@@ -20,6 +20,6 @@ pub no_clause : (id : ℕ) → Trivial ≡ Clause id → ⊥
 no_clause id is = cc
 
 -- an error gives no clause
-pub failed_just : (r : Result (Node × Just) TableError) (came : TableError) → IsErrAnd r (λ e. e ≡ came) → found_just r ≡ Trivial
+pub failed_just : (r : Result (Node × Justification) TableError) (came : TableError) → IsErrAnd r (λ e. e ≡ came) → found_just r ≡ Trivial
 failed_just (Ok found) came is = absurd is
 failed_just (Err e) came is = refl

@@ -2,7 +2,7 @@
 use Rattle.std.proofs.Common.{◌≡◌, true, is_some, Option, None, Some, Ok, Err, refl, sym, subst}
 use Rattle.node_table.specs.declared.error.TableError.TheVariants.{OutOfMemory}
 use Rattle.node_table.specs.declared.node.Node.{Node}
-use Rattle.node_table.specs.declared.node.Just.{Just}
+use Rattle.node_table.specs.declared.node.Justification.{Justification}
 use Rattle.node_table.specs.declared.node.Node.TheVariants.{False, True, Inner}
 use Rattle.node_table.specs.declared.node.Branch.{Branch}
 use Rattle.node_table.specs.Diagram.{Graph, branch_at, branch_of, is_node, level_of}
@@ -15,10 +15,8 @@ use Rattle.operations.specs.Budget.{Budget}
 use Rattle.operations.specs.Entries.{Fits, Fitting}
 use Rattle.operations.specs.declared.frames.Reply.TheVariants.{Open}
 use Rattle.operations.specs.Machine.{AwaitsLow, HighCame, IsAnswer, IsOpened, LowCame}
-use Rattle.apply_and.specs.declared.cache.AndCache.{AndCache}
 use Rattle.operations.specs.Caches.{Keeping}
-use Rattle.apply_and.specs.declared.cache.Found.{Found}
-use Rattle.apply_and.specs.Cache.{Pair, entries}
+use Rattle.apply_and.specs.Cache.{AndCache, Found, Pair, entries}
 use Rattle.apply_and.specs.Calls.{Answers, CanConjoin, Conjoins, IsUnknown, conjunctions}
 use Rattle.operations.specs.Price.{Pricing}
 use Rattle.operations.specs.Pairs.{IsNoConstant, same_pair}
@@ -57,7 +55,7 @@ module _ {S : Type 0} where
     ended = answers_unknown old before o.u o.v unknown
 
     module _ (one : TableState S) (cache_one : AndCache) (high : Node
-        × Just) (by_high : Conjoins old before o.u_high o.v_high one cache_one (Ok high)) where
+        × Justification) (by_high : Conjoins old before o.u_high o.v_high one cache_one (Ok high)) where
       low_came : (two : TableState S) (cache_two : AndCache) (result : Answer)
           → Conjoins one cache_one o.u_low o.v_low two cache_two result
           → LowCame (conjunctions) (Answers old before o.u o.v) o high two cache_two result

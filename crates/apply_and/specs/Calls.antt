@@ -4,8 +4,8 @@ use Rattle.std.specs.Prelude.{◌≡◌, ◌≢◌, ◌<◌, ◌∷◌, ℕ, Lis
 use Rattle.node_table.specs.declared.error.TableError.{TableError}
 use Rattle.node_table.specs.declared.error.TableError.TheVariants.{NodeLimit}
 use Rattle.node_table.specs.declared.node.Node.{Node}
-use Rattle.node_table.specs.declared.node.Just.{Just}
-use Rattle.node_table.specs.declared.node.Just.TheVariants.{Trivial, Clause}
+use Rattle.node_table.specs.declared.node.Justification.{Justification}
+use Rattle.node_table.specs.declared.node.Justification.TheVariants.{Trivial, Clause}
 use Rattle.node_table.specs.Diagram.{is_node, level_of}
 use Rattle.node_table.specs.Table.{TableState, IsSound, HasChildren}
 use Rattle.node_table.specs.Made.{LacksPart, MakesOnly, ReachesNew}
@@ -19,14 +19,13 @@ use Rattle.operations.specs.Caches.{MakesRoom, Remembers}
 use Rattle.operations.specs.Entries.{Conjunction, Fits, HaveSame}
 use Rattle.operations.specs.Pairs.{IsNoConstant}
 use Rattle.operations.specs.Price.{Prices}
-use Rattle.apply_and.specs.declared.cache.AndCache.{AndCache}
 use Rattle.apply_and.specs.Conjunction.{IsPlain, conjunction_of, most_additions}
-use Rattle.apply_and.specs.Cache.{Pair, StandInFront, entries, entry_of, is_one, most_entries}
+use Rattle.apply_and.specs.Cache.{AndCache, Pair, StandInFront, entries, entry_of, is_one, most_entries}
 
 -- The call for u and v began with this table and this cache, and ended with those and this result: what it found, made,
 -- kept and retired, and how many clauses it added.
 pub record Conjoins {S : Type 0} (old : TableState S) (before : AndCache) (u v : Node) (new : TableState S) (after : AndCache)
-    (result : Result (Node × Just) TableError) : Type 0 where
+    (result : Result (Node × Justification) TableError) : Type 0 where
   pub conjoined : IfOk result (λ found. Conjoined new.graph new.book.state.live u v found.0 found.1)
   pub steps : Steps old new (most_additions (levels_from old.graph u v))
       (error_of result)
@@ -40,8 +39,8 @@ pub record Conjoins {S : Type 0} (old : TableState S) (before : AndCache) (u v :
   pub lacks : result ≡ Err NodeLimit → LacksPart new.graph (conjunction_of old.graph u v)
 
 -- The step from the results of both sides to the conjunction of these operands, which is kept.
-pub record Closes {S : Type 0} (old : TableState S) (before : AndCache) (o : Operands) (high low : Node × Just) (new : TableState S) (after : AndCache)
-    (result : Result (Node × Just) TableError) : Type 0 where
+pub record Closes {S : Type 0} (old : TableState S) (before : AndCache) (o : Operands) (high low : Node × Justification) (new : TableState S) (after : AndCache)
+    (result : Result (Node × Justification) TableError) : Type 0 where
   pub conjoined : IfOk result (λ found. Conjoined new.graph new.book.state.live o.u o.v found.0 found.1)
   pub steps : Steps old new 2 (error_of result)
   pub accounts : AccountsFor old new (entries before) (entries after) (error_of result)
@@ -60,7 +59,7 @@ pub record IsUnknown (cache : AndCache) (u v : Node) : Type 0 where
   pub differ : u ≢ v
   pub first : IsNoConstant u
   pub second : IsNoConstant v
-  pub none : (w : Node) (just : Just) → Contains (entries cache) (Conjunction u v w just) → ⊥
+  pub none : (w : Node) (just : Justification) → Contains (entries cache) (Conjunction u v w just) → ⊥
   pub unused : (used : List Pair) → StandInFront cache used → IsFalse (is_one used (u, v))
 
 -- What a call may begin with.
@@ -71,7 +70,7 @@ pub record CanConjoin {S : Type 0} (table : TableState S) (cache : AndCache) (u 
   pub fits : Fits table (entries cache)
 
 -- What the last step may begin with: the results of both sides.
-pub record CanClose {S : Type 0} (table : TableState S) (cache : AndCache) (o : Operands) (high low : Node × Just) : Type 0 where
+pub record CanClose {S : Type 0} (table : TableState S) (cache : AndCache) (o : Operands) (high low : Node × Justification) : Type 0 where
   pub sound : IsSound table
   pub fits : Fits table (entries cache)
   pub split : AreSplit table.graph o
@@ -80,14 +79,14 @@ pub record CanClose {S : Type 0} (table : TableState S) (cache : AndCache) (o : 
 
 -- A call, and what a plain pair and one that is kept are answered.
 pub record Answers {S : Type 0} (old : TableState S) (before : AndCache) (u v : Node) (new : TableState S) (after : AndCache)
-    (result : Result (Node × Just) TableError) : Type 0 where
+    (result : Result (Node × Justification) TableError) : Type 0 where
   pub call : Conjoins old before u v new after result
-  pub known : (w : Node) (just : Just) → Contains (entries before) (Conjunction u v w just) → (result ≡ Ok (w, just)) × (new ≡ old)
+  pub known : (w : Node) (just : Justification) → Contains (entries before) (Conjunction u v w just) → (result ≡ Ok (w, just)) × (new ≡ old)
       × HaveSame (entries before) (entries after)
   pub plain : (w : Node) → IsPlain u v w → (result ≡ Ok (w, Trivial)) × (new ≡ old) × (after ≡ before)
 
 -- The conjunction as an operation on diagrams: a pair is split into that of its high cofactors and that of its low ones.
-abbrev pub conjunctions : {S : Type 0} → Calls S AndCache Pair Operands (Node × Just)
+abbrev pub conjunctions : {S : Type 0} → Calls S AndCache Pair Operands (Node × Justification)
 conjunctions = record {
   can = λ table cache pair. CanConjoin table cache pair.0 pair.1;
   ends = λ old before pair new after result. Answers old before pair.0 pair.1 new after result;

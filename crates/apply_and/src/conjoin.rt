@@ -5,15 +5,15 @@ ghost use Rattle.std.specs.Prelude.{None, Some, length};
 ghost use Rattle.lrat_rules.specs.State.{Live};
 ghost use Rattle.node_table.specs.declared.error.TableError.TheVariants.{NodeLimit};
 ghost use Rattle.node_table.specs.declared.node.Node.{Node as NodeValue};
-ghost use Rattle.node_table.specs.declared.node.Just.{Just as JustValue};
-ghost use Rattle.node_table.specs.declared.node.Just.TheVariants.{Trivial, Clause};
+ghost use Rattle.node_table.specs.declared.node.Justification.{Justification as JustificationValue};
+ghost use Rattle.node_table.specs.declared.node.Justification.TheVariants.{Trivial, Clause};
 ghost use Rattle.node_table.specs.Diagram.{Graph, is_node};
 ghost use Rattle.node_table.specs.Table.{IsSound, AddsAtMost, HasChildren, UnlessTorn};
 ghost use Rattle.node_table.specs.Made.{LacksPart, MakesOnly, ReachesNew};
 ghost use Rattle.node_table.specs.Progress.{Steps, error_of};
 ghost use Rattle.operations.specs.Operands.{AreSplit, levels_from};
 ghost use Rattle.operations.specs.Results.{Conjoined};
-ghost use Rattle.operations.specs.Entries.{Entry, Accounts, AreApart, Conjunction, Fits, HaveSame, IsNewJust, NamesOnly, RetiresOwn};
+ghost use Rattle.operations.specs.Entries.{Entry, Accounts, AreApart, Conjunction, Fits, HaveSame, IsNewJustification, NamesOnly, RetiresOwn};
 ghost use Rattle.operations.specs.Accounts.{GivesOne, RetiresNew, found_just};
 ghost use Rattle.operations.specs.Pairs.{IsNoConstant};
 ghost use Rattle.operations.specs.Price.{HoldsReached};
@@ -22,15 +22,15 @@ ghost use Rattle.apply_and.specs.Cache.{entries, most_entries};
 ghost use Rattle.apply_and.specs.Calls.{Answers, CanConjoin, IsUnknown, conjunctions};
 
 use crate::additions::justify;
-use crate::cache::{AndCache, Found};
+use crate::cache::AndCache;
 use host_io::Sink;
 use node_table::{
-    Just, Node, Table, TableError, canonical_law, cofactor_law, growth_law, missing_law, reach_law,
-    steps_law, subfunction_law,
+    Justification, Node, Table, TableError, canonical_law, cofactor_law, growth_law, missing_law,
+    reach_law, steps_law, subfunction_law,
 };
 use operations::{
-    Operands, Operation, Reply, accounts_law, budget_law, cache_law, clause_of, entry_law,
-    literal_law, operand_law, price_law, retire, split, work_off,
+    NodePair, Operands, Operation, Reply, StoredJustification, accounts_law, budget_law, cache_law,
+    clause_number, entry_law, literal_law, operand_law, price_law, retire, split, work_off,
 };
 use std::alloc::Global;
 
@@ -41,7 +41,7 @@ pub fn and<S: Sink + Drop>(
     cache: &mut AndCache,
     u: Node,
     v: Node,
-) -> Result<(Node, Just), TableError>
+) -> Result<(Node, Justification), TableError>
     requires sound { IsSound table.old }
     requires first { IsTrue (is_node table.old.graph u) }
     requires second { IsTrue (is_node table.old.graph v) }
@@ -64,7 +64,7 @@ pub fn and<S: Sink + Drop>(
         → AddsAtMost (2 * (length us * length vs)) table.old table.new }
     // A conjunction that is kept is found again without a node or a clause more; a new one is kept; one is forgotten only
     // where the cache was full.
-    ensures known { (w : NodeValue) (just : JustValue) → Contains (entries cache.old) (Conjunction u v w just)
+    ensures known { (w : NodeValue) (just : JustificationValue) → Contains (entries cache.old) (Conjunction u v w just)
         → (result ≡ Ok (w, just)) × (table.new ≡ table.old) × HaveSame (entries cache.old) (entries cache.new) }
     ensures kept { u ≢ v → IsNoConstant u → IsNoConstant v → IfOk result
         (λ found. Contains (entries cache.new) (Conjunction u v found.0 found.1)) }
@@ -82,7 +82,7 @@ pub fn and<S: Sink + Drop>(
 {
     accounts_law::<S>();
     steps_law::<S>();
-    price_law::<S, Found>();
+    price_law::<S, (Node, StoredJustification)>();
     work_off::<S, AndOperation>(table, cache, (u, v))
 }
 
@@ -96,7 +96,7 @@ impl<S: Sink + Drop> Operation<S> for AndOperation {
 
     type Parts = Operands;
 
-    type Answer = (Node, Just);
+    type Answer = (Node, Justification);
 
     ghost calls = { conjunctions };
 
@@ -108,12 +108,12 @@ impl<S: Sink + Drop> Operation<S> for AndOperation {
         table: &mut Table<S>,
         cache: &mut AndCache,
         question: (Node, Node),
-    ) -> Result<Reply<Operands, (Node, Just)>, TableError> {
+    ) -> Result<Reply<Operands, (Node, Justification)>, TableError> {
         steps_law::<S>();
         budget_law::<S>();
         accounts_law::<S>();
-        cache_law::<(Node, Node), Found>();
-        price_law::<S, Found>();
+        cache_law::<(Node, Node), (Node, StoredJustification)>();
+        price_law::<S, (Node, StoredJustification)>();
         entry_law::<S>();
         operand_law();
         growth_law();
@@ -130,7 +130,7 @@ impl<S: Sink + Drop> Operation<S> for AndOperation {
         (operands.u_high, operands.v_high)
     }
 
-    fn low(operands: &Operands, _high: &(Node, Just)) -> Option<(Node, Node)> {
+    fn low(operands: &Operands, _high: &(Node, Justification)) -> Option<(Node, Node)> {
         Some((operands.u_low, operands.v_low))
     }
 
@@ -139,22 +139,23 @@ impl<S: Sink + Drop> Operation<S> for AndOperation {
         table: &mut Table<S>,
         cache: &mut AndCache,
         operands: &Operands,
-        high: &(Node, Just),
-        low: &(Node, Just),
-    ) -> Result<(Node, Just), TableError> {
+        high: &(Node, Justification),
+        low: &(Node, Justification),
+    ) -> Result<(Node, Justification), TableError> {
         steps_law::<S>();
         accounts_law::<S>();
         operand_law();
         growth_law();
         table.keys_law();
         let found = finish(cache.alloc(), table, operands, high, low)?;
-        match cache.keep(operands.u, operands.v, &found) {
+        let stored = StoredJustification::from_just(&found.1);
+        match cache.keep(NodePair::of(operands.u, operands.v), (found.0, stored)) {
             Ok(given) => {
                 retire(table, given);
                 Ok(found)
             }
             Err(_) => {
-                retire(table, clause_of(&found.1));
+                retire(table, clause_number(&found.1));
                 Err(TableError::OutOfMemory)
             }
         }
@@ -167,22 +168,25 @@ fn answer<S: Sink + Drop>(
     cache: &mut AndCache,
     u: Node,
     v: Node,
-) -> Option<(Node, Just)>
+) -> Option<(Node, Justification)>
     requires can { CanConjoin table.now cache.old u v }
     ensures answers { IfSome result (λ found. Answers table.now cache.old u v table.now cache.new (Ok found)) }
     ensures unknown { result ≡ None → (cache.new ≡ cache.old) × IsUnknown cache.old u v }
 {
     steps_law::<S>();
     accounts_law::<S>();
-    price_law::<S, Found>();
+    price_law::<S, (Node, StoredJustification)>();
     subfunction_law();
     reach_law();
     canonical_law();
     if let Some(w) = plain(u, v) {
-        return Some((w, Just::Trivial));
+        return Some((w, Justification::Trivial));
     }
     table.keys_law();
-    cache.look(u, v)
+    match cache.look(NodePair::of(u, v)) {
+        None => None,
+        Some(found) => Some((found.0, found.1.just())),
+    }
 }
 
 // The conjunction of two nodes of which one is a constant, or which are the same.
@@ -205,9 +209,9 @@ fn finish<S: Sink + Drop>(
     alloc: Global,
     table: &mut Table<S>,
     operands: &Operands,
-    high: &(Node, Just),
-    low: &(Node, Just),
-) -> Result<(Node, Just), TableError>
+    high: &(Node, Justification),
+    low: &(Node, Justification),
+) -> Result<(Node, Justification), TableError>
     requires sound { IsSound table.old }
     requires split { AreSplit table.old.graph operands.now }
     requires high { Conjoined table.old.graph table.old.book.state.live operands.now.u_high operands.now.v_high high.now.0 high.now.1 }
@@ -217,7 +221,7 @@ fn finish<S: Sink + Drop>(
     ensures steps { Steps table.old table.new 2 (error_of result) }
     ensures retires { RetiresNew table.old table.new }
     ensures gives { UnlessTorn result (GivesOne table.old table.new (found_just result)) }
-    ensures named { IfOk result (λ found. IsNewJust table.old.book.state table.new.book.state found.1) }
+    ensures named { IfOk result (λ found. IsNewJustification table.old.book.state table.new.book.state found.1) }
     ensures children { IfOk result (λ found. HasChildren table.new.graph operands.now.level high.now.0 low.now.0 found.0) }
     ensures made { MakesOnly table.old.graph table.new.graph (conjunction_of table.old.graph operands.now.u operands.now.v) }
     ensures reachable { IfOk result (λ found. ReachesNew table.old.graph table.new.graph found.0) }
@@ -238,7 +242,7 @@ fn finish<S: Sink + Drop>(
     table.table_law();
     let w = made?;
     if is_operand(w, operands) {
-        return Ok((w, Just::Trivial));
+        return Ok((w, Justification::Trivial));
     }
     let just = justify(alloc, table, operands, w, high, low)?;
     Ok((w, just))

@@ -8,5 +8,5 @@ mod additions;
 mod cache;
 mod conjoin;
 
-pub use cache::AndCache;
+pub use cache::{AndCache, AndEntries};
 pub use conjoin::and;

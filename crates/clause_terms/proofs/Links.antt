@@ -7,7 +7,7 @@ use Rattle.std.proofs.Math.IntN.{neg_ℤ-neg_ℤ}
 use Rattle.cnf_base.specs.ProofText.{given_if}
 use Rattle.lrat_rules.specs.State.{Live, clause_at}
 use Rattle.hint_chain.specs.declared.unit.UnitPart.{UnitPart}
-use Rattle.hint_chain.specs.Atoms.{clause_of, high_up, low_up}
+use Rattle.hint_chain.specs.Atoms.{clause_from_atoms, high_up, low_up}
 use Rattle.hint_chain.specs.Units.{literal_id, next_id, FalsifiesLiteral, FalsifiesNext}
 use Rattle.node_table.specs.declared.node.Node.{Node}
 use Rattle.node_table.specs.declared.node.Node.TheVariants.{False, True, Inner}
@@ -40,16 +40,16 @@ module _ (live : Live) (graph : Graph) (b : Branch) (defined : IsDefined live gr
       ∙ ap (λ t. given_if (not t) (lu_first b.high b.first)) open_
 
   hu_clause : (h : Node) → b.high ≡ h → is_false_node h ≡ false
-      → clause_at live b.first ≡ clause_of (high_up (pos b.variable) (pos (variable_at graph b.level)) (atom_of graph h))
+      → clause_at live b.first ≡ clause_from_atoms (high_up (pos b.variable) (pos (variable_at graph b.level)) (atom_of graph h))
   hu_clause h is open_ =
       ap (clause_named live) (sym (hu_at h is open_)) ∙ defined.hu
-      ∙ ap (λ n. clause_of (high_up (pos b.variable) (pos (variable_at graph b.level)) (atom_of graph n))) is
+      ∙ ap (λ n. clause_from_atoms (high_up (pos b.variable) (pos (variable_at graph b.level)) (atom_of graph n))) is
 
   lu_clause : (l : Node) → b.low ≡ l → is_false_node l ≡ false
-      → clause_at live (lu_first b.high b.first) ≡ clause_of (low_up (pos b.variable) (pos (variable_at graph b.level)) (atom_of graph l))
+      → clause_at live (lu_first b.high b.first) ≡ clause_from_atoms (low_up (pos b.variable) (pos (variable_at graph b.level)) (atom_of graph l))
   lu_clause l is open_ =
       ap (clause_named live) (sym (lu_at l is open_)) ∙ defined.lu
-      ∙ ap (λ n. clause_of (low_up (pos b.variable) (pos (variable_at graph b.level)) (atom_of graph n))) is
+      ∙ ap (λ n. clause_from_atoms (low_up (pos b.variable) (pos (variable_at graph b.level)) (atom_of graph n))) is
 
   not_negative : is_negative (pos (variable_at graph b.level)) ≡ false
   not_negative = is_negative-pos (variable_at graph b.level)
@@ -69,7 +69,7 @@ module _ (live : Live) (graph : Graph) (b : Branch) (defined : IsDefined live gr
     id = lu_first b.high b.first;
     named = own_next ∙ lu_at (Inner key) is refl;
     stands = lu_clause (Inner key) is refl
-        ∙ ap (λ o. clause_of (low_up (pos b.variable) (pos (variable_at graph b.level)) (atom_in o))) at;
+        ∙ ap (λ o. clause_from_atoms (low_up (pos b.variable) (pos (variable_at graph b.level)) (atom_in o))) at;
   }
 
   pub positive_last : b.low ≡ False → next_id (positive_part graph b) ≡ None
@@ -98,7 +98,7 @@ module _ (live : Live) (graph : Graph) (b : Branch) (defined : IsDefined live gr
       id = b.first;
       named = next_is ∙ hu_at (Inner key) is refl;
       stands = hu_clause (Inner key) is refl
-          ∙ ap (λ o. clause_of (high_up (pos b.variable) (pos (variable_at graph b.level)) (atom_in o))) at;
+          ∙ ap (λ o. clause_from_atoms (high_up (pos b.variable) (pos (variable_at graph b.level)) (atom_in o))) at;
     }
 
     pub negative_last : b.high ≡ False → next_id (negative_part graph b) ≡ None

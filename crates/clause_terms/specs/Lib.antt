@@ -3,3 +3,4 @@ pub mod ClauseDiagram
 pub mod Term
 pub mod Recovery
 pub mod Walk
+pub mod ToldUnit

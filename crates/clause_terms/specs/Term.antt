@@ -4,19 +4,22 @@ use Rattle.std.specs.Prelude.{◌≡◌, ◌==◌, Bool, true, ℤ, pos, ℕ, Li
 use Rattle.std.specs.List.{position_or_len}
 use Rattle.cnf_base.specs.Truth.{Assignment, clause_holds}
 use Rattle.lrat_rules.specs.State.{Live, clause_at}
+use Rattle.clause_ledger.specs.Book.{AreTold, addition}
 use Rattle.hint_chain.specs.declared.unit.UnitPart.{UnitPart}
+use Rattle.hint_chain.specs.Atoms.{clause_from_atoms}
 use Rattle.hint_chain.specs.Units.{IsUnitPath}
 use Rattle.node_table.specs.declared.node.Node.{Node}
-use Rattle.node_table.specs.declared.node.Just.{Just}
+use Rattle.node_table.specs.declared.node.Justification.{Justification}
 use Rattle.node_table.specs.declared.node.Branch.{Branch}
 use Rattle.node_table.specs.Diagram.{Graph, branch_of, is_node}
 use Rattle.node_table.specs.Defined.{atom_of}
-use Rattle.node_table.specs.Just.{IsJustified}
+use Rattle.node_table.specs.Justification.{IsJustified}
+use Rattle.node_table.specs.Table.{TableState}
 use Rattle.node_table.specs.Value.{Levels, by_level, value_of}
 
 -- A node that holds exactly where a function of the assignment does, and the live clause of its literal: none where the
 -- node is True, the empty clause where it is False.
-pub record IsTerm (graph : Graph) (live : Live) (holds : Assignment → Bool) (node : Node) (unit : Just) : Type 0 where
+pub record IsTerm (graph : Graph) (live : Live) (holds : Assignment → Bool) (node : Node) (unit : Justification) : Type 0 where
   pub stands : IsTrue (is_node graph node)
   pub value : (a : Assignment) → value_of graph (by_level graph.order a) node ≡ holds a
   pub proved : IsJustified live (atom_of graph node ∷ []) unit
@@ -41,3 +44,9 @@ pub record HasUnitPath (graph : Graph) (live : Live) (node : Node) (path : List 
   pub stands : branch_of graph node ≡ Some branch
   pub live_clause : clause_at live input ≡ Some clause
   pub unit : IsUnitPath live path (pos branch.variable ∷ nodes) clause
+
+-- Exactly one step is told: it adds the clause of a node alone, with these hints.
+pub record AddsUnit {S : Type 0} (old new : TableState S) (node : Node) (hints : List ℕ) : Type 0 where
+  pub clause : List ℤ
+  pub is : clause_from_atoms (atom_of old.graph node ∷ []) ≡ Some clause
+  pub told : AreTold true old.book new.book (addition old.book.state clause hints ∷ [])

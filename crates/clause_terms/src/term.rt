@@ -1,23 +1,24 @@
 // A clause of the formula as a term: its diagram from the last literal up, and the unit of the top node. (Bryant, Heule:
 // Generating Extended Resolution Proofs with a BDD-Based SAT Solver, 2021, section 5.)
-ghost use Rattle.std.specs.Prelude.{◌≡◌, ◌≢◌, ◌<◌, ◌≤◌, ◌+◌, ◌⊎◌, ℕ, [], ◌∷◌, Err, IsTrue, IfOk, IfErr, Some};
+ghost use Rattle.std.specs.Prelude.{◌≡◌, ◌≢◌, ◌<◌, ◌≤◌, ◌+◌, ◌⊎◌, ℕ, [], ◌∷◌, Err, IsTrue, IfOk, IfErr, OnOk, Some};
 ghost use Rattle.std.specs.List.{list_all};
 ghost use Rattle.std.specs.List.Sorted.{IsNonDecreasingBy};
 ghost use Rattle.cnf_base.specs.Truth.{clause_holds, is_literal_of};
 ghost use Rattle.lrat_rules.specs.State.{clause_at};
+ghost use Rattle.hint_chain.specs.Units.{unit_list};
 ghost use Rattle.node_table.specs.declared.error.TableError.TheVariants.{NodeLimit, OutOfMemory, WriteFault};
 ghost use Rattle.node_table.specs.declared.node.Node.TheVariants.{True};
-ghost use Rattle.node_table.specs.declared.node.Just.TheVariants.{Trivial, Clause};
+ghost use Rattle.node_table.specs.declared.node.Justification.TheVariants.{Trivial, Clause};
 ghost use Rattle.node_table.specs.Defined.{atom_of};
 ghost use Rattle.node_table.specs.Diagram.{levels};
-ghost use Rattle.node_table.specs.Just.{IsJustified};
+ghost use Rattle.node_table.specs.Justification.{IsJustified};
 ghost use Rattle.node_table.specs.Made.{LacksPart, MakesOnly};
 ghost use Rattle.node_table.specs.Progress.{Steps, error_of};
 ghost use Rattle.node_table.specs.Table.{AddsNone, IsAddedTo, IsSound, UnlessTorn};
 ghost use Rattle.clause_terms.specs.declared.placed.Placed.{Placed as PlacedValue};
 ghost use Rattle.clause_terms.specs.ClauseDiagram.{IsDiagramOf};
 ghost use Rattle.clause_terms.specs.Placed.{placed_function, are_of_levels, HasNoOpposites};
-ghost use Rattle.clause_terms.specs.Term.{clause_function, IsTerm, IsTautology, HasUnitPath};
+ghost use Rattle.clause_terms.specs.Term.{AddsUnit, clause_function, IsTerm, IsTautology, HasUnitPath};
 
 use crate::order::{has_opposites, in_order};
 use crate::placed::Placed;
@@ -26,7 +27,7 @@ use cnf_base::{Id, Lit};
 use hint_chain::{UnitPart, unit_hints, unit_law, unit_path_law};
 use host_io::Sink;
 use lrat_rules::live_law;
-use node_table::{Just, Node, Table, TableError, steps_law, subfunction_law};
+use node_table::{Justification, Node, Table, TableError, steps_law, subfunction_law};
 use std::alloc::Global;
 
 /// The term of a clause of the formula, which is live under the number `input`. A clause with both signs of a variable
@@ -36,7 +37,7 @@ pub fn push_clause<S: Sink + Drop>(
     table: &mut Table<S>,
     clause: &[Lit],
     input: Id,
-) -> Result<(Node, Just), TableError>
+) -> Result<(Node, Justification), TableError>
     requires sound { IsSound table.old }
     requires live { clause_at table.old.book.state.live input ≡ Some clause.now }
     requires variables { IsTrue (list_all (is_literal_of (levels table.old.graph)) clause.now) }
@@ -65,11 +66,11 @@ pub fn push_clause<S: Sink + Drop>(
     table.table_law();
     let placed = in_order(alloc, table, clause)?;
     if has_opposites(placed.as_slice()) {
-        return Ok((Node::True, Just::Trivial));
+        return Ok((Node::True, Justification::Trivial));
     }
     let (node, path) = build(alloc, table, placed.as_slice())?;
     let id = add_unit(alloc, table, node, path.as_slice(), input)?;
-    Ok((node, Just::Clause(id)))
+    Ok((node, Justification::Clause(id)))
 }
 
 // The diagram of the literals, with the path down its nodes.
@@ -113,6 +114,7 @@ fn add_unit<S: Sink + Drop>(
     requires sound { IsSound table.old }
     requires path { HasUnitPath table.old.graph table.old.book.state.live node path.now input }
     ensures proved { IfOk result (λ id. IsJustified table.new.book.state.live (atom_of table.new.graph node ∷ []) (Clause id)) }
+    ensures told { OnOk result (AddsUnit table.old table.new node (unit_list path.now input)) }
     ensures one { IfOk result (λ id. (id ≡ table.old.book.state.top + 1) × (id ≡ table.new.book.state.top)) }
     ensures own { IfOk result (λ id. IsAddedTo table.new id) }
     ensures none_added { IfErr result (λ e. e ≢ WriteFault → AddsNone table.old table.new) }

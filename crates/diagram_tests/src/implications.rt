@@ -14,7 +14,7 @@ use crate::script::{Named, halves, make_all, number, operands};
 use crate::support::{ProofText, is_known, open, order, room_of};
 use cnf_base::OutOfMemory;
 use imply::{ImplyCache, implies};
-use node_table::{Just, Node, Table, TableError};
+use node_table::{Justification, Node, Table, TableError};
 use operations::entry_law;
 use std::alloc::Global;
 use std::process::Abort;
@@ -36,7 +36,7 @@ pub fn why_implied(
     cache: &mut ImplyCache,
     u: Node,
     v: Node,
-) -> Result<Option<Just>, TableError>
+) -> Result<Option<Justification>, TableError>
     requires sound { IsSound table.old }
     requires fits { Fits table.old (entries cache.old) }
     ensures sound { OnOk result (IsSound table.new) }
@@ -205,7 +205,7 @@ fn ask_all(
     Ok(())
 }
 
-fn told_answer(alloc: Global, answer: &Option<Just>) -> Result<String, Fail> {
+fn told_answer(alloc: Global, answer: &Option<Justification>) -> Result<String, Fail> {
     match answer {
         None => Ok(String::from_str(alloc, "no")?),
         Some(just) => {

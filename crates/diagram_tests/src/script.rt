@@ -13,7 +13,7 @@ ghost use Rattle.diagram_tests.specs.declared.support.ProofText.{ProofText as Pr
 use crate::support::{ProofText, Room, is_known, make, open, order};
 use apply_and::{AndCache, and};
 use cnf_base::{Cnf, OutOfMemory};
-use node_table::{Just, Node, Table, TableError};
+use node_table::{Justification, Node, Table, TableError};
 use operations::entry_law;
 use std::alloc::Global;
 use std::process::Abort;
@@ -160,10 +160,10 @@ pub fn conjoin(
 }
 
 /// The number of the clause that a justification names, 0 for none.
-pub fn number(just: &Just) -> u64 {
+pub fn number(just: &Justification) -> u64 {
     match just {
-        Just::Trivial => 0,
-        Just::Clause(id) => id.0,
+        Justification::Trivial => 0,
+        Justification::Clause(id) => id.0,
     }
 }
 

@@ -11,6 +11,7 @@ use crate::support::{ProofText, is_known, one_clause, open, order, room_of};
 use apply_and::AndCache;
 use cnf_base::OutOfMemory;
 use node_table::{Marks, Node, Table, TableError};
+use operations::Purge;
 use std::alloc::Global;
 use std::process::Abort;
 use std::test::Fail;

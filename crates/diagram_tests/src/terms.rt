@@ -10,7 +10,7 @@ use crate::support::{ProofText, is_known, one_clause, open, order, room_of};
 use clause_terms::{Trail, push_clause, recover};
 use cnf_base::{Cnf, Id};
 use lrat_rules::start_law;
-use node_table::{Just, Node, Table, TableError};
+use node_table::{Justification, Node, Table, TableError};
 use std::alloc::Global;
 use std::process::Abort;
 use std::test::Fail;
@@ -32,7 +32,7 @@ fn push(
     alloc: Global,
     table: &mut Table<ProofText>,
     formula: &Cnf,
-) -> Result<(Node, Just), TableError>
+) -> Result<(Node, Justification), TableError>
     requires sound { IsSound table.old }
     requires start { table.old.book.state ≡ start formula.now.clauses }
     requires variables { length table.old.graph.order ≡ formula.now.vars }
@@ -42,7 +42,7 @@ fn push(
     formula.formula_law();
     let literals = formula.clause(1);
     if literals.is_empty() {
-        return Ok((Node::False, Just::Trivial));
+        return Ok((Node::False, Justification::Trivial));
     }
     push_clause(alloc, table, literals, Id(1))
 }
@@ -50,7 +50,7 @@ fn push(
 fn term_told(
     alloc: Global,
     table: &Table<ProofText>,
-    term: Result<(Node, Just), TableError>,
+    term: Result<(Node, Justification), TableError>,
 ) -> Result<String, Fail> {
     match term {
         Ok((node, unit)) => {

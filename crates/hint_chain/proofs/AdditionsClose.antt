@@ -8,13 +8,13 @@ use Rattle.lrat_rules.specs.Soundness.{is_nonzero}
 use Rattle.hint_chain.specs.declared.atom.Atom.{Atom}
 use Rattle.hint_chain.specs.declared.atom.Atom.TheVariants.{Of}
 use Rattle.hint_chain.specs.declared.part.Part.{Part}
-use Rattle.hint_chain.specs.Atoms.{neg_atom, clause_of, is_false, is_literal}
+use Rattle.hint_chain.specs.Atoms.{neg_atom, clause_from_atoms, is_false, is_literal}
 use Rattle.hint_chain.specs.Greedy.{PartsClose}
 use Rattle.hint_chain.specs.Closing.{IsConsistent, are_among, are_false_but, IsChildPart, leaves_atoms}
 use Rattle.hint_chain.specs.Additions.{conjunction, implication, where_true, IsUpPart, IsDownPart, Justifies}
 use Rattle.hint_chain.proofs.Sets.{is_nonzero-neg_ℤ, Grows, Grows-further}
 use Rattle.hint_chain.proofs.ChildSteps.{is_false-kept, child_step, last_step}
-use Rattle.hint_chain.proofs.AtomClauses.{neg_atom-neg_atom, all_kept, falsified, are_among-clause_of, only_first, up_leaves, down_leaves}
+use Rattle.hint_chain.proofs.AtomClauses.{neg_atom-neg_atom, all_kept, falsified, are_among-clause_from_atoms, only_first, up_leaves, down_leaves}
 
 among_false_but : (n : FalseSet) (atoms : List Atom) (clause : List ℤ) → are_among atoms clause ≡ true → are_false_but n atoms clause ≡ true
 among_false_but n atoms [] h = refl
@@ -79,7 +79,7 @@ implication_side n side u v u1 v1 down_u up_v last consistent fs all is_down is_
 
 -- the low side stands behind the addition of the high side, which makes the variable false
 behind_high : (x : ℤ) (atoms : List Atom) (clause : List ℤ) (high : Part) (parts : List (Option Part)) → is_nonzero x ≡ true
-    → clause_of (where_true x atoms) ≡ Some high.clause → clause_of atoms ≡ Some clause → IsConsistent (literals_of clause)
+    → clause_from_atoms (where_true x atoms) ≡ Some high.clause → clause_from_atoms atoms ≡ Some clause → IsConsistent (literals_of clause)
     → ((m : FalseSet) → IsConsistent m → m x ≡ true → list_all (is_false m) atoms ≡ true → PartsClose m parts)
     → PartsClose (literals_of clause) (Some high ∷ parts)
 behind_high x atoms clause high parts nonzero is_high is_clause consistent more =
@@ -87,7 +87,7 @@ behind_high x atoms clause high parts nonzero is_high is_clause consistent more 
     let leaves : IsChildPart (literals_of clause) (Of (neg_ℤ x)) (Some high) = record {
       nonzero = is_nonzero-neg_ℤ x nonzero;
       leaves = only_first (literals_of clause) (Of (neg_ℤ x)) atoms high.clause all
-          (are_among-clause_of (where_true x atoms) high.clause is_high);
+          (are_among-clause_from_atoms (where_true x atoms) high.clause is_high);
     } in
     child_step (literals_of clause) (Of (neg_ℤ x)) (Some high) parts consistent leaves
     (λ m consistent' grows false_x. more m consistent'
@@ -95,7 +95,7 @@ behind_high x atoms clause high parts nonzero is_high is_clause consistent more 
     (all_kept (literals_of clause) m atoms grows all))
 
 pub conjunction-high : (x : ℤ) (u v w u1 v1 h : Atom) (clause : List ℤ) (up down_u down_v last : Option Part)
-    → clause_of (where_true x (conjunction u v w)) ≡ Some clause → IsConsistent (literals_of clause)
+    → clause_from_atoms (where_true x (conjunction u v w)) ≡ Some clause → IsConsistent (literals_of clause)
     → IsUpPart (neg_ℤ x) w h up → IsDownPart (neg_ℤ x) u u1 down_u → IsDownPart (neg_ℤ x) v v1 down_v → Justifies (conjunction u1 v1 h) last
     → PartsClose (literals_of clause) (up ∷ down_u ∷ down_v ∷ last ∷ [])
 conjunction-high x u v w u1 v1 h clause up down_u down_v last is_clause consistent is_up is_down_u is_down_v justified =
@@ -104,7 +104,7 @@ conjunction-high x u v w u1 v1 h clause up down_u down_v last is_clause consiste
     justified
 
 pub conjunction-low : (x : ℤ) (u v w u0 v0 l : Atom) (clause : List ℤ) (high : Part) (up down_u down_v last : Option Part)
-    → is_nonzero x ≡ true → clause_of (where_true x (conjunction u v w)) ≡ Some high.clause → clause_of (conjunction u v w) ≡ Some clause
+    → is_nonzero x ≡ true → clause_from_atoms (where_true x (conjunction u v w)) ≡ Some high.clause → clause_from_atoms (conjunction u v w) ≡ Some clause
     → IsConsistent (literals_of clause)
     → IsUpPart x w l up → IsDownPart x u u0 down_u → IsDownPart x v v0 down_v → Justifies (conjunction u0 v0 l) last
     → PartsClose (literals_of clause) (Some high ∷ up ∷ down_u ∷ down_v ∷ last ∷ [])
@@ -114,7 +114,7 @@ conjunction-low x u v w u0 v0 l clause high up down_u down_v last nonzero is_hig
     justified)
 
 pub implication-high : (x : ℤ) (u v u1 v1 : Atom) (clause : List ℤ) (down_u up_v last : Option Part)
-    → clause_of (where_true x (implication u v)) ≡ Some clause → IsConsistent (literals_of clause)
+    → clause_from_atoms (where_true x (implication u v)) ≡ Some clause → IsConsistent (literals_of clause)
     → IsDownPart (neg_ℤ x) u u1 down_u → IsUpPart (neg_ℤ x) v v1 up_v → Justifies (implication u1 v1) last
     → PartsClose (literals_of clause) (down_u ∷ up_v ∷ last ∷ [])
 implication-high x u v u1 v1 clause down_u up_v last is_clause consistent is_down is_up justified =
@@ -122,7 +122,7 @@ implication-high x u v u1 v1 clause down_u up_v last is_clause consistent is_dow
     implication_side (literals_of clause) (neg_ℤ x) u v u1 v1 down_u up_v last consistent all.0 all.1 is_down is_up justified
 
 pub implication-low : (x : ℤ) (u v u0 v0 : Atom) (clause : List ℤ) (high : Part) (down_u up_v last : Option Part)
-    → is_nonzero x ≡ true → clause_of (where_true x (implication u v)) ≡ Some high.clause → clause_of (implication u v) ≡ Some clause
+    → is_nonzero x ≡ true → clause_from_atoms (where_true x (implication u v)) ≡ Some high.clause → clause_from_atoms (implication u v) ≡ Some clause
     → IsConsistent (literals_of clause)
     → IsDownPart x u u0 down_u → IsUpPart x v v0 up_v → Justifies (implication u0 v0) last
     → PartsClose (literals_of clause) (Some high ∷ down_u ∷ up_v ∷ last ∷ [])

@@ -9,7 +9,7 @@ use Rattle.lrat_rules.specs.Chain.{FalseSet, literals_of}
 use Rattle.hint_chain.specs.declared.atom.Atom.{Atom}
 use Rattle.hint_chain.specs.declared.atom.Atom.TheVariants.{Always, Never, Of}
 use Rattle.hint_chain.specs.declared.part.Part.{Part}
-use Rattle.hint_chain.specs.Atoms.{neg_atom, clause_of, is_false, is_literal, is_nonzero_atom, is_trivial}
+use Rattle.hint_chain.specs.Atoms.{neg_atom, clause_from_atoms, is_false, is_literal, is_nonzero_atom, is_trivial}
 use Rattle.hint_chain.specs.Closing.{are_among, are_false_but, leaves_child, IsChildPart}
 use Rattle.hint_chain.specs.Additions.{part_clause, IsUpPart, IsDownPart}
 use Rattle.hint_chain.proofs.Sets.{int_eq-true, int_eq-same, is_nonzero-neg_ℤ, Grows}
@@ -45,13 +45,13 @@ all_kept n m (atom ∷ atoms) g h =
     and_from (is_false m atom) (list_all (is_false m) atoms) (is_false-kept n m atom g parts.0) (all_kept n m atoms g parts.1)
 
 -- where the clause is false, so is each atom
-pub falsified : (atoms : List Atom) (clause : List ℤ) → clause_of atoms ≡ Some clause → list_all (is_false (literals_of clause)) atoms
+pub falsified : (atoms : List Atom) (clause : List ℤ) → clause_from_atoms atoms ≡ Some clause → list_all (is_false (literals_of clause)) atoms
     ≡ true
 falsified [] clause e = refl
 falsified (Always ∷ atoms) clause e = cc
 falsified (Never ∷ atoms) clause e = falsified atoms clause e
 falsified (Of literal ∷ atoms) clause e =
-    let begins : BeginsWith literal (clause_of atoms) clause = BeginsWith-from literal (clause_of atoms) clause e in
+    let begins : BeginsWith literal (clause_from_atoms atoms) clause = BeginsWith-from literal (clause_from_atoms atoms) clause e in
     let grows : Grows (literals_of begins.rest) (literals_of (literal ∷ begins.rest)) =
     record { kept = λ x h. or_right (int_eq x literal) (literals_of begins.rest x) h } in
     subst (λ c. list_all (is_false (literals_of c)) (Of literal ∷ atoms) ≡ true) begins.whole
@@ -66,38 +66,38 @@ among_more atom atoms (x ∷ xs) h =
     (among_more atom atoms xs parts.1)
 
 -- the clause's literals are the atoms'
-pub are_among-clause_of : (atoms : List Atom) (clause : List ℤ) → clause_of atoms ≡ Some clause → are_among atoms clause ≡ true
-are_among-clause_of [] clause e = let none : [] ≡ clause = cc in subst (λ c. are_among [] c ≡ true) none refl
-are_among-clause_of (Always ∷ atoms) clause e = cc
-are_among-clause_of (Never ∷ atoms) clause e = among_more Never atoms clause (are_among-clause_of atoms clause e)
-are_among-clause_of (Of literal ∷ atoms) clause e =
-    let begins : BeginsWith literal (clause_of atoms) clause = BeginsWith-from literal (clause_of atoms) clause e in
+pub are_among-clause_from_atoms : (atoms : List Atom) (clause : List ℤ) → clause_from_atoms atoms ≡ Some clause → are_among atoms clause ≡ true
+are_among-clause_from_atoms [] clause e = let none : [] ≡ clause = cc in subst (λ c. are_among [] c ≡ true) none refl
+are_among-clause_from_atoms (Always ∷ atoms) clause e = cc
+are_among-clause_from_atoms (Never ∷ atoms) clause e = among_more Never atoms clause (are_among-clause_from_atoms atoms clause e)
+are_among-clause_from_atoms (Of literal ∷ atoms) clause e =
+    let begins : BeginsWith literal (clause_from_atoms atoms) clause = BeginsWith-from literal (clause_from_atoms atoms) clause e in
     subst (λ c. are_among (Of literal ∷ atoms) c ≡ true) begins.whole
     (and_from (int_eq literal literal || list_any (is_literal literal) atoms) (are_among (Of literal ∷ atoms) begins.rest)
     (or_left (int_eq literal literal) _ (int_eq-same literal)) (among_more (Of literal) atoms begins.rest
-    (are_among-clause_of atoms begins.rest begins.found)))
+    (are_among-clause_from_atoms atoms begins.rest begins.found)))
 
 -- no clause has more literals than there are atoms
-pub length-clause_of : (atoms : List Atom) (clause : List ℤ) → clause_of atoms ≡ Some clause → length clause ≤ length atoms
-length-clause_of [] clause e = let none : [] ≡ clause = cc in subst (λ (c : List ℤ). length c ≤ 0) none (omega arith)
-length-clause_of (Always ∷ atoms) clause e = cc
-length-clause_of (Never ∷ atoms) clause e = omega (arith, length-clause_of atoms clause e)
-length-clause_of (Of literal ∷ atoms) clause e =
-    let begins : BeginsWith literal (clause_of atoms) clause = BeginsWith-from literal (clause_of atoms) clause e in
+pub length-clause_from_atoms : (atoms : List Atom) (clause : List ℤ) → clause_from_atoms atoms ≡ Some clause → length clause ≤ length atoms
+length-clause_from_atoms [] clause e = let none : [] ≡ clause = cc in subst (λ (c : List ℤ). length c ≤ 0) none (omega arith)
+length-clause_from_atoms (Always ∷ atoms) clause e = cc
+length-clause_from_atoms (Never ∷ atoms) clause e = omega (arith, length-clause_from_atoms atoms clause e)
+length-clause_from_atoms (Of literal ∷ atoms) clause e =
+    let begins : BeginsWith literal (clause_from_atoms atoms) clause = BeginsWith-from literal (clause_from_atoms atoms) clause e in
     subst (λ (c : List ℤ). length c ≤ length (Of literal ∷ atoms)) begins.whole
-    (omega (arith, length-clause_of atoms begins.rest begins.found))
+    (omega (arith, length-clause_from_atoms atoms begins.rest begins.found))
 
 some_more : (literal : ℤ) (o : Option (List ℤ)) → is_some o ≡ true → is_some (option_map (λ literals. literal ∷ literals) o) ≡ true
 some_more literal None e = cc
 some_more literal (Some rest) e = refl
 
 -- a clause is given unless it is true by itself
-pub given-clause_of : (atoms : List Atom) → is_trivial atoms ≡ false → is_some (clause_of atoms) ≡ true
-given-clause_of [] e = refl
-given-clause_of (Always ∷ atoms) e = cc
-given-clause_of (Never ∷ atoms) e = given-clause_of atoms e
-given-clause_of (Of literal ∷ atoms) e =
-    some_more literal (clause_of atoms) (given-clause_of atoms (or_parts (list_any (is_literal (neg_ℤ literal)) atoms)
+pub given-clause_from_atoms : (atoms : List Atom) → is_trivial atoms ≡ false → is_some (clause_from_atoms atoms) ≡ true
+given-clause_from_atoms [] e = refl
+given-clause_from_atoms (Always ∷ atoms) e = cc
+given-clause_from_atoms (Never ∷ atoms) e = given-clause_from_atoms atoms e
+given-clause_from_atoms (Of literal ∷ atoms) e =
+    some_more literal (clause_from_atoms atoms) (given-clause_from_atoms atoms (or_parts (list_any (is_literal (neg_ℤ literal)) atoms)
     (is_trivial atoms) e).1)
 
 -- the literal of a false atom is false
@@ -144,7 +144,7 @@ only_first n a atoms (x ∷ xs) all h =
           ]
 
 -- a defining clause that doesn't exist has a child that always holds
-child_always : (n : FalseSet) (a : Atom) (side : ℤ) (c : Atom) → is_false n a ≡ true → None ≡ clause_of (a ∷ Of side ∷ c ∷ [])
+child_always : (n : FalseSet) (a : Atom) (side : ℤ) (c : Atom) → is_false n a ≡ true → None ≡ clause_from_atoms (a ∷ Of side ∷ c ∷ [])
     → is_false n (neg_atom c) ≡ true
 child_always n Always side c f e = cc
 child_always n Never side Always f e = refl
@@ -155,10 +155,10 @@ child_always n (Of k) side Never f e = cc
 child_always n (Of k) side (Of l) f e = cc
 
 leaves_defined : (n : FalseSet) (a : Atom) (side : ℤ) (c : Atom) (part : Option Part) → is_false n a ≡ true → n side ≡ true
-    → part_clause part ≡ clause_of (a ∷ Of side ∷ c ∷ []) → leaves_child n c part ≡ true
+    → part_clause part ≡ clause_from_atoms (a ∷ Of side ∷ c ∷ []) → leaves_child n c part ≡ true
 leaves_defined n a side c None fa fs e = child_always n a side c fa e
 leaves_defined n a side c (Some part) fa fs e = only_last n a (Of side) c part.clause fa fs
-    (are_among-clause_of (a ∷ Of side ∷ c ∷ []) part.clause (sym e))
+    (are_among-clause_from_atoms (a ∷ Of side ∷ c ∷ []) part.clause (sym e))
 
 -- the parts of a node's defining clauses leave its child
 pub up_leaves : (n : FalseSet) (side : ℤ) (node child : Atom) (part : Option Part) → n side ≡ true → is_false n node ≡ true

@@ -11,7 +11,7 @@ use Rattle.lrat_rules.specs.Strict.{is_strict}
 use Rattle.hint_chain.specs.declared.atom.Atom.{Atom}
 use Rattle.hint_chain.specs.declared.atom.Atom.TheVariants.{Of}
 use Rattle.hint_chain.specs.declared.unit.UnitPart.{UnitPart}
-use Rattle.hint_chain.specs.Atoms.{clause_of, is_false, is_literal}
+use Rattle.hint_chain.specs.Atoms.{clause_from_atoms, is_false, is_literal}
 use Rattle.hint_chain.specs.Closing.{are_apart, are_among}
 use Rattle.hint_chain.specs.Additions.{conjunction, implication}
 use Rattle.hint_chain.specs.Units.{unit_list, FalsifiesLiteral, FalsifiesNext, IsLinked, path_literals, IsUnitPath}
@@ -168,7 +168,7 @@ unit_hint : (live : Live) (n : FalseSet) (x : ℤ) (id : ℕ) (hints : List ℕ)
     → is_strict live (with_literal (neg_ℤ x) n) hints ≡ true → is_strict live n (id ∷ hints) ≡ true
 unit_hint live n x id hints stands open_ new rest = forced_hint live n id (x ∷ []) x hints stands (forced_alone n x open_) new rest
 
-pub implication_unit-refutes : (live : Live) (u : ℤ) (w : Atom) (clause justified : List ℤ) (unit_u id : ℕ) → clause_of (w ∷ [])
+pub implication_unit-refutes : (live : Live) (u : ℤ) (w : Atom) (clause justified : List ℤ) (unit_u id : ℕ) → clause_from_atoms (w ∷ [])
     ≡ Some clause → are_apart (u ∷ clause) ≡ true
     → clause_at live unit_u ≡ Some (u ∷ []) → clause_at live id ≡ Some justified → are_among (implication (Of u) w) justified ≡ true
     → is_strict live (literals_of clause) (unit_u ∷ id ∷ []) ≡ true
@@ -182,7 +182,7 @@ implication_unit-refutes live u w clause justified unit_u id is_clause apart sta
     (and_from _ _ (with_literal-own n (neg_ℤ u)) (all_kept n m (w ∷ []) (Grows-with n (neg_ℤ u)) (falsified (w ∷ []) clause is_clause)))
     among)))
 
-pub conjunction_unit-refutes : (live : Live) (u v : ℤ) (w : Atom) (clause justified : List ℤ) (unit_u unit_v id : ℕ) → clause_of (w ∷ [])
+pub conjunction_unit-refutes : (live : Live) (u v : ℤ) (w : Atom) (clause justified : List ℤ) (unit_u unit_v id : ℕ) → clause_from_atoms (w ∷ [])
     ≡ Some clause → are_apart (u ∷ v ∷ clause) ≡ true
     → clause_at live unit_u ≡ Some (u ∷ []) → clause_at live unit_v ≡ Some (v ∷ []) → clause_at live id ≡ Some justified
     → are_among (conjunction (Of u) (Of v) w) justified ≡ true

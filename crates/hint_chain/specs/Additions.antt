@@ -5,7 +5,7 @@ use Rattle.std.specs.Option.{option_map}
 use Rattle.hint_chain.specs.declared.atom.Atom.{Atom}
 use Rattle.hint_chain.specs.declared.atom.Atom.TheVariants.{Of}
 use Rattle.hint_chain.specs.declared.part.Part.{Part}
-use Rattle.hint_chain.specs.Atoms.{neg_atom, clause_of, is_nonzero_atom, is_trivial, up_clause, down_clause}
+use Rattle.hint_chain.specs.Atoms.{neg_atom, clause_from_atoms, is_nonzero_atom, is_trivial, up_clause, down_clause}
 use Rattle.hint_chain.specs.Closing.{are_among}
 
 -- w holds where u and v do
@@ -28,11 +28,11 @@ part_clause part = option_map (λ own. own.clause) part
 -- this level has none, and is its own cofactor.
 pub record IsUpPart (side : ℤ) (node child : Atom) (part : Option Part) : Type 0 where
   pub nonzero : IsTrue (is_nonzero_atom child)
-  pub up : (part_clause part ≡ clause_of (up_clause node side child)) ⊎ ((part ≡ None) × (child ≡ node))
+  pub up : (part_clause part ≡ clause_from_atoms (up_clause node side child)) ⊎ ((part ≡ None) × (child ≡ node))
 
 pub record IsDownPart (side : ℤ) (node child : Atom) (part : Option Part) : Type 0 where
   pub nonzero : IsTrue (is_nonzero_atom child)
-  pub down : (part_clause part ≡ clause_of (down_clause node side child)) ⊎ ((part ≡ None) × (child ≡ node))
+  pub down : (part_clause part ≡ clause_from_atoms (down_clause node side child)) ⊎ ((part ≡ None) × (child ≡ node))
 
 -- what a call on the children returned: a clause with no literal but these atoms', or none where they need none
 abbrev pub is_justified : List Atom → Option Part → Bool

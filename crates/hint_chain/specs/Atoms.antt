@@ -18,11 +18,11 @@ neg_atom (Of literal) = Of (neg_ℤ literal)
 
 -- the literals of a clause over atoms: one that never holds is dropped, one that always does makes the clause true,
 -- and then there is no clause
-abbrev pub clause_of : List Atom → Option (List ℤ)
-clause_of [] = Some []
-clause_of (Always ∷ atoms) = None
-clause_of (Never ∷ atoms) = clause_of atoms
-clause_of (Of literal ∷ atoms) = option_map (λ literals. literal ∷ literals) (clause_of atoms)
+abbrev pub clause_from_atoms : List Atom → Option (List ℤ)
+clause_from_atoms [] = Some []
+clause_from_atoms (Always ∷ atoms) = None
+clause_from_atoms (Never ∷ atoms) = clause_from_atoms atoms
+clause_from_atoms (Of literal ∷ atoms) = option_map (λ literals. literal ∷ literals) (clause_from_atoms atoms)
 
 -- the atom is false where these literals are
 abbrev pub is_false : FalseSet → Atom → Bool

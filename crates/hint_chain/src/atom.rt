@@ -1,7 +1,7 @@
 // What a node puts into a clause, and the clause that a list of such atoms gives. (Bryant, Heule: Generating Extended
 // Resolution Proofs with a BDD-Based SAT Solver, 2021, section 4.)
 ghost use Rattle.std.specs.Prelude.{◌≡◌, ◌≤◌, length};
-ghost use Rattle.hint_chain.specs.Atoms.{neg_atom, clause_of};
+ghost use Rattle.hint_chain.specs.Atoms.{neg_atom, clause_from_atoms};
 
 use crate::inline::ShortClause;
 use cnf_base::Lit;
@@ -31,9 +31,9 @@ impl Atom {
 }
 
 /// The literals of a clause over at most four atoms; None where the clause is true, since an atom always holds.
-pub fn clause_of(atoms: &[Atom]) -> Option<ShortClause>
+pub fn clause_from_atoms(atoms: &[Atom]) -> Option<ShortClause>
     requires { length atoms.now ≤ 4 }
-    ensures { result ≡ clause_of atoms.now }
+    ensures { result ≡ clause_from_atoms atoms.now }
 {
     let mut clause = ShortClause::new();
     for atom in atoms {

@@ -11,6 +11,19 @@ use cnf_base::Lit;
 use lrat_rules::{Effect, effect_on, is_among};
 use std::alloc::Global;
 
+/// The greedy choice among parts of which one is a conflict.
+#[inline(always)]
+pub fn hints_of(alloc: Global, clause: &[Lit], parts: &[Option<Part>]) -> Hints
+    requires short { length clause.now ≤ 4 }
+    requires few { length parts.now ≤ 5 }
+    requires close { PartsClose (literals_of clause.now) parts.now }
+    ensures { greedy (literals_of clause.now) parts.now ≡ Some result }
+{
+    let mut hints = Hints::new(alloc);
+    let _closes = choose(&mut hints, clause, parts);
+    hints
+}
+
 /// The hints for the addition of a conjunction on the variable's high side. Its parts are the clause from w's high
 /// child up to w, those from u and v down to their high children, and the children's own conjunction.
 #[inline(always)]
@@ -19,9 +32,7 @@ pub fn and_high(alloc: Global, clause: &[Lit], parts: [Option<Part>; 4]) -> Hint
     requires close { PartsClose (literals_of clause.now) parts }
     ensures { greedy (literals_of clause.now) parts ≡ Some result }
 {
-    let mut hints = Hints::new(alloc);
-    let _closes = choose(&mut hints, clause, &parts);
-    hints
+    hints_of(alloc, clause, &parts)
 }
 
 /// The hints for the addition of a conjunction: the high addition, and then the same parts of the low side.
@@ -31,9 +42,7 @@ pub fn and_low(alloc: Global, clause: &[Lit], parts: [Option<Part>; 5]) -> Hints
     requires close { PartsClose (literals_of clause.now) parts }
     ensures { greedy (literals_of clause.now) parts ≡ Some result }
 {
-    let mut hints = Hints::new(alloc);
-    let _closes = choose(&mut hints, clause, &parts);
-    hints
+    hints_of(alloc, clause, &parts)
 }
 
 /// The hints for the addition of an implication on the variable's high side. Its parts are the clause from u down to
@@ -44,9 +53,7 @@ pub fn imply_high(alloc: Global, clause: &[Lit], parts: [Option<Part>; 3]) -> Hi
     requires close { PartsClose (literals_of clause.now) parts }
     ensures { greedy (literals_of clause.now) parts ≡ Some result }
 {
-    let mut hints = Hints::new(alloc);
-    let _closes = choose(&mut hints, clause, &parts);
-    hints
+    hints_of(alloc, clause, &parts)
 }
 
 /// The hints for the addition of an implication: the high addition, and then the same parts of the low side.
@@ -56,12 +63,10 @@ pub fn imply_low(alloc: Global, clause: &[Lit], parts: [Option<Part>; 4]) -> Hin
     requires close { PartsClose (literals_of clause.now) parts }
     ensures { greedy (literals_of clause.now) parts ≡ Some result }
 {
-    let mut hints = Hints::new(alloc);
-    let _closes = choose(&mut hints, clause, &parts);
-    hints
+    hints_of(alloc, clause, &parts)
 }
 
-/// The greedy choice among the parts; None where no part is a conflict. The calls above are instances of it.
+/// The greedy choice among the parts; None where no part is a conflict. Where one is, it is that of the calls above.
 pub fn greedy_hints(alloc: Global, clause: &[Lit], parts: &[Option<Part>]) -> Option<Hints>
     requires short { length clause.now ≤ 4 }
     requires few { length parts.now ≤ 5 }

@@ -8,7 +8,7 @@ ghost use Rattle.hint_chain.specs.declared.atom.Atom.{Atom};
 ghost use Rattle.hint_chain.specs.declared.atom.Atom.TheVariants.{Of};
 ghost use Rattle.hint_chain.specs.declared.part.Part.{Part};
 ghost use Rattle.hint_chain.specs.declared.unit.UnitPart.{UnitPart};
-ghost use Rattle.hint_chain.specs.Atoms.{neg_atom, clause_of, is_trivial};
+ghost use Rattle.hint_chain.specs.Atoms.{neg_atom, clause_from_atoms, is_trivial};
 ghost use Rattle.hint_chain.specs.Greedy.{greedy, PartsClose, AreLiveParts};
 ghost use Rattle.hint_chain.specs.Closing.{IsConsistent, are_apart, are_among, IsChildPart, Child, AreChildParts, IsLastPart};
 ghost use Rattle.hint_chain.specs.Additions.{conjunction, implication, where_true, IsUpPart, IsDownPart, Justifies};
@@ -16,9 +16,9 @@ ghost use Rattle.hint_chain.specs.Units.{next_id, unit_list, FalsifiesLiteral, F
 
 /// The clause of a list of atoms has no literal but theirs, and there is one unless it is true by itself.
 pub fn clause_law()
-    ensures among { (atoms : List Atom) (clause : List ℤ) → clause_of atoms ≡ Some clause → IsTrue (are_among atoms clause) }
-    ensures short { (atoms : List Atom) (clause : List ℤ) → clause_of atoms ≡ Some clause → length clause ≤ length atoms }
-    ensures given { (atoms : List Atom) → IsFalse (is_trivial atoms) → IsTrue (is_some (clause_of atoms)) }
+    ensures among { (atoms : List Atom) (clause : List ℤ) → clause_from_atoms atoms ≡ Some clause → IsTrue (are_among atoms clause) }
+    ensures short { (atoms : List Atom) (clause : List ℤ) → clause_from_atoms atoms ≡ Some clause → length clause ≤ length atoms }
+    ensures given { (atoms : List Atom) → IsFalse (is_trivial atoms) → IsTrue (is_some (clause_from_atoms atoms)) }
 {}
 
 /// The greedy choice among live parts is a strict refutation.
@@ -46,13 +46,13 @@ pub fn closing_law()
 /// Both additions of a conjunction close: the high one, and the low one behind the high one.
 pub fn conjunction_law()
     ensures high { (x : ℤ) (u v w u1 v1 h : Atom) (clause : List ℤ) (up down_u down_v last : Option Part)
-        → clause_of (where_true x (conjunction u v w)) ≡ Some clause → IsConsistent (literals_of clause)
+        → clause_from_atoms (where_true x (conjunction u v w)) ≡ Some clause → IsConsistent (literals_of clause)
         → IsUpPart (neg_ℤ x) w h up → IsDownPart (neg_ℤ x) u u1 down_u → IsDownPart (neg_ℤ x) v v1 down_v
         → Justifies (conjunction u1 v1 h) last
         → PartsClose (literals_of clause) (up ∷ down_u ∷ down_v ∷ last ∷ []) }
     ensures low { (x : ℤ) (u v w u0 v0 l : Atom) (clause : List ℤ) (high : Part) (up down_u down_v last : Option Part)
-        → IsTrue (is_nonzero x) → clause_of (where_true x (conjunction u v w)) ≡ Some high.clause
-        → clause_of (conjunction u v w) ≡ Some clause → IsConsistent (literals_of clause)
+        → IsTrue (is_nonzero x) → clause_from_atoms (where_true x (conjunction u v w)) ≡ Some high.clause
+        → clause_from_atoms (conjunction u v w) ≡ Some clause → IsConsistent (literals_of clause)
         → IsUpPart x w l up → IsDownPart x u u0 down_u → IsDownPart x v v0 down_v → Justifies (conjunction u0 v0 l) last
         → PartsClose (literals_of clause) (Some high ∷ up ∷ down_u ∷ down_v ∷ last ∷ []) }
 {}
@@ -60,12 +60,12 @@ pub fn conjunction_law()
 /// Both additions of an implication close.
 pub fn implication_law()
     ensures high { (x : ℤ) (u v u1 v1 : Atom) (clause : List ℤ) (down_u up_v last : Option Part)
-        → clause_of (where_true x (implication u v)) ≡ Some clause → IsConsistent (literals_of clause)
+        → clause_from_atoms (where_true x (implication u v)) ≡ Some clause → IsConsistent (literals_of clause)
         → IsDownPart (neg_ℤ x) u u1 down_u → IsUpPart (neg_ℤ x) v v1 up_v → Justifies (implication u1 v1) last
         → PartsClose (literals_of clause) (down_u ∷ up_v ∷ last ∷ []) }
     ensures low { (x : ℤ) (u v u0 v0 : Atom) (clause : List ℤ) (high : Part) (down_u up_v last : Option Part)
-        → IsTrue (is_nonzero x) → clause_of (where_true x (implication u v)) ≡ Some high.clause
-        → clause_of (implication u v) ≡ Some clause → IsConsistent (literals_of clause)
+        → IsTrue (is_nonzero x) → clause_from_atoms (where_true x (implication u v)) ≡ Some high.clause
+        → clause_from_atoms (implication u v) ≡ Some clause → IsConsistent (literals_of clause)
         → IsDownPart x u u0 down_u → IsUpPart x v v0 up_v → Justifies (implication u0 v0) last
         → PartsClose (literals_of clause) (Some high ∷ down_u ∷ up_v ∷ last ∷ []) }
 {}
@@ -97,12 +97,12 @@ pub fn unit_path_law()
 /// result is False this is the empty clause.
 pub fn following_unit_law()
     ensures conjunction { (live : Live) (u v : ℤ) (w : Atom) (clause justified : List ℤ) (unit_u unit_v id : ℕ)
-        → clause_of (w ∷ []) ≡ Some clause → IsTrue (are_apart (u ∷ v ∷ clause))
+        → clause_from_atoms (w ∷ []) ≡ Some clause → IsTrue (are_apart (u ∷ v ∷ clause))
         → clause_at live unit_u ≡ Some (u ∷ []) → clause_at live unit_v ≡ Some (v ∷ [])
         → clause_at live id ≡ Some justified → IsTrue (are_among (conjunction (Of u) (Of v) w) justified)
         → RefutesStrictly live clause (unit_u ∷ unit_v ∷ id ∷ []) }
     ensures implication { (live : Live) (u : ℤ) (w : Atom) (clause justified : List ℤ) (unit_u id : ℕ)
-        → clause_of (w ∷ []) ≡ Some clause → IsTrue (are_apart (u ∷ clause))
+        → clause_from_atoms (w ∷ []) ≡ Some clause → IsTrue (are_apart (u ∷ clause))
         → clause_at live unit_u ≡ Some (u ∷ []) → clause_at live id ≡ Some justified → IsTrue (are_among (implication (Of u) w) justified)
         → RefutesStrictly live clause (unit_u ∷ id ∷ []) }
 {}

@@ -12,8 +12,8 @@ mod laws;
 mod part;
 mod unit;
 
-pub use atom::{Atom, clause_of};
-pub use greedy::{and_high, and_low, greedy_hints, imply_high, imply_low};
+pub use atom::{Atom, clause_from_atoms};
+pub use greedy::{and_high, and_low, greedy_hints, hints_of, imply_high, imply_low};
 pub use hints::Hints;
 pub use inline::{InlineLiterals, ShortClause};
 pub use laws::{

@@ -1,11 +1,11 @@
 -- A call of an implication from its parts: it is refused, it ends as one of its sides does, or it is closed from both.
-use Rattle.std.proofs.Common.{◌≡◌, ◌∙◌, ℕ, arith, refl, ap, Option, Result, Ok, Err, None, Some, inl}
+use Rattle.std.proofs.Common.{◌≡◌, ◌∙◌, arith, refl, ap, Option, Result, Ok, Err, None, Some, inl}
 use Rattle.std.specs.Prelude.{IfOk}
 use Rattle.node_table.specs.declared.error.TableError.{TableError}
 use Rattle.node_table.specs.declared.error.TableError.TheVariants.{NodeLimit, IdLimit, OutOfMemory}
 use Rattle.node_table.specs.declared.node.Node.{Node}
-use Rattle.node_table.specs.declared.node.Just.{Just}
-use Rattle.node_table.specs.declared.node.Just.TheVariants.{Clause}
+use Rattle.node_table.specs.declared.node.Justification.{Justification}
+use Rattle.node_table.specs.declared.node.Justification.TheVariants.{Clause}
 use Rattle.node_table.specs.Laws.{Cofactors, StepByStep}
 use Rattle.node_table.specs.Progress.{error_of}
 use Rattle.node_table.specs.Table.{TableState, IsSound}
@@ -15,18 +15,16 @@ use Rattle.operations.specs.Accounts.{Accounting, AccountsFor}
 use Rattle.operations.specs.Budget.{Budget}
 use Rattle.operations.specs.Caches.{Keeping, Remembers}
 use Rattle.operations.specs.Entries.{Fits, Fitting, Implication}
-use Rattle.operations.specs.Numbers.{just_numbered}
 use Rattle.operations.specs.Pairs.{Pair, same_pair}
 use Rattle.operations.specs.Price.{Pricing}
 use Rattle.operations.specs.Results.{Implied}
-use Rattle.imply.specs.declared.cache.ImplyCache.{ImplyCache}
-use Rattle.imply.specs.Cache.{entries, entry_of}
+use Rattle.imply.specs.Cache.{ImplyCache, entries, entry_of}
 use Rattle.imply.specs.Calls.{Implies, IsClosed, IsUnknown}
 use Rattle.imply.specs.Implication.{IsDecided}
 use Rattle.imply.proofs.Refuted.{refuted_high, refuted_low}
 
 abbrev pub Answer : Type 0
-Answer = Result (Option Just) TableError
+Answer = Result (Option Justification) TableError
 
 pub memory_no_limit : ◌≡◌ {A = Answer} (Err OutOfMemory) (Err NodeLimit) → ⊥
 memory_no_limit is = cc
@@ -34,24 +32,24 @@ memory_no_limit is = cc
 pub memory_no_numbers : ◌≡◌ {A = Answer} (Err OutOfMemory) (Err IdLimit) → ⊥
 memory_no_numbers is = cc
 
-pub failed_no_answer : (error : TableError) (answer : Option Just) → ◌≡◌ {A = Answer} (Err error) (Ok answer) → ⊥
+pub failed_no_answer : (error : TableError) (answer : Option Justification) → ◌≡◌ {A = Answer} (Err error) (Ok answer) → ⊥
 failed_no_answer error answer is = cc
 
-pub none_no_answer : (just : Just) → ◌≡◌ {A = Answer} (Ok None) (Ok (Some just)) → ⊥
+pub none_no_answer : (just : Justification) → ◌≡◌ {A = Answer} (Ok None) (Ok (Some just)) → ⊥
 none_no_answer just is = cc
 
 -- an error of the step is that of the call
 pub limit_came : (error limit : TableError) → ◌≡◌ {A = Answer} (Err error) (Err limit)
-    → ◌≡◌ {A = Result Just TableError} (Err error) (Err limit)
+    → ◌≡◌ {A = Result Justification TableError} (Err error) (Err limit)
 limit_came error limit is = let same : error ≡ limit = cc in ap Err same
 
 pub none_failed : (error : TableError) → Some error ≡ None → ⊥
 none_failed error is = cc
 
-pub no_limit : (answer : Option Just) → ◌≡◌ {A = Answer} (Ok answer) (Err NodeLimit) → ⊥
+pub no_limit : (answer : Option Justification) → ◌≡◌ {A = Answer} (Ok answer) (Err NodeLimit) → ⊥
 no_limit answer is = cc
 
-pub given_same : (one other : Option Just) → ◌≡◌ {A = Answer} (Ok one) (Ok other) → one ≡ other
+pub given_same : (one other : Option Justification) → ◌≡◌ {A = Answer} (Ok one) (Ok other) → one ≡ other
 given_same one other is = cc
 
 pub some_same : {X : Type 0} (one other : X) → Some one ≡ Some other → one ≡ other
@@ -59,11 +57,11 @@ some_same one other is = cc
 
 -- the call doesn't say that it holds
 abbrev pub IsNoYes : Answer → Type 0
-IsNoYes result = (just : Just) → result ≡ Ok (Some just) → ⊥
+IsNoYes result = (just : Justification) → result ≡ Ok (Some just) → ⊥
 
 module _ {S : Type 0} where
   -- a call that is refused for want of memory before anything changed
-  pub refused : StepByStep S → Accounting S → Pricing S ℕ → (table : TableState S) (cache : ImplyCache) → IsSound table
+  pub refused : StepByStep S → Accounting S → Pricing S Justification → (table : TableState S) (cache : ImplyCache) → IsSound table
       → Fits table (entries cache) → (u v : Node)
       → Implies table cache u v table cache (Err OutOfMemory)
   refused law accounts pricing table cache sound fits u v = record {
@@ -81,7 +79,7 @@ module _ {S : Type 0} where
 
   -- a call that is split
   module _ (law : StepByStep S) (splits : Splitting) (cofactors : Cofactors) (fitting : Fitting S) (accounts : Accounting S)
-      (caches : Keeping Pair ℕ same_pair) (pricing : Pricing S ℕ) (budget : Budget S)
+      (caches : Keeping Pair Justification same_pair) (pricing : Pricing S Justification) (budget : Budget S)
       (old : TableState S) (before : ImplyCache) (sound : IsSound old) (o : Operands) (split : AreSplit old.graph o)
       (unknown : IsUnknown before o.u o.v) where
     decided_high : (one : TableState S) (cache_one : ImplyCache) (result : Answer)
@@ -109,7 +107,7 @@ module _ {S : Type 0} where
       price = pricing.high_only old one before.results cache_one.results o (error_of result) sound.tied.reduced split by_high.price;
     }
 
-    module _ (one : TableState S) (cache_one : ImplyCache) (high : Just)
+    module _ (one : TableState S) (cache_one : ImplyCache) (high : Justification)
         (by_high : Implies old before o.u_high o.v_high one cache_one (Ok (Some high))) where
       sound_one : IsSound one
       sound_one = by_high.steps.leaves.sound
@@ -154,7 +152,7 @@ module _ {S : Type 0} where
             by_high.remembers.capacity by_high.price by_low.price;
       }
 
-      module _ (two : TableState S) (cache_two : ImplyCache) (low : Option Just)
+      module _ (two : TableState S) (cache_two : ImplyCache) (low : Option Justification)
           (by_low : Implies one cache_one o.u_low o.v_low two cache_two (Ok low)) where
         pub split_low : AreSplit two.graph o
         split_low = splits.kept one.graph two.graph by_low.steps.extends.nodes o split_high
@@ -182,7 +180,7 @@ module _ {S : Type 0} where
           unretired = closes.unretired;
           kept = λ differ first second. closes.kept;
           remembers = caches.makes_room entry_of before.results cache_two.results cache_three.results (o.u, o.v)
-              (λ number. unknown.none (just_numbered number))
+              unknown.none
               (remembers_both two cache_two (Ok low) by_low) closes.room;
           price = pricing.closed old one two three before.results cache_one.results cache_two.results cache_three.results o
               (error_of result) sound.tied.reduced sound_one.tied.reduced by_high.steps.extends.nodes split

@@ -9,7 +9,7 @@ use Rattle.std.proofs.lemmas.Bool.Decides.{Decides-int_eq}
 use Rattle.lrat_rules.specs.Soundness.{is_nonzero}
 use Rattle.hint_chain.specs.declared.atom.Atom.{Atom}
 use Rattle.hint_chain.specs.declared.atom.Atom.TheVariants.{Of}
-use Rattle.hint_chain.specs.Atoms.{clause_of, is_literal, is_trivial, neg_atom}
+use Rattle.hint_chain.specs.Atoms.{clause_from_atoms, is_literal, is_trivial, neg_atom}
 use Rattle.hint_chain.specs.Closing.{are_apart}
 use Rattle.hint_chain.specs.Additions.{implication, where_true}
 use Rattle.node_table.specs.Diagram.{Graph, IsReduced, IsOrder, variable_at}
@@ -62,13 +62,13 @@ module _ (literals : Literals) (splits : Splitting) (graph : Graph) (reduced : I
   in_variables : implication_atoms graph o.u o.v ≡ implication (Of (pos both.first)) (Of (pos both.second))
   in_variables i = implication (both.first_is i) (both.second_is i)
 
-  pub clause_there : clause_of (implication_atoms graph o.u o.v) ≡ Some (neg_ℤ (pos both.first) ∷ pos both.second ∷ [])
-  clause_there = ap clause_of in_variables
+  pub clause_there : clause_from_atoms (implication_atoms graph o.u o.v) ≡ Some (neg_ℤ (pos both.first) ∷ pos both.second ∷ [])
+  clause_there = ap clause_from_atoms in_variables
 
   pub is_open : is_trivial (implication_atoms graph o.u o.v) ≡ false
   is_open = ap is_trivial in_variables ∙ pair_open both.first both.second both.differ
 
-  module _ (clause : List ℤ) (is : clause_of (implication_atoms graph o.u o.v) ≡ Some clause) where
+  module _ (clause : List ℤ) (is : clause_from_atoms (implication_atoms graph o.u o.v) ≡ Some clause) where
     literals_are : neg_ℤ (pos both.first) ∷ pos both.second ∷ [] ≡ clause
     literals_are = let same : Some (neg_ℤ (pos both.first) ∷ pos both.second ∷ []) ≡ Some clause = sym clause_there ∙ is in cc
 
@@ -89,7 +89,7 @@ module _ (literals : Literals) (splits : Splitting) (graph : Graph) (reduced : I
     pub low_over : IsOverNodes graph clause
     low_over y there above = owned y there
 
-    pub high_clause : clause_of (where_true (pos (variable_at graph o.level)) (implication_atoms graph o.u o.v))
+    pub high_clause : clause_from_atoms (where_true (pos (variable_at graph o.level)) (implication_atoms graph o.u o.v))
         ≡ Some (neg_ℤ (pos (variable_at graph o.level)) ∷ clause)
     high_clause = ap (λ c. option_map (λ literals. neg_ℤ (pos (variable_at graph o.level)) ∷ literals) c) is
 

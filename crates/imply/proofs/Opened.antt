@@ -3,7 +3,7 @@ use Rattle.std.proofs.Common.{◌≡◌, ◌<◌, ◌≤◌, ◌⊎◌, ℕ, min
 use Rattle.std.proofs.Common.{inr}
 use Rattle.node_table.specs.declared.error.TableError.TheVariants.{OutOfMemory}
 use Rattle.node_table.specs.declared.node.Node.{Node}
-use Rattle.node_table.specs.declared.node.Just.{Just}
+use Rattle.node_table.specs.declared.node.Justification.{Justification}
 use Rattle.node_table.specs.declared.node.Node.TheVariants.{False, True, Inner}
 use Rattle.node_table.specs.declared.node.Branch.{Branch}
 use Rattle.node_table.specs.Diagram.{Graph, branch_at, branch_of, is_node, level_of}
@@ -19,8 +19,7 @@ use Rattle.operations.specs.Entries.{Fits, Fitting}
 use Rattle.operations.specs.Machine.{AwaitsLow, HighCame, IsAnswer, IsOpened, LowCame}
 use Rattle.operations.specs.Pairs.{IsNoConstant, Pair, same_pair}
 use Rattle.operations.specs.Price.{Pricing}
-use Rattle.imply.specs.declared.cache.ImplyCache.{ImplyCache}
-use Rattle.imply.specs.Cache.{entries}
+use Rattle.imply.specs.Cache.{ImplyCache, entries}
 use Rattle.imply.specs.Calls.{Answers, CanImply, Closes, Implies, IsUnknown, implications}
 use Rattle.imply.proofs.Calls.{Answer, closed, failed_no_answer, high_only, high_still, low_last, none_no_answer, refused, split_high}
 use Rattle.imply.proofs.Calls.{split_low}
@@ -51,7 +50,7 @@ no_later graph o split = lesser (level_of graph o.u) (level_of graph o.v) o.leve
 
 module _ {S : Type 0} where
   module _ (law : StepByStep S) (splits : Splitting) (cofactors : Cofactors) (fitting : Fitting S) (accounts : Accounting S)
-      (caches : Keeping Pair ℕ same_pair) (pricing : Pricing S ℕ) (budget : Budget S)
+      (caches : Keeping Pair Justification same_pair) (pricing : Pricing S Justification) (budget : Budget S)
       (old : TableState S) (before : ImplyCache) (sound : IsSound old) (fits : Fits old (entries before)) (o : Operands)
       (split : AreSplit old.graph o) (unknown : IsUnknown before o.u o.v) where
     -- a pair whose answer isn't known is neither kept nor plain
@@ -63,10 +62,10 @@ module _ {S : Type 0} where
       plain = λ answer plain. absurd (not_plain o.u o.v answer unknown.differ unknown.first unknown.second plain);
     }
 
-    module _ (one : TableState S) (cache_one : ImplyCache) (high : Just)
+    module _ (one : TableState S) (cache_one : ImplyCache) (high : Justification)
         (by_high : Implies old before o.u_high o.v_high one cache_one (Ok (Some high))) where
       -- the step from both sides, of which the low one may not hold
-      last : (two : TableState S) (cache_two : ImplyCache) (low : Option Just)
+      last : (two : TableState S) (cache_two : ImplyCache) (low : Option Justification)
           → Implies one cache_one o.u_low o.v_low two cache_two (Ok low)
           → (three : TableState S) (cache_three : ImplyCache) (result : Answer)
           → Closes two cache_two o low three cache_three result
@@ -145,7 +144,7 @@ module _ {S : Type 0} where
         }
 
   -- what a call is answered that was split
-  pub split_answered : StepByStep S → Splitting → Cofactors → Fitting S → Accounting S → Keeping Pair ℕ same_pair → Pricing S ℕ
+  pub split_answered : StepByStep S → Splitting → Cofactors → Fitting S → Accounting S → Keeping Pair Justification same_pair → Pricing S Justification
       → Budget S → (old : TableState S) (before after : ImplyCache) (u v : Node)
       → CanImply old before u v → (o : Operands) → AreSplit old.graph o → (o.u ≡ u) × (o.v ≡ v) → (after ≡ before) × IsUnknown before u v
       → IsAnswer (implications) old before (u, v) old after (Ok (Open o))

@@ -14,11 +14,11 @@ use Rattle.node_table.specs.declared.node.Node.{Node}
 use Rattle.node_table.specs.declared.node.Node.TheVariants.{False, True, Inner}
 use Rattle.node_table.specs.declared.node.NodeKey.{NodeKey}
 use Rattle.node_table.specs.declared.node.Branch.{Branch}
-use Rattle.node_table.specs.declared.node.Just.{Just}
-use Rattle.node_table.specs.declared.node.Just.TheVariants.{Trivial, Clause}
+use Rattle.node_table.specs.declared.node.Justification.{Justification}
+use Rattle.node_table.specs.declared.node.Justification.TheVariants.{Trivial, Clause}
 use Rattle.node_table.specs.Diagram.{Graph, IsBelow, IsReduced, branch_at, child_in, high_at, is_node, level_in, level_of, levels, low_at}
 use Rattle.node_table.specs.Defined.{atom_of}
-use Rattle.node_table.specs.Just.{IsJustified}
+use Rattle.node_table.specs.Justification.{IsJustified}
 use Rattle.node_table.specs.Laws.{Cofactors}
 use Rattle.node_table.specs.Value.{Levels, value_of}
 use Rattle.operations.specs.declared.operands.Operands.{Operands}
@@ -221,21 +221,21 @@ implied_plainly graph live u v (inr (inr is)) = record {
 }
 
 pub decided_plainly : Cofactors → (graph : Graph) → IsReduced graph → (live : Live) (u v : Node) → is_node graph u ≡ true → is_node graph v
-    ≡ true → (answer : Option Just) → IsPlain u v answer
+    ≡ true → (answer : Option Justification) → IsPlain u v answer
     → IsDecided graph live u v answer
-decided_plainly laws graph reduced live u v first second answer (inl is) = subst (λ (r : Option Just). IsDecided graph live u v r)
+decided_plainly laws graph reduced live u v first second answer (inl is) = subst (λ (r : Option Justification). IsDecided graph live u v r)
     (sym is.1) (implied_plainly graph live u v is.0)
-decided_plainly laws graph reduced live u v first second answer (inr is) = subst (λ (r : Option Just). IsDecided graph live u v r)
+decided_plainly laws graph reduced live u v first second answer (inr is) = subst (λ (r : Option Justification). IsDecided graph live u v r)
     (sym is.1) (refuted_plainly laws graph reduced u v first second is.0)
 
 -- one answer alone
-no_clause_needed : (graph : Graph) (live : Live) (u v : Node) (just : Just) → is_trivial (implication_atoms graph u v) ≡ true
+no_clause_needed : (graph : Graph) (live : Live) (u v : Node) (just : Justification) → is_trivial (implication_atoms graph u v) ≡ true
     → IsJustified live (implication_atoms graph u v) just → Trivial ≡ just
 no_clause_needed graph live u v Trivial holds justified = refl
 no_clause_needed graph live u v (Clause id) holds justified = absurd (no_truth (is_trivial (implication_atoms graph u v)) justified.0 holds)
 
 pub only_answer : Cofactors → (graph : Graph) → IsReduced graph → (live : Live) (u v : Node) → is_node graph u ≡ true → is_node graph v
-    ≡ true → (answer : Option Just) (just : Just) → IsPlain u v answer
+    ≡ true → (answer : Option Justification) (just : Justification) → IsPlain u v answer
     → Implied graph live u v just → answer ≡ Some just
 only_answer laws graph reduced live u v first second answer just (inl is) implied =
     is.1 ∙ ap Some (no_clause_needed graph live u v just (implied_plainly graph live u v is.0).justified implied.justified)
@@ -243,7 +243,7 @@ only_answer laws graph reduced live u v first second answer just (inr is) implie
     let refuted = refuted_plainly laws graph reduced u v first second is.0 in
     absurd (no_truth (value_of graph refuted.values v) refuted.fails (implied.value refuted.values refuted.holds))
 
-pub not_plain : (u v : Node) (answer : Option Just) → (u ≡ v → ⊥) → (u ≡ False → ⊥) × (u ≡ True → ⊥) → (v ≡ False → ⊥) × (v ≡ True → ⊥)
+pub not_plain : (u v : Node) (answer : Option Justification) → (u ≡ v → ⊥) → (u ≡ False → ⊥) × (u ≡ True → ⊥) → (v ≡ False → ⊥) × (v ≡ True → ⊥)
     → IsPlain u v answer → ⊥
 not_plain u v answer differ first second (inl (inl is, same)) = first.0 is
 not_plain u v answer differ first second (inl (inr (inl is), same)) = second.1 is
@@ -252,12 +252,12 @@ not_plain u v answer differ first second (inr ((apart, inl is), same)) = first.1
 not_plain u v answer differ first second (inr ((apart, inr is), same)) = second.0 is.0
 
 -- no clause is given
-pub plain_no_clause : (u v : Node) (answer : Option Just) → IsPlain u v answer → (id : ℕ) → answer ≡ Some (Clause id) → ⊥
+pub plain_no_clause : (u v : Node) (answer : Option Justification) → IsPlain u v answer → (id : ℕ) → answer ≡ Some (Clause id) → ⊥
 plain_no_clause u v answer (inl is) id given = let both : Some Trivial ≡ Some (Clause id) = sym is.1 ∙ given in cc
 plain_no_clause u v answer (inr is) id given = let both : None ≡ Some (Clause id) = sym is.1 ∙ given in cc
 
 pub implied_both : Cofactors → Splitting → (graph : Graph) → IsReduced graph → (o : Operands) → AreSplit graph o
-    → (before live : Live) (high low just : Just) → Implied graph before o.u_high o.v_high high → Implied graph before o.u_low o.v_low low
+    → (before live : Live) (high low just : Justification) → Implied graph before o.u_high o.v_high high → Implied graph before o.u_low o.v_low low
     → IsJustified live (implication_atoms graph o.u o.v) just → Implied graph live o.u o.v just
 implied_both laws splits graph reduced o split before live high low just by_high by_low justified = record {
   value = holds_both laws graph reduced splits o split by_high.value by_low.value;

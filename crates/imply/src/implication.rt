@@ -5,8 +5,8 @@ ghost use Rattle.std.specs.Prelude.{◌≡◌, ◌≢◌, ◌⊎◌, ◌≤◌, 
 ghost use Rattle.std.specs.Prelude.{None, Some, length};
 ghost use Rattle.node_table.specs.declared.error.TableError.TheVariants.{NodeLimit, IdLimit};
 ghost use Rattle.node_table.specs.declared.node.Node.{Node as NodeValue};
-ghost use Rattle.node_table.specs.declared.node.Just.{Just as JustValue};
-ghost use Rattle.node_table.specs.declared.node.Just.TheVariants.{Clause};
+ghost use Rattle.node_table.specs.declared.node.Justification.{Justification as JustificationValue};
+ghost use Rattle.node_table.specs.declared.node.Justification.TheVariants.{Clause};
 ghost use Rattle.node_table.specs.Diagram.{is_node};
 ghost use Rattle.node_table.specs.Table.{IsSound, AddsAtMost, IsUsedUp, UnlessTorn};
 ghost use Rattle.node_table.specs.Progress.{Steps, error_of};
@@ -23,10 +23,10 @@ ghost use Rattle.imply.specs.Implication.{IsDecided, IsPlain};
 use crate::additions::justify;
 use crate::cache::ImplyCache;
 use host_io::Sink;
-use node_table::{Just, Node, Table, TableError, cofactor_law, growth_law, steps_law};
+use node_table::{Justification, Node, Table, TableError, cofactor_law, growth_law, steps_law};
 use operations::{
-    Operands, Operation, Reply, accounts_law, budget_law, cache_law, clause_of, entry_law,
-    operand_law, price_law, retire, split, work_off,
+    Operands, Operation, Reply, StoredJustification, accounts_law, budget_law, cache_law,
+    clause_number, entry_law, operand_law, price_law, retire, split, work_off,
 };
 use std::alloc::Global;
 
@@ -36,7 +36,7 @@ pub fn implies<S: Sink + Drop>(
     cache: &mut ImplyCache,
     u: Node,
     v: Node,
-) -> Result<Option<Just>, TableError>
+) -> Result<Option<Justification>, TableError>
     requires sound { IsSound table.old }
     requires first { IsTrue (is_node table.old.graph u) }
     requires second { IsTrue (is_node table.old.graph v) }
@@ -63,20 +63,20 @@ pub fn implies<S: Sink + Drop>(
         → AddsAtMost (2 * (length us * length vs)) table.old table.new }
     // An implication that is kept is found again without a clause more; a new one that holds is kept; one is forgotten only
     // where the cache was full.
-    ensures known { (just : JustValue) → Contains (entries cache.old) (Implication u v just)
+    ensures known { (just : JustificationValue) → Contains (entries cache.old) (Implication u v just)
         → (result ≡ Ok (Some just)) × (table.new ≡ table.old) × HaveSame (entries cache.old) (entries cache.new) }
-    ensures kept { u ≢ v → IsNoConstant u → IsNoConstant v → (just : JustValue) → result ≡ Ok (Some just)
+    ensures kept { u ≢ v → IsNoConstant u → IsNoConstant v → (just : JustificationValue) → result ≡ Ok (Some just)
         → Contains (entries cache.new) (Implication u v just) }
     ensures remembered { (entry : Entry) → Contains (entries cache.old) entry → Contains (entries cache.new) entry
         ⊎ (most_entries cache.old ≤ length (entries cache.new)) }
     ensures no_fewer { length (entries cache.old) ≤ length (entries cache.new) }
     ensures capacity { most_entries cache.new ≡ most_entries cache.old }
     // A constant, and a node with itself: nothing changes.
-    ensures plain { (answer : Option JustValue) → IsPlain u v answer → (result ≡ Ok answer) × (table.new ≡ table.old)
+    ensures plain { (answer : Option JustificationValue) → IsPlain u v answer → (result ≡ Ok answer) × (table.new ≡ table.old)
         × (cache.new ≡ cache.old) }
 {
     accounts_law::<S>();
-    price_law::<S, u64>();
+    price_law::<S, StoredJustification>();
     work_off::<S, ImplyOperation>(table, cache, (u, v))
 }
 
@@ -90,7 +90,7 @@ impl<S: Sink + Drop> Operation<S> for ImplyOperation {
 
     type Parts = Operands;
 
-    type Answer = Option<Just>;
+    type Answer = Option<Justification>;
 
     ghost calls = { implications };
 
@@ -102,11 +102,11 @@ impl<S: Sink + Drop> Operation<S> for ImplyOperation {
         table: &mut Table<S>,
         cache: &mut ImplyCache,
         question: (Node, Node),
-    ) -> Result<Reply<Operands, Option<Just>>, TableError> {
+    ) -> Result<Reply<Operands, Option<Justification>>, TableError> {
         steps_law::<S>();
         accounts_law::<S>();
-        cache_law::<(Node, Node), u64>();
-        price_law::<S, u64>();
+        cache_law::<(Node, Node), StoredJustification>();
+        price_law::<S, StoredJustification>();
         budget_law::<S>();
         entry_law::<S>();
         operand_law();
@@ -123,7 +123,7 @@ impl<S: Sink + Drop> Operation<S> for ImplyOperation {
         (operands.u_high, operands.v_high)
     }
 
-    fn low(operands: &Operands, high: &Option<Just>) -> Option<(Node, Node)> {
+    fn low(operands: &Operands, high: &Option<Justification>) -> Option<(Node, Node)> {
         match high {
             None => None,
             Some(_) => Some((operands.u_low, operands.v_low)),
@@ -134,9 +134,9 @@ impl<S: Sink + Drop> Operation<S> for ImplyOperation {
         table: &mut Table<S>,
         cache: &mut ImplyCache,
         operands: &Operands,
-        high: &Option<Just>,
-        low: &Option<Just>,
-    ) -> Result<Option<Just>, TableError> {
+        high: &Option<Justification>,
+        low: &Option<Justification>,
+    ) -> Result<Option<Justification>, TableError> {
         match (high, low) {
             (Some(high), Some(low)) => finish(table, cache, operands, high, low),
             _ => Ok(None),
@@ -150,33 +150,33 @@ fn answer<S: Sink + Drop>(
     cache: &mut ImplyCache,
     u: Node,
     v: Node,
-) -> Option<Option<Just>>
+) -> Option<Option<Justification>>
     requires can { CanImply table.now cache.old u v }
     ensures answers { IfSome result (λ found. Answers table.now cache.old u v table.now cache.new (Ok found)) }
     ensures unknown { result ≡ None → (cache.new ≡ cache.old) × IsUnknown cache.old u v }
 {
     steps_law::<S>();
     accounts_law::<S>();
-    price_law::<S, u64>();
+    price_law::<S, StoredJustification>();
     cofactor_law();
     if let Some(found) = plain(u, v) {
         return Some(found);
     }
-    match cache.look(u, v) {
+    match cache.look((u, v)) {
         None => None,
-        Some(just) => Some(Some(just)),
+        Some(stored) => Some(Some(stored.just())),
     }
 }
 
 // What is answered where a node is a constant, or both are the same.
-fn plain(u: Node, v: Node) -> Option<Option<Just>>
-    ensures exact { (answer : Option JustValue) → IsPlain u v answer → result ≡ Some answer }
+fn plain(u: Node, v: Node) -> Option<Option<Justification>>
+    ensures exact { (answer : Option JustificationValue) → IsPlain u v answer → result ≡ Some answer }
     ensures plain { MatchOption result ((u ≢ v) × IsNoConstant u × IsNoConstant v) (λ answer. IsPlain u v answer) }
 {
     match (u, v) {
-        (Node::False, _) | (_, Node::True) => Some(Some(Just::Trivial)),
+        (Node::False, _) | (_, Node::True) => Some(Some(Justification::Trivial)),
         (Node::True, _) | (_, Node::False) => Some(None),
-        (Node::Inner(_), Node::Inner(_)) if u == v => Some(Some(Just::Trivial)),
+        (Node::Inner(_), Node::Inner(_)) if u == v => Some(Some(Justification::Trivial)),
         (Node::Inner(_), Node::Inner(_)) => None,
     }
 }
@@ -186,9 +186,9 @@ fn finish<S: Sink + Drop>(
     table: &mut Table<S>,
     cache: &mut ImplyCache,
     operands: &Operands,
-    high: &Just,
-    low: &Just,
-) -> Result<Option<Just>, TableError>
+    high: &Justification,
+    low: &Justification,
+) -> Result<Option<Justification>, TableError>
     requires sound { IsSound table.old }
     requires fits { Fits table.old (entries cache.old) }
     requires split { AreSplit table.old.graph operands.now }
@@ -202,13 +202,14 @@ fn finish<S: Sink + Drop>(
     growth_law();
     cofactor_law();
     let just = justify(cache.alloc(), table, operands, high, low)?;
-    match cache.keep(operands.u, operands.v, &just) {
+    let stored = StoredJustification::from_just(&just);
+    match cache.keep((operands.u, operands.v), stored) {
         Ok(given) => {
             retire(table, given);
             Ok(Some(just))
         }
         Err(_) => {
-            retire(table, clause_of(&just));
+            retire(table, clause_number(&just));
             Err(TableError::OutOfMemory)
         }
     }

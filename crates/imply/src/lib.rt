@@ -8,5 +8,5 @@ mod additions;
 mod cache;
 mod implication;
 
-pub use cache::ImplyCache;
+pub use cache::{ImplyCache, ImplyEntries};
 pub use implication::implies;

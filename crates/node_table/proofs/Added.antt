@@ -12,7 +12,7 @@ use Rattle.lrat_rules.specs.State.{State, Live, clause_at}
 use Rattle.clause_ledger.specs.Book.{with_next}
 use Rattle.hint_chain.specs.declared.atom.Atom.{Atom}
 use Rattle.hint_chain.specs.declared.atom.Atom.TheVariants.{Of}
-use Rattle.hint_chain.specs.Atoms.{neg_atom, clause_of}
+use Rattle.hint_chain.specs.Atoms.{neg_atom, clause_from_atoms}
 use Rattle.node_table.specs.declared.node.Node.{Node}
 use Rattle.node_table.specs.declared.node.Branch.{Branch}
 use Rattle.node_table.specs.Diagram.{Graph, IsNew, KeepsNodes, branch_at, is_node, levels, variable_at}
@@ -34,10 +34,10 @@ holds_first : (u x : ℤ) (o : Option (List ℤ)) → is_some (option_map (λ c.
 holds_first u x None is = absurd (let e : false ≡ true = is in cc)
 holds_first u x (Some rest) is = (u ∷ x ∷ rest, refl, or_left (int_eq u u) (list_any (int_eq u) (x ∷ rest)) ((Decides-int_eq u u).1 refl))
 
-holds_given : (live : Live) (u x : ℤ) (atom : Atom) (b : Bool) (own id : ℕ) → is_some (clause_of (Of u ∷ Of x ∷ atom ∷ [])) ≡ b
-    → clause_named live (given_if b own) ≡ clause_of (Of u ∷ Of x ∷ atom ∷ []) → is_given (given_if b own) id ≡ true → HoldsAt live u id
+holds_given : (live : Live) (u x : ℤ) (atom : Atom) (b : Bool) (own id : ℕ) → is_some (clause_from_atoms (Of u ∷ Of x ∷ atom ∷ [])) ≡ b
+    → clause_named live (given_if b own) ≡ clause_from_atoms (Of u ∷ Of x ∷ atom ∷ []) → is_given (given_if b own) id ≡ true → HoldsAt live u id
 holds_given live u x atom true own id some is given =
-    let has = holds_first u x (clause_of (atom ∷ [])) some in
+    let has = holds_first u x (clause_from_atoms (atom ∷ [])) some in
     let same : own ≡ id = eqb-true own id given in
     (has.0, ap (clause_at live) (sym same) ∙ is ∙ has.1, has.2)
 holds_given live u x atom false own id some is given = absurd (let e : false ≡ true = given in cc)

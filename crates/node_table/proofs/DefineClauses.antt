@@ -9,7 +9,7 @@ use Rattle.std.proofs.lemmas.Bool.{false_from_ne_true, not-true, eqb-false}
 use Rattle.std.proofs.lemmas.Bool.Decides.{Decides-int_eq}
 use Rattle.hint_chain.specs.declared.atom.Atom.{Atom}
 use Rattle.hint_chain.specs.declared.atom.Atom.TheVariants.{Always, Never, Of}
-use Rattle.hint_chain.specs.Atoms.{neg_atom, clause_of, is_literal}
+use Rattle.hint_chain.specs.Atoms.{neg_atom, clause_from_atoms, is_literal}
 use Rattle.node_table.specs.Defined.{is_always, is_never, is_apart_from}
 
 -- a clause with a literal in front
@@ -19,28 +19,28 @@ literal_in_front literal None clause is = cc
 literal_in_front literal (Some others) clause is = (others, refl, cc)
 
 -- it holds the literals of its atoms
-pub holds-clause_of : (y : ℤ) (atoms : List Atom) (clause : List ℤ) → clause_of atoms ≡ Some clause → list_any (int_eq y) clause
+pub holds-clause_from_atoms : (y : ℤ) (atoms : List Atom) (clause : List ℤ) → clause_from_atoms atoms ≡ Some clause → list_any (int_eq y) clause
     ≡ list_any (is_literal y) atoms
-holds-clause_of y [] clause is = let e : clause ≡ [] = cc in ap (list_any (int_eq y)) e
-holds-clause_of y (Always ∷ atoms) clause is = cc
-holds-clause_of y (Never ∷ atoms) clause is = holds-clause_of y atoms clause is
-holds-clause_of y (Of literal ∷ atoms) clause is =
-    let parts = literal_in_front literal (clause_of atoms) clause is in
-    ap (list_any (int_eq y)) parts.2 ∙ ap (λ b. int_eq y literal || b) (holds-clause_of y atoms parts.0 parts.1)
+holds-clause_from_atoms y [] clause is = let e : clause ≡ [] = cc in ap (list_any (int_eq y)) e
+holds-clause_from_atoms y (Always ∷ atoms) clause is = cc
+holds-clause_from_atoms y (Never ∷ atoms) clause is = holds-clause_from_atoms y atoms clause is
+holds-clause_from_atoms y (Of literal ∷ atoms) clause is =
+    let parts = literal_in_front literal (clause_from_atoms atoms) clause is in
+    ap (list_any (int_eq y)) parts.2 ∙ ap (λ b. int_eq y literal || b) (holds-clause_from_atoms y atoms parts.0 parts.1)
 
-pub length-clause_of : (atoms : List Atom) (clause : List ℤ) → clause_of atoms ≡ Some clause → length clause ≤ length atoms
-length-clause_of [] clause is = let e : clause ≡ [] = cc in omega (arith, ap length e)
-length-clause_of (Always ∷ atoms) clause is = cc
-length-clause_of (Never ∷ atoms) clause is = omega (arith, length-clause_of atoms clause is)
-length-clause_of (Of literal ∷ atoms) clause is =
-    let parts = literal_in_front literal (clause_of atoms) clause is in
-    omega (arith, ap length parts.2, length-clause_of atoms parts.0 parts.1)
+pub length-clause_from_atoms : (atoms : List Atom) (clause : List ℤ) → clause_from_atoms atoms ≡ Some clause → length clause ≤ length atoms
+length-clause_from_atoms [] clause is = let e : clause ≡ [] = cc in omega (arith, ap length e)
+length-clause_from_atoms (Always ∷ atoms) clause is = cc
+length-clause_from_atoms (Never ∷ atoms) clause is = omega (arith, length-clause_from_atoms atoms clause is)
+length-clause_from_atoms (Of literal ∷ atoms) clause is =
+    let parts = literal_in_front literal (clause_from_atoms atoms) clause is in
+    omega (arith, ap length parts.2, length-clause_from_atoms atoms parts.0 parts.1)
 
 -- when there is one
-pub is_some-clause_of : (a b : ℤ) (c : Atom) → is_some (clause_of (Of a ∷ Of b ∷ c ∷ [])) ≡ not (is_always c)
-is_some-clause_of a b Always = refl
-is_some-clause_of a b Never = refl
-is_some-clause_of a b (Of literal) = refl
+pub is_some-clause_from_atoms : (a b : ℤ) (c : Atom) → is_some (clause_from_atoms (Of a ∷ Of b ∷ c ∷ [])) ≡ not (is_always c)
+is_some-clause_from_atoms a b Always = refl
+is_some-clause_from_atoms a b Never = refl
+is_some-clause_from_atoms a b (Of literal) = refl
 
 pub is_always-neg_atom : (a : Atom) → is_always (neg_atom a) ≡ is_never a
 is_always-neg_atom Always = refl

@@ -7,7 +7,7 @@ use Rattle.lrat_rules.specs.State.{State}
 use Rattle.clause_ledger.specs.Book.{AreTold, Book, after_steps}
 use Rattle.clause_ledger.specs.Told.{after_steps-append, told_further, told_limit, told_none, told_state}
 use Rattle.hint_chain.specs.declared.atom.Atom.{Atom}
-use Rattle.hint_chain.specs.Atoms.{clause_of, high_up, low_up, high_down, low_down}
+use Rattle.hint_chain.specs.Atoms.{clause_from_atoms, high_up, low_up, high_down, low_down}
 use Rattle.node_table.specs.Defined.{Definition, IsDefinedInPart, IsTornStep, definition_steps, step_of_some, ups_from, with_some}
 use Rattle.node_table.specs.Defined.{with_definitions}
 
@@ -99,13 +99,13 @@ torn_next {S = S} {old = old} {written = written} {d = d} so_far call rest torn 
 
 -- the four definitions of a new variable, one by one
 abbrev pub hu_of : ℤ → ℤ → Atom → Definition
-hu_of u x high = record { clause = clause_of (high_up u x high); candidates = [] }
+hu_of u x high = record { clause = clause_from_atoms (high_up u x high); candidates = [] }
 
 abbrev pub lu_of : ℤ → ℤ → Atom → Definition
-lu_of u x low = record { clause = clause_of (low_up u x low); candidates = [] }
+lu_of u x low = record { clause = clause_from_atoms (low_up u x low); candidates = [] }
 
 abbrev pub hd_of : ℤ → ℤ → Atom → Atom → ℕ → Definition
-hd_of u x high low first = record { clause = clause_of (high_down u x high); candidates = ups_from high low first }
+hd_of u x high low first = record { clause = clause_from_atoms (high_down u x high); candidates = ups_from high low first }
 
 abbrev pub ld_of : ℤ → ℤ → Atom → Atom → ℕ → Definition
-ld_of u x high low first = record { clause = clause_of (low_down u x low); candidates = ups_from high low first }
+ld_of u x high low first = record { clause = clause_from_atoms (low_down u x low); candidates = ups_from high low first }

@@ -14,7 +14,7 @@ use Rattle.cnf_base.specs.ProofText.{given_if}
 use Rattle.lrat_rules.specs.State.{Live, clause_at}
 use Rattle.lrat_rules.specs.Derivation.{are_added}
 use Rattle.hint_chain.specs.declared.atom.Atom.TheVariants.{Of}
-use Rattle.hint_chain.specs.Atoms.{neg_atom, clause_of, high_up, low_up, high_down, low_down}
+use Rattle.hint_chain.specs.Atoms.{neg_atom, clause_from_atoms, high_up, low_up, high_down, low_down}
 use Rattle.node_table.specs.declared.node.Branch.{Branch}
 use Rattle.node_table.specs.declared.node.Defs.{Defs}
 use Rattle.node_table.specs.Diagram.{Graph, IsReduced, branch_at, variable_at}
@@ -66,27 +66,27 @@ module _ (graph : Graph) (live : Live) (reduced : IsReduced graph) (key : ℕ) (
   x = pos (variable_at graph b.level)
 
   own_hu : is_given (defs_of b).hu id ≡ true → IsOwn live b id
-  own_hu is = named_own live b (not (is_false_node b.high)) b.first id (clause_of (high_up u x (atom_of graph b.high))) is defined.hu
+  own_hu is = named_own live b (not (is_false_node b.high)) b.first id (clause_from_atoms (high_up u x (atom_of graph b.high))) is defined.hu
       (some_up graph u (neg_ℤ x) b.high (reduced.high key b at).stands)
-      (head_in u (clause_of (Of (neg_ℤ x) ∷ neg_atom (atom_of graph b.high) ∷ []))) (omega arith)
+      (head_in u (clause_from_atoms (Of (neg_ℤ x) ∷ neg_atom (atom_of graph b.high) ∷ []))) (omega arith)
 
   own_lu : is_given (defs_of b).lu id ≡ true → IsOwn live b id
   own_lu is = named_own live b (not (is_false_node b.low)) (lu_first b.high b.first) id
-      (clause_of (low_up u x (atom_of graph b.low))) is defined.lu
-      (some_up graph u x b.low (reduced.low key b at).stands) (head_in u (clause_of (Of x ∷ neg_atom (atom_of graph b.low) ∷ [])))
+      (clause_from_atoms (low_up u x (atom_of graph b.low))) is defined.lu
+      (some_up graph u x b.low (reduced.low key b at).stands) (head_in u (clause_from_atoms (Of x ∷ neg_atom (atom_of graph b.low) ∷ [])))
       (omega arith)
 
   own_hd : is_given (defs_of b).hd id ≡ true → IsOwn live b id
   own_hd is = named_own live b (not (is_true_node b.high)) (hd_first b.high b.low b.first) id
-      (clause_of (high_down u x (atom_of graph b.high))) is defined.hd
+      (clause_from_atoms (high_down u x (atom_of graph b.high))) is defined.hd
       (some_down graph (neg_ℤ u) (neg_ℤ x) b.high (reduced.high key b at).stands)
-      (λ some. head_in (neg_ℤ u) (clause_of (Of (neg_ℤ x) ∷ atom_of graph b.high ∷ [])) some ∙ abs-neg_pos b.variable) (omega arith)
+      (λ some. head_in (neg_ℤ u) (clause_from_atoms (Of (neg_ℤ x) ∷ atom_of graph b.high ∷ [])) some ∙ abs-neg_pos b.variable) (omega arith)
 
   own_ld : is_given (defs_of b).ld id ≡ true → IsOwn live b id
   own_ld is = named_own live b (not (is_true_node b.low)) (ld_first b.high b.low b.first) id
-      (clause_of (low_down u x (atom_of graph b.low))) is defined.ld
+      (clause_from_atoms (low_down u x (atom_of graph b.low))) is defined.ld
       (some_down graph (neg_ℤ u) x b.low (reduced.low key b at).stands)
-      (λ some. head_in (neg_ℤ u) (clause_of (Of x ∷ atom_of graph b.low ∷ [])) some ∙ abs-neg_pos b.variable) (omega arith)
+      (λ some. head_in (neg_ℤ u) (clause_from_atoms (Of x ∷ atom_of graph b.low ∷ [])) some ∙ abs-neg_pos b.variable) (omega arith)
 
   pub own_clause : is_defined_by (defs_of b) id ≡ true → IsOwn live b id
   own_clause is =

@@ -17,7 +17,7 @@ use Rattle.lrat_rules.specs.State.{State, Live, clause_at}
 use Rattle.lrat_rules.specs.Marks.{variables_of, live_variables, extension_variables, in_use}
 use Rattle.hint_chain.specs.declared.atom.Atom.{Atom}
 use Rattle.hint_chain.specs.declared.atom.Atom.TheVariants.{Of}
-use Rattle.hint_chain.specs.Atoms.{neg_atom, clause_of}
+use Rattle.hint_chain.specs.Atoms.{neg_atom, clause_from_atoms}
 use Rattle.node_table.specs.declared.node.Node.{Node}
 use Rattle.node_table.specs.declared.node.Node.TheVariants.{False, True, Inner}
 use Rattle.node_table.specs.declared.node.Branch.{Branch}
@@ -97,10 +97,10 @@ pub record Holder (live : Live) (u : ℤ) : Type 0 where
   pub stands : clause_at live id ≡ Some clause
   pub among : list_any (int_eq u) clause ≡ true
 
-named_holder : (live : Live) (u x : ℤ) (atom : Atom) (b : Bool) (id : ℕ) → b ≡ true → is_some (clause_of (Of u ∷ Of x ∷ atom ∷ [])) ≡ b
-    → clause_named live (given_if b id) ≡ clause_of (Of u ∷ Of x ∷ atom ∷ []) → Holder live u
+named_holder : (live : Live) (u x : ℤ) (atom : Atom) (b : Bool) (id : ℕ) → b ≡ true → is_some (clause_from_atoms (Of u ∷ Of x ∷ atom ∷ [])) ≡ b
+    → clause_named live (given_if b id) ≡ clause_from_atoms (Of u ∷ Of x ∷ atom ∷ []) → Holder live u
 named_holder live u x atom true id _ some is =
-    let has = up_has u x (clause_of (atom ∷ [])) some in
+    let has = up_has u x (clause_from_atoms (atom ∷ [])) some in
     record { id = id; clause = has.0; stands = is ∙ has.1; among = has.2 }
 named_holder live u x atom false id off some is = absurd (let e : false ≡ true = off in cc)
 

@@ -9,12 +9,12 @@ use Rattle.node_table.specs.Diagram.{Graph, IsReduced, IsBelow, KeepsNodes, bran
 use Rattle.node_table.specs.Value.{Levels, branch_value, value_within, value_of}
 use Rattle.node_table.specs.Defined.{atom_of, atom_in}
 use Rattle.node_table.specs.Tied.{KeepsClauses}
-use Rattle.node_table.specs.Just.{IsJustified}
-use Rattle.node_table.specs.declared.node.Just.{Just}
-use Rattle.node_table.specs.declared.node.Just.TheVariants.{Trivial, Clause}
+use Rattle.node_table.specs.Justification.{IsJustified}
+use Rattle.node_table.specs.declared.node.Justification.{Justification}
+use Rattle.node_table.specs.declared.node.Justification.TheVariants.{Trivial, Clause}
 use Rattle.lrat_rules.specs.State.{Live, clause_at}
 use Rattle.hint_chain.specs.declared.atom.Atom.{Atom}
-use Rattle.hint_chain.specs.Atoms.{clause_of, is_trivial}
+use Rattle.hint_chain.specs.Atoms.{clause_from_atoms, is_trivial}
 use Rattle.node_table.proofs.Values.{branch_of_node, level_of-inner, value_of-inner}
 
 same_within : (old new : Graph) → IsReduced old → KeepsNodes old new → (steps : ℕ) (a : Levels) (node : Node) → is_node old node ≡ true
@@ -138,8 +138,8 @@ same_clause old new keeps id None some is = cc
 same_clause old new keeps id (Some clause) some is = keeps id clause is
 
 -- a clause over nodes stays justified
-pub IsJustified-kept : ((atoms : List Atom) → is_trivial atoms ≡ false → is_some (clause_of atoms) ≡ true) → (old new : Live)
+pub IsJustified-kept : ((atoms : List Atom) → is_trivial atoms ≡ false → is_some (clause_from_atoms atoms) ≡ true) → (old new : Live)
     → KeepsClauses old new
-    → (atoms : List Atom) (just : Just) → IsJustified old atoms just → IsJustified new atoms just
+    → (atoms : List Atom) (just : Justification) → IsJustified old atoms just → IsJustified new atoms just
 IsJustified-kept given old new keeps atoms Trivial is = is
-IsJustified-kept given old new keeps atoms (Clause id) is = (is.0, same_clause old new keeps id (clause_of atoms) (given atoms is.0) is.1)
+IsJustified-kept given old new keeps atoms (Clause id) is = (is.0, same_clause old new keeps id (clause_from_atoms atoms) (given atoms is.0) is.1)

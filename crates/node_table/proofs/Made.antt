@@ -6,7 +6,7 @@ use Rattle.cnf_base.specs.ProofText.{given_if}
 use Rattle.lrat_rules.specs.State.{State, Live, clause_at}
 use Rattle.hint_chain.specs.declared.atom.Atom.{Atom}
 use Rattle.hint_chain.specs.declared.atom.Atom.TheVariants.{Always, Never, Of}
-use Rattle.hint_chain.specs.Atoms.{neg_atom, clause_of, high_up, low_up, high_down, low_down}
+use Rattle.hint_chain.specs.Atoms.{neg_atom, clause_from_atoms, high_up, low_up, high_down, low_down}
 use Rattle.node_table.specs.declared.node.Node.{Node}
 use Rattle.node_table.specs.declared.node.Node.TheVariants.{False, True, Inner}
 use Rattle.node_table.specs.declared.node.Branch.{Branch}
@@ -21,18 +21,18 @@ use Rattle.node_table.proofs.Stands.{IsOverAtom, FourStand, each_some, four_stan
 
 -- Which of the clauses there are. The atom of a node is Never for False alone, and Always for True alone.
 pub some_up : (graph : Graph) (u x : ℤ) (node : Node) → is_node graph node ≡ true
-    → is_some (clause_of (Of u ∷ Of x ∷ neg_atom (atom_of graph node) ∷ [])) ≡ not (is_false_node node)
+    → is_some (clause_from_atoms (Of u ∷ Of x ∷ neg_atom (atom_of graph node) ∷ [])) ≡ not (is_false_node node)
 some_up graph u x False is = refl
 some_up graph u x True is = refl
 some_up graph u x (Inner key) is = let branch = branch_of_node graph key is in
-    ap (λ o. is_some (clause_of (Of u ∷ Of x ∷ neg_atom (atom_in o) ∷ []))) branch.1
+    ap (λ o. is_some (clause_from_atoms (Of u ∷ Of x ∷ neg_atom (atom_in o) ∷ []))) branch.1
 
 pub some_down : (graph : Graph) (u x : ℤ) (node : Node) → is_node graph node ≡ true
-    → is_some (clause_of (Of u ∷ Of x ∷ atom_of graph node ∷ [])) ≡ not (is_true_node node)
+    → is_some (clause_from_atoms (Of u ∷ Of x ∷ atom_of graph node ∷ [])) ≡ not (is_true_node node)
 some_down graph u x False is = refl
 some_down graph u x True is = refl
 some_down graph u x (Inner key) is = let branch = branch_of_node graph key is in
-    ap (λ o. is_some (clause_of (Of u ∷ Of x ∷ atom_in o ∷ []))) branch.1
+    ap (λ o. is_some (clause_from_atoms (Of u ∷ Of x ∷ atom_in o ∷ []))) branch.1
 
 -- atoms of nodes stay
 atom_of-kept : (old new : Graph) → KeepsNodes old new → (node : Node) → is_node old node ≡ true → atom_of new node ≡ atom_of old node
@@ -60,18 +60,18 @@ IsDefined-kept old new keeps live later stays b high_stands low_stands defined =
     let u = pos b.variable in
     let y = pos (variable_at old b.level) in
     record {
-      hu = stays_named live later stays (not (is_false_node b.high)) b.first (clause_of (high_up u y (atom_of old b.high)))
+      hu = stays_named live later stays (not (is_false_node b.high)) b.first (clause_from_atoms (high_up u y (atom_of old b.high)))
           (some_up old u (neg_ℤ y) b.high high_stands) defined.hu
-          ∙ (λ i. clause_of (high_up u (pos (x i)) (high i)));
-      lu = stays_named live later stays (not (is_false_node b.low)) _ (clause_of (low_up u y (atom_of old b.low)))
+          ∙ (λ i. clause_from_atoms (high_up u (pos (x i)) (high i)));
+      lu = stays_named live later stays (not (is_false_node b.low)) _ (clause_from_atoms (low_up u y (atom_of old b.low)))
           (some_up old u y b.low low_stands) defined.lu
-          ∙ (λ i. clause_of (low_up u (pos (x i)) (low i)));
-      hd = stays_named live later stays (not (is_true_node b.high)) _ (clause_of (high_down u y (atom_of old b.high)))
+          ∙ (λ i. clause_from_atoms (low_up u (pos (x i)) (low i)));
+      hd = stays_named live later stays (not (is_true_node b.high)) _ (clause_from_atoms (high_down u y (atom_of old b.high)))
           (some_down old (neg_ℤ u) (neg_ℤ y) b.high high_stands) defined.hd
-          ∙ (λ i. clause_of (high_down u (pos (x i)) (high i)));
-      ld = stays_named live later stays (not (is_true_node b.low)) _ (clause_of (low_down u y (atom_of old b.low)))
+          ∙ (λ i. clause_from_atoms (high_down u (pos (x i)) (high i)));
+      ld = stays_named live later stays (not (is_true_node b.low)) _ (clause_from_atoms (low_down u y (atom_of old b.low)))
           (some_down old (neg_ℤ u) y b.low low_stands) defined.ld
-          ∙ (λ i. clause_of (low_down u (pos (x i)) (low i)));
+          ∙ (λ i. clause_from_atoms (low_down u (pos (x i)) (low i)));
     }
 
 -- an owned variable stays owned
@@ -121,10 +121,10 @@ over_neg graph (Of own) over literal is above =
 -- the four clauses of a new node stand under its numbers
 new_is_defined : (graph : Graph) (state after : State) (level : ℕ) (high low : Node) (variable : ℕ) → is_node graph high ≡ true
     → is_node graph low ≡ true
-    → FourStand state (clause_of (high_up (pos variable) (pos (variable_at graph level)) (atom_of graph high)))
-    (clause_of (low_up (pos variable) (pos (variable_at graph level)) (atom_of graph low)))
-    (clause_of (high_down (pos variable) (pos (variable_at graph level)) (atom_of graph high)))
-    (clause_of (low_down (pos variable) (pos (variable_at graph level)) (atom_of graph low))) after
+    → FourStand state (clause_from_atoms (high_up (pos variable) (pos (variable_at graph level)) (atom_of graph high)))
+    (clause_from_atoms (low_up (pos variable) (pos (variable_at graph level)) (atom_of graph low)))
+    (clause_from_atoms (high_down (pos variable) (pos (variable_at graph level)) (atom_of graph high)))
+    (clause_from_atoms (low_down (pos variable) (pos (variable_at graph level)) (atom_of graph low))) after
     → IsDefined after.live graph (new_branch state level high low variable)
 new_is_defined graph state after level high low variable high_stands low_stands four =
     let u = pos variable in
@@ -162,8 +162,8 @@ made_is_tied old state tied level high low small high_below low_below wanted var
       differ = wanted.differ;
       alone = λ other b is alike. wanted.missing other b is alike.level alike.high alike.low;
     } in
-    let four = four_stand state tied.numbers (clause_of (high_up u y (atom_of old high))) (clause_of (low_up u y (atom_of old low)))
-    (clause_of (high_down u y (atom_of old high))) (clause_of (low_down u y (atom_of old low))) in
+    let four = four_stand state tied.numbers (clause_from_atoms (high_up u y (atom_of old high))) (clause_from_atoms (low_up u y (atom_of old low)))
+    (clause_from_atoms (high_down u y (atom_of old high))) (clause_from_atoms (low_down u y (atom_of old low))) in
     let owned : IsOwned new variable = record { key = key; branch = branch; stands = joined_at old key branch; own = refl } in
     let over_u : IsOverAtom new (Of u) = over_own new u owned in
     let variable_small : variable_at old level ≤ levels old = (tied.ordered.within level small).1 in
@@ -185,13 +185,13 @@ made_is_tied old state tied level high low small high_below low_below wanted var
             (tied.reduced.low other b there).stands (tied.defined other b there)
       ];
       over_nodes =
-          each_some (IsOverNodes new) _ (clause_of (low_down u y (atom_of old low)))
+          each_some (IsOverNodes new) _ (clause_from_atoms (low_down u y (atom_of old low)))
           (over_clause new (low_down u y (atom_of old low)) (over_not_u, (over_y, (over_low, tt))))
-          (each_some (IsOverNodes new) _ (clause_of (high_down u y (atom_of old high)))
+          (each_some (IsOverNodes new) _ (clause_from_atoms (high_down u y (atom_of old high)))
           (over_clause new (high_down u y (atom_of old high)) (over_not_u, (over_not_y, (over_high, tt))))
-          (each_some (IsOverNodes new) _ (clause_of (low_up u y (atom_of old low)))
+          (each_some (IsOverNodes new) _ (clause_from_atoms (low_up u y (atom_of old low)))
           (over_clause new (low_up u y (atom_of old low)) (over_u, (over_y, (over_neg new (atom_of old low) over_low, tt))))
-          (each_some (IsOverNodes new) state (clause_of (high_up u y (atom_of old high)))
+          (each_some (IsOverNodes new) state (clause_from_atoms (high_up u y (atom_of old high)))
           (over_clause new (high_up u y (atom_of old high)) (over_u, (over_not_y, (over_neg new (atom_of old high) over_high, tt))))
           (λ id clause at. IsOverNodes-kept old new keeps clause (tied.over_nodes id clause at)))));
       numbers = four.grows.numbers;
@@ -218,14 +218,14 @@ pub definitions_top : (graph : Graph) (state : State) (level : ℕ) (high low : 
 definitions_top graph state level high low variable high_stands low_stands =
     let u = pos variable in
     let y = pos (variable_at graph level) in
-    let one = with_some state (clause_of (high_up u y (atom_of graph high))) in
-    let two = with_some one (clause_of (low_up u y (atom_of graph low))) in
-    let three = with_some two (clause_of (high_down u y (atom_of graph high))) in
-    let hu = top_some state (clause_of (high_up u y (atom_of graph high)))
+    let one = with_some state (clause_from_atoms (high_up u y (atom_of graph high))) in
+    let two = with_some one (clause_from_atoms (low_up u y (atom_of graph low))) in
+    let three = with_some two (clause_from_atoms (high_down u y (atom_of graph high))) in
+    let hu = top_some state (clause_from_atoms (high_up u y (atom_of graph high)))
     ∙ ap (λ b. state.top + one_if b) (some_up graph u (neg_ℤ y) high high_stands) in
-    let lu = top_some one (clause_of (low_up u y (atom_of graph low))) ∙ ap (λ b. one.top + one_if b) (some_up graph u y low low_stands) in
-    let hd = top_some two (clause_of (high_down u y (atom_of graph high)))
+    let lu = top_some one (clause_from_atoms (low_up u y (atom_of graph low))) ∙ ap (λ b. one.top + one_if b) (some_up graph u y low low_stands) in
+    let hd = top_some two (clause_from_atoms (high_down u y (atom_of graph high)))
     ∙ ap (λ b. two.top + one_if b) (some_down graph (neg_ℤ u) (neg_ℤ y) high high_stands) in
-    let ld = top_some three (clause_of (low_down u y (atom_of graph low)))
+    let ld = top_some three (clause_from_atoms (low_down u y (atom_of graph low)))
     ∙ ap (λ b. three.top + one_if b) (some_down graph (neg_ℤ u) y low low_stands) in
     omega (arith, hu, lu, hd, ld)

@@ -5,7 +5,7 @@ use Rattle.lrat_rules.specs.State.{State, clause_at}
 use Rattle.clause_ledger.specs.Book.{with_next}
 use Rattle.hint_chain.specs.declared.atom.Atom.{Atom}
 use Rattle.hint_chain.specs.declared.atom.Atom.TheVariants.{Of}
-use Rattle.hint_chain.specs.Atoms.{clause_of, neg_atom}
+use Rattle.hint_chain.specs.Atoms.{clause_from_atoms, neg_atom}
 use Rattle.node_table.specs.Defined.{Definition, definitions, with_some, with_definitions}
 use Rattle.node_table.proofs.Stands.{next_cases}
 
@@ -15,8 +15,8 @@ some_literal : (literal : ℤ) (rest : Option (List ℤ)) → ◌≡◌ {A = Opt
 some_literal literal None is = cc
 some_literal literal (Some literals) is = cc
 
-pub some_first : (literal : ℤ) (rest : List Atom) → clause_of (Of literal ∷ rest) ≢ Some []
-some_first literal rest is = some_literal literal (clause_of rest) is
+pub some_first : (literal : ℤ) (rest : List Atom) → clause_from_atoms (Of literal ∷ rest) ≢ Some []
+some_first literal rest is = some_literal literal (clause_from_atoms rest) is
 
 -- definitions of which none is empty
 abbrev pub AreSome : List Definition → Type 0

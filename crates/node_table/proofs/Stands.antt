@@ -16,7 +16,7 @@ use Rattle.lrat_rules.specs.State.{State, Live, clause_at}
 use Rattle.clause_ledger.specs.Book.{with_next}
 use Rattle.hint_chain.specs.declared.atom.Atom.{Atom}
 use Rattle.hint_chain.specs.declared.atom.Atom.TheVariants.{Always, Never, Of}
-use Rattle.hint_chain.specs.Atoms.{clause_of}
+use Rattle.hint_chain.specs.Atoms.{clause_from_atoms}
 use Rattle.node_table.specs.Diagram.{Graph, levels}
 use Rattle.node_table.specs.Defined.{clause_named, one_if, with_some}
 use Rattle.node_table.specs.Tied.{IsOwned, IsOverNodes, KeepsClauses, GivesNumbers}
@@ -186,7 +186,7 @@ rest_of : (o : Option (List ℤ)) (literal : ℤ) (clause : List ℤ) → option
 rest_of None literal clause is = absurd (let e : None ≡ Some clause = is in cc)
 rest_of (Some rest) literal clause is = (rest, refl, (let e : Some (literal ∷ rest) ≡ Some clause = is in cc))
 
-pub over_clause : (graph : Graph) (atoms : List Atom) → AreOver graph atoms → (clause : List ℤ) → clause_of atoms ≡ Some clause
+pub over_clause : (graph : Graph) (atoms : List Atom) → AreOver graph atoms → (clause : List ℤ) → clause_from_atoms atoms ≡ Some clause
     → IsOverNodes graph clause
 over_clause graph [] over clause is = λ literal among above.
     let empty : clause ≡ [] = (let e : Some [] ≡ Some clause = is in cc) in
@@ -194,7 +194,7 @@ over_clause graph [] over clause is = λ literal among above.
 over_clause graph (Always ∷ atoms) over clause is = absurd (let e : None ≡ Some clause = is in cc)
 over_clause graph (Never ∷ atoms) over clause is = over_clause graph atoms over.1 clause is
 over_clause graph (Of own ∷ atoms) over clause is = λ literal among above.
-    let rest = rest_of (clause_of atoms) own clause is in
+    let rest = rest_of (clause_from_atoms atoms) own clause is in
     let parts : (int_eq literal own || list_any (int_eq literal) rest.0)
     ≡ true = ap (λ (xs : List ℤ). list_any (int_eq literal) xs) (sym rest.2) ∙ among in
     elim (or_cases (int_eq literal own) (list_any (int_eq literal) rest.0) parts) [

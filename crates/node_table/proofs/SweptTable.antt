@@ -9,7 +9,7 @@ use Rattle.std.proofs.lemmas.Bool.{false_from_ne_true}
 use Rattle.lrat_rules.specs.State.{State, clause_at}
 use Rattle.clause_ledger.specs.Book.{Book}
 use Rattle.clause_ledger.specs.Told.{told_in_step, told_limit}
-use Rattle.hint_chain.specs.Atoms.{clause_of, high_up, low_up, high_down, low_down}
+use Rattle.hint_chain.specs.Atoms.{clause_from_atoms, high_up, low_up, high_down, low_down}
 use Rattle.node_table.specs.declared.node.Branch.{Branch}
 use Rattle.node_table.specs.Diagram.{Graph, branch_at, levels, variable_at, IsOrder}
 use Rattle.node_table.specs.Defined.{IsDefined, atom_of, defs_of, is_defined_by}
@@ -72,10 +72,10 @@ module _ (graph later : Graph) (marks : List Bool) (are : AreMarks graph marks) 
       ≡ atom_of later b.low = sym (atom_of_swept graph later marks are swept b.low (are.low key b was.0 was.1)) in
       let u = pos b.variable in
       record {
-        hu = d.hu ∙ (λ i. clause_of (high_up u (pos (x i)) (high i)));
-        lu = d.lu ∙ (λ i. clause_of (low_up u (pos (x i)) (low i)));
-        hd = d.hd ∙ (λ i. clause_of (high_down u (pos (x i)) (high i)));
-        ld = d.ld ∙ (λ i. clause_of (low_down u (pos (x i)) (low i)));
+        hu = d.hu ∙ (λ i. clause_from_atoms (high_up u (pos (x i)) (high i)));
+        lu = d.lu ∙ (λ i. clause_from_atoms (low_up u (pos (x i)) (low i)));
+        hd = d.hd ∙ (λ i. clause_from_atoms (high_down u (pos (x i)) (high i)));
+        ld = d.ld ∙ (λ i. clause_from_atoms (low_down u (pos (x i)) (low i)));
       }
 
   -- a live clause defines no unmarked node

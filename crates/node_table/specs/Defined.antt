@@ -11,7 +11,7 @@ use Rattle.lrat_rules.specs.State.{State, Live, clause_at}
 use Rattle.clause_ledger.specs.Book.{AreTold, Book, definition, with_next}
 use Rattle.hint_chain.specs.declared.atom.Atom.{Atom}
 use Rattle.hint_chain.specs.declared.atom.Atom.TheVariants.{Always, Never, Of}
-use Rattle.hint_chain.specs.Atoms.{clause_of, high_up, low_up, high_down, low_down}
+use Rattle.hint_chain.specs.Atoms.{clause_from_atoms, high_up, low_up, high_down, low_down}
 use Rattle.node_table.specs.declared.node.Node.{Node}
 use Rattle.node_table.specs.declared.node.Node.TheVariants.{False, True, Inner}
 use Rattle.node_table.specs.declared.node.Branch.{Branch}
@@ -88,13 +88,13 @@ clause_named live (Some id) = clause_at live id
 -- the node's clauses are live under its numbers
 pub record IsDefined (live : Live) (graph : Graph) (branch : Branch) : Type 0 where
   pub hu : clause_named live (defs_of branch).hu
-      ≡ clause_of (high_up (pos branch.variable) (pos (variable_at graph branch.level)) (atom_of graph branch.high))
+      ≡ clause_from_atoms (high_up (pos branch.variable) (pos (variable_at graph branch.level)) (atom_of graph branch.high))
   pub lu : clause_named live (defs_of branch).lu
-      ≡ clause_of (low_up (pos branch.variable) (pos (variable_at graph branch.level)) (atom_of graph branch.low))
+      ≡ clause_from_atoms (low_up (pos branch.variable) (pos (variable_at graph branch.level)) (atom_of graph branch.low))
   pub hd : clause_named live (defs_of branch).hd
-      ≡ clause_of (high_down (pos branch.variable) (pos (variable_at graph branch.level)) (atom_of graph branch.high))
+      ≡ clause_from_atoms (high_down (pos branch.variable) (pos (variable_at graph branch.level)) (atom_of graph branch.high))
   pub ld : clause_named live (defs_of branch).ld
-      ≡ clause_of (low_down (pos branch.variable) (pos (variable_at graph branch.level)) (atom_of graph branch.low))
+      ≡ clause_from_atoms (low_down (pos branch.variable) (pos (variable_at graph branch.level)) (atom_of graph branch.low))
 
 -- A clause to be written, if there is one, and its candidates.
 pub record Definition : Type 0 where
@@ -121,10 +121,10 @@ ups_from high low first =
 
 abbrev pub definitions : ℤ → ℤ → Atom → Atom → ℕ → List Definition
 definitions u x high low first =
-    record { clause = clause_of (high_up u x high); candidates = [] }
-    ∷ record { clause = clause_of (low_up u x low); candidates = [] }
-    ∷ record { clause = clause_of (high_down u x high); candidates = ups_from high low first }
-    ∷ record { clause = clause_of (low_down u x low); candidates = ups_from high low first }
+    record { clause = clause_from_atoms (high_up u x high); candidates = [] }
+    ∷ record { clause = clause_from_atoms (low_up u x low); candidates = [] }
+    ∷ record { clause = clause_from_atoms (high_down u x high); candidates = ups_from high low first }
+    ∷ record { clause = clause_from_atoms (low_down u x low); candidates = ups_from high low first }
     ∷ []
 
 -- how many of them there are

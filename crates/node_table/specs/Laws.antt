@@ -5,12 +5,12 @@ use Rattle.hint_chain.specs.declared.atom.Atom.{Atom}
 use Rattle.node_table.specs.declared.error.TableError.{TableError}
 use Rattle.node_table.specs.declared.error.TableError.TheVariants.{OutOfMemory}
 use Rattle.node_table.specs.declared.node.Node.{Node}
-use Rattle.node_table.specs.declared.node.Just.{Just}
+use Rattle.node_table.specs.declared.node.Justification.{Justification}
 use Rattle.node_table.specs.Diagram.{Graph, IsReduced, IsBelow, KeepsNodes, is_node, levels, level_of, high_at, low_at}
 use Rattle.node_table.specs.Value.{Levels, value_of, fixed_to, IsSubfunction}
 use Rattle.node_table.specs.Defined.{atom_of}
 use Rattle.node_table.specs.Tied.{KeepsClauses}
-use Rattle.node_table.specs.Just.{IsJustified}
+use Rattle.node_table.specs.Justification.{IsJustified}
 use Rattle.node_table.specs.Table.{TableState, AddsNoEmpty, IsSound, IsAddedTo, Extends, IsWanted}
 use Rattle.node_table.specs.Progress.{Continues, Leaves, Steps, StepsOrRefutes}
 use Rattle.node_table.specs.Made.{KeepsFrom, MakesOnly, Reaches, ReachesNew}
@@ -38,7 +38,7 @@ pub record Growth : Type 0 where
   pub value : (old new : Graph) → IsReduced old → KeepsNodes old new → (a : Levels) (node : Node) → IsTrue (is_node old node)
       → value_of new a node ≡ value_of old a node
   pub atom : (old new : Graph) → KeepsNodes old new → (node : Node) → IsTrue (is_node old node) → atom_of new node ≡ atom_of old node
-  pub justified : (old new : Live) → KeepsClauses old new → (atoms : List Atom) (just : Just) → IsJustified old atoms just
+  pub justified : (old new : Live) → KeepsClauses old new → (atoms : List Atom) (just : Justification) → IsJustified old atoms just
       → IsJustified new atoms just
   pub further : (old mid new : Graph) → KeepsNodes old mid → KeepsNodes mid new → KeepsNodes old new
 

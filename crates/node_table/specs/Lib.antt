@@ -7,7 +7,7 @@ pub mod Tied
 pub mod Errors
 pub mod Table
 pub mod Places
-pub mod Just
+pub mod Justification
 pub mod Progress
 pub mod Lean
 pub mod Made

@@ -7,7 +7,7 @@ ghost use Rattle.std.specs.Option.{option_to_list};
 ghost use Rattle.cnf_base.specs.declared.step.Step.{Step};
 ghost use Rattle.cnf_base.specs.ProofText.{given_if};
 ghost use Rattle.lrat_rules.specs.Strict.{IsDefinition};
-ghost use Rattle.hint_chain.specs.Atoms.{clause_of};
+ghost use Rattle.hint_chain.specs.Atoms.{clause_from_atoms};
 ghost use Rattle.clause_ledger.specs.Book.{AreTold};
 ghost use Rattle.clause_ledger.specs.declared.error.LedgerError.TheVariants.{WriteFault};
 ghost use Rattle.node_table.specs.Defined.{IsDefinedInPart, IsNewVariable, IsTornStep, count_atoms, definition_steps, definitions};
@@ -15,7 +15,7 @@ ghost use Rattle.node_table.specs.Defined.{one_if, step_of_some};
 
 use clause_ledger::{Ledger, LedgerError};
 use cnf_base::{Id, Lit};
-use hint_chain::{Atom, clause_of};
+use hint_chain::{Atom, clause_from_atoms};
 use host_io::Sink;
 use lrat_rules::live_law;
 
@@ -72,17 +72,17 @@ fn write_one<S: Sink + Drop>(
 ) -> Result<Option<Id>, LedgerError>
     requires in_step { IsTrue ledger.old.in_step }
     requires few { length atoms.now ≤ 4 }
-    requires definition { (clause : List ℤ) → clause_of atoms.now ≡ Some clause → IsDefinition ledger.old.state.live clause candidates.now }
-    requires room { ledger.old.state.top + one_if (is_some (clause_of atoms.now)) ≤ ledger.old.limit }
+    requires definition { (clause : List ℤ) → clause_from_atoms atoms.now ≡ Some clause → IsDefinition ledger.old.state.live clause candidates.now }
+    requires room { ledger.old.state.top + one_if (is_some (clause_from_atoms atoms.now)) ≤ ledger.old.limit }
     requires spare { 0 < ledger.old.spare }
-    ensures id { IfOk result (λ id. id ≡ given_if (is_some (clause_of atoms.now)) (ledger.old.state.top + 1)) }
+    ensures id { IfOk result (λ id. id ≡ given_if (is_some (clause_from_atoms atoms.now)) (ledger.old.state.top + 1)) }
     ensures told { OnOk result (AreTold true ledger.old ledger.new
-        (step_of_some ledger.old.state (clause_of atoms.now) candidates.now)) }
+        (step_of_some ledger.old.state (clause_from_atoms atoms.now) candidates.now)) }
     ensures spare { ledger.old.spare ≤ ledger.new.spare + 1 }
     ensures error { IfErr result (λ e. e ≡ WriteFault) }
-    ensures torn { OnErr result (IsTornStep ledger.old ledger.new (clause_of atoms.now) candidates.now) }
+    ensures torn { OnErr result (IsTornStep ledger.old ledger.new (clause_from_atoms atoms.now) candidates.now) }
 {
-    let Some(clause) = clause_of(atoms) else {
+    let Some(clause) = clause_from_atoms(atoms) else {
         return Ok(None);
     };
     let id = ledger.define(clause.as_slice(), candidates)?;

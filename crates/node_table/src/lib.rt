@@ -26,6 +26,6 @@ pub use laws::{
     opening_law, reach_law, steps_law, subfunction_law,
 };
 pub use marks::Marks;
-pub use node::{Branch, Defs, Just, Node, NodeKey};
+pub use node::{Branch, Defs, Justification, Node, NodeKey};
 pub use stored::Child;
 pub use table::Table;

@@ -72,7 +72,7 @@ pub struct Branch {
 /// Why a clause over nodes holds: it is true by itself, since it has both signs of a variable or a true constant, or
 /// it is the live clause of this number.
 #[derive(Clone, Copy, Debug)]
-pub enum Just {
+pub enum Justification {
     Trivial,
     Clause(Id),
 }

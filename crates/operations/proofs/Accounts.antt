@@ -5,14 +5,14 @@ use Rattle.std.proofs.lemmas.Bool.{cases_lt}
 use Rattle.std.proofs.lemmas.List.Elements.{Contains-append_cases, Contains-append_left, Contains-append_right}
 use Rattle.lrat_rules.specs.State.{State, clause_at}
 use Rattle.node_table.specs.declared.error.TableError.{TableError}
-use Rattle.node_table.specs.declared.node.Just.{Just}
-use Rattle.node_table.specs.declared.node.Just.TheVariants.{Trivial, Clause}
+use Rattle.node_table.specs.declared.node.Justification.{Justification}
+use Rattle.node_table.specs.declared.node.Justification.TheVariants.{Trivial, Clause}
 use Rattle.node_table.specs.Laws.{StepByStep}
 use Rattle.node_table.specs.Table.{TableState, IsSound, IsAddedTo, AddsNone, Extends}
 use Rattle.operations.specs.Accounts.{Accounting, AccountsFor, GivesOne, HasFound, HasKept, IsWhole, RetiresNew, RetiresOne, none_whole}
 use Rattle.operations.specs.Caches.{IsOneKept}
 use Rattle.operations.specs.Ended.{sound_left}
-use Rattle.operations.specs.Entries.{Entry, Accounts, FitsEntry, Fits, Fitting, HaveSame, IsClauseOf, IsNamed, IsNewJust, Names, NamesOnly}
+use Rattle.operations.specs.Entries.{Entry, Accounts, FitsEntry, Fits, Fitting, HaveSame, IsClauseOf, IsNamed, IsNewJustification, Names, NamesOnly}
 use Rattle.operations.specs.Entries.{RetiresOwn, just_of}
 
 no_clause : (id : ℕ) → Trivial ≡ Clause id → ⊥
@@ -25,17 +25,17 @@ same_clause : (id other : ℕ) → Clause id ≡ Clause other → id ≡ other
 same_clause id other is = cc
 
 -- the clause that a justification names
-pub just_given : (just : Just) (given : Option ℕ) → IsClauseOf just given → (id : ℕ) → given ≡ Some id → just ≡ Clause id
+pub just_given : (just : Justification) (given : Option ℕ) → IsClauseOf just given → (id : ℕ) → given ≡ Some id → just ≡ Clause id
 just_given just None names id is = cc
 just_given just (Some own) names id is = names ∙ ap Clause (same_some own id is)
 
-pub given_of : (just : Just) (given : Option ℕ) → IsClauseOf just given → (id : ℕ) → just ≡ Clause id → given ≡ Some id
+pub given_of : (just : Justification) (given : Option ℕ) → IsClauseOf just given → (id : ℕ) → just ≡ Clause id → given ≡ Some id
 given_of just None names id is = absurd (no_clause id (sym names ∙ is))
 given_of just (Some own) names id is = ap Some (same_clause own id (sym names ∙ is))
 
-IsNewJust-within : (old mid late new : State) → old.top ≤ mid.top → late.top ≤ new.top → (just : Just) → IsNewJust mid late just
-    → IsNewJust old new just
-IsNewJust-within old mid late new first second just own id is = let both = own id is in
+IsNewJustification-within : (old mid late new : State) → old.top ≤ mid.top → late.top ≤ new.top → (just : Justification) → IsNewJustification mid late just
+    → IsNewJustification old new just
+IsNewJustification-within old mid late new first second just own id is = let both = own id is in
     (omega (arith, first, both.0), omega (arith, second, both.1))
 
 -- the same entries, in whatever order
@@ -49,20 +49,20 @@ NamesOnly-further : (first second third : List Entry) (old mid new : State) → 
     → NamesOnly first second old mid → NamesOnly second third mid new → NamesOnly first third old new
 NamesOnly-further first second third old mid new one two before after = record {
   each = λ entry there. elim (after.each entry there) [
-    | inr own ↦ inr (IsNewJust-within old mid new new one (omega arith) (just_of entry) own)
+    | inr own ↦ inr (IsNewJustification-within old mid new new one (omega arith) (just_of entry) own)
     | inl still ↦ elim (before.each entry still) [
-      | inr own ↦ inr (IsNewJust-within old old mid new (omega arith) two (just_of entry) own)
+      | inr own ↦ inr (IsNewJustification-within old old mid new (omega arith) two (just_of entry) own)
       | inl first_there ↦ inl first_there
     ]
   ];
 }
 
 -- an entry that is kept names its clause
-NamesOnly-kept : (before after : List Entry) (old new : State) (kept : Entry) → IsNewJust old new (just_of kept)
+NamesOnly-kept : (before after : List Entry) (old new : State) (kept : Entry) → IsNewJustification old new (just_of kept)
     → ((entry : Entry) → Contains after entry → (entry ≡ kept) ⊎ Contains before entry) → NamesOnly before after old new
 NamesOnly-kept before after old new kept own within = record {
   each = λ entry there. elim (within entry there) [
-    | inl is ↦ inr (subst (λ (e : Entry). IsNewJust old new (just_of e)) (sym is) own)
+    | inl is ↦ inr (subst (λ (e : Entry). IsNewJustification old new (just_of e)) (sym is) own)
     | inr old_one ↦ inl old_one
   ];
 }
@@ -148,7 +148,7 @@ module _ {S : Type 0} where
     others = λ id above own. absurd (let within = not_above old sound id (none id own) in omega (arith, above, within));
   }
 
-  gives_further : (old mid new : TableState S) (just : Just) → IsSound old → AddsNone old mid → old.book.state.top ≤ mid.book.state.top
+  gives_further : (old mid new : TableState S) (just : Justification) → IsSound old → AddsNone old mid → old.book.state.top ≤ mid.book.state.top
       → ((id : ℕ) → id ≤ mid.book.state.top → IsAddedTo new id → IsAddedTo mid id) → GivesOne mid new just → GivesOne old new just
   gives_further old mid new just sound none more was gives = record {
     since = λ id is. (let above = gives.since id is in omega (arith, more, above));
@@ -226,7 +226,7 @@ module _ {S : Type 0} (law : StepByStep S) (fitting : Fitting S) where
     }
 
   -- a result was found, and a clause is retired, if one is given
-  module _ (old mid new : TableState S) (before : List Entry) (just : Just) (has : HasFound old mid before just) (given : Option ℕ) (one : RetiresOne mid new given) where
+  module _ (old mid new : TableState S) (before : List Entry) (just : Justification) (has : HasFound old mid before just) (given : Option ℕ) (one : RetiresOne mid new given) where
     sound_new : IsSound new
     sound_new = one.steps.leaves.sound
 
@@ -239,7 +239,7 @@ module _ {S : Type 0} (law : StepByStep S) (fitting : Fitting S) where
         let within = not_above old has.sound id (has.fits.own id named) in
         absurd (let above = has.gives.since id is in omega (arith, above, within))
 
-    new_just : IsNewJust old.book.state new.book.state just
+    new_just : IsNewJustification old.book.state new.book.state just
     new_just id is =
         let within = not_above mid has.still id (has.gives.own id is) in
         (has.gives.since id is, omega (arith, within, one.steps.extends.numbers.no_less))

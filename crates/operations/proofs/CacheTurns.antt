@@ -126,7 +126,7 @@ module _ {K V : Type 0} (eq : K → K → Bool) (law : TakesTurns K V eq) (entry
         let here : length before.entries - turns ≡ suc place = omega (arith, within) in
         let by = to_map entry_of (drop (suc place) before.entries) (entry_of last)
         (subst (λ k. Contains (map entry_of (drop k before.entries)) (entry_of last)) here there) in
-        behind_apart eq equal place before.entries last by.0 bounded.distinct (sym last_is ∙ is) by.1 (tells_keys.own by.0 last by.2)
+        behind_apart eq equal place before.entries last by.0 bounded.distinct (sym last_is ∙ is) by.1 (ap (λ (e : K × V). e.0) (tells_keys.own by.0 last by.2))
 
 -- The table beside it.
 module _ {S : Type 0} {K V : Type 0} (eq : K → K → Bool) (equal : IsEquivalence eq) (law : TakesTurns K V eq) (fitting : Fitting S) (purging : Purging S)

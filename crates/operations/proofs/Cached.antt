@@ -9,11 +9,11 @@ use Rattle.std.proofs.lemmas.List.{length-map, get_or-map}
 use Rattle.std.proofs.lemmas.List.Elements.{All-contains, All-from_recursion}
 use Rattle.std.proofs.lemmas.Map.Views.{Contains-from_lookup}
 use Rattle.std.proofs.lemmas.Option.{slice_get_within, get_or_from_slice_get}
-use Rattle.node_table.specs.declared.node.Just.TheVariants.{Trivial, Clause}
+use Rattle.node_table.specs.declared.node.Justification.TheVariants.{Trivial, Clause}
 use Rattle.op_cache.specs.Cache.{Cache, IsBounded, looked, kept, without_last, last_of}
 use Rattle.op_cache.specs.Laws.{AreInFront, HandsBack, OnlyKept, UsedInFront, is_among}
 use Rattle.operations.specs.Entries.{Entry, IsNamed, Names, just_of}
-use Rattle.operations.specs.Caches.{AreNamedOnce, IsGiven, IsOfKey, KeepsEntry, Keeping, LeavesEntries, MakesRoom, Remembers, TellsKeys}
+use Rattle.operations.specs.Caches.{AreNamedOnce, IsGiven, IsLookedUp, IsOfKey, KeepsEntry, Keeping, LeavesEntries, MakesRoom, Remembers, TellsKeys}
 use Rattle.operations.specs.Caches.{with_key}
 use Rattle.operations.proofs.Elements.{there_none, there_first, there_more, first_or_more}
 use borrow.Author.Tests.{ltb-true, ltb-false}
@@ -247,7 +247,7 @@ module _ {K V : Type 0} (eq : K → K → Bool) (equal : IsEquivalence eq) where
             let was = from_map entry_of es pair.0 (handed_there pair.0 pair.1) in
             let on = to_map entry_of after entry still in
             let alike : entry_of on.0 ≡ entry_of pair.0 = on.2 ∙ once entry (entry_of pair.0) id there was its pair.2 in
-            let here = handed_gone distinct_now found pair.0 on.0 pair.1 on.1 (tells.own on.0 pair.0 alike) in
+            let here = handed_gone distinct_now found pair.0 on.0 pair.1 on.1 (ap (λ (e : K × V). e.0) (tells.own on.0 pair.0 alike)) in
             sym on.2 ∙ ap entry_of here
 
         is_kept : UsedInFront K V eq → (now : Cache K V) → now ≡ record before { entries = after }
@@ -306,16 +306,45 @@ module _ {K V : Type 0} (entry_of : K × V → Entry) where
     capacity = room.capacity ∙ first.capacity;
   }
 
+no_value : {V : Type 0} (value : V) → Some value ≡ None → ⊥
+no_value value is = cc
+
+-- a look-up, by what the map finds under the key
+module _ {K V : Type 0} (eq : K → K → Bool) (equal : IsEquivalence eq) (only : OnlyKept K V eq) (front : UsedInFront K V eq)
+    (entry_of : K × V → Entry) (tells : TellsKeys eq entry_of) (before after : Cache K V) (bounded : IsBounded eq before) (key : K)
+    (same : after ≡ record before { entries = looked eq before.entries key }) where
+  leaves : LeavesEntries entry_of before after
+  leaves = is_looked eq equal only entry_of before after key same
+
+  exact : (result : Option V) → result ≡ lookup (eq key) before.entries → (value : V)
+      → Contains (map entry_of before.entries) (entry_of (key, value)) → result ≡ Some value
+  exact result is value there =
+      let found = listed_found eq equal only entry_of before.entries bounded.distinct (entry_of (key, value)) there in
+      is ∙ subst (λ (e : K × V). lookup (eq e.0) before.entries ≡ Some e.1) (tells.own found.0 (key, value) found.2) found.1
+
+  looked_up : (result : Option V) → result ≡ lookup (eq key) before.entries → IsLookedUp entry_of eq before after key result
+  looked_up None is = record {
+    found = tt;
+    exact = exact None is;
+    leaves = leaves;
+    missed = λ none. same ∙ (λ i. record before { entries = front.looked_none before.entries key (sym is) i });
+    used = λ keys stand. missed_unused eq equal front before.entries keys key stand (sym is);
+  }
+  looked_up (Some value) is = record {
+    found = leaves.same.there (entry_of (key, value)) (from_map entry_of before.entries (key, value)
+        (Contains-from_lookup tells.same key value before.entries (sym is)));
+    exact = exact (Some value) is;
+    leaves = leaves;
+    missed = λ none. absurd (no_value value none);
+    used = λ keys stand. subst (λ (c : Cache K V). AreInFront eq c.entries (with_key eq keys key)) (sym same)
+        (found_used eq equal front before.entries keys key stand (rw (sym is) refl));
+  }
+
 pub keeping : {K V : Type 0} (eq : K → K → Bool) → IsEquivalence eq → OnlyKept K V eq → UsedInFront K V eq → HandsBack K V eq
     → Keeping K V eq
 keeping eq equal only front back = record {
-  found = λ entry_of tells cache key value is. from_map entry_of cache.entries (key, value)
-      (Contains-from_lookup tells.same key value cache.entries is);
-  finds = λ entry_of cache bounded. listed_found eq equal only entry_of cache.entries bounded.distinct;
-  looked = is_looked eq equal only;
-  unchanged = λ before after key same none. same ∙ (λ i. record before { entries = front.looked_none before.entries key none i });
-  missed = λ cache. missed_unused eq equal front cache.entries;
-  used = λ cache. found_used eq equal front cache.entries;
+  looked = λ entry_of tells before after bounded key result is same.
+      looked_up eq equal only front entry_of tells before after bounded key same result is;
   kept = λ entry_of tells before after bounded still key value same found given is.
       is_kept eq equal only back entry_of tells before bounded key value given is front after same still found;
   further = further;

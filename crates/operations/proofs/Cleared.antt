@@ -6,15 +6,15 @@ use Rattle.std.proofs.lemmas.Bool.{and_parts, or_cases}
 use Rattle.lrat_rules.specs.State.{Live, clause_at}
 use Rattle.hint_chain.specs.declared.atom.Atom.{Atom}
 use Rattle.hint_chain.specs.declared.atom.Atom.TheVariants.{Always, Never, Of}
-use Rattle.hint_chain.specs.Atoms.{neg_atom, clause_of, is_literal}
+use Rattle.hint_chain.specs.Atoms.{neg_atom, clause_from_atoms, is_literal}
 use Rattle.hint_chain.specs.Closing.{are_among}
 use Rattle.node_table.specs.declared.node.Node.{Node}
-use Rattle.node_table.specs.declared.node.Just.TheVariants.{Trivial, Clause}
+use Rattle.node_table.specs.declared.node.Justification.TheVariants.{Trivial, Clause}
 use Rattle.node_table.specs.declared.node.Branch.{Branch}
 use Rattle.node_table.specs.Defined.{atom_of}
 use Rattle.node_table.specs.Deleted.{IsClear}
 use Rattle.node_table.specs.Diagram.{Graph, IsReduced, branch_at}
-use Rattle.node_table.specs.Just.{IsJustified}
+use Rattle.node_table.specs.Justification.{IsJustified}
 use Rattle.node_table.specs.Made.{inner}
 use Rattle.node_table.specs.Marks.{is_marked}
 use Rattle.operations.specs.Entries.{Entry, Conjunction, Implication, Disjunction, Quantification, FitsEntry, Names}
@@ -89,7 +89,7 @@ passed_by test y (x ∷ xs) all any =
 
 -- the literals of a clause are those of its atoms
 abbrev pub AreAmong : Type 0
-AreAmong = (atoms : List Atom) (clause : List ℤ) → clause_of atoms ≡ Some clause → are_among atoms clause ≡ true
+AreAmong = (atoms : List Atom) (clause : List ℤ) → clause_from_atoms atoms ≡ Some clause → are_among atoms clause ≡ true
 
 pub entry_clear : AreAmong → (graph : Graph) (live : Live) (marks : List Bool) (entry : Entry) (id : ℕ) (clause : List ℤ) → IsReduced graph
     → FitsEntry graph live entry → Names entry id → are_marked marks entry ≡ true

@@ -9,15 +9,15 @@ use Rattle.lrat_rules.specs.State.{State, clause_at}
 use Rattle.clause_ledger.specs.Book.{with_next}
 use Rattle.node_table.specs.declared.error.TableError.{TableError}
 use Rattle.node_table.specs.declared.error.TableError.TheVariants.{NodeLimit, IdLimit, OutOfMemory, WriteFault}
-use Rattle.node_table.specs.declared.node.Just.{Just}
-use Rattle.node_table.specs.declared.node.Just.TheVariants.{Trivial, Clause}
+use Rattle.node_table.specs.declared.node.Justification.{Justification}
+use Rattle.node_table.specs.declared.node.Justification.TheVariants.{Trivial, Clause}
 use Rattle.node_table.specs.Table.{TableState, IsSound, IsAddedTo, IsSame, live_nodes}
 use Rattle.node_table.specs.Progress.{Leaves, Steps}
 use Rattle.node_table.specs.Laws.{StepByStep}
 use Rattle.operations.specs.Accounts.{GivesOne, RetiresNew}
 use Rattle.operations.specs.Additions.{HighClauses}
 
-trivial : (id : ℕ) → ◌≡◌ {A = Just} Trivial (Clause id) → ⊥
+trivial : (id : ℕ) → ◌≡◌ {A = Justification} Trivial (Clause id) → ⊥
 trivial id is = cc
 
 -- what was added has a number that was given

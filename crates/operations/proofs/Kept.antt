@@ -5,13 +5,13 @@ use Rattle.std.specs.Prelude.{IsTrue, IsFalse}
 use Rattle.std.proofs.lemmas.List.Elements.{Contains-append_right, Contains-append_cases}
 use Rattle.lrat_rules.specs.State.{Live, clause_at}
 use Rattle.hint_chain.specs.declared.atom.Atom.{Atom}
-use Rattle.hint_chain.specs.Atoms.{clause_of, is_trivial}
+use Rattle.hint_chain.specs.Atoms.{clause_from_atoms, is_trivial}
 use Rattle.node_table.specs.declared.node.Node.{Node}
-use Rattle.node_table.specs.declared.node.Just.{Just}
-use Rattle.node_table.specs.declared.node.Just.TheVariants.{Trivial, Clause}
+use Rattle.node_table.specs.declared.node.Justification.{Justification}
+use Rattle.node_table.specs.declared.node.Justification.TheVariants.{Trivial, Clause}
 use Rattle.node_table.specs.Diagram.{Graph, IsReduced, KeepsNodes, branch_at, is_node}
 use Rattle.node_table.specs.Tied.{KeepsClauses}
-use Rattle.node_table.specs.Just.{IsJustified}
+use Rattle.node_table.specs.Justification.{IsJustified}
 use Rattle.node_table.specs.Table.{TableState, IsSound, Extends}
 use Rattle.node_table.specs.Laws.{Growth, StepByStep}
 use Rattle.operations.specs.Results.{conjunction_atoms, implication_atoms}
@@ -46,12 +46,12 @@ some_along one other same is = ap is_some same ∙ is
 not_named : (id : ℕ) → Trivial ≡ Clause id → ⊥
 not_named id is = cc
 
-module _ (given : (atoms : List Atom) → IsFalse (is_trivial atoms) → IsTrue (is_some (clause_of atoms))) where
-  justified_live : (live : Live) (atoms : List Atom) (just : Just) (id : ℕ) → IsJustified live atoms just → just ≡ Clause id
+module _ (given : (atoms : List Atom) → IsFalse (is_trivial atoms) → IsTrue (is_some (clause_from_atoms atoms))) where
+  justified_live : (live : Live) (atoms : List Atom) (just : Justification) (id : ℕ) → IsJustified live atoms just → just ≡ Clause id
       → is_some (clause_at live id) ≡ true
   justified_live live atoms just id holds is =
-      let own : IsJustified live atoms (Clause id) = subst (λ (j : Just). IsJustified live atoms j) is holds in
-      some_along (clause_at live id) (clause_of atoms) own.1 (given atoms own.0)
+      let own : IsJustified live atoms (Clause id) = subst (λ (j : Justification). IsJustified live atoms j) is holds in
+      some_along (clause_at live id) (clause_from_atoms atoms) own.1 (given atoms own.0)
 
   named_live : (graph : Graph) (live : Live) (entry : Entry) → FitsEntry graph live entry → (id : ℕ) → Names entry id
       → is_some (clause_at live id) ≡ true
@@ -219,7 +219,7 @@ fits_settled old new entries nodes inputs none stay fits = record {
     in_none id there = absurd (omega (arith, there.1))
 
 pub fitting : {S : Type 0} → StepByStep S → Growth
-    → ((atoms : List Atom) → IsFalse (is_trivial atoms) → IsTrue (is_some (clause_of atoms))) → Fitting S
+    → ((atoms : List Atom) → IsFalse (is_trivial atoms) → IsTrue (is_some (clause_from_atoms atoms))) → Fitting S
 fitting law laws given = record {
   none = λ table. fits_none given table;
   kept = λ old new entries sound still extends fits unretired. fits_kept given law laws old new sound still extends entries fits unretired;

@@ -9,7 +9,7 @@ use Rattle.std.proofs.lemmas.Bool.Decides.{Decides-int_eq}
 use Rattle.lrat_rules.specs.Soundness.{is_nonzero}
 use Rattle.hint_chain.specs.declared.atom.Atom.{Atom}
 use Rattle.hint_chain.specs.declared.atom.Atom.TheVariants.{Always, Never, Of}
-use Rattle.hint_chain.specs.Atoms.{clause_of, neg_atom, is_literal}
+use Rattle.hint_chain.specs.Atoms.{clause_from_atoms, neg_atom, is_literal}
 use Rattle.hint_chain.specs.Closing.{are_apart}
 use Rattle.node_table.specs.declared.node.Node.{Node}
 use Rattle.node_table.specs.declared.node.Node.TheVariants.{False, True, Inner}
@@ -154,11 +154,11 @@ some_behind : (literal : ℤ) (rest : Option (List ℤ)) → ◌≡◌ {A = Opti
 some_behind literal None is = cc
 some_behind literal (Some literals) is = cc
 
-some_inner : (graph : Graph) (u : Node) (rest : List Atom) → IsInner graph u → clause_of (neg_atom (atom_of graph u) ∷ rest) ≢ Some []
+some_inner : (graph : Graph) (u : Node) (rest : List Atom) → IsInner graph u → clause_from_atoms (neg_atom (atom_of graph u) ∷ rest) ≢ Some []
 some_inner graph u rest inner is =
     let at = IsAt-from graph u inner.branch inner.is in
-    some_behind (neg_ℤ (pos at.branch.variable)) (clause_of rest)
-    (sym (ap (λ (a : Atom). clause_of (neg_atom a ∷ rest)) (atom_at graph u at)) ∙ is)
+    some_behind (neg_ℤ (pos at.branch.variable)) (clause_from_atoms rest)
+    (sym (ap (λ (a : Atom). clause_from_atoms (neg_atom a ∷ rest)) (atom_at graph u at)) ∙ is)
 
 pub literals : Literals
 literals = record {

@@ -6,7 +6,7 @@ use Rattle.lrat_rules.specs.State.{Live}
 use Rattle.hint_chain.specs.declared.atom.Atom.TheVariants.{Of}
 use Rattle.hint_chain.specs.Additions.{part_clause}
 use Rattle.hint_chain.specs.Greedy.{IsLivePart}
-use Rattle.hint_chain.specs.Atoms.{clause_of, is_nonzero_atom, up_clause, down_clause}
+use Rattle.hint_chain.specs.Atoms.{clause_from_atoms, is_nonzero_atom, up_clause, down_clause}
 use Rattle.node_table.specs.declared.node.Node.{Node}
 use Rattle.node_table.specs.declared.node.Node.TheVariants.{False, True, Inner}
 use Rattle.node_table.specs.declared.node.NodeKey.{NodeKey}
@@ -58,33 +58,33 @@ module _ (graph : Graph) (live : Live) (level : ℕ) where
   pub up_given : (defined : (key : ℕ) (branch : Branch) → branch_at graph key ≡ Some branch
       → IsDefined live graph branch) (side : Side) (node : Node) (branch : Branch)
       → branch_of graph node ≡ Some branch → branch.level ≡ level
-      → clause_named live (up_of side (defs_of branch)) ≡ clause_of
+      → clause_named live (up_of side (defs_of branch)) ≡ clause_from_atoms
       (up_clause (atom_of graph node) (false_literal side graph level) (atom_of graph (cofactor_at side graph level node)))
   up_given defined side False branch at here = cc
   up_given defined side True branch at here = cc
   up_given defined High (Inner key) branch at here =
       (defined key.index branch at).hu
-      ∙ (λ i. clause_of (up_clause (own_atom key branch at i) (neg_ℤ (pos (variable_at graph (here i))))
+      ∙ (λ i. clause_from_atoms (up_clause (own_atom key branch at i) (neg_ℤ (pos (variable_at graph (here i))))
       (atom_of graph (own_child (λ b. b.high) key branch at here i))))
   up_given defined Low (Inner key) branch at here =
       (defined key.index branch at).lu
-      ∙ (λ i. clause_of (up_clause (own_atom key branch at i) (pos (variable_at graph (here i)))
+      ∙ (λ i. clause_from_atoms (up_clause (own_atom key branch at i) (pos (variable_at graph (here i)))
       (atom_of graph (own_child (λ b. b.low) key branch at here i))))
 
   pub down_given : (defined : (key : ℕ) (branch : Branch) → branch_at graph key ≡ Some branch
       → IsDefined live graph branch) (side : Side) (node : Node) (branch : Branch)
       → branch_of graph node ≡ Some branch → branch.level ≡ level
-      → clause_named live (down_of side (defs_of branch)) ≡ clause_of
+      → clause_named live (down_of side (defs_of branch)) ≡ clause_from_atoms
       (down_clause (atom_of graph node) (false_literal side graph level) (atom_of graph (cofactor_at side graph level node)))
   down_given defined side False branch at here = cc
   down_given defined side True branch at here = cc
   down_given defined High (Inner key) branch at here =
       (defined key.index branch at).hd
-      ∙ (λ i. clause_of (down_clause (own_atom key branch at i) (neg_ℤ (pos (variable_at graph (here i))))
+      ∙ (λ i. clause_from_atoms (down_clause (own_atom key branch at i) (neg_ℤ (pos (variable_at graph (here i))))
       (atom_of graph (own_child (λ b. b.high) key branch at here i))))
   down_given defined Low (Inner key) branch at here =
       (defined key.index branch at).ld
-      ∙ (λ i. clause_of (down_clause (own_atom key branch at i) (pos (variable_at graph (here i)))
+      ∙ (λ i. clause_from_atoms (down_clause (own_atom key branch at i) (pos (variable_at graph (here i)))
       (atom_of graph (own_child (λ b. b.low) key branch at here i))))
 
   child_stands : (child : Branch → Node) → ((key : ℕ) (branch : Branch) → branch_at graph key ≡ Some branch → is_node graph (child branch)

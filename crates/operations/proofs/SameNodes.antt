@@ -6,12 +6,12 @@ use Rattle.lrat_rules.specs.State.{Live, clause_at}
 use Rattle.hint_chain.specs.declared.atom.Atom.{Atom}
 use Rattle.hint_chain.specs.Additions.{conjunction, implication}
 use Rattle.node_table.specs.declared.node.Node.{Node}
-use Rattle.node_table.specs.declared.node.Just.{Just}
-use Rattle.node_table.specs.declared.node.Just.TheVariants.{Trivial, Clause}
+use Rattle.node_table.specs.declared.node.Justification.{Justification}
+use Rattle.node_table.specs.declared.node.Justification.TheVariants.{Trivial, Clause}
 use Rattle.node_table.specs.Diagram.{Graph, is_node, level_of}
 use Rattle.node_table.specs.Value.{Levels, value_of}
 use Rattle.node_table.specs.Defined.{atom_of}
-use Rattle.node_table.specs.Just.{IsJustified}
+use Rattle.node_table.specs.Justification.{IsJustified}
 use Rattle.operations.specs.Results.{Conjoined, Implied, Disjoined, Quantified, conjunction_atoms, implication_atoms, with_level}
 use Rattle.operations.specs.Entries.{Entry, Conjunction, Implication, Disjunction, Quantification, FitsEntry, Names, just_of}
 
@@ -36,7 +36,7 @@ module _ (old new : Graph) where
   not_above_both u v w same_u same_v same_w below level below_u below_v =
       omega (arith, same_w.level, below level (omega (arith, same_u.level, below_u)) (omega (arith, same_v.level, below_v)))
 
-  conjoined_same : (live : Live) (u v w : Node) (just : Just) → IsSameNode old new u → IsSameNode old new v → IsSameNode old new w
+  conjoined_same : (live : Live) (u v w : Node) (just : Justification) → IsSameNode old new u → IsSameNode old new v → IsSameNode old new w
       → Conjoined old live u v w just → Conjoined new live u v w just
   conjoined_same live u v w just same_u same_v same_w found = record {
     stands = same_w.stands;
@@ -46,7 +46,7 @@ module _ (old new : Graph) where
         (λ i. conjunction (sym same_u.atom i) (sym same_v.atom i) (sym same_w.atom i)) found.justified;
   }
 
-  implied_same : (live : Live) (u v : Node) (just : Just) → IsSameNode old new u → IsSameNode old new v → Implied old live u v just
+  implied_same : (live : Live) (u v : Node) (just : Justification) → IsSameNode old new u → IsSameNode old new v → Implied old live u v just
       → Implied new live u v just
   implied_same live u v just same_u same_v found = record {
     value = λ a holds. same_v.value a ∙ found.value a (sym (same_u.value a) ∙ holds);
@@ -108,7 +108,7 @@ module _ (graph : Graph) (before after : Live) where
   entry_justified (Disjunction u v w) along fits = fits
   entry_justified (Quantification u level w) along fits = fits
 
-  justified_settled : (atoms : List Atom) (just : Just) → ((id : ℕ) → just ≡ Clause id → clause_at after id ≡ clause_at before id)
+  justified_settled : (atoms : List Atom) (just : Justification) → ((id : ℕ) → just ≡ Clause id → clause_at after id ≡ clause_at before id)
       → IsJustified before atoms just → IsJustified after atoms just
   justified_settled atoms Trivial same holds = holds
   justified_settled atoms (Clause id) same holds = (holds.0, same id refl ∙ holds.1)

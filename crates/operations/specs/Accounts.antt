@@ -3,8 +3,8 @@ use Rattle.std.specs.Prelude.{◌≡◌, ◌≢◌, ◌≤◌, ◌<◌, ◌⊎�
 use Rattle.node_table.specs.declared.error.TableError.{TableError}
 use Rattle.node_table.specs.declared.error.TableError.TheVariants.{WriteFault}
 use Rattle.node_table.specs.declared.node.Node.{Node}
-use Rattle.node_table.specs.declared.node.Just.{Just}
-use Rattle.node_table.specs.declared.node.Just.TheVariants.{Trivial, Clause}
+use Rattle.node_table.specs.declared.node.Justification.{Justification}
+use Rattle.node_table.specs.declared.node.Justification.TheVariants.{Trivial, Clause}
 use Rattle.node_table.specs.HandedOn.{same_error}
 use Rattle.node_table.specs.Table.{TableState, AddsNone, Extends, IsAddedTo, IsSound}
 use Rattle.node_table.specs.Progress.{Steps, error_of}
@@ -13,18 +13,23 @@ use Rattle.operations.specs.Entries.{Entry, Accounts, AreApart, FitsEntry, Fits,
 use Rattle.operations.specs.Entries.{just_of}
 
 -- Of the clauses that were added since, one at most is given, which isn't retired; all others are.
-pub record GivesOne {S : Type 0} (old new : TableState S) (just : Just) : Type 0 where
+pub record GivesOne {S : Type 0} (old new : TableState S) (just : Justification) : Type 0 where
   pub since : (id : ℕ) → just ≡ Clause id → old.book.state.top < id
   pub own : (id : ℕ) → just ≡ Clause id → IsAddedTo new id
   pub unretired : (id : ℕ) → just ≡ Clause id → Contains new.retired id → ⊥
   pub others : (id : ℕ) → old.book.state.top < id → IsAddedTo new id → Contains new.retired id ⊎ (just ≡ Clause id)
 
 -- the justification that is given, if one is
-abbrev pub given_just : {E : Type 0} → Result Just E → Just
+abbrev pub given_just : {E : Type 0} → Result Justification E → Justification
 given_just (Ok just) = just
 given_just (Err error) = Trivial
 
-abbrev pub found_just : {E : Type 0} → Result (Node × Just) E → Just
+-- the clause that is given, if one is
+abbrev pub given_clause : {E : Type 0} → Result ℕ E → Justification
+given_clause (Ok id) = Clause id
+given_clause (Err error) = Trivial
+
+abbrev pub found_just : {E : Type 0} → Result (Node × Justification) E → Justification
 found_just (Ok found) = found.1
 found_just (Err error) = Trivial
 
@@ -63,7 +68,7 @@ pub record AccountsFor {S : Type 0} (old new : TableState S) (before after : Lis
   pub accounts : IsWhole error → Accounts old new before after
 
 -- What a call found and didn't keep yet: only clauses that came since were retired, and one at most is given.
-pub record HasFound {S : Type 0} (old new : TableState S) (before : List Entry) (just : Just) : Type 0 where
+pub record HasFound {S : Type 0} (old new : TableState S) (before : List Entry) (just : Justification) : Type 0 where
   pub sound : IsSound old
   pub fits : Fits old before
   pub still : IsSound new
@@ -98,7 +103,7 @@ pub record Accounting (S : Type 0) : Type 0 where
       → Fits old (before ++ others) → AreApart before others → IsWhole error → Fits new (after ++ others) × AreApart after others
   -- where no clause was added beside definitions, none is given, and what later additions give is given by both
   pub gives_none : (old new : TableState S) → IsSound old → AddsNone old new → GivesOne old new Trivial
-  pub gives_further : (old mid new : TableState S) (just : Just) → IsSound old → AddsNone old mid → Extends old mid → Extends mid new
+  pub gives_further : (old mid new : TableState S) (just : Justification) → IsSound old → AddsNone old mid → Extends old mid → Extends mid new
       → GivesOne mid new just → GivesOne old new just
   pub retires_further : (old mid new : TableState S) → mid.retired ≡ old.retired → old.book.state.top ≤ mid.book.state.top
       → RetiresNew mid new → RetiresNew old new
@@ -108,14 +113,14 @@ pub record Accounting (S : Type 0) : Type 0 where
       → Steps old new count error → RetiresNew old new → (IsWhole error → GivesOne old new Trivial)
       → AccountsFor old new before before error
   -- it was found: what was kept before still fits
-  pub found : (old new : TableState S) (before : List Entry) (just : Just) → HasFound old new before just → Fits new before
+  pub found : (old new : TableState S) (before : List Entry) (just : Justification) → HasFound old new before just → Fits new before
   -- and it is kept, and the clause that is handed back is retired
   pub kept : (old mid new : TableState S) (before after : List Entry) (own : Entry)
       (given : Option ℕ) → HasFound old mid before (just_of own)
       → FitsEntry mid.graph mid.book.state.live own → IsOneKept before after own given → RetiresOne mid new given
       → HasKept old new before after own
   -- or it is refused memory, and its own clause is retired
-  pub refused : (old mid new : TableState S) (before : List Entry) (just : Just) (given : Option ℕ)
+  pub refused : (old mid new : TableState S) (before : List Entry) (just : Justification) (given : Option ℕ)
       (error : Option TableError)
       → HasFound old mid before just → IsClauseOf just given → RetiresOne mid new given
       → AccountsFor old new before before error

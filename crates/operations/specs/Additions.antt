@@ -1,24 +1,29 @@
 -- The two additions of a step, and the first of them, the high clause, which is retired once the second one is there, or
 -- where that is refused. (Bryant, Heule: Generating Extended Resolution Proofs with a BDD-Based SAT Solver, 2021, section
 -- 4.2.)
-use Rattle.std.specs.Prelude.{◌≡◌, ◌≢◌, ◌+◌, ◌<◌, ◌++◌, ℕ, ℤ, pos, neg_ℤ, nat_abs, true, List, [], ◌∷◌, None, Some, Contains, IsTrue}
+use Rattle.std.specs.Prelude.{◌≡◌, ◌≢◌, ◌+◌, ◌<◌, ◌≤◌, ◌++◌, ℕ, ℤ, pos, neg_ℤ, nat_abs, true, List, [], ◌∷◌, Option, None, Some, Contains}
+use Rattle.std.specs.Prelude.{IsTrue, length}
 use Rattle.std.specs.Ordering.{int_eq}
 use Rattle.std.specs.List.{list_any}
-use Rattle.lrat_rules.specs.State.{State, clause_at}
-use Rattle.clause_ledger.specs.Book.{with_next}
+use Rattle.lrat_rules.specs.Chain.{literals_of}
+use Rattle.lrat_rules.specs.State.{State, Live, clause_at}
+use Rattle.clause_ledger.specs.Book.{Book, AreTold, addition, with_next}
 use Rattle.hint_chain.specs.declared.atom.Atom.{Atom}
 use Rattle.hint_chain.specs.declared.atom.Atom.TheVariants.{Of}
-use Rattle.hint_chain.specs.Atoms.{clause_of, is_literal, neg_atom}
+use Rattle.hint_chain.specs.declared.part.Part.{Part}
+use Rattle.hint_chain.specs.Atoms.{clause_from_atoms, is_literal, neg_atom}
 use Rattle.hint_chain.specs.Closing.{are_apart}
+use Rattle.hint_chain.specs.Greedy.{AreLiveParts, PartsClose, greedy}
 use Rattle.node_table.specs.declared.error.TableError.{TableError}
 use Rattle.node_table.specs.declared.error.TableError.TheVariants.{WriteFault}
 use Rattle.node_table.specs.declared.node.Node.{Node}
-use Rattle.node_table.specs.declared.node.Just.TheVariants.{Trivial, Clause}
+use Rattle.node_table.specs.declared.node.Justification.TheVariants.{Trivial, Clause}
 use Rattle.node_table.specs.Defined.{atom_of}
 use Rattle.node_table.specs.Diagram.{Graph, IsReduced, IsOrder, levels, variable_at}
 use Rattle.node_table.specs.Progress.{Steps}
 use Rattle.node_table.specs.Table.{TableState, IsAddedTo, IsSame, IsSound}
 use Rattle.node_table.specs.Tied.{IsOverNodes, IsOwned}
+use Rattle.operations.specs.declared.additions.StepParts.{StepParts}
 use Rattle.operations.specs.Operands.{IsInner}
 use Rattle.operations.specs.Accounts.{GivesOne, RetiresNew}
 
@@ -74,9 +79,42 @@ pub record AreLiterals (graph : Graph) (u v : Node) : Type 0 where
 pub record Literals : Type 0 where
   pub own : (graph : Graph) (node : Node) (y : ℤ) → IsTrue (is_literal y (atom_of graph node)) → IsOwned graph (nat_abs y)
   pub negated : (graph : Graph) (node : Node) (y : ℤ) → IsTrue (is_literal y (neg_atom (atom_of graph node))) → IsOwned graph (nat_abs y)
-  pub some : (graph : Graph) (u : Node) (rest : List Atom) → IsInner graph u → clause_of (neg_atom (atom_of graph u) ∷ rest) ≢ Some []
+  pub some : (graph : Graph) (u : Node) (rest : List Atom) → IsInner graph u → clause_from_atoms (neg_atom (atom_of graph u) ∷ rest) ≢ Some []
   pub differ : (graph : Graph) → IsReduced graph → (u v : Node) → IsInner graph u → IsInner graph v → u ≢ v → AreLiterals graph u v
   pub behind : (graph : Graph) → IsReduced graph → IsOrder graph.order → (level : ℕ) → level < levels graph → (clause : List ℤ)
       → AreOwned graph clause → IsTrue (are_apart clause)
       → IsTrue (are_apart (neg_ℤ (pos (variable_at graph level)) ∷ clause))
       × IsOverNodes graph (neg_ℤ (pos (variable_at graph level)) ∷ clause)
+
+-- the clause of the high side: behind the literal of a level's variable that is false there
+abbrev pub high_of : Graph → ℕ → List ℤ → List ℤ
+high_of graph level clause = neg_ℤ (pos (variable_at graph level)) ∷ clause
+
+-- the parts of a step in their turn
+abbrev pub parts_in : StepParts → List (Option Part)
+parts_in parts = parts.result ∷ parts.first ∷ parts.second ∷ parts.children ∷ []
+
+-- What the two additions of a clause stand on: its literals are those of nodes, of different variables, and there are some; the
+-- parts of the high side close for the high clause, and those of the low side behind it. All parts are live.
+pub record AreBoth (graph : Graph) (live : Live) (level : ℕ) (clause : List ℤ) (high low : StepParts) : Type 0 where
+  pub within : level < levels graph
+  pub some : clause ≢ []
+  pub short : length clause ≤ 3
+  pub apart : IsTrue (are_apart clause)
+  pub owned : AreOwned graph clause
+  pub on_high : PartsClose (literals_of (high_of graph level clause)) (parts_in high)
+  pub on_low : (first : Part) → first.clause ≡ high_of graph level clause → PartsClose (literals_of clause) (Some first ∷ parts_in low)
+  pub high_live : AreLiveParts live (parts_in high)
+  pub low_live : AreLiveParts live (parts_in low)
+
+-- The step that adds a clause is told, with the hints that the greedy choice takes from these parts in turn.
+pub record AddsFrom {S : Type 0} (old new : Book S) (clause : List ℤ) (parts : List (Option Part)) : Type 0 where
+  pub hints : List ℕ
+  pub chosen : greedy (literals_of clause) parts ≡ Some hints
+  pub told : AreTold true old new (addition old.state clause hints ∷ [])
+
+-- Two steps are told: the high clause from the parts of its side, and the clause from the high one and then those of its own side.
+pub record AddsBoth {S : Type 0} (old new : Book S) (long clause : List ℤ) (high low : StepParts) : Type 0 where
+  pub between : Book S
+  pub first : AddsFrom old between long (parts_in high)
+  pub second : AddsFrom between new clause (Some (record { id = old.state.top + 1; clause = long }) ∷ parts_in low)

@@ -1,6 +1,6 @@
 -- The computed cache of one operation as a list of entries, for any keys and values: what a look-up leaves, what is kept,
 -- and which keys stand in front. (Brace, Rudell, Bryant: Efficient Implementation of a BDD Package, DAC 1990.)
-use Rattle.std.specs.Prelude.{◌≡◌, ◌∷◌, ◌≤◌, ◌<◌, ◌⊎◌, ℕ, Bool, true, List, Option, None, Some, IsSome, IsFalse, Contains, length, map}
+use Rattle.std.specs.Prelude.{◌≡◌, ◌∷◌, ◌≤◌, ◌<◌, ◌⊎◌, ℕ, Bool, true, List, Option, None, Some, IfSome, IsFalse, MatchOption, Contains, length, map}
 use Rattle.std.specs.Prelude.{if◌then◌else◌}
 use Rattle.std.specs.Map.{lookup}
 use Rattle.op_cache.specs.Cache.{Cache, IsBounded, looked as after_look, kept as after_keep}
@@ -45,6 +45,16 @@ module _ {K V : Type 0} (entry_of : K × V → Entry) where
     pub no_fewer : length (listed before) ≤ length (listed after)
     pub capacity : after.capacity ≡ before.capacity
 
+  -- A key is looked up: what is found is listed, and what is listed is found. The entries stay, and where nothing is found,
+  -- nothing changes. A key that was used is found, and one that is found comes to stand in front.
+  pub record IsLookedUp (eq : K → K → Bool) (before after : Cache K V) (key : K) (result : Option V) : Type 0 where
+    pub found : IfSome result (λ value. Contains (listed after) (entry_of (key, value)))
+    pub exact : (value : V) → Contains (listed before) (entry_of (key, value)) → result ≡ Some value
+    pub leaves : LeavesEntries before after
+    pub missed : result ≡ None → after ≡ before
+    pub used : (keys : List K) → AreInFront eq before.entries keys
+        → MatchOption result (IsFalse (is_among eq keys key)) (λ value. AreInFront eq after.entries (with_key eq keys key))
+
   -- All entries stay but that of the key, and those of a cache that was full.
   pub record MakesRoom (before after : Cache K V) (key : K) : Type 0 where
     pub others : (entry : Entry) → Contains (listed before) entry → Contains (listed after) entry
@@ -67,29 +77,17 @@ module _ {K V : Type 0} (entry_of : K × V → Entry) where
     pub no_fewer : length (listed before) ≤ length (listed after)
     pub capacity : after.capacity ≡ before.capacity
 
--- Keys that count as equal are the same, and entries of different keys differ.
+-- Keys that count as equal are the same, and an entry tells what was asked and found.
 pub record TellsKeys {K V : Type 0} (eq : K → K → Bool) (entry_of : K × V → Entry) : Type 0 where
   pub same : (one other : K) → eq one other ≡ true → one ≡ other
-  pub own : (one other : K × V) → entry_of one ≡ entry_of other → one.0 ≡ other.0
+  pub own : (one other : K × V) → entry_of one ≡ entry_of other → one ≡ other
 
--- What the calls of a bounded cache make of its entries. What a look-up finds is listed, and what is listed is found. One
--- that finds nothing changes nothing. A key that was used is found, and one that is found comes to stand in front. What is
--- remembered through several calls is what each of them remembers.
+-- What the calls of a bounded cache make of its entries. What is remembered through several calls is what each of them
+-- remembers.
 pub record Keeping (K V : Type 0) (eq : K → K → Bool) : Type 0 where
-  pub found : (entry_of : K × V → Entry) → TellsKeys eq entry_of → (cache : Cache K V) (key : K) (value : V) → lookup (eq key) cache.entries
-      ≡ Some value
-      → Contains (listed entry_of cache) (entry_of (key, value))
-  pub finds : (entry_of : K × V → Entry) (cache : Cache K V) → IsBounded eq cache → (entry : Entry) → Contains (listed entry_of cache) entry
-      → (pair : K × V) × (lookup (eq pair.0) cache.entries ≡ Some pair.1) × (entry_of pair ≡ entry)
-  pub looked : (entry_of : K × V → Entry) (before after : Cache K V) (key : K) → after
-      ≡ record before { entries = after_look eq before.entries key }
-      → LeavesEntries entry_of before after
-  pub unchanged : (before after : Cache K V) (key : K) → after ≡ record before { entries = after_look eq before.entries key }
-      → lookup (eq key) before.entries ≡ None → after ≡ before
-  pub missed : (cache : Cache K V) (keys : List K) (key : K) → AreInFront eq cache.entries keys → lookup (eq key) cache.entries ≡ None
-      → IsFalse (is_among eq keys key)
-  pub used : (cache : Cache K V) (keys : List K) (key : K) → AreInFront eq cache.entries keys → IsSome (lookup (eq key) cache.entries)
-      → AreInFront eq (after_look eq cache.entries key) (with_key eq keys key)
+  pub looked : (entry_of : K × V → Entry) → TellsKeys eq entry_of → (before after : Cache K V) → IsBounded eq before → (key : K)
+      (result : Option V) → result ≡ lookup (eq key) before.entries → after ≡ record before { entries = after_look eq before.entries key }
+      → IsLookedUp entry_of eq before after key result
   pub kept : (entry_of : K × V → Entry) → TellsKeys eq entry_of → (before after : Cache K V) → IsBounded eq before → IsBounded eq after
       → (key : K) (value : V)
       → after ≡ record before { entries = (after_keep eq before.capacity before.entries key value).0 } → lookup (eq key) after.entries

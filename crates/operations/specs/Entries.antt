@@ -3,20 +3,20 @@
 use Rattle.std.specs.Prelude.{◌≡◌, ◌⊎◌, ◌<◌, ◌≤◌, ◌++◌, ℕ, List, [], Option, Contains, IsTrue, MatchOption}
 use Rattle.lrat_rules.specs.State.{State, Live, clause_at}
 use Rattle.node_table.specs.declared.node.Node.{Node}
-use Rattle.node_table.specs.declared.node.Just.{Just}
-use Rattle.node_table.specs.declared.node.Just.TheVariants.{Trivial, Clause}
+use Rattle.node_table.specs.declared.node.Justification.{Justification}
+use Rattle.node_table.specs.declared.node.Justification.TheVariants.{Trivial, Clause}
 use Rattle.node_table.specs.Diagram.{Graph, is_node}
 use Rattle.node_table.specs.Table.{TableState, IsSound, Extends, IsAddedTo}
 use Rattle.operations.specs.Results.{Conjoined, Implied, Disjoined, Quantified}
 
 -- what was asked, what was found, and why its clause holds, if there is one
 pub data Entry : Type 0 where
-  Conjunction : Node → Node → Node → Just → Entry
-  Implication : Node → Node → Just → Entry
+  Conjunction : Node → Node → Node → Justification → Entry
+  Implication : Node → Node → Justification → Entry
   Disjunction : Node → Node → Node → Entry
   Quantification : Node → ℕ → Node → Entry
 
-abbrev pub just_of : Entry → Just
+abbrev pub just_of : Entry → Justification
 just_of (Conjunction u v w just) = just
 just_of (Implication u v just) = just
 just_of (Disjunction u v w) = Trivial
@@ -27,7 +27,7 @@ abbrev pub Names : Entry → ℕ → Type 0
 Names entry id = just_of entry ≡ Clause id
 
 -- the clause of this justification, if it has one
-abbrev pub IsClauseOf : Just → Option ℕ → Type 0
+abbrev pub IsClauseOf : Justification → Option ℕ → Type 0
 IsClauseOf just given = MatchOption given (just ≡ Trivial) (λ id. just ≡ Clause id)
 
 -- a clause that some entry names
@@ -58,12 +58,12 @@ abbrev pub AreApart : List Entry → List Entry → Type 0
 AreApart one other = (id : ℕ) → IsNamed one id → IsNamed other id → ⊥
 
 -- the clause, where one is named, came after the one state and by the other
-abbrev pub IsNewJust : State → State → Just → Type 0
-IsNewJust old new just = (id : ℕ) → just ≡ Clause id → (old.top < id) × (id ≤ new.top)
+abbrev pub IsNewJustification : State → State → Justification → Type 0
+IsNewJustification old new just = (id : ℕ) → just ≡ Clause id → (old.top < id) × (id ≤ new.top)
 
 -- Each entry was there before, or its clause came since.
 pub record NamesOnly (before after : List Entry) (old new : State) : Type 0 where
-  pub each : (entry : Entry) → Contains after entry → Contains before entry ⊎ IsNewJust old new (just_of entry)
+  pub each : (entry : Entry) → Contains after entry → Contains before entry ⊎ IsNewJustification old new (just_of entry)
 
 -- A clause that an operation retires was retired before, came since, or was named by an entry of its cache.
 pub record RetiresOwn {S : Type 0} (old new : TableState S) (before : List Entry) : Type 0 where

@@ -5,6 +5,7 @@ pub mod Entries
 pub mod Purged
 pub mod Machine
 pub mod Caches
+pub mod Computed
 pub mod Accounts
 pub mod Turns
 pub mod Ended

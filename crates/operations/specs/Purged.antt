@@ -3,7 +3,7 @@
 use Rattle.std.specs.Prelude.{◌≡◌, ◌∷◌, ◌++◌, ◌&&◌, ℕ, ℤ, Bool, true, false, List, Option, Some, Contains, nat_eq}
 use Rattle.std.specs.List.{IsDistinct, filter}
 use Rattle.lrat_rules.specs.State.{Live, clause_at}
-use Rattle.node_table.specs.declared.node.Just.TheVariants.{Trivial}
+use Rattle.node_table.specs.declared.node.Justification.TheVariants.{Trivial}
 use Rattle.node_table.specs.Deleted.{IsClear}
 use Rattle.node_table.specs.Diagram.{Graph, IsReduced}
 use Rattle.node_table.specs.Marks.{AreMarks, is_marked}

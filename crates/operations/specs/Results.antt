@@ -5,18 +5,18 @@ use Rattle.lrat_rules.specs.State.{Live}
 use Rattle.hint_chain.specs.declared.atom.Atom.{Atom}
 use Rattle.hint_chain.specs.Additions.{conjunction, implication}
 use Rattle.node_table.specs.declared.node.Node.{Node}
-use Rattle.node_table.specs.declared.node.Just.{Just}
+use Rattle.node_table.specs.declared.node.Justification.{Justification}
 use Rattle.node_table.specs.Diagram.{Graph, is_node, level_of}
 use Rattle.node_table.specs.Value.{Levels, value_of}
 use Rattle.node_table.specs.Defined.{atom_of}
-use Rattle.node_table.specs.Just.{IsJustified}
+use Rattle.node_table.specs.Justification.{IsJustified}
 
 -- w holds where u and v do: the clause -u, -v, w
 abbrev pub conjunction_atoms : Graph → Node → Node → Node → List Atom
 conjunction_atoms graph u v w = conjunction (atom_of graph u) (atom_of graph v) (atom_of graph w)
 
 -- The node w is the conjunction of u and v, and stands before neither; their clause is justified.
-pub record Conjoined (graph : Graph) (live : Live) (u v w : Node) (just : Just) : Type 0 where
+pub record Conjoined (graph : Graph) (live : Live) (u v w : Node) (just : Justification) : Type 0 where
   pub stands : IsTrue (is_node graph w)
   pub not_above : (level : ℕ) → level ≤ level_of graph u → level ≤ level_of graph v → level ≤ level_of graph w
   pub value : (a : Levels) → value_of graph a w ≡ (value_of graph a u && value_of graph a v)
@@ -27,7 +27,7 @@ abbrev pub implication_atoms : Graph → Node → Node → List Atom
 implication_atoms graph u v = implication (atom_of graph u) (atom_of graph v)
 
 -- The node v holds where u does; their clause is justified.
-pub record Implied (graph : Graph) (live : Live) (u v : Node) (just : Just) : Type 0 where
+pub record Implied (graph : Graph) (live : Live) (u v : Node) (just : Justification) : Type 0 where
   pub value : (a : Levels) → value_of graph a u ≡ true → value_of graph a v ≡ true
   pub justified : IsJustified live (implication_atoms graph u v) just
 

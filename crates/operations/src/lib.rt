@@ -5,7 +5,9 @@
 //! off with a stack of its own. It stands on the hint lists of `hint_chain`, the caches of `op_cache` and the nodes of `node_table`.
 #![tactic(auto)]
 
+mod additions;
 mod clauses;
+mod computed;
 mod frames;
 mod laws;
 mod machine;
@@ -14,8 +16,10 @@ mod pair;
 mod parts;
 mod purge;
 mod retired;
+mod stored_just;
 
-pub use clauses::{behind, id_of, just_of, number_of};
+pub use additions::{StepParts, add_both};
+pub use computed::{Computed, Results};
 pub use frames::Reply;
 pub use laws::{
     accounts_law, budget_law, cache_law, cache_turn_law, entry_law, high_clause_law, literal_law,
@@ -26,4 +30,5 @@ pub use operands::{Operands, split};
 pub use pair::NodePair;
 pub use parts::{Side, down_part, just_part, up_part};
 pub use purge::Purge;
-pub use retired::{clause_of, retire};
+pub use retired::{clause_number, retire};
+pub use stored_just::StoredJustification;

@@ -4,18 +4,18 @@ ghost use Rattle.std.specs.Prelude.{◌≡◌, ◌≤◌, ◌<◌, ℤ, List, So
 ghost use Rattle.hint_chain.specs.Greedy.{IsLivePart};
 ghost use Rattle.hint_chain.specs.Additions.{IsUpPart, IsDownPart, Justifies};
 ghost use Rattle.node_table.specs.declared.node.Branch.{Branch};
-ghost use Rattle.hint_chain.specs.Atoms.{clause_of};
+ghost use Rattle.hint_chain.specs.Atoms.{clause_from_atoms};
 ghost use Rattle.node_table.specs.Diagram.{branch_of, is_node, high_at, levels, low_at};
 ghost use Rattle.lrat_rules.specs.State.{Live};
 ghost use Rattle.node_table.specs.Defined.{atom_of, defs_of};
 ghost use Rattle.node_table.specs.Tied.{IsTied};
-ghost use Rattle.node_table.specs.Just.{IsJustified};
+ghost use Rattle.node_table.specs.Justification.{IsJustified};
 ghost use Rattle.operations.specs.Sides.{false_literal, cofactor_at, up_of, down_of, named_part};
 
 use cnf_base::{Id, Lit};
-use hint_chain::{Atom, Part, clause_law, clause_of};
+use hint_chain::{Atom, Part, clause_from_atoms, clause_law};
 use host_io::Sink;
-use node_table::{Defs, Just, Node, Table};
+use node_table::{Defs, Justification, Node, Table};
 
 /// Where a variable is true, and where it is false.
 #[derive(Clone, Copy, Debug)]
@@ -69,15 +69,15 @@ pub fn down_part<S: Sink + Drop>(
 
 /// The clause that a justification of these atoms names, where there is one. It stands as its atoms give it, so that the
 /// ledger need not be asked.
-pub fn just_part(just: &Just, atoms: &[Atom]) -> Option<Part>
+pub fn just_part(just: &Justification, atoms: &[Atom]) -> Option<Part>
     requires { length atoms.now ≤ 4 }
     ensures justifies { (live : Live) → IsJustified live atoms.now just.now → Justifies atoms.now result }
     ensures live { (live : Live) → IsJustified live atoms.now just.now → IsLivePart live result }
 {
     clause_law();
     match just {
-        Just::Trivial => None,
-        Just::Clause(id) => part_of(Some(*id), atoms),
+        Justification::Trivial => None,
+        Justification::Clause(id) => part_of(Some(*id), atoms),
     }
 }
 
@@ -142,12 +142,12 @@ fn cofactor<S: Sink + Drop>(table: &Table<S>, level: u32, side: Side, node: Node
 #[inline(always)]
 fn part_of(id: Option<Id>, atoms: &[Atom]) -> Option<Part>
     requires { length atoms.now ≤ 4 }
-    ensures { result ≡ named_part id (clause_of atoms.now) }
+    ensures { result ≡ named_part id (clause_from_atoms atoms.now) }
 {
     let Some(id) = id else {
         return None;
     };
-    match clause_of(atoms) {
+    match clause_from_atoms(atoms) {
         None => None,
         Some(clause) => Some(Part::of(id, clause)),
     }

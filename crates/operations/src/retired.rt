@@ -6,7 +6,7 @@ ghost use Rattle.operations.specs.Entries.{IsClauseOf};
 
 use cnf_base::Id;
 use host_io::Sink;
-use node_table::{Just, Table, steps_law};
+use node_table::{Justification, Table, steps_law};
 
 /// Retires a clause, if one is given.
 pub fn retire<S: Sink + Drop>(table: &mut Table<S>, clause: Option<Id>)
@@ -22,11 +22,11 @@ pub fn retire<S: Sink + Drop>(table: &mut Table<S>, clause: Option<Id>)
 }
 
 /// The clause that a justification names.
-pub fn clause_of(just: &Just) -> Option<Id>
+pub fn clause_number(just: &Justification) -> Option<Id>
     ensures { IsClauseOf just.now result }
 {
     match just {
-        Just::Trivial => None,
-        Just::Clause(id) => Some(*id),
+        Justification::Trivial => None,
+        Justification::Clause(id) => Some(*id),
     }
 }

@@ -8,8 +8,8 @@ ghost use Rattle.hint_chain.specs.Greedy.{PartsClose};
 use crate::support::{cut, literal_of};
 use cnf_base::{Id, Lit};
 use hint_chain::{
-    Atom, Part, ShortClause, UnitPart, and_high, and_low, clause_of, greedy_hints, imply_high,
-    imply_low, unit_hints,
+    Atom, Part, ShortClause, UnitPart, and_high, and_low, clause_from_atoms, greedy_hints,
+    imply_high, imply_low, unit_hints,
 };
 use std::alloc::Global;
 use std::process::Abort;
@@ -41,7 +41,7 @@ fn clause_in(alloc: Global, text: &str) -> Result<Option<ShortClause>, Fail> {
     if atoms.len() > 4 {
         return Err("more than four atoms")?;
     }
-    Ok(clause_of(atoms))
+    Ok(clause_from_atoms(atoms))
 }
 
 fn part_in(alloc: Global, id: Id, text: &str) -> Result<Option<Part>, Fail> {

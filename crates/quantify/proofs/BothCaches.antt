@@ -1,14 +1,13 @@
 -- The entries of both caches as one list: they name no clause, and a disjunction changes one part of it.
-use Rattle.std.proofs.Common.{◌≡◌, ℕ, Bool, List, refl, subst, sym}
+use Rattle.std.proofs.Common.{◌≡◌, ℕ, Bool, List, Option, refl, subst, sym}
 use Rattle.std.proofs.lemmas.List.Elements.{Contains-append_left, Contains-append_right}
 use Rattle.node_table.specs.Table.{TableState, IsSound}
 use Rattle.node_table.specs.Value.{Levels}
+use Rattle.operations.specs.Caches.{IsOneKept}
 use Rattle.operations.specs.Entries.{Entry, Fits, FitsEntry, Fitting, HaveSame, Quantification}
-use Rattle.quantify.specs.declared.exists_cache.ExistsCache.{ExistsCache}
-use Rattle.quantify.specs.declared.or_cache.OrCache.{OrCache}
 use Rattle.node_table.specs.declared.node.Node.{Node}
-use Rattle.quantify.specs.ExistsCache.{IsKept, both_caches, quantification, quantifications}
-use Rattle.quantify.specs.OrCache.{disjunction, disjunctions}
+use Rattle.quantify.specs.ExistsCache.{ExistsCache, both_caches, quantification, quantifications}
+use Rattle.quantify.specs.OrCache.{OrCache, disjunction, disjunctions}
 use Rattle.quantify.specs.Runs.{Runs}
 use Rattle.quantify.proofs.Lists.{AreUnnamed, both_unnamed, fits_beside, fits_more, fits_still, unnamed}
 use Rattle.quantify.proofs.Running.{Answer, sound_after}
@@ -35,11 +34,12 @@ module _ {S : Type 0} (fitting : Fitting S) (table : TableState S) (cache : Exis
 
   -- one quantification more
   pub kept_part : (after : ExistsCache) (u w : Node) (level : ℕ) → FitsEntry table.graph table.book.state.live (Quantification u level w)
-      → IsKept cache after u level w → Fits table (both_caches after ors)
-  kept_part after u w level right kept =
+      → (given : Option ℕ) → IsOneKept (quantifications cache) (quantifications after) (Quantification u level w) given
+      → Fits table (both_caches after ors)
+  kept_part after u w level right given kept =
       fits_beside table (quantifications after) (disjunctions ors) (quantifications_unnamed after)
       (fits_more table (quantifications cache) (quantifications after) (Quantification u level w)
-      (quantifications_unnamed after) exists_part right kept.one.only) ors_part
+      (quantifications_unnamed after) exists_part right kept.only) ors_part
 
   -- a look-up for a quantification
   pub looked_part : (after : ExistsCache) → HaveSame (quantifications cache) (quantifications after) → Fits table (both_caches after ors)

@@ -1,7 +1,7 @@
 -- Entries that name no clause, on a list of their own and beside others; and what caches remember.
 use Rattle.std.proofs.Common.{◌≡◌, ◌∙◌, ◌++◌, ◌⊎◌, ℕ, zero, suc, List, [], ◌∷◌, map, Contains, refl, sym, subst, arith, inl, inr}
 use Rattle.std.proofs.lemmas.List.Elements.{Contains-append_right, Contains-append_cases}
-use Rattle.node_table.specs.declared.node.Just.TheVariants.{Trivial, Clause}
+use Rattle.node_table.specs.declared.node.Justification.TheVariants.{Trivial, Clause}
 use Rattle.node_table.specs.Table.{TableState, IsSound, Extends}
 use Rattle.operations.specs.Entries.{Entry, Fits, FitsEntry, Fitting, HaveSame, Names, just_of}
 use Rattle.op_cache.specs.Cache.{Cache}

@@ -17,10 +17,9 @@ use Rattle.operations.specs.Operands.{both_later, no_later, AreSplit, Splitting}
 use Rattle.operations.specs.Results.{Disjoined}
 use Rattle.operations.specs.Entries.{Entry, Fits, Fitting}
 use Rattle.operations.specs.Machine.{AwaitsLow, HighCame, IsAnswer, IsOpened, LowCame}
-use Rattle.quantify.specs.declared.or_cache.OrCache.{OrCache}
 use Rattle.operations.specs.Caches.{Keeping}
 use Rattle.operations.specs.Pairs.{Pair, same_pair}
-use Rattle.quantify.specs.OrCache.{RemembersDisjunctions, disjunction, disjunctions}
+use Rattle.quantify.specs.OrCache.{OrCache, RemembersDisjunctions, disjunction, disjunctions}
 use Rattle.quantify.specs.Disjunction.{CanDisjoin, Closes, Disjoins, IsUnknown, disjoining, disjunction_of}
 use Rattle.quantify.specs.Runs.{Runs}
 use Rattle.quantify.proofs.Disjunctions.{disjoined_kept, disjunction_of-kept, high_part, low_part, not_plain}

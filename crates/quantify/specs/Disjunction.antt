@@ -14,8 +14,7 @@ use Rattle.operations.specs.Machine.{Calls}
 use Rattle.operations.specs.Results.{Disjoined}
 use Rattle.operations.specs.Entries.{Disjunction, Fits, HaveSame}
 use Rattle.operations.specs.Pairs.{Pair}
-use Rattle.quantify.specs.declared.or_cache.OrCache.{OrCache}
-use Rattle.quantify.specs.OrCache.{MakesRoomFor, RemembersDisjunctions, disjunctions}
+use Rattle.quantify.specs.OrCache.{OrCache, MakesRoomFor, RemembersDisjunctions, disjunctions}
 use Rattle.quantify.specs.Runs.{Runs}
 
 -- the function of either

@@ -11,12 +11,10 @@ use Rattle.node_table.specs.Made.{ReachesNew}
 use Rattle.operations.specs.Machine.{Calls}
 use Rattle.operations.specs.Results.{Quantified, with_level}
 use Rattle.operations.specs.Entries.{Quantification, Fits, HaveSame}
-use Rattle.quantify.specs.declared.exists_cache.ExistsCache.{ExistsCache}
-use Rattle.quantify.specs.declared.or_cache.OrCache.{OrCache}
 use Rattle.quantify.specs.declared.quantify.Above.{Above}
 use Rattle.quantify.specs.declared.quantify.BothCaches.{BothCaches}
-use Rattle.quantify.specs.ExistsCache.{MakesRoomFor, Question, RemembersQuantifications, both_caches, quantifications}
-use Rattle.quantify.specs.OrCache.{RemembersDisjunctions}
+use Rattle.quantify.specs.ExistsCache.{ExistsCache, MakesRoomFor, Question, RemembersQuantifications, both_caches, quantifications}
+use Rattle.quantify.specs.OrCache.{OrCache, RemembersDisjunctions}
 use Rattle.quantify.specs.Runs.{Runs}
 
 -- the function that holds where some value of this level's variable makes u hold

@@ -11,7 +11,8 @@ ghost use Rattle.node_table.specs.Progress.{Steps, error_of};
 ghost use Rattle.operations.specs.Operands.{IsInner};
 ghost use Rattle.operations.specs.Results.{Disjoined};
 ghost use Rattle.operations.specs.Entries.{Disjunction, Entry, Fits, HaveSame};
-ghost use Rattle.quantify.specs.OrCache.{disjunctions, most_disjunctions};
+ghost use Rattle.operations.specs.Computed.{most_entries};
+ghost use Rattle.quantify.specs.OrCache.{disjunctions};
 ghost use Rattle.quantify.specs.Disjunction.{CanDisjoin, Disjoins, IsPlain, IsUnknown, disjunction_of, disjoining};
 
 use crate::join::join;
@@ -51,9 +52,9 @@ pub fn or<S: Sink + Drop>(
     ensures kept { u ≢ v → IsInner table.old.graph u → IsInner table.old.graph v
         → IfOk result (λ w. Contains (disjunctions cache.new) (Disjunction u v w)) }
     ensures remembered { (entry : Entry) → Contains (disjunctions cache.old) entry → Contains (disjunctions cache.new) entry
-        ⊎ (most_disjunctions cache.old ≤ length (disjunctions cache.new)) }
+        ⊎ (most_entries cache.old ≤ length (disjunctions cache.new)) }
     ensures no_fewer { length (disjunctions cache.old) ≤ length (disjunctions cache.new) }
-    ensures capacity { most_disjunctions cache.new ≡ most_disjunctions cache.old }
+    ensures capacity { most_entries cache.new ≡ most_entries cache.old }
     // A constant, and a node with itself: nothing changes.
     ensures plain { (w : NodeValue) → IsPlain u v w → (result ≡ Ok w) × (table.new ≡ table.old) × (cache.new ≡ cache.old) }
     // However it ends, each node that was made is a subfunction of the disjunction; on success none is left over.
@@ -126,7 +127,7 @@ impl<S: Sink + Drop> Operation<S> for OrOperation {
         growth_law();
         subfunction_law();
         let w = join(table, operands.level, *high, *low)?;
-        cache.keep(operands.u, operands.v, w)?;
+        cache.keep((operands.u, operands.v), w)?;
         Ok(w)
     }
 }
@@ -145,7 +146,7 @@ fn answer<S: Sink + Drop>(table: &Table<S>, cache: &mut OrCache, u: Node, v: Nod
     if let Some(w) = plain(u, v) {
         return Some(w);
     }
-    cache.look(u, v)
+    cache.look((u, v))
 }
 
 // The disjunction of two nodes of which one is a constant, or which are the same.

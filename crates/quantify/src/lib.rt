@@ -10,6 +10,6 @@ mod or_cache;
 mod quantify;
 
 pub use disjoin::or;
-pub use exists_cache::ExistsCache;
-pub use or_cache::OrCache;
+pub use exists_cache::{ExistsCache, ExistsEntries};
+pub use or_cache::{OrCache, OrEntries};
 pub use quantify::exists;

@@ -10,7 +10,8 @@ ghost use Rattle.node_table.specs.Progress.{Steps, error_of};
 ghost use Rattle.operations.specs.Results.{Quantified};
 ghost use Rattle.operations.specs.Entries.{Entry, Fits, HaveSame, Quantification};
 ghost use Rattle.quantify.specs.OrCache.{RemembersDisjunctions};
-ghost use Rattle.quantify.specs.ExistsCache.{both_caches, most_quantifications, quantifications};
+ghost use Rattle.operations.specs.Computed.{most_entries};
+ghost use Rattle.quantify.specs.ExistsCache.{both_caches, quantifications};
 ghost use Rattle.quantify.specs.Quantification.{CanQuantify, IsAbove, IsAnswered, IsMissed, Quantifies, quantification_of, quantifying};
 
 use crate::disjoin::or;
@@ -54,9 +55,9 @@ pub fn exists<S: Sink + Drop>(
     ensures kept { level_of table.old.graph u ≤ level → level < levels table.old.graph
         → IfOk result (λ w. Contains (quantifications cache.new) (Quantification u level w)) }
     ensures remembered { (entry : Entry) → Contains (quantifications cache.old) entry → Contains (quantifications cache.new) entry
-        ⊎ (most_quantifications cache.old ≤ length (quantifications cache.new)) }
+        ⊎ (most_entries cache.old ≤ length (quantifications cache.new)) }
     ensures no_fewer { length (quantifications cache.old) ≤ length (quantifications cache.new) }
-    ensures capacity { most_quantifications cache.new ≡ most_quantifications cache.old }
+    ensures capacity { most_entries cache.new ≡ most_entries cache.old }
     ensures ors { RemembersDisjunctions ors.old ors.new }
     // A constant, and a node below the level: nothing changes.
     ensures plain { level < level_of table.old.graph u → (result ≡ Ok u) × (table.new ≡ table.old) × (cache.new ≡ cache.old)
@@ -171,7 +172,7 @@ impl<'a, S: Sink + Drop> Operation<S> for ExistsOperation<'a> {
         growth_law();
         subfunction_law();
         let w = join(table, parts.own, *high, *low)?;
-        caches.exists.keep(parts.node, parts.level, w)?;
+        caches.exists.keep((parts.node, parts.level), w)?;
         Ok(w)
     }
 }
@@ -197,7 +198,7 @@ fn answer<S: Sink + Drop>(
     if level < own {
         return Ok(Some(u));
     }
-    if let Some(w) = cache.look(u, level) {
+    if let Some(w) = cache.look((u, level)) {
         return Ok(Some(w));
     }
     if own < level {
@@ -228,7 +229,7 @@ fn disjoin_children<S: Sink + Drop>(
     subfunction_law();
     let (high, low) = table.cofactors(level, u);
     let w = or(table, ors, high, low)?;
-    cache.keep(u, level, w)?;
+    cache.keep((u, level), w)?;
     Ok(w)
 }
 

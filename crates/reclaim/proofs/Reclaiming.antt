@@ -1,6 +1,6 @@
 -- A reclamation step by step: the caches are purged, what they gave up is deleted with all that was retired, and then the
 -- nodes go that no root reaches.
-use Rattle.std.proofs.Common.{◌≡◌, ◌⊎◌, ◌≤◌, ◌<◌, ◌∙◌, ℕ, ℤ, Bool, true, false, List, [], ◌++◌, Option, None, Some, Contains, is_some, refl}
+use Rattle.std.proofs.Common.{◌≡◌, ◌≤◌, ◌∙◌, ℕ, ℤ, Bool, true, false, List, [], ◌++◌, Option, None, Some, Contains, is_some, refl}
 use Rattle.std.proofs.Common.{sym, ap, subst, arith, inl, inr}
 use Rattle.std.specs.Prelude.{if◌then◌else◌}
 use Rattle.std.proofs.lemmas.Bool.{cases_Bool}
@@ -8,10 +8,10 @@ use Rattle.std.proofs.lemmas.List.Elements.{Contains-append_cases}
 use Rattle.lrat_rules.specs.State.{Live, clause_at}
 use Rattle.node_table.specs.declared.node.Node.{Node}
 use Rattle.node_table.specs.declared.node.Branch.{Branch}
-use Rattle.node_table.specs.Deleted.{AreClear, Defines, DefinesUnmarked}
+use Rattle.node_table.specs.Deleted.{AreClear, DefinesUnmarked}
 use Rattle.node_table.specs.Diagram.{Graph, branch_at}
 use Rattle.node_table.specs.Made.{inner}
-use Rattle.node_table.specs.Marks.{AreMarks, AreReached, IsReached, is_marked}
+use Rattle.node_table.specs.Marks.{AreMarks, AreReached, is_marked}
 use Rattle.node_table.specs.Swept.{IsSwept}
 use Rattle.node_table.specs.Table.{TableState, AddsNone, IsAddedTo, IsSound}
 use Rattle.operations.specs.Entries.{Entry, FitsEntry, Fits, Fitting, IsAccounted, IsNamed}

@@ -12,10 +12,8 @@ use Rattle.operations.specs.Entries.{Entry, Conjunction, Implication, Disjunctio
 use Rattle.operations.specs.Entries.{IsAccounted, IsNamed, Names, NamesOnly, RetiresOwn}
 use Rattle.apply_and.specs.Cache.{entries as conjunctions, entry_of as conjunction_entry}
 use Rattle.imply.specs.Cache.{entries as implications, entry_of as implication_entry}
-use Rattle.quantify.specs.declared.exists_cache.ExistsCache.{ExistsCache}
-use Rattle.quantify.specs.declared.or_cache.OrCache.{OrCache}
-use Rattle.quantify.specs.ExistsCache.{both_caches, quantification, quantifications}
-use Rattle.quantify.specs.OrCache.{disjunction, disjunctions}
+use Rattle.quantify.specs.ExistsCache.{ExistsCache, both_caches, quantification, quantifications}
+use Rattle.quantify.specs.OrCache.{OrCache, disjunction, disjunctions}
 use Rattle.term_runner.specs.declared.caches.Caches.{Caches}
 use Rattle.term_runner.specs.Caches.{KeepsEntries}
 use Rattle.term_runner.proofs.Leaving.{error_handed}

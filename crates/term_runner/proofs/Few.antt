@@ -12,8 +12,8 @@ use Rattle.std.proofs.lemmas.Map.Steps.{length-le_from_distinct_below}
 use Rattle.cnf_base.specs.Formula.{Formula}
 use Rattle.lrat_rules.specs.State.{Live}
 use Rattle.node_table.specs.declared.node.Node.{Node}
-use Rattle.node_table.specs.declared.node.Just.{Just}
-use Rattle.node_table.specs.declared.node.Just.TheVariants.{Trivial, Clause}
+use Rattle.node_table.specs.declared.node.Justification.{Justification}
+use Rattle.node_table.specs.declared.node.Justification.TheVariants.{Trivial, Clause}
 use Rattle.node_table.specs.Diagram.{Graph}
 use Rattle.node_table.specs.Lean.{HasAdded}
 use Rattle.node_table.specs.Table.{TableState}
@@ -23,24 +23,23 @@ use Rattle.schedule_plan.specs.declared.plan.Move.TheVariants.{Push, And, Exists
 use Rattle.schedule_plan.specs.Plan.{Stage, Term, after_and, after_move, after_moves, after_push, input, is_pushed, no_stage}
 use Rattle.term_runner.specs.declared.held.HeldTerm.{HeldTerm}
 use Rattle.term_runner.specs.Held.{AreHeld, HasUnits}
-use Rattle.term_runner.proofs.AllCaches.{AreUnnamed}
+use Rattle.term_runner.proofs.AllCaches.{AreUnnamed, names_none}
 use Rattle.term_runner.proofs.Between.{IsBetween}
-use Rattle.term_runner.proofs.Purged.{needs_none}
 use Rattle.term_runner.proofs.Plans.{first_of_moves, inside, pushed_of}
 use Rattle.term_runner.proofs.Taking.{and_of, exists_of}
 
 -- the clause that a justification names, before others
-abbrev with_number : Just → List ℕ → List ℕ
+abbrev with_number : Justification → List ℕ → List ℕ
 with_number Trivial ids = ids
 with_number (Clause id) ids = id ∷ ids
 
 -- the clauses that the justifications of a list name
-module _ {X : Type 0} (just : X → Just) where
+module _ {X : Type 0} (just : X → Justification) where
   abbrev numbers : List X → List ℕ
   numbers [] = []
   numbers (x ∷ xs) = with_number (just x) (numbers xs)
 
-  few_with : (own : Just) (ids : List ℕ) → length (with_number own ids) ≤ length ids + 1
+  few_with : (own : Justification) (ids : List ℕ) → length (with_number own ids) ≤ length ids + 1
   few_with Trivial ids = omega arith
   few_with (Clause id) ids = omega arith
 
@@ -48,10 +47,10 @@ module _ {X : Type 0} (just : X → Just) where
   few_numbers [] = omega arith
   few_numbers (x ∷ xs) = omega (arith, few_with (just x) (numbers xs), few_numbers xs)
 
-  has_own : (own : Just) (ids : List ℕ) (id : ℕ) → own ≡ Clause id → Contains (with_number own ids) id
-  has_own own ids id is = subst (λ (j : Just). Contains (with_number j ids) id) (sym is) (zero, omega arith, refl)
+  has_own : (own : Justification) (ids : List ℕ) (id : ℕ) → own ≡ Clause id → Contains (with_number own ids) id
+  has_own own ids id is = subst (λ (j : Justification). Contains (with_number j ids) id) (sym is) (zero, omega arith, refl)
 
-  has_other : (own : Just) (ids : List ℕ) (id : ℕ) → Contains ids id → Contains (with_number own ids) id
+  has_other : (own : Justification) (ids : List ℕ) (id : ℕ) → Contains ids id → Contains (with_number own ids) id
   has_other Trivial ids id there = there
   has_other (Clause own) ids id (k, small, at) = (suc k, omega (arith, small), at)
 
@@ -72,7 +71,7 @@ named_few ands implications rest none size few_ands few_implications =
         | inl first ↦ Contains-append_left one two id (has_number just_of ands named.0 id first named.2)
         | inr later ↦ elim (Contains-append_cases implications rest named.0 later) [
           | inl second ↦ Contains-append_right one two id (has_number just_of implications named.0 id second named.2)
-          | inr last ↦ absurd (let e : Trivial ≡ Clause id = sym (needs_none named.0 (none named.0 last)) ∙ named.2 in cc)
+          | inr last ↦ absurd (names_none named.0 id (none named.0 last) named.2)
         ]
       ],
     )

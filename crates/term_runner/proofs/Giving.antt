@@ -5,13 +5,13 @@ use Rattle.std.proofs.Common.{subst, arith, inl, inr}
 use Rattle.std.specs.Prelude.{IsTrue}
 use Rattle.std.proofs.lemmas.Bool.{cases_lt}
 use Rattle.lrat_rules.specs.State.{clause_at}
-use Rattle.node_table.specs.declared.node.Just.{Just}
-use Rattle.node_table.specs.declared.node.Just.TheVariants.{Clause, Trivial}
+use Rattle.node_table.specs.declared.node.Justification.{Justification}
+use Rattle.node_table.specs.declared.node.Justification.TheVariants.{Clause, Trivial}
 use Rattle.node_table.specs.Diagram.{Graph, branch_at}
 use Rattle.node_table.specs.Laws.{StepByStep}
 use Rattle.node_table.specs.Table.{TableState, AddsNone, Extends, IsAddedTo, IsSound}
 use Rattle.operations.specs.Accounts.{none_whole}
-use Rattle.operations.specs.Entries.{Entry, Accounts, Fits, IsAccounted, IsNewJust, NamesOnly, RetiresOwn}
+use Rattle.operations.specs.Entries.{Entry, Accounts, Fits, IsAccounted, IsNewJustification, NamesOnly, RetiresOwn}
 use Rattle.term_runner.specs.Caches.{KeepsEntries}
 use Rattle.term_runner.specs.declared.held.HeldTerm.{HeldTerm}
 use Rattle.term_runner.specs.Held.{GivesUnit, HasUnits, IsUnitOf}
@@ -20,8 +20,8 @@ use Rattle.term_runner.proofs.Replaced.{first_unit, free_after, later_unit, no_u
 
 module _ {S : Type 0} where
   -- an operand's unit, or one that was added since
-  pub of_two : (old new : TableState S) (u v : HeldTerm) (unit : Just) → (unit ≡ u.unit)
-      ⊎ ((unit ≡ v.unit) ⊎ IsNewJust old.book.state new.book.state unit)
+  pub of_two : (old new : TableState S) (u v : HeldTerm) (unit : Justification) → (unit ≡ u.unit)
+      ⊎ ((unit ≡ v.unit) ⊎ IsNewJustification old.book.state new.book.state unit)
       → (unit ≡ u.unit) ⊎ ((unit ≡ v.unit) ⊎ ((id : ℕ) → unit ≡ Clause id → IsAddedTo new id))
       → (id : ℕ) → unit ≡ Clause id → IsUnitOf (v ∷ u ∷ []) id ⊎ ((old.book.state.top < id) × IsAddedTo new id)
   of_two old new u v unit given added id is = elim given [
@@ -44,7 +44,7 @@ module _ {S : Type 0} where
       second : unit ≡ v.unit → IsUnitOf (v ∷ u ∷ []) id
       second own = first_unit v (u ∷ []) id (sym own ∙ is)
 
-  pub of_one : (old new : TableState S) (u : HeldTerm) (unit : Just) → (unit ≡ u.unit) ⊎ IsNewJust old.book.state new.book.state unit
+  pub of_one : (old new : TableState S) (u : HeldTerm) (unit : Justification) → (unit ≡ u.unit) ⊎ IsNewJustification old.book.state new.book.state unit
       → (unit ≡ u.unit) ⊎ ((id : ℕ) → unit ≡ Clause id → IsAddedTo new id) → (id : ℕ) → unit ≡ Clause id → IsUnitOf (u ∷ []) id
       ⊎ ((old.book.state.top < id) × IsAddedTo new id)
   of_one old new u unit given added id is = elim given [
@@ -56,7 +56,7 @@ module _ {S : Type 0} where
   ]
 
   -- behind a call that loses no clause, one adds the unit alone and retires none
-  pub given_behind : (old mid new : TableState S) (before after : List Entry) (operands : List HeldTerm) (unit : Just)
+  pub given_behind : (old mid new : TableState S) (before after : List Entry) (operands : List HeldTerm) (unit : Justification)
       → Accounts old mid before after → RetiresOwn old mid before
       → NamesOnly before after old.book.state mid.book.state → old.book.state.top ≤ mid.book.state.top → mid.book.state.top
       ≤ new.book.state.top → new.retired ≡ mid.retired
@@ -94,7 +94,7 @@ module _ {S : Type 0} where
   }
 
   -- behind a call that loses no clause, one that gives the unit
-  pub given_further : (old mid new : TableState S) (first second third : List Entry) (operands : List HeldTerm) (unit : Just)
+  pub given_further : (old mid new : TableState S) (first second third : List Entry) (operands : List HeldTerm) (unit : Justification)
       → Accounts old mid first second → RetiresOwn old new first
       → NamesOnly first third old.book.state new.book.state → old.book.state.top ≤ mid.book.state.top
       → ((id : ℕ) → id ≤ mid.book.state.top → IsAddedTo new id → IsAddedTo mid id)
@@ -115,12 +115,12 @@ module _ {S : Type 0} where
   }
 
   -- the unit of a conjunction of two terms
-  pub two_give : (old mid new : TableState S) (before after : List Entry) (u v : HeldTerm) (rest : List HeldTerm) (unit : Just)
+  pub two_give : (old mid new : TableState S) (before after : List Entry) (u v : HeldTerm) (rest : List HeldTerm) (unit : Justification)
       → IsSound old → IsSound mid → HasUnits old before (v ∷ u ∷ rest)
       → KeepsEntries old mid before after None → Accounts old mid before after → old.book.state.top ≤ mid.book.state.top
       → mid.book.state.top ≤ new.book.state.top → new.retired ≡ mid.retired
       → ((id : ℕ) → IsAddedTo new id → IsAddedTo mid id ⊎ (unit ≡ Clause id)) → (unit ≡ u.unit)
-      ⊎ ((unit ≡ v.unit) ⊎ IsNewJust mid.book.state new.book.state unit)
+      ⊎ ((unit ≡ v.unit) ⊎ IsNewJustification mid.book.state new.book.state unit)
       → (unit ≡ u.unit) ⊎ ((unit ≡ v.unit) ⊎ ((id : ℕ) → unit ≡ Clause id → IsAddedTo new id))
       → GivesUnit old new before after (v ∷ u ∷ []) unit
   two_give old mid new before after u v rest unit sound still has keeps accounts less more same alone given added =
@@ -134,12 +134,12 @@ module _ {S : Type 0} where
       free id is = free_after old mid before after (v ∷ u ∷ rest) sound has keeps.retires (keeps.named none_whole) id is
 
   -- that of a node that a term implies
-  pub one_give : (old mid new : TableState S) (before after : List Entry) (u : HeldTerm) (unit : Just) → IsSound mid
+  pub one_give : (old mid new : TableState S) (before after : List Entry) (u : HeldTerm) (unit : Justification) → IsSound mid
       → ((id : ℕ) → u.unit ≡ Clause id → IsAccounted mid after id → ⊥)
       → KeepsEntries old mid before after None → Accounts old mid before after → old.book.state.top ≤ mid.book.state.top
       → mid.book.state.top ≤ new.book.state.top → new.retired ≡ mid.retired
       → ((id : ℕ) → IsAddedTo new id → IsAddedTo mid id ⊎ (unit ≡ Clause id)) → (unit ≡ u.unit)
-      ⊎ IsNewJust mid.book.state new.book.state unit
+      ⊎ IsNewJustification mid.book.state new.book.state unit
       → (unit ≡ u.unit) ⊎ ((id : ℕ) → unit ≡ Clause id → IsAddedTo new id) → GivesUnit old new before after (u ∷ []) unit
   one_give old mid new before after u unit still free keeps accounts less more same alone given added =
       given_behind old mid new before after (u ∷ []) unit accounts keeps.retires (keeps.named none_whole) less more same alone
@@ -148,7 +148,7 @@ module _ {S : Type 0} where
       (elim given [ inl own ↦ inl own | inr came ↦ inr (inr came) ]))
 
   -- that of a clause that is pushed
-  pub new_gives : (old new : TableState S) (kept : List Entry) (unit : Just) → IsSound old → Fits old kept → old.book.state.top
+  pub new_gives : (old new : TableState S) (kept : List Entry) (unit : Justification) → IsSound old → Fits old kept → old.book.state.top
       ≤ new.book.state.top → new.retired ≡ old.retired
       → ((id : ℕ) → IsAddedTo new id → IsAddedTo old id ⊎ (unit ≡ Clause id))
       → ((id : ℕ) → unit ≡ Clause id → (id ≡ new.book.state.top) × (old.book.state.top < id))

@@ -7,15 +7,15 @@ use Rattle.cnf_base.specs.Formula.{Formula}
 use Rattle.lrat_rules.specs.State.{Live, clause_at}
 use Rattle.hint_chain.specs.declared.atom.Atom.{Atom}
 use Rattle.hint_chain.specs.declared.atom.Atom.TheVariants.{Always, Never, Of}
-use Rattle.hint_chain.specs.Atoms.{clause_of, is_trivial}
+use Rattle.hint_chain.specs.Atoms.{clause_from_atoms, is_trivial}
 use Rattle.node_table.specs.declared.error.TableError.{TableError}
-use Rattle.node_table.specs.declared.node.Just.{Just}
-use Rattle.node_table.specs.declared.node.Just.TheVariants.{Trivial, Clause}
+use Rattle.node_table.specs.declared.node.Justification.{Justification}
+use Rattle.node_table.specs.declared.node.Justification.TheVariants.{Trivial, Clause}
 use Rattle.node_table.specs.Diagram.{Graph, levels}
 use Rattle.node_table.specs.Defined.{atom_of}
-use Rattle.node_table.specs.Just.{IsJustified}
+use Rattle.node_table.specs.Justification.{IsJustified}
 use Rattle.node_table.specs.Table.{TableState, IsSound}
-use Rattle.operations.specs.Entries.{Entry, Fits, Fitting, IsAccounted, IsNewJust, NamesOnly, RetiresOwn}
+use Rattle.operations.specs.Entries.{Entry, Fits, Fitting, IsAccounted, IsNewJustification, NamesOnly, RetiresOwn}
 use Rattle.schedule_plan.specs.Plan.{Term}
 use Rattle.term_runner.specs.declared.held.HeldTerm.{HeldTerm}
 use Rattle.term_runner.specs.Held.{AreHeld, IsHeld, IsReady, OwnUnits}
@@ -24,15 +24,15 @@ pub later : {X : Type 0} (first : X) (list : List X) (x : X) → Contains list x
 later first list x there = (suc there.0, omega (arith, there.1), there.2)
 
 -- a justified unit's clause is live
-one_some : (atom : Atom) → IsFalse (is_trivial (atom ∷ [])) → is_some (clause_of (atom ∷ [])) ≡ true
+one_some : (atom : Atom) → IsFalse (is_trivial (atom ∷ [])) → is_some (clause_from_atoms (atom ∷ [])) ≡ true
 one_some Always apart = absurd (let e : true ≡ false = apart in cc)
 one_some Never apart = refl
 one_some (Of x) apart = refl
 
-unit_live : (live : Live) (atom : Atom) (unit : Just) (id : ℕ) → IsJustified live (atom ∷ []) unit → unit ≡ Clause id
+unit_live : (live : Live) (atom : Atom) (unit : Justification) (id : ℕ) → IsJustified live (atom ∷ []) unit → unit ≡ Clause id
     → is_some (clause_at live id) ≡ true
 unit_live live atom unit id proved is =
-    let own : IsJustified live (atom ∷ []) (Clause id) = subst (λ (j : Just). IsJustified live (atom ∷ []) j) is proved in
+    let own : IsJustified live (atom ∷ []) (Clause id) = subst (λ (j : Justification). IsJustified live (atom ∷ []) j) is proved in
     ap is_some own.1 ∙ one_some atom own.0
 
 some_clause : (o : Option (List ℤ)) → is_some o ≡ true → (clause : List ℤ) × (o ≡ Some clause)
@@ -56,7 +56,7 @@ module _ {S : Type 0} where
   within_top table sound id live = let clause = some_clause (clause_at table.book.state.live id) live in
       (sound.tied.numbers id clause.0 clause.1).1
 
-  pub unit_within : (table : TableState S) → IsSound table → (atom : Atom) (unit : Just) (id : ℕ)
+  pub unit_within : (table : TableState S) → IsSound table → (atom : Atom) (unit : Justification) (id : ℕ)
       → IsJustified table.book.state.live (atom ∷ []) unit → unit ≡ Clause id → id ≤ table.book.state.top
   unit_within table sound atom unit id proved is = within_top table sound id (unit_live table.book.state.live atom unit id proved is)
 
@@ -87,24 +87,24 @@ module _ {S : Type 0} where
   ]
 
   -- a unit of the next number
-  pub given_next : (old new : TableState S) (u v : Just) (result : Result Just TableError)
+  pub given_next : (old new : TableState S) (u v : Justification) (result : Result Justification TableError)
       → IfOk result (λ unit. (unit ≡ Clause (old.book.state.top + 1)) × (new.book.state.top ≡ old.book.state.top + 1))
-      → IfOk result (λ unit. (unit ≡ u) ⊎ ((unit ≡ v) ⊎ IsNewJust old.book.state new.book.state unit))
+      → IfOk result (λ unit. (unit ≡ u) ⊎ ((unit ≡ v) ⊎ IsNewJustification old.book.state new.book.state unit))
   given_next old new u v (Err e) next = tt
   given_next old new u v (Ok unit) next = inr (inr (λ id is. let same = same_clause (old.book.state.top + 1) id (sym next.0 ∙ is) in
       (omega (arith, same), omega (arith, same, next.1))))
 
-  pub given_one : (old new : TableState S) (u : Just) (result : Result Just TableError)
+  pub given_one : (old new : TableState S) (u : Justification) (result : Result Justification TableError)
       → IfOk result (λ unit. (unit ≡ Clause (old.book.state.top + 1)) × (new.book.state.top ≡ old.book.state.top + 1))
-      → IfOk result (λ unit. (unit ≡ u) ⊎ IsNewJust old.book.state new.book.state unit)
+      → IfOk result (λ unit. (unit ≡ u) ⊎ IsNewJustification old.book.state new.book.state unit)
   given_one old new u (Err e) next = tt
   given_one old new u (Ok unit) next = inr (λ id is. let same = same_clause (old.book.state.top + 1) id (sym next.0 ∙ is) in
       (omega (arith, same), omega (arith, same, next.1)))
 
   -- the unit of a conjunction: an operand's, or a new one
-  pub unit_own : (mid new : TableState S) (kept : List Entry) (u v unit : Just) → IsSound mid → Fits mid kept → new.retired ≡ mid.retired
+  pub unit_own : (mid new : TableState S) (kept : List Entry) (u v unit : Justification) → IsSound mid → Fits mid kept → new.retired ≡ mid.retired
       → ((id : ℕ) → u ≡ Clause id → IsAccounted mid kept id → ⊥) → ((id : ℕ) → v ≡ Clause id → IsAccounted mid kept id → ⊥)
-      → (unit ≡ u) ⊎ ((unit ≡ v) ⊎ IsNewJust mid.book.state new.book.state unit) → (id : ℕ) → unit ≡ Clause id → IsAccounted new kept id → ⊥
+      → (unit ≡ u) ⊎ ((unit ≡ v) ⊎ IsNewJustification mid.book.state new.book.state unit) → (id : ℕ) → unit ≡ Clause id → IsAccounted new kept id → ⊥
   unit_own mid new kept u v unit sound fits same first second given id is accounted =
       let before : IsAccounted mid kept id = elim accounted [
         | inl gone ↦ inl
@@ -124,7 +124,7 @@ module _ {S : Type 0} where
 module _ {S : Type 0} (formula : Formula) (old new : TableState S) (kept : List Entry) (nodes : new.graph ≡ old.graph) (none : new.retired
     ≡ [])
     (stay : (id : ℕ) → (Contains old.retired id → ⊥) → clause_at new.book.state.live id ≡ clause_at old.book.state.live id) where
-  unit_settled : (atom : Atom) (unit : Just) → IsJustified old.book.state.live (atom ∷ []) unit
+  unit_settled : (atom : Atom) (unit : Justification) → IsJustified old.book.state.live (atom ∷ []) unit
       → ((id : ℕ) → unit ≡ Clause id → Contains old.retired id → ⊥) → IsJustified new.book.state.live (atom ∷ []) unit
   unit_settled atom Trivial proved own = proved
   unit_settled atom (Clause id) proved own = (proved.0, stay id (own id refl) ∙ proved.1)

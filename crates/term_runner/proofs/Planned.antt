@@ -10,7 +10,7 @@ use Rattle.cnf_base.specs.Formula.{Formula}
 use Rattle.lrat_rules.specs.State.{Live}
 use Rattle.node_table.specs.declared.node.Node.{Node}
 use Rattle.node_table.specs.declared.node.Node.TheVariants.{False, True, Inner}
-use Rattle.node_table.specs.declared.node.Just.{Just}
+use Rattle.node_table.specs.declared.node.Justification.{Justification}
 use Rattle.node_table.specs.declared.error.TableError.{TableError}
 use Rattle.node_table.specs.declared.error.TableError.TheVariants.{NodeLimit, OutOfMemory}
 use Rattle.node_table.specs.Diagram.{Graph, IsOrder, IsReduced, KeepsNodes, branch_at, is_node, levels, variable_at}
@@ -60,7 +60,7 @@ module _ (graph : Graph) (reduced : IsReduced graph) (ordered : IsOrder graph.or
       (λ level small. value_there a level small)) ∙ value (by_variable graph.order a)
 
   -- the conjunction of two terms' nodes
-  pub both_function : (formula : Formula) (live : Live) (u v : Node) (first second : Just) (one other : Term)
+  pub both_function : (formula : Formula) (live : Live) (u v : Node) (first second : Justification) (one other : Term)
       → IsTerm graph live (λ a. term_holds formula a one) u first → IsTerm graph live (λ a. term_holds formula a other) v second
       → conjunction_of graph u v ≡ term_function formula graph.order (both one other)
   both_function formula live u v first second one other is_u is_v =

@@ -1,47 +1,63 @@
--- Purging all caches, one after another: what the first leaves of the entries fits for the second, and all of them as one
--- list are purged.
-use Rattle.std.specs.Prelude.{◌≡◌, ◌⊎◌, ◌++◌, Bool, List}
-use Rattle.std.specs.List.{filter}
-use Rattle.std.proofs.Common.{refl, sym, subst, inl, inr}
+-- Purging all caches, one after another: what the first leaves of the entries fits for the next, and all of them as one list
+-- are purged.
+use Rattle.std.specs.Prelude.{◌++◌, Bool, List}
 use Rattle.std.proofs.lemmas.List.Elements.{Contains-append_left, Contains-append_right}
-use Rattle.node_table.specs.declared.node.Just.TheVariants.{Trivial}
 use Rattle.node_table.specs.Table.{TableState, IsSound}
-use Rattle.operations.specs.Entries.{Entry, Conjunction, Implication, Disjunction, Quantification, Fits, Fitting, just_of}
-use Rattle.operations.specs.Purged.{IsPurged, Purging, are_marked}
-use Rattle.term_runner.proofs.AllCaches.{AreParts, AreUnnamed, conjunctions_apart, disjoins, implications_fit, kind_of, quantifies}
+use Rattle.operations.specs.Entries.{Entry, AreApart, Fits, Fitting}
+use Rattle.operations.specs.Purged.{IsPurged, Purging}
+use Rattle.term_runner.proofs.AllCaches.{AreParts, AreUnnamed, conjunctions_apart, conjunctions_fit, names_none}
 
--- such entries need no clause
-pub needs_none : (entry : Entry) → (kind_of entry ≡ disjoins) ⊎ (kind_of entry ≡ quantifies) → just_of entry ≡ Trivial
-needs_none (Conjunction u v w just) (inl of) = cc
-needs_none (Conjunction u v w just) (inr of) = cc
-needs_none (Implication u v just) (inl of) = cc
-needs_none (Implication u v just) (inr of) = cc
-needs_none (Disjunction u v w) of = refl
-needs_none (Quantification u level w) of = refl
+-- no clause is named by both, where the others name none
+apart_unnamed : (one rest : List Entry) → AreUnnamed rest → AreApart one rest
+apart_unnamed one rest none id first other = names_none other.0 id (none other.0 other.1) other.2
 
-module _ {S : Type 0} (purging : Purging S) (marks : List Bool) where
-  -- where the conjunctions were purged, the implications fit still
-  pub implications_fit_still : Fitting S → (old new : TableState S) (ands left one rest : List Entry) → AreParts ands one rest → IsSound old
-      → Fits old (ands ++ (one ++ rest))
-      → IsPurged old new marks ands left → Fits new one
-  implications_fit_still fitting old new ands left one rest parts sound fits purged =
-      implications_fit fitting new left one rest (purging.beside old new marks ands left (one
-      ++ rest) sound fits (conjunctions_apart old ands one rest parts fits) purged).0
+module _ {S : Type 0} (purging : Purging S) (fitting : Fitting S) (marks : List Bool) where
+  -- the first ones of a list fit, and where they were purged, so do the rest
+  first_fit : (table : TableState S) (one rest : List Entry) → Fits table (one ++ rest) → Fits table one
+  first_fit table one rest fits = fitting.fewer table one (one ++ rest) (λ entry there. Contains-append_left one rest entry there) fits
 
-  -- the table stays where such entries go
-  unnamed_purged : (table : TableState S) (before after : List Entry) → AreUnnamed before → after ≡ filter (are_marked marks) before
-      → IsPurged table table marks before after
-  unnamed_purged table before after none same = subst (IsPurged table table marks before) (sym same)
-      (purging.plain table marks before (λ entry there. needs_none entry (none entry there)))
+  rest_fit : (old new : TableState S) (one left rest : List Entry) → IsSound old → Fits old (one ++ rest) → AreApart one rest
+      → IsPurged old new marks one left → Fits new rest
+  rest_fit old new one left rest sound fits apart purged =
+      fitting.fewer new rest (left ++ rest) (λ entry there. Contains-append_right left rest entry there)
+      (purging.beside old new marks one left rest sound fits apart purged).0
 
-  pub all_purged : (old middle new : TableState S) (ands ands_left one one_left two two_left three three_left : List Entry)
-      → AreUnnamed (two ++ three)
-      → IsPurged old middle marks ands ands_left → IsPurged middle new marks one one_left → two_left ≡ filter (are_marked marks) two
-      → three_left ≡ filter (are_marked marks) three
-      → IsPurged old new marks (ands ++ (one ++ (two ++ three))) (ands_left ++ (one_left ++ (two_left ++ three_left)))
-  all_purged old middle new ands ands_left one one_left two two_left three three_left none first second third fourth =
-      purging.joined old middle new marks ands ands_left (one ++ (two ++ three)) (one_left ++ (two_left ++ three_left)) first
-      (purging.joined middle new new marks one one_left (two ++ three) (two_left ++ three_left) second
-      (purging.joined new new new marks two two_left three three_left
-      (unnamed_purged new two two_left (λ entry there. none entry (Contains-append_left two three entry there)) third)
-      (unnamed_purged new three three_left (λ entry there. none entry (Contains-append_right two three entry there)) fourth)))
+  module _ (old : TableState S) (ands one two three : List Entry) (parts : AreParts ands one (two ++ three)) (sound : IsSound old)
+      (fits : Fits old (ands ++ (one ++ (two ++ three)))) where
+    -- the conjunctions were purged
+    module _ (first : TableState S) (ands_left : List Entry) (by_first : IsPurged old first marks ands ands_left) where
+      sound_first : IsSound first
+      sound_first = purging.sound old first marks ands ands_left sound (conjunctions_fit fitting old ands one (two ++ three) fits) by_first
+
+      fits_first : Fits first (one ++ (two ++ three))
+      fits_first = rest_fit old first ands ands_left (one ++ (two ++ three)) sound fits
+          (conjunctions_apart old ands one (two ++ three) parts fits) by_first
+
+      pub implications_still : Fits first one
+      implications_still = first_fit first one (two ++ three) fits_first
+
+      -- and the implications
+      module _ (second : TableState S) (one_left : List Entry) (by_second : IsPurged first second marks one one_left) where
+        sound_second : IsSound second
+        sound_second = purging.sound first second marks one one_left sound_first implications_still by_second
+
+        fits_second : Fits second (two ++ three)
+        fits_second = rest_fit first second one one_left (two ++ three) sound_first fits_first
+            (apart_unnamed one (two ++ three) parts.third) by_second
+
+        pub quantifications_still : Fits second two
+        quantifications_still = first_fit second two three fits_second
+
+        -- and the quantifications
+        module _ (third : TableState S) (two_left : List Entry) (by_third : IsPurged second third marks two two_left) where
+          pub disjunctions_still : Fits third three
+          disjunctions_still = rest_fit second third two two_left three sound_second fits_second
+              (apart_unnamed two three (λ entry there. parts.third entry (Contains-append_right two three entry there))) by_third
+
+          -- and the disjunctions
+          pub all_purged : (new : TableState S) (three_left : List Entry) → IsPurged third new marks three three_left
+              → IsPurged old new marks (ands ++ (one ++ (two ++ three))) (ands_left ++ (one_left ++ (two_left ++ three_left)))
+          all_purged new three_left by_fourth =
+              purging.joined old first new marks ands ands_left (one ++ (two ++ three)) (one_left ++ (two_left ++ three_left)) by_first
+              (purging.joined first second new marks one one_left (two ++ three) (two_left ++ three_left) by_second
+              (purging.joined second third new marks two two_left three three_left by_third by_fourth))

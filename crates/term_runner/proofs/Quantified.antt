@@ -7,10 +7,10 @@ use Rattle.cnf_base.specs.Formula.{Formula}
 use Rattle.lrat_rules.specs.State.{Live}
 use Rattle.node_table.specs.declared.node.Node.{Node}
 use Rattle.node_table.specs.declared.node.Node.TheVariants.{False}
-use Rattle.node_table.specs.declared.node.Just.{Just}
+use Rattle.node_table.specs.declared.node.Justification.{Justification}
 use Rattle.node_table.specs.Diagram.{Graph, IsOrder, IsReduced, is_node, levels, variable_at}
 use Rattle.node_table.specs.Defined.{atom_of}
-use Rattle.node_table.specs.Just.{IsJustified}
+use Rattle.node_table.specs.Justification.{IsJustified}
 use Rattle.node_table.specs.Value.{Levels, by_level, value_of}
 use Rattle.operations.specs.Results.{Quantified, with_level}
 use Rattle.quantify.specs.Quantification.{quantification_of}
@@ -89,7 +89,7 @@ implies_some graph u level a holds = go (a level) refl
 -- the quantified term, with its unit
 module _ (graph : Graph) (reduced : IsReduced graph) (ordered : IsOrder graph.order) (level x : ℕ) (within : level
     < levels graph) (at : variable_at graph level ≡ x) where
-  pub quantified_held : (formula : Formula) (live : Live) (u : HeldTerm) (term : Term) (w : Node) (unit : Just)
+  pub quantified_held : (formula : Formula) (live : Live) (u : HeldTerm) (term : Term) (w : Node) (unit : Justification)
       → IsHeld formula graph live u term → Quantified graph u.node level w
       → IsJustified live (atom_of graph w ∷ []) unit → w ≢ False
       → IsHeld formula graph live (record { node = w; unit = unit }) (some_value x term)

@@ -12,15 +12,15 @@ use Rattle.cnf_base.specs.Truth.{AreClausesOf, Assignment, is_literal_of}
 use Rattle.cnf_base.specs.Formula.{Formula}
 use Rattle.lrat_rules.specs.State.{Live, clause_at}
 use Rattle.hint_chain.specs.declared.atom.Atom.{Atom}
-use Rattle.hint_chain.specs.Atoms.{clause_of}
+use Rattle.hint_chain.specs.Atoms.{clause_from_atoms}
 use Rattle.node_table.specs.declared.node.Node.{Node}
 use Rattle.node_table.specs.declared.node.Node.TheVariants.{False, True, Inner}
 use Rattle.node_table.specs.declared.node.Branch.{Branch}
-use Rattle.node_table.specs.declared.node.Just.{Just}
-use Rattle.node_table.specs.declared.node.Just.TheVariants.{Trivial, Clause}
+use Rattle.node_table.specs.declared.node.Justification.{Justification}
+use Rattle.node_table.specs.declared.node.Justification.TheVariants.{Trivial, Clause}
 use Rattle.node_table.specs.Defined.{atom_in, atom_of, defs_of, is_defined_by}
 use Rattle.node_table.specs.Diagram.{Graph, KeepsNodes, branch_at, is_node, levels}
-use Rattle.node_table.specs.Just.{IsJustified}
+use Rattle.node_table.specs.Justification.{IsJustified}
 use Rattle.node_table.specs.Laws.{Growth, Reachability}
 use Rattle.node_table.specs.Made.{inner}
 use Rattle.node_table.specs.Table.{TableState, IsAddedTo, IsSound}
@@ -149,7 +149,7 @@ module _ {S : Type 0} (growth : Growth) (formula : Formula) (old new : TableStat
   node_value node is a = (λ k. value_of new.graph (by_level (reclaims.order k) a) node)
       ∙ sym (growth.value new.graph old.graph sound.tied.reduced were (by_level old.graph.order a) node is)
 
-  unit_stays : (node : Node) → is_node new.graph node ≡ true → (unit : Just)
+  unit_stays : (node : Node) → is_node new.graph node ≡ true → (unit : Justification)
       → ((id : ℕ) → unit ≡ Clause id → clause_at new.book.state.live id ≡ clause_at old.book.state.live id)
       → IsJustified old.book.state.live (atom_of old.graph node ∷ []) unit
       → IsJustified new.book.state.live (atom_of new.graph node ∷ []) unit
@@ -157,7 +157,7 @@ module _ {S : Type 0} (growth : Growth) (formula : Formula) (old new : TableStat
       subst (λ (atom : Atom). IsJustified new.book.state.live (atom ∷ []) unit) (growth.atom new.graph old.graph were node is)
       (go unit stay proved)
     where
-      go : (just : Just) → ((id : ℕ) → just ≡ Clause id → clause_at new.book.state.live id ≡ clause_at old.book.state.live id)
+      go : (just : Justification) → ((id : ℕ) → just ≡ Clause id → clause_at new.book.state.live id ≡ clause_at old.book.state.live id)
           → IsJustified old.book.state.live (atom_of old.graph node ∷ []) just
           → IsJustified new.book.state.live (atom_of old.graph node ∷ []) just
       go Trivial same own = own
@@ -245,14 +245,14 @@ no_literal clause is literal any =
     cc
 
 -- the one literal of a node's unit is that of its extension variable
-unit_variable : (graph : Graph) (node : Node) (clause : List ℤ) → clause_of (atom_of graph node ∷ []) ≡ Some clause → (literal : ℤ)
+unit_variable : (graph : Graph) (node : Node) (clause : List ℤ) → clause_from_atoms (atom_of graph node ∷ []) ≡ Some clause → (literal : ℤ)
     → list_any (int_eq literal) clause ≡ true
     → (key : ℕ) × (branch : Branch) × (node ≡ inner key) × (branch_at graph key ≡ Some branch) × (nat_abs literal ≡ branch.variable)
 unit_variable graph False clause is literal any = absurd (no_literal clause is literal any)
 unit_variable graph True clause is literal any = absurd (let e : None ≡ Some clause = is in cc)
 unit_variable graph (Inner key) clause is literal any = of_branch (branch_at graph key.index) refl is
   where
-    of_branch : (o : Option Branch) → branch_at graph key.index ≡ o → clause_of (atom_in o ∷ []) ≡ Some clause
+    of_branch : (o : Option Branch) → branch_at graph key.index ≡ o → clause_from_atoms (atom_in o ∷ []) ≡ Some clause
         → (own : ℕ) × (branch : Branch) × (Inner key ≡ inner own) × (branch_at graph own ≡ Some branch)
         × (nat_abs literal ≡ branch.variable)
     of_branch None at one = absurd (no_literal clause one literal any)
@@ -297,7 +297,7 @@ module _ {S : Type 0} (formula : Formula) (table : TableState S) (kept : List En
       let held = by.held in
       let term = held_term formula table.graph table.book.state.live (reverse stack) stage.stack at.held held by.stacked in
       let proved : IsJustified table.book.state.live (atom_of table.graph held.node ∷ []) (Clause id) =
-      subst (λ (unit : Just). IsJustified table.book.state.live (atom_of table.graph held.node ∷ []) unit) by.unit term.2.is.proved in
+      subst (λ (unit : Justification). IsJustified table.book.state.live (atom_of table.graph held.node ∷ []) unit) by.unit term.2.is.proved in
       let own = unit_variable table.graph held.node clause (sym proved.1 ∙ is) literal any in
       let one : own.0 ≡ key = ready.sound.tied.reduced.apart own.0 key own.1 branch own.3 stands (sym own.4 ∙ same) in
       record {

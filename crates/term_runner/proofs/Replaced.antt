@@ -3,8 +3,8 @@
 use Rattle.std.proofs.Common.{◌≡◌, ◌⊎◌, ◌∙◌, ◌≤◌, ◌++◌, ℕ, zero, suc, List, [], ◌∷◌, Contains, refl, sym, ap, subst, arith, inl, inr}
 use Rattle.std.proofs.lemmas.Bool.{cases_lt}
 use Rattle.std.proofs.lemmas.List.Elements.{Contains-append_left, Contains-append_right, Contains-append_cases}
-use Rattle.node_table.specs.declared.node.Just.{Just}
-use Rattle.node_table.specs.declared.node.Just.TheVariants.{Clause}
+use Rattle.node_table.specs.declared.node.Justification.{Justification}
+use Rattle.node_table.specs.declared.node.Justification.TheVariants.{Clause}
 use Rattle.node_table.specs.Laws.{StepByStep}
 use Rattle.node_table.specs.Table.{TableState, Extends, IsAddedTo, IsSound}
 use Rattle.operations.specs.Entries.{Entry, IsAccounted, NamesOnly, RetiresOwn}
@@ -54,14 +54,14 @@ apart_parts (held ∷ one) rest apart id is other = elim (which_unit held one id
 ]
 
 -- The operands' units are retired, but for one that is kept, and nothing else.
-pub record RetiresUnits {S : Type 0} (old new : TableState S) (operands : List HeldTerm) (kept : Just) : Type 0 where
+pub record RetiresUnits {S : Type 0} (old new : TableState S) (operands : List HeldTerm) (kept : Justification) : Type 0 where
   pub same : new ≡ record old { retired = new.retired }
   pub still : (id : ℕ) → Contains old.retired id → Contains new.retired id
   pub only : (id : ℕ) → Contains new.retired id → Contains old.retired id ⊎ (IsUnitOf operands id × (kept ≡ Clause id → ⊥))
   pub gone : (id : ℕ) → IsUnitOf operands id → Contains new.retired id ⊎ (kept ≡ Clause id)
 
 module _ {S : Type 0} where
-  pub none_retired : (table : TableState S) (kept : Just) → RetiresUnits table table [] kept
+  pub none_retired : (table : TableState S) (kept : Justification) → RetiresUnits table table [] kept
   none_retired table kept = record {
     same = refl;
     still = λ id there. there;
@@ -70,7 +70,7 @@ module _ {S : Type 0} where
   }
 
   -- one operand more
-  pub one_more_retired : (old mid new : TableState S) (operands : List HeldTerm) (held : HeldTerm) (kept : Just)
+  pub one_more_retired : (old mid new : TableState S) (operands : List HeldTerm) (held : HeldTerm) (kept : Justification)
       → RetiresUnits old mid operands kept → RetiresBut mid new held.unit kept
       → RetiresUnits old new (held ∷ operands) kept
   one_more_retired old mid new operands held kept before more = record {

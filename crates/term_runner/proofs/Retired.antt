@@ -2,14 +2,14 @@
 use Rattle.std.proofs.Common.{◌≡◌, ◌⊎◌, ◌∙◌, ℕ, List, Contains, Option, None, Some, sym, ap, subst, inl, inr}
 use Rattle.std.specs.Prelude.{MatchOption}
 use Rattle.std.proofs.lemmas.List.Elements.{Contains-append_left}
-use Rattle.node_table.specs.declared.node.Just.{Just}
-use Rattle.node_table.specs.declared.node.Just.TheVariants.{Clause}
+use Rattle.node_table.specs.declared.node.Justification.{Justification}
+use Rattle.node_table.specs.declared.node.Justification.TheVariants.{Clause}
 use Rattle.node_table.specs.Table.{TableState}
 use Rattle.operations.specs.Accounts.{RetiresOne}
 use Rattle.term_runner.specs.Held.{RetiresBut}
 
 -- the clause of a unit, unless it is that of the one that is kept
-abbrev pub IsGivenUp : Just → Just → Option ℕ → Type 0
+abbrev pub IsGivenUp : Justification → Justification → Option ℕ → Type 0
 IsGivenUp unit kept given = MatchOption given ((id : ℕ) → unit ≡ Clause id → kept ≡ Clause id) (λ id. (unit ≡ Clause id)
     × (kept ≡ Clause id → ⊥))
 
@@ -19,7 +19,7 @@ same_some id other is = cc
 no_some : (id : ℕ) → ◌≡◌ {A = Option ℕ} None (Some id) → ⊥
 no_some id is = cc
 
-pub given_clause : (unit kept : Just) (given : Option ℕ) → IsGivenUp unit kept given → (id : ℕ) → given ≡ Some id → (unit ≡ Clause id)
+pub given_clause : (unit kept : Justification) (given : Option ℕ) → IsGivenUp unit kept given → (id : ℕ) → given ≡ Some id → (unit ≡ Clause id)
     × (kept ≡ Clause id → ⊥)
 given_clause unit kept None up id is = absurd (no_some id is)
 given_clause unit kept (Some other) up id is = subst (λ (n : ℕ). (unit ≡ Clause n) × (kept ≡ Clause n → ⊥)) (same_some other id is) up
@@ -27,12 +27,12 @@ given_clause unit kept (Some other) up id is = subst (λ (n : ℕ). (unit ≡ Cl
 same_clause : (id other : ℕ) → Clause id ≡ Clause other → id ≡ other
 same_clause id other is = cc
 
-given_or_kept : (unit kept : Just) (given : Option ℕ) → IsGivenUp unit kept given → (id : ℕ) → unit ≡ Clause id → (given ≡ Some id)
+given_or_kept : (unit kept : Justification) (given : Option ℕ) → IsGivenUp unit kept given → (id : ℕ) → unit ≡ Clause id → (given ≡ Some id)
     ⊎ (kept ≡ Clause id)
 given_or_kept unit kept None up id is = inr (up id is)
 given_or_kept unit kept (Some other) up id is = inl (ap Some (same_clause other id (sym up.0 ∙ is)))
 
-pub retired_but : {S : Type 0} (old new : TableState S) (unit kept : Just) (given : Option ℕ)
+pub retired_but : {S : Type 0} (old new : TableState S) (unit kept : Justification) (given : Option ℕ)
     → IsGivenUp unit kept given → RetiresOne old new given
     → RetiresBut old new unit kept
 retired_but old new unit kept given up one = record {

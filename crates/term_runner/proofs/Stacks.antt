@@ -11,13 +11,13 @@ use Rattle.hint_chain.specs.declared.atom.Atom.{Atom}
 use Rattle.hint_chain.specs.Additions.{conjunction}
 use Rattle.node_table.specs.declared.node.Node.{Node}
 use Rattle.node_table.specs.declared.node.Node.TheVariants.{False}
-use Rattle.node_table.specs.declared.node.Just.{Just}
-use Rattle.node_table.specs.declared.node.Just.TheVariants.{Trivial, Clause}
+use Rattle.node_table.specs.declared.node.Justification.{Justification}
+use Rattle.node_table.specs.declared.node.Justification.TheVariants.{Trivial, Clause}
 use Rattle.node_table.specs.Diagram.{Graph, IsReduced, KeepsNodes, is_node}
 use Rattle.node_table.specs.Value.{by_level, value_of}
 use Rattle.node_table.specs.Defined.{atom_of}
 use Rattle.node_table.specs.Tied.{KeepsClauses}
-use Rattle.node_table.specs.Just.{IsJustified}
+use Rattle.node_table.specs.Justification.{IsJustified}
 use Rattle.node_table.specs.Table.{TableState, IsSound, Extends}
 use Rattle.node_table.specs.Laws.{Growth}
 use Rattle.operations.specs.Entries.{Entry, Fits}
@@ -31,13 +31,13 @@ use Rattle.term_runner.specs.Recovered.{stack_holds}
 -- what stays as nodes and clauses are added
 module _ (growth : Growth) (old new : Graph) (reduced : IsReduced old) (keeps : KeepsNodes old new) (live more : Live)
     (clauses : KeepsClauses live more) where
-  pub justified_kept : (node : Node) → is_node old node ≡ true → (unit : Just) → IsJustified live (atom_of old node ∷ []) unit
+  pub justified_kept : (node : Node) → is_node old node ≡ true → (unit : Justification) → IsJustified live (atom_of old node ∷ []) unit
       → IsJustified more (atom_of new node ∷ []) unit
   justified_kept node is unit proved =
       subst (λ (x : Atom). IsJustified more (x ∷ []) unit) (sym (growth.atom old new keeps node is))
       (growth.justified live more clauses (atom_of old node ∷ []) unit proved)
 
-  pub term_kept : (holds : Assignment → Bool) (node : Node) (unit : Just) → IsTerm old live holds node unit
+  pub term_kept : (holds : Assignment → Bool) (node : Node) (unit : Justification) → IsTerm old live holds node unit
       → IsTerm new more holds node unit
   term_kept holds node unit term = record {
     stands = growth.stands old new keeps node term.stands;
@@ -69,7 +69,7 @@ module _ (formula : Formula) (graph : Graph) (live : Live) where
   none_empty old is term terms are = subst (λ (s : List HeldTerm). AreHeld formula graph live s (term ∷ terms)) (ap reverse is) are
 
 -- a clause that is pushed
-pub clause_held : (formula : Formula) (graph : Graph) (live : Live) (clause : List ℤ) (number : ℕ) (node : Node) (unit : Just) → clause
+pub clause_held : (formula : Formula) (graph : Graph) (live : Live) (clause : List ℤ) (number : ℕ) (node : Node) (unit : Justification) → clause
     ≡ slice_index_or formula.clauses (number - 1) []
     → IsTerm graph live (λ a. clause_holds a clause) node unit → node ≢ False
     → IsHeld formula graph live (record { node = node; unit = unit }) (input number)
@@ -77,7 +77,7 @@ clause_held formula graph live clause number node unit is term some =
     record { is = subst (λ (c : List ℤ). IsTerm graph live (λ a. clause_holds a c) node unit) is term; not_false = some }
 
 -- a conjunction, with its unit
-pub conjunction_held : (formula : Formula) (graph : Graph) (live : Live) (u v : HeldTerm) (w : Node) (just unit : Just) (one other : Term)
+pub conjunction_held : (formula : Formula) (graph : Graph) (live : Live) (u v : HeldTerm) (w : Node) (just unit : Justification) (one other : Term)
     → IsHeld formula graph live u one → IsHeld formula graph live v other → Conjoined graph live u.node v.node w just
     → IsJustified live (atom_of graph w ∷ []) unit → w ≢ False
     → IsHeld formula graph live (record { node = w; unit = unit }) (both one other)
@@ -91,11 +91,11 @@ conjunction_held formula graph live u v w just unit one other is_u is_v conjoine
 }
 
 -- the unit of False is the empty clause
-pub false_refutes : (graph : Graph) (live : Live) (node : Node) (unit : Just) → node ≡ False
+pub false_refutes : (graph : Graph) (live : Live) (node : Node) (unit : Justification) → node ≡ False
     → IsJustified live (atom_of graph node ∷ []) unit → (id : ℕ) × (clause_at live id ≡ Some [])
 false_refutes graph live node unit is proved = go unit (subst (λ (n : Node). IsJustified live (atom_of graph n ∷ []) unit) is proved)
   where
-    go : (unit : Just) → IsJustified live (atom_of graph False ∷ []) unit → (id : ℕ) × (clause_at live id ≡ Some [])
+    go : (unit : Justification) → IsJustified live (atom_of graph False ∷ []) unit → (id : ℕ) × (clause_at live id ≡ Some [])
     go Trivial e = absurd (let f : false ≡ true = e in cc)
     go (Clause id) e = (id, e.1)
 
@@ -154,7 +154,7 @@ held_one_kept growth old new reduced keeps live more clauses formula held term i
 -- a conjunction stays right
 module _ (growth : Growth) (old new : Graph) (reduced : IsReduced old) (keeps : KeepsNodes old new) (live more : Live)
     (clauses : KeepsClauses live more) where
-  conjoined_kept : (u v w : Node) (just : Just) → is_node old u ≡ true → is_node old v ≡ true → Conjoined old live u v w just
+  conjoined_kept : (u v w : Node) (just : Justification) → is_node old u ≡ true → is_node old v ≡ true → Conjoined old live u v w just
       → Conjoined new more u v w just
   conjoined_kept u v w just is_u is_v conjoined = record {
     stands = growth.stands old new keeps w conjoined.stands;
@@ -206,7 +206,7 @@ rest_left old new (Some held) is some last rest at = tail_same held last (revers
 
 -- the conjunction's unit is added after the conjunction
 pub conjunction_kept : (growth : Growth) (mid new : Graph) → IsReduced mid → KeepsNodes mid new → (live more : Live)
-    → KeepsClauses live more → new ≡ mid → (formula : Formula) (u v : HeldTerm) (w : Node) (just unit : Just) (one other : Term)
+    → KeepsClauses live more → new ≡ mid → (formula : Formula) (u v : HeldTerm) (w : Node) (just unit : Justification) (one other : Term)
     → IsHeld formula mid live u one → IsHeld formula mid live v other → Conjoined mid live u.node v.node w just
     → IsJustified more (atom_of mid w ∷ []) unit → w ≢ False
     → IsHeld formula new more (record { node = w; unit = unit }) (both one other)

@@ -10,19 +10,19 @@ use Rattle.lrat_rules.specs.State.{Live, clause_at}
 use Rattle.lrat_rules.specs.Strict.{RefutesStrictly}
 use Rattle.hint_chain.specs.declared.atom.Atom.{Atom}
 use Rattle.hint_chain.specs.declared.atom.Atom.TheVariants.{Never, Of}
-use Rattle.hint_chain.specs.Atoms.{clause_of, is_trivial}
+use Rattle.hint_chain.specs.Atoms.{clause_from_atoms, is_trivial}
 use Rattle.hint_chain.specs.Additions.{conjunction, implication}
 use Rattle.hint_chain.specs.Closing.{are_apart, are_among}
 use Rattle.node_table.specs.declared.node.Node.{Node}
 use Rattle.node_table.specs.declared.node.Node.TheVariants.{False, True, Inner}
 use Rattle.node_table.specs.declared.node.NodeKey.{NodeKey}
 use Rattle.node_table.specs.declared.node.Branch.{Branch}
-use Rattle.node_table.specs.declared.node.Just.{Just}
-use Rattle.node_table.specs.declared.node.Just.TheVariants.{Trivial, Clause}
+use Rattle.node_table.specs.declared.node.Justification.{Justification}
+use Rattle.node_table.specs.declared.node.Justification.TheVariants.{Trivial, Clause}
 use Rattle.node_table.specs.Diagram.{Graph, IsReduced, branch_at, is_node}
 use Rattle.node_table.specs.Value.{value_of}
 use Rattle.node_table.specs.Defined.{atom_of, atom_in}
-use Rattle.node_table.specs.Just.{IsJustified}
+use Rattle.node_table.specs.Justification.{IsJustified}
 use Rattle.node_table.specs.Laws.{Canonical}
 use Rattle.operations.specs.Results.{Conjoined, Implied, conjunction_atoms, implication_atoms}
 use Rattle.term_runner.proofs.Listed.{some_of}
@@ -64,7 +64,7 @@ and_same : (b : Bool) → (b && true) ≡ b
 and_same true = refl
 and_same false = refl
 
-module _ (canonical : Canonical) (graph : Graph) (reduced : IsReduced graph) (live : Live) (u v w : Node) (just : Just)
+module _ (canonical : Canonical) (graph : Graph) (reduced : IsReduced graph) (live : Live) (u v w : Node) (just : Justification)
     (is_u : is_node graph u ≡ true) (is_v : is_node graph v ≡ true)
     (conjoined : Conjoined graph live u v w just) where
   pub first_not_true : w ≢ v → u ≢ True
@@ -81,7 +81,7 @@ module _ (canonical : Canonical) (graph : Graph) (reduced : IsReduced graph) (li
       (λ a. and_true_left (value_of graph a u) (value_of graph a v) (sym (conjoined.value a) ∙ (λ k. value_of graph a (is k))))))
 
 -- the unit of an inner node is a live clause
-pub unit_given : (live : Live) (x : ℤ) (unit : Just) → IsJustified live (Of x ∷ []) unit → unit ≢ Trivial
+pub unit_given : (live : Live) (x : ℤ) (unit : Justification) → IsJustified live (Of x ∷ []) unit → unit ≢ Trivial
 unit_given live x Trivial is same = let e : false ≡ true = is in cc
 unit_given live x (Clause id) is same = cc
 
@@ -108,7 +108,7 @@ three_apart a b c pa pb pc ab ac bc = nonzero_apart a pa (pos b ∷ pos c ∷ []
 -- the clause of a node alone, and of which variables it and the operands' are
 pub are_apart_of : (graph : Graph) → IsReduced graph → (u v w : Node) (one : IsInner graph u) (other : IsInner graph v) → is_node graph w
     ≡ true → u ≢ v → w ≢ u → w ≢ v → w ≢ True
-    → (clause : List ℤ) → clause_of (atom_of graph w ∷ []) ≡ Some clause
+    → (clause : List ℤ) → clause_from_atoms (atom_of graph w ∷ []) ≡ Some clause
     → are_apart (pos one.branch.variable ∷ pos other.branch.variable ∷ clause) ≡ true
 are_apart_of graph reduced u v False one other is_w uv wu wv some clause at =
     subst (λ (c : List ℤ). are_apart (pos one.branch.variable ∷ pos other.branch.variable ∷ c) ≡ true) (inside [] clause at)
@@ -120,7 +120,7 @@ are_apart_of graph reduced u v True one other is_w uv wu wv some clause at = abs
 are_apart_of graph reduced u v (Inner key) one other is_w uv wu wv some clause at =
     let own = inner_of graph (Inner key) is_w (λ e. cc) (λ e. cc) in
     subst (λ (c : List ℤ). are_apart (pos one.branch.variable ∷ pos other.branch.variable ∷ c)
-    ≡ true) (inside _ clause (sym (ap (λ (x : Atom). clause_of (x ∷ [])) own.atom) ∙ at))
+    ≡ true) (inside _ clause (sym (ap (λ (x : Atom). clause_from_atoms (x ∷ [])) own.atom) ∙ at))
     (three_apart _ _ _ (above_zero graph reduced u one) (above_zero graph reduced v other) (above_zero graph reduced (Inner key) own)
     (apart_of graph reduced u v one other uv) (apart_of graph reduced u (Inner key) one own (λ e. wu (sym e)))
     (apart_of graph reduced v (Inner key) other own (λ e. wv (sym e))))
@@ -164,18 +164,18 @@ not_trivial graph reduced u v (Inner key) one other is_w wu wv some =
     ∙ with_other _ _ _ (above_zero graph reduced u one) (above_zero graph reduced v other)
     (apart_of graph reduced u (Inner key) one own (λ e. wu (sym e))) (apart_of graph reduced v (Inner key) other own (λ e. wv (sym e)))
 
-pub just_given : (live : Live) (atoms : List Atom) (just : Just) → is_trivial atoms ≡ false → IsJustified live atoms just → just ≢ Trivial
+pub just_given : (live : Live) (atoms : List Atom) (just : Justification) → is_trivial atoms ≡ false → IsJustified live atoms just → just ≢ Trivial
 just_given live atoms Trivial none is same = let e : true ≡ false = sym is ∙ none in cc
 just_given live atoms (Clause id) none is same = cc
 
 abbrev pub Among : Type 0
-Among = (atoms : List Atom) (clause : List ℤ) → clause_of atoms ≡ Some clause → IsTrue (are_among atoms clause)
+Among = (atoms : List Atom) (clause : List ℤ) → clause_from_atoms atoms ≡ Some clause → IsTrue (are_among atoms clause)
 
 abbrev pub Given : Type 0
-Given = (atoms : List Atom) → IsFalse (is_trivial atoms) → IsTrue (is_some (clause_of atoms))
+Given = (atoms : List Atom) → IsFalse (is_trivial atoms) → IsTrue (is_some (clause_from_atoms atoms))
 
 abbrev pub Follows : Type 0
-Follows = (live : Live) (u v : ℤ) (w : Atom) (clause justified : List ℤ) (unit_u unit_v id : ℕ) → clause_of (w ∷ []) ≡ Some clause
+Follows = (live : Live) (u v : ℤ) (w : Atom) (clause justified : List ℤ) (unit_u unit_v id : ℕ) → clause_from_atoms (w ∷ []) ≡ Some clause
     → IsTrue (are_apart (u ∷ v ∷ clause))
     → clause_at live unit_u ≡ Some (u ∷ []) → clause_at live unit_v ≡ Some (v ∷ []) → clause_at live id ≡ Some justified
     → IsTrue (are_among (conjunction (Of u) (Of v) w) justified)
@@ -190,7 +190,7 @@ clause_from None is = absurd (let e : false ≡ true = is in cc)
 clause_from (Some clause) is = (clause, refl)
 
 -- the conjunction is neither operand, and no operand is False
-module _ (canonical : Canonical) (graph : Graph) (reduced : IsReduced graph) (live : Live) (u v w : Node) (just : Just)
+module _ (canonical : Canonical) (graph : Graph) (reduced : IsReduced graph) (live : Live) (u v w : Node) (just : Justification)
     (is_u : is_node graph u ≡ true) (is_v : is_node graph v ≡ true)
     (conjoined : Conjoined graph live u v w just) (some_u : u ≢ False) (some_v : v ≢ False) (wu : w ≢ u) (wv : w ≢ v) where
   one : IsInner graph u
@@ -207,11 +207,11 @@ module _ (canonical : Canonical) (graph : Graph) (reduced : IsReduced graph) (li
   open_w : w ≢ True
   open_w = not_true canonical graph reduced live u v w just is_u is_v conjoined wu
 
-  pub first_named : (unit : Just) → IsJustified live (atom_of graph u ∷ []) unit → unit ≢ Trivial
+  pub first_named : (unit : Justification) → IsJustified live (atom_of graph u ∷ []) unit → unit ≢ Trivial
   first_named unit proved = unit_given live (pos one.branch.variable) unit
       (subst (λ (x : Atom). IsJustified live (x ∷ []) unit) one.atom proved)
 
-  pub second_named : (unit : Just) → IsJustified live (atom_of graph v ∷ []) unit → unit ≢ Trivial
+  pub second_named : (unit : Justification) → IsJustified live (atom_of graph v ∷ []) unit → unit ≢ Trivial
   second_named unit proved = unit_given live (pos other.branch.variable) unit
       (subst (λ (x : Atom). IsJustified live (x ∷ []) unit) other.atom proved)
 
@@ -221,11 +221,11 @@ module _ (canonical : Canonical) (graph : Graph) (reduced : IsReduced graph) (li
 
   pub unit_refuted : Among → Given → Follows → (first second both : ℕ) → IsJustified live (atom_of graph u ∷ []) (Clause first)
       → IsJustified live (atom_of graph v ∷ []) (Clause second)
-      → IsJustified live (conjunction_atoms graph u v w) (Clause both) → (clause : List ℤ) → clause_of (atom_of graph w ∷ []) ≡ Some clause
+      → IsJustified live (conjunction_atoms graph u v w) (Clause both) → (clause : List ℤ) → clause_from_atoms (atom_of graph w ∷ []) ≡ Some clause
       → RefutesStrictly live clause (first ∷ second ∷ both ∷ [])
   unit_refuted among given follows first second both unit_u unit_v proved clause at =
       let atoms = conjunction_atoms graph u v w in
-      let found = clause_from (clause_of atoms) (given atoms proved.0) in
+      let found = clause_from (clause_from_atoms atoms) (given atoms proved.0) in
       let within : are_among (conjunction (Of (pos one.branch.variable)) (Of (pos other.branch.variable)) (atom_of graph w)) found.0
       ≡ true =
       subst (λ (x : Atom). are_among (conjunction x (Of (pos other.branch.variable)) (atom_of graph w)) found.0 ≡ true) one.atom
@@ -240,13 +240,13 @@ module _ (canonical : Canonical) (graph : Graph) (reduced : IsReduced graph) (li
 
 -- What a node implies is another one, and isn't True; and the node isn't False.
 abbrev pub FollowsOne : Type 0
-FollowsOne = (live : Live) (u : ℤ) (w : Atom) (clause justified : List ℤ) (unit_u id : ℕ) → clause_of (w ∷ []) ≡ Some clause
+FollowsOne = (live : Live) (u : ℤ) (w : Atom) (clause justified : List ℤ) (unit_u id : ℕ) → clause_from_atoms (w ∷ []) ≡ Some clause
     → IsTrue (are_apart (u ∷ clause))
     → clause_at live unit_u ≡ Some (u ∷ []) → clause_at live id ≡ Some justified → IsTrue (are_among (implication (Of u) w) justified)
     → RefutesStrictly live clause (unit_u ∷ id ∷ [])
 
 implied_apart : (graph : Graph) → IsReduced graph → (u w : Node) (one : IsInner graph u) → is_node graph w ≡ true → w ≢ u → w ≢ True
-    → (clause : List ℤ) → clause_of (atom_of graph w ∷ []) ≡ Some clause → are_apart (pos one.branch.variable ∷ clause) ≡ true
+    → (clause : List ℤ) → clause_from_atoms (atom_of graph w ∷ []) ≡ Some clause → are_apart (pos one.branch.variable ∷ clause) ≡ true
 implied_apart graph reduced u False one is_w wu some clause at =
     subst (λ (c : List ℤ). are_apart (pos one.branch.variable ∷ c)
     ≡ true) (inside [] clause at) (nonzero_apart _ (above_zero graph reduced u one) [] refl refl)
@@ -257,7 +257,7 @@ implied_apart graph reduced u True one is_w wu some clause at = absurd (some ref
 implied_apart graph reduced u (Inner key) one is_w wu some clause at =
     let own = inner_of graph (Inner key) is_w (λ e. cc) (λ e. cc) in
     subst (λ (c : List ℤ). are_apart (pos one.branch.variable ∷ c)
-    ≡ true) (inside _ clause (sym (ap (λ (x : Atom). clause_of (x ∷ [])) own.atom) ∙ at))
+    ≡ true) (inside _ clause (sym (ap (λ (x : Atom). clause_from_atoms (x ∷ [])) own.atom) ∙ at))
     (two_apart _ _ (above_zero graph reduced u one) (above_zero graph reduced (Inner key) own)
     (apart_of graph reduced u (Inner key) one own (λ e. wu (sym e))))
   where
@@ -274,14 +274,14 @@ implied_open graph reduced u (Inner key) one is_w wu some =
     ∙ (λ k. (opposite_pos _ _ (above_zero graph reduced u one) (apart_of graph reduced u (Inner key) one own (λ e. wu (sym e))) k || false)
     || false)
 
-module _ (canonical : Canonical) (graph : Graph) (reduced : IsReduced graph) (live : Live) (u w : Node) (just : Just)
+module _ (canonical : Canonical) (graph : Graph) (reduced : IsReduced graph) (live : Live) (u w : Node) (just : Justification)
     (is_u : is_node graph u ≡ true) (is_w : is_node graph w ≡ true)
     (implied : Implied graph live u w just) (some_u : u ≢ False) (wu : w ≢ u) (open_w : w ≢ True) where
   implying : IsInner graph u
   implying = inner_of graph u is_u some_u (λ is. open_w (canonical graph reduced w True is_w refl
       (λ a. implied.value a (λ k. value_of graph a (is k)))))
 
-  pub implying_named : (unit : Just) → IsJustified live (atom_of graph u ∷ []) unit → unit ≢ Trivial
+  pub implying_named : (unit : Justification) → IsJustified live (atom_of graph u ∷ []) unit → unit ≢ Trivial
   implying_named unit proved = unit_given live (pos implying.branch.variable) unit
       (subst (λ (x : Atom). IsJustified live (x ∷ []) unit) implying.atom proved)
 
@@ -291,10 +291,10 @@ module _ (canonical : Canonical) (graph : Graph) (reduced : IsReduced graph) (li
 
   pub implied_refuted : Among → Given → FollowsOne → (first id : ℕ) → IsJustified live (atom_of graph u ∷ []) (Clause first)
       → IsJustified live (implication_atoms graph u w) (Clause id)
-      → (clause : List ℤ) → clause_of (atom_of graph w ∷ []) ≡ Some clause → RefutesStrictly live clause (first ∷ id ∷ [])
+      → (clause : List ℤ) → clause_from_atoms (atom_of graph w ∷ []) ≡ Some clause → RefutesStrictly live clause (first ∷ id ∷ [])
   implied_refuted among given follows first id unit_u proved clause at =
       let atoms = implication_atoms graph u w in
-      let found = clause_from (clause_of atoms) (given atoms proved.0) in
+      let found = clause_from (clause_from_atoms atoms) (given atoms proved.0) in
       follows live (pos implying.branch.variable) (atom_of graph w) clause found.0 first id at
       (implied_apart graph reduced u w implying is_w wu open_w clause at)
       (unit_stands live (pos implying.branch.variable) first (subst

@@ -4,10 +4,10 @@ use Rattle.node_table.specs.declared.error.TableError.{TableError}
 use Rattle.node_table.specs.Table.{TableState}
 use Rattle.operations.specs.Accounts.{IsWhole}
 use Rattle.operations.specs.Entries.{Entry, Fits, NamesOnly, RetiresOwn}
-use Rattle.apply_and.specs.Cache.{entries as conjunctions, most_entries as most_conjunctions}
-use Rattle.imply.specs.Cache.{entries as implications, most_entries as most_implications}
-use Rattle.quantify.specs.ExistsCache.{both_caches, most_quantifications}
-use Rattle.quantify.specs.OrCache.{most_disjunctions}
+use Rattle.operations.specs.Computed.{most_entries}
+use Rattle.apply_and.specs.Cache.{entries as conjunctions}
+use Rattle.imply.specs.Cache.{entries as implications}
+use Rattle.quantify.specs.ExistsCache.{both_caches}
 use Rattle.term_runner.specs.declared.caches.Caches.{Caches}
 
 -- the entries of all four
@@ -16,8 +16,8 @@ all_entries caches = conjunctions caches.ands ++ (implications caches.implicatio
 
 -- how many entries each of them may have
 abbrev pub sizes : Caches → List ℕ
-sizes caches = most_conjunctions caches.ands ∷ most_implications caches.implications ∷ most_quantifications caches.quantifications
-    ∷ most_disjunctions caches.ors ∷ []
+sizes caches = most_entries caches.ands ∷ most_entries caches.implications ∷ most_entries caches.quantifications
+    ∷ most_entries caches.ors ∷ []
 
 -- each may have so many
 abbrev pub HaveSize : Caches → ℕ → Type 0

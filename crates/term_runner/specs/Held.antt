@@ -9,8 +9,8 @@ use Rattle.node_table.specs.declared.error.TableError.{TableError}
 use Rattle.node_table.specs.declared.error.TableError.TheVariants.{WriteFault}
 use Rattle.node_table.specs.declared.node.Node.{Node}
 use Rattle.node_table.specs.declared.node.Node.TheVariants.{False, True}
-use Rattle.node_table.specs.declared.node.Just.{Just}
-use Rattle.node_table.specs.declared.node.Just.TheVariants.{Clause}
+use Rattle.node_table.specs.declared.node.Justification.{Justification}
+use Rattle.node_table.specs.declared.node.Justification.TheVariants.{Clause, Trivial}
 use Rattle.node_table.specs.Diagram.{Graph, is_node, levels}
 use Rattle.node_table.specs.Value.{by_level, value_of}
 use Rattle.node_table.specs.Table.{TableState, AddsNoEmpty, IsAddedTo, IsSound}
@@ -86,7 +86,7 @@ pub record HasUnits {S : Type 0} (table : TableState S) (kept : List Entry) (sta
 -- What a move leaves of the units, and the one that it gives: that of an operand, or a clause that it added. No clause is
 -- lost: each that was retired or named is so still, and so is each that was added since, but for the one given.
 pub record GivesUnit {S : Type 0} (old new : TableState S) (before after : List Entry) (operands : List HeldTerm)
-    (unit : Just) : Type 0 where
+    (unit : Justification) : Type 0 where
   pub retires : RetiresOwn old new before
   pub named : NamesOnly before after old.book.state new.book.state
   pub still : (id : ℕ) → IsAccounted old before id → IsAccounted new after id
@@ -99,7 +99,7 @@ abbrev pub IsUnrefuted : {S : Type 0} → TableState S → TableState S → Resu
 IsUnrefuted old new result = result ≢ Err WriteFault → result ≢ Ok true → AddsNoEmpty old new
 
 -- A unit is retired, unless it is the one that is kept, and nothing else.
-pub record RetiresBut {S : Type 0} (old new : TableState S) (unit kept : Just) : Type 0 where
+pub record RetiresBut {S : Type 0} (old new : TableState S) (unit kept : Justification) : Type 0 where
   pub same : new ≡ record old { retired = new.retired }
   pub still : (id : ℕ) → Contains old.retired id → Contains new.retired id
   pub only : (id : ℕ) → Contains new.retired id → Contains old.retired id ⊎ ((unit ≡ Clause id) × (kept ≡ Clause id → ⊥))
@@ -114,3 +114,8 @@ pub record IsReady {S : Type 0} (formula : Formula) (table : TableState S) (kept
   pub counted : table.inputs ≡ length formula.clauses
   pub vars : levels table.graph ≡ formula.vars
   pub none_empty : IsFalse (has_empty_clause formula.clauses)
+
+-- the hint that a justification gives
+abbrev pub hint_of : Justification → List ℕ
+hint_of Trivial = []
+hint_of (Clause id) = id ∷ []

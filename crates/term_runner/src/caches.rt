@@ -19,7 +19,7 @@ use apply_and::{AndCache, and};
 use cnf_base::OutOfMemory;
 use host_io::Sink;
 use imply::{ImplyCache, implies};
-use node_table::{Just, Marks, Node, Table, TableError, steps_law};
+use node_table::{Justification, Marks, Node, Table, TableError, steps_law};
 use operations::{Purge, entry_law, purge_law};
 use quantify::{ExistsCache, OrCache, exists};
 use std::alloc::Global;
@@ -66,7 +66,7 @@ impl Caches {
         table: &mut Table<S>,
         u: Node,
         v: Node,
-    ) -> Result<(Node, Just), TableError>
+    ) -> Result<(Node, Justification), TableError>
         requires sound { IsSound table.old }
         requires first { IsTrue (is_node table.old.graph u) }
         requires second { IsTrue (is_node table.old.graph v) }
@@ -95,7 +95,7 @@ impl Caches {
         table: &mut Table<S>,
         u: Node,
         v: Node,
-    ) -> Result<Option<Just>, TableError>
+    ) -> Result<Option<Justification>, TableError>
         requires sound { IsSound table.old }
         requires first { IsTrue (is_node table.old.graph u) }
         requires second { IsTrue (is_node table.old.graph v) }
@@ -154,7 +154,7 @@ impl Purge for Caches {
         steps_law::<S>();
         self.ands.purge(table, marks);
         self.implications.purge(table, marks);
-        self.quantifications.purge(marks);
-        self.ors.purge(marks);
+        self.quantifications.purge(table, marks);
+        self.ors.purge(table, marks);
     }
 }

@@ -4,17 +4,21 @@ ghost use Rattle.node_table.specs.declared.node.Node.TheVariants.{False};
 ghost use Rattle.node_table.specs.declared.error.TableError.TheVariants.{OutOfMemory};
 ghost use Rattle.term_runner.specs.declared.held.HeldTerm.{HeldTerm as HeldValue};
 
-use node_table::{Just, Node, TableError};
+use node_table::{Justification, Node, TableError};
 
 /// The node of a term, and its unit on the proof.
 #[derive(Clone, Copy, Debug)]
 pub struct HeldTerm {
     pub node: Node,
-    pub unit: Just,
+    pub unit: Justification,
 }
 
 /// Stacks a term, unless its node is False: then its unit is the empty clause. Says whether it is.
-pub(crate) fn put(stack: &mut Vec<HeldTerm>, node: Node, unit: Just) -> Result<bool, TableError>
+pub(crate) fn put(
+    stack: &mut Vec<HeldTerm>,
+    node: Node,
+    unit: Justification,
+) -> Result<bool, TableError>
     ensures refuted { IfOk result (λ refuted. IsTrue refuted → node ≡ False) }
     ensures stacked { IfOk result (λ refuted. refuted ≡ false → (node ≢ False)
         × (stack.new.items ≡ stack.old.items ++ record { node = node; unit = unit } ∷ [])) }
@@ -54,7 +58,7 @@ pub(crate) fn last_two(stack: &[HeldTerm]) -> Option<(HeldTerm, HeldTerm)>
 }
 
 /// A term takes the place of the last one, without memory.
-pub(crate) fn replace_last(stack: &mut Vec<HeldTerm>, node: Node, unit: Just)
+pub(crate) fn replace_last(stack: &mut Vec<HeldTerm>, node: Node, unit: Justification)
     requires { (last : HeldValue) × (rest : List HeldValue) × (reverse stack.old.items ≡ last ∷ rest) }
     ensures { (last : HeldValue) (rest : List HeldValue) → reverse stack.old.items ≡ last ∷ rest → reverse stack.new.items
         ≡ record { node = node; unit = unit } ∷ rest }
@@ -64,7 +68,7 @@ pub(crate) fn replace_last(stack: &mut Vec<HeldTerm>, node: Node, unit: Just)
 }
 
 /// A term takes the place of the two last ones.
-pub(crate) fn replace_two(stack: &mut Vec<HeldTerm>, node: Node, unit: Just)
+pub(crate) fn replace_two(stack: &mut Vec<HeldTerm>, node: Node, unit: Justification)
     requires { (last second : HeldValue) × (rest : List HeldValue) × (reverse stack.old.items ≡ last ∷ second ∷ rest) }
     ensures { (last second : HeldValue) (rest : List HeldValue) → reverse stack.old.items ≡ last ∷ second ∷ rest → reverse stack.new.items
         ≡ record { node = node; unit = unit } ∷ rest }

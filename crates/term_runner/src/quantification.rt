@@ -5,10 +5,10 @@ ghost use Rattle.lrat_rules.specs.State.{clause_at};
 ghost use Rattle.cnf_base.specs.Formula.{Formula};
 ghost use Rattle.node_table.specs.declared.error.TableError.TheVariants.{NodeLimit};
 ghost use Rattle.node_table.specs.declared.node.Node.TheVariants.{False};
-ghost use Rattle.node_table.specs.declared.node.Just.TheVariants.{Clause};
+ghost use Rattle.node_table.specs.declared.node.Justification.TheVariants.{Clause};
 ghost use Rattle.node_table.specs.Defined.{atom_of};
 ghost use Rattle.node_table.specs.Diagram.{is_node, levels};
-ghost use Rattle.node_table.specs.Just.{IsJustified};
+ghost use Rattle.node_table.specs.Justification.{IsJustified};
 ghost use Rattle.node_table.specs.Made.{LacksPart, MakesOnly};
 ghost use Rattle.node_table.specs.Progress.{Steps, error_of};
 ghost use Rattle.node_table.specs.Table.{AddsAtMost, IsSound, UnlessTorn};
@@ -28,7 +28,7 @@ use crate::unit::{is_same, retire_unit, unit_of_implied};
 use clause_terms::Trail;
 use host_io::Sink;
 use node_table::{
-    Just, Node, Table, TableError, canonical_law, growth_law, steps_law, subfunction_law,
+    Justification, Node, Table, TableError, canonical_law, growth_law, steps_law, subfunction_law,
 };
 use operations::entry_law;
 
@@ -137,7 +137,7 @@ fn implied_unit<S: Sink + Drop>(
     caches: &mut Caches,
     u: &HeldTerm,
     w: Node,
-) -> Result<Just, TableError>
+) -> Result<Justification, TableError>
     requires sound { IsSound table.old }
     requires first { IsTrue (is_node table.old.graph u.now.node) }
     requires second { IsTrue (is_node table.old.graph w) }

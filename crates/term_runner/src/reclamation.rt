@@ -32,7 +32,7 @@ use schedule_plan::Move;
 use std::alloc::Global;
 
 // With fewer nodes than these none are given back.
-const FEW: u32 = 1000;
+const RECLAIM_FROM: u32 = 1000;
 
 /// Takes a move, at the limit of nodes after a reclamation, and reclaims behind it where there are many. Says whether the empty
 /// clause was added: then all is done. `left` is how many nodes the last reclamation left.
@@ -230,5 +230,5 @@ fn roots_of(alloc: Global, stack: &[HeldTerm], trail: &Trail) -> Result<Vec<Node
 fn is_tidy(live: u32, left: u32) -> bool
     ensures { IsTrue result ↔ IsTidy live left }
 {
-    live < FEW || live / 2 < left
+    live < RECLAIM_FROM || live / 2 < left
 }

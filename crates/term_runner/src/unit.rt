@@ -1,28 +1,29 @@
 // The unit of a conjunction of two terms, and that of a node that a term implies: an operand's own where it is that
 // operand, else a clause that follows from the operands' units and the clause of the conjunction or the implication. Then
 // the operands' units are needed no more.
-ghost use Rattle.std.specs.Prelude.{◌≡◌, ◌≢◌, ◌<◌, ◌+◌, ◌⊎◌, ◌↔◌, ℕ, ℤ, List, [], ◌∷◌, Err, None, Some, Contains, IsTrue, IfOk, IfErr};
+ghost use Rattle.std.specs.Prelude.{◌≡◌, ◌≢◌, ◌<◌, ◌+◌, ◌++◌, ◌⊎◌, ◌↔◌, ℕ, ℤ, List, [], ◌∷◌, Err, None, Some, Contains, IsTrue, IfOk, IfErr, OnOk};
 ghost use Rattle.std.specs.Prelude.{MatchOption};
 ghost use Rattle.node_table.specs.declared.node.Node.TheVariants.{False, True};
-ghost use Rattle.node_table.specs.declared.node.Just.TheVariants.{Trivial, Clause};
+ghost use Rattle.node_table.specs.declared.node.Justification.TheVariants.{Trivial, Clause};
 ghost use Rattle.lrat_rules.specs.Strict.{RefutesStrictly};
-ghost use Rattle.hint_chain.specs.Atoms.{clause_of};
+ghost use Rattle.hint_chain.specs.Atoms.{clause_from_atoms};
 ghost use Rattle.node_table.specs.declared.error.TableError.TheVariants.{NodeLimit, WriteFault};
 ghost use Rattle.node_table.specs.Defined.{atom_of};
 ghost use Rattle.node_table.specs.Diagram.{is_node};
-ghost use Rattle.node_table.specs.Just.{IsJustified};
+ghost use Rattle.node_table.specs.Justification.{IsJustified};
 ghost use Rattle.node_table.specs.Table.{AddsNoEmpty, IsAddedTo, IsSound};
 ghost use Rattle.node_table.specs.Progress.{Steps, StepsOrRefutes, error_of};
 ghost use Rattle.operations.specs.Results.{Conjoined, Implied};
-ghost use Rattle.operations.specs.Entries.{IsNewJust};
-ghost use Rattle.term_runner.specs.Held.{RetiresBut};
+ghost use Rattle.operations.specs.Entries.{IsNewJustification};
+ghost use Rattle.clause_terms.specs.Term.{AddsUnit};
+ghost use Rattle.term_runner.specs.Held.{RetiresBut, hint_of};
 
 use crate::held::HeldTerm;
 use cnf_base::Id;
 use hint_chain::{clause_law, following_unit_law};
 use host_io::Sink;
 use lrat_rules::live_law;
-use node_table::{Just, Node, Table, TableError, canonical_law, steps_law};
+use node_table::{Justification, Node, Table, TableError, canonical_law, steps_law};
 use operations::retire;
 
 /// The unit of the node w, which is the conjunction of both terms' nodes.
@@ -31,8 +32,8 @@ pub fn unit_of<S: Sink + Drop>(
     u: &HeldTerm,
     v: &HeldTerm,
     w: Node,
-    just: &Just,
-) -> Result<Just, TableError>
+    just: &Justification,
+) -> Result<Justification, TableError>
     requires sound { IsSound table.old }
     requires first { IsTrue (is_node table.old.graph u.now.node) }
     requires second { IsTrue (is_node table.old.graph v.now.node) }
@@ -43,12 +44,14 @@ pub fn unit_of<S: Sink + Drop>(
     requires conjoined { Conjoined table.old.graph table.old.book.state.live u.now.node v.now.node w just.now }
     ensures unit { IfOk result (λ unit. IsJustified table.new.book.state.live (atom_of table.old.graph w ∷ []) unit) }
     ensures given { IfOk result (λ unit. (unit ≡ u.now.unit) ⊎ ((unit ≡ v.now.unit)
-        ⊎ IsNewJust table.old.book.state table.new.book.state unit)) }
+        ⊎ IsNewJustification table.old.book.state table.new.book.state unit)) }
     ensures added { IfOk result (λ unit. (unit ≡ u.now.unit) ⊎ ((unit ≡ v.now.unit)
         ⊎ ((id : ℕ) → unit ≡ Clause id → IsAddedTo table.new id))) }
     ensures alone { IfOk result (λ unit. (id : ℕ) → IsAddedTo table.new id → IsAddedTo table.old id ⊎ (unit ≡ Clause id)) }
     // An operand's own unit without a clause more, or one clause.
     ensures own { (w ≡ u.now.node) ⊎ (w ≡ v.now.node) → table.new ≡ table.old }
+    ensures told { w ≢ u.now.node → w ≢ v.now.node → OnOk result (AddsUnit table.old table.new w
+        (hint_of u.now.unit ++ hint_of v.now.unit ++ hint_of just.now)) }
     ensures number { w ≢ u.now.node → w ≢ v.now.node → IfOk result (λ unit. (unit ≡ Clause (table.old.book.state.top + 1))
         × (table.new.book.state.top ≡ table.old.book.state.top + 1)) }
     ensures nodes { table.new.graph ≡ table.old.graph }
@@ -88,8 +91,8 @@ pub fn unit_of_implied<S: Sink + Drop>(
     table: &mut Table<S>,
     u: &HeldTerm,
     w: Node,
-    just: &Just,
-) -> Result<Just, TableError>
+    just: &Justification,
+) -> Result<Justification, TableError>
     requires sound { IsSound table.old }
     requires first { IsTrue (is_node table.old.graph u.now.node) }
     requires second { IsTrue (is_node table.old.graph w) }
@@ -97,11 +100,13 @@ pub fn unit_of_implied<S: Sink + Drop>(
     requires first_unit { IsJustified table.old.book.state.live (atom_of table.old.graph u.now.node ∷ []) u.now.unit }
     requires implied { Implied table.old.graph table.old.book.state.live u.now.node w just.now }
     ensures unit { IfOk result (λ unit. IsJustified table.new.book.state.live (atom_of table.old.graph w ∷ []) unit) }
-    ensures given { IfOk result (λ unit. (unit ≡ u.now.unit) ⊎ IsNewJust table.old.book.state table.new.book.state unit) }
+    ensures given { IfOk result (λ unit. (unit ≡ u.now.unit) ⊎ IsNewJustification table.old.book.state table.new.book.state unit) }
     ensures added { IfOk result (λ unit. (unit ≡ u.now.unit) ⊎ ((id : ℕ) → unit ≡ Clause id → IsAddedTo table.new id)) }
     ensures alone { IfOk result (λ unit. (id : ℕ) → IsAddedTo table.new id → IsAddedTo table.old id ⊎ (unit ≡ Clause id)) }
     // Its own unit, or none where w is True, without a clause more; or one clause.
     ensures own { (w ≡ u.now.node) ⊎ (w ≡ True) → table.new ≡ table.old }
+    ensures told { w ≢ u.now.node → w ≢ True → OnOk result (AddsUnit table.old table.new w
+        (hint_of u.now.unit ++ hint_of just.now)) }
     ensures number { w ≢ u.now.node → w ≢ True → IfOk result (λ unit. (unit ≡ Clause (table.old.book.state.top + 1))
         × (table.new.book.state.top ≡ table.old.book.state.top + 1)) }
     ensures nodes { table.new.graph ≡ table.old.graph }
@@ -117,7 +122,7 @@ pub fn unit_of_implied<S: Sink + Drop>(
         return Ok(u.unit);
     }
     if is_same(w, Node::True) {
-        return Ok(Just::Trivial);
+        return Ok(Justification::Trivial);
     }
     let Some(first) = clause_id(&u.unit) else {
         unreachable!();
@@ -129,7 +134,7 @@ pub fn unit_of_implied<S: Sink + Drop>(
 }
 
 /// Retires a term's unit, unless it is the one that is kept.
-pub fn retire_unit<S: Sink + Drop>(table: &mut Table<S>, unit: &Just, kept: &Just)
+pub fn retire_unit<S: Sink + Drop>(table: &mut Table<S>, unit: &Justification, kept: &Justification)
     requires sound { IsSound table.old }
     requires added { (id : ℕ) → unit.now ≡ Clause id → IsAddedTo table.old id }
     requires unretired { (id : ℕ) → unit.now ≡ Clause id → Contains table.old.retired id → ⊥ }
@@ -140,7 +145,7 @@ pub fn retire_unit<S: Sink + Drop>(table: &mut Table<S>, unit: &Just, kept: &Jus
 }
 
 // The clause of a unit, unless it is that of the one that is kept.
-fn given_up(unit: &Just, kept: &Just) -> Option<Id>
+fn given_up(unit: &Justification, kept: &Justification) -> Option<Id>
     ensures { MatchOption result ((id : ℕ) → unit.now ≡ Clause id → kept.now ≡ Clause id) (λ id. (unit.now ≡ Clause id)
         × (kept.now ≡ Clause id → ⊥)) }
 {
@@ -154,12 +159,12 @@ fn given_up(unit: &Just, kept: &Just) -> Option<Id>
 }
 
 // Whether a justification names this clause.
-fn is_clause(just: &Just, id: Id) -> bool
+fn is_clause(just: &Justification, id: Id) -> bool
     ensures { IsTrue result ↔ (just.now ≡ Clause id) }
 {
     match just {
-        Just::Trivial => false,
-        Just::Clause(other) => *other == id,
+        Justification::Trivial => false,
+        Justification::Clause(other) => *other == id,
     }
 }
 
@@ -171,23 +176,28 @@ pub(crate) fn is_same(one: Node, other: Node) -> bool
 }
 
 // The clause that a justification names.
-fn clause_id(just: &Just) -> Option<Id>
+fn clause_id(just: &Justification) -> Option<Id>
     ensures { MatchOption result (just.now ≡ Trivial) (λ id. just.now ≡ Clause id) }
 {
     match just {
-        Just::Trivial => None,
-        Just::Clause(id) => Some(*id),
+        Justification::Trivial => None,
+        Justification::Clause(id) => Some(*id),
     }
 }
 
 // Adds the clause of a node alone, the empty one where it is False.
-fn add_unit<S: Sink + Drop>(table: &mut Table<S>, w: Node, hints: &[Id]) -> Result<Just, TableError>
+fn add_unit<S: Sink + Drop>(
+    table: &mut Table<S>,
+    w: Node,
+    hints: &[Id],
+) -> Result<Justification, TableError>
     requires sound { IsSound table.old }
     requires stands { IsTrue (is_node table.old.graph w) }
     requires not_true { w ≢ True }
-    requires strict { (clause : List ℤ) → clause_of (atom_of table.old.graph w ∷ []) ≡ Some clause
+    requires strict { (clause : List ℤ) → clause_from_atoms (atom_of table.old.graph w ∷ []) ≡ Some clause
         → RefutesStrictly table.old.book.state.live clause hints.now }
     ensures unit { IfOk result (λ unit. IsJustified table.new.book.state.live (atom_of table.old.graph w ∷ []) unit) }
+    ensures told { OnOk result (AddsUnit table.old table.new w hints.now) }
     ensures number { IfOk result (λ unit. (unit ≡ Clause (table.old.book.state.top + 1))
         × (table.new.book.state.top ≡ table.old.book.state.top + 1)) }
     ensures added { IfOk result (λ unit. (id : ℕ) → unit ≡ Clause id → IsAddedTo table.new id) }
@@ -206,11 +216,11 @@ fn add_unit<S: Sink + Drop>(table: &mut Table<S>, w: Node, hints: &[Id]) -> Resu
     match table.literal(w) {
         None => {
             let id = table.justify(&[], hints)?;
-            Ok(Just::Clause(id))
+            Ok(Justification::Clause(id))
         }
         Some(literal) => {
             let id = table.justify(&[literal], hints)?;
-            Ok(Just::Clause(id))
+            Ok(Justification::Clause(id))
         }
     }
 }

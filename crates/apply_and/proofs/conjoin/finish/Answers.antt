@@ -1,10 +1,10 @@
 -- What is left to show of `finish`.
 use Rattle.std.proofs.Common.{◌∙◌, Err, refl, ap, sym, subst, inl, inr, arith}
 use Rattle.node_table.specs.declared.error.TableError.TheVariants.{NodeLimit, WriteFault}
-use Rattle.node_table.specs.declared.node.Just.TheVariants.{Trivial}
+use Rattle.node_table.specs.declared.node.Justification.TheVariants.{Trivial}
 use Rattle.node_table.specs.Diagram.{Graph}
 use Rattle.node_table.specs.HandedOn.{came_from, handed_on, no_error, same_answer, same_error}
-use Rattle.node_table.specs.Just.{IsJustified}
+use Rattle.node_table.specs.Justification.{IsJustified}
 use Rattle.node_table.specs.Made.{LacksPart, MakesOnly, ReachesNew}
 use Rattle.node_table.specs.Progress.{Steps, error_of}
 use Rattle.node_table.specs.Refused.{same_nodes}
@@ -14,7 +14,7 @@ use Rattle.apply_and.proofs.Calls.{Answer}
 use Rattle.apply_and.proofs.Conjunctions.{conjoined_ready, high_below, low_below, ready_kept, sides_from, trivial_operand}
 use Rattle.apply_and.proofs.Made.{lacks_one, made_node, reached_node}
 use Rattle.apply_and.proofs.Named.{failed_just, not_both}
-use Rattle.node_table.specs.declared.node.Just.{Just}
+use Rattle.node_table.specs.declared.node.Justification.{Justification}
 use Rattle.operations.specs.Accounts.{GivesOne}
 use Rattle.apply_and.proofs.conjoin.finish.Goals as goal
 
@@ -156,7 +156,7 @@ returns-in_err-w-clause-gives g c whole =
     let came = c.in_err-w.field-0.0 in
     let none = c.node-made.ensures.none_added (λ torn. whole (handed_on _ came WriteFault c.from_residual.ensures.1
     (same_error (sym c.in_err-w.was ∙ torn)))) in
-    subst (λ (just : Just). GivesOne old mid just) (sym (failed_just _ came c.from_residual.ensures.1))
+    subst (λ (just : Justification). GivesOne old mid just) (sym (failed_just _ came c.from_residual.ensures.1))
     (c.accounts_law.ensures.gives_none old mid c.requires.sound none)
 
 pub returns-then-is_operand-clause-gives : goal.returns-then-is_operand-clause-gives
@@ -176,7 +176,7 @@ returns-in_err-just-clause-gives g c whole =
     let came = c.in_err-just.field-0.0 in
     let gives = c.in_err-just.ensures.gives (λ torn. whole (handed_on _ came WriteFault c.from_residual-in_err-just.ensures.1
     (same_error torn))) in
-    subst (λ (just : Just). GivesOne old new just) (sym (failed_just _ came c.from_residual-in_err-just.ensures.1))
+    subst (λ (just : Justification). GivesOne old new just) (sym (failed_just _ came c.from_residual-in_err-just.ensures.1))
     (c.accounts_law.ensures.gives_further old mid new Trivial c.requires.sound
     (c.in_ok-w.ensures.none_added no_error) c.in_ok-w.ensures.steps.extends c.in_err-just.ensures.steps.extends gives)
 

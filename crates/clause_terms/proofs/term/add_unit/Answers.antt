@@ -1,8 +1,9 @@
 -- What is left to show of `add_unit`.
-use Rattle.std.proofs.Common.{arith}
+use Rattle.std.proofs.Common.{◌∙◌, arith, sym}
 use Rattle.node_table.specs.declared.error.TableError.TheVariants.{OutOfMemory}
 use Rattle.node_table.specs.HandedOn.{if_handed}
 use Rattle.node_table.specs.Refused.{steps_handed_on}
+use Rattle.clause_terms.specs.ToldUnit.{told_unit, unit_clause}
 use Rattle.clause_terms.proofs.Handed.{adds_none}
 use Rattle.clause_terms.proofs.term.add_unit.Goals as goal
 
@@ -29,3 +30,9 @@ returns-in_err-hints-clause-none_added g c = if_handed _ OutOfMemory _ c.from_re
 
 pub returns-clause-none_added : goal.returns-clause-none_added
 returns-clause-none_added g c = adds_none c.args.table.now c.justify.new.self c.justify.result c.justify.ensures.refused
+
+pub returns-clause-told : goal.returns-clause-told
+returns-clause-told g c =
+    told_unit c.args.table.now c.justify.new.self c.args.node _ _ _ c.justify.result
+    (unit_clause c.args.table.now.graph c.args.node _ (sym c.literal.ensures ∙ c.unwrap-unit.ensures)) (c.as_slice.ensures ∙ c.in_ok-hints.ensures)
+    c.justify.ensures.step

@@ -3,14 +3,14 @@ use Rattle.std.proofs.Common.{◌≡◌, List, [], sym, subst}
 use Rattle.std.proofs.lemmas.Result.{IfOk-weaker}
 use Rattle.node_table.specs.Table.{TableState}
 use Rattle.operations.specs.Entries.{Entry, Fits}
-use Rattle.quantify.specs.OrCache.{disjunctions, most_disjunctions}
-use Rattle.quantify.specs.declared.or_cache.OrCache.{OrCache}
+use Rattle.operations.specs.Computed.{most_entries}
+use Rattle.quantify.specs.OrCache.{OrCache, disjunctions}
 use Rattle.diagram_tests.specs.declared.support.ProofText.{ProofText}
 use Rattle.diagram_tests.proofs.disjunctions.no_disjunctions.Goals as goal
 
 pub returns : goal.returns
 returns c =
     let fits : OrCache → Type 0 = λ cache. (table : TableState ProofText) → Fits table (disjunctions cache) in
-    let empty : OrCache → Type 0 = λ cache. (disjunctions cache ≡ []) × (most_disjunctions cache ≡ c.args.capacity) in
+    let empty : OrCache → Type 0 = λ cache. (disjunctions cache ≡ []) × (most_entries cache ≡ c.args.capacity) in
     IfOk-weaker c.new.result empty fits (λ cache is table. subst (λ (list : List Entry). Fits table list) (sym is.0)
     (c.entry_law.ensures.none table)) c.new.ensures

@@ -3,8 +3,7 @@ use Rattle.std.proofs.Common.{◌≡◌, List, [], sym, subst}
 use Rattle.std.proofs.lemmas.Result.{IfOk-weaker}
 use Rattle.node_table.specs.Table.{TableState}
 use Rattle.operations.specs.Entries.{Entry, Fits}
-use Rattle.imply.specs.Cache.{entries, most_entries}
-use Rattle.imply.specs.declared.cache.ImplyCache.{ImplyCache}
+use Rattle.imply.specs.Cache.{ImplyCache, entries, most_entries}
 use Rattle.diagram_tests.specs.declared.support.ProofText.{ProofText}
 use Rattle.diagram_tests.proofs.implications.no_implications.Goals as goal
 

@@ -3,8 +3,7 @@ use Rattle.std.proofs.Common.{◌≡◌, List, [], sym, subst}
 use Rattle.std.proofs.lemmas.Result.{IfOk-weaker}
 use Rattle.node_table.specs.Table.{TableState}
 use Rattle.operations.specs.Entries.{Entry, Fits}
-use Rattle.apply_and.specs.Cache.{entries, most_entries}
-use Rattle.apply_and.specs.declared.cache.AndCache.{AndCache}
+use Rattle.apply_and.specs.Cache.{AndCache, entries, most_entries}
 use Rattle.diagram_tests.specs.declared.support.ProofText.{ProofText}
 use Rattle.diagram_tests.proofs.script.no_entries.Goals as goal
 

@@ -1,10 +1,12 @@
 -- A plain pair and one that is kept are answered with nothing changed in the table.
-use Rattle.std.proofs.Common.{Some, Ok, Contains, arith, ap, refl, inl, subst}
-use Rattle.node_table.specs.declared.node.Just.{Just}
-use Rattle.node_table.specs.declared.node.Just.TheVariants.{Clause}
+use Rattle.std.proofs.Common.{Some, Ok, Contains, arith, ap, refl, inl, subst, sym}
+use Rattle.node_table.specs.declared.node.Justification.{Justification}
+use Rattle.node_table.specs.declared.node.Justification.TheVariants.{Clause}
 use Rattle.node_table.specs.HandedOn.{no_error}
+use Rattle.operations.specs.Caches.{IsLookedUp}
 use Rattle.operations.specs.Entries.{Implication}
-use Rattle.imply.specs.Cache.{entries}
+use Rattle.operations.specs.Pairs.{same_pair}
+use Rattle.imply.specs.Cache.{entries, entry_of}
 use Rattle.imply.proofs.Calls.{given_same, no_limit, some_same}
 use Rattle.imply.proofs.Cached.{none_found}
 use Rattle.imply.proofs.Refuted.{decided_plainly, not_plain, only_answer, plain_no_clause}
@@ -48,8 +50,8 @@ returns-in-None-clause-unknown g c missed =
         differ = apart.0;
         first = apart.1;
         second = apart.2;
-        none = λ just there. none_found just (looked.exact just there);
-        unused = λ used front. looked.used used front;
+        none = λ just there. none_found just (looked.looked.exact just there);
+        unused = λ used front. looked.looked.used used front;
       },
     )
 
@@ -57,14 +59,17 @@ pub returns-in-Some-look-clause-answers : goal.returns-in-Some-look-clause-answe
 returns-in-Some-look-clause-answers g c =
     let table = c.args.table.now in
     let before = entries c.args.cache.now in
-    let looked = entries c.look.new.self in
+    let cache = c.args.cache.now in
+    let after = c.look.new.self in
+    let looked = entries after in
     let u = c.args.u in
     let v = c.args.v in
-    let just = c.in-Some-look.just in
+    let just = c.just.result in
     let can = c.requires.can in
     let apart = c.in_default.ensures.plain in
-    let look = c.in-Some-look.ensures in
-    let same_list = look.looked.same in
+    let look = subst (λ (j : Justification). IsLookedUp entry_of same_pair cache.results after.results (u, v) (Some j)) (sym c.just.ensures)
+    c.in-Some-look.ensures.looked in
+    let same_list = look.leaves.same in
     let own = Implication u v just in
     let there = same_list.back own look.found in record {
       call = record {
@@ -75,14 +80,14 @@ returns-in-Some-look-clause-answers g c =
         id_limit = λ is. absurd (no_error is);
         accounts = c.accounts_law.ensures.same table before looked _ can.sound same_list can.fits;
         unretired = λ id is. can.fits.unretired id (own, there, some_same just (Clause id) (given_same (Some just) (Some (Clause id)) is));
-        kept = λ differ first second other is. subst (λ (j : Just). Contains looked (Implication u v j))
+        kept = λ differ first second other is. subst (λ (j : Justification). Contains looked (Implication u v j))
             (some_same just other (given_same (Some just) (Some other) is)) look.found;
         remembers = record {
           entries = λ entry had. inl (same_list.there entry had);
-          no_fewer = look.looked.no_fewer;
-          capacity = look.looked.capacity;
+          no_fewer = look.leaves.no_fewer;
+          capacity = look.leaves.capacity;
         };
-        price = c.price_law.ensures.looked table c.args.cache.now.results c.look.new.self.results u v apart.1 apart.2
+        price = c.price_law.ensures.looked table cache.results after.results u v apart.1 apart.2
             (λ used front. look.used used front);
       };
       known = λ other had. (ap Ok (look.exact other had), refl, same_list);

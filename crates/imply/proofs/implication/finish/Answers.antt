@@ -1,18 +1,19 @@
 -- The implication of both sides is kept, or its step or the cache is refused.
 use Rattle.std.proofs.Common.{◌≡◌, ◌∙◌, ℕ, Err, None, Some, List, Contains, arith, inl, refl, sym, ap, subst}
 use Rattle.node_table.specs.declared.error.TableError.TheVariants.{NodeLimit, IdLimit, OutOfMemory}
-use Rattle.node_table.specs.declared.node.Just.{Just}
-use Rattle.node_table.specs.declared.node.Just.TheVariants.{Clause}
+use Rattle.node_table.specs.declared.node.Justification.{Justification}
+use Rattle.node_table.specs.declared.node.Justification.TheVariants.{Clause}
 use Rattle.node_table.specs.Diagram.{Graph}
 use Rattle.node_table.specs.HandedOn.{handed_on, no_error}
-use Rattle.node_table.specs.Just.{IsJustified}
+use Rattle.node_table.specs.Justification.{IsJustified}
 use Rattle.node_table.specs.Progress.{Steps}
 use Rattle.node_table.specs.Table.{TableState, IsSound}
 use Rattle.operations.specs.Accounts.{GivesOne, HasFound, RetiresNew, RetiresOne, whole_error}
+use Rattle.operations.specs.Caches.{KeepsEntry}
 use Rattle.operations.specs.Entries.{Entry, AreNodes, Implication, Fits}
+use Rattle.operations.specs.Pairs.{same_pair}
 use Rattle.operations.specs.Results.{Implied, implication_atoms}
-use Rattle.imply.specs.declared.cache.ImplyCache.{ImplyCache}
-use Rattle.imply.specs.Cache.{entries}
+use Rattle.imply.specs.Cache.{ImplyCache, entries, entry_of}
 use Rattle.imply.specs.Calls.{IsClosed}
 use Rattle.imply.proofs.Calls.{Answer, failed_no_answer, given_same, limit_came, memory_no_limit, memory_no_numbers}
 use Rattle.imply.proofs.Calls.{no_limit, none_failed, some_same}
@@ -20,7 +21,7 @@ use Rattle.imply.proofs.Refuted.{implied_both}
 use Rattle.imply.proofs.implication.finish.Goals as goal
 
 -- the step has found a justification
-found_by : {S : Type 0} (old mid : TableState S) (before : List Entry) (count : ℕ) (just : Just)
+found_by : {S : Type 0} (old mid : TableState S) (before : List Entry) (count : ℕ) (just : Justification)
     → IsSound old → Fits old before → Steps old mid count None
     → RetiresNew old mid → GivesOne old mid just → HasFound old mid before just
 found_by old mid before count just sound fits steps retires gives = record {
@@ -81,7 +82,8 @@ returns-in-Ok g c =
     let just = c.in_ok-just.just in
     let given = c.in-Ok.given in
     let done = c.in_ok-just.ensures in
-    let kept = c.in-Ok.ensures.kept in
+    let kept = subst (λ (j : Justification). KeepsEntry entry_of same_pair c.args.cache.now.results after.results (o.u, o.v) (Implication o.u o.v j)
+    given) c.from_just-stored.ensures c.in-Ok.ensures.kept in
     let one : RetiresOne mid new given = c.retire.ensures in
     let same : new.graph ≡ mid.graph = ap (λ (t : TableState g.row.S.Denot). t.graph) one.same in
     let nodes : AreNodes mid.graph o.u o.v = record {
@@ -107,7 +109,7 @@ returns-in-Ok g c =
       id_limit = λ is. absurd (no_error is);
       accounts = ended.accounts;
       unretired = λ id is. ended.unretired id (some_same just (Clause id) (given_same (Some just) (Some (Clause id)) is));
-      kept = λ other is. subst (λ (j : Just). Contains (entries after) (Implication o.u o.v j))
+      kept = λ other is. subst (λ (j : Justification). Contains (entries after) (Implication o.u o.v j))
           (some_same just other (given_same (Some just) (Some other) is)) kept.one.kept;
       room = kept.room;
       used = λ used front apart room none. kept.used used front apart room;
@@ -122,7 +124,7 @@ returns-in-Err g c =
     let mid = c.justify.new.table in
     let new = c.retire-in-Err.new.table in
     let just = c.in_ok-just.just in
-    let given = c.clause_of.result in
+    let given = c.clause_number.result in
     let done = c.in_ok-just.ensures in
     let one : RetiresOne mid new given = c.retire-in-Err.ensures in
     let same : new.graph ≡ mid.graph = ap (λ (t : TableState g.row.S.Denot). t.graph) one.same in
@@ -135,7 +137,7 @@ returns-in-Err g c =
       nodes = same ∙ done.nodes;
       no_node_limit = memory_no_limit;
       id_limit = λ is. absurd (memory_no_numbers is);
-      accounts = c.accounts_law.ensures.refused old mid new before just given _ has c.clause_of.ensures one;
+      accounts = c.accounts_law.ensures.refused old mid new before just given _ has c.clause_number.ensures one;
       unretired = λ id is. absurd (failed_no_answer OutOfMemory (Some (Clause id)) is);
       kept = λ other is. absurd (failed_no_answer OutOfMemory (Some other) is);
       room = record { others = λ entry there. inl there; no_fewer = omega arith; capacity = refl };

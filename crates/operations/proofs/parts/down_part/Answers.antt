@@ -3,7 +3,7 @@ use Rattle.std.proofs.Common.{◌≡◌, [], ◌∷◌, Option, sym, ap, ◌∙�
 use Rattle.hint_chain.specs.declared.atom.Atom.TheVariants.{Of}
 use Rattle.hint_chain.specs.declared.part.Part.{Part}
 use Rattle.hint_chain.specs.Additions.{part_clause}
-use Rattle.hint_chain.specs.Atoms.{clause_of, neg_atom, down_clause}
+use Rattle.hint_chain.specs.Atoms.{clause_from_atoms, neg_atom, down_clause}
 use Rattle.hint_chain.specs.Greedy.{IsLivePart}
 use Rattle.node_table.specs.Defined.{atom_of, clause_named}
 use Rattle.operations.specs.Sides.{false_literal, cofactor_at, down_of}
@@ -18,15 +18,15 @@ false_literal-requires g c =
     level_within c.args.table.now.graph c.requires.tied.reduced c.args.level c.args.node branch.0 branch.1 branch.2
 
 -- the atoms are those of the clause
-atoms : (g : Over) (c : After-part_of g) → clause_of (c.negated.result ∷ Of c.false_literal.result ∷ c.atom-child.result ∷ [])
-    ≡ clause_of (down_clause (atom_of c.args.table.now.graph c.args.node) (false_literal c.args.side c.args.table.now.graph c.args.level)
+atoms : (g : Over) (c : After-part_of g) → clause_from_atoms (c.negated.result ∷ Of c.false_literal.result ∷ c.atom-child.result ∷ [])
+    ≡ clause_from_atoms (down_clause (atom_of c.args.table.now.graph c.args.node) (false_literal c.args.side c.args.table.now.graph c.args.level)
     (atom_of c.args.table.now.graph (cofactor_at c.args.side c.args.table.now.graph c.args.level c.args.node)))
-atoms g c = λ i. clause_of ((c.negated.ensures ∙ ap neg_atom c.atom-own.ensures) i ∷ Of (c.false_literal.ensures i)
+atoms g c = λ i. clause_from_atoms ((c.negated.ensures ∙ ap neg_atom c.atom-own.ensures) i ∷ Of (c.false_literal.ensures i)
     ∷ (c.atom-child.ensures ∙ ap (atom_of c.args.table.now.graph) c.cofactor.ensures) i ∷ [])
 
 -- which stands under the number
 given : (g : Over) (c : After-part_of g) → clause_named c.args.table.now.book.state.live c.down_id.result
-    ≡ clause_of (c.negated.result ∷ Of c.false_literal.result ∷ c.atom-child.result ∷ [])
+    ≡ clause_from_atoms (c.negated.result ∷ Of c.false_literal.result ∷ c.atom-child.result ∷ [])
 given g c =
     let graph = c.args.table.now.graph in
     let live = c.args.table.now.book.state.live in

@@ -46,7 +46,8 @@ returns-clause-answers g c =
     let cache = c.args.cache.now in
     let list = disjunctions cache in
     let after = c.look.new.self in
-    let looked = c.look.ensures.looked in
+    let look = c.look.ensures.looked in
+    let looked = look.leaves in
     let u = c.args.u in
     let v = c.args.v in
     let can = c.requires.can in
@@ -57,7 +58,7 @@ returns-clause-answers g c =
       | None ↦ λ is. tt
       | Some w ↦ λ is.
           let kept : Contains (disjunctions after) (Disjunction u v w) = subst
-          (λ (r : Option Node). IfSome r (λ x. Contains (disjunctions after) (Disjunction u v x))) is c.look.ensures.found in
+          (λ (r : Option Node). IfSome r (λ x. Contains (disjunctions after) (Disjunction u v x))) is look.found in
           let there = looked.same.back (Disjunction u v w) kept in record {
             runs = runs_none c.steps_law.ensures c.subfunction_law.ensures table list (disjunction_of table.graph u v) can.sound
                 (disjunctions after)
@@ -66,7 +67,7 @@ returns-clause-answers g c =
             disjoined = (can.fits.each (Disjunction u v w) there).1;
             reachable = c.reach_law.ensures.none_made table.graph w;
             kept = λ differ first second. kept;
-            known = λ other had. (ap Ok (same_some w other (sym is ∙ c.look.ensures.exact other had)), refl, looked.same);
+            known = λ other had. (ap Ok (same_some w other (sym is ∙ look.exact other had)), refl, looked.same);
             plain = λ other plain. absurd (not_plain table.graph u v other (c.in_default.ensures.differ refl) inner.0 inner.1 plain);
           }
     ] refl
@@ -80,6 +81,6 @@ returns-clause-unknown g c missed =
         differ = c.in_default.ensures.differ refl;
         first = inner.0;
         second = inner.1;
-        none = λ w there. no_found w (sym missed ∙ c.look.ensures.exact w there);
+        none = λ w there. no_found w (sym missed ∙ c.look.ensures.looked.exact w there);
       },
     )

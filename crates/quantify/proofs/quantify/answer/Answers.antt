@@ -5,8 +5,7 @@ use Rattle.node_table.specs.declared.error.TableError.{TableError}
 use Rattle.node_table.specs.declared.node.Node.{Node}
 use Rattle.node_table.specs.HandedOn.{handed_on}
 use Rattle.operations.specs.Entries.{Quantification}
-use Rattle.quantify.specs.declared.exists_cache.ExistsCache.{ExistsCache}
-use Rattle.quantify.specs.ExistsCache.{both_caches, quantification, quantifications}
+use Rattle.quantify.specs.ExistsCache.{ExistsCache, both_caches, quantification, quantifications}
 use Rattle.quantify.specs.OrCache.{disjunction, disjunctions}
 use Rattle.quantify.specs.Quantification.{IsAnswered, Quantifies, quantification_of}
 use Rattle.quantify.proofs.BothCaches.{looked_part}
@@ -58,17 +57,18 @@ returns-in-Some g c =
     let level = c.args.level in
     let can = c.requires.can in
     let looked = c.in-Some.ensures.looked in
+    let same = looked.leaves.same in
     let w = c.in-Some.w in
-    let there = looked.same.back (Quantification u level w) c.in-Some.ensures.found in record {
+    let there = same.back (Quantification u level w) looked.found in record {
       runs = runs_none c.steps_law.ensures c.subfunction_law.ensures table (both_caches cache ors)
           (quantification_of table.graph u level) can.sound (both_caches after ors)
-          (looked_part c.entry_law.ensures table cache ors can.fits after looked.same) w;
-      remembers = remembers_looked quantification cache.results after.results looked;
+          (looked_part c.entry_law.ensures table cache ors can.fits after same) w;
+      remembers = remembers_looked quantification cache.results after.results looked.leaves;
       remembers_ors = remembers_all disjunction ors.results;
       quantified = (can.fits.each (Quantification u level w) (Contains-append_left (quantifications cache) (disjunctions ors) _ there)).1;
       reachable = c.reach_law.ensures.none_made table.graph w;
-      kept = λ at. c.in-Some.ensures.found;
-      known = λ other had. (ap Ok (same_some w other (c.in-Some.ensures.exact other had)), refl, looked.same, refl);
+      kept = λ at. looked.found;
+      known = λ other had. (ap Ok (same_some w other (looked.exact other had)), refl, same, refl);
       plain = λ below. absurd (omega (arith, below, c.if-level-own.false, c.level_of-own.ensures));
     }
 
@@ -78,12 +78,12 @@ returns-then-own-level g c = (
   c.in_default.ensures.missed refl,
   refl,
   omega (arith, c.if-own-level.true, c.level_of-own.ensures),
-  λ w there. no_found w (c.in_default.ensures.exact w there),
+  λ w there. no_found w (c.in_default.ensures.looked.exact w there),
 )
 
 pub disjoin_children-requires-clause-missed : goal.disjoin_children-requires-clause-missed
 disjoin_children-requires-clause-missed g c w there = no_found w
-    (c.in_default.ensures.exact w (subst (λ (cache : ExistsCache). Contains (quantifications cache)
+    (c.in_default.ensures.looked.exact w (subst (λ (cache : ExistsCache). Contains (quantifications cache)
     (Quantification c.args.u c.args.level w)) (c.in_default.ensures.missed refl) there))
 
 pub returns-in_err-w : goal.returns-in_err-w

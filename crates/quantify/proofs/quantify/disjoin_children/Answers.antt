@@ -6,8 +6,7 @@ use Rattle.node_table.specs.Diagram.{high_at, low_at}
 use Rattle.node_table.specs.HandedOn.{handed_on, no_error}
 use Rattle.node_table.specs.Made.{LacksPart, MakesOnly}
 use Rattle.operations.specs.Results.{Disjoined}
-use Rattle.quantify.specs.declared.exists_cache.ExistsCache.{ExistsCache}
-use Rattle.quantify.specs.ExistsCache.{both_caches, quantification}
+use Rattle.quantify.specs.ExistsCache.{ExistsCache, both_caches, quantification}
 use Rattle.quantify.specs.OrCache.{disjunctions}
 use Rattle.quantify.specs.Quantification.{Quantifies, quantification_of}
 use Rattle.quantify.specs.Runs.{Runs}
@@ -133,7 +132,7 @@ returns g c =
     let found = quantified_disjoined c.cofactor_law.ensures c.growth_law.ensures old.graph new.graph can.sound.tied.reduced
     done.steps.extends.nodes level u can.stands c.requires.at can.within w found_children in
     let stands = c.growth_law.ensures.stands old.graph new.graph done.steps.extends.nodes u can.stands in
-    let fits = kept_part c.entry_law.ensures new cache c.or.new.cache (first.fits no_error) after u w level (stands, found) kept in record {
+    let fits = kept_part c.entry_law.ensures new cache c.or.new.cache (first.fits no_error) after u w level (stands, found) _ kept.one in record {
       runs = runs_further c.steps_law.ensures c.subfunction_law.ensures old (both_caches cache ors)
           (quantification_of old.graph u level) new (both_caches after c.or.new.cache) (Ok w) new list w first
           (runs_none c.steps_law.ensures c.subfunction_law.ensures new list (quantification_of old.graph u level) first.steps.leaves.sound

@@ -3,7 +3,8 @@ use Rattle.std.proofs.Common.{◌++◌, ◌⊎◌, ◌≤◌, List, Contains, Ok
 use Rattle.std.proofs.lemmas.List.Elements.{Contains-append_left}
 use Rattle.node_table.specs.HandedOn.{no_error}
 use Rattle.operations.specs.Entries.{Entry, Fits, HaveSame, Quantification}
-use Rattle.quantify.specs.ExistsCache.{both_caches, most_quantifications, quantifications}
+use Rattle.operations.specs.Computed.{most_entries}
+use Rattle.quantify.specs.ExistsCache.{both_caches, quantifications}
 use Rattle.quantify.specs.OrCache.{disjunction, disjunctions}
 use Rattle.quantify.specs.Quantification.{quantification_of}
 use Rattle.quantify.proofs.BothCaches.{caches_unnamed, carried}
@@ -36,7 +37,7 @@ returns-clause-known g c w there =
 
 pub returns-clause-remembered : goal.returns-clause-remembered
 returns-clause-remembered g c entry there =
-    carried (λ (all : List Entry). Contains all entry ⊎ (most_quantifications c.args.cache.now ≤ length all))
+    carried (λ (all : List Entry). Contains all entry ⊎ (most_entries c.args.cache.now ≤ length all))
     (quantifications c.work_off.new.cache.exists.now) _ (search rules)
     (c.work_off.ensures.0.remembers.entries entry there)
 

@@ -16,7 +16,7 @@ use Rattle.term_runner.specs.declared.held.HeldTerm.{HeldTerm}
 use Rattle.term_runner.specs.Held.{AreHeld, HasUnits}
 use Rattle.node_table.specs.declared.error.TableError.TheVariants.{NodeLimit, WriteFault}
 use Rattle.node_table.specs.declared.error.TableError.{TableError}
-use Rattle.node_table.specs.declared.node.Just.{Just}
+use Rattle.node_table.specs.declared.node.Justification.{Justification}
 use Rattle.node_table.specs.HandedOn.{came_from, handed_on, no_answer, no_error, other_cause, same_error}
 use Rattle.node_table.specs.Progress.{Steps}
 use Rattle.term_runner.proofs.Pairs.{adds_pairs, at_most_same}
@@ -445,7 +445,7 @@ returns-in_err-unit-clause-fits g c whole =
     let new = c.unit_of.new.table in
     let kept = c.in_ok-node.ensures.keeps.fits none_whole in
     let came = c.in_err-unit.field-0.0 in
-    let torn : ◌≡◌ {A = Result Just TableError} (Err came) (Err WriteFault)
+    let torn : ◌≡◌ {A = Result Justification TableError} (Err came) (Err WriteFault)
     → ⊥ = other_cause _ came WriteFault c.from_residual-in_err-unit.ensures.1 whole in
     let sound = (went_on mid new (Err came) c.in_err-unit.ensures.steps.leaves torn).sound in
     c.entry_law.ensures.kept mid new (all_entries c.and.new.self) c.in_ok-node.ensures.steps.leaves.sound sound

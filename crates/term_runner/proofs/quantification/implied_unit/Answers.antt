@@ -1,15 +1,15 @@
 -- What is left to show of `implied_unit`.
 use Rattle.std.proofs.Common.{◌≡◌, ◌⊎◌, ◌*◌, ℕ, [], ◌∷◌, arith, inl, inr, subst, ◌∙◌}
-use Rattle.node_table.specs.declared.node.Just.TheVariants.{Clause}
+use Rattle.node_table.specs.declared.node.Justification.TheVariants.{Clause}
 use Rattle.node_table.specs.Diagram.{Graph, levels}
 use Rattle.node_table.specs.Defined.{atom_of}
-use Rattle.node_table.specs.Just.{IsJustified}
+use Rattle.node_table.specs.Justification.{IsJustified}
 use Rattle.operations.specs.Accounts.{none_whole, whole_error}
 use Rattle.operations.specs.Budget.{most_additions}
 use Rattle.node_table.specs.Table.{AddsAtMost, IsAddedTo}
 use Rattle.node_table.specs.Value.{value_of}
 use Rattle.node_table.specs.HandedOn.{no_error}
-use Rattle.operations.specs.Entries.{IsAccounted, IsNewJust}
+use Rattle.operations.specs.Entries.{IsAccounted, IsNewJustification}
 use Rattle.term_runner.specs.Held.{GivesUnit}
 use Rattle.imply.specs.Implication.{IsDecided, IsRefuted}
 use Rattle.term_runner.specs.Caches.{HaveRoom, all_entries}
@@ -71,7 +71,7 @@ returns-clause-own g c =
     unaccounted_after old mid (all_entries c.args.caches.now) kept id
     (unit_within old c.requires.sound (atom_of old.graph c.args.u.now.node) u id c.requires.unit is) (c.requires.own id is)
     done.keeps.retires (done.keeps.named none_whole) in
-    if_ok c.unit_of_implied.result (λ unit. (unit ≡ u) ⊎ IsNewJust mid.book.state new.book.state unit) (λ unit. (id : ℕ) → unit ≡ Clause id
+    if_ok c.unit_of_implied.result (λ unit. (unit ≡ u) ⊎ IsNewJustification mid.book.state new.book.state unit) (λ unit. (id : ℕ) → unit ≡ Clause id
     → IsAccounted new kept id → ⊥)
     (λ unit given. unit_own mid new kept u u unit done.steps.leaves.sound
     (done.keeps.fits none_whole) c.unit_of_implied.ensures.retired own own (elim given [ inl is ↦ inl is | inr came ↦ inr (inr came) ]))
@@ -118,7 +118,7 @@ returns-clause-gives g c =
     (c.requires.own id is)
     done.keeps.retires (done.keeps.named none_whole) in
     both_ok c.unit_of_implied.result
-    (λ unit. (unit ≡ u.unit) ⊎ IsNewJust mid.book.state new.book.state unit)
+    (λ unit. (unit ≡ u.unit) ⊎ IsNewJustification mid.book.state new.book.state unit)
     (λ unit. ((unit ≡ u.unit) ⊎ ((id : ℕ) → unit ≡ Clause id → IsAddedTo new id))
     × ((id : ℕ) → IsAddedTo new id → IsAddedTo mid id ⊎ (unit ≡ Clause id)))
     (λ unit. GivesUnit old new before after (u ∷ []) unit)

@@ -3,7 +3,7 @@ use Rattle.std.proofs.Common.{◌≡◌, ◌∙◌, ◌+◌, ◌*◌, ℕ, Bool,
 use Rattle.node_table.specs.declared.error.TableError.TheVariants.{NodeLimit}
 use Rattle.node_table.specs.Diagram.{Graph, levels}
 use Rattle.node_table.specs.Defined.{atom_of}
-use Rattle.node_table.specs.Just.{IsJustified}
+use Rattle.node_table.specs.Justification.{IsJustified}
 use Rattle.node_table.specs.HandedOn.{came_from, no_answer, no_error, same_error}
 use Rattle.node_table.specs.Made.{MakesOnly}
 use Rattle.operations.specs.Accounts.{none_whole}

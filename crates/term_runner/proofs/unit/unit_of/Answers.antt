@@ -1,11 +1,14 @@
 -- What is left to show of `unit_of`.
-use Rattle.std.proofs.Common.{◌≡◌, ◌≢◌, ◌⊎◌, ℕ, [], ◌∷◌, arith, subst, inl, inr}
-use Rattle.node_table.specs.declared.node.Just.{Just}
+use Rattle.std.proofs.Common.{◌≡◌, ◌≢◌, ◌++◌, ◌⊎◌, ℕ, List, [], ◌∷◌, arith, subst, sym, inl, inr}
+use Rattle.std.specs.Prelude.{OnOk}
+use Rattle.node_table.specs.declared.node.Justification.{Justification}
 use Rattle.node_table.specs.Defined.{atom_of}
-use Rattle.node_table.specs.Just.{IsJustified}
+use Rattle.node_table.specs.Justification.{IsJustified}
 use Rattle.operations.specs.Results.{conjunction_atoms}
+use Rattle.clause_terms.specs.Term.{AddsUnit}
+use Rattle.term_runner.specs.Held.{hint_of}
 use Rattle.term_runner.proofs.Units.{not_both, first_named, second_named, just_named, unit_refuted, not_true}
-use Rattle.node_table.specs.declared.node.Just.TheVariants.{Clause}
+use Rattle.node_table.specs.declared.node.Justification.TheVariants.{Clause}
 use Rattle.node_table.specs.Table.{IsAddedTo}
 use Rattle.term_runner.proofs.OwnUnits.{given_next}
 use Rattle.term_runner.proofs.Stacks.{if_ok}
@@ -55,9 +58,9 @@ add_unit-requires-clause-strict g c =
     c.requires.first c.requires.second c.requires.conjoined c.requires.first_open c.requires.second_open wu wv
     c.clause_law.ensures.among c.clause_law.ensures.given c.following_unit_law.ensures.conjunction c.in-Some.first
     c.in-Some-clause_id.second c.in-Some-clause_id-2.both
-    (subst (λ (j : Just). IsJustified live (atom_of graph c.args.u.now.node ∷ []) j) c.in-Some.ensures c.requires.first_unit)
-    (subst (λ (j : Just). IsJustified live (atom_of graph c.args.v.now.node ∷ []) j) c.in-Some-clause_id.ensures c.requires.second_unit)
-    (subst (λ (j : Just). IsJustified live (conjunction_atoms graph c.args.u.now.node c.args.v.now.node c.args.w) j)
+    (subst (λ (j : Justification). IsJustified live (atom_of graph c.args.u.now.node ∷ []) j) c.in-Some.ensures c.requires.first_unit)
+    (subst (λ (j : Justification). IsJustified live (atom_of graph c.args.v.now.node ∷ []) j) c.in-Some-clause_id.ensures c.requires.second_unit)
+    (subst (λ (j : Justification). IsJustified live (conjunction_atoms graph c.args.u.now.node c.args.v.now.node c.args.w) j)
     c.in-Some-clause_id-2.ensures c.requires.conjoined.justified)
 
 pub returns-then-is_same-clause-number : goal.returns-then-is_same-clause-number
@@ -110,3 +113,15 @@ returns-then-is_same-clause-some g c open_w =
 pub returns-then-is_same-2-clause-some : goal.returns-then-is_same-2-clause-some
 returns-then-is_same-2-clause-some g c open_w =
     c.steps_law.ensures.at_most _ _ 0 1 _ (omega arith) (c.steps_law.ensures.none c.args.table.now c.requires.sound)
+
+pub returns-then-is_same-clause-told : goal.returns-then-is_same-clause-told
+returns-then-is_same-clause-told g c differ other = absurd (differ (c.is_same.ensures.0 c.if-is_same.true))
+
+pub returns-then-is_same-2-clause-told : goal.returns-then-is_same-2-clause-told
+returns-then-is_same-2-clause-told g c differ other = absurd (other (c.is_same-2.ensures.0 c.if-is_same-2.true))
+
+pub returns-clause-told : goal.returns-clause-told
+returns-clause-told g c differ other =
+    subst (λ (hints : List ℕ). OnOk c.add_unit.result (AddsUnit c.args.table.now c.add_unit.new.table c.args.w hints))
+    (λ i. hint_of (sym c.in-Some.ensures i) ++ hint_of (sym c.in-Some-clause_id.ensures i) ++ hint_of (sym c.in-Some-clause_id-2.ensures i))
+    c.add_unit.ensures.told

@@ -1,12 +1,15 @@
 -- What is left to show of `unit_of_implied`.
-use Rattle.std.proofs.Common.{◌≡◌, ◌≢◌, ◌⊎◌, ℕ, [], ◌∷◌, refl, sym, subst, inl, inr}
+use Rattle.std.proofs.Common.{◌≡◌, ◌≢◌, ◌++◌, ◌⊎◌, ℕ, List, [], ◌∷◌, refl, sym, subst, inl, inr}
+use Rattle.std.specs.Prelude.{OnOk}
 use Rattle.node_table.specs.declared.node.Node.{Node}
 use Rattle.node_table.specs.declared.node.Node.TheVariants.{True}
-use Rattle.node_table.specs.declared.node.Just.{Just}
-use Rattle.node_table.specs.declared.node.Just.TheVariants.{Clause, Trivial}
+use Rattle.node_table.specs.declared.node.Justification.{Justification}
+use Rattle.node_table.specs.declared.node.Justification.TheVariants.{Clause, Trivial}
 use Rattle.node_table.specs.Defined.{atom_of}
-use Rattle.node_table.specs.Just.{IsJustified}
+use Rattle.node_table.specs.Justification.{IsJustified}
 use Rattle.operations.specs.Results.{implication_atoms}
+use Rattle.clause_terms.specs.Term.{AddsUnit}
+use Rattle.term_runner.specs.Held.{hint_of}
 use Rattle.term_runner.proofs.Units.{not_both, implying_named, implication_named, implied_refuted}
 use Rattle.node_table.specs.Table.{IsAddedTo}
 use Rattle.term_runner.proofs.NoEmpty.{implied_open}
@@ -44,8 +47,8 @@ add_unit-requires-clause-strict g c =
     c.requires.first c.requires.second c.requires.implied c.requires.first_open wu open_w
     c.clause_law.ensures.among c.clause_law.ensures.given c.following_unit_law.ensures.implication c.in-Some.first
     c.in-Some-clause_id.implication
-    (subst (λ (j : Just). IsJustified live (atom_of graph c.args.u.now.node ∷ []) j) c.in-Some.ensures c.requires.first_unit)
-    (subst (λ (j : Just). IsJustified live (implication_atoms graph c.args.u.now.node c.args.w) j) c.in-Some-clause_id.ensures
+    (subst (λ (j : Justification). IsJustified live (atom_of graph c.args.u.now.node ∷ []) j) c.in-Some.ensures c.requires.first_unit)
+    (subst (λ (j : Justification). IsJustified live (implication_atoms graph c.args.u.now.node c.args.w) j) c.in-Some-clause_id.ensures
     c.requires.implied.justified)
 
 pub returns-then-is_same-clause-number : goal.returns-then-is_same-clause-number
@@ -96,3 +99,14 @@ returns-clause-steps g c =
     c.add_unit.ensures.some
     (implied_open c.canonical_law.ensures c.args.table.now.graph c.requires.sound.tied.reduced c.args.u.now.node c.args.w c.requires.first
     c.requires.first_open c.requires.implied.value)
+
+pub returns-then-is_same-clause-told : goal.returns-then-is_same-clause-told
+returns-then-is_same-clause-told g c differ other = absurd (differ (c.is_same.ensures.0 c.if-is_same.true))
+
+pub returns-then-is_same-2-clause-told : goal.returns-then-is_same-2-clause-told
+returns-then-is_same-2-clause-told g c differ other = absurd (other (c.is_same-2.ensures.0 c.if-is_same-2.true))
+
+pub returns-clause-told : goal.returns-clause-told
+returns-clause-told g c differ other =
+    subst (λ (hints : List ℕ). OnOk c.add_unit.result (AddsUnit c.args.table.now c.add_unit.new.table c.args.w hints))
+    (λ i. hint_of (sym c.in-Some.ensures i) ++ hint_of (sym c.in-Some-clause_id.ensures i)) c.add_unit.ensures.told

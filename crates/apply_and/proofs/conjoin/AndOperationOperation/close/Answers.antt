@@ -1,23 +1,23 @@
 -- The node of both results is kept as the conjunction of the operands, or its step or the cache is refused.
 use Rattle.std.proofs.Common.{◌≡◌, ℕ, Err, None, List, arith, inl, refl, sym, ap, subst}
 use Rattle.node_table.specs.declared.error.TableError.TheVariants.{OutOfMemory}
-use Rattle.node_table.specs.declared.node.Just.{Just}
+use Rattle.node_table.specs.declared.node.Justification.{Justification}
 use Rattle.node_table.specs.Diagram.{Graph}
 use Rattle.node_table.specs.HandedOn.{handed_on, no_error}
 use Rattle.node_table.specs.Made.{MakesOnly, ReachesNew}
 use Rattle.node_table.specs.Progress.{Steps}
 use Rattle.node_table.specs.Table.{TableState, HasChildren, IsSound}
 use Rattle.operations.specs.Accounts.{GivesOne, HasFound, RetiresNew, RetiresOne, whole_error}
+use Rattle.operations.specs.Caches.{KeepsEntry}
 use Rattle.operations.specs.Entries.{Entry, AreNodes, Conjunction, Fits}
-use Rattle.apply_and.specs.declared.cache.AndCache.{AndCache}
-use Rattle.apply_and.specs.Cache.{entries}
+use Rattle.apply_and.specs.Cache.{AndCache, Pair, entries, entry_of, same_pair}
 use Rattle.apply_and.specs.Calls.{Closes}
 use Rattle.apply_and.specs.Conjunction.{conjunction_of}
 use Rattle.apply_and.proofs.Calls.{Answer, memory_no_limit}
 use Rattle.apply_and.proofs.conjoin.AndOperationOperation.close.Goals as goal
 
 -- the step of the node has found a result
-found_by : {S : Type 0} (old mid : TableState S) (before : List Entry) (count : ℕ) (just : Just)
+found_by : {S : Type 0} (old mid : TableState S) (before : List Entry) (count : ℕ) (just : Justification)
     → IsSound old → Fits old before → Steps old mid count None
     → RetiresNew old mid → GivesOne old mid just → HasFound old mid before just
 found_by old mid before count just sound fits steps retires gives = record {
@@ -80,7 +80,10 @@ returns-in-Ok-clause-closes g c =
     let found = c.in_ok-found.found in
     let given = c.in-Ok.given in
     let done = c.in_ok-found.ensures in
-    let kept = c.in-Ok.ensures.kept in
+    let kept_pair = subst (λ (pair : Pair). KeepsEntry entry_of same_pair cache.results after.results pair
+    (entry_of (pair, (found.0, c.from_just-stored.result))) given) c.of.ensures c.in-Ok.ensures.kept in
+    let kept = subst (λ (just : Justification). KeepsEntry entry_of same_pair cache.results after.results (o.u, o.v)
+    (Conjunction o.u o.v found.0 just) given) c.from_just-stored.ensures kept_pair in
     let one : RetiresOne mid new given = c.retire.ensures in
     let same : new.graph ≡ mid.graph = ap (λ (t : TableState g.row.S.Denot). t.graph) one.same in
     let nodes : AreNodes mid.graph o.u o.v = record {
@@ -115,7 +118,7 @@ returns-in-Err-clause-closes g c =
     let mid = c.finish.new.table in
     let new = c.retire-in-Err.new.table in
     let found = c.in_ok-found.found in
-    let given = c.clause_of.result in
+    let given = c.clause_number.result in
     let done = c.in_ok-found.ensures in
     let one : RetiresOne mid new given = c.retire-in-Err.ensures in
     let same : new.graph ≡ mid.graph = ap (λ (t : TableState g.row.S.Denot). t.graph) one.same in
@@ -125,7 +128,7 @@ returns-in-Err-clause-closes g c =
     (Err OutOfMemory)) (sym c.in-Err.ensures.refused) (record {
       conjoined = tt;
       steps = law.further _ _ _ 2 0 _ done.steps (law.further _ _ _ 0 0 _ one.steps (law.no_memory new one.steps.leaves.sound));
-      accounts = c.accounts_law.ensures.refused old mid new before found.1 given _ has c.clause_of.ensures one;
+      accounts = c.accounts_law.ensures.refused old mid new before found.1 given _ has c.clause_number.ensures one;
       unretired = tt;
       kept = tt;
       room = record { others = λ entry there. inl there; no_fewer = omega arith; capacity = refl };

@@ -3,8 +3,7 @@ use Rattle.std.proofs.Common.{Ok, Err, length, ap, refl, subst, sym}
 use Rattle.node_table.specs.declared.error.TableError.TheVariants.{OutOfMemory}
 use Rattle.node_table.specs.HandedOn.{handed_on, no_error}
 use Rattle.operations.specs.Entries.{AreNodes, Disjunction}
-use Rattle.quantify.specs.declared.or_cache.OrCache.{OrCache}
-use Rattle.quantify.specs.OrCache.{disjunction, disjunctions}
+use Rattle.quantify.specs.OrCache.{OrCache, disjunction, disjunctions}
 use Rattle.quantify.specs.Disjunction.{Closes, disjunction_of}
 use Rattle.quantify.proofs.Disjunctions.{disjoined_joined, disjunction_sides, high_below, low_below}
 use Rattle.quantify.proofs.Lists.{fits_more, makes_no_room, unnamed}

@@ -2,8 +2,7 @@
 use Rattle.std.proofs.Common.{Ok, Err, length, ap, refl, subst, sym}
 use Rattle.node_table.specs.declared.error.TableError.TheVariants.{OutOfMemory}
 use Rattle.node_table.specs.HandedOn.{handed_on, no_error}
-use Rattle.quantify.specs.declared.exists_cache.ExistsCache.{ExistsCache}
-use Rattle.quantify.specs.ExistsCache.{both_caches, quantification}
+use Rattle.quantify.specs.ExistsCache.{ExistsCache, both_caches, quantification}
 use Rattle.quantify.specs.Quantification.{Closes, quantification_of}
 use Rattle.quantify.proofs.BothCaches.{kept_part}
 use Rattle.quantify.proofs.Lists.{makes_no_room}
@@ -103,7 +102,7 @@ returns-clause-closes g c =
     let found = quantified_joined c.growth_law.ensures old.graph new.graph reduced keeps p c.requires.above c.args.high.now c.args.low.now w
     joined.children (joined.value function sides) in
     let stands = c.growth_law.ensures.stands old.graph new.graph keeps p.node c.requires.above.stands in
-    let fits = kept_part c.entry_law.ensures new cache ors (first.fits no_error) after p.node w p.level (stands, found) kept in (
+    let fits = kept_part c.entry_law.ensures new cache ors (first.fits no_error) after p.node w p.level (stands, found) _ kept.one in (
       record {
         runs = runs_further c.steps_law.ensures c.subfunction_law.ensures old list function new (both_caches after ors)
             (Ok w) new list w first

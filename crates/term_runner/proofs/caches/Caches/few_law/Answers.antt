@@ -1,7 +1,8 @@
 -- What is left to show of `Caches::few_law`.
 use Rattle.std.proofs.Common.{◌≡◌, arith}
-use Rattle.apply_and.specs.Cache.{entries as conjunctions, most_entries as most_conjunctions}
-use Rattle.imply.specs.Cache.{entries as implications, most_entries as most_implications}
+use Rattle.operations.specs.Computed.{most_entries}
+use Rattle.apply_and.specs.Cache.{entries as conjunctions}
+use Rattle.imply.specs.Cache.{entries as implications}
 use Rattle.quantify.specs.ExistsCache.{both_caches}
 use Rattle.term_runner.proofs.AllCaches.{both_unnamed}
 use Rattle.term_runner.proofs.Few.{named_few}
@@ -10,8 +11,8 @@ use Rattle.term_runner.proofs.caches.Caches.few_law.Goals as goal
 pub returns : goal.returns
 returns c size have =
     let caches = c.args.self.now in
-    let ands : most_conjunctions caches.ands ≡ size = cc in
-    let own : most_implications caches.implications ≡ size = cc in
+    let ands : most_entries caches.ands ≡ size = cc in
+    let own : most_entries caches.implications ≡ size = cc in
     named_few (conjunctions caches.ands) (implications caches.implications) (both_caches caches.quantifications caches.ors)
     (both_unnamed caches.quantifications caches.ors) size
     (omega (arith, c.few_law.ensures, ands)) (omega (arith, c.few_law-2.ensures, own))

@@ -1,24 +1,57 @@
 -- What is left to show of `CachesPurge::purge`.
+use Rattle.std.proofs.Common.{◌++◌}
 use Rattle.apply_and.specs.Cache.{entries as conjunctions}
 use Rattle.imply.specs.Cache.{entries as implications}
-use Rattle.quantify.specs.ExistsCache.{both_caches, quantifications}
+use Rattle.quantify.specs.ExistsCache.{quantifications}
 use Rattle.quantify.specs.OrCache.{disjunctions}
-use Rattle.term_runner.proofs.AllCaches.{both_unnamed, caches_parts}
-use Rattle.term_runner.proofs.Purged.{all_purged, implications_fit_still}
+use Rattle.term_runner.proofs.AllCaches.{caches_parts}
+use Rattle.term_runner.proofs.Purged.{all_purged, disjunctions_still, implications_still, quantifications_still}
 use Rattle.term_runner.proofs.caches.CachesPurge.purge.Goals as goal
 
 pub purge-requires-2-clause-fits : goal.purge-requires-2-clause-fits
 purge-requires-2-clause-fits g c =
     let caches = c.args.self.now in
-    implications_fit_still c.purge_law.ensures c.args.marks.now c.entry_law.ensures c.args.table.now c.purge.new.table
-    (conjunctions caches.ands) (conjunctions c.purge.new.self) (implications caches.implications)
-    (both_caches caches.quantifications caches.ors) (caches_parts caches) c.requires.sound c.requires.fits c.purge.ensures.purged
+    implications_still c.purge_law.ensures c.entry_law.ensures c.args.marks.now c.args.table.now
+    (conjunctions caches.ands) (implications caches.implications) (quantifications caches.quantifications) (disjunctions caches.ors)
+    (caches_parts caches) c.requires.sound c.requires.fits
+    c.purge.new.table (conjunctions c.purge.new.self) c.purge.ensures.purged
+
+pub purge-requires-3-clause-fits : goal.purge-requires-3-clause-fits
+purge-requires-3-clause-fits g c =
+    let caches = c.args.self.now in
+    quantifications_still c.purge_law.ensures c.entry_law.ensures c.args.marks.now c.args.table.now
+    (conjunctions caches.ands) (implications caches.implications) (quantifications caches.quantifications) (disjunctions caches.ors)
+    (caches_parts caches) c.requires.sound c.requires.fits
+    c.purge.new.table (conjunctions c.purge.new.self) c.purge.ensures.purged
+    c.purge-2.new.table (implications c.purge-2.new.self) c.purge-2.ensures.purged
+
+pub purge-requires-4-clause-fits : goal.purge-requires-4-clause-fits
+purge-requires-4-clause-fits g c =
+    let caches = c.args.self.now in
+    disjunctions_still c.purge_law.ensures c.entry_law.ensures c.args.marks.now c.args.table.now
+    (conjunctions caches.ands) (implications caches.implications) (quantifications caches.quantifications) (disjunctions caches.ors)
+    (caches_parts caches) c.requires.sound c.requires.fits
+    c.purge.new.table (conjunctions c.purge.new.self) c.purge.ensures.purged
+    c.purge-2.new.table (implications c.purge-2.new.self) c.purge-2.ensures.purged
+    c.purge-3.new.table (quantifications c.purge-3.new.self) c.purge-3.ensures.purged
 
 pub returns-clause-purged : goal.returns-clause-purged
 returns-clause-purged g c =
     let caches = c.args.self.now in
-    all_purged c.purge_law.ensures c.args.marks.now c.args.table.now c.purge.new.table c.purge-2.new.table (conjunctions caches.ands)
-    (conjunctions c.purge.new.self) (implications caches.implications)
-    (implications c.purge-2.new.self) (quantifications caches.quantifications) (quantifications c.purge-3.new.self)
-    (disjunctions caches.ors) (disjunctions c.purge-4.new.self) (both_unnamed caches.quantifications caches.ors)
-    c.purge.ensures.purged c.purge-2.ensures.purged c.purge-3.ensures.entries c.purge-4.ensures.entries
+    all_purged c.purge_law.ensures c.entry_law.ensures c.args.marks.now c.args.table.now
+    (conjunctions caches.ands) (implications caches.implications) (quantifications caches.quantifications) (disjunctions caches.ors)
+    (caches_parts caches) c.requires.sound c.requires.fits
+    c.purge.new.table (conjunctions c.purge.new.self) c.purge.ensures.purged
+    c.purge-2.new.table (implications c.purge-2.new.self) c.purge-2.ensures.purged
+    c.purge-3.new.table (quantifications c.purge-3.new.self) c.purge-3.ensures.purged
+    c.purge-4.new.table (disjunctions c.purge-4.new.self) c.purge-4.ensures.purged
+
+pub returns-clause-sizes : goal.returns-clause-sizes
+returns-clause-sizes g c = λ i. c.purge.ensures.sizes i
+    ++ (c.purge-2.ensures.sizes i ++ (c.purge-3.ensures.sizes i ++ c.purge-4.ensures.sizes i))
+
+pub returns-clause-steps : goal.returns-clause-steps
+returns-clause-steps g c =
+    let law = c.steps_law.ensures in
+    law.further _ _ _ 0 0 _ c.purge.ensures.steps (law.further _ _ _ 0 0 _ c.purge-2.ensures.steps
+    (law.further _ _ _ 0 0 _ c.purge-3.ensures.steps c.purge-4.ensures.steps))
