@@ -24,8 +24,8 @@ use text_scan::{Scanner, Token, signed_number};
 /// How many literals a formula may have.
 const MAX_LITERALS: u32 = 100_000_000;
 
-/// How many clauses it may have in the mode Lax.
-const MAX_CLAUSES: u32 = 10_000_000;
+/// How many clauses it may have, by its header or in the mode Lax.
+pub(crate) const MAX_CLAUSES: u32 = 10_000_000;
 
 /// What was read of the body. In contracts it is the mode, the number of clauses that the header announces, and the draft.
 #[derive(Debug, Drop)]

@@ -10,21 +10,16 @@ ghost use Rattle.dimacs_reader.specs.Answers.{Answers, WantsMemory};
 ghost use Rattle.dimacs_reader.specs.Header.{HasHeader, HasFormat, HasVars, HasCount, Begins, BeginsSoFar};
 ghost use Rattle.dimacs_reader.specs.Cnf.{max_bytes, max_vars, overlong, cnf, cnf_so_far, cnf_of, after_p, after_format, after_vars};
 
-use crate::body::{Body, is_word, read_body};
+use crate::body::{Body, MAX_CLAUSES, is_word, read_body};
 use crate::error::{CnfError, CnfKind};
 use crate::mode::Mode;
 use cnf_base::Cnf;
 use host_io::Source;
 use std::alloc::Global;
-use text_scan::{Scanner, plain_number};
+use text_scan::{MAX_BYTES, Scanner, plain_number};
 
-/// How many bytes a text may have.
-const MAX_BYTES: u64 = 4_000_000_000;
-
-/// How many variables and how many clauses a header may announce.
+/// How many variables a header may announce.
 const MAX_VARS: u64 = 1_000_000;
-
-const MAX_CLAUSES: u64 = 10_000_000;
 
 /// Reads a CNF text to its end, or to the `%` that ends it, and answers what it is in this mode. Memory may be refused instead,
 /// or a read may fail. No read follows once the answer is decided.
@@ -174,7 +169,7 @@ fn read_count<S: Source>(
         Some(token) => match plain_number(&token) {
             None => Err(CnfError::Refused(CnfKind::BadHeader, token.line())),
             Some(count) => {
-                if count > MAX_CLAUSES {
+                if count > u64::from(MAX_CLAUSES) {
                     return Err(CnfError::Refused(CnfKind::Limit, token.line()));
                 }
                 Ok(Body::new(alloc, vars, count as u32, mode))

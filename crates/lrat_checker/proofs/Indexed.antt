@@ -1,7 +1,7 @@
 -- The index stays one through each change of the live clauses, and a walk over one list of it decides of all of them.
 use Rattle.std.proofs.Common.{◌≡◌, ℕ, ◌+◌, ◌-◌, ◌≤◌, Bool, true, false, not, ◌||◌, ◌&&◌, ℤ, neg_ℤ, List, [], ◌∷◌, None, Some, is_some}
 use Rattle.std.proofs.Common.{nat_eq, int_eq, inl, inr, refl, sym, ap, subst, ◌∙◌, eq-eqb, ne_eqb}
-use Rattle.std.specs.Prelude.{if◌then◌else◌, ◌==◌, IsTrue}
+use Rattle.std.specs.Prelude.{if◌then◌else◌, IsTrue}
 use Rattle.std.specs.List.{list_all, list_any}
 use Rattle.std.specs.Cmp.{signed_Decides}
 use Rattle.std.specs.FinMap as finmap
@@ -14,11 +14,11 @@ use Rattle.lrat_rules.specs.Addition.{holds_negated, is_blocked_by, is_settled}
 use Rattle.lrat_checker.specs.declared.counts.Counts.{Counts}
 use Rattle.lrat_checker.specs.declared.holders.Holders.{Holders}
 use Rattle.lrat_checker.specs.Clauses.{Place}
-use Rattle.lrat_checker.specs.Counts.{count_of, times_in, times_at, AreCounted}
+use Rattle.lrat_checker.specs.Counts.{count_of, times_in, times_at}
 use Rattle.lrat_checker.specs.Holders.{KeepsAll, KeepsAllLive, IsIndexOf, AreFound, holds, is_entered, numbers_of}
-use Rattle.lrat_checker.specs.Walk.{passes_at, settles, settles_at, has_group}
+use Rattle.lrat_checker.specs.Walk.{passes_at, settles_at, has_group}
 use Rattle.lrat_checker.proofs.Counted.{counted_more, counted_insert, counted_remove}
-use Rattle.lrat_checker.proofs.Kept.{all_weaker, entered_kept, place_kept}
+use Rattle.lrat_checker.proofs.Kept.{all_weaker, place_kept}
 use Rattle.lrat_checker.proofs.Stored.{with_at, without_at}
 use Rattle.lrat_checker.proofs.Walks.{walk_passes, walk_fails, decided}
 

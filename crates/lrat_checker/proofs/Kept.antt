@@ -1,7 +1,7 @@
 -- What the lists of holders keep.
 use Rattle.std.proofs.Common.{◌≡◌, ℕ, ◌+◌, ◌<◌, Bool, true, false, ◌&&◌, ℤ, List, [], ◌∷◌, None, Some, length, get_or, take, filter, nat_eq}
-use Rattle.std.proofs.Common.{◌≢◌, is_some, refl, sym, ◌∙◌, ap, subst, eq-eqb, ne_eqb}
-use Rattle.std.specs.Prelude.{if◌then◌else◌, ◌==◌}
+use Rattle.std.proofs.Common.{◌≢◌, is_some, refl, ◌∙◌, ap, subst, eq-eqb, ne_eqb}
+use Rattle.std.specs.Prelude.{if◌then◌else◌}
 use Rattle.std.specs.FinMap as finmap
 use Rattle.std.specs.List.{list_all}
 use Rattle.std.proofs.lemmas.Bool.{and_parts, and_from}
@@ -11,7 +11,7 @@ use Rattle.std.proofs.lemmas.Map.Views.{any-filter_same, exact_unsigned_eq}
 use Rattle.lrat_rules.specs.State.{Live, clause_at}
 use Rattle.lrat_checker.specs.declared.holders.Holders.{Holders}
 use Rattle.lrat_checker.specs.Clauses.{Place}
-use Rattle.lrat_checker.specs.Holders.{KeepsLive, KeepsAll, KeepsAllLive, IsIndexOf, is_live, holds, is_entered}
+use Rattle.lrat_checker.specs.Holders.{KeepsLive, KeepsAll, is_live, holds, is_entered}
 use Rattle.lrat_checker.specs.Walk.{passes_at}
 use Rattle.lrat_checker.proofs.Stored.{without_at}
 

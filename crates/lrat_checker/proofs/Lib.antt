@@ -9,4 +9,5 @@ pub mod Indexed
 pub mod GroupFaults
 pub mod Verdicts
 pub mod Turns
+pub mod Wanted
 pub mod Overlong

@@ -7,6 +7,7 @@ use Rattle.lrat_text.specs.declared.error.StepError.TheVariants.{Syntax, ReadFau
 use Rattle.lrat_text.specs.Steps.{Steps, no_more, overlong, no_step, next_step}
 use Rattle.text_scan.specs.Scan.{is_reading as is_scanning}
 use Rattle.lrat_text.specs.Reader.{Reader, Gives, GivesSoFar, so_far}
+use Rattle.lrat_rules.specs.declared.outcome.Reason.{Reason}
 use Rattle.lrat_rules.specs.declared.outcome.Reason.TheVariants.{Syntax as NoStep}
 use Rattle.lrat_rules.specs.State.{State}
 use Rattle.lrat_rules.specs.Run.{step_fault, after_step, step_adds_empty}
@@ -48,6 +49,19 @@ module _ (state : State) (has_empty : Bool) (line : ℕ) (before after : Steps) 
       ∙ ap (λ f. judged f at (steps_verdict (after_step state step) (has_empty || step_adds_empty step) after)) good
       ∙ ap (λ s. steps_verdict s (has_empty || step_adds_empty step) after) (sym moved)
       ∙ ap (λ b. steps_verdict next b after) (sym told)
+
+  pub at_bad_step : (step : Step) (at : ℕ) (reason : Reason) → answer ≡ Ok (Some (step, at)) → step_fault state step ≡ Some reason
+      → steps_verdict state has_empty before ≡ Some (Refused at reason)
+  at_bad_step step at reason e bad =
+      let given : before ≡ next_step step at after = subst (λ r. Gives r line before after) e gives in
+      ap (steps_verdict state has_empty) given
+      ∙ ap (λ f. judged f at (steps_verdict (after_step state step) (has_empty || step_adds_empty step) after)) bad
+
+  pub step_wants : (step : Step) (at : ℕ) → answer ≡ Ok (Some (step, at)) → IsTrue (may_want_memory state step)
+      → IsTrue (steps_may_want_memory state before)
+  step_wants step at e wants =
+      let given : before ≡ next_step step at after = subst (λ r. Gives r line before after) e gives in
+      rw (given, wants) refl
 
   -- the answer to an error is that of the text whose verdict is that of the steps ahead
   pub at_error : (text : Option Verdict) → text ≡ steps_verdict state has_empty before → (error : StepError) → answer ≡ Err error

@@ -16,7 +16,7 @@ use Rattle.lrat_rules.specs.State.{Live, clause_at}
 use Rattle.lrat_rules.specs.Chain.{FalseSet}
 use Rattle.lrat_rules.specs.Addition.{if_live, holds_negated, is_blocked_by, is_settled}
 use Rattle.lrat_checker.specs.Clauses.{Place, or_else}
-use Rattle.lrat_checker.specs.Walk.{passes_at, settles, settles_at, has_group}
+use Rattle.lrat_checker.specs.Walk.{passes_at, settles_at, has_group}
 
 -- what is asked of a number is asked of the clause that is live under it
 settled_at : (n : FalseSet) (pivot : ℤ) (groups : List Group) (live : Live) (id : ℕ) → is_settled live n pivot groups id

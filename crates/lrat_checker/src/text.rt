@@ -1,14 +1,15 @@
 // The check of a proof text: a reader gives its steps in turn, and a judge takes them.
-ghost use Rattle.std.specs.Prelude.{◌≡◌, ◌≢◌, ◌||◌, false, None, Err, IsTrue};
+ghost use Rattle.std.specs.Prelude.{◌≡◌, ◌≢◌, ◌||◌, ◌⊎◌, false, length, None, Err, IsTrue};
 ghost use Rattle.lrat_text.specs.declared.error.StepError.TheVariants.{OutOfMemory as NoMemory};
 ghost use Rattle.lrat_text.specs.Draft.{has_numbers};
 ghost use Rattle.host_io.specs.Channel.{Rose};
 ghost use Rattle.text_scan.specs.Decides.{gained, Decides, OnlyReads};
 ghost use Rattle.lrat_text.specs.declared.reader.ReaderStatus.TheVariants.{Reading, Failed};
 ghost use Rattle.lrat_text.specs.Reader.{steps_ahead, so_far};
+ghost use Rattle.lrat_text.specs.Wants.{wants_ahead};
 ghost use Rattle.lrat_rules.specs.Run.{step_adds_empty};
 ghost use Rattle.lrat_checker.specs.declared.verdict.CheckError.TheVariants.{ReadFault, OutOfMemory};
-ghost use Rattle.lrat_checker.specs.Memory.{steps_may_want_memory};
+ghost use Rattle.lrat_checker.specs.Memory.{steps_may_want_memory, reading_may_want_memory, check_may_want_memory};
 ghost use Rattle.lrat_checker.specs.TextVerdict.{end_verdict, error_answer, steps_verdict, text_verdict, verdict_so_far, Answers};
 
 use crate::judge::Judge;
@@ -18,9 +19,7 @@ use host_io::Source;
 use lrat_rules::Reason;
 use lrat_text::{StepError, StepReader};
 use std::alloc::Global;
-
-/// How many bytes of a proof are looked at.
-const MAX_BYTES: u64 = 4_000_000_000;
+use text_scan::MAX_BYTES;
 
 /// Judges a textual LRAT proof over a formula, line by line. The first bad line decides, and no read follows then;
 /// lines behind the empty clause are judged too. Memory may be refused instead, or a read may fail.
@@ -34,6 +33,11 @@ pub fn check<S: Source>(alloc: Global, formula: &Cnf, source: &mut S) -> Result<
     ensures fault { result ≡ Err ReadFault → Rose (S.channel source.old).faults (S.channel source.new).faults }
     // no failed read is told as anything else
     ensures unfailed { result ≢ Err ReadFault → (S.channel source.new).faults ≡ (S.channel source.old).faults }
+    // Memory is wanted only before the first byte is taken, or for a number of a line of numbers or a step, behind good steps,
+    // with no more numbers behind it in the bytes taken than a block can spell.
+    ensures memory { IsTrue S.tells → result ≡ Err OutOfMemory → (S.channel source.new ≡ S.channel source.old)
+        ⊎ Decides (S.channel source.old) (S.channel source.new)
+        (λ bytes more. IsTrue (check_may_want_memory formula.now.clauses (length more) bytes)) }
 
     ensures reads { OnlyReads (S.channel source.old) (S.channel source.new) }
     ensures beside { S.beside source.new ≡ S.beside source.old }
@@ -61,6 +65,9 @@ fn judge_steps<S: Source>(
     ensures memory { IsTrue S.tells → result ≡ Err OutOfMemory → reader.new.status ≡ Reading →
         Decides (S.channel source.old) (S.channel source.new)
         (λ bytes more. IsTrue (steps_may_want_memory judge.old (steps_ahead reader.old bytes))) }
+    // both only at a place like this
+    ensures wants { IsTrue S.tells → result ≡ Err OutOfMemory → Decides (S.channel source.old) (S.channel source.new)
+        (λ bytes more. IsTrue (reading_may_want_memory (length more) judge.old (wants_ahead reader.old bytes))) }
     // and where the reader did, it says so, at a line whose tokens so far are numbers
     ensures reader_stops { result ≡ Err OutOfMemory → reader.new.status ≢ Reading → reader.new.status ≡ Failed NoMemory }
     ensures reader_wants { result ≡ Err OutOfMemory → reader.new.status ≢ Reading → IsTrue (has_numbers reader.new.draft) }
@@ -74,10 +81,13 @@ fn judge_steps<S: Source>(
     let mut has_empty = false;
     'steps: loop {
         match reader.next_into(source, step) {
-            Ok(Some(line)) => match judge.step(step)? {
-                Some(reason) => return Ok(Verdict::Refused { line, reason }),
-                None => has_empty = or_adds_empty(has_empty, step),
-            },
+            Ok(Some(line)) => {
+                reader.near_law();
+                match judge.step(step)? {
+                    Some(reason) => return Ok(Verdict::Refused { line, reason }),
+                    None => has_empty = or_adds_empty(has_empty, step),
+                }
+            }
             Ok(None) => return Ok(verdict_at_end(has_empty, reader.line())),
             Err(error) => return answer_to(error),
         }

@@ -2,7 +2,7 @@
 use Rattle.std.proofs.Common.{◌≡◌, ℕ, zero, suc, ◌≤◌, Bool, true, false, ℤ, pos, negsuc, w64, to_z, of_z, List, [], ◌∷◌, ◌++◌, Option, Some}
 use Rattle.std.proofs.Common.{None, ◌==◌, if◌then◌else◌, refl, sym, ◌∙◌, ap, subst, arith}
 use Rattle.lrat_text.specs.declared.reader.ReaderStatus.TheVariants.{Reading}
-use Rattle.std.specs.Prelude.{Result, ◌+◌, IsTrue, nat_abs, min}
+use Rattle.std.specs.Prelude.{Result, ◌+◌, IsTrue, length, nat_abs, min}
 use Rattle.std.specs.Option.{option_map, option_and_then}
 use Rattle.std.proofs.lemmas.Bool.Decides.{nat_tests}
 use Rattle.std.proofs.lemmas.Int.{to_z-of_z}
@@ -12,6 +12,7 @@ use Rattle.cnf_base.specs.Text.{Word}
 use Rattle.text_scan.specs.Capped.{cap, capped, capped_ℤ}
 use Rattle.host_io.specs.Channel.{Channel}
 use Rattle.text_scan.specs.Decides.{gained, Decides, Decides-map}
+use Rattle.text_scan.specs.Scan.{block_size}
 use Rattle.text_scan.specs.Items.{Items, next_word}
 use Rattle.text_scan.specs.Scan.{TookNumber, ahead, so_far as scan_so_far, is_reading as is_scanning, is_faulted, fuel}
 use Rattle.lrat_text.specs.declared.draft.Kind.{Kind}
@@ -19,10 +20,12 @@ use Rattle.lrat_text.specs.declared.draft.Kind.TheVariants.{Empty, Begun, Adds, 
 use Rattle.lrat_text.specs.Numbers.{positive, signed_word, plain_word}
 use Rattle.lrat_text.specs.Steps.{broken_off}
 use Rattle.lrat_text.specs.Draft.{DraftLine, draft_with_in, draft_with_number, draft_with_number_in, draft_from, draft_of_number}
-use Rattle.lrat_text.specs.Draft.{draft_of_word, first_number, unsigned, is_open, is_open_kind, drafted}
+use Rattle.lrat_text.specs.Draft.{draft_of_word, draft_with, with_token, first_number, unsigned, is_open, is_open_kind, drafted}
 use Rattle.lrat_text.specs.Reader.{Reader, BeginsLine, GoesOn, Gives, GivesSoFar, Settles, steps_ahead, open_count, so_far}
+use Rattle.lrat_text.specs.Wants.{keeps_number, wants_after, wants_ahead, may_want, Spends, Leads}
 use Rattle.lrat_text.proofs.Settled.{token_goes, before_gives}
 use Rattle.lrat_text.proofs.SoFar.{before_so_far}
+use Rattle.lrat_text.proofs.Wanted.{Leads-then, Leads-by, near_ahead, token_leads, token_wants, before_spends}
 use Rattle.cnf_base.specs.declared.step.Step.{Step}
 use Rattle.lrat_text.specs.declared.error.StepError.{StepError}
 
@@ -142,6 +145,29 @@ GoesOn-number number old new took begun draft status line =
       less = omega (arith, took.gave.less);
     }
 
+-- its draft, and what memory is wanted for
+module _ (number : ℤ) (old new : Reader) (took : TookNumber number old.draft.line old.scan new.scan)
+    (begun : is_open old.draft ≡ true) where
+  with_word : draft_with old.draft took.word ≡ draft_with_number old.draft number
+  with_word = number_taken old.draft old.draft.kind took.word number took.number_is took.small
+
+  same_word : (old.draft.line == took.word.line) ≡ true
+  same_word = rw took.line (same_line old.draft.line)
+
+  pub number_leads : new.draft ≡ draft_with_number old.draft number → (more : List ℕ) → Leads (wants_ahead old more) (wants_ahead new more)
+  number_leads draft more =
+      let token : with_token old.draft took.word ≡ new.draft = rw begun (with_word ∙ sym draft) in
+      Leads-by (ap (λ is. wants_after is old.draft) (took.gives more))
+      (token_leads old.draft took.word (ahead new.scan more) (λ _. same_word)) (ap (wants_after (ahead new.scan more)) token)
+
+  pub number_wants : IsTrue (keeps_number (draft_with_number old.draft number).numbers) → length new.scan.unread ≤ block_size
+      → (more : List ℕ) → IsTrue (may_want (length more) (wants_ahead old more))
+  number_wants keeps small more =
+      let word : keeps_number (draft_with old.draft took.word).numbers ≡ true = rw with_word keeps in
+      subst (λ w. IsTrue (may_want (length more) w)) (sym (ap (λ is. wants_after is old.draft) (took.gives more)))
+      (token_wants (length more) old.draft took.word (ahead new.scan more) begun same_word word
+      (near_ahead new.scan (draft_with old.draft took.word) more small))
+
 pub GoesOn-then : {a b c : Reader} → GoesOn a b → GoesOn b c → GoesOn a c
 GoesOn-then p q = record {
   steps = λ more. p.steps more ∙ q.steps more;
@@ -160,6 +186,7 @@ pub record Stands (tells : Bool) (from to : Channel) (first now : Reader) : Type
       ≡ drafted (ahead now.scan more) now.draft)
   pub scanning : is_scanning now.scan.status ≡ true → is_scanning first.scan.status ≡ true
   pub so_far : IsTrue tells → is_scanning now.scan.status ≡ true → (more : List ℕ) → so_far first (gained from to ++ more) ≡ so_far now more
+  pub leads : IsTrue tells → Decides from to (λ bytes more. Leads (wants_ahead first bytes) (wants_ahead now more))
   pub status : now.status ≡ Reading
   pub line : now.line ≡ first.line
   pub less : fuel now.scan + open_count now.draft ≤ fuel first.scan + open_count first.draft
@@ -168,14 +195,16 @@ same_count : (old new : DraftLine) → is_open new ≡ is_open old → open_coun
 same_count old new begun = ap (λ (b : Bool). if b then 1 else 0) begun
 
 pub Stands-on : {tells : Bool} {from to : Channel} {first old new : Reader} → Stands tells from to first old → GoesOn old new
-    → Stands tells from to first new
-Stands-on {tells} {from} {to} {first} {old} {new} stands goes =
+    → ((more : List ℕ) → Leads (wants_ahead old more) (wants_ahead new more)) → Stands tells from to first new
+Stands-on {tells} {from} {to} {first} {old} {new} stands goes leads =
     let count : open_count new.draft ≡ open_count old.draft = same_count old.draft new.draft goes.begun in
     record {
       same = λ told. Decides-map (λ bytes more. drafted (ahead first.scan bytes) first.draft
           ≡ drafted (ahead new.scan more) new.draft) (stands.same told) (λ bytes more p. p ∙ goes.steps more);
       scanning = λ reading. stands.scanning (sym goes.scanning ∙ reading);
       so_far = λ told reading more. stands.so_far told (sym goes.scanning ∙ reading) more ∙ goes.so_far more;
+      leads = λ told. Decides-map (λ bytes more. Leads (wants_ahead first bytes) (wants_ahead new more)) (stands.leads told)
+          (λ bytes more p. Leads-then p (leads more));
       status = goes.status ∙ stands.status;
       line = goes.line ∙ stands.line;
       less = omega (arith, goes.less, count, stands.less);
@@ -211,6 +240,13 @@ module _ (number : ℤ) (old mid new : Reader) (begins : BeginsLine number old m
       (ap (drafted (next_word begins.took.word (ahead mid.scan more))) mid_draft
       ∙ sym (ap (λ is. drafted is old.draft) (begins.took.gives more)))
       (before_gives r begins.took.word mid new settles_word begun differs more)
+
+  pub number_spends : length mid.scan.unread ≤ block_size → (more : List ℕ)
+      → Spends r (length more) (wants_ahead old more) (wants_ahead new more)
+  number_spends small more = subst (λ w. Spends r (length more) w (wants_ahead new more))
+      (ap (wants_after (next_word begins.took.word (ahead mid.scan more))) mid_draft
+      ∙ sym (ap (λ is. wants_after is old.draft) (begins.took.gives more)))
+      (before_spends r begins.took.word mid new settles_word begun differs small more)
 
   pub number_so_far : (first : Reader) (bytes : List ℕ) → (is_scanning old.scan.status ≡ true → is_scanning first.scan.status ≡ true)
       → (is_scanning old.scan.status ≡ true → (more : List ℕ) → so_far first (bytes ++ more) ≡ so_far old more)

@@ -3,6 +3,7 @@ pub mod DraftLemmas
 pub mod Zero
 pub mod Lines
 pub mod Overlong
+pub mod Wanted
 pub mod Settled
 pub mod SoFar
 pub mod GoesOn

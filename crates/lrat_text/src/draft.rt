@@ -5,6 +5,7 @@ ghost use Rattle.cnf_base.specs.ProofText.{is_delete_word, given_if};
 ghost use Rattle.lrat_text.specs.declared.draft.Kind.TheVariants.{Empty};
 ghost use Rattle.lrat_text.specs.Draft.{no_draft, draft_of_word, draft_with, draft_with_number, draft_of_number, first_number, unsigned};
 ghost use Rattle.lrat_text.specs.Draft.{with_given, draft_as, has_numbers, judged, is_open};
+ghost use Rattle.lrat_text.specs.Wants.{keeps_number};
 
 use crate::build::{put_addition, put_deletion};
 use crate::lists::Lists;
@@ -130,11 +131,11 @@ impl Draft {
         self.numbers.clear();
     }
 
-    /// Takes one more token of the line. Memory is wanted only where all tokens so far are numbers.
+    /// Takes one more token of the line. Memory is wanted only for a number that is kept: all tokens so far are numbers.
     #[inline(always)]
     pub fn take(&mut self, token: &Token) -> Result<(), OutOfMemory>
         ensures ok { OnOk result (self.new ≡ draft_with self.old token.now) }
-        ensures memory { OnErr result (IsTrue (has_numbers (draft_with self.old token.now))) }
+        ensures memory { OnErr result (IsTrue (keeps_number (draft_with self.old token.now).numbers)) }
         ensures kept { OnErr result (IsTrue (has_numbers self.new)) }
     {
         match self.kind {
@@ -156,6 +157,7 @@ impl Draft {
     #[inline(always)]
     pub fn take_number(&mut self, number: i64) -> Result<(), OutOfMemory>
         ensures ok { OnOk result (self.new ≡ draft_with_number self.old number) }
+        ensures memory { OnErr result (IsTrue (keeps_number (draft_with_number self.old number).numbers)) }
         ensures kept { OnErr result (IsTrue (has_numbers self.new)) }
     {
         // Most numbers are of additions.
@@ -171,6 +173,7 @@ impl Draft {
     #[inline(never)]
     fn take_rare_number(&mut self, number: i64) -> Result<(), OutOfMemory>
         ensures ok { OnOk result (self.new ≡ draft_with_number self.old number) }
+        ensures memory { OnErr result (IsTrue (keeps_number (draft_with_number self.old number).numbers)) }
         ensures kept { OnErr result (IsTrue (has_numbers self.new)) }
     {
         match self.kind {
@@ -187,7 +190,7 @@ impl Draft {
     #[inline(always)]
     fn put(&mut self, number: Option<i64>) -> Result<(), OutOfMemory>
         ensures ok { OnOk result (self.new ≡ draft_as self.old self.old.kind (with_given self.old.numbers number)) }
-        ensures memory { OnErr result (IsTrue (is_some (with_given self.old.numbers number))) }
+        ensures memory { OnErr result (IsTrue (keeps_number (with_given self.old.numbers number))) }
         ensures kept { OnErr result (IsTrue (has_numbers self.new)) }
     {
         match number {
@@ -198,10 +201,11 @@ impl Draft {
     }
 
     // One number more, unless a token was none. Mostly there is room for it.
+    #[tactic(auto, using(crate::proofs::Wanted::keeps_last))]
     #[inline(always)]
     fn put_number(&mut self, number: i64) -> Result<(), OutOfMemory>
         ensures ok { OnOk result (self.new ≡ draft_as self.old self.old.kind (with_given self.old.numbers (Some number))) }
-        ensures memory { OnErr result (IsTrue (is_some (with_given self.old.numbers (Some number)))) }
+        ensures memory { OnErr result (IsTrue (keeps_number (with_given self.old.numbers (Some number)))) }
         ensures kept { OnErr result (IsTrue (has_numbers self.new)) }
     {
         if self.broken {

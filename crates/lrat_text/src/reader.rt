@@ -1,13 +1,14 @@
 // The reader: tokens from a scanner, gathered line by line.
-ghost use Rattle.std.specs.Prelude.{◌≡◌, ◌≢◌, ℕ, ◌+◌, ◌^◌, ◌<◌, true, false, List, None, Ok, Err, IsTrue, IfSome, OnOk, OnErr};
+ghost use Rattle.std.specs.Prelude.{◌≡◌, ◌≢◌, ℕ, ◌+◌, ◌^◌, ◌<◌, true, false, List, length, None, Ok, Err, IsTrue, IfSome, OnOk, OnErr};
 ghost use Rattle.host_io.specs.Channel.{Rose};
 ghost use Rattle.text_scan.specs.Decides.{gained, Decides, OnlyReads};
 ghost use Rattle.lrat_text.specs.declared.error.StepError.TheVariants.{ReadFault, TooLong, OutOfMemory};
 ghost use Rattle.lrat_text.specs.declared.reader.ReaderStatus.TheVariants.{Reading, Ended, Failed};
 ghost use Rattle.lrat_text.specs.Steps.{steps, steps_so_far};
-ghost use Rattle.lrat_text.specs.Draft.{no_draft, draft_of_number, draft_of_word, has_numbers, is_open, with_token};
+ghost use Rattle.lrat_text.specs.Draft.{no_draft, draft_of_number, draft_of_word, draft_with, has_numbers, is_open, with_token};
 ghost use Rattle.lrat_text.specs.Reader.{given, Gives, GivesSoFar, Moves, steps_ahead, so_far, is_reading, last_answer, is_under};
 ghost use Rattle.lrat_text.specs.Reader.{BeginsLine, GoesOn, Judges, Settles};
+ghost use Rattle.lrat_text.specs.Wants.{keeps_number, wants_of, wants_ahead, is_near, may_want, Spends, Leads};
 
 use crate::draft::Draft;
 use crate::error::StepError;
@@ -55,6 +56,7 @@ impl StepReader {
         requires { limit + 1 < 2 ^ 64 }
         ensures steps { (bytes : List ℕ) → steps_ahead result bytes ≡ steps limit bytes }
         ensures so_far { (bytes : List ℕ) → so_far result bytes ≡ steps_so_far bytes }
+        ensures wants { (bytes : List ℕ) → wants_ahead result bytes ≡ wants_of limit bytes }
         ensures reading { result.status ≡ Reading }
         ensures line { result.line ≡ 1 }
     {
@@ -88,7 +90,10 @@ impl StepReader {
             Rose (S.channel source.old).faults (S.channel source.new).faults }
         // No failed read is told as anything else.
         ensures unfailed { result ≢ Err ReadFault → (S.channel source.new).faults ≡ (S.channel source.old).faults }
-        // Memory is wanted only for a line whose tokens so far are numbers.
+        // Memory is wanted only for a number of the next line that is kept, or for its step. No more numbers are kept behind
+        // that place than a block of bytes can spell, and what may follow those taken.
+        ensures spends { IsTrue S.tells → is_reading self.old.status ≡ true → Decides (S.channel source.old) (S.channel source.new)
+            (λ bytes more. Spends result (length more) (wants_ahead self.old bytes) (wants_ahead self.new more)) }
         ensures memory { result ≡ Err OutOfMemory → is_reading self.old.status ≡ true → IsTrue (has_numbers self.new.draft) }
         // Once it has stopped, nothing changes.
         ensures stopped_answer { is_reading self.old.status ≡ false → result ≡ last_answer self.old.status }
@@ -125,7 +130,10 @@ impl StepReader {
             Rose (S.channel source.old).faults (S.channel source.new).faults }
         // No failed read is told as anything else.
         ensures unfailed { result ≢ Err ReadFault → (S.channel source.new).faults ≡ (S.channel source.old).faults }
-        // Memory is wanted only for a line whose tokens so far are numbers.
+        // Memory is wanted only for a number of the next line that is kept, or for its step. No more numbers are kept behind
+        // that place than a block of bytes can spell, and what may follow those taken.
+        ensures spends { IsTrue S.tells → is_reading self.old.status ≡ true → Decides (S.channel source.old) (S.channel source.new)
+            (λ bytes more. Spends (given step.new result) (length more) (wants_ahead self.old bytes) (wants_ahead self.new more)) }
         ensures memory { result ≡ Err OutOfMemory → is_reading self.old.status ≡ true → IsTrue (has_numbers self.new.draft) }
         // Once it has stopped, nothing changes.
         ensures stopped_answer { is_reading self.old.status ≡ false → given step.new result ≡ last_answer self.old.status }
@@ -155,6 +163,8 @@ impl StepReader {
         ensures moves { Moves (given step.new result) self.old self.new }
         ensures fault { result ≡ Err ReadFault → Rose (S.channel source.old).faults (S.channel source.new).faults }
         ensures unfailed { result ≢ Err ReadFault → (S.channel source.new).faults ≡ (S.channel source.old).faults }
+        ensures spends { IsTrue S.tells → Decides (S.channel source.old) (S.channel source.new)
+            (λ bytes more. Spends (given step.new result) (length more) (wants_ahead self.old bytes) (wants_ahead self.new more)) }
         ensures memory { result ≡ Err OutOfMemory → IsTrue (has_numbers self.new.draft) }
         ensures reads { OnlyReads (S.channel source.old) (S.channel source.new) }
         ensures beside { S.beside source.new ≡ S.beside source.old }
@@ -162,12 +172,16 @@ impl StepReader {
         'tokens: loop {
             self.take_numbers()?;
             match self.number_of_another_line() {
-                Some(number) => return self.give_before_number(number, step),
+                Some(number) => {
+                    self.scanner.unread_law();
+                    return self.give_before_number(number, step);
+                }
                 None => {}
             }
             let mut token = Token::blank();
             match self.scanner.next_into(source, &mut token) {
                 Ok(true) => {
+                    self.scanner.unread_law();
                     if self.draft.is_open() && self.draft.line() != token.line() {
                         return self.give_before(&token, step);
                     }
@@ -188,6 +202,8 @@ impl StepReader {
     fn take_numbers(&mut self) -> Result<(), StepError>
         requires { self.old.status ≡ Reading }
         ensures ok { OnOk result (GoesOn self.old self.new) }
+        ensures leads { OnOk result ((more : List ℕ) → Leads (wants_ahead self.old more) (wants_ahead self.new more)) }
+        ensures wants { OnErr result ((more : List ℕ) → IsTrue (may_want (length more) (wants_ahead self.old more))) }
         ensures err { OnErr result (result ≡ Err OutOfMemory) }
         ensures stopped { OnErr result (self.new.status ≡ Failed OutOfMemory) }
         ensures kept { OnErr result (IsTrue (has_numbers self.new.draft)) }
@@ -202,7 +218,10 @@ impl StepReader {
             };
             match self.draft.take_number(number) {
                 Ok(()) => continue,
-                Err(_) => return Err(self.fail(StepError::OutOfMemory)),
+                Err(_) => {
+                    self.scanner.unread_law();
+                    return Err(self.fail(StepError::OutOfMemory));
+                }
             }
         }
     }
@@ -225,7 +244,8 @@ impl StepReader {
         ensures ok { OnOk result (self.new ≡ record self.old { draft = with_token self.old.draft token.now }) }
         ensures err { OnErr result (result ≡ Err OutOfMemory) }
         ensures stopped { OnErr result (self.new.status ≡ Failed OutOfMemory) }
-        ensures memory { OnErr result (IsTrue (has_numbers (with_token self.old.draft token.now))) }
+        ensures begun { OnErr result (is_open self.old.draft ≡ true) }
+        ensures memory { OnErr result (IsTrue (keeps_number (draft_with self.old.draft token.now).numbers)) }
         ensures kept { OnErr result (IsTrue (has_numbers self.new.draft)) }
         ensures line { self.new.line ≡ self.old.line }
     {
@@ -309,6 +329,14 @@ impl StepReader {
                 Ok(line)
             }
         }
+    }
+
+    /// No more numbers are ahead than a block of bytes, and what follows it, can spell.
+    #[inline(always)]
+    pub fn near_law(&self)
+        ensures { (more : List ℕ) → is_near (length more) (wants_ahead self.now more) ≡ true }
+    {
+        self.scanner.unread_law();
     }
 
     // Stops with this error.

@@ -17,10 +17,7 @@ use crate::order_error::{OrderError, OrderKind};
 use host_io::Source;
 use std::alloc::Global;
 use std::marker::Model;
-use text_scan::{Scanner, Token, plain_number};
-
-/// How many bytes a text may have.
-const MAX_BYTES: u64 = 4_000_000_000;
+use text_scan::{MAX_BYTES, Scanner, Token, plain_number};
 
 /// What a text is read as is an order, of as many variables as were asked for.
 pub fn order_text_law()

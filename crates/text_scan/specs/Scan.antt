@@ -19,6 +19,10 @@ pub record Scan : Type 0 where
   pub status : ScanStatus
   pub line : ℕ
 
+-- at most so many bytes are taken and not yet looked at
+abbrev pub block_size : ℕ
+block_size = 16384
+
 -- the items that are still to be given, where these bytes follow those taken
 abbrev pub ahead_in : ScanStatus → Scan → List ℕ → Items
 ahead_in Reading scan more = items_from scan.lex scan.room (scan.unread ++ more)

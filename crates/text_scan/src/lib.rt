@@ -11,5 +11,5 @@ mod token;
 
 pub use laws::{kept_word_law, short_text_law};
 pub use number::{plain_number, signed_number};
-pub use scanner::{ScanError, Scanner};
+pub use scanner::{MAX_BYTES, ScanError, Scanner};
 pub use token::Token;

@@ -8,6 +8,7 @@ ghost use Rattle.text_scan.specs.declared.scanner.ScanError.TheVariants.{ReadFau
 ghost use Rattle.text_scan.specs.Items.{items, items_of_front, the_end, too_long, next_word};
 ghost use Rattle.text_scan.specs.Lexer.{items_from, word_then};
 ghost use Rattle.text_scan.specs.Scan.{ahead, so_far, is_reading, is_faulted, given, Gives, GivesSoFar, Moves, TookNumber, last_answer};
+ghost use Rattle.text_scan.specs.Scan.{block_size};
 ghost use Rattle.text_scan.specs.Block.{IsWordAhead, IsNumberAhead};
 ghost use Rattle.text_scan.specs.Decides.{gained, Decides, OnlyReads};
 
@@ -17,6 +18,9 @@ use crate::token::{SPACE, Token};
 use host_io::Source;
 use std::marker::Model;
 use thiserror::Error;
+
+/// How many bytes of a text are looked at: `max_bytes` of the definitions.
+pub const MAX_BYTES: u64 = 4_000_000_000;
 
 /// How many bytes are asked of the source at once.
 const BLOCK: usize = 16384;
@@ -228,6 +232,13 @@ impl Scanner {
         ensures { result ≡ self.now.line }
     {
         self.line
+    }
+
+    /// No more than a block of the bytes taken isn't looked at yet.
+    pub fn unread_law(&self)
+        ensures { length self.now.unread ≤ block_size }
+    {
+        let _at = self.at;
     }
 
     fn read_on<S: Source>(&mut self, source: &mut S, token: &mut Token) -> Result<bool, ScanError>

@@ -9,6 +9,10 @@ use Rattle.workload.specs.declared.square.Square.{Square}
 use Rattle.workload.specs.declared.square.Domino.{Domino}
 use Rattle.workload.specs.declared.square.Domino.TheVariants.{Across, Down}
 
+-- the most columns of a board
+abbrev pub most_columns : ℕ
+most_columns = 100
+
 -- a square by its row and its column, from 1
 abbrev pub square : ℕ → ℕ → Square
 square row column = record { row = row; column = column }

@@ -2,7 +2,7 @@
 ghost use Rattle.std.specs.Prelude.{◌≡◌, ◌+◌, ◌≤◌, ◌<◌, [], ◌∷◌, ◌++◌, map, replicate, ◌-◌, IfOk, OnOk, IsTrue};
 ghost use Rattle.std.specs.List.{flat_map};
 ghost use Rattle.cnf_base.specs.Limits.{max_clauses};
-ghost use Rattle.workload.specs.Board.{number, first_square, dominoes_of, column_dominoes, column_order};
+ghost use Rattle.workload.specs.Board.{number, first_square, dominoes_of, column_dominoes, column_order, most_columns};
 ghost use Rattle.workload.specs.Schedule.{following, column_clauses, ending, column_commands, moves_of, board_moves};
 ghost use Rattle.workload.specs.Cursor.{StandsAt};
 
@@ -14,7 +14,7 @@ use std::alloc::Global;
 
 /// The variables in the column order.
 pub fn column_order(alloc: Global, n: u32) -> Result<Vec<u32>, OutOfMemory>
-    requires most { n ≤ 100 }
+    requires most { n ≤ most_columns }
     ensures { IfOk result (λ order. order.items ≡ column_order n) }
 {
     let mut order = Vec::new(alloc);
@@ -25,8 +25,8 @@ pub fn column_order(alloc: Global, n: u32) -> Result<Vec<u32>, OutOfMemory>
 }
 
 fn push_column(order: &mut Vec<u32>, n: u32, column: u32) -> Result<(), OutOfMemory>
-    requires most { n ≤ 100 }
-    requires column { column ≤ 100 }
+    requires most { n ≤ most_columns }
+    requires column { column ≤ most_columns }
     ensures { OnOk result (order.new.items ≡ order.old.items ++ map (number n) (column_dominoes n column)) }
 {
     for row in 1..n + 1 {
@@ -40,8 +40,8 @@ fn push_column(order: &mut Vec<u32>, n: u32, column: u32) -> Result<(), OutOfMem
 
 // Adds a domino's number, where it is one.
 fn push_domino(order: &mut Vec<u32>, n: u32, domino: Domino) -> Result<(), OutOfMemory>
-    requires most { n ≤ 100 }
-    requires near { ((first_square domino).row ≤ 100) × ((first_square domino).column ≤ 100) }
+    requires most { n ≤ most_columns }
+    requires near { ((first_square domino).row ≤ most_columns) × ((first_square domino).column ≤ most_columns) }
     ensures { OnOk result (order.new.items ≡ order.old.items ++ map (number n) (dominoes_of n (domino ∷ []))) }
 {
     if is_domino(n, domino) {
@@ -52,7 +52,7 @@ fn push_domino(order: &mut Vec<u32>, n: u32, domino: Domino) -> Result<(), OutOf
 
 /// The moves of the column schedule.
 pub fn board_moves(alloc: Global, n: u32) -> Result<Vec<Move>, OutOfMemory>
-    requires most { n ≤ 100 }
+    requires most { n ≤ most_columns }
     ensures { IfOk result (λ moves. moves.items ≡ board_moves n) }
 {
     let mut moves = Vec::new(alloc);
@@ -72,8 +72,8 @@ fn push_clauses(
     column: u32,
     cursor: &mut Cursor,
 ) -> Result<(), OutOfMemory>
-    requires most { n ≤ 100 }
-    requires column { (0 < column) × (column ≤ 100) }
+    requires most { n ≤ most_columns }
+    requires column { (0 < column) × (column ≤ most_columns) }
     requires cursor { StandsAt n column cursor.old }
     ensures moves { OnOk result (moves.new.items ≡ moves.old.items ++ map Move.Push (column_clauses n column)) }
     ensures cursor { OnOk result (StandsAt n (column + 1) cursor.new) }
@@ -111,8 +111,8 @@ fn push_ands(moves: &mut Vec<Move>, terms: u32) -> Result<(), OutOfMemory>
 
 // Quantifies the dominoes that end in a column.
 fn push_ending(moves: &mut Vec<Move>, n: u32, column: u32) -> Result<(), OutOfMemory>
-    requires most { n ≤ 100 }
-    requires column { (0 < column) × (column ≤ 100) }
+    requires most { n ≤ most_columns }
+    requires column { (0 < column) × (column ≤ most_columns) }
     ensures { OnOk result (moves.new.items ≡ moves.old.items ++ map Move.Exists (ending n column)) }
 {
     for row in 1..n + 1 {
@@ -130,8 +130,8 @@ fn push_ending(moves: &mut Vec<Move>, n: u32, column: u32) -> Result<(), OutOfMe
 
 // Quantifies a domino's variable, where it is one.
 fn push_exists(moves: &mut Vec<Move>, n: u32, domino: Domino) -> Result<(), OutOfMemory>
-    requires most { n ≤ 100 }
-    requires near { ((first_square domino).row ≤ 100) × ((first_square domino).column ≤ 100) }
+    requires most { n ≤ most_columns }
+    requires near { ((first_square domino).row ≤ most_columns) × ((first_square domino).column ≤ most_columns) }
     ensures { OnOk result (moves.new.items ≡ moves.old.items ++ map Move.Exists (map (number n) (dominoes_of n (domino ∷ [])))) }
 {
     if is_domino(n, domino) {

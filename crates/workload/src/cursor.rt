@@ -2,7 +2,7 @@
 // next square.
 ghost use Rattle.std.specs.Prelude.{◌≡◌, ◌+◌, ◌≤◌, length};
 ghost use Rattle.std.specs.List.{flat_map};
-ghost use Rattle.workload.specs.Board.{square_clauses, row_squares};
+ghost use Rattle.workload.specs.Board.{square_clauses, row_squares, most_columns};
 ghost use Rattle.workload.specs.Schedule.{terms_in_column, clause_count};
 ghost use Rattle.workload.specs.Cursor.{StandsAt};
 
@@ -13,7 +13,7 @@ pub type Cursor = [u32; 101];
 
 /// The cursor before the first column.
 pub fn first_cursor(n: u32) -> Cursor
-    requires most { n ≤ 100 }
+    requires most { n ≤ most_columns }
     ensures { StandsAt n 1 result }
 {
     let mut cursor = [0; 101];
@@ -26,7 +26,7 @@ pub fn first_cursor(n: u32) -> Cursor
 }
 
 fn clauses_in_row(n: u32, row: u32) -> u32
-    requires most { n ≤ 100 }
+    requires most { n ≤ most_columns }
     ensures value { result ≡ clause_count n (row_squares n row) }
     ensures range { result ≤ 700 }
 {
@@ -41,7 +41,7 @@ fn clauses_in_row(n: u32, row: u32) -> u32
 
 /// How many terms a column conjoins: its clauses, and what came before.
 pub fn terms_in_column(n: u32, column: u32) -> u32
-    requires most { n ≤ 100 }
+    requires most { n ≤ most_columns }
     ensures value { result ≡ terms_in_column n column }
 {
     let mut count = if column > 1 { 1 } else { 0 };

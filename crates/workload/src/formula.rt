@@ -3,6 +3,7 @@ ghost use Rattle.std.specs.Prelude.{◌≡◌, ℕ, ◌+◌, ◌*◌, ◌≤◌,
 ghost use Rattle.std.specs.List.{flat_map, All};
 ghost use Rattle.cnf_base.specs.Limits.{max_clauses, max_vars};
 ghost use Rattle.workload.specs.Board.{square, stays, square_clauses, row_squares, board_formula, dominoes, one_of, not_both, no_two_of};
+ghost use Rattle.workload.specs.Board.{most_columns};
 
 use crate::square::{covering, stays, variable_count};
 use cnf_base::{Cnf, CnfBuilder, Lit, OutOfMemory};
@@ -11,7 +12,7 @@ use std::alloc::Global;
 /// The formula of the board of this size.
 pub fn formula(alloc: Global, n: u32) -> Result<Cnf, OutOfMemory>
     requires least { 2 ≤ n }
-    requires most { n ≤ 100 }
+    requires most { n ≤ most_columns }
     ensures { IfOk result (λ formula. formula ≡ board_formula n) }
 {
     let mut builder = CnfBuilder::new(alloc, variable_count(n));
@@ -23,7 +24,7 @@ pub fn formula(alloc: Global, n: u32) -> Result<Cnf, OutOfMemory>
 
 // Adds the clauses of a row.
 fn push_row(builder: &mut CnfBuilder, n: u32, row: u32) -> Result<(), OutOfMemory>
-    requires most { n ≤ 100 }
+    requires most { n ≤ most_columns }
     requires begun { builder.old.begun ≡ [] }
     requires vars { builder.old.vars ≡ length (dominoes n) }
     requires few_vars { builder.old.vars ≤ max_vars }
@@ -44,7 +45,7 @@ fn push_row(builder: &mut CnfBuilder, n: u32, row: u32) -> Result<(), OutOfMemor
 
 // Adds the clauses of a square.
 fn push_square(builder: &mut CnfBuilder, n: u32, row: u32, column: u32) -> Result<(), OutOfMemory>
-    requires most { n ≤ 100 }
+    requires most { n ≤ most_columns }
     requires there { IsTrue (stays n (square row column)) }
     requires begun { builder.old.begun ≡ [] }
     requires vars { builder.old.vars ≡ length (dominoes n) }

@@ -2,7 +2,7 @@
 ghost use Rattle.std.specs.Prelude.{◌≡◌, ◌≤◌, length, IfOk};
 ghost use Rattle.cnf_base.specs.Order.{IsOrder};
 ghost use Rattle.schedule_plan.specs.Plan.{IsAdmissible};
-ghost use Rattle.workload.specs.Board.{board_formula, column_order};
+ghost use Rattle.workload.specs.Board.{board_formula, column_order, most_columns};
 ghost use Rattle.workload.specs.Schedule.{board_moves};
 
 use crate::columns::{board_moves, column_order};
@@ -16,7 +16,7 @@ use std::alloc::Global;
 /// not.)
 pub fn board(alloc: Global, n: u32) -> Result<Board, OutOfMemory>
     requires least { 2 ≤ n }
-    requires most { n ≤ 100 }
+    requires most { n ≤ most_columns }
     ensures cnf { IfOk result (λ board. board.cnf ≡ board_formula n) }
     ensures order { IfOk result (λ board. board.order ≡ column_order n) }
     ensures plan { IfOk result (λ board. board.plan ≡ board_moves n) }

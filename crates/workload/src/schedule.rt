@@ -4,7 +4,7 @@ ghost use Rattle.std.specs.List.{flat_map};
 ghost use Rattle.cnf_base.specs.Limits.{max_clauses};
 ghost use Rattle.host_io.specs.Channel.{WritesAll};
 ghost use Rattle.host_io.specs.Emitted.{Emits};
-ghost use Rattle.workload.specs.Board.{number, first_square, dominoes_of};
+ghost use Rattle.workload.specs.Board.{number, first_square, dominoes_of, most_columns};
 ghost use Rattle.workload.specs.Schedule.{following, column_clauses, ending, column_commands, conjoining, quantifying, terms_in_column};
 ghost use Rattle.workload.specs.Schedule.{Clauses};
 ghost use Rattle.workload.specs.Cursor.{StandsAt};
@@ -18,7 +18,7 @@ use host_io::{Failed, HeldBytes, Sink, emit, emit_number, write_all};
 /// was written. Takes no memory.
 pub fn write_columns<S: Sink>(sink: &mut S, n: u32) -> Result<(), Failed>
     requires least { 2 ≤ n }
-    requires most { n ≤ 100 }
+    requires most { n ≤ most_columns }
     ensures writes { WritesAll S.tells (S.channel sink.old) (S.channel sink.new) (schedule_text n) result }
     ensures beside { S.beside sink.new ≡ S.beside sink.old }
 {
@@ -29,7 +29,7 @@ pub fn write_columns<S: Sink>(sink: &mut S, n: u32) -> Result<(), Failed>
 
 fn emit_columns<S: Sink>(sink: &mut S, held: &mut HeldBytes, n: u32) -> Result<(), Failed>
     requires least { 2 ≤ n }
-    requires most { n ≤ 100 }
+    requires most { n ≤ most_columns }
     ensures emits { Emits S.tells (S.channel sink.old) (S.channel sink.new) held.old.items held.new.items (schedule_text n) result }
     ensures beside { S.beside sink.new ≡ S.beside sink.old }
 {
@@ -49,7 +49,7 @@ fn emit_column<S: Sink>(
     cursor: &mut Cursor,
 ) -> Result<(), Failed>
     requires least { 2 ≤ n }
-    requires most { n ≤ 100 }
+    requires most { n ≤ most_columns }
     requires column { (0 < column) × (column ≤ n) }
     requires cursor { StandsAt n column cursor.old }
     ensures emits { Emits S.tells (S.channel sink.old) (S.channel sink.new) held.old.items held.new.items
@@ -72,8 +72,8 @@ fn emit_clauses<S: Sink>(
     column: u32,
     cursor: &mut Cursor,
 ) -> Result<(), Failed>
-    requires most { n ≤ 100 }
-    requires column { (0 < column) × (column ≤ 100) }
+    requires most { n ≤ most_columns }
+    requires column { (0 < column) × (column ≤ most_columns) }
     requires cursor { StandsAt n column cursor.old }
     ensures emits { Emits S.tells (S.channel sink.old) (S.channel sink.new) held.old.items held.new.items
         (flat_map spaced (column_clauses n column)) result }
@@ -128,7 +128,7 @@ fn emit_quantifying<S: Sink>(
     column: u32,
 ) -> Result<(), Failed>
     requires least { 2 ≤ n }
-    requires most { n ≤ 100 }
+    requires most { n ≤ most_columns }
     requires column { (0 < column) × (column ≤ n) }
     ensures emits { Emits S.tells (S.channel sink.old) (S.channel sink.new) held.old.items held.new.items
         (flat_map command_line (quantifying (ending n column))) result }
@@ -149,8 +149,8 @@ fn emit_ending<S: Sink>(
     n: u32,
     column: u32,
 ) -> Result<(), Failed>
-    requires most { n ≤ 100 }
-    requires column { (0 < column) × (column ≤ 100) }
+    requires most { n ≤ most_columns }
+    requires column { (0 < column) × (column ≤ most_columns) }
     ensures emits { Emits S.tells (S.channel sink.old) (S.channel sink.new) held.old.items held.new.items
         (flat_map spaced (ending n column)) result }
     ensures beside { S.beside sink.new ≡ S.beside sink.old }
@@ -175,8 +175,8 @@ fn emit_domino<S: Sink>(
     n: u32,
     domino: Domino,
 ) -> Result<(), Failed>
-    requires most { n ≤ 100 }
-    requires near { ((first_square domino).row ≤ 100) × ((first_square domino).column ≤ 100) }
+    requires most { n ≤ most_columns }
+    requires near { ((first_square domino).row ≤ most_columns) × ((first_square domino).column ≤ most_columns) }
     ensures emits { Emits S.tells (S.channel sink.old) (S.channel sink.new) held.old.items held.new.items
         (flat_map spaced (map (number n) (dominoes_of n (domino ∷ [])))) result }
     ensures beside { S.beside sink.new ≡ S.beside sink.old }

@@ -4,7 +4,7 @@ ghost use Rattle.arrayvec.specs.ArrayVec.{array_vec_len};
 ghost use Rattle.std.specs.List.{flat_map};
 ghost use Rattle.cnf_base.specs.Limits.{max_vars};
 ghost use Rattle.workload.specs.Board.{square, stays, is_domino, first_square, number, numbers, dominoes_of, dominoes_at, square_clauses};
-ghost use Rattle.workload.specs.Board.{dominoes};
+ghost use Rattle.workload.specs.Board.{dominoes, most_columns};
 ghost use Rattle.workload.specs.Schedule.{squares_before};
 
 use arrayvec::ArrayVec;
@@ -34,7 +34,7 @@ pub fn stays(n: u32, row: u32, column: u32) -> bool
 
 /// Whether both squares of a domino stay.
 pub fn is_domino(n: u32, domino: Domino) -> bool
-    requires near { ((first_square domino).row ≤ 100) × ((first_square domino).column ≤ 100) }
+    requires near { ((first_square domino).row ≤ most_columns) × ((first_square domino).column ≤ most_columns) }
     ensures { result ≡ is_domino n domino }
 {
     match domino {
@@ -50,7 +50,7 @@ pub fn is_domino(n: u32, domino: Domino) -> bool
 /// The number of the variables.
 pub fn variable_count(n: u32) -> u32
     requires least { 2 ≤ n }
-    requires most { n ≤ 100 }
+    requires most { n ≤ most_columns }
     ensures value { result ≡ length (dominoes n) }
     ensures range { result ≤ max_vars }
 {
@@ -60,7 +60,7 @@ pub fn variable_count(n: u32) -> u32
 /// A domino's number. Each row has n - 1 dominoes across and n down, the last one none down; two are missing at the first
 /// square, one before the last row.
 pub fn number(n: u32, domino: Domino) -> u32
-    requires most { n ≤ 100 }
+    requires most { n ≤ most_columns }
     requires there { IsTrue (is_domino n domino) }
     ensures value { result ≡ number n domino }
     ensures range { (0 < result) × (result ≤ 20000) }
@@ -72,7 +72,7 @@ pub fn number(n: u32, domino: Domino) -> u32
 }
 
 fn number_down(n: u32, square: Square) -> u32
-    requires most { n ≤ 100 }
+    requires most { n ≤ most_columns }
     requires there { IsTrue (is_domino n (Domino.Down square)) }
     ensures value { result ≡ number n (Domino.Down square) }
     ensures range { (0 < result) × (result ≤ 20000) }
@@ -87,7 +87,7 @@ fn number_down(n: u32, square: Square) -> u32
 
 // The number of dominoes at the squares before a square.
 fn dominoes_before(n: u32, row: u32, column: u32) -> u32
-    requires most { n ≤ 100 }
+    requires most { n ≤ most_columns }
     requires there { IsTrue (stays n (square row column)) }
     ensures value { result ≡ length (flat_map (dominoes_at n) (squares_before n (square row column))) }
     ensures range { result ≤ 19998 }
@@ -102,7 +102,7 @@ fn dominoes_before(n: u32, row: u32, column: u32) -> u32
 
 /// The numbers of the dominoes that cover a square, by rising number.
 pub fn covering(n: u32, row: u32, column: u32) -> ArrayVec<u32, 4>
-    requires most { n ≤ 100 }
+    requires most { n ≤ most_columns }
     requires there { IsTrue (stays n (square row column)) }
     ensures { result.items ≡ numbers n (square row column) }
 {
@@ -125,8 +125,8 @@ pub fn covering(n: u32, row: u32, column: u32) -> ArrayVec<u32, 4>
 
 // Adds a domino's number, where it is one.
 fn push_number(numbers: &mut ArrayVec<u32, 4>, n: u32, domino: Domino)
-    requires most { n ≤ 100 }
-    requires near { ((first_square domino).row ≤ 100) × ((first_square domino).column ≤ 100) }
+    requires most { n ≤ most_columns }
+    requires near { ((first_square domino).row ≤ most_columns) × ((first_square domino).column ≤ most_columns) }
     requires room { array_vec_len numbers.old < 4 }
     ensures items { numbers.new.items ≡ numbers.old.items ++ map (number n) (dominoes_of n (domino ∷ [])) }
     ensures len { array_vec_len numbers.new ≤ array_vec_len numbers.old + 1 }
@@ -138,7 +138,7 @@ fn push_number(numbers: &mut ArrayVec<u32, 4>, n: u32, domino: Domino)
 
 /// How many clauses a square has: one, and one for each two dominoes that cover it.
 pub fn clause_count(n: u32, row: u32, column: u32) -> u32
-    requires most { n ≤ 100 }
+    requires most { n ≤ most_columns }
     requires there { IsTrue (stays n (square row column)) }
     ensures value { result ≡ length (square_clauses n (square row column)) }
     ensures range { result ≤ 7 }

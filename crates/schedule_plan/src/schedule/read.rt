@@ -20,10 +20,7 @@ use crate::schedule::line::{Command, Line};
 use cnf_base::Cnf;
 use host_io::Source;
 use std::alloc::Global;
-use text_scan::{ScanError, Scanner, Token};
-
-/// How many bytes a text may have.
-const MAX_BYTES: u64 = 4_000_000_000;
+use text_scan::{MAX_BYTES, ScanError, Scanner, Token};
 
 /// What a text is read as is an admissible plan.
 pub fn schedule_text_law()

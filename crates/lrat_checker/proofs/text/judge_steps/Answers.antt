@@ -1,12 +1,14 @@
 -- What the reader's next answer says to the verdict.
-use Rattle.std.proofs.Common.{◌≡◌, ℕ, List, false, Some, None, Ok, Err, refl, sym, ◌∙◌, ap, subst, rules}
+use Rattle.std.proofs.Common.{◌≡◌, ℕ, List, false, Some, None, Ok, Err, length, refl, sym, ◌∙◌, ap, subst, rules}
 use Rattle.host_io.specs.Channel.{Rose}
 use Rattle.text_scan.specs.Decides.{gained, OnlyReads-then, Decides-then, gained-then, front-then}
-use Rattle.lrat_text.specs.declared.error.StepError.TheVariants.{ReadFault}
+use Rattle.lrat_text.specs.declared.error.StepError.TheVariants.{ReadFault, OutOfMemory as NoMemory}
 use Rattle.lrat_text.specs.Reader.{GaveStep, given, is_reading, steps_ahead, so_far}
 use Rattle.lrat_rules.specs.Run.{step_fault, after_step}
 use Rattle.lrat_checker.specs.TextVerdict.{end_verdict, error_answer, steps_verdict, Answers}
-use Rattle.lrat_checker.proofs.Turns.{at_end, at_error, at_good_step, good_so_far, fault_so_far, later_wants, read_fault_alone}
+use Rattle.lrat_checker.proofs.Turns.{at_end, at_error, at_bad_step, at_good_step, good_so_far, fault_so_far, later_wants, read_fault_alone}
+use Rattle.lrat_checker.proofs.Turns.{step_wants}
+use Rattle.lrat_checker.proofs.Wanted.{behind_wants, step_is_wanted, error_wants, memory_alone}
 use Rattle.lrat_checker.proofs.text.judge_steps.Goals as goal
 
 pub returns-in-Ok-None-clause-decides : goal.returns-in-Ok-None-clause-decides
@@ -16,6 +18,14 @@ returns-in-Ok-None-clause-decides g c = λ told.
     (λ bytes middle more before gives. before ∙ at_end c.steps.judge c.steps.has_empty _ _ _ _ gives
     (ap (λ r. given c.next_into.new.step (Ok r)) c.in-Ok-None.field-0-is)
     ∙ ap Some (sym (c.verdict_at_end.ensures ∙ ap (end_verdict c.steps.has_empty) c.line.ensures)))
+
+pub returns-in-Some-clause-decides : goal.returns-in-Some-clause-decides
+returns-in-Some-clause-decides g c = λ told.
+    let bad : step_fault c.steps.judge c.next_into.new.step
+    ≡ Some c.in-Some.reason = sym c.in_ok-reason-in-Ok-Some.ensures.fault ∙ c.in-Some.is in
+    Decides-then _ (c.steps.invariant.same told) (c.in-Ok-Some.ensures.gives told)
+    (λ bytes middle more before gives. before ∙ at_bad_step c.steps.judge c.steps.has_empty _ _ _ _ gives c.next_into.new.step
+    c.in-Ok-Some.line c.in-Some.reason (ap (λ r. given c.next_into.new.step (Ok r)) c.in-Ok-Some.field-0-is) bad)
 
 pub returns-in-Err-clause-decides : goal.returns-in-Err-clause-decides
 returns-in-Err-clause-decides g c = λ told.
@@ -63,6 +73,11 @@ steps-preserved g c =
           (λ bytes middle more before gives wants. before
           (later_wants c.steps.judge _ _ _ _ gives c.next_into.new.step c.in-Ok-Some.line c.step.new.self
           (ap (λ r. given c.next_into.new.step (Ok r)) c.in-Ok-Some.field-0-is) is_good moved wants));
+      wants = λ told.
+          Decides-then _ (c.steps.invariant.wants told) (c.in-Ok-Some.ensures.spends told (ap is_reading c.steps.invariant.reading))
+          (λ bytes middle more before spends n wants. before n
+          (behind_wants c.steps.judge _ _ _ _ spends c.next_into.new.step c.in-Ok-Some.line c.step.new.self
+          (ap (λ r. given c.next_into.new.step (Ok r)) c.in-Ok-Some.field-0-is) is_good moved n wants));
       so_far = λ told scanning.
           let good = good_so_far c.steps.judge c.steps.has_empty _ c.steps.reader c.next_into.new.self _
           (c.in-Ok-Some.ensures.so_far told (ap is_reading c.steps.invariant.reading))
@@ -78,3 +93,26 @@ steps-preserved g c =
       unfailed = c.in-Ok-Some.ensures.unfailed (λ e. cc) ∙ c.steps.invariant.unfailed;
       beside = c.next_into.ensures.beside ∙ c.steps.invariant.beside;
     }
+
+-- memory was wanted to judge the step that was read
+pub returns-in_err-reason-in-Ok-Some-clause-memory : goal.returns-in_err-reason-in-Ok-Some-clause-memory
+returns-in_err-reason-in-Ok-Some-clause-memory g c = λ told is reading.
+    Decides-then _ (c.steps.invariant.memory told) (c.in-Ok-Some.ensures.gives told)
+    (λ bytes middle more before gives. before
+    (step_wants c.steps.judge c.steps.has_empty _ _ _ _ gives c.next_into.new.step c.in-Ok-Some.line
+    (ap (λ r. given c.next_into.new.step (Ok r)) c.in-Ok-Some.field-0-is) c.in_err-reason-in-Ok-Some.ensures.memory))
+
+pub returns-in_err-reason-in-Ok-Some-clause-wants : goal.returns-in_err-reason-in-Ok-Some-clause-wants
+returns-in_err-reason-in-Ok-Some-clause-wants g c = λ told is.
+    Decides-then _ (c.steps.invariant.wants told) (c.in-Ok-Some.ensures.spends told (ap is_reading c.steps.invariant.reading))
+    (λ bytes middle more before spends. before (length more)
+    (step_is_wanted c.steps.judge _ _ _ _ spends c.next_into.new.step c.in-Ok-Some.line
+    (ap (λ r. given c.next_into.new.step (Ok r)) c.in-Ok-Some.field-0-is) (length more) (c.near_law.ensures more)))
+
+-- or to read it
+pub returns-in-Err-clause-wants : goal.returns-in-Err-clause-wants
+returns-in-Err-clause-wants g c = λ told is.
+    let memory : c.in-Err.error ≡ NoMemory = memory_alone c.in-Err.error (sym c.answer_to.ensures ∙ is) in
+    Decides-then _ (c.steps.invariant.wants told) (c.in-Err.ensures.spends told (ap is_reading c.steps.invariant.reading))
+    (λ bytes middle more before spends. before (length more)
+    (error_wants c.steps.judge _ _ _ _ spends (ap Err memory)))

@@ -1,86 +1,89 @@
 -- The line that is judged gives the first of the steps ahead.
-use Rattle.std.proofs.Common.{◌≡◌, ℕ, ◌≤◌, ◌==◌, List, ◌++◌, true, false, Err, sym, ap, ◌∙◌, arith, refl, subst}
-use Rattle.std.specs.Prelude.{⊤}
+use Rattle.std.proofs.Common.{◌≡◌, ℕ, ◌≤◌, ◌==◌, List, ◌++◌, length, true, false, Err, sym, ap, ◌∙◌, arith, refl, subst}
+use Rattle.std.specs.Prelude.{⊤, IsTrue}
 use Rattle.std.proofs.lemmas.Bool.Decides.{nat_tests}
 use Rattle.text_scan.specs.declared.scanner.ScanError.TheVariants.{ReadFault as ScanFault}
 use Rattle.text_scan.specs.Items.{next_word}
-use Rattle.lrat_text.specs.declared.error.StepError.TheVariants.{ReadFault}
+use Rattle.lrat_text.specs.declared.error.StepError.TheVariants.{ReadFault, OutOfMemory}
 use Rattle.lrat_text.specs.declared.reader.ReaderStatus.TheVariants.{Reading}
-use Rattle.text_scan.specs.Decides.{gained, Decides-none, Decides-then, OnlyReads-then, gained-then, front-then}
-use Rattle.text_scan.specs.Scan.{Scan, given as answer, ahead, so_far as scan_so_far, is_reading as is_scanning, fuel}
-use Rattle.lrat_text.specs.Draft.{is_open, with_token, drafted}
+use Rattle.text_scan.specs.Decides.{gained, Decides-none, Decides-map, Decides-then, OnlyReads-then, gained-then, front-then}
+use Rattle.text_scan.specs.Scan.{Scan, block_size, given as answer, ahead, so_far as scan_so_far, is_reading as is_scanning, fuel}
+use Rattle.lrat_text.specs.Draft.{is_open, draft_with, with_token, drafted}
 use Rattle.lrat_text.specs.Reader.{Reader, Gives, given, so_far, steps_ahead, open_count}
 use Rattle.lrat_text.specs.Steps.{broken_off}
-use Rattle.lrat_text.proofs.GoesOn.{Stands-on, Stands-same, number_gives, number_so_far, read_back}
+use Rattle.lrat_text.proofs.GoesOn.{Stands-on, Stands-same, number_gives, number_so_far, number_spends, read_back}
 use Rattle.lrat_text.proofs.SoFar.{given_err, scanned, scanned_fault, off_overlong, before_so_far, stopped_so_far}
+use Rattle.lrat_text.specs.Wants.{keeps_number, wants_after, wants_ahead, may_want, Spends, Leads}
+use Rattle.lrat_text.proofs.Wanted.{Leads-then, Leads-by, near_ahead, token_leads, token_wants, before_spends, end_spends, limit_spends}
+use Rattle.lrat_text.proofs.Wanted.{handed_spends, led, call_spends}
 use Rattle.lrat_text.proofs.Settled.{before_gives, end_gives, limit_gives, call_gives, token_goes, open_small}
 use Rattle.lrat_text.proofs.reader.StepReader.read_on.Goals as goal
 use Rattle.lrat_text.proofs.reader.StepReader.read_on.Goals.{else-is_open-via-then-is_open+else-line, else-is_open-via-else-is_open}
 
 pub returns-then-line-clause-gives : goal.returns-then-line-clause-gives
 returns-then-line-clause-gives g c = let stands = Stands-same (c.in-None.ensures.none refl)
-    (Stands-on c.tokens.invariant.stands c.in_ok-take_numbers.ensures.ok) in λ told.
+    (Stands-on c.tokens.invariant.stands c.in_ok-take_numbers.ensures.ok c.in_ok-take_numbers.ensures.leads) in λ told.
     let old : Reader = record {
       scan = c.next_into.new.self;
-      draft = c.self.inside.draft;
-      status = c.self.inside.status;
-      line = c.self.inside.line;
+      draft = c.self-in-tokens.inside.draft;
+      status = c.self-in-tokens.inside.status;
+      line = c.self-in-tokens.inside.line;
     } in
     let gives = rw c.in-Ok-true.field-0-test at (c.in-Ok-true.ensures.gives told) in
-    let begun : is_open c.self.inside.draft ≡ true = sym c.is_open.ensures ∙ c.if-is_open.true in
-    let differs : (c.self.inside.draft.line == c.next_into.new.token.line) ≡ false = grind (arith, nat_tests) in
+    let begun : is_open c.self-in-tokens.inside.draft ≡ true = sym c.is_open.ensures ∙ c.if-is_open.true in
+    let differs : (c.self-in-tokens.inside.draft.line == c.next_into.new.token.line) ≡ false = grind (arith, nat_tests) in
     call_gives (given c.give_before.new.step c.give_before.result) c.args.self.now c.number_of_another_line.new.self c.give_before.new.self
     c.requires (stands.same told) gives
-    (λ middle more q. rw (← c.self.view_is, q)
+    (λ middle more q. rw (← c.self-in-tokens.view_is, q)
     (before_gives (given c.give_before.new.step c.give_before.result) c.next_into.new.token old c.give_before.new.self
     c.give_before.ensures begun differs more))
 
 pub returns-in-Ok-false-clause-gives : goal.returns-in-Ok-false-clause-gives
 returns-in-Ok-false-clause-gives g c = let stands = Stands-same (c.in-None.ensures.none refl)
-    (Stands-on c.tokens.invariant.stands c.in_ok-take_numbers.ensures.ok) in λ told.
+    (Stands-on c.tokens.invariant.stands c.in_ok-take_numbers.ensures.ok c.in_ok-take_numbers.ensures.leads) in λ told.
     let old : Reader = record {
       scan = c.next_into.new.self;
-      draft = c.self.inside.draft;
-      status = c.self.inside.status;
-      line = c.self.inside.line;
+      draft = c.self-in-tokens.inside.draft;
+      status = c.self-in-tokens.inside.status;
+      line = c.self-in-tokens.inside.line;
     } in
     let gives = rw c.in-Ok-false.field-0-test at (c.in-Ok-false.ensures.gives told) in
     let end = c.give_at_end.ensures in
     call_gives (given c.give_at_end.new.step c.give_at_end.result) c.args.self.now c.number_of_another_line.new.self c.give_at_end.new.self
     c.requires (stands.same told) gives
-    (λ middle more q. rw (← c.self.view_is, q.0)
+    (λ middle more q. rw (← c.self-in-tokens.view_is, q.0)
     (end_gives (given c.give_at_end.new.step c.give_at_end.result) old c.give_at_end.new.self end.last
     (λ h. ap (given c.give_at_end.new.step) (end.ended h)) end.stopped more q.1))
 
 pub returns-in-Err-TooLong-clause-gives : goal.returns-in-Err-TooLong-clause-gives
 returns-in-Err-TooLong-clause-gives g c = let stands = Stands-same (c.in-None.ensures.none refl)
-    (Stands-on c.tokens.invariant.stands c.in_ok-take_numbers.ensures.ok) in λ told.
+    (Stands-on c.tokens.invariant.stands c.in_ok-take_numbers.ensures.ok c.in_ok-take_numbers.ensures.leads) in λ told.
     let old : Reader = record {
       scan = c.next_into.new.self;
-      draft = c.self.inside.draft;
-      status = c.self.inside.status;
-      line = c.self.inside.line;
+      draft = c.self-in-tokens.inside.draft;
+      status = c.self-in-tokens.inside.status;
+      line = c.self-in-tokens.inside.line;
     } in
     let gives = rw c.in-Err-TooLong.field-0-is at (c.in-Err-TooLong.ensures.gives told) in
     let limit = c.give_at_limit.ensures in
     call_gives (given c.give_at_limit.new.step c.give_at_limit.result) c.args.self.now c.number_of_another_line.new.self
     c.give_at_limit.new.self c.requires (stands.same told) gives
-    (λ middle more q. rw (← c.self.view_is, q.0)
+    (λ middle more q. rw (← c.self-in-tokens.view_is, q.0)
     (limit_gives (given c.give_at_limit.new.step c.give_at_limit.result) old c.give_at_limit.new.self limit.last
     (λ h. ap (given c.give_at_limit.new.step) (limit.over h)) limit.stopped more q.1))
 
 pub tokens-preserved : goal.tokens-preserved
 tokens-preserved g c = let stands = Stands-same (c.in-None.ensures.none refl)
-    (Stands-on c.tokens.invariant.stands c.in_ok-take_numbers.ensures.ok) in
+    (Stands-on c.tokens.invariant.stands c.in_ok-take_numbers.ensures.ok c.in_ok-take_numbers.ensures.leads) in
     let old : Reader = record {
       scan = c.next_into.new.self;
-      draft = c.self.inside.draft;
-      status = c.self.inside.status;
-      line = c.self.inside.line;
+      draft = c.self-in-tokens.inside.draft;
+      status = c.self-in-tokens.inside.status;
+      line = c.self-in-tokens.inside.line;
     } in
     let joined : c.else-is_open.self ≡ old =
     elim c.else-is_open.branch [ else-is_open-via-then-is_open+else-line w ↦ w.self-is | else-is_open-via-else-is_open w ↦ w.self-is ] in
-    let same : is_open c.self.inside.draft ≡ true → (c.self.inside.draft.line == c.next_into.new.token.line) ≡ true =
+    let same : is_open c.self-in-tokens.inside.draft ≡ true → (c.self-in-tokens.inside.draft.line == c.next_into.new.token.line) ≡ true =
     elim c.else-is_open.branch [
       | else-is_open-via-then-is_open+else-line w ↦ λ h. grind (arith, nat_tests)
       | else-is_open-via-else-is_open w ↦ λ h. cc
@@ -88,23 +91,23 @@ tokens-preserved g c = let stands = Stands-same (c.in-None.ensures.none refl)
     let moves = rw c.in-Ok-true.field-0-test at c.in-Ok-true.ensures.moves in
     let taken : c.take.new.self ≡ record {
       scan = c.next_into.new.self;
-      draft = with_token c.self.inside.draft c.next_into.new.token;
-      status = c.self.inside.status;
-      line = c.self.inside.line;
+      draft = with_token c.self-in-tokens.inside.draft c.next_into.new.token;
+      status = c.self-in-tokens.inside.status;
+      line = c.self-in-tokens.inside.line;
     } =
     c.in_ok-take-in-Ok-true.ensures.ok
     ∙ ap (λ (r : Reader). record { scan = r.scan; draft = with_token r.draft c.next_into.new.token; status = r.status; line = r.line })
     joined in
     let small : open_count c.take.new.self.draft ≤ 1 = open_small c.take.new.self.draft in
     let after : fuel c.take.new.self.scan ≡ fuel c.next_into.new.self = ap (λ (r : Reader). fuel r.scan) taken in
-    let before : fuel c.self.inside.scanner ≡ fuel c.number_of_another_line.new.self.scan = ap
-    (λ (r : Reader). fuel r.scan) c.self.view_is in
+    let before : fuel c.self-in-tokens.inside.scanner ≡ fuel c.number_of_another_line.new.self.scan = ap
+    (λ (r : Reader). fuel r.scan) c.self-in-tokens.view_is in
     let new_scanning : is_scanning c.take.new.self.scan.status ≡ true → is_scanning c.next_into.new.self.status ≡ true =
     λ reading. ap (λ (r : Reader). is_scanning r.scan.status) (sym taken) ∙ reading in
-    let scanning : is_scanning c.take.new.self.scan.status ≡ true → is_scanning c.self.inside.scanner.status ≡ true =
-    λ reading. scanned c.self.inside.scanner c.next_into.new.self c.in-Ok-true.ensures.stopped_scanner (new_scanning reading) in
+    let scanning : is_scanning c.take.new.self.scan.status ≡ true → is_scanning c.self-in-tokens.inside.scanner.status ≡ true =
+    λ reading. scanned c.self-in-tokens.inside.scanner c.next_into.new.self c.in-Ok-true.ensures.stopped_scanner (new_scanning reading) in
     let old_scanning : is_scanning c.take.new.self.scan.status ≡ true → is_scanning c.number_of_another_line.new.self.scan.status ≡ true =
-    λ reading. ap (λ (r : Reader). is_scanning r.scan.status) (sym c.self.view_is) ∙ scanning reading in
+    λ reading. ap (λ (r : Reader). is_scanning r.scan.status) (sym c.self-in-tokens.view_is) ∙ scanning reading in
     record {
       stands = record {
         same = λ told.
@@ -112,9 +115,9 @@ tokens-preserved g c = let stands = Stands-same (c.in-None.ensures.none refl)
             Decides-then (λ bytes more. drafted (ahead c.args.self.now.scan bytes) c.args.self.now.draft
             ≡ drafted (ahead c.take.new.self.scan more) c.take.new.self.draft)
             (stands.same told) gives
-            (λ bytes middle more p q. p ∙ ap (λ (r : Reader). drafted (ahead r.scan middle) r.draft) (sym c.self.view_is)
-            ∙ ap (λ is. drafted is c.self.inside.draft) q
-            ∙ token_goes c.self.inside.draft c.next_into.new.token (ahead c.next_into.new.self more) same
+            (λ bytes middle more p q. p ∙ ap (λ (r : Reader). drafted (ahead r.scan middle) r.draft) (sym c.self-in-tokens.view_is)
+            ∙ ap (λ is. drafted is c.self-in-tokens.inside.draft) q
+            ∙ token_goes c.self-in-tokens.inside.draft c.next_into.new.token (ahead c.next_into.new.self more) same
             ∙ ap (λ (r : Reader). drafted (ahead r.scan more) r.draft) (sym taken));
         scanning = λ reading. stands.scanning (old_scanning reading);
         so_far = λ told reading.
@@ -124,12 +127,21 @@ tokens-preserved g c = let stands = Stands-same (c.in-None.ensures.none refl)
             (stands.same told) gives (stands.so_far told (old_scanning reading))
             (λ more. ap (λ (r : Reader). drafted (broken_off (scan_so_far r.scan
             (gained (g.S.Source.channel c.tokens.source) (g.S.Source.channel c.next_into.new.source) ++ more))) r.draft)
-            (sym c.self.view_is)
-            ∙ ap (λ is. drafted (broken_off is) c.self.inside.draft) (token (new_scanning reading) more)
-            ∙ token_goes c.self.inside.draft c.next_into.new.token (broken_off (scan_so_far c.next_into.new.self more)) same
+            (sym c.self-in-tokens.view_is)
+            ∙ ap (λ is. drafted (broken_off is) c.self-in-tokens.inside.draft) (token (new_scanning reading) more)
+            ∙ token_goes c.self-in-tokens.inside.draft c.next_into.new.token (broken_off (scan_so_far c.next_into.new.self more)) same
             ∙ ap (λ (r : Reader). drafted (broken_off (scan_so_far r.scan more)) r.draft) (sym taken));
-        status = ap (λ (r : Reader). r.status) taken ∙ ap (λ (r : Reader). r.status) c.self.view_is ∙ stands.status;
-        line = ap (λ (r : Reader). r.line) taken ∙ ap (λ (r : Reader). r.line) c.self.view_is ∙ stands.line;
+        leads = λ told.
+            let gives = rw c.in-Ok-true.field-0-test at (c.in-Ok-true.ensures.gives told) in
+            Decides-then (λ bytes more. Leads (wants_ahead c.args.self.now bytes) (wants_ahead c.take.new.self more))
+            (stands.leads told) gives
+            (λ bytes middle more p q. Leads-then p (Leads-by
+            (ap (λ (r : Reader). wants_ahead r middle) (sym c.self-in-tokens.view_is)
+            ∙ ap (λ is. wants_after is c.self-in-tokens.inside.draft) q)
+            (token_leads c.self-in-tokens.inside.draft c.next_into.new.token (ahead c.next_into.new.self more) same)
+            (ap (λ (r : Reader). wants_ahead r more) (sym taken))));
+        status = ap (λ (r : Reader). r.status) taken ∙ ap (λ (r : Reader). r.status) c.self-in-tokens.view_is ∙ stands.status;
+        line = ap (λ (r : Reader). r.line) taken ∙ ap (λ (r : Reader). r.line) c.self-in-tokens.view_is ∙ stands.line;
         less = omega (arith, moves.less, stands.less);
       };
       reads = OnlyReads-then c.tokens.invariant.reads c.next_into.ensures.reads;
@@ -139,38 +151,39 @@ tokens-preserved g c = let stands = Stands-same (c.in-None.ensures.none refl)
 
 pub returns-in-Err-ReadFault-clause-gives : goal.returns-in-Err-ReadFault-clause-gives
 returns-in-Err-ReadFault-clause-gives g c = let stands = Stands-same (c.in-None.ensures.none refl)
-    (Stands-on c.tokens.invariant.stands c.in_ok-take_numbers.ensures.ok) in
+    (Stands-on c.tokens.invariant.stands c.in_ok-take_numbers.ensures.ok c.in_ok-take_numbers.ensures.leads) in
     λ told. Decides-then (λ bytes more. ⊤) (stands.same told) (c.in-Err-ReadFault.ensures.gives told) (λ bytes middle more p q. tt)
 
 pub returns-then-line-clause-so_far : goal.returns-then-line-clause-so_far
 returns-then-line-clause-so_far g c = let stands = Stands-same (c.in-None.ensures.none refl)
-    (Stands-on c.tokens.invariant.stands c.in_ok-take_numbers.ensures.ok) in λ told.
+    (Stands-on c.tokens.invariant.stands c.in_ok-take_numbers.ensures.ok c.in_ok-take_numbers.ensures.leads) in λ told.
     let old : Reader = record {
       scan = c.next_into.new.self;
-      draft = c.self.inside.draft;
-      status = c.self.inside.status;
-      line = c.self.inside.line;
+      draft = c.self-in-tokens.inside.draft;
+      status = c.self-in-tokens.inside.status;
+      line = c.self-in-tokens.inside.line;
     } in
-    let begun : is_open c.self.inside.draft ≡ true = sym c.is_open.ensures ∙ c.if-is_open.true in
-    let differs : (c.self.inside.draft.line == c.next_into.new.token.line) ≡ false = grind (arith, nat_tests) in
-    let inside : is_scanning c.next_into.new.self.status ≡ true → is_scanning c.self.inside.scanner.status ≡ true =
-    λ reading. scanned c.self.inside.scanner c.next_into.new.self c.in-Ok-true.ensures.stopped_scanner reading in
+    let begun : is_open c.self-in-tokens.inside.draft ≡ true = sym c.is_open.ensures ∙ c.if-is_open.true in
+    let differs : (c.self-in-tokens.inside.draft.line == c.next_into.new.token.line) ≡ false = grind (arith, nat_tests) in
+    let inside : is_scanning c.next_into.new.self.status ≡ true → is_scanning c.self-in-tokens.inside.scanner.status ≡ true =
+    λ reading. scanned c.self-in-tokens.inside.scanner c.next_into.new.self c.in-Ok-true.ensures.stopped_scanner reading in
     let scanning : is_scanning c.next_into.new.self.status ≡ true → is_scanning c.number_of_another_line.new.self.scan.status ≡ true =
-    λ reading. ap (λ (r : Reader). is_scanning r.scan.status) (sym c.self.view_is) ∙ inside reading in
+    λ reading. ap (λ (r : Reader). is_scanning r.scan.status) (sym c.self-in-tokens.view_is) ∙ inside reading in
     before_so_far (given c.give_before.new.step c.give_before.result) c.next_into.new.token c.args.self.now old c.give_before.new.self
     (gained (g.S.Source.channel c.args.source.now) (g.S.Source.channel c.next_into.new.source))
     c.give_before.ensures begun differs (λ reading. stands.scanning (scanning reading)) (λ reading.
     let token = rw c.in-Ok-true.field-0-test at (c.in-Ok-true.ensures.so_far told (inside reading)) in
     front-then (so_far c.args.self.now) (so_far c.number_of_another_line.new.self)
-    (λ more. drafted (next_word c.next_into.new.token (broken_off (scan_so_far c.next_into.new.self more))) c.self.inside.draft)
+    (λ more. drafted (next_word c.next_into.new.token (broken_off (scan_so_far c.next_into.new.self more))) c.self-in-tokens.inside.draft)
     (stands.same told) (c.in-Ok-true.ensures.gives told) (stands.so_far told (scanning reading))
     (λ more. ap (λ (r : Reader). drafted (broken_off (scan_so_far r.scan
-    (gained (g.S.Source.channel c.tokens.source) (g.S.Source.channel c.next_into.new.source) ++ more))) r.draft) (sym c.self.view_is)
-    ∙ ap (λ is. drafted (broken_off is) c.self.inside.draft) (token reading more)))
+    (gained (g.S.Source.channel c.tokens.source) (g.S.Source.channel c.next_into.new.source) ++ more))) r.draft)
+    (sym c.self-in-tokens.view_is)
+    ∙ ap (λ is. drafted (broken_off is) c.self-in-tokens.inside.draft) (token reading more)))
 
 pub returns-in-Ok-false-clause-so_far : goal.returns-in-Ok-false-clause-so_far
 returns-in-Ok-false-clause-so_far g c = let stands = Stands-same (c.in-None.ensures.none refl)
-    (Stands-on c.tokens.invariant.stands c.in_ok-take_numbers.ensures.ok) in λ told.
+    (Stands-on c.tokens.invariant.stands c.in_ok-take_numbers.ensures.ok c.in_ok-take_numbers.ensures.leads) in λ told.
     let moves = rw c.in-Ok-false.field-0-test at c.in-Ok-false.ensures.moves in
     let stopped : is_scanning c.give_at_end.new.self.scan.status
     ≡ false = ap (λ (s : Scan). is_scanning s.status) c.give_at_end.ensures.same_scan ∙ ap is_scanning moves in
@@ -179,7 +192,7 @@ returns-in-Ok-false-clause-so_far g c = let stands = Stands-same (c.in-None.ensu
 
 pub returns-in-Err-TooLong-clause-so_far : goal.returns-in-Err-TooLong-clause-so_far
 returns-in-Err-TooLong-clause-so_far g c = let stands = Stands-same (c.in-None.ensures.none refl)
-    (Stands-on c.tokens.invariant.stands c.in_ok-take_numbers.ensures.ok) in λ told.
+    (Stands-on c.tokens.invariant.stands c.in_ok-take_numbers.ensures.ok c.in_ok-take_numbers.ensures.leads) in λ told.
     let moves = rw c.in-Err-TooLong.field-0-is at c.in-Err-TooLong.ensures.moves in
     let stopped : is_scanning c.give_at_limit.new.self.scan.status
     ≡ false = ap (λ (s : Scan). is_scanning s.status) c.give_at_limit.ensures.same_scan ∙ ap is_scanning moves in
@@ -188,27 +201,28 @@ returns-in-Err-TooLong-clause-so_far g c = let stands = Stands-same (c.in-None.e
 
 pub returns-in-Err-ReadFault-clause-so_far : goal.returns-in-Err-ReadFault-clause-so_far
 returns-in-Err-ReadFault-clause-so_far g c = let stands = Stands-same (c.in-None.ensures.none refl)
-    (Stands-on c.tokens.invariant.stands c.in_ok-take_numbers.ensures.ok) in λ told.
+    (Stands-on c.tokens.invariant.stands c.in_ok-take_numbers.ensures.ok c.in_ok-take_numbers.ensures.leads) in λ told.
     let bytes : List ℕ = gained (g.S.Source.channel c.tokens.source) (g.S.Source.channel c.next_into.new.source) in
-    let reading : c.self.inside.status ≡ Reading = ap (λ (r : Reader). r.status) c.self.view_is ∙ stands.status in
+    let reading : c.self-in-tokens.inside.status ≡ Reading = ap (λ (r : Reader). r.status) c.self-in-tokens.view_is ∙ stands.status in
     let failed : answer c.next_into.new.token c.next_into.result
     ≡ Err ScanFault = ap (answer c.next_into.new.token) (c.in-Err-ReadFault.is ∙ ap Err c.in-Err-ReadFault.field-0-is) in
-    let inside : is_scanning c.self.inside.scanner.status ≡ true =
-    scanned_fault c.self.inside.scanner (c.self.invariant reading) (λ stopped. sym (c.next_into.ensures.stopped_answer stopped) ∙ failed) in
+    let inside : is_scanning c.self-in-tokens.inside.scanner.status ≡ true =
+    scanned_fault c.self-in-tokens.inside.scanner (c.self-in-tokens.invariant reading)
+    (λ stopped. sym (c.next_into.ensures.stopped_answer stopped) ∙ failed) in
     let scanning : is_scanning c.number_of_another_line.new.self.scan.status
-    ≡ true = ap (λ (r : Reader). is_scanning r.scan.status) (sym c.self.view_is) ∙ inside in
+    ≡ true = ap (λ (r : Reader). is_scanning r.scan.status) (sym c.self-in-tokens.view_is) ∙ inside in
     let none = rw c.in-Err-ReadFault.field-0-is at (c.in-Err-ReadFault.ensures.so_far told inside) in (
       stands.scanning scanning,
       ap (so_far c.args.self.now) (gained-then (stands.same told) (c.in-Err-ReadFault.ensures.gives told))
           ∙ stands.so_far told scanning bytes
-          ∙ ap (λ (r : Reader). drafted (broken_off (scan_so_far r.scan bytes)) r.draft) (sym c.self.view_is)
-          ∙ ap (λ is. drafted (broken_off is) c.self.inside.draft) none
-          ∙ off_overlong c.self.inside.draft c.next_into.new.self.lex.line,
+          ∙ ap (λ (r : Reader). drafted (broken_off (scan_so_far r.scan bytes)) r.draft) (sym c.self-in-tokens.view_is)
+          ∙ ap (λ is. drafted (broken_off is) c.self-in-tokens.inside.draft) none
+          ∙ off_overlong c.self-in-tokens.inside.draft c.next_into.new.self.lex.line,
     )
 
 pub returns-in-Some-clause-gives : goal.returns-in-Some-clause-gives
 returns-in-Some-clause-gives g c = λ told.
-    let stands = Stands-on c.tokens.invariant.stands c.in_ok-take_numbers.ensures.ok in
+    let stands = Stands-on c.tokens.invariant.stands c.in_ok-take_numbers.ensures.ok c.in_ok-take_numbers.ensures.leads in
     let begins = c.in-Some.ensures.some in
     let settles = rw (read_back c.in-Some.number begins.took.small) at c.give_before_number.ensures in
     let answered = given c.give_before_number.new.step c.give_before_number.result in
@@ -222,10 +236,123 @@ returns-in-Some-clause-gives g c = λ told.
 
 pub returns-in-Some-clause-so_far : goal.returns-in-Some-clause-so_far
 returns-in-Some-clause-so_far g c = λ told.
-    let stands = Stands-on c.tokens.invariant.stands c.in_ok-take_numbers.ensures.ok in
+    let stands = Stands-on c.tokens.invariant.stands c.in_ok-take_numbers.ensures.ok c.in_ok-take_numbers.ensures.leads in
     let begins = c.in-Some.ensures.some in
     let settles = rw (read_back c.in-Some.number begins.took.small) at c.give_before_number.ensures in
     number_so_far c.in-Some.number c.take_numbers.new.self c.number_of_another_line.new.self c.give_before_number.new.self begins
     (given c.give_before_number.new.step c.give_before_number.result) settles
     c.args.self.now (gained (g.S.Source.channel c.args.source.now) (g.S.Source.channel c.tokens.source)) stands.scanning
     (stands.so_far told)
+
+pub returns-then-line-clause-spends : goal.returns-then-line-clause-spends
+returns-then-line-clause-spends g c = let stands = Stands-same (c.in-None.ensures.none refl)
+    (Stands-on c.tokens.invariant.stands c.in_ok-take_numbers.ensures.ok c.in_ok-take_numbers.ensures.leads) in λ told.
+    let old : Reader = record {
+      scan = c.next_into.new.self;
+      draft = c.self-in-tokens.inside.draft;
+      status = c.self-in-tokens.inside.status;
+      line = c.self-in-tokens.inside.line;
+    } in
+    let gives = rw c.in-Ok-true.field-0-test at (c.in-Ok-true.ensures.gives told) in
+    let begun : is_open c.self-in-tokens.inside.draft ≡ true = sym c.is_open.ensures ∙ c.if-is_open.true in
+    let differs : (c.self-in-tokens.inside.draft.line == c.next_into.new.token.line) ≡ false = grind (arith, nat_tests) in
+    call_spends (given c.give_before.new.step c.give_before.result) c.args.self.now c.number_of_another_line.new.self c.give_before.new.self
+    (stands.leads told) gives
+    (λ middle more q. rw (← c.self-in-tokens.view_is, q)
+    (before_spends (given c.give_before.new.step c.give_before.result) c.next_into.new.token old c.give_before.new.self
+    c.give_before.ensures begun differs c.unread_law-in-Ok-true.ensures more))
+
+pub returns-in-Ok-false-clause-spends : goal.returns-in-Ok-false-clause-spends
+returns-in-Ok-false-clause-spends g c = let stands = Stands-same (c.in-None.ensures.none refl)
+    (Stands-on c.tokens.invariant.stands c.in_ok-take_numbers.ensures.ok c.in_ok-take_numbers.ensures.leads) in λ told.
+    let old : Reader = record {
+      scan = c.next_into.new.self;
+      draft = c.self-in-tokens.inside.draft;
+      status = c.self-in-tokens.inside.status;
+      line = c.self-in-tokens.inside.line;
+    } in
+    let gives = rw c.in-Ok-false.field-0-test at (c.in-Ok-false.ensures.gives told) in
+    let end = c.give_at_end.ensures in
+    call_spends (given c.give_at_end.new.step c.give_at_end.result) c.args.self.now c.number_of_another_line.new.self c.give_at_end.new.self
+    (stands.leads told) gives
+    (λ middle more q. rw (← c.self-in-tokens.view_is, q.0)
+    (end_spends (given c.give_at_end.new.step c.give_at_end.result) old c.give_at_end.new.self end.last
+    (λ h. ap (given c.give_at_end.new.step) (end.ended h)) more q.1))
+
+pub returns-in-Err-TooLong-clause-spends : goal.returns-in-Err-TooLong-clause-spends
+returns-in-Err-TooLong-clause-spends g c = let stands = Stands-same (c.in-None.ensures.none refl)
+    (Stands-on c.tokens.invariant.stands c.in_ok-take_numbers.ensures.ok c.in_ok-take_numbers.ensures.leads) in λ told.
+    let old : Reader = record {
+      scan = c.next_into.new.self;
+      draft = c.self-in-tokens.inside.draft;
+      status = c.self-in-tokens.inside.status;
+      line = c.self-in-tokens.inside.line;
+    } in
+    let gives = rw c.in-Err-TooLong.field-0-is at (c.in-Err-TooLong.ensures.gives told) in
+    let limit = c.give_at_limit.ensures in
+    call_spends (given c.give_at_limit.new.step c.give_at_limit.result) c.args.self.now c.number_of_another_line.new.self
+    c.give_at_limit.new.self (stands.leads told) gives
+    (λ middle more q. rw (← c.self-in-tokens.view_is, q.0)
+    (limit_spends (given c.give_at_limit.new.step c.give_at_limit.result) old c.give_at_limit.new.self limit.last
+    (λ h. ap (given c.give_at_limit.new.step) (limit.over h)) more q.1))
+
+pub returns-in-Err-ReadFault-clause-spends : goal.returns-in-Err-ReadFault-clause-spends
+returns-in-Err-ReadFault-clause-spends g c = let stands = Stands-same (c.in-None.ensures.none refl)
+    (Stands-on c.tokens.invariant.stands c.in_ok-take_numbers.ensures.ok c.in_ok-take_numbers.ensures.leads) in
+    λ told. Decides-then (λ bytes more. ⊤) (stands.same told) (c.in-Err-ReadFault.ensures.gives told) (λ bytes middle more p q. tt)
+
+pub returns-in-Some-clause-spends : goal.returns-in-Some-clause-spends
+returns-in-Some-clause-spends g c = λ told.
+    let stands = Stands-on c.tokens.invariant.stands c.in_ok-take_numbers.ensures.ok c.in_ok-take_numbers.ensures.leads in
+    let begins = c.in-Some.ensures.some in
+    let settles = rw (read_back c.in-Some.number begins.took.small) at c.give_before_number.ensures in
+    let answered = given c.give_before_number.new.step c.give_before_number.result in
+    Decides-map (λ bytes more. Spends answered (length more) (wants_ahead c.args.self.now bytes)
+    (wants_ahead c.give_before_number.new.self more)) (stands.leads told)
+    (λ bytes more p. led answered (length more) _ _ _ p
+    (number_spends c.in-Some.number c.take_numbers.new.self c.number_of_another_line.new.self c.give_before_number.new.self begins answered
+    settles (subst (λ (r : Reader). length r.scan.unread ≤ block_size) c.self.view_is c.unread_law.ensures) more))
+
+-- memory was wanted for a number
+pub returns-in_err-take_numbers-clause-spends : goal.returns-in_err-take_numbers-clause-spends
+returns-in_err-take_numbers-clause-spends g c = λ told.
+    let came = c.in_err-take_numbers.ensures.err in
+    let memory : c.in_err-take_numbers.field-0.0 ≡ OutOfMemory = cc in
+    Decides-map _ (c.tokens.invariant.stands.leads told)
+    (λ bytes more p. handed_spends c.tokens.step c.from_residual.result c.in_err-take_numbers.field-0.0 c.from_residual.ensures.1 memory
+    (length more) _ _ (p.wants (length more) (c.in_err-take_numbers.ensures.wants more)))
+
+pub returns-in_err-take-in-Ok-true-clause-spends : goal.returns-in_err-take-in-Ok-true-clause-spends
+returns-in_err-take-in-Ok-true-clause-spends g c = let stands = Stands-same (c.in-None.ensures.none refl)
+    (Stands-on c.tokens.invariant.stands c.in_ok-take_numbers.ensures.ok c.in_ok-take_numbers.ensures.leads) in
+    let old : Reader = record {
+      scan = c.next_into.new.self;
+      draft = c.self-in-tokens.inside.draft;
+      status = c.self-in-tokens.inside.status;
+      line = c.self-in-tokens.inside.line;
+    } in
+    let joined : c.else-is_open.self ≡ old =
+    elim c.else-is_open.branch [ else-is_open-via-then-is_open+else-line w ↦ w.self-is | else-is_open-via-else-is_open w ↦ w.self-is ] in
+    let same : is_open c.self-in-tokens.inside.draft ≡ true → (c.self-in-tokens.inside.draft.line == c.next_into.new.token.line) ≡ true =
+    elim c.else-is_open.branch [
+      | else-is_open-via-then-is_open+else-line w ↦ λ h. grind (arith, nat_tests)
+      | else-is_open-via-else-is_open w ↦ λ h. cc
+    ] in
+    let begun : is_open c.self-in-tokens.inside.draft ≡ true = ap (λ (r : Reader). is_open r.draft) (sym joined)
+    ∙ c.in_err-take-in-Ok-true.ensures.begun in
+    let keeps : keeps_number (draft_with c.self-in-tokens.inside.draft c.next_into.new.token).numbers ≡ true =
+    ap (λ (r : Reader). keeps_number (draft_with r.draft c.next_into.new.token).numbers) (sym joined)
+    ∙ c.in_err-take-in-Ok-true.ensures.memory in
+    let came = c.in_err-take-in-Ok-true.ensures.err in
+    let memory : c.in_err-take-in-Ok-true.field-0.0 ≡ OutOfMemory = cc in
+    λ told.
+    let gives = rw c.in-Ok-true.field-0-test at (c.in-Ok-true.ensures.gives told) in
+    Decides-then _ (stands.leads told) gives
+    (λ bytes middle more p q. handed_spends c.tokens.step c.from_residual-in_err-take-in-Ok-true.result c.in_err-take-in-Ok-true.field-0.0
+    c.from_residual-in_err-take-in-Ok-true.ensures.1 memory (length more) _ _ (p.wants (length more)
+    (subst (λ w. IsTrue (may_want (length more) w))
+    (sym (ap (λ (r : Reader). wants_ahead r middle) (sym c.self-in-tokens.view_is)
+    ∙ ap (λ is. wants_after is c.self-in-tokens.inside.draft) q))
+    (token_wants (length more) c.self-in-tokens.inside.draft c.next_into.new.token (ahead c.next_into.new.self more) begun (same begun)
+    keeps (near_ahead c.next_into.new.self (draft_with c.self-in-tokens.inside.draft c.next_into.new.token) more
+    c.unread_law-in-Ok-true.ensures)))))

@@ -1,0 +1,13 @@
+-- What is left of a block is no longer than the block.
+use Rattle.std.proofs.Common.{◌≡◌, ◌≤◌, ◌-◌, length, length-drop, drop, take, arith}
+use Rattle.std.proofs.lemmas.List.{length-take-le}
+use Rattle.text_scan.specs.Scan.{block_size}
+use Rattle.text_scan.proofs.scanner.Scanner.unread_law.Goals as goal
+
+pub returns : goal.returns
+returns c =
+    let taken : length (take c.self.inside.end c.self.inside.block) ≡ c.self.inside.end =
+    length-take-le c.self.inside.end c.self.inside.block (omega (arith, c.self.invariant.in_block, c.self.invariant.size)) in
+    let left : length (drop c.self.inside.at (take c.self.inside.end c.self.inside.block)) ≤ block_size =
+    omega (arith, length-drop c.self.inside.at (take c.self.inside.end c.self.inside.block), taken, c.self.invariant.in_block) in
+    rw (← c.self.view_is) left
