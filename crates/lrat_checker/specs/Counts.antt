@@ -1,17 +1,14 @@
 -- How often literals stand in the live clauses.
-use Rattle.std.specs.Prelude.{ℕ, zero, suc, ◌+◌, ◌≤◌, ℤ, List, Option, None, Some, count_by, nat_lt, slice_index_or, if◌then◌else◌}
+use Rattle.std.specs.Prelude.{ℕ, zero, suc, ◌+◌, ◌≤◌, ℤ, List, Option, None, Some, count_by}
 use Rattle.std.specs.Option.{unwrap_or}
 use Rattle.std.specs.Ordering.{int_eq}
-use Rattle.std.specs.HashMap as hash
 use Rattle.lrat_rules.specs.State.{Live, clause_at}
-use Rattle.lrat_rules.specs.Flags.{place_of, near_places}
+use Rattle.lrat_rules.specs.ByLiteral.{entry}
 use Rattle.lrat_checker.specs.declared.counts.Counts.{Counts}
 
 -- the count of this literal
 unfoldable pub count_of : Counts → ℤ → ℕ
-count_of counts literal =
-    if nat_lt (place_of literal) near_places then slice_index_or counts.near.items (place_of literal) 0 else unwrap_or
-    (hash.get int_eq counts.far literal) 0
+count_of counts literal = unwrap_or (entry counts.0 literal) 0
 
 -- how often the literal stands in a clause
 abbrev pub times_in : ℤ → List ℤ → ℕ

@@ -7,6 +7,7 @@ pub mod Strict
 pub mod Soundness
 pub mod Marks
 pub mod FalseLiterals
+pub mod ByLiteral
 pub mod Flags
 pub mod Trail
 pub mod Pass

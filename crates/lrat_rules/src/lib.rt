@@ -3,6 +3,7 @@
 //! (Cruz-Filipe, Heule, Hunt, Kaufmann, Schneider-Kamp: Efficient Certified RAT Verification, CADE 2017.)
 #![tactic(auto)]
 
+mod by_literal;
 mod chain;
 mod effect;
 mod examples;
@@ -12,10 +13,10 @@ mod outcome;
 mod soundness;
 mod trail;
 
+pub use by_literal::ByLiteral;
 pub use chain::Chain;
 pub use effect::{effect_on, is_among};
 pub use examples::{refutation_example, resolvent_example};
-pub use flags::{NEAR_PLACES, place_of};
 pub use laws::{
     conflict_law, definition_law, derivation_law, live_law, marks_law, refuted_law, start_law,
     strict_addition_law,
