@@ -34,7 +34,7 @@ pub use host::Host;
 pub use host_sink::HostSink;
 pub use host_source::HostSource;
 pub use law::beside_kept;
-pub use memory_host::{MemoryHost, OutOfMemory};
+pub use memory_host::{HostOutOfMemory, MemoryHost};
 pub use no_sink::NoSink;
 pub use real_host::RealHost;
 pub use role::Role;

@@ -19,17 +19,17 @@ use thiserror::Error;
 /// No memory was left.
 #[derive(Clone, Copy, Debug, PartialEq, Eq, Error)]
 #[error("out of memory")]
-pub struct OutOfMemory;
+pub struct HostOutOfMemory;
 
-impl From<AllocError> for OutOfMemory {
+impl From<AllocError> for HostOutOfMemory {
     fn from(_: AllocError) -> Self {
-        OutOfMemory
+        HostOutOfMemory
     }
 }
 
-impl<T: Drop> From<AllocFailed<T>> for OutOfMemory {
+impl<T: Drop> From<AllocFailed<T>> for HostOutOfMemory {
     fn from(_: AllocFailed<T>) -> Self {
-        OutOfMemory
+        HostOutOfMemory
     }
 }
 
@@ -89,7 +89,7 @@ impl MemoryHost {
     }
 
     /// Adds a file, or replaces the one of this name.
-    pub fn add_file(&mut self, name: &str, bytes: &[u8]) -> Result<(), OutOfMemory>
+    pub fn add_file(&mut self, name: &str, bytes: &[u8]) -> Result<(), HostOutOfMemory>
         requires { IsUnnamed self.old }
         ensures ok { OnOk result (AddsFile self.old self.new name.now bytes.now) }
         ensures err { OnErr result (self.new ≡ self.old) }

@@ -6,13 +6,13 @@ ghost use Rattle.host_io.specs.Failing as failing;
 ghost use Rattle.host_io.specs.Memory.{channel_of, fresh};
 
 use crate::calls::{loaded, put_twice};
-use host_io::{FailingHost, MemoryHost, OutOfMemory, Role, put};
+use host_io::{FailingHost, HostOutOfMemory, MemoryHost, Role, put};
 use std::alloc::{AllocError, Global};
 use std::process::Abort;
 use std::test::Fail;
 
 // A host with two files, of which the first was replaced.
-fn two_files(alloc: Global) -> Result<MemoryHost, OutOfMemory>
+fn two_files(alloc: Global) -> Result<MemoryHost, HostOutOfMemory>
     ensures { IfOk result (λ host. (role : Role) → channel_of host role ≡ fresh) }
 {
     let mut host = MemoryHost::new(alloc);
@@ -112,7 +112,7 @@ fn reads_fail_by_plan(rt: HostRuntime) -> Result<(), Fail> {
 }
 
 // Two calls that fail.
-fn two_fails(alloc: Global) -> Result<Vec<(Role, u64)>, OutOfMemory> {
+fn two_fails(alloc: Global) -> Result<Vec<(Role, u64)>, HostOutOfMemory> {
     let mut fails = Vec::new(alloc);
     fails.push((Role::Made, 1))?;
     fails.push((Role::ProofOut, 3))?;

@@ -6,9 +6,9 @@ ghost use Rattle.lrat_rules.specs.FalseLiterals.{set_of, before_of};
 ghost use Rattle.lrat_checker.specs.Ends.{outcome_at};
 ghost use Rattle.lrat_checker.specs.Memory.{judging_keeps, kept_after_hints};
 
-use crate::groups::resolvents_fault;
-use crate::hints::{HintsEnd, run_hints};
 use crate::live::IndexedClauses;
+use crate::propagation::{HintsEnd, run_hints};
+use crate::resolvents::resolvents_fault;
 use cnf_base::{Group, Id, Lit, OutOfMemory};
 use lrat_rules::{Chain, Reason};
 

@@ -3,13 +3,13 @@ ghost use Rattle.std.specs.Prelude.{◌≡◌, IfOk};
 ghost use Rattle.host_io.specs.declared.role.Role.{Role};
 ghost use Rattle.host_io.specs.Memory.{channel_of, fresh};
 
-use host_io::{FailingHost, MemoryHost, OutOfMemory, Role};
+use host_io::{FailingHost, HostOutOfMemory, MemoryHost, Role};
 use solver_cli::Status;
 use std::alloc::{AllocError, Global};
 
 /// A host that has this formula in `in.cnf` and this proof in `in.lrat`, an order of no variables in `order`, and a schedule of
 /// one clause in `schedule`; two orders of three variables in `natural` and `turned`, and a schedule for three clauses in `moves`.
-pub fn host_of(alloc: Global, formula: &[u8], proof: &[u8]) -> Result<MemoryHost, OutOfMemory>
+pub fn host_of(alloc: Global, formula: &[u8], proof: &[u8]) -> Result<MemoryHost, HostOutOfMemory>
     ensures { IfOk result (λ host. (role : Role) → channel_of host role ≡ fresh) }
 {
     let mut host = MemoryHost::new(alloc);

@@ -4,7 +4,7 @@ use Rattle.std.specs.Prelude.{IsTrue}
 use Rattle.lrat_rules.specs.Addition.{groups_fault}
 use Rattle.lrat_rules.specs.FalseLiterals.{set_of, before_of}
 use Rattle.lrat_checker.specs.Memory.{groups_keep}
-use Rattle.lrat_checker.proofs.groups.groups_fault.Given as goal
+use Rattle.lrat_checker.proofs.resolvents.groups_fault.Given as goal
 
 -- what the rest gives is what the whole gives, and where the rest keeps literals, the whole does
 abbrev pub invariant-loop-group : goal.invariant-loop-group

@@ -4,7 +4,7 @@ use Rattle.std.specs.Prelude.{IsTrue}
 use Rattle.lrat_rules.specs.Chain.{chain as chain_of}
 use Rattle.lrat_rules.specs.FalseLiterals.{set_of, before_of}
 use Rattle.lrat_checker.specs.Memory.{forces_literal}
-use Rattle.lrat_checker.proofs.hints.run_hints.Given as goal
+use Rattle.lrat_checker.proofs.propagation.run_hints.Given as goal
 
 -- what the rest gives is what the whole gives, and where the rest forces a literal, the whole does
 abbrev pub invariant-loop-hint : goal.invariant-loop-hint

@@ -3,7 +3,7 @@ use Rattle.std.proofs.Common.{◌≡◌, true, false, sym, rules}
 use Rattle.lrat_rules.specs.Addition.{holds_negated, is_blocked_by}
 use Rattle.lrat_rules.specs.FalseLiterals.{set_of}
 use Rattle.lrat_checker.proofs.GroupFaults.{group_fault-stray, group_fault-blocked, group_fault-candidate}
-use Rattle.lrat_checker.proofs.groups.group_fault.Goals as goal
+use Rattle.lrat_checker.proofs.resolvents.group_fault.Goals as goal
 
 pub returns-then-not-contains-clause-fault : goal.returns-then-not-contains-clause-fault
 returns-then-not-contains-clause-fault c =

@@ -6,8 +6,8 @@ ghost use Rattle.lrat_rules.specs.Addition.{with_candidate, outcome_fault, group
 ghost use Rattle.lrat_rules.specs.FalseLiterals.{set_of, before_of};
 ghost use Rattle.lrat_checker.specs.Memory.{candidate_keeps, group_keeps, groups_keep};
 
-use crate::hints::{HintsEnd, run_hints};
 use crate::live::IndexedClauses;
+use crate::propagation::{HintsEnd, run_hints};
 use cnf_base::{Group, Id, Lit, OutOfMemory};
 use lrat_rules::{Chain, Reason};
 
