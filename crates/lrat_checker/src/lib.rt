@@ -17,8 +17,6 @@ mod live;
 mod numbers;
 mod propagation;
 mod resolvents;
-mod propagation;
-mod resolvents;
 mod slot;
 mod text;
 mod verdict;
