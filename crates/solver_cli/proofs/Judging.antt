@@ -1,28 +1,44 @@
 -- What the check of an opened proof says of the run.
-use Rattle.std.proofs.Common.{◌≡◌, ℕ, ℤ, Bool, List, [], length, refl, sym, ap, ◌∙◌, subst, arith, None, Some, Err, IsTrue, IsOk, inl, inr}
-use Rattle.std.specs.Prelude.{◌≢◌, Result, IsErr, ⊤, drop}
+use Rattle.std.proofs.Common.{◌≡◌, ℕ, ◌+◌, ◌-◌, ℤ, Bool, List, [], length, length-append, refl, sym, ap, ◌∙◌, subst, arith, None, Some}
+use Rattle.std.proofs.Common.{Err, IsTrue, IsOk, inl, inr}
+use Rattle.std.specs.Prelude.{◌≢◌, ◌⊎◌, Result, IsErr, ⊤, drop}
 use Rattle.host_io.specs.Channel.{Channel, Rose}
 use Rattle.host_io.specs.Files.{Files, Opens}
 use Rattle.host_io.specs.declared.source.Failed.{Failed}
-use Rattle.text_scan.specs.Decides.{gained, Decides, OnlyReads, Decides-whole, Decides-taken}
+use Rattle.text_scan.specs.Decides.{gained, gained-none, Decides, OnlyReads, Decides-whole, Decides-taken}
 use Rattle.lrat_checker.specs.TextVerdict.{text_verdict, verdict_so_far, Answers}
 use Rattle.lrat_checker.specs.declared.verdict.Verdict.{Verdict}
 use Rattle.lrat_checker.specs.declared.verdict.CheckError.{CheckError}
-use Rattle.lrat_checker.specs.declared.verdict.CheckError.TheVariants.{ReadFault}
-use Rattle.solver_cli.specs.Phases.{ChecksProof, JudgesProof}
+use Rattle.lrat_checker.specs.declared.verdict.CheckError.TheVariants.{ReadFault, OutOfMemory}
+use Rattle.lrat_checker.specs.Memory.{check_may_want_memory}
+use Rattle.solver_cli.specs.Phases.{ChecksProof, JudgesProof, WantsProof}
 use Rattle.solver_cli.proofs.Reading.{none_taken, rose_since}
+
+-- want of memory, as the check tells it
+abbrev pub Wanted : List (List ℤ) → Channel → Channel → Type 0
+Wanted clauses old new = (new ≡ old) ⊎ Decides old new (λ bytes more. IsTrue (check_may_want_memory clauses (length more) bytes))
+
+wanted_by : (clauses : List (List ℤ)) (old new : Channel) → Wanted clauses old new → WantsProof clauses old.left (gained old new)
+wanted_by clauses old new (inl same) = inl (ap (gained old) same ∙ gained-none old)
+wanted_by clauses old new (inr decides) =
+    let parts : length old.left ≡ length (gained old new) + length new.left = ap length decides.left
+    ∙ length-append (gained old new) new.left in
+    let behind : length new.left ≡ length old.left - length (gained old new) = omega (arith, parts) in
+    inr (subst (λ n. IsTrue (check_may_want_memory clauses n old.left)) behind (Decides-whole decides), Decides-taken decides)
 
 seen : (tells : Bool) (old new : Channel) (clauses : List (List ℤ)) (result : Result Verdict CheckError)
     → (IsTrue tells → Decides old new (λ bytes more. Answers result (text_verdict clauses bytes)))
     → (result ≡ Err ReadFault → Rose old.faults new.faults) → (result ≢ Err ReadFault → new.faults ≡ old.faults)
-    → (IsTrue tells → result ≡ Err ReadFault → verdict_so_far clauses (gained old new) ≡ None) → OnlyReads old new
+    → (IsTrue tells → result ≡ Err ReadFault → verdict_so_far clauses (gained old new) ≡ None)
+    → (IsTrue tells → result ≡ Err OutOfMemory → Wanted clauses old new) → OnlyReads old new
     → ChecksProof tells old new clauses result
-seen tells old new clauses result decides fault unfailed undecided reads = record {
+seen tells old new clauses result decides fault unfailed undecided memory reads = record {
   judged = λ t. Decides-whole (decides t);
   decided = λ t. Decides-taken (decides t);
   fault = fault;
   unfailed = unfailed;
   undecided = undecided;
+  memory = λ t e. wanted_by clauses old new (memory t e);
   written = reads.written;
   name = reads.name;
   faults = reads.faults;
@@ -32,13 +48,14 @@ pub checked : {tells : Bool} {seen_old seen_new old new : Channel} {clauses : Li
     ≡ old → new ≡ seen_new
     → (IsTrue tells → Decides seen_old seen_new (λ bytes more. Answers result (text_verdict clauses bytes)))
     → (result ≡ Err ReadFault → Rose seen_old.faults seen_new.faults) → (result ≢ Err ReadFault → seen_new.faults ≡ seen_old.faults)
-    → (IsTrue tells → result ≡ Err ReadFault → verdict_so_far clauses (gained seen_old seen_new) ≡ None) → OnlyReads seen_old seen_new
+    → (IsTrue tells → result ≡ Err ReadFault → verdict_so_far clauses (gained seen_old seen_new) ≡ None)
+    → (IsTrue tells → result ≡ Err OutOfMemory → Wanted clauses seen_old seen_new) → OnlyReads seen_old seen_new
     → ChecksProof tells old new clauses result
 checked {tells = tells} {seen_old = seen_old} {seen_new = seen_new} {old = old} {new = new} {clauses = clauses} {result = result} from to
-    decides fault unfailed undecided reads =
+    decides fault unfailed undecided memory reads =
     subst (λ (o : Channel). ChecksProof tells o new clauses result) from
     (subst (λ (n : Channel). ChecksProof tells seen_old n clauses result) (sym to)
-    (seen tells seen_old seen_new clauses result decides fault unfailed undecided reads))
+    (seen tells seen_old seen_new clauses result decides fault unfailed undecided memory reads))
 
 empty_text : (clauses : List (List ℤ)) → verdict_so_far clauses [] ≡ None
 empty_text clauses = refl
@@ -70,6 +87,7 @@ judged {tells = tells} {old = old} {opened = opened} {new = new} {clauses = clau
         stands = content t;
         judged = checks.judged t;
         decided = subst (λ (l : List ℕ). Answers result (text_verdict clauses l)) same (checks.decided t);
+        memory = λ e. subst (WantsProof clauses opened.left) same (checks.memory t e);
       });
       fault = λ e. rose_since opens.faults.no_less (checks.fault e);
       unfailed = λ no. checks.unfailed no ∙ opens.faults.unfailed ok;

@@ -30,6 +30,7 @@ judged_in {file = file} files before same judges = record {
           ∙ text.stands;
       judged = text.judged;
       decided = text.decided;
+      memory = text.memory;
     })
   ];
   fault = judges.fault;

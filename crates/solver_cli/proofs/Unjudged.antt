@@ -118,5 +118,11 @@ unjudged laws run task asked u = go u.error u.judges u.ends where
     given = asked;
     problem = u.problem;
     asks = read;
+    wants = λ t. let text = text_of t in (text.bytes, (text.stands, text.memory refl));
     before_answer = u.out;
-  })))))))) ends
+  })))))))) ends where
+    no_fault : ◌≡◌ {A = Result Verdict CheckError} (Err error.OutOfMemory) (Err error.ReadFault) → ⊥
+    no_fault e = cc
+
+    text_of : IsTrue run.tells → JudgesText run.files task.proof u.problem.clauses (taken_in run ProofIn) (Err error.OutOfMemory)
+    text_of t = elim (judges.read t) [ inl e ↦ absurd (no_fault e) | inr text ↦ text ]

@@ -42,7 +42,7 @@ use Rattle.solver_cli.specs.ErrorText.{error_text, is_answer}
 use Rattle.workload.specs.Board.{board_formula}
 use Rattle.solver_cli.specs.Answer.{AreGiven, AreOfBoard, IsRead, IsOrdered, IsOrderOf, Holds, answer_text, outcome_at, status_of}
 use Rattle.solver_cli.specs.MadeText.{made_text, order_line}
-use Rattle.solver_cli.specs.Phases.{WantsRead, buckets_file, cnf_wants, order_wants, schedule_wants}
+use Rattle.solver_cli.specs.Phases.{WantsProof, WantsRead, buckets_file, cnf_wants, order_wants, schedule_wants}
 use Rattle.solver_cli.specs.Verdict.{verdict_text, status_of_verdict}
 
 -- One run of the program: whether the host tells its bytes, the words, the roles and the files before, the roles
@@ -440,12 +440,14 @@ pub record DecisionWantsMemory (run : Run) : Type 0 where
   pub created : (run.after ProofOut).name ≢ None
   pub before_answer : run.after Out ≡ run.before Out
 
--- For judging a proof, or for making an order, once the formula was accepted.
+-- For judging a proof, once the formula was accepted: its text may want it, or none of it was taken yet. Or for making an order.
 pub record VerdictWantsMemory (run : Run) : Type 0 where
   pub task : ToCheck
   pub given : command run.words ≡ Some (Check task)
   pub problem : Formula
   pub asks : IsTrue run.tells → AsksOver run (Check task) (formula problem)
+  pub wants : IsTrue run.tells → (bytes : List ℕ) × (run.files task.proof ≡ Some bytes)
+      × WantsProof problem.clauses bytes (taken_in run ProofIn)
   pub before_answer : run.after Out ≡ run.before Out
 
 pub record ArrangingWantsMemory (run : Run) : Type 0 where

@@ -1,6 +1,6 @@
 -- The parts of a run, each over the one role that it serves.
 use Rattle.std.specs.Prelude.{◌≡◌, ◌≢◌, ◌⊎◌, ◌≤◌, ◌++◌, ℕ, Bool, true, false, List, [], Option, None, Some, Result, Ok, Err, length, IsTrue}
-use Rattle.std.specs.Prelude.{IsOk, IsErr}
+use Rattle.std.specs.Prelude.{IsOk, IsErr, ◌-◌}
 use Rattle.std.specs.Prelude.{IfOk, IfErr, ℤ, ⊤}
 use Rattle.cnf_base.specs.Formula.{Formula, IsFormula}
 use Rattle.host_io.specs.declared.source.Failed.{Failed}
@@ -17,7 +17,8 @@ use Rattle.dimacs_reader.specs.declared.error.CnfError.TheVariants.{ReadFault as
 use Rattle.lrat_checker.specs.TextVerdict.{text_verdict, verdict_so_far, Answers}
 use Rattle.lrat_checker.specs.declared.verdict.Verdict.{Verdict}
 use Rattle.lrat_checker.specs.declared.verdict.CheckError.{CheckError}
-use Rattle.lrat_checker.specs.declared.verdict.CheckError.TheVariants.{ReadFault as CheckReadFault}
+use Rattle.lrat_checker.specs.declared.verdict.CheckError.TheVariants.{ReadFault as CheckReadFault, OutOfMemory as CheckOutOfMemory}
+use Rattle.lrat_checker.specs.Memory.{check_may_want_memory}
 use Rattle.cnf_base.specs.Order.{natural as natural_order}
 use Rattle.schedule_plan.specs.OrderText.{overlong as unread_order, order_text, order_so_far}
 use Rattle.schedule_plan.specs.OrderReader.{Answers as OrderAnswers, WantsMemory as OrderWantsMemory}
@@ -213,6 +214,11 @@ pub record HasPlan (problem : Formula) (given : List ℕ) (buckets : Option (Lis
   pub bucketed : (file : List ℕ) → asked ≡ ByBuckets file → MakesByBuckets problem given buckets old new result
   pub found : asked ≡ Found → Finds problem old new result
 
+-- Memory was wanted for a proof: before its first byte was taken, or at a place of the whole text, and already of the bytes taken.
+abbrev pub WantsProof : List (List ℤ) → List ℕ → List ℕ → Type 0
+WantsProof clauses bytes taken = (taken ≡ [])
+    ⊎ (IsTrue (check_may_want_memory clauses (length bytes - length taken) bytes) × IsTrue (check_may_want_memory clauses 0 taken))
+
 -- The answer of the check is the verdict of the text in the opened proof's file, and already of the bytes taken; where a
 -- call on it failed, these decide nothing yet.
 pub record ChecksProof (tells : Bool) (old new : Channel) (clauses : List (List ℤ)) (result : Result Verdict CheckError) : Type 0 where
@@ -221,6 +227,7 @@ pub record ChecksProof (tells : Bool) (old new : Channel) (clauses : List (List 
   pub fault : result ≡ Err CheckReadFault → Rose old.faults new.faults
   pub unfailed : result ≢ Err CheckReadFault → new.faults ≡ old.faults
   pub undecided : IsTrue tells → result ≡ Err CheckReadFault → verdict_so_far clauses (gained old new) ≡ None
+  pub memory : IsTrue tells → result ≡ Err CheckOutOfMemory → WantsProof clauses old.left (gained old new)
   pub written : new.written ≡ old.written
   pub name : new.name ≡ old.name
   pub faults : old.faults ≤ new.faults
@@ -232,6 +239,7 @@ pub record JudgesText (files : Files) (file : List ℕ) (clauses : List (List �
   pub stands : files file ≡ Some bytes
   pub judged : Answers result (text_verdict clauses bytes)
   pub decided : Answers result (text_verdict clauses taken)
+  pub memory : result ≡ Err CheckOutOfMemory → WantsProof clauses bytes taken
 
 -- the proof's file was opened, and its text judged
 pub record JudgesProof (tells : Bool) (old new : Channel) (files : Files) (file : List ℕ) (clauses : List (List ℤ))

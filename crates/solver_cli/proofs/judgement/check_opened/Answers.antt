@@ -8,7 +8,7 @@ returns-clause-checks g c =
     let made = c.new-source.ensures in
     let judged = c.check.ensures in
     checked (cc) (c.beside_kept.ensures.source made.same_reference made.same_value made.role judged.beside
-    (search rules)).same judged.decides judged.fault judged.unfailed judged.undecided judged.reads
+    (search rules)).same judged.decides judged.fault judged.unfailed judged.undecided judged.memory judged.reads
 
 pub returns-clause-kept : goal.returns-clause-kept
 returns-clause-kept g c =
