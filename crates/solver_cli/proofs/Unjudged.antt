@@ -118,7 +118,7 @@ unjudged laws run task asked u = go u.error u.judges u.ends where
     given = asked;
     problem = u.problem;
     asks = read;
-    wants = λ t. let text = text_of t in (text.bytes, (text.stands, text.memory refl));
+    wants = λ t. let text = text_of t in (text.bytes, text.stands, text.memory refl);
     before_answer = u.out;
   })))))))) ends where
     no_fault : ◌≡◌ {A = Result Verdict CheckError} (Err error.OutOfMemory) (Err error.ReadFault) → ⊥
