@@ -3,7 +3,7 @@ ghost use Rattle.std.specs.Prelude.{◌≡◌, ◌≢◌, ◌≤◌, None};
 ghost use Rattle.host_io.specs.declared.role.Role.TheVariants.{Made};
 ghost use Rattle.host_io.specs.Channel.{WritesAll};
 ghost use Rattle.host_io.specs.Files.{Kept};
-ghost use Rattle.workload.specs.Board.{board_formula, column_order};
+ghost use Rattle.workload.specs.Board.{board_formula, column_order, most_columns};
 ghost use Rattle.solver_cli.specs.MadeText.{made_text};
 ghost use Rattle.solver_cli.specs.Phases.{PutsText};
 
@@ -20,7 +20,7 @@ pub fn put_part<H: Host>(
 ) -> Result<(), Failed>
     requires created { (H.channel host.old Made).name ≢ None }
     requires least { 2 ≤ size }
-    requires most { size ≤ 100 }
+    requires most { size ≤ most_columns }
     requires cnf { board.now.cnf ≡ board_formula size }
     requires order { board.now.order ≡ column_order size }
     ensures puts { PutsText H.tells (H.channel host.old Made) (H.channel host.new Made) (made_text part size) result }
@@ -39,7 +39,7 @@ fn print_part<S: Sink>(
     part: BoardText,
 ) -> Result<(), Failed>
     requires least { 2 ≤ size }
-    requires most { size ≤ 100 }
+    requires most { size ≤ most_columns }
     requires cnf { board.now.cnf ≡ board_formula size }
     requires order { board.now.order ≡ column_order size }
     ensures puts { PutsText S.tells (S.channel sink.old) (S.channel sink.new) (made_text part size) result }
@@ -56,7 +56,7 @@ fn write_part<S: Sink>(
     part: BoardText,
 ) -> Result<(), Failed>
     requires least { 2 ≤ size }
-    requires most { size ≤ 100 }
+    requires most { size ≤ most_columns }
     requires cnf { board.now.cnf ≡ board_formula size }
     requires order { board.now.order ≡ column_order size }
     ensures writes { WritesAll S.tells (S.channel sink.old) (S.channel sink.new) (made_text part size) result }
