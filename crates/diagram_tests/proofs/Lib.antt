@@ -1,4 +1,3 @@
-pub mod Opening
 pub mod Orders
 pub mod Plainness
 pub mod Settling

@@ -29,7 +29,7 @@ fn open_wide(alloc: Global, formula: &Cnf, order: &[u32]) -> Result<Table<ProofT
     requires few { length order.now ≤ 1000000 }
     ensures { IfOk result (λ table. IsSound table) }
 {
-    opening_law();
+    opening_law::<ProofText>();
     let sink = ProofText::new(alloc, 10_000_000, 999);
     match Ledger::open(alloc, formula, sink, 10_000_000) {
         Ok(ledger) => match Table::open(alloc, ledger, order, 1_000_000) {

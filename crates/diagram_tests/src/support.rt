@@ -175,7 +175,7 @@ pub fn open(
     ensures start { IfOk result (λ table. table.book.state ≡ start formula.now.clauses) }
     ensures plain { IfOk result (λ table. IsPlain table) }
 {
-    opening_law();
+    opening_law::<ProofText>();
     if room.nodes > 1_000 || room.ids > 100_000 {
         return Err(Fail::from("too much room"));
     }

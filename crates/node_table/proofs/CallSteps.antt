@@ -1,32 +1,38 @@
 -- The steps of one call of a table: nothing but room, one clause more, or one node more, whole or cut short.
-use Rattle.std.proofs.Common.{◌≡◌, ◌+◌, ◌*◌, ◌≤◌, ◌<◌, ℕ, ℤ, true, false, List, [], ◌∷◌, None, Some, refl, sym, ap, subst, arith, inl}
-use Rattle.std.proofs.Common.{inr, append-nil, pos, ◌∙◌}
-use Rattle.std.specs.Prelude.{max}
+use Rattle.std.proofs.Common.{◌≡◌, ◌+◌, ◌≤◌, ◌<◌, ◌++◌, ℕ, ℤ, true, false, List, [], ◌∷◌, None, Some, is_some, length, refl, sym, ap, subst}
+use Rattle.std.proofs.Common.{arith, inl, inr, append-nil, append_assoc, pos, ◌∙◌}
+use Rattle.std.specs.Prelude.{IsTrue, max}
+use Rattle.std.specs.List.{list_any}
+use Rattle.std.specs.Ordering.{int_eq}
 use Rattle.cnf_base.specs.declared.step.Step.{Step}
 use Rattle.lrat_rules.specs.State.{State, clause_at}
 use Rattle.lrat_rules.specs.Marks.{in_use}
-use Rattle.clause_ledger.specs.Book.{AreTold, Book, with_next}
+use Rattle.clause_ledger.specs.Book.{AreTold, Book, addition, with_next}
 use Rattle.clause_ledger.specs.Told.{told_in_step, told_limit, told_none}
 use Rattle.node_table.specs.declared.node.Node.{Node}
+use Rattle.node_table.specs.declared.node.Branch.{Branch}
 use Rattle.node_table.specs.declared.error.TableError.TheVariants.{IdLimit, OutOfMemory, WriteFault}
-use Rattle.node_table.specs.Diagram.{Graph, IsBelow, IsNew, IsReduced, KeepsNodes, levels, variable_at}
-use Rattle.node_table.specs.Defined.{IsDefinedInPart, atom_of, definition_count, with_definitions}
-use Rattle.node_table.specs.Tied.{IsTied, IsAdded, IsOverNodes}
-use Rattle.node_table.specs.Table.{TableState, IsSound, IsAddedTo, IsSame, IsWanted, Extends, live_nodes, new_branch, node_definitions}
-use Rattle.node_table.specs.Progress.{Continues, Steps, StepsOrRefutes}
+use Rattle.node_table.specs.Diagram.{Graph, IsBelow, IsNew, IsReduced, KeepsNodes, branch_at, levels, variable_at}
+use Rattle.node_table.specs.Defined.{Definition, IsDefinedInPart, atom_of, definition_count, definition_steps, with_definitions}
+use Rattle.node_table.specs.Tied.{IsTied, IsAdded, IsOwned, IsOverNodes, IsUpTo, AreUpTo, HoldFormula}
+use Rattle.node_table.specs.Table.{TableState, IsSound, IsAddedTo, IsSame, IsWanted, Extends, defining_clauses, live_nodes, new_branch}
+use Rattle.node_table.specs.Table.{node_definitions}
+use Rattle.node_table.specs.Progress.{AreStepsUpTo, Continues, Steps, StepsOrRefutes}
 use Rattle.node_table.proofs.Added.{added_kept}
-use Rattle.node_table.proofs.Grown.{KeepsNodes-none}
+use Rattle.node_table.proofs.Defining.{defining_new}
+use Rattle.node_table.proofs.Grown.{KeepsNodes-none, joined_at, joined_cases}
 use Rattle.node_table.proofs.Stands.{Grows, Grows-next}
-use Rattle.node_table.proofs.Made.{made_is_tied, definitions_top, few_definitions}
+use Rattle.node_table.proofs.Made.{AreDefinitionsOver, made_is_tied, definitions_over-front, definitions_top, node_definitions_over}
 use Rattle.node_table.proofs.Justified.{justified_tied}
 use Rattle.node_table.proofs.InUseSame.{in_use_nodes}
 use Rattle.node_table.proofs.Fresh.{IsNobodys, live_more, KeepsNodes-new}
 use Rattle.node_table.proofs.Fronts.{IsCutBefore, Grows-definitions, cut_at_once, part_cut, part_grows, part_none_empty}
 use Rattle.node_table.proofs.Fronts.{part_rest}
 use Rattle.node_table.proofs.NoEmpty.{definitions_some, none_empty}
-use Rattle.node_table.proofs.Progressed.{Continues-none, Extends-none, Steps-no_empty}
+use Rattle.node_table.proofs.Progressed.{Continues-none, Extends-none, Steps-no_empty, some_of}
 use Rattle.node_table.proofs.Since.{ComesSince-grown}
 use Rattle.node_table.proofs.Retired.{AreRetired-kept}
+use Rattle.node_table.proofs.Uptos.{up_to_definitions, up_to_over}
 
 -- A call that was refused: nothing changed but the room that is reserved, and a limit that is told is met.
 module _ {S : Type 0} where
@@ -37,13 +43,21 @@ module _ {S : Type 0} where
       let same = Continues-none table sound in
       let extends = Extends-none table sound in (
         record {
-          sound = record { in_step = sound.in_step; tied = sound.tied; inputs = sound.inputs; retired = sound.retired };
+          sound = record {
+            in_step = sound.in_step;
+            tied = sound.tied;
+            variables = sound.variables;
+            inputs = sound.inputs;
+            formula = sound.formula;
+            retired = sound.retired;
+          };
           order = refl;
           inputs = refl;
           max_nodes = refl;
           limit = refl;
           more = [];
           told = told_none table.book spare sound.in_step;
+          variables = tt;
           no_less = same.no_less;
           numbers = same.numbers;
           since = same.since;
@@ -118,10 +132,22 @@ pub record Grew {S : Type 0} (justified : ℕ) (graph later : Graph) (old new : 
   pub nodes : KeepsNodes graph later
   pub grows : Grows old.state new.state
   pub within : new.state.top ≤ max old.state.top old.limit
-  pub adds : new.state.top + 4 * live_nodes graph ≤ old.state.top + 4 * live_nodes later + justified
+  pub adds : new.state.top + defining_clauses graph ≤ old.state.top + defining_clauses later + justified
 
 module _ {S : Type 0} (aside : Aside) (graph later : Graph) (old new : Book S) (justified : ℕ)
     (grew : Grew justified graph later old new) where
+  -- the formula's clauses stay
+  formula_stays : IsSound (table_of aside graph old) → HoldFormula later new.state.live aside.inputs
+  formula_stays sound id clause is low literal among = elim (grew.grows.gives.next id (ap is_some is)) [
+    | inl there ↦
+        let was = some_of (clause_at old.state.live id) there in
+        let same : Some was.0 ≡ Some clause = sym (grew.grows.clauses id was.0 was.1) ∙ is in
+        let own : was.0 ≡ clause = cc in
+        let small = sound.formula id was.0 was.1 low literal (subst (λ (c : List ℤ). IsTrue (list_any (int_eq literal) c)) (sym own) among) in
+        omega (arith, small, ap length grew.nodes.order)
+    | inr above ↦ absurd (omega (arith, above, low, sound.inputs))
+  ]
+
   extends : Extends (table_of aside graph old) (table_of aside later new)
   extends = record {
     inputs = refl;
@@ -132,14 +158,17 @@ module _ {S : Type 0} (aside : Aside) (graph later : Graph) (old new : Book S) (
     retired = sym (append-nil aside.retired);
   }
 
-  pub went_on : IsSound (table_of aside graph old) → (more : List Step) → AreTold true old new more → IsTied later new.state
+  pub went_on : IsSound (table_of aside graph old) → (more : List Step) → AreTold true old new more
+      → AreStepsUpTo (levels graph + aside.max_nodes) more → IsTied later new.state → AreUpTo (levels later + aside.max_nodes) later
       → StepsOrRefutes (table_of aside graph old) (table_of aside later new) justified None
-  went_on sound more told tied = record {
+  went_on sound more told up_to tied few = record {
     leaves = record {
       sound = record {
         in_step = told_in_step told;
         tied = tied;
+        variables = few;
         inputs = ≤-then aside.inputs old.state.top new.state.top sound.inputs grew.grows.gives.no_less;
+        formula = formula_stays sound;
         retired = AreRetired-kept graph later old.state new.state sound.tied tied grew.nodes grew.grows.clauses aside.inputs aside.retired
             sound.retired;
       };
@@ -149,6 +178,7 @@ module _ {S : Type 0} (aside : Aside) (graph later : Graph) (old new : Book S) (
       limit = told_limit told;
       more = more;
       told = told;
+      variables = up_to;
       no_less = grew.grows.gives.no_less;
       numbers = grew.within;
       since = ComesSince-grown old.state new.state grew.grows;
@@ -157,14 +187,16 @@ module _ {S : Type 0} (aside : Aside) (graph later : Graph) (old new : Book S) (
     adds = grew.adds;
   }
 
-  pub broke_off : IsReduced later → (more : List Step) → AreTold false old new more → IsCutBefore old.state new.state more → FewerInUse
+  pub broke_off : IsReduced later → (more : List Step) → AreTold false old new more → AreStepsUpTo (levels graph + aside.max_nodes) more
+      → IsCutBefore old.state new.state more → FewerInUse
       → in_use (levels graph) new.state ≤ live_nodes later
       → live_nodes later ≤ aside.max_nodes
       → StepsOrRefutes (table_of aside graph old) (table_of aside later new) justified (Some WriteFault)
-  broke_off reduced more told cut fewer used few = record {
+  broke_off reduced more told up_to cut fewer used few = record {
     leaves = record {
       more = more;
       told = told;
+      variables = up_to;
       cut = record {
         earlier = cut.earlier;
         last = cut.last;
@@ -212,14 +244,21 @@ module _ {S : Type 0} (aside : Aside) (graph : Graph) (old new : Book S) (clause
   tied_still : IsTied graph new.state
   tied_still = subst (IsTied graph) (sym added) (justified_tied graph old.state clause sound.tied over)
 
-  pub justified_on : (more : List Step) → AreTold true old new more → StepsOrRefutes (table_of aside graph old)
-      (table_of aside graph new) 1 None
-  justified_on more told = went_on aside graph graph old new 1 one_more sound more told tied_still
+  -- its variables are the formula's and nodes'
+  within_variables : IsUpTo (levels graph + aside.max_nodes) clause
+  within_variables = up_to_over graph (levels graph + aside.max_nodes) (omega arith) sound.variables clause over
 
-  pub justified_torn : (step : Step) → AreTold false old new (step ∷ []) → FewerInUse → live_nodes graph ≤ aside.max_nodes
+  pub justified_on : (hints : List ℕ) → AreTold true old new (addition old.state clause hints ∷ []) → StepsOrRefutes (table_of aside graph old)
+      (table_of aside graph new) 1 None
+  justified_on hints told = went_on aside graph graph old new 1 one_more sound (addition old.state clause hints ∷ []) told
+      (within_variables, tt) tied_still sound.variables
+
+  pub justified_torn : (hints : List ℕ) → AreTold false old new (addition old.state clause hints ∷ []) → FewerInUse
+      → live_nodes graph ≤ aside.max_nodes
       → StepsOrRefutes (table_of aside graph old) (table_of aside graph new) 1 (Some WriteFault)
-  justified_torn step told fewer few =
-      broke_off aside graph graph old new 1 one_more sound.tied.reduced (step ∷ []) told
+  justified_torn hints told fewer few =
+      let step = addition old.state clause hints in
+      broke_off aside graph graph old new 1 one_more sound.tied.reduced (step ∷ []) told (within_variables, tt)
       (cut_at_once old.state new.state step one_more.grows) fewer
       (let same = in_use_nodes graph new.state tied_still in omega (arith, same)) few
 
@@ -238,7 +277,7 @@ module _ {S : Type 0} (aside : Aside) (graph later : Graph) (old new : Book S) (
     (high low : Node) (variable : ℕ)
     (sound : IsSound (table_of aside graph old)) (asked : IsAsked graph old.state level high low variable) (key : ℕ)
     (joined : IsNew graph later key (new_branch old.state level high low variable))
-    (room : old.state.top + definition_count high low ≤ old.limit) where
+    (room : old.state.top + definition_count high low ≤ old.limit) (few_variables : variable ≤ levels graph + aside.max_nodes) where
   abbrev whole : State
   whole = with_definitions old.state (node_definitions graph old.state level high low variable)
 
@@ -251,27 +290,58 @@ module _ {S : Type 0} (aside : Aside) (graph later : Graph) (old new : Book S) (
   whole_top : whole.top ≡ old.state.top + definition_count high low
   whole_top = definitions_top graph old.state level high low variable asked.high_below.stands asked.low_below.stands
 
+  levels_stay : levels later ≡ levels graph
+  levels_stay = ap levels joined.joined
+
+  up_to_later : AreUpTo (levels later + aside.max_nodes) later
+  up_to_later other b is =
+      elim (joined_cases graph key (new_branch old.state level high low variable) other b
+      (ap (λ (g : Graph). branch_at g other) (sym joined.joined) ∙ is)) [
+        | inl here ↦ let own : b.variable ≡ variable = ap (λ (c : Branch). c.variable) here.1 in
+            omega (arith, own, few_variables, levels_stay)
+        | inr there ↦ let small = sound.variables other b there in omega (arith, small, levels_stay)
+      ]
+
+  -- the definitions are over the formula's variables and nodes'
+  over_later : AreDefinitionsOver later (node_definitions graph old.state level high low variable)
+  over_later = node_definitions_over graph later old.state level high low variable (KeepsNodes-new graph later key joined)
+      (asked.tied.ordered.within level asked.small).1 asked.high_below.stands asked.low_below.stands
+      (subst (λ (g : Graph). IsOwned g variable) (sym joined.joined)
+      (record {
+        key = key;
+        branch = new_branch old.state level high low variable;
+        stands = joined_at graph key (new_branch old.state level high low variable);
+        own = refl;
+      }))
+
+  up_to_steps : (some : List Definition) → AreDefinitionsOver later some
+      → AreStepsUpTo (levels graph + aside.max_nodes) (definition_steps old.state some)
+  up_to_steps some over = up_to_definitions later (levels graph + aside.max_nodes) (omega (arith, levels_stay))
+      (λ other b is. let small = up_to_later other b is in omega (arith, small, levels_stay)) old.state some over
+
   -- it grew by no more than the definitions
   made_more : Grows old.state new.state → new.state.top ≤ whole.top → Grew 0 graph later old new
   made_more grows few =
-      let nodes = live_more graph later key joined in
-      let four = few_definitions high low in
+      let own = defining_new graph later key joined in
       record {
         nodes = KeepsNodes-new graph later key joined;
         grows = grows;
         within = omega (arith, few, whole_top, room);
-        adds = omega (arith, few, whole_top, four, nodes);
+        adds = omega (arith, few, whole_top, own);
       }
 
-  pub made_on : new.state ≡ whole → (more : List Step) → AreTold true old new more
+  pub made_on : new.state ≡ whole
+      → AreTold true old new (definition_steps old.state (node_definitions graph old.state level high low variable))
       → Steps (table_of aside graph old) (table_of aside later new) 0 None
-  made_on is more told =
+  made_on is told =
       Steps-no_empty (table_of aside graph old) (table_of aside later new) 0 None
       (went_on aside graph later old new 0
       (made_more (subst (Grows old.state) (sym is) (Grows-definitions old.state
       (node_definitions graph old.state level high low variable) asked.tied.numbers))
       (let top = ap (λ (s : State). s.top) is in omega (arith, top)))
-      sound more told (subst (IsTied later) (sym is) tied_whole))
+      sound (definition_steps old.state (node_definitions graph old.state level high low variable)) told
+      (up_to_steps (node_definitions graph old.state level high low variable) over_later)
+      (subst (IsTied later) (sym is) tied_whole) up_to_later)
       (record {
         each = λ id empty. none_empty old.state (node_definitions graph old.state level high low variable)
             (definitions_some (pos variable) (pos (variable_at graph level)) (atom_of graph high) (atom_of graph low) (old.state.top + 1)) id
@@ -285,13 +355,15 @@ module _ {S : Type 0} (aside : Aside) (graph later : Graph) (old new : Book S) (
       let all = node_definitions graph old.state level high low variable in
       let grows : Grows old.state new.state = part_grows old.state new.state all more asked.tied.numbers part in
       let rest : Grows new.state whole = part_rest old.state new.state all more asked.tied.numbers part in
-      let same : levels later ≡ levels graph = ap levels joined.joined in
       let used : in_use (levels graph) whole ≡ live_nodes later = subst (λ (vars : ℕ). in_use vars whole
-      ≡ live_nodes later) same (in_use_nodes later whole tied_whole) in
+      ≡ live_nodes later) levels_stay (in_use_nodes later whole tied_whole) in
+      let written : AreStepsUpTo (levels graph + aside.max_nodes) more = subst (AreStepsUpTo (levels graph + aside.max_nodes)) (sym part.written)
+      (up_to_steps (part.earlier ++ part.last ∷ []) (definitions_over-front later (part.earlier ++ part.last ∷ []) part.rest
+      (subst (AreDefinitionsOver later) (part.parts ∙ sym (append_assoc part.earlier (part.last ∷ []) part.rest)) over_later))) in
       let less = fewer (levels graph) new.state whole rest.clauses in
       let nodes = live_more graph later key joined in
       Steps-no_empty (table_of aside graph old) (table_of aside later new) 0 (Some WriteFault)
-      (broke_off aside graph later old new 0 (made_more grows rest.gives.no_less) tied_whole.reduced more told
+      (broke_off aside graph later old new 0 (made_more grows rest.gives.no_less) tied_whole.reduced more told written
       (part_cut old.state new.state all more asked.tied.numbers part) fewer (omega (arith, less, used)) (omega (arith, nodes, few)))
       (record {
         each = part_none_empty old.state new.state all more

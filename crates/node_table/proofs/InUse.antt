@@ -27,7 +27,7 @@ abbrev pub variables_in : List (ℕ × Branch) → List ℕ
 variables_in es = map (λ e. e.1.variable) es
 
 -- what is found behind a key has a greater one
-above : (k : ℕ) (es : List (ℕ × Branch)) → T (below_all nat_cmp k es) → (q : ℕ) (b : Branch) → find nat_cmp q es ≡ Some b → k < q
+pub above : (k : ℕ) (es : List (ℕ × Branch)) → T (below_all nat_cmp k es) → (q : ℕ) (b : Branch) → find nat_cmp q es ≡ Some b → k < q
 above k [] below q b is = absurd (let e : None ≡ Some b = is in cc)
 above k (e ∷ es) below q b is =
     let parts = both_parts (is_lt (nat_cmp k e.0)) (below_all nat_cmp k es) below in

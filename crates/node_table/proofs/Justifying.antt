@@ -84,7 +84,7 @@ module _ {S : Type 0} (aside : Aside) (graph : Graph) (old new : Book S) (clause
   pub justify_steps : (r : Result ℕ LedgerError) → Answers old new clause hints r → StepsTo new (told r)
   justify_steps (Ok id) answers =
       justified_on aside graph old new clause sound over
-      (below_limit (Ok id) answers.id_limit no_error) (state_is true answers.added.1) (addition old.state clause hints ∷ []) answers.added.1
+      (below_limit (Ok id) answers.id_limit no_error) (state_is true answers.added.1) hints answers.added.1
   justify_steps (Err LedgerIdLimit) answers =
       let met = answers.id_limit.0 refl in
       same_book (told (Err LedgerIdLimit)) (answers.unchanged limit_no_fault)
@@ -94,5 +94,5 @@ module _ {S : Type 0} (aside : Aside) (graph : Graph) (old new : Book S) (clause
       (no_room (table_of aside graph old) (table_of aside graph old) sound refl)
   justify_steps (Err LedgerWriteFault) answers =
       justified_torn aside graph old new clause sound over
-      (below_limit (Err LedgerWriteFault) answers.id_limit no_limit) (state_is false (answers.torn refl)) (addition old.state clause hints)
+      (below_limit (Err LedgerWriteFault) answers.id_limit no_limit) (state_is false (answers.torn refl)) hints
       (answers.torn refl) fewer few

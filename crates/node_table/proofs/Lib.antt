@@ -17,12 +17,14 @@ pub mod DefineHolders
 pub mod DefineGood
 pub mod DefineSteps
 pub mod DefinedOver
+pub mod Uptos
 pub mod Justified
 pub mod Fresh
 pub mod HasChildren
 pub mod Outcome
 pub mod Opened
 pub mod InUse
+pub mod Defining
 pub mod InUseSame
 pub mod Progressed
 pub mod KeptFrom

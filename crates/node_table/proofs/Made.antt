@@ -1,6 +1,6 @@
 -- A node that was made leaves the table tied: the node is reduced and defined, and no other variable came.
 use Rattle.std.proofs.Common.{◌≡◌, ℕ, zero, suc, ◌+◌, ◌<◌, ◌≤◌, Bool, true, false, ℤ, pos, negsuc, List, [], ◌∷◌, length, Option, None}
-use Rattle.std.proofs.Common.{Some, is_some, refl, sym, ap, ◌∙◌, subst, arith, inl, inr}
+use Rattle.std.proofs.Common.{◌++◌, Some, is_some, refl, sym, ap, ◌∙◌, subst, arith, inl, inr}
 use Rattle.std.specs.Prelude.{◌≢◌, nat_abs, neg_ℤ, not, slice_index_or}
 use Rattle.cnf_base.specs.ProofText.{given_if}
 use Rattle.lrat_rules.specs.State.{State, Live, clause_at}
@@ -12,7 +12,7 @@ use Rattle.node_table.specs.declared.node.Node.TheVariants.{False, True, Inner}
 use Rattle.node_table.specs.declared.node.Branch.{Branch}
 use Rattle.node_table.specs.Diagram.{Graph, IsBelow, KeepsNodes, FitsIn, branch_at, is_node, levels, variable_at, with_branch}
 use Rattle.node_table.specs.Defined.{IsDefined, atom_of, atom_in, clause_named, is_false_node, is_true_node, one_if, definition_count}
-use Rattle.node_table.specs.Defined.{with_some, with_definitions}
+use Rattle.node_table.specs.Defined.{Definition, with_some, with_definitions}
 use Rattle.node_table.specs.Tied.{IsTied, IsOwned, IsOverNodes}
 use Rattle.node_table.specs.Table.{IsWanted, new_branch, node_definitions}
 use Rattle.node_table.proofs.Values.{branch_of_node}
@@ -142,6 +142,56 @@ new_is_defined graph state after level high low variable high_stands low_stands 
           ∙ four.four;
     }
 
+-- each of these clauses is over the nodes
+abbrev pub AreDefinitionsOver : Graph → List Definition → Type 0
+AreDefinitionsOver graph [] = Unit {0}
+AreDefinitionsOver graph (d ∷ more) = ((clause : List ℤ) → d.clause ≡ Some clause → IsOverNodes graph clause)
+    × AreDefinitionsOver graph more
+
+pub definitions_over-front : (graph : Graph) (some more : List Definition) → AreDefinitionsOver graph (some ++ more)
+    → AreDefinitionsOver graph some
+definitions_over-front graph [] more over = tt
+definitions_over-front graph (d ∷ some) more over = (over.0, definitions_over-front graph some more over.1)
+
+written_over : (graph : Graph) (state : State) (all : List Definition) → AreDefinitionsOver graph all
+    → ((id : ℕ) (clause : List ℤ) → clause_at state.live id ≡ Some clause → IsOverNodes graph clause)
+    → (id : ℕ) (clause : List ℤ) → clause_at (with_definitions state all).live id ≡ Some clause → IsOverNodes graph clause
+written_over graph state [] over before = before
+written_over graph state (d ∷ all) over before = written_over graph (with_some state d.clause) all over.1
+    (each_some (IsOverNodes graph) state d.clause over.0 before)
+
+-- those of a new node are over it, a variable of the formula and its children
+module _ (old new : Graph) (state : State) (level : ℕ) (high low : Node) (variable : ℕ) (keeps : KeepsNodes old new)
+    (small : variable_at old level ≤ levels old) (high_stands : is_node old high ≡ true) (low_stands : is_node old low ≡ true)
+    (owned : IsOwned new variable) where
+  over_u : IsOverAtom new (Of (pos variable))
+  over_u = over_own new (pos variable) owned
+
+  over_y : IsOverAtom new (Of (pos (variable_at old level)))
+  over_y = over_input new (pos (variable_at old level)) (omega (arith, small, ap length keeps.order))
+
+  over_child : (node : Node) → is_node old node ≡ true → IsOverAtom new (atom_of old node)
+  over_child node stands = subst (IsOverAtom new) (atom_of-kept old new keeps node stands)
+      (over_node new node (is_node-kept old new keeps node stands))
+
+  pub node_definitions_over : AreDefinitionsOver new (node_definitions old state level high low variable)
+  node_definitions_over =
+      let x = pos (variable_at old level) in
+      let own = pos variable in
+      let not_u = over_neg new (Of own) over_u in
+      let not_y = over_neg new (Of x) over_y in
+      let over_high = over_child high high_stands in
+      let over_low = over_child low low_stands in (
+        over_clause new (high_up own x (atom_of old high)) (over_u, (not_y, (over_neg new (atom_of old high) over_high, tt))),
+        (
+          over_clause new (low_up own x (atom_of old low)) (over_u, (over_y, (over_neg new (atom_of old low) over_low, tt))),
+          (
+            over_clause new (high_down own x (atom_of old high)) (not_u, (not_y, (over_high, tt))),
+            (over_clause new (low_down own x (atom_of old low)) (not_u, (over_y, (over_low, tt))), tt),
+          ),
+        ),
+      )
+
 pub made_is_tied : (old : Graph) (state : State) → IsTied old state → (level : ℕ) (high low : Node) → level < levels old
     → IsBelow old level high → IsBelow old level low → IsWanted old level high low
     → (variable : ℕ) → levels old < variable → ((key : ℕ) (b : Branch) → branch_at old key ≡ Some b → b.variable ≢ variable)
@@ -165,15 +215,7 @@ made_is_tied old state tied level high low small high_below low_below wanted var
     let four = four_stand state tied.numbers (clause_from_atoms (high_up u y (atom_of old high))) (clause_from_atoms (low_up u y (atom_of old low)))
     (clause_from_atoms (high_down u y (atom_of old high))) (clause_from_atoms (low_down u y (atom_of old low))) in
     let owned : IsOwned new variable = record { key = key; branch = branch; stands = joined_at old key branch; own = refl } in
-    let over_u : IsOverAtom new (Of u) = over_own new u owned in
     let variable_small : variable_at old level ≤ levels old = (tied.ordered.within level small).1 in
-    let over_y : IsOverAtom new (Of y) = over_input new y variable_small in
-    let over_not_y : IsOverAtom new (Of (neg_ℤ y)) = over_neg new (Of y) over_y in
-    let over_not_u : IsOverAtom new (Of (neg_ℤ u)) = over_neg new (Of u) over_u in
-    let over_high : IsOverAtom new (atom_of old high) = subst (IsOverAtom new) (atom_of-kept old new keeps high high_below.stands)
-    (over_node new high (is_node-kept old new keeps high high_below.stands)) in
-    let over_low : IsOverAtom new (atom_of old low) = subst (IsOverAtom new) (atom_of-kept old new keeps low low_below.stands)
-    (over_node new low (is_node-kept old new keeps low low_below.stands)) in
     record {
       reduced = IsReduced-joined old tied.reduced key branch unused fits above own;
       ordered = tied.ordered;
@@ -184,16 +226,9 @@ made_is_tied old state tied level high low small high_below low_below wanted var
         | inr there ↦ IsDefined-kept old new keeps state.live after.live four.grows.clauses b (tied.reduced.high other b there).stands
             (tied.reduced.low other b there).stands (tied.defined other b there)
       ];
-      over_nodes =
-          each_some (IsOverNodes new) _ (clause_from_atoms (low_down u y (atom_of old low)))
-          (over_clause new (low_down u y (atom_of old low)) (over_not_u, (over_y, (over_low, tt))))
-          (each_some (IsOverNodes new) _ (clause_from_atoms (high_down u y (atom_of old high)))
-          (over_clause new (high_down u y (atom_of old high)) (over_not_u, (over_not_y, (over_high, tt))))
-          (each_some (IsOverNodes new) _ (clause_from_atoms (low_up u y (atom_of old low)))
-          (over_clause new (low_up u y (atom_of old low)) (over_u, (over_y, (over_neg new (atom_of old low) over_low, tt))))
-          (each_some (IsOverNodes new) state (clause_from_atoms (high_up u y (atom_of old high)))
-          (over_clause new (high_up u y (atom_of old high)) (over_u, (over_not_y, (over_neg new (atom_of old high) over_high, tt))))
-          (λ id clause at. IsOverNodes-kept old new keeps clause (tied.over_nodes id clause at)))));
+      over_nodes = written_over new state (node_definitions old state level high low variable)
+          (node_definitions_over old new state level high low variable keeps variable_small high_below.stands low_below.stands owned)
+          (λ id clause at. IsOverNodes-kept old new keeps clause (tied.over_nodes id clause at));
       numbers = four.grows.numbers;
     }
 

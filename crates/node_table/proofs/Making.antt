@@ -82,6 +82,7 @@ pub record Making {S : Type 0} (graph later : Graph) (book ready : Book S) (asid
   pub joined : IsNew graph later key.index (new_branch book.state level high low variable)
   pub room : book.state.top + definition_count high low ≤ book.limit
   pub few : live_nodes graph < aside.max_nodes
+  pub few_variables : variable ≤ levels graph + live_nodes graph + 1
   pub reserved : ready ≡ record book { spare = ready.spare }
   pub handed : IsHanded graph book.state ready.state level high low variable u x high_atom low_atom
 
@@ -127,10 +128,13 @@ module _ {S : Type 0} {graph later : Graph} {book ready : Book S} {aside : Aside
   pub written : AreTold true ready new (definition_steps ready.state handed_over) → new.state ≡ with_definitions book.state asked_for
   written told = told_state (told_asked told) ∙ steps_lead book.state asked_for
 
+  within_variables : variable ≤ levels graph + aside.max_nodes
+  within_variables = omega (arith, making.few, making.few_variables)
+
   pub making_on : AreTold true ready new (definition_steps ready.state handed_over) → Steps old_table new_table 0 None
   making_on told =
       made_on aside graph later book new level high low variable making.sound making.asked
-      key.index making.joined making.room (written told) (definition_steps book.state asked_for) (told_asked told)
+      key.index making.joined making.room within_variables (written told) (told_asked told)
 
   -- what was written of them
   pub part_asked : (more : List Step) → IsDefinedInPart ready.state new.state handed_over more
@@ -143,7 +147,7 @@ module _ {S : Type 0} {graph later : Graph} {book ready : Book S} {aside : Aside
       → FewerInUse → Steps old_table new_table 0 (Some WriteFault)
   making_torn more told part fewer =
       made_torn aside graph later book new level high low variable making.sound making.asked
-      key.index making.joined making.room more (told_from false more told) (part_asked more part) fewer making.few
+      key.index making.joined making.room within_variables more (told_from false more told) (part_asked more part) fewer making.few
 
   -- no clause beside the definitions was added
   pub making_before : AreTold true ready new (definition_steps ready.state handed_over) → (inputs id : ℕ)

@@ -1,4 +1,4 @@
--- A table without nodes is tied to the formula's clauses.
+-- A table without nodes is tied to the formula's clauses, and sound.
 use Rattle.std.proofs.Common.{◌≡◌, ℕ, zero, suc, ◌+◌, ◌-◌, ◌<◌, ◌≤◌, true, false, ℤ, List, [], ◌∷◌, length, None, Some, nat_cmp, sym, ap}
 use Rattle.std.proofs.Common.{◌∙◌, subst, arith, inl, inr}
 use Rattle.std.specs.Prelude.{slice_index_or, nat_abs, nat_lt, nat_le}
@@ -8,10 +8,13 @@ use Rattle.std.specs.FinMap as map
 use Rattle.std.proofs.lemmas.Bool.{cases_eq, cases_lt, and_parts, or_cases, leb-true}
 use Rattle.std.proofs.lemmas.Bool.Decides.{Decides-int_eq}
 use Rattle.cnf_base.specs.Truth.{AreClausesOf, is_literal_of}
-use Rattle.lrat_rules.specs.State.{start, clause_at}
+use Rattle.lrat_rules.specs.State.{State, start, clause_at}
+use Rattle.clause_ledger.specs.Book.{Book}
 use Rattle.node_table.specs.declared.node.Branch.{Branch}
 use Rattle.node_table.specs.Diagram.{IsOrder, branch_at}
-use Rattle.node_table.specs.Tied.{IsTied}
+use Rattle.node_table.specs.Tied.{IsTied, IsUpTo}
+use Rattle.node_table.specs.Table.{IsSound, opened}
+use Rattle.node_table.proofs.Retired.{AreRetired-none}
 
 module _ (within : (clauses : List (List ℤ)) (i : ℕ) → i < length clauses → clause_at (start clauses).live (i + 1)
     ≡ Some (slice_index_or clauses i []))
@@ -70,7 +73,15 @@ module _ (within : (clauses : List (List ℤ)) (i : ℕ) → i < length clauses 
   nothing_at order key b is = let none : branch_at (record { order = order; nodes = map.empty }) key ≡ None = map.get-empty nat_cmp key in
       cc
 
-  pub opened_tied : (order : List ℕ) (clauses : List (List ℤ)) → IsOrder order → AreClausesOf (length order) clauses
+  -- a live clause is over the formula's variables
+  in_range : (order : List ℕ) (clauses : List (List ℤ)) → AreClausesOf (length order) clauses → (id : ℕ) (clause : List ℤ)
+      → clause_at (start clauses).live id ≡ Some clause → IsUpTo (length order) clause
+  in_range order clauses all id clause is literal among =
+      let one = is_one clauses id clause is in
+      small_literal (length order) clause (subst (λ (c : List ℤ). list_all (is_literal_of (length order)) c ≡ true) one.2
+      (each_at (length order) clauses all one.0 one.1)) literal among
+
+  opened_tied : (order : List ℕ) (clauses : List (List ℤ)) → IsOrder order → AreClausesOf (length order) clauses
       → IsTied (record { order = order; nodes = map.empty }) (start clauses)
   opened_tied order clauses is_order all = record {
     reduced = record {
@@ -85,9 +96,18 @@ module _ (within : (clauses : List (List ℤ)) (i : ℕ) → i < length clauses 
     ordered = is_order;
     defined = λ key b is. absurd (nothing_at order key b is);
     over_nodes = λ id clause is literal among late.
-        let one = is_one clauses id clause is in
-        let small = small_literal (length order) clause (subst (λ (c : List ℤ). list_all (is_literal_of (length order)) c
-        ≡ true) one.2 (each_at (length order) clauses all one.0 one.1)) literal among in
+        let small = in_range order clauses all id clause is literal among in
         absurd (omega (arith, small, late));
     numbers = λ id clause is. numbers clauses id clause is;
+  }
+
+  pub opened_sound : {S : Type 0} (order : List ℕ) (clauses : List (List ℤ)) (book : Book S) (max_nodes : ℕ) → IsOrder order
+      → AreClausesOf (length order) clauses → book.state ≡ start clauses → book.in_step ≡ true → IsSound (opened order book max_nodes)
+  opened_sound order clauses book max_nodes is_order all state in_step = record {
+    in_step = in_step;
+    tied = subst (λ (s : State). IsTied (record { order = order; nodes = map.empty }) s) (sym state) (opened_tied order clauses is_order all);
+    variables = λ key b is. absurd (nothing_at order key b is);
+    inputs = omega arith;
+    formula = λ id clause is low. in_range order clauses all id clause (sym (ap (λ (s : State). clause_at s.live id) state) ∙ is);
+    retired = AreRetired-none (record { order = order; nodes = map.empty }) book.state.live book.state.top;
   }

@@ -12,13 +12,14 @@ use Rattle.node_table.specs.declared.error.TableError.{TableError}
 use Rattle.node_table.specs.declared.error.TableError.TheVariants.{NodeLimit, IdLimit, OutOfMemory, WriteFault}
 use Rattle.node_table.specs.Diagram.{levels}
 use Rattle.node_table.specs.Tied.{KeepsClauses, GivesNumbers}
-use Rattle.node_table.specs.Table.{TableState, AddsNoEmpty, IsSound, Extends, live_nodes}
-use Rattle.node_table.specs.Progress.{Continues, BreaksOff, IsCutWithin, Leaves, Steps, StepsOrRefutes, number_limit}
+use Rattle.node_table.specs.Table.{TableState, AddsNoEmpty, IsSound, Extends, last_variable, live_nodes}
+use Rattle.node_table.specs.Progress.{AreStepsUpTo, Continues, BreaksOff, IsCutWithin, Leaves, Steps, StepsOrRefutes, number_limit}
 use Rattle.node_table.proofs.Grown.{KeepsNodes-none, KeepsNodes-further}
 use Rattle.node_table.proofs.Stands.{Grows-none}
+use Rattle.node_table.proofs.Uptos.{up_to_append}
 use Rattle.node_table.proofs.Since.{ComesSince-fewer, ComesSince-further}
 
-some_of : {A : Type 0} (o : Option A) → is_some o ≡ true → (x : A) × (o ≡ Some x)
+pub some_of : {A : Type 0} (o : Option A) → is_some o ≡ true → (x : A) × (o ≡ Some x)
 some_of None is = cc
 some_of (Some x) is = (x, refl)
 
@@ -93,10 +94,17 @@ module _ {S : Type 0} where
     limit = refl;
     more = [];
     told = told_none table.book table.book.spare sound.in_step;
+    variables = tt;
     no_less = omega arith;
     numbers = omega arith;
     since = ComesSince-fewer table.book.state table.book.state (λ id clause is. is);
   }
+
+  -- the variables that may be used stay
+  variables_further : (old mid : TableState S) (before : Continues old mid) → (more : List Step) → AreStepsUpTo (last_variable mid) more
+      → AreStepsUpTo (last_variable old) (before.more ++ more)
+  variables_further old mid before more after = up_to_append (last_variable old) before.more more before.variables
+      (subst (λ (n : ℕ). AreStepsUpTo n more) (λ i. length (before.order i) + before.max_nodes i) after)
 
   pub Continues-further : (old mid new : TableState S) → Continues old mid → Continues mid new → Continues old new
   Continues-further old mid new before after =
@@ -109,6 +117,7 @@ module _ {S : Type 0} where
         limit = after.limit ∙ before.limit;
         more = before.more ++ after.more;
         told = told_further true old.book mid.book new.book before.more after.more before.told after.told;
+        variables = variables_further old mid before after.more after.variables;
         no_less = omega (arith, before.no_less, after.no_less);
         numbers = ≤-further new.book.state.top (number_limit mid) (number_limit old) after.numbers within;
         since = ComesSince-further old.book.state mid.book.state new.book.state before.no_less after.no_less before.since after.since;
@@ -138,6 +147,7 @@ module _ {S : Type 0} where
       record {
         more = before.more ++ after.more;
         told = told_further false old.book mid.book new.book before.more after.more before.told after.told;
+        variables = variables_further old mid before after.more after.variables;
         cut = IsCutWithin-further old mid new before after.more (live_nodes new.graph) after.cut;
         few = subst (λ (n : ℕ). live_nodes new.graph ≤ n) before.max_nodes after.few;
         out_of_step = after.out_of_step;
@@ -242,6 +252,7 @@ module _ {S : Type 0} where
         since = none.since;
         more = none.more;
         told = none.told;
+        variables = none.variables;
       }
 
   pub Steps-retired : (table : TableState S) (id : ℕ) → IsSound table

@@ -1,5 +1,5 @@
 -- The call that deletes the retired clauses, as the ledger's answer leaves it.
-use Rattle.std.proofs.Common.{◌≡◌, ◌≢◌, ◌≤◌, Bool, true, false, [], refl, sym, ap, ◌∙◌, subst, arith}
+use Rattle.std.proofs.Common.{◌≡◌, ◌≢◌, ◌≤◌, ◌+◌, Bool, true, false, [], refl, sym, ap, ◌∙◌, subst, arith}
 use Rattle.cnf_base.specs.declared.step.Step.TheVariants.{Delete}
 use Rattle.lrat_rules.specs.State.{State, clause_at}
 use Rattle.clause_ledger.specs.Book.{AreTold, Book, deletion}
@@ -14,6 +14,7 @@ use Rattle.node_table.proofs.InUseSame.{in_use_nodes}
 use Rattle.node_table.proofs.Retired.{AreRetired-none}
 use Rattle.node_table.proofs.Since.{ComesSince-fewer}
 use Rattle.node_table.proofs.Settled.{settled_tied, settled_was}
+use Rattle.node_table.proofs.Uptos.{up_to_deletion}
 
 module _ {S : Type 0} (aside : Aside) (graph : Graph) (old new : Book S) (in_step : Bool)
     (sound : IsSound (table_of aside graph old))
@@ -41,7 +42,9 @@ module _ {S : Type 0} (aside : Aside) (graph : Graph) (old new : Book S) (in_ste
     sound = record {
       in_step = told_in_step told ∙ whole;
       tied = subst (IsTied graph) (sym state_is) (settled_tied graph old.state aside.inputs aside.retired sound.tied sound.retired);
+      variables = sound.variables;
       inputs = omega (arith, sound.inputs, top);
+      formula = λ id clause is. sound.formula id clause (was id clause is);
       retired = AreRetired-none graph new.state.live aside.inputs;
     };
     order = refl;
@@ -50,6 +53,7 @@ module _ {S : Type 0} (aside : Aside) (graph : Graph) (old new : Book S) (in_ste
     limit = limit;
     more = deletion old.state aside.retired;
     told = subst (λ (b : Bool). AreTold b old new (deletion old.state aside.retired)) whole told;
+    variables = up_to_deletion (levels graph + aside.max_nodes) old.state aside.retired;
     no_less = omega (arith, top);
     numbers = omega (arith, top);
     since = ComesSince-fewer old.state new.state was;
@@ -63,6 +67,7 @@ module _ {S : Type 0} (aside : Aside) (graph : Graph) (old new : Book S) (in_ste
       record {
         more = deletion old.state aside.retired;
         told = subst (λ (b : Bool). AreTold b old new (deletion old.state aside.retired)) torn told;
+        variables = up_to_deletion (levels graph + aside.max_nodes) old.state aside.retired;
         cut = record {
           earlier = [];
           last = Delete old.state.top aside.retired;

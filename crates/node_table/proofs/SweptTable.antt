@@ -1,11 +1,11 @@
 -- What a table is once the nodes that aren't marked went with the clauses that define them: those that stay are tied to the
 -- live clauses that are left.
-use Rattle.std.proofs.Common.{◌≡◌, ◌<◌, ◌≤◌, ◌∙◌, ℕ, Bool, true, false, ℤ, pos, List, length, Option, None, Some, is_some, refl, sym, ap}
-use Rattle.std.proofs.Common.{subst, arith}
+use Rattle.std.proofs.Common.{◌≡◌, ◌<◌, ◌≤◌, ◌+◌, ◌∙◌, ℕ, Bool, true, false, ℤ, pos, List, length, Option, None, Some, is_some, refl, sym, ap}
+use Rattle.std.proofs.Common.{subst, arith, inl, inr}
 use Rattle.std.specs.Prelude.{nat_abs, slice_index_or}
 use Rattle.std.specs.List.{list_any}
 use Rattle.std.specs.Ordering.{int_eq}
-use Rattle.std.proofs.lemmas.Bool.{false_from_ne_true}
+use Rattle.std.proofs.lemmas.Bool.{cases_lt, false_from_ne_true}
 use Rattle.lrat_rules.specs.State.{State, clause_at}
 use Rattle.clause_ledger.specs.Book.{Book}
 use Rattle.clause_ledger.specs.Told.{told_in_step, told_limit}
@@ -20,7 +20,7 @@ use Rattle.node_table.specs.Places.{AreNumberedAbove, HavePlaces}
 use Rattle.node_table.specs.Progress.{Continues, BreaksOff}
 use Rattle.node_table.specs.Swept.{IsSwept}
 use Rattle.node_table.specs.Table.{IsSound, live_nodes}
-use Rattle.node_table.specs.Tied.{IsTied, IsAdded, IsOwned, IsOverNodes, AreRetired, KeepsClauses}
+use Rattle.node_table.specs.Tied.{IsTied, IsAdded, IsOwned, IsOverNodes, AreRetired, HoldFormula, KeepsClauses}
 use Rattle.node_table.proofs.CallSteps.{Aside, FewerInUse, table_of}
 use Rattle.node_table.proofs.DefinedOver.{definition_over}
 use Rattle.node_table.proofs.Deleting.{torn_cut}
@@ -30,6 +30,7 @@ use Rattle.node_table.proofs.Places.{HavePlaces-same}
 use Rattle.node_table.proofs.Since.{ComesSince-fewer}
 use Rattle.node_table.proofs.Settled.{IsDefined-stays}
 use Rattle.node_table.proofs.Swept.{atom_of_swept, branch_at_marked, left_marked, reduced_swept}
+use Rattle.node_table.proofs.Uptos.{up_to_deletions}
 
 some_clause : (o : Option (List ℤ)) → is_some o ≡ true → (clause : List ℤ) × (o ≡ Some clause)
 some_clause None is = absurd (let e : false ≡ true = is in cc)
@@ -112,8 +113,25 @@ module _ (graph later : Graph) (marks : List Bool) (are : AreMarks graph marks) 
         })
       ] refl
 
-  swept_over : AreClear graph marks old.live → (id : ℕ) (clause : List ℤ) → clause_at new.live id ≡ Some clause → IsOverNodes later clause
-  swept_over clear id clause is literal holds above =
+  -- a live clause that holds an unmarked node's extension variable isn't the formula's, and defines no node
+  was_other : (inputs : ℕ) → HoldFormula graph old.live inputs → (id : ℕ) (clause : List ℤ) → clause_at new.live id ≡ Some clause
+      → (literal : ℤ) → list_any (int_eq literal) clause ≡ true → levels later < nat_abs literal
+      → (owned : IsOwned graph (nat_abs literal)) → is_marked marks (inner owned.key) ≡ false → IsAdded graph old.live inputs id
+  was_other inputs formula id clause is literal holds above owned unmarked = record {
+    stands = ap is_some (left.among id clause is);
+    above = elim (cases_lt inputs id) [
+      | inl late ↦ late
+      | inr low ↦ let small = formula id clause (left.among id clause is) low literal holds in
+          absurd (omega (arith, small, above, ap length swept.order))
+    ];
+    defines_none = λ key b at. false_from_ne_true (is_defined_by (defs_of b) id)
+        (λ defines. defines_other id clause is literal holds above owned unmarked
+        (record { key = key; branch = b; stands = at; defines = defines }));
+  }
+
+  swept_over : (inputs : ℕ) → HoldFormula graph old.live inputs → AreClear graph marks old.live inputs → (id : ℕ) (clause : List ℤ)
+      → clause_at new.live id ≡ Some clause → IsOverNodes later clause
+  swept_over inputs formula clear id clause is literal holds above =
       let was = left.among id clause is in
       let owned = tied.over_nodes id clause was literal holds (subst (λ (order : List ℕ). length order
       < nat_abs literal) swept.order above) in
@@ -125,16 +143,16 @@ module _ (graph later : Graph) (marks : List Bool) (are : AreMarks graph marks) 
           own = owned.own;
         }
         | false ↦ λ unmarked. absurd
-            (clear id clause was (defines_other id clause is literal holds above owned unmarked) literal holds owned.key owned.branch
+            (clear id clause was (was_other inputs formula id clause is literal holds above owned unmarked) literal holds owned.key owned.branch
             owned.stands unmarked (sym owned.own))
       ] refl
 
-  pub swept_tied : AreClear graph marks old.live → IsTied later new
-  swept_tied clear = record {
+  pub swept_tied : (inputs : ℕ) → HoldFormula graph old.live inputs → AreClear graph marks old.live inputs → IsTied later new
+  swept_tied inputs formula clear = record {
     reduced = reduced_swept graph later marks are swept tied.reduced;
     ordered = subst IsOrder (sym swept.order) tied.ordered;
     defined = swept_defined;
-    over_nodes = swept_over clear;
+    over_nodes = swept_over inputs formula clear;
     numbers = λ id clause is. let was = tied.numbers id clause (left.among id clause is) in (was.0, omega (arith, was.1, left.top));
   }
 
@@ -180,15 +198,20 @@ module _ {S : Type 0} (aside : Aside) (graph : Graph) (old new : Book S) (sound 
   top_is in_step ids deletes = ap (λ (s : State). s.top) deletes.state
 
   pub sweep_on : (later : Graph) (marks : List Bool) → AreMarks graph marks → IsSwept graph later marks
-      → AreClear graph marks old.state.live → AreLeft graph marks old.state new.state → (ids : List ℕ) → Deletes true old new ids
+      → AreClear graph marks old.state.live aside.inputs → AreLeft graph marks old.state new.state → (ids : List ℕ) → Deletes true old new ids
       → Continues (table_of aside graph old) (table_of aside later new)
   sweep_on later marks are swept clear left ids deletes =
       let top = top_is true ids deletes in
       record {
         sound = record {
           in_step = told_in_step deletes.told;
-          tied = swept_tied graph later marks are swept old.state new.state sound.tied left clear;
+          tied = swept_tied graph later marks are swept old.state new.state sound.tied left aside.inputs sound.formula clear;
+          variables = λ key b at. let small = sound.variables key b (was_there graph later marks are swept old.state new.state sound.tied left
+              key b at) in
+              omega (arith, small, ap length swept.order);
           inputs = omega (arith, sound.inputs, top);
+          formula = λ id clause is low literal among. let small = sound.formula id clause (left.among id clause is) low literal among in
+              omega (arith, small, ap length swept.order);
           retired = swept_retired graph later marks are swept old.state new.state sound.tied left aside.inputs aside.retired sound.retired;
         };
         order = swept.order;
@@ -197,6 +220,7 @@ module _ {S : Type 0} (aside : Aside) (graph : Graph) (old new : Book S) (sound 
         limit = told_limit deletes.told;
         more = deletion_steps old.state deletes.lines;
         told = deletes.told;
+        variables = up_to_deletions (levels graph + aside.max_nodes) old.state deletes.lines;
         no_less = omega (arith, top);
         numbers = omega (arith, top);
         since = ComesSince-fewer old.state new.state left.among;
@@ -213,6 +237,7 @@ module _ {S : Type 0} (aside : Aside) (graph : Graph) (old new : Book S) (sound 
       record {
         more = deletion_steps old.state torn.deletes.lines;
         told = torn.deletes.told;
+        variables = up_to_deletions (levels graph + aside.max_nodes) old.state torn.deletes.lines;
         cut = record {
           earlier = cut.earlier;
           last = cut.last;

@@ -13,6 +13,7 @@ use Rattle.node_table.specs.Diagram.{Graph, branch_at}
 use Rattle.node_table.specs.Defined.{defs_of, is_defined_by}
 use Rattle.node_table.specs.Made.{inner}
 use Rattle.node_table.specs.Marks.{is_marked}
+use Rattle.node_table.specs.Tied.{IsAdded}
 
 -- the clause defines a node
 pub record Defines (graph : Graph) (id : ℕ) : Type 0 where
@@ -35,9 +36,9 @@ IsClear graph marks clause =
     (literal : ℤ) → IsTrue (list_any (int_eq literal) clause) → (key : ℕ) (branch : Branch) → branch_at graph key ≡ Some branch
     → is_marked marks (inner key) ≡ false → nat_abs literal ≢ branch.variable
 
--- all live clauses beside the definitions of nodes are clear of these
-abbrev pub AreClear : Graph → List Bool → Live → Type 0
-AreClear graph marks live = (id : ℕ) (clause : List ℤ) → clause_at live id ≡ Some clause → (Defines graph id → ⊥)
+-- all clauses that were added beside the definitions of nodes, over a formula of so many clauses, are clear of these
+abbrev pub AreClear : Graph → List Bool → Live → ℕ → Type 0
+AreClear graph marks live inputs = (id : ℕ) (clause : List ℤ) → clause_at live id ≡ Some clause → IsAdded graph live inputs id
     → IsClear graph marks clause
 
 -- the numbers of a node's clauses, unless it is marked or there is none

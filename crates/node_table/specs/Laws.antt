@@ -1,5 +1,5 @@
 -- The laws of diagrams and of tables, each as one record: functions without work ensure them, and lemmas above take them.
-use Rattle.std.specs.Prelude.{◌≡◌, ◌≤◌, ◌<◌, ◌+◌, ℕ, Bool, true, false, List, Option, None, Some, IsTrue, if◌then◌else◌}
+use Rattle.std.specs.Prelude.{◌≡◌, ◌≤◌, ◌<◌, ◌+◌, ◌*◌, ℕ, Bool, true, false, List, Option, None, Some, IsTrue, if◌then◌else◌}
 use Rattle.lrat_rules.specs.State.{Live}
 use Rattle.hint_chain.specs.declared.atom.Atom.{Atom}
 use Rattle.node_table.specs.declared.error.TableError.{TableError}
@@ -11,7 +11,7 @@ use Rattle.node_table.specs.Value.{Levels, value_of, fixed_to, IsSubfunction}
 use Rattle.node_table.specs.Defined.{atom_of}
 use Rattle.node_table.specs.Tied.{KeepsClauses}
 use Rattle.node_table.specs.Justification.{IsJustified}
-use Rattle.node_table.specs.Table.{TableState, AddsNoEmpty, IsSound, IsAddedTo, Extends, IsWanted}
+use Rattle.node_table.specs.Table.{TableState, AddsNoEmpty, IsSound, IsAddedTo, Extends, IsWanted, defining_clauses, live_nodes}
 use Rattle.node_table.specs.Progress.{Continues, Leaves, Steps, StepsOrRefutes}
 use Rattle.node_table.specs.Made.{KeepsFrom, MakesOnly, Reaches, ReachesNew}
 
@@ -41,6 +41,9 @@ pub record Growth : Type 0 where
   pub justified : (old new : Live) → KeepsClauses old new → (atoms : List Atom) (just : Justification) → IsJustified old atoms just
       → IsJustified new atoms just
   pub further : (old mid new : Graph) → KeepsNodes old mid → KeepsNodes mid new → KeepsNodes old new
+  -- a node has four defining clauses at most
+  pub definitions : (old new : Graph) → KeepsNodes old new → defining_clauses new + 4 * live_nodes old
+      ≤ defining_clauses old + 4 * live_nodes new
 
 -- What a graph that keeps what is reachable from a node says of this node. A graph that keeps all keeps that.
 pub record Kept : Type 0 where

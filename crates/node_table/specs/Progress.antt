@@ -1,13 +1,16 @@
 -- What a call that may make nodes and clauses leaves, as it ends in step with the proof or breaks off.
 use Rattle.std.specs.Prelude.{◌≡◌, ◌⊎◌, ◌≤◌, ◌<◌, ◌+◌, ◌++◌, ℕ, max, true, false, ℤ, List, [], ◌∷◌, Option, None, Some, Result, Ok, Err}
+use Rattle.std.specs.Prelude.{⊤}
 use Rattle.cnf_base.specs.declared.step.Step.{Step}
+use Rattle.cnf_base.specs.declared.step.Step.TheVariants.{Add, Delete}
 use Rattle.lrat_rules.specs.State.{State, clause_at}
 use Rattle.lrat_rules.specs.Marks.{IsWithin}
 use Rattle.clause_ledger.specs.Book.{AreTold, after_steps}
 use Rattle.node_table.specs.declared.error.TableError.{TableError}
 use Rattle.node_table.specs.declared.error.TableError.TheVariants.{NodeLimit, IdLimit, OutOfMemory, WriteFault}
 use Rattle.node_table.specs.Diagram.{IsReduced, levels}
-use Rattle.node_table.specs.Table.{TableState, IsSound, Extends, AddsAtMost, AddsNoEmpty, live_nodes}
+use Rattle.node_table.specs.Tied.{IsUpTo}
+use Rattle.node_table.specs.Table.{TableState, IsSound, Extends, AddsAtMost, AddsNoEmpty, last_variable, live_nodes}
 
 -- the greatest number that a table may come to: the one allowed, or where it is already
 abbrev pub number_limit : {S : Type 0} → TableState S → ℕ
@@ -18,8 +21,17 @@ abbrev pub ComesSince : State → State → Type 0
 ComesSince old new = (id : ℕ) (clause : List ℤ) → clause_at new.live id ≡ Some clause → (clause_at old.live id ≡ Some clause)
     ⊎ ((old.top < id) × (id ≤ new.top))
 
+-- A step adds a clause whose variables are up to this one, or deletes.
+abbrev pub IsStepUpTo : ℕ → Step → Type 0
+IsStepUpTo most (Add id clause hints groups) = IsUpTo most clause
+IsStepUpTo most (Delete before ids) = ⊤
+
+abbrev pub AreStepsUpTo : ℕ → List Step → Type 0
+AreStepsUpTo most [] = ⊤
+AreStepsUpTo most (step ∷ more) = IsStepUpTo most step × AreStepsUpTo most more
+
 -- The table is sound, over the same variables and formula and within the same limits, in step with its proof, which has these
--- steps more.
+-- steps more, over the variables that may be used.
 pub record Continues {S : Type 0} (old new : TableState S) : Type 0 where
   pub sound : IsSound new
   pub order : new.graph.order ≡ old.graph.order
@@ -28,6 +40,7 @@ pub record Continues {S : Type 0} (old new : TableState S) : Type 0 where
   pub limit : new.book.limit ≡ old.book.limit
   pub more : List Step
   pub told : AreTold true old.book new.book more
+  pub variables : AreStepsUpTo (last_variable old) more
   pub no_less : old.book.state.top ≤ new.book.state.top
   pub numbers : new.book.state.top ≤ number_limit old
   pub since : ComesSince old.book.state new.book.state
@@ -52,6 +65,7 @@ pub record IsCutWithin (vars max_ids max_nodes : ℕ) (old after : State) (steps
 pub record BreaksOff {S : Type 0} (old new : TableState S) : Type 0 where
   pub more : List Step
   pub told : AreTold false old.book new.book more
+  pub variables : AreStepsUpTo (last_variable old) more
   pub cut : IsCutWithin (levels old.graph) (number_limit old) (live_nodes new.graph) old.book.state new.book.state more
   pub few : live_nodes new.graph ≤ old.max_nodes
   pub out_of_step : new.book.in_step ≡ false

@@ -1,5 +1,5 @@
 -- A table as its callers see it, and what its calls do.
-use Rattle.std.specs.Prelude.{◌≡◌, ◌≢◌, ℕ, ◌<◌, ◌≤◌, ◌+◌, ◌*◌, ◌++◌, pos, true, false, List, [], Some, Result, Err, IsTrue, refl}
+use Rattle.std.specs.Prelude.{◌≡◌, ◌≢◌, ℕ, ◌<◌, ◌≤◌, ◌+◌, ◌++◌, pos, true, false, List, [], ◌∷◌, Some, Result, Err, IsTrue, refl}
 use Rattle.std.specs.Coded.{Coded, code_by, coded×, coded_ℕ, coded_list}
 use Rattle.std.specs.FinMap as map
 use Rattle.cnf_base.specs.declared.step.Step.{Step}
@@ -13,12 +13,21 @@ use Rattle.node_table.specs.declared.error.TableError.{TableError}
 use Rattle.node_table.specs.declared.error.TableError.TheVariants.{WriteFault}
 pub use Rattle.node_table.specs.Diagram.{IsMissing, IsWanted}
 use Rattle.node_table.specs.Diagram.{Graph, graph_code, IsNew, KeepsNodes, is_node, levels, level_of, high_at, low_at, variable_at}
-use Rattle.node_table.specs.Defined.{Definition, IsDefinedInPart, IsUnused, atom_of, definition_steps, definitions, with_definitions}
-use Rattle.node_table.specs.Tied.{IsTied, IsAdded, IsOwned, AreRetired, GivesNumbers, KeepsClauses}
+use Rattle.node_table.specs.Defined.{Definition, IsDefinedInPart, IsUnused, atom_of, definition_count, definition_steps, definitions}
+use Rattle.node_table.specs.Defined.{with_definitions}
+use Rattle.node_table.specs.Tied.{IsTied, IsAdded, IsOwned, AreRetired, AreUpTo, GivesNumbers, HoldFormula, KeepsClauses}
 
 -- how many inner nodes are live
 abbrev pub live_nodes : Graph → ℕ
 live_nodes graph = map.len graph.nodes
+
+-- how many clauses define the nodes of these entries, and those of a graph
+abbrev pub clauses_among : List (ℕ × Branch) → ℕ
+clauses_among [] = 0
+clauses_among (entry ∷ more) = definition_count entry.1.high entry.1.low + clauses_among more
+
+abbrev pub defining_clauses : Graph → ℕ
+defining_clauses graph = clauses_among (map.entries graph.nodes)
 
 -- its nodes, its ledger, the greatest number of inner nodes, how many clauses the formula has, and the retired clauses,
 -- which are to be deleted
@@ -36,6 +45,16 @@ table_code {S} code =
     (λ t. (t.graph, (t.book, (t.max_nodes, (t.inputs, t.retired)))))
     (λ p. record { graph = p.0; book = p.1.0; max_nodes = p.1.1.0; inputs = p.1.1.1.0; retired = p.1.1.1.1 }) (λ _. refl)
 
+-- a table without nodes over a ledger
+abbrev pub opened : {S : Type 0} → List ℕ → Book S → ℕ → TableState S
+opened order book max_nodes = record {
+  graph = record { order = order; nodes = map.empty };
+  book = book;
+  max_nodes = max_nodes;
+  inputs = book.state.top;
+  retired = [];
+}
+
 -- a clause of a table that was added beside the formula's and the definitions of nodes
 abbrev pub IsAddedTo : {S : Type 0} → TableState S → ℕ → Type 0
 IsAddedTo table id = IsAdded table.graph table.book.state.live table.inputs id
@@ -44,11 +63,18 @@ IsAddedTo table id = IsAdded table.graph table.book.state.live table.inputs id
 abbrev pub AddsNone : {S : Type 0} → TableState S → TableState S → Type 0
 AddsNone old new = (id : ℕ) → IsAddedTo new id → IsAddedTo old id
 
--- Sound: in step with its proof, its nodes tied to live clauses, and what is retired may be deleted.
+-- the greatest variable that a proof may use: one for each node that is allowed, above the formula's
+abbrev pub last_variable : {S : Type 0} → TableState S → ℕ
+last_variable table = levels table.graph + table.max_nodes
+
+-- Sound: in step with its proof, its nodes tied to live clauses and within its variables, the formula's clauses over its own,
+-- and what is retired may be deleted.
 pub record IsSound {S : Type 0} (table : TableState S) : Type 0 where
   pub in_step : IsTrue table.book.in_step
   pub tied : IsTied table.graph table.book.state
+  pub variables : AreUpTo (last_variable table) table.graph
   pub inputs : table.inputs ≤ table.book.state.top
+  pub formula : HoldFormula table.graph table.book.state.live table.inputs
   pub retired : AreRetired table.graph table.book.state.live table.inputs table.retired
 
 -- Nodes and live clauses stay, new clauses come under the next numbers, and retired ones stay retired.
@@ -64,9 +90,10 @@ pub record Extends {S : Type 0} (old new : TableState S) : Type 0 where
 pub record AddsNoEmpty {S : Type 0} (old new : TableState S) : Type 0 where
   pub each : (id : ℕ) → clause_at new.book.state.live id ≡ Some [] → clause_at old.book.state.live id ≡ Some []
 
--- At most four numbers were given for each new node, and so many more.
+-- Beside those of the clauses that define new nodes, at most so many numbers were given.
 abbrev pub AddsAtMost : {S : Type 0} → ℕ → TableState S → TableState S → Type 0
-AddsAtMost justified old new = new.book.state.top + 4 * live_nodes old.graph ≤ old.book.state.top + 4 * live_nodes new.graph + justified
+AddsAtMost justified old new = new.book.state.top + defining_clauses old.graph
+    ≤ old.book.state.top + defining_clauses new.graph + justified
 
 -- a node whose cofactors at this level are these children
 pub record HasChildren (graph : Graph) (level : ℕ) (high low node : Node) : Type 0 where

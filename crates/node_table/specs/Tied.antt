@@ -39,6 +39,18 @@ pub record GivesNumbers (old new : State) : Type 0 where
   pub next : (id : ℕ) → IsTrue (is_some (clause_at new.live id)) → IsTrue (is_some (clause_at old.live id)) ⊎ (old.top < id)
   pub each : (id : ℕ) → old.top < id → id ≤ new.top → IsTrue (is_some (clause_at new.live id))
 
+-- no variable of the clause is above this one
+abbrev pub IsUpTo : ℕ → List ℤ → Type 0
+IsUpTo most clause = (literal : ℤ) → IsTrue (list_any (int_eq literal) clause) → nat_abs literal ≤ most
+
+-- the clauses of a formula that has so many hold its variables alone
+abbrev pub HoldFormula : Graph → Live → ℕ → Type 0
+HoldFormula graph live inputs = (id : ℕ) (clause : List ℤ) → clause_at live id ≡ Some clause → id ≤ inputs → IsUpTo (levels graph) clause
+
+-- no extension variable is above this one
+abbrev pub AreUpTo : ℕ → Graph → Type 0
+AreUpTo most graph = (key : ℕ) (branch : Branch) → branch_at graph key ≡ Some branch → branch.variable ≤ most
+
 -- A clause that was added beside the definitions of nodes, over a formula of so many clauses: it is live, its number is
 -- above those of the formula, and it defines no node.
 pub record IsAdded (graph : Graph) (live : Live) (inputs id : ℕ) : Type 0 where

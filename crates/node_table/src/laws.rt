@@ -1,13 +1,13 @@
 // Laws of diagrams, over everything: functions without work, each of which ensures a record of `specs/Laws.antt`. The
 // crates above cite them by a call.
 ghost use Rattle.std.specs.Prelude.{◌≡◌, ◌+◌, ◌-◌, ◌<◌, ◌≤◌, ℕ, ℤ, List, [], Contains, IsTrue, is_some, length};
-ghost use Rattle.std.specs.FinMap as map;
 ghost use Rattle.cnf_base.specs.Truth.{AreClausesOf};
 ghost use Rattle.lrat_rules.specs.State.{State, Live, clause_at, start};
+ghost use Rattle.clause_ledger.specs.Book.{Book};
 ghost use Rattle.lrat_rules.specs.Marks.{in_use};
 ghost use Rattle.node_table.specs.Diagram.{Graph, IsOrder, levels};
-ghost use Rattle.node_table.specs.Tied.{IsTied, AreRetired};
-ghost use Rattle.node_table.specs.Table.{TableState, IsSound, live_nodes};
+ghost use Rattle.node_table.specs.Tied.{IsTied};
+ghost use Rattle.node_table.specs.Table.{TableState, IsSound, live_nodes, opened};
 ghost use Rattle.node_table.specs.Progress.{ComesSince};
 ghost use Rattle.node_table.specs.Lean.{HasAdded, IsLean, live_above};
 ghost use Rattle.node_table.specs.Laws.{Canonical, Missing, Growth, Kept, Cofactors, Subfunctions, Reachability, StepByStep};
@@ -58,12 +58,10 @@ pub fn reach_law()
     ensures { Reachability }
 {}
 
-/// A table without nodes is tied to the formula's clauses, and nothing is retired.
-pub fn opening_law()
-    ensures tied { (order : List ℕ) (clauses : List (List ℤ)) → IsOrder order → AreClausesOf (length order) clauses
-        → IsTied (record { order = order; nodes = map.empty }) (start clauses) }
-    ensures retired { (order : List ℕ) (clauses : List (List ℤ)) (inputs : ℕ)
-        → AreRetired (record { order = order; nodes = map.empty }) (start clauses).live inputs [] }
+/// A table without nodes, over the clauses of a formula that are all live, is sound.
+pub fn opening_law<S: Sink + Drop>()
+    ensures { (order : List ℕ) (clauses : List (List ℤ)) (book : Book S) (max_nodes : ℕ) → IsOrder order
+        → AreClausesOf (length order) clauses → book.state ≡ start clauses → IsTrue book.in_step → IsSound (opened order book max_nodes) }
 {
     start_law();
 }

@@ -19,7 +19,7 @@ ghost use Rattle.node_table.specs.Defined.{IsDefined, atom_of, defs_of, definiti
 ghost use Rattle.node_table.specs.Tied.{IsOverNodes};
 ghost use Rattle.node_table.specs.Stored.{HasSmallKey};
 ghost use Rattle.node_table.specs.Table.{TableState, IsSound, IsAddedTo, AddsNone, HasChildren, IsMissing, IsWanted, IsMade, IsMadeInPart};
-ghost use Rattle.node_table.specs.Table.{IsSame, UnlessTorn, live_nodes, without_retired};
+ghost use Rattle.node_table.specs.Table.{IsSame, UnlessTorn, live_nodes, opened, without_retired};
 ghost use Rattle.node_table.specs.Progress.{Leaves, Steps, StepsOrRefutes, error_of};
 ghost use Rattle.node_table.specs.Made.{inner};
 ghost use Rattle.node_table.specs.declared.node.Node.{Node as NodeValue};
@@ -90,13 +90,7 @@ impl<S: Sink + Drop> Table<S> {
         requires order { IsOrder order.now }
         requires few_levels { length order.now ≤ max_vars }
         requires few_nodes { max_nodes ≤ most_nodes_allowed }
-        ensures opened { IfOk result (λ table. table ≡ record {
-          graph = record { order = order.now; nodes = map.empty };
-          book = ledger;
-          max_nodes = max_nodes;
-          inputs = ledger.state.top;
-          retired = [];
-        }) }
+        ensures opened { IfOk result (λ table. table ≡ opened order.now ledger max_nodes) }
         ensures refused { IfErr result (λ back. back.0 ≡ ledger) }
     {
         match Diagram::new(alloc, order) {
@@ -281,8 +275,8 @@ impl<S: Sink + Drop> Table<S> {
     pub fn sweep(&mut self, marks: &Marks) -> Result<u32, TableError>
         requires sound { IsSound self.old }
         requires marks { AreMarks self.old.graph marks.now }
-        // No clause beside the definitions of nodes holds their extension variables.
-        requires clear { AreClear self.old.graph marks.now self.old.book.state.live }
+        // No clause that was added beside the definitions of nodes holds their extension variables.
+        requires clear { AreClear self.old.graph marks.now self.old.book.state.live self.old.inputs }
         ensures swept { OnOk result (IsSwept self.old.graph self.new.graph marks.now) }
         ensures gone { OnOk result ((id : ℕ) → DefinesUnmarked self.old.graph marks.now id → clause_at self.new.book.state.live id ≡ None) }
         ensures stay { (id : ℕ) → (DefinesUnmarked self.old.graph marks.now id → ⊥) → clause_at self.new.book.state.live id

@@ -16,8 +16,8 @@ use Rattle.node_table.specs.Laws.{Kept}
 use Rattle.node_table.specs.Made.{KeepsFrom, child_of, end_of, inner}
 use Rattle.node_table.specs.Marks.{AreMarks, is_marked}
 use Rattle.node_table.specs.Swept.{IsSwept}
-use Rattle.node_table.specs.Table.{TableState, Extends, IsAddedTo, IsSound}
-use Rattle.node_table.specs.Tied.{IsTied}
+use Rattle.node_table.specs.Table.{TableState, Extends, IsAddedTo, IsSound, last_variable}
+use Rattle.node_table.specs.Tied.{AreUpTo, HoldFormula, IsTied}
 use Rattle.operations.specs.Entries.{Entry, Conjunction, Implication, Disjunction, Quantification, AreApart, FitsEntry, Fits, Fitting}
 use Rattle.operations.specs.Entries.{IsAccounted, IsNamed, NamesOnly, RetiresOwn, just_of}
 use Rattle.operations.specs.Purged.{IsPurged, Purging, are_marked}
@@ -84,7 +84,9 @@ module _ {S : Type 0} (old new : TableState S) (marks : List Bool) (before after
     still_sound = record {
       in_step = subst (λ (t : TableState S). IsTrue t.book.in_step) (sym purged.table) sound.in_step;
       tied = subst (λ (t : TableState S). IsTied t.graph t.book.state) (sym purged.table) sound.tied;
+      variables = subst (λ (t : TableState S). AreUpTo (last_variable t) t.graph) (sym purged.table) sound.variables;
       inputs = subst (λ (t : TableState S). t.inputs ≤ t.book.state.top) (sym purged.table) sound.inputs;
+      formula = subst (λ (t : TableState S). HoldFormula t.graph t.book.state.live t.inputs) (sym purged.table) sound.formula;
       retired = record {
         each = λ id there. subst (λ (t : TableState S). IsAddedTo t id) (sym purged.table) (elim (retired_cases id there) [
           | inl was ↦ sound.retired.each id was

@@ -8,7 +8,7 @@ use Rattle.std.proofs.lemmas.List.Elements.{Contains-append_cases}
 use Rattle.lrat_rules.specs.State.{Live, clause_at}
 use Rattle.node_table.specs.declared.node.Node.{Node}
 use Rattle.node_table.specs.declared.node.Branch.{Branch}
-use Rattle.node_table.specs.Deleted.{AreClear, DefinesUnmarked}
+use Rattle.node_table.specs.Deleted.{AreClear, DefinesUnmarked, IsClear}
 use Rattle.node_table.specs.Diagram.{Graph, branch_at}
 use Rattle.node_table.specs.Made.{inner}
 use Rattle.node_table.specs.Marks.{AreMarks, AreReached, is_marked}
@@ -87,11 +87,23 @@ module _ {S : Type 0} (fitting : Fitting S) (law : Purging S) (old one two : Tab
   named_live : (id : ℕ) → IsNamed after id → clause_at two.book.state.live id ≡ clause_at old.book.state.live id
   named_live id by = live_two id (fits_one.unretired id by)
 
+  -- an added clause was one before
+  added_two : (id : ℕ) → IsAddedTo two id → IsAddedTo old id
+  added_two id own =
+      let clause = live_of two.book.state.live id own.stands in
+      let graph = graph_two in
+      record {
+        stands = ap is_some (was_live id clause.0 clause.1);
+        above = omega (arith, own.above, inputs_two);
+        defines_none = λ key branch at. own.defines_none key branch (ap (λ (g : Graph). branch_at g key) graph ∙ at);
+      }
+
   -- an added clause stays that wasn't retired or named
-  clear_old : MayReclaim old before roots → AreClear old.graph marks two.book.state.live
-  clear_old may id clause is defines_none literal holds key branch at unmarked same =
+  clear_old : MayReclaim old before roots → (id : ℕ) (clause : List ℤ) → clause_at two.book.state.live id ≡ Some clause
+      → IsAddedTo two id → IsClear old.graph marks clause
+  clear_old may id clause is own literal holds key branch at unmarked same =
       let was = was_live id clause is in
-      elim (may id clause was defines_none) [
+      elim (may id clause was (added_two id own)) [
         | inl known ↦ elim (law.accounted old one marks before after id purged known) [
           | inl gone ↦ unretired_two id clause is gone
           | inr by ↦
@@ -103,22 +115,11 @@ module _ {S : Type 0} (fitting : Fitting S) (law : Purging S) (old one two : Tab
         | inr over ↦ let e : true ≡ false = sym ((reached key).1 (ap is_some at, over literal holds key branch at same)) ∙ unmarked in cc
       ]
 
-  pub clear_two : MayReclaim old before roots → AreClear two.graph marks two.book.state.live
-  clear_two may = subst (λ (g : Graph). AreClear g marks two.book.state.live) (sym graph_two) (clear_old may)
+  pub clear_two : MayReclaim old before roots → AreClear two.graph marks two.book.state.live two.inputs
+  clear_two may id clause is own = subst (λ (g : Graph). IsClear g marks clause) (sym graph_two) (clear_old may id clause is own)
 
   pub marks_two : AreMarks two.graph marks
   marks_two = subst (λ (g : Graph). AreMarks g marks) (sym graph_two) are
-
-  -- an added clause was one before
-  added_two : (id : ℕ) → IsAddedTo two id → IsAddedTo old id
-  added_two id own =
-      let clause = live_of two.book.state.live id own.stands in
-      let graph = graph_two in
-      record {
-        stands = ap is_some (was_live id clause.0 clause.1);
-        above = omega (arith, own.above, inputs_two);
-        defines_none = λ key branch at. own.defines_none key branch (ap (λ (g : Graph). branch_at g key) graph ∙ at);
-      }
 
   module _ (new : TableState S) (swept : SweepsAway two new marks) where
     -- a node that is left was marked

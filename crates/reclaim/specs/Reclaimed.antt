@@ -5,7 +5,6 @@ use Rattle.std.specs.Ordering.{int_eq}
 use Rattle.lrat_rules.specs.State.{clause_at}
 use Rattle.node_table.specs.declared.node.Node.{Node}
 use Rattle.node_table.specs.declared.node.Branch.{Branch}
-use Rattle.node_table.specs.Deleted.{Defines}
 use Rattle.node_table.specs.Diagram.{Graph, branch_at}
 use Rattle.node_table.specs.Made.{inner}
 use Rattle.node_table.specs.Marks.{IsReached}
@@ -18,11 +17,10 @@ IsOverReached graph roots clause = (literal : ℤ) → IsTrue (list_any (int_eq 
     → branch_at graph key ≡ Some branch
     → nat_abs literal ≡ branch.variable → IsReached graph roots (inner key)
 
--- Each live clause beside the definitions of nodes is retired or named by an entry, or its extension variables are those of
--- nodes that the roots reach.
+-- Each clause that was added beside the definitions of nodes is retired or named by an entry, or its extension variables are
+-- those of nodes that the roots reach.
 abbrev pub MayReclaim : {S : Type 0} → TableState S → List Entry → List Node → Type 0
-MayReclaim table entries roots = (id : ℕ) (clause : List ℤ) → clause_at table.book.state.live id ≡ Some clause
-    → (Defines table.graph id → ⊥)
+MayReclaim table entries roots = (id : ℕ) (clause : List ℤ) → clause_at table.book.state.live id ≡ Some clause → IsAddedTo table id
     → IsAccounted table entries id ⊎ IsOverReached table.graph roots clause
 
 -- Exactly the nodes are left that the roots reach, as they were, and of the entries some, which fit them. No clause was

@@ -1,5 +1,5 @@
 -- How a run ends, by what its moves led to and by the flush.
-use Rattle.std.proofs.Common.{◌≡◌, ◌≢◌, ◌≤◌, ◌++◌, ◌∷◌, [], ℕ, max, Bool, true, false, ℤ, List, length, Option, None, Some, Result, Ok, Err, refl, sym, ap, ◌∙◌}
+use Rattle.std.proofs.Common.{◌≡◌, ◌≢◌, ◌≤◌, ◌+◌, ◌++◌, ◌∷◌, ◌⊎◌, [], ℕ, max, Bool, true, false, ℤ, List, length, Option, None, Some, Result, Ok, Err, refl, sym, ap, ◌∙◌}
 use Rattle.std.proofs.Common.{subst, arith, inl, inr}
 use Rattle.std.specs.Prelude.{IsTrue, IfOk}
 use Rattle.std.specs.List.{list_all}
@@ -8,7 +8,7 @@ use Rattle.host_io.specs.Channel.{Channel, Rose}
 use Rattle.cnf_base.specs.declared.step.Step.{Step}
 use Rattle.lrat_rules.specs.State.{start}
 use Rattle.lrat_rules.specs.Derivation.{IsCutProof, IsWritten, text_of}
-use Rattle.clause_ledger.specs.Book.{Book, IsBook, IsProofOf, IsTextOf, after_steps}
+use Rattle.clause_ledger.specs.Book.{Book, IsBook, IsCutText, IsProofOf, IsTextOf, after_steps}
 use Rattle.node_table.specs.declared.error.TableError.{TableError}
 use Rattle.node_table.specs.declared.error.TableError.TheVariants as table
 use Rattle.schedule_plan.specs.declared.plan.Move.{Move}
@@ -20,7 +20,7 @@ use Rattle.term_runner.specs.declared.outcome.Outcome.TheVariants.{Unsat, Sat, N
 use Rattle.term_runner.specs.declared.outcome.Run.{Run}
 use Rattle.term_runner.specs.Clauses.{is_tautology}
 use Rattle.term_runner.specs.Price.{AreAmple, IsDecision, IsMovePrice, IsPaidFor}
-use Rattle.term_runner.specs.Proofs.{IsProof, IsProofOfKind, LeadsTo}
+use Rattle.term_runner.specs.Proofs.{IsProof, IsProofOfKind, LeadsTo, UsesVariables}
 use Rattle.term_runner.specs.Width.{HasWidth}
 use Rattle.term_runner.specs.Ends.{Ends, Says, Shows, outcome_of}
 use Rattle.term_runner.specs.Opened.{EndsWithin, IsBehind, IsFlushed, Leads}
@@ -47,10 +47,16 @@ module _ {S B : Type 0} (tells : Bool) (channel : S → Channel) (beside : S →
   in_step_text in_step steps bytes on (inl whole) = whole
   in_step_text in_step steps bytes on (inr torn) = absurd (let e : true ≡ false = sym on ∙ torn.0 in cc)
 
+  spelled_of : (in_step : Bool) (steps : List Step) (front bytes : List ℕ) → bytes ≡ front → IsTextOf in_step steps front
+      → (bytes ≡ text_of steps) ⊎ IsCutText steps bytes
+  spelled_of in_step steps front bytes same (inl whole) = inl (same ∙ whole)
+  spelled_of in_step steps front bytes same (inr torn) = inr (subst (IsCutText steps) (sym same) torn.1)
+
   pub behind_of : IsBehind tells (channel book.origin) (channel book.sink) clauses book
   behind_of = record {
     proof = subst (λ (all : List (List ℤ)). IsProofOf all book.steps book.state) of_formula is.proof;
     text = λ t on. bytes_are t ∙ in_step_text book.in_step book.steps (is.since.text t).0 on (is.since.text t).2;
+    spelled = λ t. spelled_of book.in_step book.steps (is.since.text t).0 (channel book.sink).written (bytes_are t) (is.since.text t).2;
     cut = λ t off earlier last parts.
         subst (λ (all : List (List ℤ)). IsCutProof all (channel book.sink).written (after_steps (start all) earlier) book.state) of_formula
         (subst (λ (bytes : List ℕ). IsCutProof book.formula bytes (after_steps (start book.formula) earlier) book.state) (sym (bytes_are t))
@@ -93,6 +99,7 @@ module _ (tells : Bool) (before mid after : Channel) (formula : Formula) (order 
         → AreAmple limits formula moves width price → IsDecision run.outcome
     pub shows : IsTrue tells → Shows formula limits mid.written run.outcome
     pub last : IsTrue tells → LeadsTo formula limits mid.written run.last_id
+    pub variables : IsTrue tells → UsesVariables (formula.vars + limits.max_nodes) mid.written
     pub price : (width price : ℕ) → HasWidth formula order moves width → IsMovePrice formula.vars limits.cache width price → IsTrue tells
         → IsProofOfKind formula.clauses (IsPaidFor formula limits moves width price) mid.written
     pub tautologies : IsTrue (list_all is_tautology formula.clauses) → mid.written ≡ before.written
@@ -110,6 +117,7 @@ module _ (tells : Bool) (before mid after : Channel) (formula : Formula) (order 
     last = λ t. subst (λ (b : List ℕ). LeadsTo formula limits b run.last_id) (sym written) (shown.last t);
     whole = λ _ t. subst (λ (b : List ℕ). IsProof formula limits b) (sym written) (shown.last t).proof;
     so_far = λ t. inl (subst (λ (b : List ℕ). IsProof formula limits b) (sym written) (shown.last t).proof);
+    variables = λ t. subst (UsesVariables (formula.vars + limits.max_nodes)) (sym written) (shown.variables t);
     price = λ width price has paid t. inl (subst (λ (b : List ℕ). IsProofOfKind formula.clauses
         (IsPaidFor formula limits moves width price) b) (sym written) (shown.price width price has paid t));
     flushed = λ _ t. flushed t;
@@ -130,6 +138,7 @@ module _ (tells : Bool) (before mid after : Channel) (formula : Formula) (order 
     last = λ t. tt;
     whole = λ no t. absurd (no refl);
     so_far = λ t. inl (subst (λ (b : List ℕ). IsProof formula limits b) (sym written) (shown.last t).proof);
+    variables = λ t. subst (UsesVariables (formula.vars + limits.max_nodes)) (sym written) (shown.variables t);
     price = λ width price has paid t. inl (subst (λ (b : List ℕ). IsProofOfKind formula.clauses
         (IsPaidFor formula limits moves width price) b) (sym written) (shown.price width price has paid t));
     flushed = λ ok t. absurd (let e : false ≡ true = ok in cc);
@@ -176,6 +185,7 @@ module _ (tells : Bool) (before mid after : Channel) (formula : Formula) (order 
       certain = leads.certain;
       shows = leads.shows;
       last = λ t. record { proof = proof_of (Ok outcome) leads (λ e. cc) t; top = sym top };
+      variables = leads.variables;
       price = priced_of (Ok outcome) leads (λ e. cc);
       tautologies = leads.tautologies;
       name = leads.name;
@@ -193,6 +203,7 @@ module _ (tells : Bool) (before mid after : Channel) (formula : Formula) (order 
       last = λ t. tt;
       whole = λ _ t. proof_of (Err OutOfMemory) leads (λ e. cc) t;
       so_far = λ t. inl (proof_of (Err OutOfMemory) leads (λ e. cc) t);
+      variables = leads.variables;
       price = λ width price has paid t. inl (priced_of (Err OutOfMemory) leads (λ e. cc) width price has paid t);
       flushed = λ ok t. absurd (let e : false ≡ true = ok in cc);
       fault = λ e. cc;
@@ -208,6 +219,7 @@ module _ (tells : Bool) (before mid after : Channel) (formula : Formula) (order 
       last = λ t. tt;
       whole = λ no t. absurd (no refl);
       so_far = λ t. inr (leads.broken refl t);
+      variables = leads.variables;
       price = λ width price has paid t. inr (leads.broken_paid width price has paid refl t);
       flushed = λ ok t. absurd (let e : false ≡ true = ok in cc);
       fault = λ e. leads.fault refl;
@@ -219,17 +231,18 @@ module _ (tells : Bool) (before mid after : Channel) (formula : Formula) (order 
 
 -- the end where memory ran out before the moves
 pub nothing_ends : (tells : Bool) (before after : Channel) (formula : Formula) (order : List ℕ) (moves : List Move) (limits : Limits)
-    → (IsTrue tells → IsProof formula limits after.written)
+    → (IsTrue tells → IsProof formula limits after.written) → (IsTrue tells → after.written ≡ [])
     → ((width price : ℕ) → IsTrue tells → IsProofOfKind formula.clauses (IsPaidFor formula limits moves width price) after.written)
     → after.written ≡ before.written → after.name ≡ before.name → after.faults ≡ before.faults
     → Ends tells before after formula order moves limits (Err OutOfMemory)
-nothing_ends tells before after formula order moves limits whole within_price written name unfailed = record {
+nothing_ends tells before after formula order moves limits whole none within_price written name unfailed = record {
   says = tt;
   certain = λ width price has paid ample. tt;
   shows = λ t. tt;
   last = λ t. tt;
   whole = λ _ t. whole t;
   so_far = λ t. inl (whole t);
+  variables = λ t. record { steps = []; spelled = inl (none t); few = tt };
   price = λ width price has paid t. inl (within_price width price t);
   flushed = λ ok t. absurd (let e : false ≡ true = ok in cc);
   fault = λ e. cc;

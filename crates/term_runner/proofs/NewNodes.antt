@@ -1,4 +1,4 @@
--- How many nodes a move makes: where their functions are parts of terms in hand, no more than there are of these.
+-- How many nodes a call makes: where their functions are parts of some kind, no more than there are of these.
 use Rattle.std.proofs.Common.{◌≡◌, ℕ, ◌<◌, ◌≤◌, ◌+◌, Bool, true, false, not, cond, List, length, Option, None, Some, is_some, nat_cmp, T}
 use Rattle.std.proofs.Common.{Equal, refl, sym, ap, ◌∙◌, subst, arith, inl, inr}
 use Rattle.std.specs.Cmp.{nat_cmp_total}
@@ -6,15 +6,13 @@ use Rattle.std.specs.FinMap as finmap
 use Rattle.std.specs.FinMap.Entries.{find, find-where_key, is_some-find, is_sorted, is_sorted-where_key, same_entries, where_key}
 use Rattle.std.proofs.lemmas.Bool.{cases_lt}
 use Rattle.std.proofs.lemmas.List.Filters.{length-filter_both}
-use Rattle.cnf_base.specs.Formula.{Formula}
 use Rattle.node_table.specs.declared.node.Branch.{Branch}
 use Rattle.node_table.specs.Diagram.{Graph, IsReduced, KeepsNodes, branch_at}
-use Rattle.node_table.specs.Value.{value_of}
+use Rattle.node_table.specs.Value.{Levels, value_of}
 use Rattle.node_table.specs.Table.{live_nodes}
 use Rattle.node_table.specs.Made.{inner}
 use Rattle.node_table.specs.Laws.{Canonical}
-use Rattle.schedule_plan.specs.Plan.{Stage}
-use Rattle.term_runner.specs.Width.{HoldsAtMost, IsPartInHand, part_at}
+use Rattle.term_runner.specs.Width.{AreMore, part_at}
 use Rattle.term_runner.proofs.Listed.{differ_at, essential_at, function_at, functions_of, key_at, length-functions, listed, some_of}
 
 some_cond : (b : Bool) (o : Option Branch) → is_some (cond b o None) ≡ true → (b ≡ true) × (is_some o ≡ true)
@@ -79,20 +77,21 @@ module _ (old new : Graph) (keeps : KeepsNodes old new) where
   stands : (place : ℕ) → place < length fresh → is_some (branch_at new (key_at fresh place)) ≡ true
   stands place small = (fresh_at place small).1
 
-  module _ (canonical : Canonical) (formula : Formula) (order : List ℕ) (before after : Stage) (reduced : IsReduced new)
+  -- of any kind of parts: the functions of the new nodes are such parts
+  module _ (canonical : Canonical) (reduced : IsReduced new) (is_part : (Levels → Bool) → Type 0)
       (made : (key : ℕ) (branch : Branch) → branch_at new key ≡ Some branch → branch_at old key ≡ None
-      → IsPartInHand formula order before after (λ a. value_of new a (inner key))) where
+      → is_part (λ a. value_of new a (inner key))) where
     sorted : T (is_sorted nat_cmp fresh)
     sorted = is_sorted-where_key nat_cmp is_new all (finmap.entries_sorted new.nodes)
 
-    in_hand : (place : ℕ) → place < length fresh → IsPartInHand formula order before after (part_at (functions_of new fresh) place)
-    in_hand place small =
+    are_parts : (place : ℕ) → place < length fresh → is_part (part_at (functions_of new fresh) place)
+    are_parts place small =
         let at = fresh_at place small in
         let branch = some_of (branch_at new (key_at fresh place)) at.1 in
-        subst (IsPartInHand formula order before after) (sym (function_at new fresh place small))
+        subst is_part (sym (function_at new fresh place small))
         (made (key_at fresh place) branch.0 branch.1 (none_of (branch_at old (key_at fresh place)) at.0))
 
-    pub few_made : (width : ℕ) → HoldsAtMost formula order before after width → live_nodes new ≤ live_nodes old + width
+    pub few_made : (width : ℕ) → (AreMore is_part width → ⊥) → live_nodes new ≤ live_nodes old + width
     few_made width most = elim (cases_lt (live_nodes old + width) (live_nodes new)) [
       | inr few ↦ few
       | inl many ↦
@@ -102,7 +101,7 @@ module _ (old new : Graph) (keeps : KeepsNodes old new) where
           absurd (most (record {
             parts = functions_of new fresh;
             more = omega (arith, many, counted, listed_all);
-            are = λ place small. in_hand place (within place small);
+            are = λ place small. are_parts place (within place small);
             essential = λ place small. essential_at canonical new reduced fresh sorted stands place (within place small);
             differ = λ place other less small. differ_at canonical new reduced fresh sorted stands place other less (within other small);
           }))

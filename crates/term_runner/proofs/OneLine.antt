@@ -19,6 +19,8 @@ use Rattle.lrat_rules.specs.Run.{Refutes, step_adds_empty}
 use Rattle.clause_ledger.specs.Book.{AreNumbers, AreTold, Book, addition, with_next}
 use Rattle.clause_ledger.specs.Told.{told_formula, told_in_step, told_origin, told_state, told_steps}
 use Rattle.node_table.specs.Lean.{IsLean, live_above}
+use Rattle.node_table.specs.Progress.{AreStepsUpTo}
+use Rattle.node_table.specs.Tied.{IsUpTo}
 use Rattle.node_table.specs.declared.error.TableError.{TableError}
 use Rattle.node_table.specs.declared.error.TableError.TheVariants as table
 use Rattle.schedule_plan.specs.declared.plan.Move.{Move}
@@ -193,6 +195,12 @@ module _ {S : Type 0} (unused : Unused) (appended : Appended) (none_above : None
   steps_are : (in_step : Bool) → AreTold in_step old new (last ∷ []) → new.steps ≡ last ∷ []
   steps_are in_step told = told_steps told ∙ ap (λ (steps : List Step). steps ++ last ∷ []) opened.steps
 
+  no_literal : {most : ℕ} → IsUpTo most []
+  no_literal literal among = absurd (let e : false ≡ true = among in cc)
+
+  no_steps : (most : ℕ) → new ≡ old → AreStepsUpTo most new.steps
+  no_steps most same = subst (AreStepsUpTo most) (sym (ap (λ (b : Book S). b.steps) same ∙ opened.steps)) tt
+
   state_of : (r : Result (Option (List Bool)) TableError) → IfOk r (λ found. (found ≡ None) × AreTold true old new (last ∷ []))
       → IfOk r (λ found. (found ≡ None) × (new.state ≡ with_next old.state []))
   state_of (Ok found) ok = (ok.0, told_state ok.1)
@@ -214,6 +222,17 @@ module _ {S : Type 0} (unused : Unused) (appended : Appended) (none_above : None
 
   top_at_start : old.state.top ≡ length formula.clauses
   top_at_start = ap (λ (s : State). s.top) opened.state
+
+  -- no variable was used
+  variables_of : (most : ℕ) (r : Result (Option (List Bool)) TableError)
+      → IfOk r (λ found. (found ≡ None) × AreTold true old new (last ∷ []))
+      → (r ≡ Err table.WriteFault → AreTold false old new (last ∷ [])) → IfErr r (λ e. e ≢ table.WriteFault → new ≡ old)
+      → AreStepsUpTo most new.steps
+  variables_of most (Ok found) ok torn refused = subst (AreStepsUpTo most) (sym (steps_are true ok.1)) (no_literal, tt)
+  variables_of most (Err table.NodeLimit) ok torn refused = no_steps most (refused (λ e. cc))
+  variables_of most (Err table.IdLimit) ok torn refused = no_steps most (refused (λ e. cc))
+  variables_of most (Err table.OutOfMemory) ok torn refused = no_steps most (refused (λ e. cc))
+  variables_of most (Err table.WriteFault) ok torn refused = subst (AreStepsUpTo most) (sym (steps_are false (torn refl))) (no_literal, tt)
 
   -- a number was left unless that was told
   room_of : result ≢ Err table.IdLimit → length formula.clauses < limits.max_ids
@@ -292,6 +311,11 @@ module _ {S : Type 0} (unused : Unused) (appended : Appended) (none_above : None
     paid = λ width price has paid whole. paid_of width price paid result (whole_of result whole) (state_of result added.found) (refused_state result added.refused);
     broken = λ is t. broken_of_kind (KeepsWithin formula limits) is t (at_start_within limits)
         (more_within limits (room_of (λ e. two_causes (sym (torn_of result is) ∙ e))) (told_state (added.torn (torn_of result is))));
+    variables = λ t. record {
+      steps = new.steps;
+      spelled = behind.spelled t;
+      few = variables_of (formula.vars + limits.max_nodes) result added.found added.torn added.refused;
+    };
     broken_paid = λ width price has paid is t. broken_of_kind (IsPaidFor formula limits moves width price) is t (at_start_paid width price)
         (more_paid width price paid (told_state (added.torn (torn_of result is))));
     certain = λ width price has_width paid ample.

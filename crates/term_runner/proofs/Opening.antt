@@ -13,14 +13,14 @@ use Rattle.lrat_rules.specs.State.{State, Live, clause_at, start}
 use Rattle.lrat_rules.specs.Derivation.{IsCutProof, IsDerivation, IsWritten}
 use Rattle.lrat_rules.specs.Run.{Refutes}
 use Rattle.lrat_rules.specs.Marks.{IsWithin, in_use}
-use Rattle.clause_ledger.specs.Book.{AreTold, after_steps}
+use Rattle.clause_ledger.specs.Book.{AreTold, Book, after_steps}
 use Rattle.clause_ledger.specs.Told.{told_in_step, told_steps}
 use Rattle.node_table.specs.declared.error.TableError.{TableError}
 use Rattle.node_table.specs.declared.error.TableError.TheVariants.{NodeLimit, IdLimit, OutOfMemory, WriteFault}
 use Rattle.node_table.specs.Diagram.{Graph, levels}
-use Rattle.node_table.specs.Tied.{IsTied, AreRetired}
-use Rattle.node_table.specs.Table.{TableState, AddsNoEmpty, live_nodes}
-use Rattle.node_table.specs.Progress.{Continues, BreaksOff, Leaves, error_of, number_limit}
+use Rattle.node_table.specs.Tied.{IsTied}
+use Rattle.node_table.specs.Table.{TableState, AddsNoEmpty, IsSound, last_variable, live_nodes, opened}
+use Rattle.node_table.specs.Progress.{AreStepsUpTo, Continues, BreaksOff, Leaves, error_of, number_limit}
 use Rattle.node_table.specs.Laws.{Canonical}
 use Rattle.cnf_base.specs.Order.{IsOrder}
 use Rattle.schedule_plan.specs.declared.plan.Move.{Move}
@@ -52,37 +52,26 @@ pub whole_at_start : (formula : Formula) (kind : State → Type 0) → kind (sta
 whole_at_start formula kind is bytes written = record { state = start formula.clauses; written = written; within = is }
 
 -- a table over the opened ledger is ready
-pub ready_at : {S : Type 0} → StartClauses → ((order : List ℕ) (clauses : List (List ℤ)) → IsOrder order
-    → AreClausesOf (length order) clauses → IsTied (record { order = order; nodes = map.empty }) (start clauses))
-    → ((order : List ℕ) (clauses : List (List ℤ)) (inputs : ℕ) → AreRetired (record { order = order; nodes = map.empty })
-    (start clauses).live inputs [])
-    → (formula : Formula) (order : List ℕ) (table : TableState S) → table.graph ≡ record { order = order; nodes = map.empty }
-    → table.book.state ≡ start formula.clauses → IsTrue table.book.in_step → table.inputs ≡ table.book.state.top → table.retired ≡ []
-    → IsOrder order → length order ≡ formula.vars
+pub ready_at : {S : Type 0} → StartClauses → ((order : List ℕ) (clauses : List (List ℤ)) (book : Book S) (max_nodes : ℕ) → IsOrder order
+    → AreClausesOf (length order) clauses → book.state ≡ start clauses → IsTrue book.in_step → IsSound (opened order book max_nodes))
+    → (formula : Formula) (order : List ℕ) (book : Book S) (table : TableState S) (max_nodes : ℕ) → table ≡ opened order book max_nodes
+    → book.state ≡ start formula.clauses → IsTrue book.in_step → IsOrder order → length order ≡ formula.vars
     → AreClausesOf formula.vars formula.clauses → IsFalse (has_empty_clause formula.clauses) → IsReady formula table []
-ready_at there opening none_retired formula order table graph state in_step inputs retired is_order vars literals none = record {
-  sound = record {
-    in_step = in_step;
-    tied = subst (λ (h : Graph). IsTied h table.book.state) (sym graph)
-        (subst (λ (s : State). IsTied (record { order = order; nodes = map.empty }) s) (sym state)
-        (opening order formula.clauses is_order (subst (λ (v : ℕ). AreClausesOf v formula.clauses) (sym vars) literals)));
-    inputs = omega (arith, inputs);
-    retired = subst (λ (ids : List ℕ). AreRetired table.graph table.book.state.live table.inputs ids) (sym retired)
-        (subst (λ (h : Graph). AreRetired h table.book.state.live table.inputs []) (sym graph)
-        (subst (λ (s : State). AreRetired (record { order = order; nodes = map.empty }) s.live table.inputs []) (sym state)
-        (none_retired order formula.clauses table.inputs)));
-  };
-  fits = record {
-    each = λ entry has. absurd (omega (arith, has.1));
-    own = λ id named. absurd (omega (arith, named.1.1));
-    unretired = λ id named gone. omega (arith, named.1.1);
-    apart = λ one other id has also names named. absurd (omega (arith, has.1));
-  };
-  inputs = λ i small. (λ k. clause_at (state k).live (i + 1)) ∙ there formula.clauses i small;
-  counted = omega (arith, inputs, ap (λ (s : State). s.top) state);
-  vars = ap levels graph ∙ vars;
-  none_empty = none;
-}
+ready_at {S} there opening formula order book table max_nodes is state in_step is_order vars literals none =
+    subst (λ (t : TableState S). IsReady formula t []) (sym is) (record {
+      sound = opening order formula.clauses book max_nodes is_order
+          (subst (λ (v : ℕ). AreClausesOf v formula.clauses) (sym vars) literals) state in_step;
+      fits = record {
+        each = λ entry has. absurd (omega (arith, has.1));
+        own = λ id named. absurd (omega (arith, named.1.1));
+        unretired = λ id named gone. omega (arith, named.1.1);
+        apart = λ one other id has also names named. absurd (omega (arith, has.1));
+      };
+      inputs = λ i small. (λ k. clause_at (state k).live (i + 1)) ∙ there formula.clauses i small;
+      counted = ap (λ (s : State). s.top) state;
+      vars = vars;
+      none_empty = none;
+    })
 
 -- a model, or a live clause without literals
 abbrev pub IsDecided : Formula → List ℕ → List Move → Live → Option (List Bool) → Type 0
@@ -185,6 +174,22 @@ module _ {S : Type 0} (canonical : Canonical) (unsatisfied : DerivedEmpty) (refu
     numbers = omega (arith, is.numbers, top_at_start, opened.limit);
     nodes = nodes_within limits.max_nodes (omega (arith, few, few_nodes)) state is;
   }
+
+  -- the steps since the start, and their variables
+  steps_of : (error : Option TableError) → Leaves old new error → (more : List Step) × (new.book.steps ≡ old.book.steps ++ more)
+      × AreStepsUpTo (last_variable old) more
+  steps_of None leaves = (leaves.more, told_steps leaves.told, leaves.variables)
+  steps_of (Some NodeLimit) leaves = (leaves.0.more, told_steps leaves.0.told, leaves.0.variables)
+  steps_of (Some IdLimit) leaves = (leaves.0.more, told_steps leaves.0.told, leaves.0.variables)
+  steps_of (Some OutOfMemory) leaves = (leaves.more, told_steps leaves.told, leaves.variables)
+  steps_of (Some WriteFault) leaves = (leaves.more, told_steps leaves.told, leaves.variables)
+
+  few_variables : AreStepsUpTo (formula.vars + limits.max_nodes) new.book.steps
+  few_variables =
+      let own = steps_of (error_of result) decided.leaves in
+      let same : new.book.steps ≡ own.0 = own.1 ∙ (λ i. opened.steps i ++ own.0) in
+      subst (AreStepsUpTo (formula.vars + limits.max_nodes)) (sym same)
+      (subst (λ (n : ℕ). AreStepsUpTo n own.0) (λ i. ready.vars i + few_nodes i) own.2)
 
   -- the clauses of the formula are the table's inputs, and its variables the levels
   same_inputs : old.inputs ≡ length formula.clauses
@@ -310,6 +315,7 @@ module _ {S : Type 0} (canonical : Canonical) (unsatisfied : DerivedEmpty) (refu
           within_before = within_limits few cut.before cut.within_before;
           within_after = within_limits few new.book.state cut.within_after;
         };
+    variables = λ t. record { steps = new.book.steps; spelled = behind.spelled t; few = few_variables };
     paid = λ width price has is whole. paid width price has is (whole_of result whole);
     broken_paid = λ width price has is torn_is t. broken_paid width price has is (torn_of result torn_is) t;
     certain = λ width price has is_price ample.

@@ -1,50 +1,53 @@
--- The functions of a graph's nodes and a further one that is that of none: more parts in hand than there are nodes.
+-- The functions of a graph's nodes and a further one that is that of none: more parts than there are nodes.
 use Rattle.std.proofs.Common.{◌≡◌, ℕ, zero, suc, ◌<◌, ◌≤◌, Bool, true, false, List, ◌∷◌, length, is_some, sym, ◌∙◌, subst, refl, arith}
 use Rattle.std.specs.FinMap as finmap
 use Rattle.cnf_base.specs.Formula.{Formula}
+use Rattle.node_table.specs.declared.node.Node.{Node}
 use Rattle.node_table.specs.declared.node.Node.TheVariants.{False, True}
 use Rattle.node_table.specs.declared.node.Branch.{Branch}
-use Rattle.node_table.specs.Diagram.{Graph, IsReduced, branch_at}
-use Rattle.node_table.specs.Value.{Levels}
+use Rattle.node_table.specs.Diagram.{Graph, IsReduced, branch_at, is_node}
+use Rattle.node_table.specs.Value.{Levels, value_of}
 use Rattle.node_table.specs.Table.{live_nodes}
 use Rattle.node_table.specs.Made.{inner}
 use Rattle.node_table.specs.Laws.{Canonical}
 use Rattle.schedule_plan.specs.declared.plan.Move.{Move}
-use Rattle.term_runner.specs.Width.{Differ, IsEssential, IsPartInHand, IsWider, part_at}
+use Rattle.term_runner.specs.Width.{AreMore, Differ, IsEssential, IsPartInHand, IsWider, part_at}
 use Rattle.term_runner.specs.Nodes.{RunsShort}
 use Rattle.term_runner.proofs.Listed.{differ_at, essential_at, function_at, functions_of, key_at, length-functions, listed, some_of}
 
-module _ (canonical : Canonical) (formula : Formula) (order : List ℕ) (moves : List Move) (graph : Graph) (reduced : IsReduced graph)
-    (short : RunsShort formula order moves graph) where
+-- of any kind of parts: the functions of all nodes, and one that is that of no node
+module _ (canonical : Canonical) (graph : Graph) (reduced : IsReduced graph) (is_part : (Levels → Bool) → Type 0)
+    (each : (key : ℕ) (branch : Branch) → branch_at graph key ≡ Some branch → is_part (λ a. value_of graph a (inner key)))
+    (further : Levels → Bool) (is_further : is_part further)
+    (nowhere : (node : Node) → is_node graph node ≡ true → ((a : Levels) → value_of graph a node ≡ further a) → ⊥) where
   abbrev es : List (ℕ × Branch)
   es = finmap.entries graph.nodes
 
   stands : (place : ℕ) → place < length es → is_some (branch_at graph (key_at es place)) ≡ true
   stands place small = finmap.contains_key-keys graph.nodes (key_at es place) ∙ listed es place small
 
-  in_hand_at : (place : ℕ) → place < length es → IsPartInHand formula order short.before short.after (part_at (functions_of graph es) place)
-  in_hand_at place small =
+  part_of_node : (place : ℕ) → place < length es → is_part (part_at (functions_of graph es) place)
+  part_of_node place small =
       let found = some_of (branch_at graph (key_at es place)) (stands place small) in
-      subst (IsPartInHand formula order short.before short.after) (sym (function_at graph es place small))
-      (short.in_hand (key_at es place) found.0 found.1)
+      subst is_part (sym (function_at graph es place small)) (each (key_at es place) found.0 found.1)
 
-  nowhere_at : (place : ℕ) → place < length es → Differ short.further (part_at (functions_of graph es) place)
-  nowhere_at place small same = short.nowhere (inner (key_at es place)) (stands place small)
+  nowhere_at : (place : ℕ) → place < length es → Differ further (part_at (functions_of graph es) place)
+  nowhere_at place small same = nowhere (inner (key_at es place)) (stands place small)
       (λ a. sym (λ k. function_at graph es place small k a) ∙ sym (same a))
 
   abbrev all : List (Levels → Bool)
-  all = short.further ∷ functions_of graph es
+  all = further ∷ functions_of graph es
 
   few : (place : ℕ) → suc place < length all → place < length es
   few place small = omega (arith, small, length-functions graph es)
 
-  in_hand : (place : ℕ) → place < length all → IsPartInHand formula order short.before short.after (part_at all place)
-  in_hand zero small = short.is_part
-  in_hand (suc place) small = in_hand_at place (few place small)
+  are_parts : (place : ℕ) → place < length all → is_part (part_at all place)
+  are_parts zero small = is_further
+  are_parts (suc place) small = part_of_node place (few place small)
 
   essential : (place : ℕ) → place < length all → IsEssential (part_at all place)
-  essential zero small true same = short.nowhere True refl (λ a. sym (same a))
-  essential zero small false same = short.nowhere False refl (λ a. sym (same a))
+  essential zero small true same = nowhere True refl (λ a. sym (same a))
+  essential zero small false same = nowhere False refl (λ a. sym (same a))
   essential (suc place) small value same = essential_at canonical graph reduced es (finmap.entries_sorted graph.nodes) stands place
       (few place small) value same
 
@@ -55,20 +58,26 @@ module _ (canonical : Canonical) (formula : Formula) (order : List ℕ) (moves :
   differ (suc place) (suc other) less small same = differ_at canonical graph reduced es
       (finmap.entries_sorted graph.nodes) stands place other (omega (arith, less)) (few other small) same
 
-  pub is_wider : (number : ℕ) → live_nodes graph ≡ number → IsWider formula order moves number
-  is_wider number live = record {
-    count = short.count;
-    before = short.before;
-    after = short.after;
-    move = short.move;
-    more = record {
-      parts = all;
-      more = omega (arith, length-functions graph es, finmap.len-entries graph.nodes, live);
-      are = in_hand;
-      essential = essential;
-      differ = differ;
-    };
+  pub are_more : (number : ℕ) → live_nodes graph ≡ number → AreMore is_part number
+  are_more number live = record {
+    parts = all;
+    more = omega (arith, length-functions graph es, finmap.len-entries graph.nodes, live);
+    are = are_parts;
+    essential = essential;
+    differ = differ;
   }
+
+-- a plan that runs short of nodes is wider than their number
+pub is_wider : Canonical → (formula : Formula) (order : List ℕ) (moves : List Move) (graph : Graph) → IsReduced graph
+    → RunsShort formula order moves graph → (number : ℕ) → live_nodes graph ≡ number → IsWider formula order moves number
+is_wider canonical formula order moves graph reduced short number live = record {
+  count = short.count;
+  before = short.before;
+  after = short.after;
+  move = short.move;
+  more = are_more canonical graph reduced (IsPartInHand formula order short.before short.after) short.in_hand short.further short.is_part
+      short.nowhere number live;
+}
 
 -- what is wider than a number is wider than a lesser one
 pub wider_less : (formula : Formula) (order : List ℕ) (moves : List Move) (few number : ℕ) → few ≤ number

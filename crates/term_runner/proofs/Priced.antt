@@ -1,5 +1,5 @@
 -- How many numbers a try of a move gives, and a move in two tries.
-use Rattle.std.proofs.Common.{◌≡◌, ℕ, zero, suc, ◌+◌, ◌*◌, ◌^◌, ◌≤◌, ◌∙◌, nat_cmp, List, Option, None, Some, refl, sym, ap, subst}
+use Rattle.std.proofs.Common.{◌≡◌, ℕ, zero, suc, ◌+◌, ◌*◌, ◌^◌, ◌≤◌, ◌∙◌, nat_cmp, Bool, List, Option, None, Some, refl, sym, ap, subst}
 use Rattle.std.proofs.Common.{arith, inl, inr}
 use Rattle.std.specs.FinMap as map
 use Rattle.std.proofs.Math.Nat.{add-mul, mul-add, mul-one, one-mul, two-pow-succ}
@@ -7,16 +7,18 @@ use Rattle.cnf_base.specs.Formula.{Formula}
 use Rattle.node_table.specs.declared.error.TableError.{TableError}
 use Rattle.node_table.specs.declared.error.TableError.TheVariants.{NodeLimit, IdLimit, OutOfMemory, WriteFault}
 use Rattle.node_table.specs.declared.node.Branch.{Branch}
-use Rattle.node_table.specs.Diagram.{Graph, IsReduced, KeepsNodes, levels}
-use Rattle.node_table.specs.Laws.{Canonical}
+use Rattle.node_table.specs.Diagram.{Graph, IsReduced, KeepsNodes, branch_at, levels}
+use Rattle.node_table.specs.Laws.{Canonical, Growth}
+use Rattle.node_table.specs.Made.{inner}
 use Rattle.node_table.specs.Progress.{Leaves}
 use Rattle.node_table.specs.Table.{TableState, AddsAtMost, live_nodes}
+use Rattle.node_table.specs.Value.{Levels, value_of}
 use Rattle.operations.specs.Budget.{most_additions}
 use Rattle.schedule_plan.specs.declared.plan.Move.{Move}
 use Rattle.schedule_plan.specs.Plan.{Stage, after_move}
 use Rattle.term_runner.specs.Price.{AddsFew, IsMovePrice, most_nodes}
 use Rattle.term_runner.specs.Tidy.{IsTidy}
-use Rattle.term_runner.specs.Width.{HoldsAtMost, top_function}
+use Rattle.term_runner.specs.Width.{AreMore, HoldsAtMost, IsPartInHand, top_function}
 use Rattle.term_runner.specs.Nodes.{KeepsOrMakes}
 use Rattle.term_runner.proofs.InHand.{result_part}
 use Rattle.term_runner.proofs.NewNodes.{few_made}
@@ -65,25 +67,41 @@ moved_few old new left width tidy few adds =
     let before = tidy_few old left width tidy few in
     elim adds [ inl more ↦ omega (arith, before, more) | inr all ↦ omega (arith, all) ]
 
--- one try, however it ends
-module _ {S : Type 0} (canonical : Canonical) (formula : Formula) (order : List ℕ) (before after : Stage) (step : Move)
+-- One try, however it ends, that makes parts of some kind.
+module _ {S : Type 0} (growth : Growth) (canonical : Canonical) (old new : TableState S) (error : Option TableError)
+    (leaves : Leaves old new error) (keeps : KeepsNodes old.graph new.graph) (is_part : (Levels → Bool) → Type 0)
+    (made : (key : ℕ) (branch : Branch) → branch_at new.graph key ≡ Some branch → branch_at old.graph key ≡ None
+    → is_part (λ a. value_of new.graph a (inner key))) (width : ℕ) (most : AreMore is_part width → ⊥) where
+  pub few_tried : live_nodes new.graph ≤ live_nodes old.graph + width
+  few_tried = few_made old.graph new.graph keeps canonical (reduced_left old new error leaves) is_part made width most
+
+  pub price_tried : (vars size price : ℕ) → levels old.graph ≡ vars → IsMovePrice vars size width price
+      → AddsAtMost (most_additions (levels old.graph) + 1) old new
+      → (width * width ≤ size → AddsAtMost (2 * (width * width) + 1) old new) → 2 * new.book.state.top ≤ 2 * old.book.state.top + price
+  price_tried vars size price same is adds pairs =
+      let four = growth.definitions old.graph new.graph keeps in
+      half_price vars size width price is old.book.state.top new.book.state.top
+      (subst (λ (n : ℕ). new.book.state.top ≤ old.book.state.top
+      + (4 * width + (most_additions n + 1))) same (omega (arith, adds, few_tried, four)))
+      (λ room. let own = pairs room in omega (arith, own, few_tried, four))
+
+-- that of a move
+module _ {S : Type 0} (growth : Growth) (canonical : Canonical) (formula : Formula) (order : List ℕ) (before after : Stage) (step : Move)
     (leads : after_move formula before step ≡ Some after) (old new : TableState S) (error : Option TableError) (leaves : Leaves old new error)
     (keeps : KeepsNodes old.graph new.graph)
     (made : KeepsOrMakes old.graph new.graph (top_function formula order after.stack)) (width : ℕ)
     (most : HoldsAtMost formula order before after width) where
+  makes_parts : (key : ℕ) (branch : Branch) → branch_at new.graph key ≡ Some branch → branch_at old.graph key ≡ None
+      → IsPartInHand formula order before after (λ a. value_of new.graph a (inner key))
+  makes_parts key branch at none = elim (made.each key branch at) [
+    | inl there ↦ absurd (let wrong : Some branch ≡ None = sym there.0 ∙ none in cc)
+    | inr part ↦ result_part formula order before after step leads _ part
+  ]
+
   pub tried_few : live_nodes new.graph ≤ live_nodes old.graph + width
-  tried_few =
-      few_made old.graph new.graph keeps canonical formula order before after (reduced_left old new error leaves)
-      (λ key branch at none. elim (made.each key branch at) [
-        | inl there ↦ absurd (let wrong : Some branch ≡ None = sym there.0 ∙ none in cc)
-        | inr part ↦ result_part formula order before after step leads _ part
-      ]) width most
+  tried_few = few_tried growth canonical old new error leaves keeps (IsPartInHand formula order before after) makes_parts width most
 
   pub tried : (vars size price : ℕ) → levels old.graph ≡ vars → IsMovePrice vars size width price
       → AddsAtMost (most_additions (levels old.graph) + 1) old new
       → (width * width ≤ size → AddsAtMost (2 * (width * width) + 1) old new) → 2 * new.book.state.top ≤ 2 * old.book.state.top + price
-  tried vars size price same is adds pairs =
-      half_price vars size width price is old.book.state.top new.book.state.top
-      (subst (λ (n : ℕ). new.book.state.top ≤ old.book.state.top
-      + (4 * width + (most_additions n + 1))) same (omega (arith, adds, tried_few)))
-      (λ room. let own = pairs room in omega (arith, own, tried_few))
+  tried = price_tried growth canonical old new error leaves keeps (IsPartInHand formula order before after) makes_parts width most

@@ -2,13 +2,12 @@
 -- functions, and so do the terms' units.
 use Rattle.std.proofs.Common.{◌≡◌, ◌∙◌, ◌≤◌, ◌-◌, ◌||◌, ℕ, zero, suc, ℤ, pos, nat_abs, Bool, true, false, List, [], ◌∷◌, map, reverse}
 use Rattle.std.proofs.Common.{length, Option, None, Some, Contains, is_some, int_eq, refl, sym, ap, subst, arith, inl, inr, leb-true}
-use Rattle.std.specs.Prelude.{nat_lt, nat_le, slice_index_or}
-use Rattle.std.specs.List.{list_all, list_any}
-use Rattle.std.proofs.lemmas.Bool.{and_parts, cases_lt, false_from_ne_true, or_cases}
+use Rattle.std.specs.List.{list_any}
+use Rattle.std.proofs.lemmas.Bool.{or_cases}
 use Rattle.std.proofs.lemmas.Bool.Decides.{Decides-int_eq}
 use Rattle.std.proofs.lemmas.List.{reverse-reverse}
 use Rattle.std.proofs.lemmas.List.Elements.{Contains-append_cases, Contains-append_left, Contains-append_right}
-use Rattle.cnf_base.specs.Truth.{AreClausesOf, Assignment, is_literal_of}
+use Rattle.cnf_base.specs.Truth.{Assignment}
 use Rattle.cnf_base.specs.Formula.{Formula}
 use Rattle.lrat_rules.specs.State.{Live, clause_at}
 use Rattle.hint_chain.specs.declared.atom.Atom.{Atom}
@@ -18,20 +17,19 @@ use Rattle.node_table.specs.declared.node.Node.TheVariants.{False, True, Inner}
 use Rattle.node_table.specs.declared.node.Branch.{Branch}
 use Rattle.node_table.specs.declared.node.Justification.{Justification}
 use Rattle.node_table.specs.declared.node.Justification.TheVariants.{Trivial, Clause}
-use Rattle.node_table.specs.Defined.{atom_in, atom_of, defs_of, is_defined_by}
-use Rattle.node_table.specs.Diagram.{Graph, KeepsNodes, branch_at, is_node, levels}
+use Rattle.node_table.specs.Defined.{atom_in, atom_of}
+use Rattle.node_table.specs.Diagram.{Graph, IsReduced, KeepsNodes, branch_at, is_node}
 use Rattle.node_table.specs.Justification.{IsJustified}
 use Rattle.node_table.specs.Laws.{Growth, Reachability}
 use Rattle.node_table.specs.Made.{inner}
-use Rattle.node_table.specs.Table.{TableState, IsAddedTo, IsSound}
+use Rattle.node_table.specs.Table.{TableState, IsSound}
 use Rattle.node_table.specs.Value.{by_level, value_of}
 use Rattle.operations.specs.Entries.{Entry}
 use Rattle.reclaim.specs.Reclaimed.{IsOverReached, MayReclaim, Reclaims}
 use Rattle.schedule_plan.specs.Plan.{Stage, Term}
 use Rattle.term_runner.specs.declared.held.HeldTerm.{HeldTerm}
-use Rattle.term_runner.specs.Held.{AreHeld, AreKept, HasUnits, IsAt, IsHeld, IsKept, IsReady, IsUnitOf}
+use Rattle.term_runner.specs.Held.{AreHeld, AreKept, HasUnits, IsAt, IsHeld, IsKept, IsUnitOf}
 use Rattle.term_runner.specs.Tidy.{LeavesReached, held_nodes}
-use Rattle.term_runner.proofs.Inputs.{input_literals, input_live}
 use Rattle.term_runner.proofs.OwnUnits.{later}
 use Rattle.term_runner.proofs.Trails.{in_reverse}
 
@@ -228,16 +226,6 @@ module _ {S : Type 0} (growth : Growth) (formula : Formula) (old new : TableStat
       stand : (root : Node) → Contains (held_nodes stack trail) root → is_node new.graph root ≡ true
       stand root there = root_stands root there (roots_stand formula old.graph old.book.state.live stack trail stage at root there)
 
--- what all literals of a clause pass, one of them does
-passed_by : (test : ℤ → Bool) (y : ℤ) (clause : List ℤ) → list_all test clause ≡ true → list_any (int_eq y) clause ≡ true → test y ≡ true
-passed_by test y [] all any = absurd (let e : false ≡ true = any in cc)
-passed_by test y (x ∷ xs) all any =
-    let parts = and_parts (test x) (list_all test xs) all in
-    elim (or_cases (int_eq y x) (list_any (int_eq y) xs) any) [
-      | inl here ↦ ap test ((Decides-int_eq y x).0 here) ∙ parts.0
-      | inr there ↦ passed_by test y xs parts.1 there
-    ]
-
 no_literal : (clause : List ℤ) → Some [] ≡ Some clause → (literal : ℤ) → list_any (int_eq literal) clause ≡ true → ⊥
 no_literal clause is literal any =
     let none : clause ≡ [] = cc in
@@ -267,29 +255,8 @@ unit_variable graph (Inner key) clause is literal any = of_branch (branch_at gra
 
 -- No clause stands in the way.
 module _ {S : Type 0} (formula : Formula) (table : TableState S) (kept : List Entry) (stack : List HeldTerm) (trail : List (ℕ × Node))
-    (stage : Stage) (ready : IsReady formula table kept)
-    (literals : AreClausesOf formula.vars formula.clauses) (has : HasUnits table kept (reverse stack))
+    (stage : Stage) (reduced : IsReduced table.graph) (has : HasUnits table kept (reverse stack))
     (at : IsAt formula table.graph table.book.state.live stack trail stage) where
-  -- the formula's clauses are over its variables
-  over_formula : (id : ℕ) (clause : List ℤ) → clause_at table.book.state.live id ≡ Some clause → id ≤ table.inputs
-      → IsOverReached table.graph (held_nodes stack trail) clause
-  over_formula id clause is low literal any key branch stands same =
-      let above = (ready.sound.tied.numbers id clause is).0 in
-      let own = slice_index_or formula.clauses (id - 1) [] in
-      let from_one : 1 ≤ id = above in
-      let to_len : id ≤ length formula.clauses = omega (arith, low, ready.counted) in
-      let e : Some clause ≡ Some own = sym is ∙ input_live formula table kept ready id from_one to_len own refl in
-      let same_clause : own ≡ clause = cc in
-      let all : list_all (is_literal_of (levels table.graph)) clause ≡ true =
-      ap (list_all (is_literal_of (levels table.graph))) (sym same_clause)
-      ∙ input_literals formula table kept ready id from_one to_len own refl literals in
-      let good : is_literal_of (levels table.graph) literal ≡ true = passed_by
-      (is_literal_of (levels table.graph)) literal clause all any in
-      let small = leb-true (nat_abs literal) (levels table.graph)
-      (and_parts (nat_lt 0 (nat_abs literal)) (nat_le (nat_abs literal) (levels table.graph)) good).1 in
-      let extension = ready.sound.tied.reduced.above key branch stands in
-      absurd (omega (arith, small, extension, same))
-
   -- the unit of a stacked term is over its node
   over_unit : (id : ℕ) (clause : List ℤ) → clause_at table.book.state.live id ≡ Some clause → IsUnitOf (reverse stack) id
       → IsOverReached table.graph (held_nodes stack trail) clause
@@ -299,7 +266,7 @@ module _ {S : Type 0} (formula : Formula) (table : TableState S) (kept : List En
       let proved : IsJustified table.book.state.live (atom_of table.graph held.node ∷ []) (Clause id) =
       subst (λ (unit : Justification). IsJustified table.book.state.live (atom_of table.graph held.node ∷ []) unit) by.unit term.2.is.proved in
       let own = unit_variable table.graph held.node clause (sym proved.1 ∙ is) literal any in
-      let one : own.0 ≡ key = ready.sound.tied.reduced.apart own.0 key own.1 branch own.3 stands (sym own.4 ∙ same) in
+      let one : own.0 ≡ key = reduced.apart own.0 key own.1 branch own.3 stands (sym own.4 ∙ same) in
       record {
         root = held.node;
         is_root = held_root stack trail held by.stacked;
@@ -307,14 +274,7 @@ module _ {S : Type 0} (formula : Formula) (table : TableState S) (kept : List En
       }
 
   pub may_reclaim : MayReclaim table kept (held_nodes stack trail)
-  may_reclaim id clause is defines_none = elim (cases_lt table.inputs id) [
-    | inr low ↦ inr (over_formula id clause is low)
-    | inl above ↦
-        let added : IsAddedTo table id = record {
-          stands = ap is_some is;
-          above = above;
-          defines_none = λ key branch stands. false_from_ne_true (is_defined_by (defs_of branch) id)
-              (λ defines. defines_none (record { key = key; branch = branch; stands = stands; defines = defines }));
-        } in
-        elim (has.known id added) [ inl accounted ↦ inl accounted | inr by ↦ inr (over_unit id clause is by) ]
+  may_reclaim id clause is added = elim (has.known id added) [
+    | inl accounted ↦ inl accounted
+    | inr by ↦ inr (over_unit id clause is by)
   ]

@@ -1,5 +1,5 @@
 -- How a run of a plan ends, over the sink that takes its proof.
-use Rattle.std.specs.Prelude.{◌≡◌, ◌≢◌, ◌≤◌, ℕ, Bool, List, length, Result, Ok, Err, Option, None, Some, IfOk, IsOk, IsTrue, ⊤}
+use Rattle.std.specs.Prelude.{◌≡◌, ◌≢◌, ◌≤◌, ◌+◌, ℕ, Bool, List, length, Result, Ok, Err, Option, None, Some, IfOk, IsOk, IsTrue, ⊤}
 use Rattle.std.specs.List.{list_all}
 use Rattle.cnf_base.specs.Formula.{Formula}
 use Rattle.host_io.specs.Channel.{Channel, Rose}
@@ -14,7 +14,7 @@ use Rattle.term_runner.specs.declared.outcome.Outcome.TheVariants.{Unsat, Sat, N
 use Rattle.term_runner.specs.declared.outcome.Run.{Run}
 use Rattle.term_runner.specs.Clauses.{is_tautology}
 use Rattle.term_runner.specs.Proofs.{AreUnsatisfiable, IsProof, IsProofOfKind, IsProofSoFar, IsProofSoFarOfKind, LeadsTo, Refutation}
-use Rattle.term_runner.specs.Proofs.{NodesAreUsed, NumbersAreUsed}
+use Rattle.term_runner.specs.Proofs.{NodesAreUsed, NumbersAreUsed, UsesVariables}
 use Rattle.term_runner.specs.Recovered.{IsRecovered}
 use Rattle.term_runner.specs.Price.{AreAmple, IsDecision, IsLeanAtEnd, IsMovePrice, IsPaidFor}
 use Rattle.term_runner.specs.Width.{HasWidth, IsWider}
@@ -46,8 +46,9 @@ outcome_of (Err table.WriteFault) = Err WriteFault
 
 -- An outcome is true of the formula, and shown by the very bytes of the proof; where the limits are above what the plan's
 -- width needs, it is a decision. A write fault is answered exactly where a write or the flush failed. All that was written
--- is a proof within the limits, but for a front of one line after a failed write, and flushed with an outcome; it keeps
--- within what the plan's width needs. Where all clauses are tautologies nothing is written.
+-- is a proof within the limits, but for a front of one line after a failed write, and flushed with an outcome; its variables
+-- are the formula's, and behind them one for each node that is allowed; it keeps within what the plan's width needs. Where
+-- all clauses are tautologies nothing is written.
 pub record Ends (tells : Bool) (before after : Channel) (formula : Formula) (order : List ℕ) (moves : List Move) (limits : Limits)
     (result : Result Run RunError) : Type 0 where
   pub says : IfOk result (λ run. Says formula order moves limits run.outcome)
@@ -57,6 +58,7 @@ pub record Ends (tells : Bool) (before after : Channel) (formula : Formula) (ord
   pub last : IsTrue tells → IfOk result (λ run. LeadsTo formula limits after.written run.last_id)
   pub whole : result ≢ Err WriteFault → IsTrue tells → IsProof formula limits after.written
   pub so_far : IsTrue tells → IsProofSoFar formula limits after.written
+  pub variables : IsTrue tells → UsesVariables (formula.vars + limits.max_nodes) after.written
   pub price : (width price : ℕ) → HasWidth formula order moves width → IsMovePrice formula.vars limits.cache width price → IsTrue tells
       → IsProofSoFarOfKind formula.clauses (IsPaidFor formula limits moves width price) after.written
   pub flushed : IsOk result → IsTrue tells → after.flushed ≡ length after.written

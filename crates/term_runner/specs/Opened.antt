@@ -1,5 +1,5 @@
 -- A run's beginning and its end, over the ledger.
-use Rattle.std.specs.Prelude.{◌≡◌, ◌≢◌, ◌⊎◌, ◌≤◌, ◌++◌, ℕ, ℤ, max, Bool, false, List, [], ◌∷◌, length, Option, None, Some, Result, Err}
+use Rattle.std.specs.Prelude.{◌≡◌, ◌≢◌, ◌⊎◌, ◌≤◌, ◌+◌, ◌++◌, ℕ, ℤ, max, Bool, false, List, [], ◌∷◌, length, Option, None, Some, Result, Err}
 use Rattle.std.specs.Prelude.{IfOk, IsTrue}
 use Rattle.std.specs.List.{list_all}
 use Rattle.cnf_base.specs.declared.step.Step.{Step}
@@ -8,7 +8,7 @@ use Rattle.cnf_base.specs.Formula.{Formula}
 use Rattle.host_io.specs.Channel.{Channel, Rose}
 use Rattle.lrat_rules.specs.State.{State, start}
 use Rattle.lrat_rules.specs.Derivation.{IsCutProof, IsWritten, text_of}
-use Rattle.clause_ledger.specs.Book.{AreTold, Book, IsProofOf, after_steps}
+use Rattle.clause_ledger.specs.Book.{AreTold, Book, IsCutText, IsProofOf, after_steps}
 use Rattle.node_table.specs.declared.error.TableError.{TableError}
 use Rattle.node_table.specs.declared.error.TableError.TheVariants as table
 use Rattle.node_table.specs.Table.{TableState}
@@ -21,7 +21,7 @@ use Rattle.term_runner.specs.declared.error.RunError.TheVariants.{WriteFault}
 use Rattle.term_runner.specs.Clauses.{is_tautology}
 use Rattle.term_runner.specs.Ends.{Ends, Says, Shows}
 use Rattle.term_runner.specs.Price.{AreAmple, IsDecision, IsMovePrice, IsPaidFor}
-use Rattle.term_runner.specs.Proofs.{IsBroken, IsBrokenOfKind, KeepsWithin}
+use Rattle.term_runner.specs.Proofs.{IsBroken, IsBrokenOfKind, KeepsWithin, UsesVariables}
 use Rattle.term_runner.specs.Width.{HasWidth}
 
 -- a ledger as it was opened over a formula: its clauses, over its variables, are live, and no step was told
@@ -38,6 +38,7 @@ pub record IsOpened {S : Type 0} (formula : Formula) (max_ids : ℕ) (book : Boo
 pub record IsBehind {S : Type 0} (tells : Bool) (before after : Channel) (clauses : List (List ℤ)) (book : Book S) : Type 0 where
   pub proof : IsProofOf clauses book.steps book.state
   pub text : IsTrue tells → IsTrue book.in_step → after.written ≡ text_of book.steps
+  pub spelled : IsTrue tells → (after.written ≡ text_of book.steps) ⊎ IsCutText book.steps after.written
   pub cut : IsTrue tells → book.in_step ≡ false → (earlier : List Step) (last : Step) → book.steps ≡ earlier ++ last ∷ []
       → IsCutProof clauses after.written (after_steps (start clauses) earlier) book.state
   pub name : after.name ≡ before.name
@@ -80,6 +81,7 @@ pub record Leads {S : Type 0} (tells : Bool) (before after : Channel) (formula :
   pub written : found ≢ Err WriteFault → IsTrue tells → IsWritten formula.clauses after.written book.state
   pub within : found ≢ Err WriteFault → KeepsWithin formula limits book.state
   pub broken : found ≡ Err WriteFault → IsTrue tells → IsBroken formula limits after.written
+  pub variables : IsTrue tells → UsesVariables (formula.vars + limits.max_nodes) after.written
   -- the same by the price of the plan's width
   pub paid : (width price : ℕ) → HasWidth formula order moves width → IsMovePrice formula.vars limits.cache width price → found
       ≢ Err WriteFault → IsPaidFor formula limits moves width price book.state

@@ -3,11 +3,14 @@
 use Rattle.std.specs.Prelude.{◌≡◌, ◌≢◌, ◌⊎◌, ◌<◌, ◌≤◌, ◌+◌, ℕ, ℤ, max, List, [], Some, length, IsTrue, IsFalse}
 use Rattle.std.specs.List.{list_all}
 use Rattle.cnf_base.specs.Truth.{Assignment, Satisfies}
+use Rattle.cnf_base.specs.declared.step.Step.{Step}
 use Rattle.cnf_base.specs.Formula.{Formula}
 use Rattle.lrat_rules.specs.State.{State, clause_at}
 use Rattle.lrat_rules.specs.Run.{Refutes}
-use Rattle.lrat_rules.specs.Derivation.{IsWritten, IsCutProof}
+use Rattle.lrat_rules.specs.Derivation.{IsWritten, IsCutProof, text_of}
 use Rattle.lrat_rules.specs.Marks.{IsWithin, in_use}
+use Rattle.clause_ledger.specs.Book.{IsCutText}
+use Rattle.node_table.specs.Progress.{AreStepsUpTo}
 use Rattle.schedule_plan.specs.declared.limits.Limits.{Limits}
 use Rattle.term_runner.specs.Clauses.{is_tautology, has_empty_clause, one_line}
 
@@ -47,6 +50,13 @@ IsBroken formula limits bytes = IsBrokenOfKind formula.clauses (KeepsWithin form
 
 abbrev pub IsProofSoFar : Formula → Limits → List ℕ → Type 0
 IsProofSoFar formula limits bytes = IsProofSoFarOfKind formula.clauses (KeepsWithin formula limits) bytes
+
+-- The bytes are the lines of these steps, the last of which may be cut short. No variable of a clause that they add is above
+-- this one.
+pub record UsesVariables (most : ℕ) (bytes : List ℕ) : Type 0 where
+  pub steps : List Step
+  pub spelled : (bytes ≡ text_of steps) ⊎ IsCutText steps bytes
+  pub few : AreStepsUpTo most steps
 
 -- they are a proof whose greatest number is this one
 pub record LeadsTo (formula : Formula) (limits : Limits) (bytes : List ℕ) (last : ℕ) : Type 0 where

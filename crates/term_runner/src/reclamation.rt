@@ -206,7 +206,6 @@ fn give_back<S: Sink + Drop>(
     growth_law();
     reach_law();
     steps_law::<S>();
-    formula.formula_law();
     let roots = roots_of(alloc, stack, trail)?;
     let _ = reclaim(table, roots.as_slice(), caches)?;
     Ok(table.live())

@@ -111,7 +111,7 @@ pub(crate) fn run_with<S: Sink + Drop>(
     derivation_law();
     soundness_law();
     marks_law();
-    opening_law();
+    opening_law::<&mut S>();
     in_use_law();
     lean_law::<S>();
     canonical_law();

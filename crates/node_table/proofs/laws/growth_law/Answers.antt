@@ -1,4 +1,5 @@
 -- What is left to show of `growth_law`.
+use Rattle.node_table.proofs.Defining.{definitions-kept}
 use Rattle.node_table.proofs.Grown.{KeepsNodes-further, is_node-kept, level_of-kept}
 use Rattle.node_table.proofs.Kept.{high_at-kept, low_at-kept, value-kept, atom_of-kept, IsJustified-kept}
 use Rattle.node_table.proofs.laws.growth_law.Goals as goal
@@ -13,4 +14,5 @@ returns c = record {
   atom = atom_of-kept;
   justified = IsJustified-kept c.clause_law.ensures.given;
   further = KeepsNodes-further;
+  definitions = definitions-kept;
 }

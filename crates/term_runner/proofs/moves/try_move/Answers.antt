@@ -6,7 +6,7 @@ use Rattle.node_table.specs.Diagram.{Graph, KeepsNodes}
 use Rattle.node_table.specs.HandedOn.{handed_on, no_error}
 use Rattle.node_table.specs.Made.{LacksPart}
 use Rattle.node_table.specs.Progress.{Leaves}
-use Rattle.node_table.specs.Table.{TableState, live_nodes}
+use Rattle.node_table.specs.Table.{TableState, defining_clauses, live_nodes}
 use Rattle.term_runner.specs.Caches.{all_entries}
 use Rattle.term_runner.specs.Held.{AreKept}
 use Rattle.term_runner.specs.Width.{top_function}
@@ -172,7 +172,7 @@ returns-in_err-settle-in-Ok-2-clause-nodes g c = subst (KeepsNodes c.args.table.
 
 pub returns-in_err-settle-in-Ok-2-clause-adds : goal.returns-in_err-settle-in-Ok-2-clause-adds
 returns-in_err-settle-in-Ok-2-clause-adds g c = let few = c.carry_out.ensures.adds in
-    omega (arith, few, c.settle.ensures.top, ap live_nodes c.settle.ensures.nodes)
+    omega (arith, few, c.settle.ensures.top, ap defining_clauses c.settle.ensures.nodes)
 
 pub returns-in_ok-settle-in-Ok-2-clause-nodes : goal.returns-in_ok-settle-in-Ok-2-clause-nodes
 returns-in_ok-settle-in-Ok-2-clause-nodes g c = subst (KeepsNodes c.args.table.now.graph)
@@ -180,7 +180,7 @@ returns-in_ok-settle-in-Ok-2-clause-nodes g c = subst (KeepsNodes c.args.table.n
 
 pub returns-in_ok-settle-in-Ok-2-clause-adds : goal.returns-in_ok-settle-in-Ok-2-clause-adds
 returns-in_ok-settle-in-Ok-2-clause-adds g c = let few = c.carry_out.ensures.adds in
-    omega (arith, few, c.settle.ensures.top, ap live_nodes c.settle.ensures.nodes)
+    omega (arith, few, c.settle.ensures.top, ap defining_clauses c.settle.ensures.nodes)
 
 pub returns-in_err-settle-in-Err-clause-nodes : goal.returns-in_err-settle-in-Err-clause-nodes
 returns-in_err-settle-in-Err-clause-nodes g c = subst (KeepsNodes c.args.table.now.graph)
@@ -188,7 +188,7 @@ returns-in_err-settle-in-Err-clause-nodes g c = subst (KeepsNodes c.args.table.n
 
 pub returns-in_err-settle-in-Err-clause-adds : goal.returns-in_err-settle-in-Err-clause-adds
 returns-in_err-settle-in-Err-clause-adds g c = let few = c.carry_out.ensures.adds in
-    omega (arith, few, c.settle-in-Err.ensures.top, ap live_nodes c.settle-in-Err.ensures.nodes)
+    omega (arith, few, c.settle-in-Err.ensures.top, ap defining_clauses c.settle-in-Err.ensures.nodes)
 
 pub returns-in_ok-settle-in-Err-clause-nodes : goal.returns-in_ok-settle-in-Err-clause-nodes
 returns-in_ok-settle-in-Err-clause-nodes g c = subst (KeepsNodes c.args.table.now.graph)
@@ -196,27 +196,27 @@ returns-in_ok-settle-in-Err-clause-nodes g c = subst (KeepsNodes c.args.table.no
 
 pub returns-in_ok-settle-in-Err-clause-adds : goal.returns-in_ok-settle-in-Err-clause-adds
 returns-in_ok-settle-in-Err-clause-adds g c = let few = c.carry_out.ensures.adds in
-    omega (arith, few, c.settle-in-Err.ensures.top, ap live_nodes c.settle-in-Err.ensures.nodes)
+    omega (arith, few, c.settle-in-Err.ensures.top, ap defining_clauses c.settle-in-Err.ensures.nodes)
 
 pub returns-in_err-settle-in-Ok-2-clause-pairs : goal.returns-in_err-settle-in-Ok-2-clause-pairs
 returns-in_err-settle-in-Ok-2-clause-pairs g c stage next at is width room most =
     let few = c.carry_out.ensures.pairs stage next at is width room most in
-    omega (arith, few, c.settle.ensures.top, ap live_nodes c.settle.ensures.nodes)
+    omega (arith, few, c.settle.ensures.top, ap defining_clauses c.settle.ensures.nodes)
 
 pub returns-in_ok-settle-in-Ok-2-clause-pairs : goal.returns-in_ok-settle-in-Ok-2-clause-pairs
 returns-in_ok-settle-in-Ok-2-clause-pairs g c stage next at is width room most =
     let few = c.carry_out.ensures.pairs stage next at is width room most in
-    omega (arith, few, c.settle.ensures.top, ap live_nodes c.settle.ensures.nodes)
+    omega (arith, few, c.settle.ensures.top, ap defining_clauses c.settle.ensures.nodes)
 
 pub returns-in_err-settle-in-Err-clause-pairs : goal.returns-in_err-settle-in-Err-clause-pairs
 returns-in_err-settle-in-Err-clause-pairs g c stage next at is width room most =
     let few = c.carry_out.ensures.pairs stage next at is width room most in
-    omega (arith, few, c.settle-in-Err.ensures.top, ap live_nodes c.settle-in-Err.ensures.nodes)
+    omega (arith, few, c.settle-in-Err.ensures.top, ap defining_clauses c.settle-in-Err.ensures.nodes)
 
 pub returns-in_ok-settle-in-Err-clause-pairs : goal.returns-in_ok-settle-in-Err-clause-pairs
 returns-in_ok-settle-in-Err-clause-pairs g c stage next at is width room most =
     let few = c.carry_out.ensures.pairs stage next at is width room most in
-    omega (arith, few, c.settle-in-Err.ensures.top, ap live_nodes c.settle-in-Err.ensures.nodes)
+    omega (arith, few, c.settle-in-Err.ensures.top, ap defining_clauses c.settle-in-Err.ensures.nodes)
 
 pub returns-in_err-settle-in-Ok-2-clause-no_empty : goal.returns-in_err-settle-in-Ok-2-clause-no_empty
 returns-in_err-settle-in-Ok-2-clause-no_empty g c whole unrefuted =

@@ -22,8 +22,8 @@ reclaim-requires-clause-may g c =
     let same : c.as_slice.result.now ≡ held_nodes c.args.stack.now c.args.trail.now =
     ◌∙◌ {c = held_nodes c.args.stack.now c.args.trail.now} c.as_slice.ensures.value c.in_ok-roots.ensures in
     subst (λ (roots : List Node). MayReclaim table entries roots) (sym same)
-    (may_reclaim c.args.formula.now table entries c.args.stack.now c.args.trail.now c.requires.possible.0 c.requires.ready
-    c.formula_law.ensures.literals c.requires.own c.requires.possible.1)
+    (may_reclaim c.args.formula.now table entries c.args.stack.now c.args.trail.now c.requires.possible.0
+    c.requires.ready.sound.tied.reduced c.requires.own c.requires.possible.1)
 
 pub returns-clause-at : goal.returns-clause-at
 returns-clause-at g c =

@@ -127,7 +127,7 @@ module _ (g : Over) (c : After-try_move g) (stage next : Stage)
       * c.try_move.new.table.book.state.top ≤ 2 * c.args.table.now.book.state.top + price
   once size price have paid =
       let own = c.try_move.ensures in
-      tried c.canonical_law.ensures c.args.formula.now c.args.table.now.graph.order stage next c.args.step is c.args.table.now
+      tried c.growth_law.ensures c.canonical_law.ensures c.args.formula.now c.args.table.now.graph.order stage next c.args.step is c.args.table.now
       c.try_move.new.table
       _ own.leaves own.nodes (own.made stage next at is) width most
       (levels c.args.table.now.graph) size price refl paid own.adds
@@ -136,7 +136,7 @@ module _ (g : Over) (c : After-try_move g) (stage next : Stage)
   once_few : AddsFew (live_nodes c.args.table.now.graph) (live_nodes c.try_move.new.table.graph) width
   once_few =
       let own = c.try_move.ensures in
-      inl (tried_few c.canonical_law.ensures c.args.formula.now c.args.table.now.graph.order stage next c.args.step is c.args.table.now
+      inl (tried_few c.growth_law.ensures c.canonical_law.ensures c.args.formula.now c.args.table.now.graph.order stage next c.args.step is c.args.table.now
       c.try_move.new.table
       _ own.leaves own.nodes (own.made stage next at is) width most)
 
@@ -177,7 +177,7 @@ returns-in_ok-left-in-Err-clause-price g c stage next at is size width price hav
     let order = (continues_mid g c).order in
     let first = once g (goal.at.returns-in_ok-left-in-Err-clause-price g c).After-try_move stage next at is width most size price have paid
     in
-    let second = tried c.canonical_law.ensures formula old.graph.order stage next c.args.step is mid new _ own.leaves
+    let second = tried c.growth_law.ensures c.canonical_law.ensures formula old.graph.order stage next c.args.step is mid new _ own.leaves
     own.nodes (made_last g c stage next at is) width most
     (levels old.graph) size price (ap length order) paid own.adds
     (λ room. own.pairs stage next (at_mid g c stage at) is width
@@ -192,7 +192,7 @@ returns-in_ok-left-in-Err-clause-few g c stage next at is width most =
     let mid = c.give_back.new.table in
     let new = c.try_move-in-Err.new.table in
     let own = c.try_move-in-Err.ensures in
-    let second = tried_few c.canonical_law.ensures formula old.graph.order stage next c.args.step is mid new _ own.leaves
+    let second = tried_few c.growth_law.ensures c.canonical_law.ensures formula old.graph.order stage next c.args.step is mid new _ own.leaves
     own.nodes (made_last g c stage next at is) width most in
     let left = few_left c.subfunction_law.ensures c.canonical_law.ensures formula old.graph.order c.requires.ready.sound.tied.ordered stage
     next stage (in_hand_before stage next) _ (left_mid g c stage at) width most in

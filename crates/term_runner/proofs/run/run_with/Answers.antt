@@ -8,7 +8,7 @@ use Rattle.lrat_rules.specs.State.{start}
 use Rattle.lrat_rules.specs.Derivation.{IsWritten}
 use Rattle.node_table.specs.Diagram.{Graph}
 use Rattle.node_table.specs.Progress.{error_of}
-use Rattle.node_table.specs.Table.{TableState}
+use Rattle.node_table.specs.Table.{TableState, opened}
 use Rattle.term_runner.specs.declared.error.RunError.{RunError}
 use Rattle.term_runner.specs.declared.outcome.Outcome.{Outcome}
 use Rattle.term_runner.specs.Opened.{EndsWithin, IsBehind, IsOpened, Leads}
@@ -56,6 +56,7 @@ returns-in_default-new-clause-ends g c =
       ends = nothing_ends tells channel channel formula c.args.order.now c.args.plan.now c.args.limits
           (λ t. whole_at_start formula (KeepsWithin formula c.args.limits)
           (start_within c.marks_law.ensures.start formula c.args.limits c.formula_law.ensures.literals) channel.written (written t))
+          c.requires.fresh
           (λ width price t. whole_at_start formula (IsPaidFor formula c.args.limits c.args.plan.now width price)
           (start_paid c.marks_law.ensures.start c.start_law.ensures.none_above c.lean_law.ensures.few formula c.args.limits c.args.plan.now width
           price c.formula_law.ensures.literals) channel.written (written t))
@@ -65,18 +66,14 @@ returns-in_default-new-clause-ends g c =
 
 pub decide-found-requires-clause-ready : goal.decide-found-requires-clause-ready
 decide-found-requires-clause-ready g c =
-    let order = c.args.order.now in
-    let table = c.new-table.result in
-    let graph : table.graph ≡ record { order = order; nodes = map.empty } =
-    ap (λ (t : TableState (MutBor g.row.S.Denot)). t.graph) c.new-table.ensures ∙ c.in-Ok.ensures
-    ∙ (λ k. record { order = c.as_slice.ensures.value k; nodes = map.empty }) in
-    let book : table.book ≡ c.new-ledger.result = ap (λ (t : TableState (MutBor g.row.S.Denot)). t.book) c.new-table.ensures in
-    ready_at c.start_law.ensures.clauses c.opening_law.ensures.tied c.opening_law.ensures.retired c.args.formula.now order table graph
-    (ap (λ (b : Book (MutBor g.row.S.Denot)). b.state) (book ∙ c.new-ledger.ensures))
-    (ap (λ (b : Book (MutBor g.row.S.Denot)). b.in_step) (book ∙ c.new-ledger.ensures))
-    (ap (λ (t : TableState (MutBor g.row.S.Denot)). t.inputs) c.new-table.ensures
-    ∙ sym (ap (λ (b : Book (MutBor g.row.S.Denot)). b.state.top) book))
-    (ap (λ (t : TableState (MutBor g.row.S.Denot)). t.retired) c.new-table.ensures)
+    let ledger = c.new-ledger.result in
+    let max_nodes = c.args.limits.max_nodes in
+    let graph = c.in-Ok.ensures ∙ (λ k. record { order = c.as_slice.ensures.value k; nodes = map.empty }) in
+    let is : c.new-table.result ≡ opened c.args.order.now ledger max_nodes = c.new-table.ensures
+    ∙ (λ k. record { graph = graph k; book = ledger; max_nodes = max_nodes; inputs = ledger.state.top; retired = [] }) in
+    ready_at c.start_law.ensures.clauses c.opening_law.ensures c.args.formula.now c.args.order.now ledger c.new-table.result max_nodes is
+    (ap (λ (b : Book (MutBor g.row.S.Denot)). b.state) c.new-ledger.ensures)
+    (ap (λ (b : Book (MutBor g.row.S.Denot)). b.in_step) c.new-ledger.ensures)
     c.as_slice.ensures.order c.requires.order c.formula_law.ensures.literals c.in_default.ensures
 
 pub returns-clause-ends : goal.returns-clause-ends
@@ -125,10 +122,18 @@ returns-clause-ends g c =
     subst (λ (b : Book (MutBor g.row.S.Denot)). IsBehind tells (channel b.origin) (channel b.sink) formula.clauses b) kept
     (behind_of tells channel _ ledger formula.clauses (ap (λ (b : Book (MutBor g.row.S.Denot)). b.formula) kept ∙ of_formula)
     (λ t. ap (λ (b : Book (MutBor g.row.S.Denot)). (channel b.origin).written) kept ∙ fresh t) c.book_law-2.ensures.book c.book_law-2.ensures.cut) in
-    let ready = ready_at c.start_law.ensures.clauses c.opening_law.ensures.tied c.opening_law.ensures.retired formula order table graph
-    state in_step inputs
-    (ap (λ (t : TableState (MutBor g.row.S.Denot)). t.retired) c.new-table.ensures) c.as_slice.ensures.order c.requires.order literals
-    c.in_default.ensures in
+    let is : table ≡ opened order c.new-ledger.result limits.max_nodes = c.new-table.ensures
+    ∙ (λ k. record {
+      graph = (c.in-Ok.ensures ∙ (λ l. record { order = c.as_slice.ensures.value l; nodes = map.empty })) k;
+      book = c.new-ledger.result;
+      max_nodes = limits.max_nodes;
+      inputs = c.new-ledger.result.state.top;
+      retired = [];
+    }) in
+    let ready = ready_at c.start_law.ensures.clauses c.opening_law.ensures formula order c.new-ledger.result table limits.max_nodes is
+    (ap (λ (b : Book (MutBor g.row.S.Denot)). b.state) c.new-ledger.ensures)
+    (ap (λ (b : Book (MutBor g.row.S.Denot)). b.in_step) c.new-ledger.ensures)
+    c.as_slice.ensures.order c.requires.order literals c.in_default.ensures in
     let unwritten : table.book.sink.now ≡ new.book.origin.now =
     ap (λ (b : Book (MutBor g.row.S.Denot)). b.sink.now) book ∙ sym same in
     let leads = decided_leads c.canonical_law.ensures c.soundness_law.ensures.derived c.derivation_law.ensures.refutes c.in_use_law.ensures

@@ -1,23 +1,25 @@
 -- What is left to show of `Table::make`.
-use Rattle.std.proofs.Common.{◌≡◌, ◌∙◌, ◌⊎◌, ◌≤◌, ℕ, ℤ, List, length, pos, true, false, Option, None, Some, sym, ap, subst, arith}
-use Rattle.std.specs.Prelude.{vec_capacity}
+use Rattle.std.proofs.Common.{◌≡◌, ◌∙◌, ◌⊎◌, ◌≤◌, ℕ, ℤ, List, length, pos, true, false, Option, None, Some, Result, sym, ap, subst, arith}
+use Rattle.std.specs.Prelude.{IsErrAnd, vec_capacity}
 use Rattle.lrat_rules.specs.State.{State}
 use Rattle.clause_ledger.specs.Book.{Book}
 use Rattle.clause_ledger.specs.Told.{told_in_step, told_formula}
+use Rattle.node_table.specs.declared.node.Node.{Node}
 use Rattle.node_table.specs.declared.node.Node.TheVariants.{Inner}
 use Rattle.node_table.specs.declared.node.Branch.{Branch}
 use Rattle.node_table.specs.declared.error.TableError.{TableError}
-use Rattle.node_table.specs.declared.error.TableError.TheVariants.{WriteFault}
-use Rattle.node_table.specs.Diagram.{branch_at, is_node}
+use Rattle.node_table.specs.declared.error.TableError.TheVariants.{OutOfMemory, WriteFault}
+use Rattle.node_table.specs.Diagram.{Graph, branch_at, is_node}
 use Rattle.node_table.specs.Defined.{IsNewVariable}
 use Rattle.node_table.specs.Made.{inner}
 use Rattle.node_table.specs.Table.{TableState, IsSound, AddsNone, HasChildren, IsMade, IsMadeInPart}
 use Rattle.node_table.specs.Errors.{table_error}
 use Rattle.node_table.specs.HandedOn.{handed_on}
+use Rattle.node_table.specs.Refused.{steps_handed_on}
 use Rattle.node_table.specs.Tied.{IsTied}
 use Rattle.node_table.specs.Places.{AreNumberedAbove}
-use Rattle.node_table.specs.Progress.{Steps}
-use Rattle.node_table.proofs.CallSteps.{Aside, table_of}
+use Rattle.node_table.specs.Progress.{Steps, error_of}
+use Rattle.node_table.proofs.CallSteps.{Aside, no_room, table_of}
 use Rattle.node_table.proofs.Making.{Making, asked_at, joined_as, enough, told_torn, making_on, making_torn, making_only, making_made}
 use Rattle.node_table.proofs.Making.{making_cut, making_before}
 use Rattle.node_table.proofs.Places.{HavePlaces-same, AreNumberedAbove-new}
@@ -72,6 +74,7 @@ making g c =
       room = enough c.args.high c.args.low state.top c.self.inside.ledger.limit
           (omega (arith, c.if-ids_left-definition_count.false, c.definition_count.ensures, c.ids_left.ensures));
       few = omega (arith, c.if-len-self.false, c.len.ensures);
+      few_variables = c.in_ok-key.ensures.range.1;
       reserved = c.reserve.ensures.unchanged;
       handed = record {
         still = live;
@@ -198,3 +201,29 @@ pub returns-in_err-write_definitions-clause-none_added : goal.returns-in_err-wri
 returns-in_err-write_definitions-clause-none_added g c whole = absurd
     (whole (handed_on c.from_residual-in_err-write_definitions.result (table_error c.in_err-write_definitions.field-0.0) WriteFault
     c.from_residual-in_err-write_definitions.ensures.1 (ap table_error c.in_err-write_definitions.ensures.error)))
+
+-- want of memory changed nothing but the room
+refused_steps : (g : Over) (old : TableState g.row.S.Denot) (diagram : Graph) (ledger later : Book g.row.S.Denot) (aside : Aside)
+    → table_of aside diagram ledger ≡ old → IsSound old → later ≡ record ledger { spare = later.spare }
+    → (result : Result Node TableError) → IsErrAnd result (λ e. e ≡ OutOfMemory)
+    → Steps old (table_of aside diagram later) 0 (error_of result)
+refused_steps g old diagram ledger later aside view sound unchanged result is =
+    steps_handed_on result OutOfMemory is
+    (subst {A = TableState g.row.S.Denot} (λ t. Steps t (table_of aside diagram later) 0 (Some OutOfMemory)) view
+    (no_room (table_of aside diagram ledger) (table_of aside diagram later)
+    (subst {A = TableState g.row.S.Denot} (λ t. IsSound t) (sym view) sound)
+    (λ i. table_of aside diagram (unchanged i))))
+
+pub returns-in_err-reserve-clause-steps : goal.returns-in_err-reserve-clause-steps
+returns-in_err-reserve-clause-steps g c =
+    refused_steps g c.args.self.now c.self.inside.diagram c.self.inside.ledger c.reserve.new.self
+    (aside_at c.self.inside.max_nodes c.self.inside.inputs c.self.inside.retired.items) c.self.view_is c.requires.sound
+    c.reserve.ensures.unchanged _ c.from_residual.ensures.1
+
+pub returns-in_err-key-clause-steps : goal.returns-in_err-key-clause-steps
+returns-in_err-key-clause-steps g c =
+    let aside = aside_at c.self.inside.max_nodes c.self.inside.inputs c.self.inside.retired.items in
+    subst {A = Graph} (λ h. Steps c.args.self.now (table_of aside h c.reserve.new.self) 0 (error_of c.from_residual-in_err-key.result))
+    (sym c.in_err-key.ensures.err)
+    (refused_steps g c.args.self.now c.self.inside.diagram c.self.inside.ledger c.reserve.new.self aside c.self.view_is c.requires.sound
+    c.reserve.ensures.unchanged _ c.from_residual-in_err-key.ensures.1)

@@ -30,7 +30,9 @@ returns-clause-steps g c =
     let still : IsSound (record old { retired = old.retired ++ c.args.id ∷ [] }) = record {
       in_step = sound.in_step;
       tied = sound.tied;
+      variables = sound.variables;
       inputs = sound.inputs;
+      formula = sound.formula;
       retired = AreRetired-push inside.diagram inside.ledger.state.live inside.inputs inside.retired.items c.args.id sound.retired
           (subst (λ (t : TableState g.row.S.Denot). IsAddedTo t c.args.id) (sym c.self.view_is) c.requires.own)
           (λ among. c.requires.unretired (subst (λ (t : TableState g.row.S.Denot). Contains t.retired c.args.id) c.self.view_is among));

@@ -66,8 +66,9 @@ returns-in-Ok-clause-leaves g c =
     let new = c.delete_definitions.new.ledger in
     let after = (goal.at.returns-in-Ok-clause-leaves g c).After-delete_definitions in
     let own = c.in-Ok.ensures in
-    let clear : AreClear inside.diagram c.args.marks.now inside.ledger.state.live =
-    subst {A = TableState g.row.S.Denot} (λ t. AreClear t.graph c.args.marks.now t.book.state.live) (sym c.self.view_is) c.requires.clear in
+    let clear : AreClear inside.diagram c.args.marks.now inside.ledger.state.live inside.inputs =
+    subst {A = TableState g.row.S.Denot} (λ t. AreClear t.graph c.args.marks.now t.book.state.live t.inputs) (sym c.self.view_is)
+    c.requires.clear in
     let left : AreLeft inside.diagram c.args.marks.now inside.ledger.state new.state = record {
       gone = own.gone;
       stay = own.stay;
