@@ -1,5 +1,5 @@
 -- The functions of a graph's nodes and a further one that is that of none: more parts than there are nodes.
-use Rattle.std.proofs.Common.{◌≡◌, ℕ, zero, suc, ◌<◌, ◌≤◌, Bool, true, false, List, ◌∷◌, length, is_some, sym, ◌∙◌, subst, refl, arith}
+use Rattle.std.proofs.Common.{◌≡◌, ℕ, zero, suc, ◌<◌, ◌≤◌, Bool, true, false, List, ◌∷◌, length, Some, is_some, sym, ◌∙◌, subst, refl, arith}
 use Rattle.std.specs.FinMap as finmap
 use Rattle.cnf_base.specs.Formula.{Formula}
 use Rattle.node_table.specs.declared.node.Node.{Node}

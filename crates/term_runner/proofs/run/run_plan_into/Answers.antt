@@ -16,6 +16,7 @@ returns-in_default-clause-ends g c =
     (λ t. whole_at_start formula (KeepsWithin formula c.args.limits)
     (start_within c.marks_law.ensures.start formula c.args.limits c.formula_law.ensures.literals) channel.written
     (written_at_start c.derivation_law.ensures.none formula.clauses channel.written (c.requires.fresh t)))
+    c.requires.fresh
     (λ width price t. whole_at_start formula (IsPaidFor formula c.args.limits c.args.plan.now width price)
     (start_paid c.marks_law.ensures.start c.start_law.ensures.none_above c.lean_law.ensures.few formula c.args.limits c.args.plan.now width
     price c.formula_law.ensures.literals) channel.written

@@ -109,7 +109,7 @@ returns-clause-ends g c =
     let after : Channel = g.S.Sink.channel new.book.sink.now in
     let fresh : IsTrue tells → before.written ≡ [] = λ t. ap (λ (s : g.row.S.Denot). (g.S.Sink.channel s).written) same
     ∙ c.requires.fresh t in
-    let opened : IsOpened formula limits.max_ids table.book = record {
+    let begun : IsOpened formula limits.max_ids table.book = record {
       literals = literals;
       of_formula = ap (λ (b : Book (MutBor g.row.S.Denot)). b.formula) book;
       steps = ap (λ (b : Book (MutBor g.row.S.Denot)). b.steps) book;
@@ -137,7 +137,7 @@ returns-clause-ends g c =
     let unwritten : table.book.sink.now ≡ new.book.origin.now =
     ap (λ (b : Book (MutBor g.row.S.Denot)). b.sink.now) book ∙ sym same in
     let leads = decided_leads c.canonical_law.ensures c.soundness_law.ensures.derived c.derivation_law.ensures.refutes c.in_use_law.ensures
-    tells before after formula table.graph.order moves limits table new found opened behind ready inputs
+    tells before after formula table.graph.order moves limits table new found begun behind ready inputs
     (ap (λ (t : TableState (MutBor g.row.S.Denot)). t.max_nodes) c.new-table.ensures)
     (record {
       found = told.found;
