@@ -8,6 +8,7 @@ pub mod Price
 pub mod Ends
 pub mod Opened
 pub mod Held
+pub mod Terms
 pub mod Tidy
 pub mod Examples
 pub mod Trial

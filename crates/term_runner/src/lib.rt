@@ -17,6 +17,7 @@ mod progress;
 mod quantification;
 mod reclamation;
 mod run;
+mod terms;
 mod trial;
 mod unit;
 

@@ -19,79 +19,77 @@ ghost use Rattle.operations.specs.Results.{Quantified};
 ghost use Rattle.quantify.specs.Quantification.{quantification_of};
 ghost use Rattle.schedule_plan.specs.Plan.{Term as TermValue, some_value};
 ghost use Rattle.term_runner.specs.Caches.{HaveRoom, KeepsEntries, all_entries, sizes};
-ghost use Rattle.term_runner.specs.Held.{AreHeld, AreKept, GivesUnit, HasUnits};
+ghost use Rattle.term_runner.specs.Held.{AreHeld, AreKept, GivesUnit};
+ghost use Rattle.term_runner.specs.Terms.{HasOwnUnits};
 ghost use Rattle.term_runner.specs.Width.{HasAtMost, term_function};
 
 use crate::caches::Caches;
 use crate::held::{HeldTerm, last_term, replace_last};
+use crate::terms::Terms;
 use crate::unit::{is_same, retire_unit, unit_of_implied};
-use clause_terms::Trail;
 use host_io::Sink;
 use node_table::{
     Justification, Node, Table, TableError, canonical_law, growth_law, steps_law, subfunction_law,
 };
 use operations::entry_law;
 
-/// Quantifies a variable from the top term, and puts it on the trail with the node that it was quantified from.
-pub fn quantify_out<S: Sink + Drop>(
-    table: &mut Table<S>,
-    caches: &mut Caches,
-    stack: &mut Vec<HeldTerm>,
-    trail: &mut Trail,
-    variable: u32,
-) -> Result<bool, TableError>
-    requires sound { IsSound table.old }
-    requires fits { Fits table.old (all_entries caches.old) }
-    requires own { HasUnits table.old (all_entries caches.old) (reverse stack.old.items) }
-    requires from_one { 1 ≤ variable }
-    requires to_levels { variable ≤ levels table.old.graph }
-    requires one { (formula : Formula) × (term : TermValue) × (terms : List TermValue)
-        × AreHeld formula table.old.graph table.old.book.state.live (reverse stack.old.items) (term ∷ terms) }
-    ensures held { (formula : Formula) (term : TermValue) (terms : List TermValue)
-        → AreHeld formula table.old.graph table.old.book.state.live (reverse stack.old.items) (term ∷ terms)
-        → IfOk result (λ refuted. refuted ≡ false → AreHeld formula table.new.graph table.new.book.state.live (reverse stack.new.items)
-        (some_value variable term ∷ terms)) }
-    ensures kept { (formula : Formula) (term : TermValue) (terms : List TermValue) (quantified : List (ℕ × TermValue))
-        → AreHeld formula table.old.graph table.old.book.state.live (reverse stack.old.items) (term ∷ terms)
-        → AreKept formula table.old.graph (reverse trail.old) quantified
-        → IfOk result (λ refuted. AreKept formula table.new.graph (reverse trail.new) ((variable, term) ∷ quantified)) }
-    ensures unchanged { IsErr result → (stack.new.items ≡ stack.old.items) × (trail.new ≡ trail.old) }
-    ensures again { result ≡ Err NodeLimit → HasUnits table.new (all_entries caches.new) (reverse stack.new.items) }
-    ensures refuted { IfOk result (λ refuted. IsTrue refuted → (id : ℕ) × (clause_at table.new.book.state.live id ≡ Some [])) }
-    ensures own { IfOk result (λ refuted. refuted ≡ false → HasUnits table.new (all_entries caches.new) (reverse stack.new.items)) }
-    ensures steps { Steps table.old table.new
-        (most_additions (levels table.old.graph) + 1) (error_of result) }
-    ensures fits { UnlessTorn result (Fits table.new (all_entries caches.new)) }
-    ensures made { (formula : Formula) (term : TermValue) (terms : List TermValue)
-        → AreHeld formula table.old.graph table.old.book.state.live (reverse stack.old.items) (term ∷ terms)
-        → MakesOnly table.old.graph table.new.graph (term_function formula table.old.graph.order (some_value variable term)) }
-    ensures lacks { (formula : Formula) (term : TermValue) (terms : List TermValue)
-        → AreHeld formula table.old.graph table.old.book.state.live (reverse stack.old.items) (term ∷ terms)
-        → result ≡ Err NodeLimit → LacksPart table.new.graph (term_function formula table.old.graph.order (some_value variable term)) }
-    ensures pairs { (formula : Formula) (term : TermValue) (terms : List TermValue)
-        → AreHeld formula table.old.graph table.old.book.state.live (reverse stack.old.items) (term ∷ terms)
-        → (width : ℕ) → HaveRoom caches.old width → HasAtMost (term_function formula table.old.graph.order term) width
-        → HasAtMost (term_function formula table.old.graph.order (some_value variable term)) width
-        → AddsAtMost (2 * (width * width) + 1) table.old table.new }
-    ensures sizes { sizes caches.new ≡ sizes caches.old }
-{
-    growth_law();
-    steps_law::<S>();
-    entry_law::<S>();
-    let Some(u) = last_term(stack.as_slice()) else {
-        unreachable!();
-    };
-    let Some(level) = table.level(variable) else {
-        unreachable!();
-    };
-    let held = weaken(table, caches, &u, level)?;
-    trail.push(variable, u.node)?;
-    if is_same(held.node, Node::False) {
-        return Ok(true);
+impl<S: Sink + Drop> Terms<S> {
+    /// Quantifies a variable from the top term, and puts it on the trail with the node that it was quantified from.
+    pub fn quantify_out(&mut self, variable: u32) -> Result<bool, TableError>
+        requires sound { IsSound self.old.table }
+        requires fits { Fits self.old.table (all_entries self.old.caches) }
+        requires own { HasOwnUnits self.old }
+        requires from_one { 1 ≤ variable }
+        requires to_levels { variable ≤ levels self.old.table.graph }
+        requires one { (formula : Formula) × (term : TermValue) × (terms : List TermValue)
+            × AreHeld formula self.old.table.graph self.old.table.book.state.live (reverse self.old.out.items) (term ∷ terms) }
+        ensures left { self.new.left ≡ self.old.left }
+        ensures held { (formula : Formula) (term : TermValue) (terms : List TermValue)
+            → AreHeld formula self.old.table.graph self.old.table.book.state.live (reverse self.old.out.items) (term ∷ terms)
+            → IfOk result (λ refuted. refuted ≡ false → AreHeld formula self.new.table.graph self.new.table.book.state.live (reverse self.new.out.items)
+            (some_value variable term ∷ terms)) }
+        ensures kept { (formula : Formula) (term : TermValue) (terms : List TermValue) (quantified : List (ℕ × TermValue))
+            → AreHeld formula self.old.table.graph self.old.table.book.state.live (reverse self.old.out.items) (term ∷ terms)
+            → AreKept formula self.old.table.graph (reverse self.old.trail) quantified
+            → IfOk result (λ refuted. AreKept formula self.new.table.graph (reverse self.new.trail) ((variable, term) ∷ quantified)) }
+        ensures unchanged { IsErr result → (self.new.out.items ≡ self.old.out.items) × (self.new.trail ≡ self.old.trail) }
+        ensures again { result ≡ Err NodeLimit → HasOwnUnits self.new }
+        ensures refuted { IfOk result (λ refuted. IsTrue refuted → (id : ℕ) × (clause_at self.new.table.book.state.live id ≡ Some [])) }
+        ensures own { IfOk result (λ refuted. refuted ≡ false → HasOwnUnits self.new) }
+        ensures steps { Steps self.old.table self.new.table
+            (most_additions (levels self.old.table.graph) + 1) (error_of result) }
+        ensures fits { UnlessTorn result (Fits self.new.table (all_entries self.new.caches)) }
+        ensures made { (formula : Formula) (term : TermValue) (terms : List TermValue)
+            → AreHeld formula self.old.table.graph self.old.table.book.state.live (reverse self.old.out.items) (term ∷ terms)
+            → MakesOnly self.old.table.graph self.new.table.graph (term_function formula self.old.table.graph.order (some_value variable term)) }
+        ensures lacks { (formula : Formula) (term : TermValue) (terms : List TermValue)
+            → AreHeld formula self.old.table.graph self.old.table.book.state.live (reverse self.old.out.items) (term ∷ terms)
+            → result ≡ Err NodeLimit → LacksPart self.new.table.graph (term_function formula self.old.table.graph.order (some_value variable term)) }
+        ensures pairs { (formula : Formula) (term : TermValue) (terms : List TermValue)
+            → AreHeld formula self.old.table.graph self.old.table.book.state.live (reverse self.old.out.items) (term ∷ terms)
+            → (width : ℕ) → HaveRoom self.old.caches width → HasAtMost (term_function formula self.old.table.graph.order term) width
+            → HasAtMost (term_function formula self.old.table.graph.order (some_value variable term)) width
+            → AddsAtMost (2 * (width * width) + 1) self.old.table self.new.table }
+        ensures sizes { sizes self.new.caches ≡ sizes self.old.caches }
+    {
+        growth_law();
+        steps_law::<S>();
+        entry_law::<S>();
+        let Some(u) = last_term(self.out.as_slice()) else {
+            unreachable!();
+        };
+        let Some(level) = self.table.level(variable) else {
+            unreachable!();
+        };
+        let held = weaken(&mut self.table, &mut self.caches, &u, level)?;
+        self.trail.push(variable, u.node)?;
+        if is_same(held.node, Node::False) {
+            return Ok(true);
+        }
+        retire_unit(&mut self.table, &u.unit, &held.unit);
+        replace_last(&mut self.out, held.node, held.unit);
+        Ok(false)
     }
-    retire_unit(table, &u.unit, &held.unit);
-    replace_last(stack, held.node, held.unit);
-    Ok(false)
 }
 
 // The term without the variable of this level, with its unit.

@@ -11,21 +11,22 @@ ghost use Rattle.node_table.specs.Made.{LacksPart};
 ghost use Rattle.node_table.specs.Progress.{Leaves, error_of};
 ghost use Rattle.node_table.specs.Table.{UnlessTorn, live_nodes};
 ghost use Rattle.schedule_plan.specs.Plan.{Stage, after_move};
-ghost use Rattle.term_runner.specs.Caches.{HaveSize, all_entries, sizes};
+ghost use Rattle.term_runner.specs.Caches.{HaveSize, sizes};
 ghost use Rattle.term_runner.specs.Price.{AddsFew, IsMovePrice};
 ghost use Rattle.term_runner.specs.Width.{HoldsAtMost, top_function};
 ghost use Rattle.term_runner.specs.Nodes.{KeepsOrMakes};
-ghost use Rattle.term_runner.specs.Held.{IsAt, IsReady, IsUnrefuted, HasUnits};
+ghost use Rattle.term_runner.specs.Held.{IsUnrefuted};
+ghost use Rattle.term_runner.specs.Terms.{HasOwnUnits, IsAtStage, IsOpen};
 ghost use Rattle.term_runner.specs.Tidy.{IsByRule, IsTidy, LeavesReached, WereLeft, held_nodes};
 
-use crate::caches::Caches;
 use crate::held::HeldTerm;
-use crate::moves::{is_node_limit, try_move};
+use crate::moves::is_node_limit;
+use crate::terms::Terms;
 use clause_terms::Trail;
 use cnf_base::{Cnf, OutOfMemory as NoMemory};
 use host_io::Sink;
 use node_table::{
-    Node, Table, TableError, canonical_law, growth_law, reach_law, steps_law, subfunction_law,
+    Node, TableError, canonical_law, growth_law, reach_law, steps_law, subfunction_law,
 };
 use reclaim::reclaim;
 use schedule_plan::Move;
@@ -34,181 +35,160 @@ use std::alloc::Global;
 // With fewer nodes than these none are given back.
 const RECLAIM_FROM: u32 = 1000;
 
-/// Takes a move, at the limit of nodes after a reclamation, and reclaims behind it where there are many. Says whether the empty
-/// clause was added: then all is done. `left` is how many nodes the last reclamation left.
-pub fn take_move<S: Sink + Drop>(
-    alloc: Global,
-    table: &mut Table<S>,
-    caches: &mut Caches,
-    stack: &mut Vec<HeldTerm>,
-    trail: &mut Trail,
-    left: &mut u32,
-    formula: &Cnf,
-    step: Move,
-) -> Result<bool, TableError>
-    requires ready { IsReady formula.now table.old (all_entries caches.old) }
-    requires possible { (stage next : Stage) × IsAt formula.now table.old.graph table.old.book.state.live stack.old.items trail.old stage
-        × (after_move formula.now stage step ≡ Some next) }
-    requires settled { table.old.retired ≡ [] }
-    requires own { HasUnits table.old (all_entries caches.old) (reverse stack.old.items) }
-    ensures held { (stage next : Stage) → IsAt formula.now table.old.graph table.old.book.state.live stack.old.items trail.old stage
-        → after_move formula.now stage step ≡ Some next
-        → IfOk result (λ refuted. refuted ≡ false
-        → IsAt formula.now table.new.graph table.new.book.state.live stack.new.items trail.new next) }
-    ensures refuted { IfOk result (λ refuted. IsTrue refuted → (id : ℕ) × (clause_at table.new.book.state.live id ≡ Some [])) }
-    ensures ready { OnOk result (IsReady formula.now table.new (all_entries caches.new)) }
-    ensures settled { result ≡ Ok false → table.new.retired ≡ [] }
-    ensures own { IfOk result (λ refuted. refuted ≡ false → HasUnits table.new (all_entries caches.new) (reverse stack.new.items)) }
-    ensures leaves { Leaves table.old table.new (error_of result) }
-    ensures made { (stage next : Stage) → IsAt formula.now table.old.graph table.old.book.state.live stack.old.items trail.old stage
-        → after_move formula.now stage step ≡ Some next
-        → KeepsOrMakes table.old.graph table.new.graph (top_function formula.now table.old.graph.order next.stack) }
-    ensures lacks { (stage next : Stage) → IsAt formula.now table.old.graph table.old.book.state.live stack.old.items trail.old stage
-        → after_move formula.now stage step ≡ Some next
-        → result ≡ Err NodeLimit → LacksPart table.new.graph (top_function formula.now table.old.graph.order next.stack) }
-    // At the limit there are but nodes that the terms reached, and those of the move's own.
-    ensures full { (stage next : Stage) → IsAt formula.now table.old.graph table.old.book.state.live stack.old.items trail.old stage
-        → after_move formula.now stage step ≡ Some next
-        → result ≡ Err NodeLimit → (were : WereLeft formula.now table.old.graph.order stage left.new)
-        × KeepsOrMakes were.graph table.new.graph (top_function formula.now table.old.graph.order next.stack) }
-    ensures tidy { result ≡ Ok false → IsTidy (live_nodes table.new.graph) left.new }
-    ensures left { (stage next : Stage) → IsAt formula.now table.old.graph table.old.book.state.live stack.old.items trail.old stage
-        → after_move formula.now stage step ≡ Some next
-        → result ≡ Ok false → (left.new ≡ left.old) ⊎ (WereLeft formula.now table.old.graph.order stage left.new
-        ⊎ WereLeft formula.now table.old.graph.order next left.new) }
-    // However it ends, it gave so many numbers at most, and made so few nodes, by the parts in hand at the move.
-    ensures price { (stage next : Stage) → IsAt formula.now table.old.graph table.old.book.state.live stack.old.items trail.old stage
-        → after_move formula.now stage step ≡ Some next
-        → (size width price : ℕ) → HaveSize caches.old size → IsMovePrice (levels table.old.graph) size width price
-        → HoldsAtMost formula.now table.old.graph.order stage next width
-        → table.new.book.state.top ≤ table.old.book.state.top + price }
-    ensures sizes { sizes caches.new ≡ sizes caches.old }
-    ensures no_empty { IsUnrefuted table.old table.new result }
-    // Nothing is given back but at the limit, or where there are many.
-    ensures rule { (stage next : Stage) → IsAt formula.now table.old.graph table.old.book.state.live stack.old.items trail.old stage
-        → after_move formula.now stage step ≡ Some next
-        → IsByRule table.old.graph table.new.graph (top_function formula.now table.old.graph.order next.stack)
-        table.old.max_nodes left.old left.new }
-    ensures few { (stage next : Stage) → IsAt formula.now table.old.graph table.old.book.state.live stack.old.items trail.old stage
-        → after_move formula.now stage step ≡ Some next
-        → (width : ℕ) → HoldsAtMost formula.now table.old.graph.order stage next width
-        → AddsFew (live_nodes table.old.graph) (live_nodes table.new.graph) width }
-{
-    canonical_law();
-    subfunction_law();
-    growth_law();
-    steps_law::<S>();
-    let refuted = try_twice(alloc, table, caches, stack, trail, left, formula, step)?;
-    if refuted {
-        return Ok(refuted);
-    }
-    if is_tidy(table.live(), *left) {
-        return Ok(refuted);
-    }
-    *left = give_back(alloc, table, caches, stack.as_slice(), trail, formula)?;
-    Ok(refuted)
-}
-
-// Tries a move, and at the limit of nodes once more after a reclamation.
-fn try_twice<S: Sink + Drop>(
-    alloc: Global,
-    table: &mut Table<S>,
-    caches: &mut Caches,
-    stack: &mut Vec<HeldTerm>,
-    trail: &mut Trail,
-    left: &mut u32,
-    formula: &Cnf,
-    step: Move,
-) -> Result<bool, TableError>
-    requires ready { IsReady formula.now table.old (all_entries caches.old) }
-    requires possible { (stage next : Stage) × IsAt formula.now table.old.graph table.old.book.state.live stack.old.items trail.old stage
-        × (after_move formula.now stage step ≡ Some next) }
-    requires settled { table.old.retired ≡ [] }
-    requires own { HasUnits table.old (all_entries caches.old) (reverse stack.old.items) }
-    ensures held { (stage next : Stage) → IsAt formula.now table.old.graph table.old.book.state.live stack.old.items trail.old stage
-        → after_move formula.now stage step ≡ Some next
-        → IfOk result (λ refuted. refuted ≡ false
-        → IsAt formula.now table.new.graph table.new.book.state.live stack.new.items trail.new next) }
-    ensures refuted { IfOk result (λ refuted. IsTrue refuted → (id : ℕ) × (clause_at table.new.book.state.live id ≡ Some [])) }
-    ensures ready { OnOk result (IsReady formula.now table.new (all_entries caches.new)) }
-    ensures settled { result ≡ Ok false → table.new.retired ≡ [] }
-    ensures own { IfOk result (λ refuted. refuted ≡ false → HasUnits table.new (all_entries caches.new) (reverse stack.new.items)) }
-    ensures leaves { Leaves table.old table.new (error_of result) }
-    ensures made { (stage next : Stage) → IsAt formula.now table.old.graph table.old.book.state.live stack.old.items trail.old stage
-        → after_move formula.now stage step ≡ Some next
-        → KeepsOrMakes table.old.graph table.new.graph (top_function formula.now table.old.graph.order next.stack) }
-    ensures lacks { (stage next : Stage) → IsAt formula.now table.old.graph table.old.book.state.live stack.old.items trail.old stage
-        → after_move formula.now stage step ≡ Some next
-        → result ≡ Err NodeLimit → LacksPart table.new.graph (top_function formula.now table.old.graph.order next.stack) }
-    ensures full { (stage next : Stage) → IsAt formula.now table.old.graph table.old.book.state.live stack.old.items trail.old stage
-        → after_move formula.now stage step ≡ Some next
-        → result ≡ Err NodeLimit → (were : WereLeft formula.now table.old.graph.order stage left.new)
-        × KeepsOrMakes were.graph table.new.graph (top_function formula.now table.old.graph.order next.stack) }
-    ensures left { (stage : Stage) → IsAt formula.now table.old.graph table.old.book.state.live stack.old.items trail.old stage
-        → (left.new ≡ left.old) ⊎ WereLeft formula.now table.old.graph.order stage left.new }
-    ensures price { (stage next : Stage) → IsAt formula.now table.old.graph table.old.book.state.live stack.old.items trail.old stage
-        → after_move formula.now stage step ≡ Some next
-        → (size width price : ℕ) → HaveSize caches.old size → IsMovePrice (levels table.old.graph) size width price
-        → HoldsAtMost formula.now table.old.graph.order stage next width
-        → table.new.book.state.top ≤ table.old.book.state.top + price }
-    ensures sizes { sizes caches.new ≡ sizes caches.old }
-    ensures no_empty { IsUnrefuted table.old table.new result }
-    // Nothing is given back but at the limit, or where there are many.
-    ensures rule { (stage next : Stage) → IsAt formula.now table.old.graph table.old.book.state.live stack.old.items trail.old stage
-        → after_move formula.now stage step ≡ Some next
-        → IsByRule table.old.graph table.new.graph (top_function formula.now table.old.graph.order next.stack)
-        table.old.max_nodes left.old left.new }
-    ensures few { (stage next : Stage) → IsAt formula.now table.old.graph table.old.book.state.live stack.old.items trail.old stage
-        → after_move formula.now stage step ≡ Some next
-        → (width : ℕ) → HoldsAtMost formula.now table.old.graph.order stage next width
-        → AddsFew (live_nodes table.old.graph) (live_nodes table.new.graph) width }
-{
-    subfunction_law();
-    canonical_law();
-    growth_law();
-    steps_law::<S>();
-    match try_move(alloc, table, caches, stack, trail, formula, step) {
-        Ok(refuted) => Ok(refuted),
-        Err(e) if is_node_limit(&e) => {
-            *left = give_back(alloc, table, caches, stack.as_slice(), trail, formula)?;
-            try_move(alloc, table, caches, stack, trail, formula, step)
+impl<S: Sink + Drop> Terms<S> {
+    /// Takes a move, at the limit of nodes after a reclamation, and reclaims behind it where there are many. Says whether the empty
+    /// clause was added: then all is done. `left` is how many nodes the last reclamation left.
+    pub fn take_move(&mut self, formula: &Cnf, step: Move) -> Result<bool, TableError>
+        requires ready { IsOpen formula.now self.old }
+        requires possible { (stage next : Stage) × IsAtStage formula.now self.old stage
+            × (after_move formula.now stage step ≡ Some next) }
+        requires settled { self.old.table.retired ≡ [] }
+        requires own { HasOwnUnits self.old }
+        ensures held { (stage next : Stage) → IsAtStage formula.now self.old stage
+            → after_move formula.now stage step ≡ Some next
+            → IfOk result (λ refuted. refuted ≡ false
+            → IsAtStage formula.now self.new next) }
+        ensures refuted { IfOk result (λ refuted. IsTrue refuted → (id : ℕ) × (clause_at self.new.table.book.state.live id ≡ Some [])) }
+        ensures ready { OnOk result (IsOpen formula.now self.new) }
+        ensures settled { result ≡ Ok false → self.new.table.retired ≡ [] }
+        ensures own { IfOk result (λ refuted. refuted ≡ false → HasOwnUnits self.new) }
+        ensures leaves { Leaves self.old.table self.new.table (error_of result) }
+        ensures made { (stage next : Stage) → IsAtStage formula.now self.old stage
+            → after_move formula.now stage step ≡ Some next
+            → KeepsOrMakes self.old.table.graph self.new.table.graph (top_function formula.now self.old.table.graph.order next.stack) }
+        ensures lacks { (stage next : Stage) → IsAtStage formula.now self.old stage
+            → after_move formula.now stage step ≡ Some next
+            → result ≡ Err NodeLimit → LacksPart self.new.table.graph (top_function formula.now self.old.table.graph.order next.stack) }
+        // At the limit there are but nodes that the terms reached, and those of the move's own.
+        ensures full { (stage next : Stage) → IsAtStage formula.now self.old stage
+            → after_move formula.now stage step ≡ Some next
+            → result ≡ Err NodeLimit → (were : WereLeft formula.now self.old.table.graph.order stage self.new.left)
+            × KeepsOrMakes were.graph self.new.table.graph (top_function formula.now self.old.table.graph.order next.stack) }
+        ensures tidy { result ≡ Ok false → IsTidy (live_nodes self.new.table.graph) self.new.left }
+        ensures left { (stage next : Stage) → IsAtStage formula.now self.old stage
+            → after_move formula.now stage step ≡ Some next
+            → result ≡ Ok false → (self.new.left ≡ self.old.left) ⊎ (WereLeft formula.now self.old.table.graph.order stage self.new.left
+            ⊎ WereLeft formula.now self.old.table.graph.order next self.new.left) }
+        // However it ends, it gave so many numbers at most, and made so few nodes, by the parts in hand at the move.
+        ensures price { (stage next : Stage) → IsAtStage formula.now self.old stage
+            → after_move formula.now stage step ≡ Some next
+            → (size width price : ℕ) → HaveSize self.old.caches size → IsMovePrice (levels self.old.table.graph) size width price
+            → HoldsAtMost formula.now self.old.table.graph.order stage next width
+            → self.new.table.book.state.top ≤ self.old.table.book.state.top + price }
+        ensures sizes { sizes self.new.caches ≡ sizes self.old.caches }
+        ensures no_empty { IsUnrefuted self.old.table self.new.table result }
+        // Nothing is given back but at the limit, or where there are many.
+        ensures rule { (stage next : Stage) → IsAtStage formula.now self.old stage
+            → after_move formula.now stage step ≡ Some next
+            → IsByRule self.old.table.graph self.new.table.graph (top_function formula.now self.old.table.graph.order next.stack)
+            self.old.table.max_nodes self.old.left self.new.left }
+        ensures few { (stage next : Stage) → IsAtStage formula.now self.old stage
+            → after_move formula.now stage step ≡ Some next
+            → (width : ℕ) → HoldsAtMost formula.now self.old.table.graph.order stage next width
+            → AddsFew (live_nodes self.old.table.graph) (live_nodes self.new.table.graph) width }
+    {
+        canonical_law();
+        subfunction_law();
+        growth_law();
+        steps_law::<S>();
+        let refuted = self.try_twice(formula, step)?;
+        if refuted {
+            return Ok(refuted);
         }
-        Err(e) => Err(e),
+        if is_tidy(self.table.live(), self.left) {
+            return Ok(refuted);
+        }
+        self.left = self.give_back(formula)?;
+        Ok(refuted)
     }
-}
 
-// Gives back the nodes that neither the stack nor the trail reaches, with their clauses, and says how many are left.
-fn give_back<S: Sink + Drop>(
-    alloc: Global,
-    table: &mut Table<S>,
-    caches: &mut Caches,
-    stack: &[HeldTerm],
-    trail: &Trail,
-    formula: &Cnf,
-) -> Result<u32, TableError>
-    requires ready { IsReady formula.now table.old (all_entries caches.old) }
-    requires possible { (stage : Stage) × IsAt formula.now table.old.graph table.old.book.state.live stack.now trail.now stage }
-    requires own { HasUnits table.old (all_entries caches.old) (reverse stack.now) }
-    ensures at { (stage : Stage) → IsAt formula.now table.old.graph table.old.book.state.live stack.now trail.now stage
-        → OnOk result (IsAt formula.now table.new.graph table.new.book.state.live stack.now trail.now stage) }
-    ensures ready { OnOk result (IsReady formula.now table.new (all_entries caches.new)) }
-    ensures settled { OnOk result (table.new.retired ≡ []) }
-    ensures own { OnOk result (HasUnits table.new (all_entries caches.new) (reverse stack.now)) }
-    ensures reached { OnOk result (LeavesReached table.old.graph table.new.graph (held_nodes stack.now trail.now)) }
-    ensures count { IfOk result (λ left. left ≡ live_nodes table.new.graph) }
-    // A refusal leaves the nodes as they were.
-    ensures kept { OnErr result (table.new.graph ≡ table.old.graph) }
-    ensures top { table.new.book.state.top ≡ table.old.book.state.top }
-    ensures sizes { sizes caches.new ≡ sizes caches.old }
-    ensures leaves { Leaves table.old table.new (error_of result) }
-    ensures error { IfErr result (λ e. (e ≡ OutOfMemory) ⊎ (e ≡ WriteFault)) }
-{
-    growth_law();
-    reach_law();
-    steps_law::<S>();
-    let roots = roots_of(alloc, stack, trail)?;
-    let _ = reclaim(table, roots.as_slice(), caches)?;
-    Ok(table.live())
+    // Tries a move, and at the limit of nodes once more after a reclamation.
+    fn try_twice(&mut self, formula: &Cnf, step: Move) -> Result<bool, TableError>
+        requires ready { IsOpen formula.now self.old }
+        requires possible { (stage next : Stage) × IsAtStage formula.now self.old stage
+            × (after_move formula.now stage step ≡ Some next) }
+        requires settled { self.old.table.retired ≡ [] }
+        requires own { HasOwnUnits self.old }
+        ensures held { (stage next : Stage) → IsAtStage formula.now self.old stage
+            → after_move formula.now stage step ≡ Some next
+            → IfOk result (λ refuted. refuted ≡ false
+            → IsAtStage formula.now self.new next) }
+        ensures refuted { IfOk result (λ refuted. IsTrue refuted → (id : ℕ) × (clause_at self.new.table.book.state.live id ≡ Some [])) }
+        ensures ready { OnOk result (IsOpen formula.now self.new) }
+        ensures settled { result ≡ Ok false → self.new.table.retired ≡ [] }
+        ensures own { IfOk result (λ refuted. refuted ≡ false → HasOwnUnits self.new) }
+        ensures leaves { Leaves self.old.table self.new.table (error_of result) }
+        ensures made { (stage next : Stage) → IsAtStage formula.now self.old stage
+            → after_move formula.now stage step ≡ Some next
+            → KeepsOrMakes self.old.table.graph self.new.table.graph (top_function formula.now self.old.table.graph.order next.stack) }
+        ensures lacks { (stage next : Stage) → IsAtStage formula.now self.old stage
+            → after_move formula.now stage step ≡ Some next
+            → result ≡ Err NodeLimit → LacksPart self.new.table.graph (top_function formula.now self.old.table.graph.order next.stack) }
+        ensures full { (stage next : Stage) → IsAtStage formula.now self.old stage
+            → after_move formula.now stage step ≡ Some next
+            → result ≡ Err NodeLimit → (were : WereLeft formula.now self.old.table.graph.order stage self.new.left)
+            × KeepsOrMakes were.graph self.new.table.graph (top_function formula.now self.old.table.graph.order next.stack) }
+        ensures left { (stage : Stage) → IsAtStage formula.now self.old stage
+            → (self.new.left ≡ self.old.left) ⊎ WereLeft formula.now self.old.table.graph.order stage self.new.left }
+        ensures price { (stage next : Stage) → IsAtStage formula.now self.old stage
+            → after_move formula.now stage step ≡ Some next
+            → (size width price : ℕ) → HaveSize self.old.caches size → IsMovePrice (levels self.old.table.graph) size width price
+            → HoldsAtMost formula.now self.old.table.graph.order stage next width
+            → self.new.table.book.state.top ≤ self.old.table.book.state.top + price }
+        ensures sizes { sizes self.new.caches ≡ sizes self.old.caches }
+        ensures no_empty { IsUnrefuted self.old.table self.new.table result }
+        // Nothing is given back but at the limit, or where there are many.
+        ensures rule { (stage next : Stage) → IsAtStage formula.now self.old stage
+            → after_move formula.now stage step ≡ Some next
+            → IsByRule self.old.table.graph self.new.table.graph (top_function formula.now self.old.table.graph.order next.stack)
+            self.old.table.max_nodes self.old.left self.new.left }
+        ensures few { (stage next : Stage) → IsAtStage formula.now self.old stage
+            → after_move formula.now stage step ≡ Some next
+            → (width : ℕ) → HoldsAtMost formula.now self.old.table.graph.order stage next width
+            → AddsFew (live_nodes self.old.table.graph) (live_nodes self.new.table.graph) width }
+    {
+        subfunction_law();
+        canonical_law();
+        growth_law();
+        steps_law::<S>();
+        match self.try_move(formula, step) {
+            Ok(refuted) => Ok(refuted),
+            Err(e) if is_node_limit(&e) => {
+                self.left = self.give_back(formula)?;
+                self.try_move(formula, step)
+            }
+            Err(e) => Err(e),
+        }
+    }
+
+    // Gives back the nodes that neither the stack nor the trail reaches, with their clauses, and says how many are left.
+    fn give_back(&mut self, formula: &Cnf) -> Result<u32, TableError>
+        requires ready { IsOpen formula.now self.old }
+        requires possible { (stage : Stage) × IsAtStage formula.now self.old stage }
+        requires own { HasOwnUnits self.old }
+        ensures at { (stage : Stage) → IsAtStage formula.now self.old stage
+            → OnOk result (IsAtStage formula.now self.new stage) }
+        ensures ready { OnOk result (IsOpen formula.now self.new) }
+        ensures settled { OnOk result (self.new.table.retired ≡ []) }
+        ensures own { OnOk result (HasOwnUnits self.new) }
+        ensures reached { OnOk result (LeavesReached self.old.table.graph self.new.table.graph (held_nodes self.old.out.items self.old.trail)) }
+        ensures count { IfOk result (λ left. left ≡ live_nodes self.new.table.graph) }
+        // A refusal leaves the nodes as they were.
+        ensures kept { OnErr result (self.new.table.graph ≡ self.old.table.graph) }
+        ensures top { self.new.table.book.state.top ≡ self.old.table.book.state.top }
+        ensures same { (self.new.out ≡ self.old.out) × (self.new.trail ≡ self.old.trail) × (self.new.left ≡ self.old.left) }
+        ensures sizes { sizes self.new.caches ≡ sizes self.old.caches }
+        ensures leaves { Leaves self.old.table self.new.table (error_of result) }
+        ensures error { IfErr result (λ e. (e ≡ OutOfMemory) ⊎ (e ≡ WriteFault)) }
+    {
+        growth_law();
+        reach_law();
+        steps_law::<S>();
+        let alloc = *self.out.allocator();
+        let roots = roots_of(alloc, self.out.as_slice(), &self.trail)?;
+        let _ = reclaim(&mut self.table, roots.as_slice(), &mut self.caches)?;
+        Ok(self.table.live())
+    }
 }
 
 // The nodes of the stack and of the trail.

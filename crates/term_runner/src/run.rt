@@ -2,17 +2,16 @@
 ghost use Rattle.std.specs.Prelude.{◌≡◌, ◌≤◌, [], length, IsTrue};
 ghost use Rattle.schedule_plan.specs.Plan.{IsAdmissible};
 ghost use Rattle.schedule_plan.specs.Limits.{AreLimits};
-ghost use Rattle.term_runner.specs.Caches.{HaveSize, all_entries};
 ghost use Rattle.term_runner.specs.Ends.{Ends};
 ghost use Rattle.term_runner.specs.Opened.{EndsWithin};
 
 use crate::caches::Caches;
-use crate::decide::decide;
 use crate::error::RunError;
 use crate::finish::{finish, refute};
 use crate::open::first_empty;
 use crate::outcome::{Run, outcome_of};
 use crate::progress::Progress;
+use crate::terms::Terms;
 use clause_ledger::Ledger;
 use cnf_base::Cnf;
 use host_io::Sink;
@@ -20,7 +19,6 @@ use lrat_rules::{derivation_law, marks_law, soundness_law, start_law};
 use node_table::{Diagram, Table, canonical_law, in_use_law, lean_law, opening_law};
 use schedule_plan::{Limits, Order, Plan};
 use std::alloc::Global;
-use std::mem::forget;
 
 /// Runs a plan over a formula and writes the proof to a sink, which is handed back. A formula with an empty clause is
 /// refuted by one line, without a diagram. With an answer, and where a limit is reached, all that was written is flushed.
@@ -61,31 +59,20 @@ pub fn run_plan_into<S: Sink + Drop>(
     ensures ends { Ends S.tells (S.channel sink.old) (S.channel sink.new) formula.now order.now plan.now limits result }
     ensures beside { S.beside sink.new ≡ S.beside sink.old }
 {
-    start_law();
-    derivation_law();
-    marks_law();
-    lean_law::<S>();
-    formula.formula_law();
-    let Ok(mut caches) = Caches::new(alloc, limits.cache) else {
-        return Err(RunError::OutOfMemory);
-    };
     let mut progress = Progress::new(formula.len() as u64, limits.max_ids);
-    let result = run_with(
+    run_with(
         alloc,
         formula,
         order,
         plan,
         limits,
         sink,
-        &mut caches,
         &mut progress,
-    );
-    // To let entries go one by one would take longer than some runs.
-    forget(caches);
-    result
+        false,
+    )
 }
 
-/// As `run_plan_into`, over empty caches that are lent, and counts the moves.
+/// As `run_plan_into`, and counts the moves. The caches may be let go at the end.
 pub(crate) fn run_with<S: Sink + Drop>(
     alloc: Global,
     formula: &Cnf,
@@ -93,15 +80,13 @@ pub(crate) fn run_with<S: Sink + Drop>(
     plan: &Plan,
     limits: Limits,
     sink: &mut S,
-    caches: &mut Caches,
     progress: &mut Progress,
+    lets_go: bool,
 ) -> Result<Run, RunError>
     requires order { length order.now ≡ formula.now.vars }
     requires plan { IsAdmissible formula.now plan.now }
     requires limits { AreLimits limits }
     requires fresh { IsTrue S.tells → (S.channel sink.old).written ≡ [] }
-    requires no_entries { all_entries caches.old ≡ [] }
-    requires size { HaveSize caches.old limits.cache }
     requires begun { progress.old.moves ≡ 0 }
     ensures ends { EndsWithin S.tells (S.channel sink.old) (S.channel sink.new) formula.now order.now plan.now limits result }
     ensures counted { progress.new.moves ≤ length plan.now }
@@ -128,18 +113,16 @@ pub(crate) fn run_with<S: Sink + Drop>(
         let _sink = ledger.close();
         return Err(RunError::OutOfMemory);
     };
-    let mut table = Table::new(alloc, ledger, diagram, limits.max_nodes);
-    let found = decide(
-        alloc,
-        &mut table,
-        caches,
-        formula,
-        plan,
-        limits.cache,
-        progress,
-    );
-    table.table_law();
-    let mut ledger = table.into_ledger();
+    let Ok(caches) = Caches::new(alloc, limits.cache) else {
+        ledger.book_law();
+        let _sink = ledger.close();
+        return Err(RunError::OutOfMemory);
+    };
+    let table = Table::new(alloc, ledger, diagram, limits.max_nodes);
+    let mut terms = Terms::new(alloc, table, caches);
+    let found = terms.decide(formula, plan, limits.cache, progress);
+    terms.table.table_law();
+    let mut ledger = terms.into_ledger(lets_go);
     ledger.book_law();
     let result = finish(&mut ledger, outcome_of(found));
     ledger.book_law();

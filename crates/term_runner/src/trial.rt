@@ -4,7 +4,6 @@ ghost use Rattle.schedule_plan.specs.Limits.{AreLimits};
 ghost use Rattle.schedule_plan.specs.Plan.{IsAdmissible};
 ghost use Rattle.term_runner.specs.Trial.{IsTrial};
 
-use crate::caches::Caches;
 use crate::error::RunError;
 use crate::outcome::Outcome;
 use crate::progress::Progress;
@@ -50,7 +49,6 @@ pub fn try_plan(
     requires limits { AreLimits limits }
     ensures { IfOk result (IsTrial formula.now plan.now limits) }
 {
-    let mut caches = Caches::new(alloc, limits.cache)?;
     let mut progress = Progress::new(formula.len() as u64, limits.max_ids);
     let mut sink = NoSink;
     let result = run_with(
@@ -60,8 +58,8 @@ pub fn try_plan(
         plan,
         limits,
         &mut sink,
-        &mut caches,
         &mut progress,
+        true,
     );
     match result {
         Ok(run) => Ok(Trial {

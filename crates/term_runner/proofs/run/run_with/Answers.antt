@@ -64,6 +64,27 @@ returns-in_default-new-clause-ends g c =
       last = tt;
     })
 
+pub returns-in_default-new-2-clause-ends : goal.returns-in_default-new-2-clause-ends
+returns-in_default-new-2-clause-ends g c =
+    let formula = c.args.formula.now in
+    let tells = g.S.Sink.tells in
+    let channel : Channel = g.S.Sink.channel c.args.sink.now in
+    let written : IsTrue tells → IsWritten formula.clauses channel.written (start formula.clauses) = λ t.
+    written_at_start c.derivation_law.ensures.none formula.clauses channel.written (c.requires.fresh t) in
+    subst (λ (s : g.row.S.Denot). EndsWithin tells channel (g.S.Sink.channel s) formula c.args.order.now c.args.plan.now c.args.limits _)
+    (search rules)
+    (record {
+      ends = nothing_ends tells channel channel formula c.args.order.now c.args.plan.now c.args.limits
+          (λ t. whole_at_start formula (KeepsWithin formula c.args.limits)
+          (start_within c.marks_law.ensures.start formula c.args.limits c.formula_law.ensures.literals) channel.written (written t))
+          c.requires.fresh
+          (λ width price t. whole_at_start formula (IsPaidFor formula c.args.limits c.args.plan.now width price)
+          (start_paid c.marks_law.ensures.start c.start_law.ensures.none_above c.lean_law.ensures.few formula c.args.limits c.args.plan.now width
+          price c.formula_law.ensures.literals) channel.written (written t))
+          refl refl refl;
+      last = tt;
+    })
+
 pub decide-found-requires-clause-ready : goal.decide-found-requires-clause-ready
 decide-found-requires-clause-ready g c =
     let ledger = c.new-ledger.result in
@@ -86,7 +107,7 @@ returns-clause-ends g c =
     let channel : MutBor g.row.S.Denot → Channel = λ s. g.S.Sink.channel s.now in
     let literals = c.formula_law.ensures.literals in
     let table = c.new-table.result in
-    let new = c.decide-found.new.table in
+    let new = c.decide-found.new.self.table in
     let found = c.decide-found.result in
     let ledger = c.into_ledger-ledger.result in
     let graph : table.graph ≡ record { order = order; nodes = map.empty } =

@@ -35,9 +35,9 @@ use Rattle.term_runner.proofs.Few.{added_between, has_added, held_length}
 use Rattle.term_runner.proofs.FewLeft.{few_left, in_hand_behind}
 use Rattle.term_runner.proofs.Paid.{kind_of_memory, lean_here, paid_behind}
 use Rattle.term_runner.proofs.Priced.{moved_few, no_nodes, one_more, tidy_few}
-use Rattle.term_runner.proofs.decide.take_moves.Given.{Over}
-use Rattle.term_runner.proofs.decide.take_moves.Goals as goal
-use Rattle.term_runner.proofs.decide.take_moves.Goals.{After-few_law-2, After-take_move}
+use Rattle.term_runner.proofs.terms.Terms.take_moves.Given.{Over}
+use Rattle.term_runner.proofs.terms.Terms.take_moves.Goals as goal
+use Rattle.term_runner.proofs.terms.Terms.take_moves.Goals.{After-few_law-2, After-take_move}
 
 pub unreachable-requires : goal.unreachable-requires
 unreachable-requires g c = some_at c.args.plan.now c.moves.i (omega (arith, c.moves-test.true, c.len-i-end.ensures)) (sym c.get.ensures
@@ -46,20 +46,20 @@ unreachable-requires g c = some_at c.args.plan.now c.moves.i (omega (arith, c.mo
 pub moves-init : goal.moves-init
 moves-init g c =
     let formula = c.args.formula.now in
-    let table = c.args.table.now in
+    let table = c.args.self.now.table in
     record {
       few = omega arith;
       counted = c.requires.begun;
       tidy = inl (let none = no_nodes table.graph c.requires.empty in omega (arith, none));
-      left = λ width has. omega arith;
+      left = λ width has. omega (arith, c.requires.none_left);
       price = λ width price has is. omega arith;
       size = c.requires.size;
-      between = at_first formula c.args.plan.now table.graph table.book.state.live c.new-stack.result.items c.new-trail.result
-          (search rules) (search rules);
+      between = at_first formula c.args.plan.now table.graph table.book.state.live c.args.self.now.out.items c.args.self.now.trail
+          c.requires.none_out c.requires.no_trail;
       ready = subst (λ (kept : List Entry). IsReady formula table kept) (sym c.requires.no_entries) c.requires.ready;
       settled = c.requires.settled;
-      own = units_none table (all_entries c.args.caches.now) c.new-stack.result.items c.requires.ready.sound c.requires.fresh
-          (search rules);
+      own = units_none table (all_entries c.args.self.now.caches) c.args.self.now.out.items c.requires.ready.sound c.requires.fresh
+          c.requires.none_out;
       continues = (c.steps_law.ensures.none table c.requires.ready.sound).leaves;
       no_empty = no_change table;
     }
@@ -77,8 +77,8 @@ pub take_move-requires-clause-possible : goal.take_move-requires-clause-possible
 take_move-requires-clause-possible g c =
     let between = c.moves.invariant.between in
     let at : slice_get c.args.plan.now c.moves.i ≡ Some c.in-Some.step = sym c.get.ensures ∙ c.in-Some.is in
-    let next = next_at c.args.formula.now c.args.plan.now c.moves.i c.moves.table.graph c.moves.table.book.state.live c.moves.stack.items
-    c.moves.trail c.requires.plan.last c.in-Some.step c.requires.plan.possible at between in
+    let next = next_at c.args.formula.now c.args.plan.now c.moves.i c.moves.self.table.graph c.moves.self.table.book.state.live c.moves.self.out.items
+    c.moves.self.trail c.requires.plan.last c.in-Some.step c.requires.plan.possible at between in
     (between.stage, next.next, between.at, next.is)
 
 -- at each move of the plan no more parts are in hand than its width says
@@ -97,30 +97,30 @@ at_move formula plan order i step before after at reached leads width has more =
 
 -- a move gives so many numbers, however it ended
 near_by : (g : Over) (c : After-take_move g) (width price : ℕ)
-    → HasWidth c.args.formula.now c.args.table.now.graph.order c.args.plan.now width
-    → IsMovePrice (levels c.args.table.now.graph) c.args.capacity width price
-    → c.take_move.new.table.book.state.top ≤ c.moves.table.book.state.top + price
+    → HasWidth c.args.formula.now c.args.self.now.table.graph.order c.args.plan.now width
+    → IsMovePrice (levels c.args.self.now.table.graph) c.args.capacity width price
+    → c.take_move.new.self.table.book.state.top ≤ c.moves.self.table.book.state.top + price
 near_by g c width price has is =
     let formula = c.args.formula.now in
     let plan = c.args.plan.now in
-    let table = c.moves.table in
+    let table = c.moves.self.table in
     let between = c.moves.invariant.between in
     let order = c.moves.invariant.continues.order in
     let at : slice_get plan c.moves.i ≡ Some c.in-Some.step = sym c.get.ensures ∙ c.in-Some.is in
-    let next = next_at formula plan c.moves.i table.graph table.book.state.live c.moves.stack.items c.moves.trail c.requires.plan.last
+    let next = next_at formula plan c.moves.i table.graph table.book.state.live c.moves.self.out.items c.moves.self.trail c.requires.plan.last
     c.in-Some.step c.requires.plan.possible at between in
     let most : HoldsAtMost formula table.graph.order between.stage next.next width =
     subst (λ (o : List ℕ). HoldsAtMost formula o between.stage next.next width) (sym order)
-    (at_move formula plan c.args.table.now.graph.order c.moves.i c.in-Some.step between.stage next.next at between.front next.is width has)
+    (at_move formula plan c.args.self.now.table.graph.order c.moves.i c.in-Some.step between.stage next.next at between.front next.is width has)
     in
     c.take_move.ensures.price between.stage next.next between.at next.is c.args.capacity width price c.moves.invariant.size
     (subst (λ (vars : ℕ). IsMovePrice vars c.args.capacity width price) (sym (ap length order)) is) most
 
 -- and all so far
 so_far : (g : Over) (c : After-take_move g) (width price : ℕ)
-    → HasWidth c.args.formula.now c.args.table.now.graph.order c.args.plan.now width
-    → IsMovePrice (levels c.args.table.now.graph) c.args.capacity width price
-    → c.take_move.new.table.book.state.top ≤ c.args.table.now.book.state.top + (c.moves.i + 1) * price
+    → HasWidth c.args.formula.now c.args.self.now.table.graph.order c.args.plan.now width
+    → IsMovePrice (levels c.args.self.now.table.graph) c.args.capacity width price
+    → c.take_move.new.self.table.book.state.top ≤ c.args.self.now.table.book.state.top + (c.moves.i + 1) * price
 so_far g c width price has is =
     let own = near_by g c width price has is in
     let before = c.moves.invariant.price width price has is in
@@ -135,8 +135,8 @@ pub moves-preserved : goal.moves-preserved
 moves-preserved g c =
     let between = c.moves.invariant.between in
     let at : slice_get c.args.plan.now c.moves.i ≡ Some c.in-Some.step = sym c.get.ensures ∙ c.in-Some.is in
-    let next = next_at c.args.formula.now c.args.plan.now c.moves.i c.moves.table.graph c.moves.table.book.state.live c.moves.stack.items
-    c.moves.trail c.requires.plan.last c.in-Some.step c.requires.plan.possible at between in
+    let next = next_at c.args.formula.now c.args.plan.now c.moves.i c.moves.self.table.graph c.moves.self.table.book.state.live c.moves.self.out.items
+    c.moves.self.trail c.requires.plan.last c.in-Some.step c.requires.plan.possible at between in
     let moved : after_moves c.args.formula.now no_stage (take (suc c.moves.i) c.args.plan.now)
     ≡ Some next.next = moved_on c.args.formula.now c.args.plan.now c.moves.i c.in-Some.step no_stage between.stage next.next at
     between.front next.is in
@@ -151,8 +151,8 @@ moves-preserved g c =
       size = c.in_ok-take_move.ensures.sizes ∙ c.moves.invariant.size;
       tidy = c.in_ok-take_move.ensures.tidy (ap Ok c.if-branch.false);
       left = λ width has.
-          let before = c.moves.table in
-          let most = at_move c.args.formula.now c.args.plan.now c.args.table.now.graph.order c.moves.i c.in-Some.step between.stage
+          let before = c.moves.self.table in
+          let most = at_move c.args.formula.now c.args.plan.now c.args.self.now.table.graph.order c.moves.i c.in-Some.step between.stage
           next.next at between.front next.is width has in
           let most_here = subst (λ (o : List ℕ). HoldsAtMost c.args.formula.now o between.stage next.next width)
           (sym c.moves.invariant.continues.order) most in
@@ -177,60 +177,60 @@ moves-preserved g c =
       ready = c.in_ok-take_move.ensures.ready;
       settled = c.in_ok-take_move.ensures.settled (ap Ok c.if-branch.false);
       own = c.in_ok-take_move.ensures.own c.if-branch.false;
-      continues = c.steps_law.ensures.go_on c.args.table.now c.moves.table c.take_move.new.table c.moves.invariant.continues
+      continues = c.steps_law.ensures.go_on c.args.self.now.table c.moves.self.table c.take_move.new.self.table c.moves.invariant.continues
           c.in_ok-take_move.ensures.leaves;
-      no_empty = further_empty c.args.table.now c.moves.table c.take_move.new.table c.moves.invariant.no_empty
+      no_empty = further_empty c.args.self.now.table c.moves.self.table c.take_move.new.self.table c.moves.invariant.no_empty
           (c.in_ok-take_move.ensures.no_empty no_error (no_true _ c.if-branch.false));
     }
 
 pub recover-requires-clause-node : goal.recover-requires-clause-node
 recover-requires-clause-node g c =
-    let table = c.moves.table in
-    let held = at_last c.args.formula.now c.args.plan.now c.moves.i table.graph table.book.state.live c.moves.stack.items c.moves.trail
+    let table = c.moves.self.table in
+    let held = at_last c.args.formula.now c.args.plan.now c.moves.i table.graph table.book.state.live c.moves.self.out.items c.moves.self.trail
     c.requires.plan.last (omega (arith, c.moves-test.false, c.len-i-end.ensures)) c.requires.plan.possible c.moves.invariant.between in
     subst (λ (n : Node). is_node table.graph n ≡ true) (sym (c.top.ensures ∙ (λ k. top_node (reverse (c.as_slice.ensures.value k)))))
-    (top_stands c.args.formula.now table.graph table.book.state.live (reverse c.moves.stack.items) c.requires.plan.last.stack held.held).0
+    (top_stands c.args.formula.now table.graph table.book.state.live (reverse c.moves.self.out.items) c.requires.plan.last.stack held.held).0
 
 pub recover-requires-clause-some : goal.recover-requires-clause-some
 recover-requires-clause-some g c is =
-    let table = c.moves.table in
-    let held = at_last c.args.formula.now c.args.plan.now c.moves.i table.graph table.book.state.live c.moves.stack.items c.moves.trail
+    let table = c.moves.self.table in
+    let held = at_last c.args.formula.now c.args.plan.now c.moves.i table.graph table.book.state.live c.moves.self.out.items c.moves.self.trail
     c.requires.plan.last (omega (arith, c.moves-test.false, c.len-i-end.ensures)) c.requires.plan.possible c.moves.invariant.between in
-    (top_stands c.args.formula.now table.graph table.book.state.live (reverse c.moves.stack.items) c.requires.plan.last.stack held.held).1
+    (top_stands c.args.formula.now table.graph table.book.state.live (reverse c.moves.self.out.items) c.requires.plan.last.stack held.held).1
     (sym (c.top.ensures ∙ (λ k. top_node (reverse (c.as_slice.ensures.value k)))) ∙ is)
 
 pub recover-requires-clause-nodes : goal.recover-requires-clause-nodes
 recover-requires-clause-nodes g c kept there =
-    let table = c.moves.table in
+    let table = c.moves.self.table in
     let formula = c.args.formula.now in
-    let held = at_last formula c.args.plan.now c.moves.i table.graph table.book.state.live c.moves.stack.items c.moves.trail
+    let held = at_last formula c.args.plan.now c.moves.i table.graph table.book.state.live c.moves.self.out.items c.moves.self.trail
     c.requires.plan.last (omega (arith, c.moves-test.false, c.len-i-end.ensures)) c.requires.plan.possible c.moves.invariant.between in
-    (kept_there formula table.graph c.moves.trail c.requires.plan.last.trail held.kept
+    (kept_there formula table.graph c.moves.self.trail c.requires.plan.last.trail held.kept
     (are_variables formula c.args.plan.now no_stage c.requires.plan.last c.requires.plan.possible tt) kept there).stands
 
 pub recover-requires-clause-variables : goal.recover-requires-clause-variables
 recover-requires-clause-variables g c kept there =
-    let table = c.moves.table in
+    let table = c.moves.self.table in
     let formula = c.args.formula.now in
-    let held = at_last formula c.args.plan.now c.moves.i table.graph table.book.state.live c.moves.stack.items c.moves.trail
+    let held = at_last formula c.args.plan.now c.moves.i table.graph table.book.state.live c.moves.self.out.items c.moves.self.trail
     c.requires.plan.last (omega (arith, c.moves-test.false, c.len-i-end.ensures)) c.requires.plan.possible c.moves.invariant.between in
-    let is = kept_there formula table.graph c.moves.trail c.requires.plan.last.trail held.kept
+    let is = kept_there formula table.graph c.moves.self.trail c.requires.plan.last.trail held.kept
     (are_variables formula c.args.plan.now no_stage c.requires.plan.last c.requires.plan.possible tt) kept there in
     (is.above, omega (arith, is.within, c.moves.invariant.ready.vars))
 
 pub returns-clause-found : goal.returns-clause-found
 returns-clause-found g c =
-    let table = c.moves.table in
+    let table = c.moves.self.table in
     let formula = c.args.formula.now in
-    let held = at_last formula c.args.plan.now c.moves.i table.graph table.book.state.live c.moves.stack.items c.moves.trail
+    let held = at_last formula c.args.plan.now c.moves.i table.graph table.book.state.live c.moves.self.out.items c.moves.self.trail
     c.requires.plan.last (omega (arith, c.moves-test.false, c.len-i-end.ensures)) c.requires.plan.possible c.moves.invariant.between in
     subst (λ (order : List ℕ). IsRecovered formula order c.args.plan.now c.in_ok-model.model) c.moves.invariant.continues.order
     (recovered formula table.graph c.args.plan.now c.requires.plan c.formula_law.ensures.literals c.moves.invariant.ready.vars c.top.result
     (λ a. (λ k. value_of table.graph (by_level table.graph.order a)
     ((c.top.ensures ∙ (λ m. top_node (reverse (c.as_slice.ensures.value m)))) k))
-    ∙ top_value formula table.graph table.book.state.live (reverse c.moves.stack.items) c.requires.plan.last.stack held.held
+    ∙ top_value formula table.graph table.book.state.live (reverse c.moves.self.out.items) c.requires.plan.last.stack held.held
     c.requires.plan.one_term a)
-    (reverse c.moves.trail) held.kept c.in_ok-model.model c.in_ok-model.ensures.recovered)
+    (reverse c.moves.self.trail) held.kept c.in_ok-model.model c.in_ok-model.ensures.recovered)
 
 pub returns-clause-leaves : goal.returns-clause-leaves
 returns-clause-leaves g c = c.moves.invariant.continues
@@ -243,9 +243,9 @@ returns-in_err-take_move-clause-found g c = no_answer _ c.in_err-take_move.field
 
 pub returns-in_err-take_move-clause-leaves : goal.returns-in_err-take_move-clause-leaves
 returns-in_err-take_move-clause-leaves g c =
-    let old = c.args.table.now in
-    let mid = c.moves.table in
-    let new = c.take_move.new.table in
+    let old = c.args.self.now.table in
+    let mid = c.moves.self.table in
+    let new = c.take_move.new.self.table in
     subst (λ (error : Option TableError). Leaves old new error)
     (sym (error_handed _ c.in_err-take_move.field-0.0 c.from_residual.ensures.1))
     (c.steps_law.ensures.leave old mid new
@@ -255,78 +255,78 @@ pub returns-in_err-take_move-clause-short : goal.returns-in_err-take_move-clause
 returns-in_err-take_move-clause-short g c is =
     let formula = c.args.formula.now in
     let plan = c.args.plan.now in
-    let order = c.args.table.now.graph.order in
-    let new = c.take_move.new.table.graph in
+    let order = c.args.self.now.table.graph.order in
+    let new = c.take_move.new.self.table.graph in
     let between = c.moves.invariant.between in
     let at : slice_get plan c.moves.i ≡ Some c.in-Some.step = sym c.get.ensures ∙ c.in-Some.is in
-    let next = next_at formula plan c.moves.i c.moves.table.graph c.moves.table.book.state.live c.moves.stack.items c.moves.trail
+    let next = next_at formula plan c.moves.i c.moves.self.table.graph c.moves.self.table.book.state.live c.moves.self.out.items c.moves.self.trail
     c.requires.plan.last c.in-Some.step c.requires.plan.possible at between in
     let limit = ap Err (came_from _ c.in_err-take_move.field-0.0 NodeLimit c.from_residual.ensures.1 is) in
     let same_order = c.moves.invariant.continues.order in
     let full = c.in_err-take_move.ensures.full between.stage next.next between.at next.is limit in
     let lacks = c.in_err-take_move.ensures.lacks between.stage next.next between.at next.is limit in
     subst (λ (o : List ℕ). RunsShort formula o plan new) same_order
-    (short_at_limit c.subfunction_law.ensures formula c.moves.table.graph.order c.moves.invariant.ready.sound.tied.ordered plan c.moves.i
+    (short_at_limit c.subfunction_law.ensures formula c.moves.self.table.graph.order c.moves.invariant.ready.sound.tied.ordered plan c.moves.i
     between.stage next.next
-    (record { step = c.in-Some.step; is = at; reached = between.front; leads = next.is }) c.take_move.new.left full.0 new full.1 lacks)
+    (record { step = c.in-Some.step; is = at; reached = between.front; leads = next.is }) c.take_move.new.self.left full.0 new full.1 lacks)
 
 pub returns-then-branch-clause-leaves : goal.returns-then-branch-clause-leaves
 returns-then-branch-clause-leaves g c =
-    c.steps_law.ensures.go_on c.args.table.now c.moves.table c.take_move.new.table c.moves.invariant.continues
+    c.steps_law.ensures.go_on c.args.self.now.table c.moves.self.table c.take_move.new.self.table c.moves.invariant.continues
     c.in_ok-take_move.ensures.leaves
 
 pub returns-in_err-model-clause-leaves : goal.returns-in_err-model-clause-leaves
 returns-in_err-model-clause-leaves g c =
-    let old = c.args.table.now in
-    let new = c.moves.table in
+    let old = c.args.self.now.table in
+    let new = c.moves.self.table in
     memory_left old new _ (search rules) c.moves.invariant.continues
 
 -- the nodes behind a move, however it ended
 nodes_so_far : (g : Over) (c : After-take_move g) (width : ℕ)
-    → HasWidth c.args.formula.now c.args.table.now.graph.order c.args.plan.now width → live_nodes c.take_move.new.table.graph
+    → HasWidth c.args.formula.now c.args.self.now.table.graph.order c.args.plan.now width → live_nodes c.take_move.new.self.table.graph
     ≤ most_nodes width
 nodes_so_far g c width has =
     let formula = c.args.formula.now in
     let plan = c.args.plan.now in
-    let table = c.moves.table in
+    let table = c.moves.self.table in
     let between = c.moves.invariant.between in
     let at : slice_get plan c.moves.i ≡ Some c.in-Some.step = sym c.get.ensures ∙ c.in-Some.is in
-    let next = next_at formula plan c.moves.i table.graph table.book.state.live c.moves.stack.items c.moves.trail c.requires.plan.last
+    let next = next_at formula plan c.moves.i table.graph table.book.state.live c.moves.self.out.items c.moves.self.trail c.requires.plan.last
     c.in-Some.step c.requires.plan.possible at between in
     let most : HoldsAtMost formula table.graph.order between.stage next.next width =
     subst (λ (o : List ℕ). HoldsAtMost formula o between.stage next.next width) (sym c.moves.invariant.continues.order)
-    (at_move formula plan c.args.table.now.graph.order c.moves.i c.in-Some.step between.stage next.next at between.front next.is width has)
+    (at_move formula plan c.args.self.now.table.graph.order c.moves.i c.in-Some.step between.stage next.next at between.front next.is width has)
     in
-    moved_few (live_nodes table.graph) (live_nodes c.take_move.new.table.graph) c.moves.left width c.moves.invariant.tidy
+    moved_few (live_nodes table.graph) (live_nodes c.take_move.new.self.table.graph) c.moves.self.left width c.moves.invariant.tidy
     (c.moves.invariant.left width has)
     (c.take_move.ensures.few between.stage next.next between.at next.is width most)
 
 -- a move that was taken keeps within the price, however it ended
 paid_so_far : (g : Over) (c : After-take_move g) (width price : ℕ)
-    → HasWidth c.args.formula.now c.args.table.now.graph.order c.args.plan.now width
-    → IsMovePrice (levels c.args.table.now.graph) c.args.capacity width price
-    → (error : Option TableError) → Leaves c.moves.table c.take_move.new.table error
-    → LeavesKind c.args.table.now c.take_move.new.table
-    (IsPaid (levels c.args.table.now.graph) c.args.table.now.inputs (length c.args.plan.now) c.args.capacity width price) error
+    → HasWidth c.args.formula.now c.args.self.now.table.graph.order c.args.plan.now width
+    → IsMovePrice (levels c.args.self.now.table.graph) c.args.capacity width price
+    → (error : Option TableError) → Leaves c.moves.self.table c.take_move.new.self.table error
+    → LeavesKind c.args.self.now.table c.take_move.new.self.table
+    (IsPaid (levels c.args.self.now.table.graph) c.args.self.now.table.inputs (length c.args.plan.now) c.args.capacity width price) error
 paid_so_far g c width price has is error leaves =
-    let first = c.args.table.now in
-    let mid = c.moves.table in
-    let new = c.take_move.new.table in
+    let first = c.args.self.now.table in
+    let mid = c.moves.self.table in
+    let new = c.take_move.new.self.table in
     let added =
-    added_between c.args.formula.now c.args.plan.now c.moves.i mid (all_entries c.moves.caches) c.moves.stack.items c.moves.trail (2
+    added_between c.args.formula.now c.args.plan.now c.moves.i mid (all_entries c.moves.self.caches) c.moves.self.out.items c.moves.self.trail (2
     * c.args.capacity) (c.few_law.ensures c.args.capacity c.moves.invariant.size)
     c.moves.invariant.settled c.moves.invariant.own c.moves.invariant.between in
     let all = within_all (c.moves.i + 1) (length c.args.plan.now) price first.book.state.top new.book.state.top
     (omega (arith, c.moves-test.true, c.len-i-end.ensures)) (so_far g c width price has is) in
     paid_behind c.lean_law.ensures.lean c.in_use_law.ensures first mid new c.moves.invariant.continues c.args.capacity
-    (2 * c.args.capacity + length (reverse c.moves.stack.items)) (length c.args.plan.now) width price
+    (2 * c.args.capacity + length (reverse c.moves.self.out.items)) (length c.args.plan.now) width price
     added.0 (omega (arith, added.1, c.requires.ready.counted)) (omega (arith, all, c.requires.fresh)) (near_by g c width price has is)
     (nodes_so_far g c width has) error leaves
 
 pub returns-in_err-take_move-clause-paid : goal.returns-in_err-take_move-clause-paid
 returns-in_err-take_move-clause-paid g c width price has is =
-    let first = c.args.table.now in
-    let new = c.take_move.new.table in
+    let first = c.args.self.now.table in
+    let new = c.take_move.new.self.table in
     let kind = IsPaid (levels first.graph) first.inputs (length c.args.plan.now) c.args.capacity width price in
     subst (λ (error : Option TableError). LeavesKind first new kind error) (sym (error_handed _ c.in_err-take_move.field-0.0 c.from_residual.ensures.1))
     (paid_so_far g (goal.at.returns-in_err-take_move-clause-paid g c).After-take_move width price has is
@@ -338,29 +338,29 @@ returns-then-branch-clause-paid g c width price has is = paid_so_far g
 
 -- behind the last move
 paid_at_last : (g : Over) (c : After-few_law-2 g) (width price : ℕ)
-    → HasWidth c.args.formula.now c.args.table.now.graph.order c.args.plan.now width
-    → IsMovePrice (levels c.args.table.now.graph) c.args.capacity width price
-    → IsPaid (levels c.args.table.now.graph) c.args.table.now.inputs
-    (length c.args.plan.now) c.args.capacity width price c.moves.table.book.state
+    → HasWidth c.args.formula.now c.args.self.now.table.graph.order c.args.plan.now width
+    → IsMovePrice (levels c.args.self.now.table.graph) c.args.capacity width price
+    → IsPaid (levels c.args.self.now.table.graph) c.args.self.now.table.inputs
+    (length c.args.plan.now) c.args.capacity width price c.moves.self.table.book.state
 paid_at_last g c width price has is =
-    let first = c.args.table.now in
-    let mid = c.moves.table in
+    let first = c.args.self.now.table in
+    let mid = c.moves.self.table in
     let added =
-    added_between c.args.formula.now c.args.plan.now c.moves.i mid (all_entries c.moves.caches) c.moves.stack.items c.moves.trail (2
+    added_between c.args.formula.now c.args.plan.now c.moves.i mid (all_entries c.moves.self.caches) c.moves.self.out.items c.moves.self.trail (2
     * c.args.capacity) (c.few_law-2.ensures c.args.capacity c.moves.invariant.size)
     c.moves.invariant.settled c.moves.invariant.own c.moves.invariant.between in
     let all = within_all c.moves.i (length c.args.plan.now) price first.book.state.top mid.book.state.top c.moves.invariant.few
     (c.moves.invariant.price width price has is) in
-    let few = tidy_few (live_nodes mid.graph) c.moves.left width c.moves.invariant.tidy (c.moves.invariant.left width has) in
+    let few = tidy_few (live_nodes mid.graph) c.moves.self.left width c.moves.invariant.tidy (c.moves.invariant.left width has) in
     paid_behind c.lean_law.ensures.lean c.in_use_law.ensures first mid mid c.moves.invariant.continues c.args.capacity
-    (2 * c.args.capacity + length (reverse c.moves.stack.items)) (length c.args.plan.now) width price
+    (2 * c.args.capacity + length (reverse c.moves.self.out.items)) (length c.args.plan.now) width price
     added.0 (omega (arith, added.1, c.requires.ready.counted)) (omega (arith, all, c.requires.fresh)) (omega arith)
     (omega (arith, few)) None (c.steps_law.ensures.none mid c.moves.invariant.ready.sound).leaves
 
 pub returns-in_err-model-clause-paid : goal.returns-in_err-model-clause-paid
 returns-in_err-model-clause-paid g c width price has is =
-    kind_of_memory c.args.table.now c.moves.table
-    (IsPaid (levels c.args.table.now.graph) c.args.table.now.inputs (length c.args.plan.now) c.args.capacity width price) _
+    kind_of_memory c.args.self.now.table c.moves.self.table
+    (IsPaid (levels c.args.self.now.table.graph) c.args.self.now.table.inputs (length c.args.plan.now) c.args.capacity width price) _
     (search rules)
     (paid_at_last g (goal.at.returns-in_err-model-clause-paid g c).After-few_law-2 width price has is)
 
@@ -370,16 +370,16 @@ returns-clause-paid g c width price has is = paid_at_last g (goal.at.returns-cla
 pub returns-clause-lean : goal.returns-clause-lean
 returns-clause-lean g c some =
     let formula = c.args.formula.now in
-    let first = c.args.table.now in
-    let table = c.moves.table in
+    let first = c.args.self.now.table in
+    let table = c.moves.self.table in
     let so_far = c.moves.invariant.continues in
-    let held = at_last formula c.args.plan.now c.moves.i table.graph table.book.state.live c.moves.stack.items c.moves.trail
+    let held = at_last formula c.args.plan.now c.moves.i table.graph table.book.state.live c.moves.self.out.items c.moves.self.trail
     c.requires.plan.last (omega (arith, c.moves-test.false, c.len-i-end.ensures)) c.requires.plan.possible c.moves.invariant.between in
-    let one = held_length formula table.graph table.book.state.live (reverse c.moves.stack.items) c.requires.plan.last.stack held.held in
-    let added = has_added table (all_entries c.moves.caches) (reverse c.moves.stack.items) (2
+    let one = held_length formula table.graph table.book.state.live (reverse c.moves.self.out.items) c.requires.plan.last.stack held.held in
+    let added = has_added table (all_entries c.moves.self.caches) (reverse c.moves.self.out.items) (2
     * c.args.capacity) (c.few_law-2.ensures c.args.capacity c.moves.invariant.size) c.moves.invariant.settled c.moves.invariant.own in
     let own = lean_here c.lean_law.ensures.lean table c.moves.invariant.ready.sound (2 * c.args.capacity
-    + length (reverse c.moves.stack.items)) added in
+    + length (reverse c.moves.self.out.items)) added in
     let more : IsLeanAtEnd (levels table.graph) table.inputs c.args.capacity table.book.state = omega
     (arith, own, one, c.requires.plan.one_term) in
     subst (λ (vars : ℕ). IsLeanAtEnd vars first.inputs c.args.capacity table.book.state) (ap length so_far.order)
@@ -389,7 +389,7 @@ pub returns-in_err-take_move-clause-no_empty : goal.returns-in_err-take_move-cla
 returns-in_err-take_move-clause-no_empty g c =
     let came = c.in_err-take_move.field-0.0 in
     if_handed _ came _ c.from_residual.ensures.1
-    (λ whole. further_empty c.args.table.now c.moves.table c.take_move.new.table c.moves.invariant.no_empty
+    (λ whole. further_empty c.args.self.now.table c.moves.self.table c.take_move.new.self.table c.moves.invariant.no_empty
     (c.in_err-take_move.ensures.no_empty (λ torn. whole (same_error torn)) (λ is. no_error (sym is))))
 
 pub returns-in_err-model-clause-no_empty : goal.returns-in_err-model-clause-no_empty

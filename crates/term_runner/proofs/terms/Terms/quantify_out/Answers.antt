@@ -25,15 +25,15 @@ use Rattle.term_runner.proofs.Quantified.{quantified_function, quantified_held}
 use Rattle.term_runner.proofs.Stacks.{false_refutes, held_kept, held_one_kept, none_left}
 use Rattle.term_runner.proofs.Units.{not_both}
 use Rattle.term_runner.proofs.Trails.{kept_grown, kept_pushed}
-use Rattle.term_runner.proofs.quantification.quantify_out.Given.{Over}
-use Rattle.term_runner.proofs.quantification.quantify_out.Goals as goal
-use Rattle.term_runner.proofs.quantification.quantify_out.Goals.{After-weaken}
+use Rattle.term_runner.proofs.terms.Terms.quantify_out.Given.{Over}
+use Rattle.term_runner.proofs.terms.Terms.quantify_out.Goals as goal
+use Rattle.term_runner.proofs.terms.Terms.quantify_out.Goals.{After-weaken}
 
 pub unreachable-requires : goal.unreachable-requires
 unreachable-requires g c =
     let one = c.requires.one in
     let few = subst (λ (s : List HeldTerm). length s < 1) c.as_slice.ensures.value c.in_default.ensures in
-    none_left one.0 c.args.table.now.graph c.args.table.now.book.state.live c.args.stack.now.items (omega (arith, few)) one.1 one.2 one.3
+    none_left one.0 c.args.self.now.table.graph c.args.self.now.table.book.state.live c.args.self.now.out.items (omega (arith, few)) one.1 one.2 one.3
 
 pub unreachable-requires-in_default-level : goal.unreachable-requires-in_default-level
 unreachable-requires-in_default-level g c =
@@ -42,12 +42,12 @@ unreachable-requires-in_default-level g c =
 
 pub weaken-requires : goal.weaken-requires
 weaken-requires g c =
-    let old = c.args.table.now in
+    let old = c.args.self.now.table in
     let rest = c.in-Some.ensures.0 in
-    let items : reverse c.args.stack.now.items ≡ c.in-Some.u ∷ rest = ap reverse (sym c.as_slice.ensures.value) ∙ c.in-Some.ensures.1 in
+    let items : reverse c.args.self.now.out.items ≡ c.in-Some.u ∷ rest = ap reverse (sym c.as_slice.ensures.value) ∙ c.in-Some.ensures.1 in
     let one = c.requires.one in
     let top = subst (λ (s : List HeldTerm). AreHeld one.0 old.graph old.book.state.live s (one.1 ∷ one.2)) items one.3 in
-    let has = subst (λ (s : List HeldTerm). HasUnits old (all_entries c.args.caches.now) s) items c.requires.own in
+    let has = subst (λ (s : List HeldTerm). HasUnits old (all_entries c.args.self.now.caches) s) items c.requires.own in
     record {
       sound = c.requires.sound;
       stands = top.0.is.stands;
@@ -60,11 +60,11 @@ weaken-requires g c =
 
 pub retire_unit-requires : goal.retire_unit-requires
 retire_unit-requires g c =
-    let old = c.args.table.now in
+    let old = c.args.self.now.table in
     let rest = c.in-Some.ensures.0 in
-    let items : reverse c.args.stack.now.items ≡ c.in-Some.u ∷ rest = ap reverse (sym c.as_slice.ensures.value) ∙ c.in-Some.ensures.1 in
+    let items : reverse c.args.self.now.out.items ≡ c.in-Some.u ∷ rest = ap reverse (sym c.as_slice.ensures.value) ∙ c.in-Some.ensures.1 in
     let new = c.weaken.new.table in
-    let before = all_entries c.args.caches.now in
+    let before = all_entries c.args.self.now.caches in
     let after = all_entries c.weaken.new.caches in
     let done = c.in_ok-held.ensures in
     let has = subst (λ (s : List HeldTerm). HasUnits old before s) items c.requires.own in
@@ -78,18 +78,18 @@ retire_unit-requires g c =
 
 pub replace_last-requires : goal.replace_last-requires
 replace_last-requires g c =
-    let old = c.args.table.now in
+    let old = c.args.self.now.table in
     let rest = c.in-Some.ensures.0 in
-    let items : reverse c.args.stack.now.items ≡ c.in-Some.u ∷ rest = ap reverse (sym c.as_slice.ensures.value) ∙ c.in-Some.ensures.1 in
+    let items : reverse c.args.self.now.out.items ≡ c.in-Some.u ∷ rest = ap reverse (sym c.as_slice.ensures.value) ∙ c.in-Some.ensures.1 in
     (c.in-Some.u, rest, items)
 
 pub returns-clause-held : goal.returns-clause-held
 returns-clause-held g c formula term terms are no_end =
-    let old = c.args.table.now in
+    let old = c.args.self.now.table in
     let rest = c.in-Some.ensures.0 in
-    let items : reverse c.args.stack.now.items ≡ c.in-Some.u ∷ rest = ap reverse (sym c.as_slice.ensures.value) ∙ c.in-Some.ensures.1 in
+    let items : reverse c.args.self.now.out.items ≡ c.in-Some.u ∷ rest = ap reverse (sym c.as_slice.ensures.value) ∙ c.in-Some.ensures.1 in
     let new = c.weaken.new.table in
-    let before = all_entries c.args.caches.now in
+    let before = all_entries c.args.self.now.caches in
     let after = all_entries c.weaken.new.caches in
     let done = c.in_ok-held.ensures in
     let has = subst (λ (s : List HeldTerm). HasUnits old before s) items c.requires.own in
@@ -122,9 +122,9 @@ returns-clause-held g c formula term terms are no_end =
 
 pub returns-then-is_same-clause-kept : goal.returns-then-is_same-clause-kept
 returns-then-is_same-clause-kept g c formula term terms quantified are kept =
-    let old = c.args.table.now in
+    let old = c.args.self.now.table in
     let rest = c.in-Some.ensures.0 in
-    let items : reverse c.args.stack.now.items ≡ c.in-Some.u ∷ rest = ap reverse (sym c.as_slice.ensures.value) ∙ c.in-Some.ensures.1 in
+    let items : reverse c.args.self.now.out.items ≡ c.in-Some.u ∷ rest = ap reverse (sym c.as_slice.ensures.value) ∙ c.in-Some.ensures.1 in
     let new = c.weaken.new.table in
     let extends = c.in_ok-held.ensures.steps.extends in
     let reduced = c.requires.sound.tied.reduced in
@@ -132,15 +132,15 @@ returns-then-is_same-clause-kept g c formula term terms quantified are kept =
     let top = subst (λ (s : List HeldTerm). AreHeld formula old.graph old.book.state.live s (term ∷ terms)) items are in
     let up = held_one_kept c.growth_law.ensures old.graph new.graph reduced extends.nodes old.book.state.live new.book.state.live
     extends.clauses formula c.in-Some.u term top.0 in
-    kept_pushed formula new.graph c.args.trail.now c.push.new.self (x, c.in-Some.u.node) (x, term) quantified c.in_ok-push.ensures.ok
+    kept_pushed formula new.graph c.args.self.now.trail c.push.new.self (x, c.in-Some.u.node) (x, term) quantified c.in_ok-push.ensures.ok
     (record { variable = refl; stands = up.is.stands; value = up.is.value })
-    (kept_grown c.growth_law.ensures formula old.graph new.graph reduced extends.nodes (reverse c.args.trail.now) quantified kept)
+    (kept_grown c.growth_law.ensures formula old.graph new.graph reduced extends.nodes (reverse c.args.self.now.trail) quantified kept)
 
 pub returns-clause-kept : goal.returns-clause-kept
 returns-clause-kept g c formula term terms quantified are kept =
-    let old = c.args.table.now in
+    let old = c.args.self.now.table in
     let rest = c.in-Some.ensures.0 in
-    let items : reverse c.args.stack.now.items ≡ c.in-Some.u ∷ rest = ap reverse (sym c.as_slice.ensures.value) ∙ c.in-Some.ensures.1 in
+    let items : reverse c.args.self.now.out.items ≡ c.in-Some.u ∷ rest = ap reverse (sym c.as_slice.ensures.value) ∙ c.in-Some.ensures.1 in
     let new = c.weaken.new.table in
     let extends = c.in_ok-held.ensures.steps.extends in
     let reduced = c.requires.sound.tied.reduced in
@@ -150,9 +150,9 @@ returns-clause-kept g c formula term terms quantified are kept =
     extends.clauses formula c.in-Some.u term top.0 in
     subst (λ (t : TableState g.row.S.Denot). AreKept formula t.graph (reverse c.push.new.self) ((x, term) ∷ quantified))
     (sym c.retire_unit.ensures.retired.same)
-    (kept_pushed formula new.graph c.args.trail.now c.push.new.self (x, c.in-Some.u.node) (x, term) quantified c.in_ok-push.ensures.ok
+    (kept_pushed formula new.graph c.args.self.now.trail c.push.new.self (x, c.in-Some.u.node) (x, term) quantified c.in_ok-push.ensures.ok
     (record { variable = refl; stands = up.is.stands; value = up.is.value })
-    (kept_grown c.growth_law.ensures formula old.graph new.graph reduced extends.nodes (reverse c.args.trail.now) quantified kept))
+    (kept_grown c.growth_law.ensures formula old.graph new.graph reduced extends.nodes (reverse c.args.self.now.trail) quantified kept))
 
 pub returns-then-is_same-clause-refuted : goal.returns-then-is_same-clause-refuted
 returns-then-is_same-clause-refuted g c is =
@@ -162,11 +162,11 @@ returns-then-is_same-clause-refuted g c is =
 
 pub returns-clause-own : goal.returns-clause-own
 returns-clause-own g c no_end =
-    let old = c.args.table.now in
+    let old = c.args.self.now.table in
     let rest = c.in-Some.ensures.0 in
-    let items : reverse c.args.stack.now.items ≡ c.in-Some.u ∷ rest = ap reverse (sym c.as_slice.ensures.value) ∙ c.in-Some.ensures.1 in
+    let items : reverse c.args.self.now.out.items ≡ c.in-Some.u ∷ rest = ap reverse (sym c.as_slice.ensures.value) ∙ c.in-Some.ensures.1 in
     let new = c.weaken.new.table in
-    let before = all_entries c.args.caches.now in
+    let before = all_entries c.args.self.now.caches in
     let after = all_entries c.weaken.new.caches in
     let done = c.in_ok-held.ensures in
     let has = subst (λ (s : List HeldTerm). HasUnits old before s) items c.requires.own in
@@ -180,7 +180,7 @@ returns-clause-own g c no_end =
 
 pub returns-clause-steps : goal.returns-clause-steps
 returns-clause-steps g c =
-    let old = c.args.table.now in
+    let old = c.args.self.now.table in
     let new = c.weaken.new.table in
     let last = c.retire_unit.new.table in
     c.steps_law.ensures.at_most old last (most_additions (levels old.graph) + 1 + 0) (most_additions (levels old.graph)
@@ -198,11 +198,11 @@ returns-then-is_same-clause-fits g c whole =
 
 pub returns-clause-fits : goal.returns-clause-fits
 returns-clause-fits g c whole =
-    let old = c.args.table.now in
+    let old = c.args.self.now.table in
     let rest = c.in-Some.ensures.0 in
-    let items : reverse c.args.stack.now.items ≡ c.in-Some.u ∷ rest = ap reverse (sym c.as_slice.ensures.value) ∙ c.in-Some.ensures.1 in
+    let items : reverse c.args.self.now.out.items ≡ c.in-Some.u ∷ rest = ap reverse (sym c.as_slice.ensures.value) ∙ c.in-Some.ensures.1 in
     let new = c.weaken.new.table in
-    let before = all_entries c.args.caches.now in
+    let before = all_entries c.args.self.now.caches in
     let after = all_entries c.weaken.new.caches in
     let done = c.in_ok-held.ensures in
     let has = subst (λ (s : List HeldTerm). HasUnits old before s) items c.requires.own in
@@ -218,9 +218,9 @@ returns-clause-fits g c whole =
 
 pub returns-then-is_same-clause-made : goal.returns-then-is_same-clause-made
 returns-then-is_same-clause-made g c formula term terms are =
-    let old = c.args.table.now in
+    let old = c.args.self.now.table in
     let rest = c.in-Some.ensures.0 in
-    let items : reverse c.args.stack.now.items ≡ c.in-Some.u ∷ rest = ap reverse (sym c.as_slice.ensures.value) ∙ c.in-Some.ensures.1 in
+    let items : reverse c.args.self.now.out.items ≡ c.in-Some.u ∷ rest = ap reverse (sym c.as_slice.ensures.value) ∙ c.in-Some.ensures.1 in
     let top = subst (λ (s : List HeldTerm). AreHeld formula old.graph old.book.state.live s (term ∷ terms)) items are in
     let tied = c.requires.sound.tied in
     let level = c.in-Some-level in
@@ -230,9 +230,9 @@ returns-then-is_same-clause-made g c formula term terms are =
 
 pub returns-clause-made : goal.returns-clause-made
 returns-clause-made g c formula term terms are =
-    let old = c.args.table.now in
+    let old = c.args.self.now.table in
     let rest = c.in-Some.ensures.0 in
-    let items : reverse c.args.stack.now.items ≡ c.in-Some.u ∷ rest = ap reverse (sym c.as_slice.ensures.value) ∙ c.in-Some.ensures.1 in
+    let items : reverse c.args.self.now.out.items ≡ c.in-Some.u ∷ rest = ap reverse (sym c.as_slice.ensures.value) ∙ c.in-Some.ensures.1 in
     let top = subst (λ (s : List HeldTerm). AreHeld formula old.graph old.book.state.live s (term ∷ terms)) items are in
     let tied = c.requires.sound.tied in
     let level = c.in-Some-level in
@@ -263,7 +263,7 @@ pub returns-in_err-held-clause-own : goal.returns-in_err-held-clause-own
 returns-in_err-held-clause-own g c = no_answer _ c.in_err-held.field-0.0 _ c.from_residual.ensures.1
 
 pub returns-in_err-held-clause-steps : goal.returns-in_err-held-clause-steps
-returns-in_err-held-clause-steps g c = steps_handed c.args.table.now c.weaken.new.table _ _ c.in_err-held.field-0.0
+returns-in_err-held-clause-steps g c = steps_handed c.args.self.now.table c.weaken.new.table _ _ c.in_err-held.field-0.0
     c.from_residual.ensures.1 c.in_err-held.ensures.steps
 
 pub returns-in_err-held-clause-fits : goal.returns-in_err-held-clause-fits
@@ -273,9 +273,9 @@ returns-in_err-held-clause-fits g c whole =
 
 pub returns-in_err-held-clause-made : goal.returns-in_err-held-clause-made
 returns-in_err-held-clause-made g c formula term terms are =
-    let old = c.args.table.now in
+    let old = c.args.self.now.table in
     let rest = c.in-Some.ensures.0 in
-    let items : reverse c.args.stack.now.items ≡ c.in-Some.u ∷ rest = ap reverse (sym c.as_slice.ensures.value) ∙ c.in-Some.ensures.1 in
+    let items : reverse c.args.self.now.out.items ≡ c.in-Some.u ∷ rest = ap reverse (sym c.as_slice.ensures.value) ∙ c.in-Some.ensures.1 in
     let top = subst (λ (s : List HeldTerm). AreHeld formula old.graph old.book.state.live s (term ∷ terms)) items are in
     let tied = c.requires.sound.tied in
     let level = c.in-Some-level in
@@ -285,9 +285,9 @@ returns-in_err-held-clause-made g c formula term terms are =
 
 pub returns-in_err-held-clause-lacks : goal.returns-in_err-held-clause-lacks
 returns-in_err-held-clause-lacks g c formula term terms are is =
-    let old = c.args.table.now in
+    let old = c.args.self.now.table in
     let rest = c.in-Some.ensures.0 in
-    let items : reverse c.args.stack.now.items ≡ c.in-Some.u ∷ rest = ap reverse (sym c.as_slice.ensures.value) ∙ c.in-Some.ensures.1 in
+    let items : reverse c.args.self.now.out.items ≡ c.in-Some.u ∷ rest = ap reverse (sym c.as_slice.ensures.value) ∙ c.in-Some.ensures.1 in
     let top = subst (λ (s : List HeldTerm). AreHeld formula old.graph old.book.state.live s (term ∷ terms)) items are in
     let tied = c.requires.sound.tied in
     let level = c.in-Some-level in
@@ -298,9 +298,9 @@ returns-in_err-held-clause-lacks g c formula term terms are is =
 
 pub returns-in_err-push-clause-made : goal.returns-in_err-push-clause-made
 returns-in_err-push-clause-made g c formula term terms are =
-    let old = c.args.table.now in
+    let old = c.args.self.now.table in
     let rest = c.in-Some.ensures.0 in
-    let items : reverse c.args.stack.now.items ≡ c.in-Some.u ∷ rest = ap reverse (sym c.as_slice.ensures.value) ∙ c.in-Some.ensures.1 in
+    let items : reverse c.args.self.now.out.items ≡ c.in-Some.u ∷ rest = ap reverse (sym c.as_slice.ensures.value) ∙ c.in-Some.ensures.1 in
     let top = subst (λ (s : List HeldTerm). AreHeld formula old.graph old.book.state.live s (term ∷ terms)) items are in
     let tied = c.requires.sound.tied in
     let level = c.in-Some-level in
@@ -310,14 +310,14 @@ returns-in_err-push-clause-made g c formula term terms are =
 
 pub returns-in_err-held-clause-again : goal.returns-in_err-held-clause-again
 returns-in_err-held-clause-again g c is =
-    let old = c.args.table.now in
+    let old = c.args.self.now.table in
     let new = c.weaken.new.table in
     let came = c.in_err-held.field-0.0 in
     let limit = came_from _ came NodeLimit c.from_residual.ensures.1 is in
     let found = c.in_err-held.ensures in
     let sound = (limit_left old new came limit found.steps.leaves).0.sound in
-    units_behind c.steps_law.ensures old new (all_entries c.args.caches.now)
-    (all_entries c.weaken.new.caches) (reverse c.args.stack.now.items) c.requires.sound sound
+    units_behind c.steps_law.ensures old new (all_entries c.args.self.now.caches)
+    (all_entries c.weaken.new.caches) (reverse c.args.self.now.out.items) c.requires.sound sound
     found.steps.extends c.requires.own found.keeps.retires (found.keeps.named (limit_whole came limit)) (found.accounts (ap Err limit))
 
 pub returns-then-is_same-clause-again : goal.returns-then-is_same-clause-again
@@ -328,15 +328,15 @@ returns-clause-again g c is = absurd (no_error is)
 
 -- what the quantification of a term of few parts adds
 pairs_found : (g : Over) (c : After-weaken g) (formula : Formula) (term : Term) (terms : List Term)
-    → AreHeld formula c.args.table.now.graph c.args.table.now.book.state.live (reverse c.args.stack.now.items) (term ∷ terms) → (width : ℕ)
-    → HaveRoom c.args.caches.now width
-    → HasAtMost (term_function formula c.args.table.now.graph.order term) width
-    → HasAtMost (term_function formula c.args.table.now.graph.order (some_value c.args.variable term)) width
-    → AddsAtMost (2 * (width * width) + 1) c.args.table.now c.weaken.new.table
+    → AreHeld formula c.args.self.now.table.graph c.args.self.now.table.book.state.live (reverse c.args.self.now.out.items) (term ∷ terms) → (width : ℕ)
+    → HaveRoom c.args.self.now.caches width
+    → HasAtMost (term_function formula c.args.self.now.table.graph.order term) width
+    → HasAtMost (term_function formula c.args.self.now.table.graph.order (some_value c.args.variable term)) width
+    → AddsAtMost (2 * (width * width) + 1) c.args.self.now.table c.weaken.new.table
 pairs_found g c formula term terms are width room few_term few_some =
-    let old = c.args.table.now in
+    let old = c.args.self.now.table in
     let rest = c.in-Some.ensures.0 in
-    let items : reverse c.args.stack.now.items ≡ c.in-Some.u ∷ rest = ap reverse (sym c.as_slice.ensures.value) ∙ c.in-Some.ensures.1 in
+    let items : reverse c.args.self.now.out.items ≡ c.in-Some.u ∷ rest = ap reverse (sym c.as_slice.ensures.value) ∙ c.in-Some.ensures.1 in
     let top = subst (λ (s : List HeldTerm). AreHeld formula old.graph old.book.state.live s (term ∷ terms)) items are in
     let tied = c.requires.sound.tied in
     let level = c.in-Some-level in

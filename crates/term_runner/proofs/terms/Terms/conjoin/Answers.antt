@@ -28,21 +28,21 @@ use Rattle.term_runner.proofs.Giving.{two_give, units_behind}
 use Rattle.term_runner.proofs.Replaced.{first_unit, free_after, later_unit, none_retired, one_more_retired, unit_left, units_replaced}
 use Rattle.term_runner.proofs.Replaced.{RetiresUnits}
 use Rattle.term_runner.proofs.Units.{not_both}
-use Rattle.term_runner.proofs.moves.conjoin.Given.{Over}
-use Rattle.term_runner.proofs.moves.conjoin.Goals as goal
-use Rattle.term_runner.proofs.moves.conjoin.Goals.{After-and, After-retire_unit-2}
+use Rattle.term_runner.proofs.terms.Terms.conjoin.Given.{Over}
+use Rattle.term_runner.proofs.terms.Terms.conjoin.Goals as goal
+use Rattle.term_runner.proofs.terms.Terms.conjoin.Goals.{After-and, After-retire_unit-2}
 
 pub unreachable-requires : goal.unreachable-requires
 unreachable-requires g c =
     let two = c.requires.two in
-    few_left two.0 c.args.table.now.graph c.args.table.now.book.state.live c.args.stack.now.items
+    few_left two.0 c.args.self.now.table.graph c.args.self.now.table.book.state.live c.args.self.now.out.items
     (subst (λ (s : List HeldTerm). length s < 2) c.as_slice.ensures.value c.in_default.ensures) two.1 two.2 two.3 two.4
 
 pub and-requires-clause-first : goal.and-requires-clause-first
 and-requires-clause-first g c =
-    let old = c.args.table.now in
+    let old = c.args.self.now.table in
     let rest = c.in-Some.ensures.0 in
-    let items : reverse c.args.stack.now.items ≡ c.in-Some.v ∷ c.in-Some.u ∷ rest = ap reverse (sym c.as_slice.ensures.value)
+    let items : reverse c.args.self.now.out.items ≡ c.in-Some.v ∷ c.in-Some.u ∷ rest = ap reverse (sym c.as_slice.ensures.value)
     ∙ c.in-Some.ensures.1 in
     let two = c.requires.two in
     let held = subst (λ (s : List HeldTerm). AreHeld two.0 old.graph old.book.state.live s (two.2 ∷ two.1 ∷ two.3)) items two.4 in
@@ -50,9 +50,9 @@ and-requires-clause-first g c =
 
 pub and-requires-clause-second : goal.and-requires-clause-second
 and-requires-clause-second g c =
-    let old = c.args.table.now in
+    let old = c.args.self.now.table in
     let rest = c.in-Some.ensures.0 in
-    let items : reverse c.args.stack.now.items ≡ c.in-Some.v ∷ c.in-Some.u ∷ rest = ap reverse (sym c.as_slice.ensures.value)
+    let items : reverse c.args.self.now.out.items ≡ c.in-Some.v ∷ c.in-Some.u ∷ rest = ap reverse (sym c.as_slice.ensures.value)
     ∙ c.in-Some.ensures.1 in
     let two = c.requires.two in
     let held = subst (λ (s : List HeldTerm). AreHeld two.0 old.graph old.book.state.live s (two.2 ∷ two.1 ∷ two.3)) items two.4 in
@@ -60,9 +60,9 @@ and-requires-clause-second g c =
 
 pub unit_of-requires : goal.unit_of-requires
 unit_of-requires g c =
-    let old = c.args.table.now in
+    let old = c.args.self.now.table in
     let rest = c.in-Some.ensures.0 in
-    let items : reverse c.args.stack.now.items ≡ c.in-Some.v ∷ c.in-Some.u ∷ rest = ap reverse (sym c.as_slice.ensures.value)
+    let items : reverse c.args.self.now.out.items ≡ c.in-Some.v ∷ c.in-Some.u ∷ rest = ap reverse (sym c.as_slice.ensures.value)
     ∙ c.in-Some.ensures.1 in
     let two = c.requires.two in
     let held = subst (λ (s : List HeldTerm). AreHeld two.0 old.graph old.book.state.live s (two.2 ∷ two.1 ∷ two.3)) items two.4 in
@@ -86,13 +86,13 @@ unit_of-requires g c =
 
 pub retire_unit-requires : goal.retire_unit-requires
 retire_unit-requires g c =
-    let old = c.args.table.now in
+    let old = c.args.self.now.table in
     let rest = c.in-Some.ensures.0 in
-    let items : reverse c.args.stack.now.items ≡ c.in-Some.v ∷ c.in-Some.u ∷ rest = ap reverse (sym c.as_slice.ensures.value)
+    let items : reverse c.args.self.now.out.items ≡ c.in-Some.v ∷ c.in-Some.u ∷ rest = ap reverse (sym c.as_slice.ensures.value)
     ∙ c.in-Some.ensures.1 in
     let mid = c.and.new.table in
     let new = c.unit_of.new.table in
-    let before = all_entries c.args.caches.now in
+    let before = all_entries c.args.self.now.caches in
     let after = all_entries c.and.new.self in
     let found = c.in_ok-node.ensures in
     let unit = c.in_ok-unit.ensures in
@@ -113,13 +113,13 @@ retire_unit-requires g c =
 
 pub retire_unit-requires-2 : goal.retire_unit-requires-2
 retire_unit-requires-2 g c =
-    let old = c.args.table.now in
+    let old = c.args.self.now.table in
     let rest = c.in-Some.ensures.0 in
-    let items : reverse c.args.stack.now.items ≡ c.in-Some.v ∷ c.in-Some.u ∷ rest = ap reverse (sym c.as_slice.ensures.value)
+    let items : reverse c.args.self.now.out.items ≡ c.in-Some.v ∷ c.in-Some.u ∷ rest = ap reverse (sym c.as_slice.ensures.value)
     ∙ c.in-Some.ensures.1 in
     let mid = c.and.new.table in
     let new = c.unit_of.new.table in
-    let before = all_entries c.args.caches.now in
+    let before = all_entries c.args.self.now.caches in
     let after = all_entries c.and.new.self in
     let found = c.in_ok-node.ensures in
     let unit = c.in_ok-unit.ensures in
@@ -146,21 +146,21 @@ retire_unit-requires-2 g c =
 
 pub replace_two-requires : goal.replace_two-requires
 replace_two-requires g c =
-    let old = c.args.table.now in
+    let old = c.args.self.now.table in
     let rest = c.in-Some.ensures.0 in
-    let items : reverse c.args.stack.now.items ≡ c.in-Some.v ∷ c.in-Some.u ∷ rest = ap reverse (sym c.as_slice.ensures.value)
+    let items : reverse c.args.self.now.out.items ≡ c.in-Some.v ∷ c.in-Some.u ∷ rest = ap reverse (sym c.as_slice.ensures.value)
     ∙ c.in-Some.ensures.1 in
     (c.in-Some.v, c.in-Some.u, rest, items)
 
 pub returns-clause-held : goal.returns-clause-held
 returns-clause-held g c formula one other terms are no_end =
-    let old = c.args.table.now in
+    let old = c.args.self.now.table in
     let rest = c.in-Some.ensures.0 in
-    let items : reverse c.args.stack.now.items ≡ c.in-Some.v ∷ c.in-Some.u ∷ rest = ap reverse (sym c.as_slice.ensures.value)
+    let items : reverse c.args.self.now.out.items ≡ c.in-Some.v ∷ c.in-Some.u ∷ rest = ap reverse (sym c.as_slice.ensures.value)
     ∙ c.in-Some.ensures.1 in
     let mid = c.and.new.table in
     let new = c.unit_of.new.table in
-    let before = all_entries c.args.caches.now in
+    let before = all_entries c.args.self.now.caches in
     let after = all_entries c.and.new.self in
     let found = c.in_ok-node.ensures in
     let unit = c.in_ok-unit.ensures in
@@ -200,13 +200,13 @@ returns-clause-held g c formula one other terms are no_end =
 
 pub returns-clause-own : goal.returns-clause-own
 returns-clause-own g c no_end =
-    let old = c.args.table.now in
+    let old = c.args.self.now.table in
     let rest = c.in-Some.ensures.0 in
-    let items : reverse c.args.stack.now.items ≡ c.in-Some.v ∷ c.in-Some.u ∷ rest = ap reverse (sym c.as_slice.ensures.value)
+    let items : reverse c.args.self.now.out.items ≡ c.in-Some.v ∷ c.in-Some.u ∷ rest = ap reverse (sym c.as_slice.ensures.value)
     ∙ c.in-Some.ensures.1 in
     let mid = c.and.new.table in
     let new = c.unit_of.new.table in
-    let before = all_entries c.args.caches.now in
+    let before = all_entries c.args.self.now.caches in
     let after = all_entries c.and.new.self in
     let found = c.in_ok-node.ensures in
     let unit = c.in_ok-unit.ensures in
@@ -233,7 +233,7 @@ returns-then-is_same-clause-refuted g c is =
 
 pub returns-then-is_same-clause-steps : goal.returns-then-is_same-clause-steps
 returns-then-is_same-clause-steps g c =
-    let old = c.args.table.now in
+    let old = c.args.self.now.table in
     let mid = c.and.new.table in
     let new = c.unit_of.new.table in
     let most = most_additions (levels old.graph) in
@@ -243,9 +243,9 @@ returns-then-is_same-clause-steps g c =
 -- where the node isn't False no empty clause came
 open_steps : (g : Over) (c : After-retire_unit-2 g)
     → Steps
-    c.args.table.now c.retire_unit-2.new.table (most_additions (levels c.args.table.now.graph) + 1) None
+    c.args.self.now.table c.retire_unit-2.new.table (most_additions (levels c.args.self.now.table.graph) + 1) None
 open_steps g c =
-    let old = c.args.table.now in
+    let old = c.args.self.now.table in
     let mid = c.and.new.table in
     let new = c.unit_of.new.table in
     let most = most_additions (levels old.graph) in
@@ -274,19 +274,19 @@ returns-in_err-node-clause-no_empty g c whole unrefuted = c.in_err-node.ensures.
 
 pub returns-in_err-unit-clause-no_empty : goal.returns-in_err-unit-clause-no_empty
 returns-in_err-unit-clause-no_empty g c whole unrefuted =
-    further_empty c.args.table.now c.and.new.table c.unit_of.new.table c.in_ok-node.ensures.steps.no_empty
+    further_empty c.args.self.now.table c.and.new.table c.unit_of.new.table c.in_ok-node.ensures.steps.no_empty
     (c.in_err-unit.ensures.refused (λ torn. whole (handed_on _ c.in_err-unit.field-0.0 WriteFault c.from_residual-in_err-unit.ensures.1
     torn)))
 
 pub returns-then-is_same-clause-fits : goal.returns-then-is_same-clause-fits
 returns-then-is_same-clause-fits g c whole =
-    let old = c.args.table.now in
+    let old = c.args.self.now.table in
     let rest = c.in-Some.ensures.0 in
-    let items : reverse c.args.stack.now.items ≡ c.in-Some.v ∷ c.in-Some.u ∷ rest = ap reverse (sym c.as_slice.ensures.value)
+    let items : reverse c.args.self.now.out.items ≡ c.in-Some.v ∷ c.in-Some.u ∷ rest = ap reverse (sym c.as_slice.ensures.value)
     ∙ c.in-Some.ensures.1 in
     let mid = c.and.new.table in
     let new = c.unit_of.new.table in
-    let before = all_entries c.args.caches.now in
+    let before = all_entries c.args.self.now.caches in
     let after = all_entries c.and.new.self in
     let found = c.in_ok-node.ensures in
     let unit = c.in_ok-unit.ensures in
@@ -301,13 +301,13 @@ returns-then-is_same-clause-fits g c whole =
 
 pub returns-clause-fits : goal.returns-clause-fits
 returns-clause-fits g c whole =
-    let old = c.args.table.now in
+    let old = c.args.self.now.table in
     let rest = c.in-Some.ensures.0 in
-    let items : reverse c.args.stack.now.items ≡ c.in-Some.v ∷ c.in-Some.u ∷ rest = ap reverse (sym c.as_slice.ensures.value)
+    let items : reverse c.args.self.now.out.items ≡ c.in-Some.v ∷ c.in-Some.u ∷ rest = ap reverse (sym c.as_slice.ensures.value)
     ∙ c.in-Some.ensures.1 in
     let mid = c.and.new.table in
     let new = c.unit_of.new.table in
-    let before = all_entries c.args.caches.now in
+    let before = all_entries c.args.self.now.caches in
     let after = all_entries c.and.new.self in
     let found = c.in_ok-node.ensures in
     let unit = c.in_ok-unit.ensures in
@@ -334,9 +334,9 @@ returns-clause-fits g c whole =
 
 pub returns-then-is_same-clause-made : goal.returns-then-is_same-clause-made
 returns-then-is_same-clause-made g c formula one other terms are =
-    let old = c.args.table.now in
+    let old = c.args.self.now.table in
     let rest = c.in-Some.ensures.0 in
-    let items : reverse c.args.stack.now.items ≡ c.in-Some.v ∷ c.in-Some.u ∷ rest = ap reverse (sym c.as_slice.ensures.value)
+    let items : reverse c.args.self.now.out.items ≡ c.in-Some.v ∷ c.in-Some.u ∷ rest = ap reverse (sym c.as_slice.ensures.value)
     ∙ c.in-Some.ensures.1 in
     let held = subst (λ (s : List HeldTerm). AreHeld formula old.graph old.book.state.live s (other ∷ one ∷ terms)) items are in
     let tied = c.requires.sound.tied in
@@ -348,9 +348,9 @@ returns-then-is_same-clause-made g c formula one other terms are =
 
 pub returns-clause-made : goal.returns-clause-made
 returns-clause-made g c formula one other terms are =
-    let old = c.args.table.now in
+    let old = c.args.self.now.table in
     let rest = c.in-Some.ensures.0 in
-    let items : reverse c.args.stack.now.items ≡ c.in-Some.v ∷ c.in-Some.u ∷ rest = ap reverse (sym c.as_slice.ensures.value)
+    let items : reverse c.args.self.now.out.items ≡ c.in-Some.v ∷ c.in-Some.u ∷ rest = ap reverse (sym c.as_slice.ensures.value)
     ∙ c.in-Some.ensures.1 in
     let held = subst (λ (s : List HeldTerm). AreHeld formula old.graph old.book.state.live s (other ∷ one ∷ terms)) items are in
     let tied = c.requires.sound.tied in
@@ -393,7 +393,7 @@ returns-in_err-unit-clause-own g c = no_answer _ c.in_err-unit.field-0.0 _ c.fro
 
 pub returns-in_err-node-clause-steps : goal.returns-in_err-node-clause-steps
 returns-in_err-node-clause-steps g c =
-    let old = c.args.table.now in
+    let old = c.args.self.now.table in
     let mid = c.and.new.table in
     c.steps_law.ensures.anyhow _ _ _ _ (steps_handed old mid _ _ c.in_err-node.field-0.0 c.from_residual.ensures.1
     (c.steps_law.ensures.at_most old mid (most_additions (levels old.graph)) (most_additions (levels old.graph)
@@ -406,9 +406,9 @@ returns-in_err-node-clause-fits g c whole =
 
 pub returns-in_err-node-clause-made : goal.returns-in_err-node-clause-made
 returns-in_err-node-clause-made g c formula one other terms are =
-    let old = c.args.table.now in
+    let old = c.args.self.now.table in
     let rest = c.in-Some.ensures.0 in
-    let items : reverse c.args.stack.now.items ≡ c.in-Some.v ∷ c.in-Some.u ∷ rest = ap reverse (sym c.as_slice.ensures.value)
+    let items : reverse c.args.self.now.out.items ≡ c.in-Some.v ∷ c.in-Some.u ∷ rest = ap reverse (sym c.as_slice.ensures.value)
     ∙ c.in-Some.ensures.1 in
     let held = subst (λ (s : List HeldTerm). AreHeld formula old.graph old.book.state.live s (other ∷ one ∷ terms)) items are in
     let tied = c.requires.sound.tied in
@@ -418,9 +418,9 @@ returns-in_err-node-clause-made g c formula one other terms are =
 
 pub returns-in_err-node-clause-lacks : goal.returns-in_err-node-clause-lacks
 returns-in_err-node-clause-lacks g c formula one other terms are is =
-    let old = c.args.table.now in
+    let old = c.args.self.now.table in
     let rest = c.in-Some.ensures.0 in
-    let items : reverse c.args.stack.now.items ≡ c.in-Some.v ∷ c.in-Some.u ∷ rest = ap reverse (sym c.as_slice.ensures.value)
+    let items : reverse c.args.self.now.out.items ≡ c.in-Some.v ∷ c.in-Some.u ∷ rest = ap reverse (sym c.as_slice.ensures.value)
     ∙ c.in-Some.ensures.1 in
     let held = subst (λ (s : List HeldTerm). AreHeld formula old.graph old.book.state.live s (other ∷ one ∷ terms)) items are in
     let tied = c.requires.sound.tied in
@@ -431,7 +431,7 @@ returns-in_err-node-clause-lacks g c formula one other terms are is =
 
 pub returns-in_err-unit-clause-steps : goal.returns-in_err-unit-clause-steps
 returns-in_err-unit-clause-steps g c =
-    let old = c.args.table.now in
+    let old = c.args.self.now.table in
     let mid = c.and.new.table in
     let new = c.unit_of.new.table in
     refutes_handed old new (most_additions (levels old.graph)
@@ -454,9 +454,9 @@ returns-in_err-unit-clause-fits g c whole =
 
 pub returns-in_err-unit-clause-made : goal.returns-in_err-unit-clause-made
 returns-in_err-unit-clause-made g c formula one other terms are =
-    let old = c.args.table.now in
+    let old = c.args.self.now.table in
     let rest = c.in-Some.ensures.0 in
-    let items : reverse c.args.stack.now.items ≡ c.in-Some.v ∷ c.in-Some.u ∷ rest = ap reverse (sym c.as_slice.ensures.value)
+    let items : reverse c.args.self.now.out.items ≡ c.in-Some.v ∷ c.in-Some.u ∷ rest = ap reverse (sym c.as_slice.ensures.value)
     ∙ c.in-Some.ensures.1 in
     let held = subst (λ (s : List HeldTerm). AreHeld formula old.graph old.book.state.live s (other ∷ one ∷ terms)) items are in
     let tied = c.requires.sound.tied in
@@ -473,15 +473,15 @@ returns-in_err-unit-clause-lacks g c formula one other terms are is =
 
 pub returns-in_err-node-clause-again : goal.returns-in_err-node-clause-again
 returns-in_err-node-clause-again g c is =
-    let old = c.args.table.now in
+    let old = c.args.self.now.table in
     let mid = c.and.new.table in
     let came = c.in_err-node.field-0.0 in
     let limit = came_from _ came NodeLimit c.from_residual.ensures.1 is in
     let whole = limit_whole came limit in
     let found = c.in_err-node.ensures in
     let sound = (limit_left old mid came limit found.steps.leaves).0.sound in
-    units_behind c.steps_law.ensures old mid (all_entries c.args.caches.now) (all_entries c.and.new.self)
-    (reverse c.args.stack.now.items) c.requires.sound sound
+    units_behind c.steps_law.ensures old mid (all_entries c.args.self.now.caches) (all_entries c.and.new.self)
+    (reverse c.args.self.now.out.items) c.requires.sound sound
     found.steps.extends c.requires.own found.keeps.retires (found.keeps.named whole)
     (found.accounts (λ torn. whole (ap Some (same_error torn))))
 
@@ -498,22 +498,22 @@ returns-clause-again g c is = absurd (no_error is)
 
 -- the conjunction of two terms of few parts
 pairs_found : (g : Over) (c : After-and g) (formula : Formula) (one other : Term) (terms : List Term)
-    → AreHeld formula c.args.table.now.graph c.args.table.now.book.state.live (reverse c.args.stack.now.items) (other ∷ one ∷ terms)
-    → (width : ℕ) → HaveRoom c.args.caches.now width
-    → HasAtMost (term_function formula c.args.table.now.graph.order one) width
-    → HasAtMost (term_function formula c.args.table.now.graph.order other) width
-    → AddsAtMost (2 * (width * width)) c.args.table.now c.and.new.table
+    → AreHeld formula c.args.self.now.table.graph c.args.self.now.table.book.state.live (reverse c.args.self.now.out.items) (other ∷ one ∷ terms)
+    → (width : ℕ) → HaveRoom c.args.self.now.caches width
+    → HasAtMost (term_function formula c.args.self.now.table.graph.order one) width
+    → HasAtMost (term_function formula c.args.self.now.table.graph.order other) width
+    → AddsAtMost (2 * (width * width)) c.args.self.now.table c.and.new.table
 pairs_found g c formula one other terms are width room few_one few_other =
-    let old = c.args.table.now in
+    let old = c.args.self.now.table in
     let rest = c.in-Some.ensures.0 in
-    let items : reverse c.args.stack.now.items ≡ c.in-Some.v ∷ c.in-Some.u ∷ rest = ap reverse (sym c.as_slice.ensures.value)
+    let items : reverse c.args.self.now.out.items ≡ c.in-Some.v ∷ c.in-Some.u ∷ rest = ap reverse (sym c.as_slice.ensures.value)
     ∙ c.in-Some.ensures.1 in
     let held = subst (λ (s : List HeldTerm). AreHeld formula old.graph old.book.state.live s (other ∷ one ∷ terms)) items are in
     let tied = c.requires.sound.tied in
     let first = held.1.0.is in
     let second = held.0.is in
     adds_pairs c.subfunction_law.ensures c.canonical_law.ensures old c.and.new.table tied.reduced c.in-Some.u.node c.in-Some.v.node
-    first.stands second.stands c.args.caches.now width room
+    first.stands second.stands c.args.self.now.caches width room
     (at_most_same (term_function formula old.graph.order one) (λ a. value_of old.graph a c.in-Some.u.node)
     (λ a. sym (node_function old.graph tied.reduced tied.ordered formula c.in-Some.u.node one first.stands first.value a)) width
     few_one)

@@ -13,23 +13,23 @@ use Rattle.term_runner.proofs.Plans.{all_hold}
 use Rattle.term_runner.proofs.Priced.{no_nodes}
 use Rattle.term_runner.proofs.Tautologies.{tautologies_satisfied}
 use Rattle.term_runner.proofs.Trails.{tautologies_recovered}
-use Rattle.term_runner.proofs.decide.decide.Given.{Over}
-use Rattle.term_runner.proofs.decide.decide.Goals as goal
-use Rattle.term_runner.proofs.decide.decide.Goals.{After-are_tautologies}
+use Rattle.term_runner.proofs.terms.Terms.decide.Given.{Over}
+use Rattle.term_runner.proofs.terms.Terms.decide.Goals as goal
+use Rattle.term_runner.proofs.terms.Terms.decide.Goals.{After-are_tautologies}
 
 pub returns-then-are_tautologies-clause-found : goal.returns-then-are_tautologies-clause-found
 returns-then-are_tautologies-clause-found g c =
     let formula = c.args.formula.now in
-    tautologies_recovered formula c.args.table.now.graph c.args.plan.now c.requires.plan c.table_law.ensures.ordered
+    tautologies_recovered formula c.args.self.now.table.graph c.args.plan.now c.requires.plan c.table_law.ensures.ordered
     c.formula_law.ensures.literals c.requires.ready.vars
     (λ a. all_hold formula a (tautologies_satisfied a formula.vars formula.clauses c.formula_law.ensures.literals
     (sym c.are_tautologies.ensures ∙ c.if-are_tautologies.true)))
     c.in_ok-model.model
-    (subst (λ (trail : List (ℕ × Node)). IsRecoveredFrom c.args.table.now.graph True
-    (reverse trail) c.in_ok-model.model) c.new.ensures c.in_ok-model.ensures.recovered)
+    (subst (λ (trail : List (ℕ × Node)). IsRecoveredFrom c.args.self.now.table.graph True
+    (reverse trail) c.in_ok-model.model) c.requires.no_trail c.in_ok-model.ensures.recovered)
 
 pub returns-then-are_tautologies-clause-leaves : goal.returns-then-are_tautologies-clause-leaves
-returns-then-are_tautologies-clause-leaves g c = (c.steps_law.ensures.none c.args.table.now c.requires.ready.sound).leaves
+returns-then-are_tautologies-clause-leaves g c = (c.steps_law.ensures.none c.args.self.now.table c.requires.ready.sound).leaves
 
 pub returns-clause-found : goal.returns-clause-found
 returns-clause-found g c = c.take_moves.ensures.found
@@ -42,10 +42,10 @@ returns-clause-short g c = c.take_moves.ensures.short
 
 -- nothing was added to the formula's clauses
 none_there : (g : Over) (c : After-are_tautologies g) (width price : ℕ)
-    → IsPaid (levels c.args.table.now.graph) c.args.table.now.inputs
-    (length c.args.plan.now) c.args.capacity width price c.args.table.now.book.state
+    → IsPaid (levels c.args.self.now.table.graph) c.args.self.now.table.inputs
+    (length c.args.plan.now) c.args.capacity width price c.args.self.now.table.book.state
 none_there g c width price =
-    let table = c.args.table.now in
+    let table = c.args.self.now.table in
     let sound = c.requires.ready.sound in
     let none = no_nodes table.graph c.requires.empty in
     let uses = c.in_use_law.ensures table.graph table.book.state sound.tied in
@@ -61,8 +61,8 @@ returns-then-are_tautologies-clause-paid g c width price has is = none_there g
 
 pub returns-in_err-model-clause-paid : goal.returns-in_err-model-clause-paid
 returns-in_err-model-clause-paid g c width price has is =
-    kind_of_memory c.args.table.now c.args.table.now
-    (IsPaid (levels c.args.table.now.graph) c.args.table.now.inputs (length c.args.plan.now) c.args.capacity width price) _
+    kind_of_memory c.args.self.now.table c.args.self.now.table
+    (IsPaid (levels c.args.self.now.table.graph) c.args.self.now.table.inputs (length c.args.plan.now) c.args.capacity width price) _
     (search rules)
     (none_there g (goal.at.returns-in_err-model-clause-paid g c).After-are_tautologies width price)
 
@@ -71,7 +71,7 @@ returns-clause-paid g c = c.take_moves.ensures.paid
 
 pub returns-then-are_tautologies-clause-lean : goal.returns-then-are_tautologies-clause-lean
 returns-then-are_tautologies-clause-lean g c some =
-    let table = c.args.table.now in
+    let table = c.args.self.now.table in
     let sound = c.requires.ready.sound in
     let lean = lean_here c.lean_law.ensures.lean table sound 0 (none_added table sound c.requires.fresh) in
     omega (arith, lean)
@@ -83,4 +83,4 @@ pub returns-clause-no_empty : goal.returns-clause-no_empty
 returns-clause-no_empty g c = c.take_moves.ensures.no_empty
 
 pub returns-in_err-model-clause-no_empty : goal.returns-in_err-model-clause-no_empty
-returns-in_err-model-clause-no_empty g c = if_handed _ OutOfMemory _ c.from_residual.ensures.1 (λ whole. no_change c.args.table.now)
+returns-in_err-model-clause-no_empty g c = if_handed _ OutOfMemory _ c.from_residual.ensures.1 (λ whole. no_change c.args.self.now.table)
