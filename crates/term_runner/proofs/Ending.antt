@@ -4,6 +4,7 @@ use Rattle.std.proofs.Common.{subst, arith, inl, inr}
 use Rattle.std.specs.Prelude.{IsTrue, IfOk}
 use Rattle.std.specs.List.{list_all}
 use Rattle.cnf_base.specs.Formula.{Formula}
+use Rattle.host_io.specs.Beside.{Beside, beside_lent}
 use Rattle.host_io.specs.Channel.{Channel, Rose}
 use Rattle.cnf_base.specs.declared.step.Step.{Step}
 use Rattle.lrat_rules.specs.State.{start}
@@ -251,3 +252,21 @@ nothing_ends tells before after formula order moves limits whole none within_pri
   name = name;
   faults = omega (arith, unfailed);
 }
+
+first_lender : List ℕ → ℕ
+first_lender [] = 0
+first_lender (lender ∷ _) = lender
+
+-- what is beside a lent sink names who lent it
+pub lender_kept : {one other : ℕ} {inner rest : Beside} → beside_lent one inner ≡ beside_lent other rest → one ≡ other
+unfolding first_lender
+lender_kept same = ap (λ (b : Beside). first_lender b.lenders) same
+
+other_lenders : List ℕ → List ℕ
+other_lenders [] = []
+other_lenders (_ ∷ lenders) = lenders
+
+-- and what is beside that sink itself
+pub inner_kept : {one other : ℕ} {inner rest : Beside} → beside_lent one inner ≡ beside_lent other rest → inner ≡ rest
+unfolding other_lenders
+inner_kept same = ap (λ (b : Beside). record { lenders = other_lenders b.lenders; rest = b.rest }) same

@@ -11,9 +11,10 @@ use Rattle.node_table.specs.Progress.{error_of}
 use Rattle.node_table.specs.Table.{TableState, opened}
 use Rattle.term_runner.specs.declared.error.RunError.{RunError}
 use Rattle.term_runner.specs.declared.outcome.Outcome.{Outcome}
+use Rattle.term_runner.specs.Ends.{outcome_of}
 use Rattle.term_runner.specs.Opened.{EndsWithin, IsBehind, IsOpened, Leads}
-use Rattle.term_runner.proofs.Ending.{behind_of, nothing_ends}
-use Rattle.term_runner.proofs.Leaving.{formula_left, origin_left}
+use Rattle.term_runner.proofs.Ending.{behind_of, inner_kept, lender_kept, nothing_ends}
+use Rattle.term_runner.proofs.Leaving.{formula_left, origin_left, went_on}
 use Rattle.term_runner.specs.Price.{IsPaidFor}
 use Rattle.term_runner.specs.Proofs.{KeepsWithin}
 use Rattle.term_runner.proofs.OneLine.{some_moves, start_paid, start_within}
@@ -90,15 +91,28 @@ decide-found-requires-clause-ready g c =
     let ledger = c.new-ledger.result in
     let max_nodes = c.args.limits.max_nodes in
     let graph = c.in-Ok.ensures ∙ (λ k. record { order = c.as_slice.ensures.value k; nodes = map.empty }) in
-    let is : c.new-table.result ≡ opened c.args.order.now ledger max_nodes = c.new-table.ensures
+    let is : c.new-terms.result.table ≡ opened c.args.order.now ledger max_nodes = (c.new-terms.ensures.table ∙ c.new-table.ensures)
     ∙ (λ k. record { graph = graph k; book = ledger; max_nodes = max_nodes; inputs = ledger.state.top; retired = [] }) in
-    ready_at c.start_law.ensures.clauses c.opening_law.ensures c.args.formula.now c.args.order.now ledger c.new-table.result max_nodes is
+    ready_at c.start_law.ensures.clauses c.opening_law.ensures c.args.formula.now c.args.order.now ledger c.new-terms.result.table max_nodes is
     (ap (λ (b : Book (MutBor g.row.S.Denot)). b.state) c.new-ledger.ensures)
     (ap (λ (b : Book (MutBor g.row.S.Denot)). b.in_step) c.new-ledger.ensures)
     c.as_slice.ensures.order c.requires.order c.formula_law.ensures.literals c.in_default.ensures
 
 pub returns-clause-ends : goal.returns-clause-ends
 returns-clause-ends g c =
+    subst (λ (s : g.row.S.Denot). EndsWithin g.S.Sink.tells (g.S.Sink.channel c.args.sink.now)
+    (g.S.Sink.channel s) c.args.formula.now c.args.order.now c.args.plan.now c.args.limits c.finish-result.result) (search (
+      rules,
+      c.sink-2-1.given.1,
+      c.close-sink-2.ensures,
+      lender_kept c.book_law-3.ensures.book.rest
+          ∙ ap (λ (s : MutBor g.row.S.Denot). s.ghost_name) (c.finish-result.ensures.origin
+          ∙ ap (λ (b : Book (MutBor g.row.S.Denot)). b.origin) c.into_ledger-ledger.ensures
+          ∙ origin_left c.new-terms.result.table c.decide-found.new.self.table (error_of c.decide-found.result) c.decide-found.ensures.leaves
+          ∙ ap (λ (t : TableState (MutBor g.row.S.Denot)). t.book.origin) (c.new-terms.ensures.table ∙ c.new-table.ensures)
+          ∙ ap (λ (b : Book (MutBor g.row.S.Denot)). b.origin) c.new-ledger.ensures),
+    ))
+    (
     let formula = c.args.formula.now in
     let order = c.args.order.now in
     let moves = c.args.plan.now in
@@ -106,19 +120,19 @@ returns-clause-ends g c =
     let tells = g.S.Sink.tells in
     let channel : MutBor g.row.S.Denot → Channel = λ s. g.S.Sink.channel s.now in
     let literals = c.formula_law.ensures.literals in
-    let table = c.new-table.result in
+    let table = c.new-terms.result.table in
     let new = c.decide-found.new.self.table in
     let found = c.decide-found.result in
     let ledger = c.into_ledger-ledger.result in
     let graph : table.graph ≡ record { order = order; nodes = map.empty } =
-    ap (λ (t : TableState (MutBor g.row.S.Denot)). t.graph) c.new-table.ensures ∙ c.in-Ok.ensures
+    ap (λ (t : TableState (MutBor g.row.S.Denot)). t.graph) (c.new-terms.ensures.table ∙ c.new-table.ensures) ∙ c.in-Ok.ensures
     ∙ (λ k. record { order = c.as_slice.ensures.value k; nodes = map.empty }) in
-    let made : table.book ≡ c.new-ledger.result = ap (λ (t : TableState (MutBor g.row.S.Denot)). t.book) c.new-table.ensures in
+    let made : table.book ≡ c.new-ledger.result = ap (λ (t : TableState (MutBor g.row.S.Denot)). t.book) (c.new-terms.ensures.table ∙ c.new-table.ensures) in
     let book = made ∙ c.new-ledger.ensures in
     let state = ap (λ (b : Book (MutBor g.row.S.Denot)). b.state) book in
     let in_step = ap (λ (b : Book (MutBor g.row.S.Denot)). b.in_step) book in
     let inputs : table.inputs ≡ table.book.state.top =
-    ap (λ (t : TableState (MutBor g.row.S.Denot)). t.inputs) c.new-table.ensures
+    ap (λ (t : TableState (MutBor g.row.S.Denot)). t.inputs) (c.new-terms.ensures.table ∙ c.new-table.ensures)
     ∙ sym (ap (λ (b : Book (MutBor g.row.S.Denot)). b.state.top) made) in
     let told = c.decide-found.ensures in
     let same : new.book.origin.now ≡ c.args.sink.now =
@@ -143,7 +157,7 @@ returns-clause-ends g c =
     subst (λ (b : Book (MutBor g.row.S.Denot)). IsBehind tells (channel b.origin) (channel b.sink) formula.clauses b) kept
     (behind_of tells channel _ ledger formula.clauses (ap (λ (b : Book (MutBor g.row.S.Denot)). b.formula) kept ∙ of_formula)
     (λ t. ap (λ (b : Book (MutBor g.row.S.Denot)). (channel b.origin).written) kept ∙ fresh t) c.book_law-2.ensures.book c.book_law-2.ensures.cut) in
-    let is : table ≡ opened order c.new-ledger.result limits.max_nodes = c.new-table.ensures
+    let is : table ≡ opened order c.new-ledger.result limits.max_nodes = (c.new-terms.ensures.table ∙ c.new-table.ensures)
     ∙ (λ k. record {
       graph = (c.in-Ok.ensures ∙ (λ l. record { order = c.as_slice.ensures.value l; nodes = map.empty })) k;
       book = c.new-ledger.result;
@@ -159,7 +173,7 @@ returns-clause-ends g c =
     ap (λ (b : Book (MutBor g.row.S.Denot)). b.sink.now) book ∙ sym same in
     let leads = decided_leads c.canonical_law.ensures c.soundness_law.ensures.derived c.derivation_law.ensures.refutes c.in_use_law.ensures
     tells before after formula table.graph.order moves limits table new found begun behind ready inputs
-    (ap (λ (t : TableState (MutBor g.row.S.Denot)). t.max_nodes) c.new-table.ensures)
+    (ap (λ (t : TableState (MutBor g.row.S.Denot)). t.max_nodes) (c.new-terms.ensures.table ∙ c.new-table.ensures))
     (record {
       found = told.found;
       leaves = told.leaves;
@@ -180,17 +194,42 @@ returns-clause-ends g c =
     let ended = c.finish-result.ensures.ends before formula table.graph.order moves limits handed in
     let ordered = subst (λ (o : List ℕ). EndsWithin tells before (g.S.Sink.channel c.finish-result.new.ledger.sink.now) formula o moves limits
     c.finish-result.result) (ap (λ (h : Graph). h.order) graph) ended in
-    subst (λ (s : g.row.S.Denot). EndsWithin tells (g.S.Sink.channel c.args.sink.now)
-    (g.S.Sink.channel s) formula order moves limits c.finish-result.result) (search rules)
-    (subst (λ (s : g.row.S.Denot). EndsWithin tells (g.S.Sink.channel s)
+    subst (λ (s : g.row.S.Denot). EndsWithin tells (g.S.Sink.channel s)
     (g.S.Sink.channel c.finish-result.new.ledger.sink.now) formula order moves limits c.finish-result.result) same ordered)
 
 pub decide-found-requires-clause-settled : goal.decide-found-requires-clause-settled
-decide-found-requires-clause-settled g c = ap (λ (t : TableState (MutBor g.row.S.Denot)). t.retired) c.new-table.ensures
+decide-found-requires-clause-settled g c = ap (λ (t : TableState (MutBor g.row.S.Denot)). t.retired) (c.new-terms.ensures.table ∙ c.new-table.ensures)
 
 pub decide-found-requires-clause-fresh : goal.decide-found-requires-clause-fresh
 decide-found-requires-clause-fresh g c =
-    let table = c.new-table.result in
-    let made : table.book ≡ c.new-ledger.result = ap (λ (t : TableState (MutBor g.row.S.Denot)). t.book) c.new-table.ensures in
-    ap (λ (t : TableState (MutBor g.row.S.Denot)). t.inputs) c.new-table.ensures
+    let table = c.new-terms.result.table in
+    let made : table.book ≡ c.new-ledger.result = ap (λ (t : TableState (MutBor g.row.S.Denot)). t.book) (c.new-terms.ensures.table ∙ c.new-table.ensures) in
+    ap (λ (t : TableState (MutBor g.row.S.Denot)). t.inputs) (c.new-terms.ensures.table ∙ c.new-table.ensures)
     ∙ sym (ap (λ (b : Book (MutBor g.row.S.Denot)). b.state.top) made)
+
+pub finish-result-requires : goal.finish-result-requires
+finish-result-requires g c = record {
+  in_step = λ whole. ap (λ (b : Book (MutBor g.row.S.Denot)). b.in_step) c.into_ledger-ledger.ensures
+      ∙ (went_on c.new-terms.result.table c.decide-found.new.self.table c.decide-found.result c.decide-found.ensures.leaves
+      (λ torn. whole (c.outcome_of.ensures ∙ ap outcome_of torn))).sound.in_step;
+}
+
+pub returns-clause-beside : goal.returns-clause-beside
+returns-clause-beside g c =
+    subst (λ (s : g.row.S.Denot). g.S.Sink.beside s ≡ g.S.Sink.beside c.args.sink.now) (search (
+      rules,
+      c.sink-2-1.given.1,
+      c.close-sink-2.ensures,
+      lender_kept c.book_law-3.ensures.book.rest
+          ∙ ap (λ (s : MutBor g.row.S.Denot). s.ghost_name) (c.finish-result.ensures.origin
+          ∙ ap (λ (b : Book (MutBor g.row.S.Denot)). b.origin) c.into_ledger-ledger.ensures
+          ∙ origin_left c.new-terms.result.table c.decide-found.new.self.table (error_of c.decide-found.result) c.decide-found.ensures.leaves
+          ∙ ap (λ (t : TableState (MutBor g.row.S.Denot)). t.book.origin) (c.new-terms.ensures.table ∙ c.new-table.ensures)
+          ∙ ap (λ (b : Book (MutBor g.row.S.Denot)). b.origin) c.new-ledger.ensures),
+    ))
+    (inner_kept c.book_law-3.ensures.book.rest
+    ∙ ap (λ (s : MutBor g.row.S.Denot). g.S.Sink.beside s.now) (c.finish-result.ensures.origin
+    ∙ ap (λ (b : Book (MutBor g.row.S.Denot)). b.origin) c.into_ledger-ledger.ensures
+    ∙ origin_left c.new-terms.result.table c.decide-found.new.self.table (error_of c.decide-found.result) c.decide-found.ensures.leaves
+    ∙ ap (λ (t : TableState (MutBor g.row.S.Denot)). t.book.origin) (c.new-terms.ensures.table ∙ c.new-table.ensures)
+    ∙ ap (λ (b : Book (MutBor g.row.S.Denot)). b.origin) c.new-ledger.ensures))

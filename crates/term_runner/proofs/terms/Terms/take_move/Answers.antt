@@ -29,10 +29,10 @@ give_back-requires-clause-possible g c =
     let possible = c.requires.possible in
     (possible.1, c.in_ok-refuted.ensures.held possible.0 possible.1 possible.2 possible.3 c.if-refuted.false)
 
-pub returns-in_err-assign-clause-made : goal.returns-in_err-assign-clause-made
-returns-in_err-assign-clause-made g c stage next at is =
+pub returns-in_err-self-clause-made : goal.returns-in_err-self-clause-made
+returns-in_err-self-clause-made g c stage next at is =
     subst (λ (graph : Graph). KeepsOrMakes c.args.self.now.table.graph graph
-    (top_function c.args.formula.now c.args.self.now.table.graph.order next.stack)) (sym c.in_err-assign.ensures.kept)
+    (top_function c.args.formula.now c.args.self.now.table.graph.order next.stack)) (sym c.in_err-self.ensures.kept)
     (c.try_twice.ensures.made stage next at is)
 
 pub returns-clause-made : goal.returns-clause-made
@@ -41,7 +41,7 @@ returns-clause-made g c stage next at is =
     let mid = c.try_twice.new.self.table.graph in
     let new = c.give_back.new.self.table.graph in
     made_behind c.args.self.now.table.graph mid new new (held_nodes c.try_twice.new.self.out.items c.try_twice.new.self.trail) function
-    (c.try_twice.ensures.made stage next at is) c.in_ok-assign.ensures.reached (none_made new function)
+    (c.try_twice.ensures.made stage next at is) c.in_ok-self.ensures.reached (none_made new function)
 
 pub returns-clause-left : goal.returns-clause-left
 returns-clause-left g c stage next at is ok =
@@ -49,16 +49,16 @@ returns-clause-left g c stage next at is ok =
     let mid = c.try_twice.new.self.table in
     let new = c.give_back.new.self.table in
     let moved = c.in_ok-refuted.ensures.held stage next at is c.if-refuted.false in
-    let so_far = c.steps_law.ensures.go_on c.args.self.now.table mid new c.in_ok-refuted.ensures.leaves c.in_ok-assign.ensures.leaves in
+    let so_far = c.steps_law.ensures.go_on c.args.self.now.table mid new c.in_ok-refuted.ensures.leaves c.in_ok-self.ensures.leaves in
     let were = were_left formula mid.graph new.graph new.book.state.live c.give_back.new.self.out.items c.give_back.new.self.trail next
-    c.args.self.now.table.graph.order _ (c.in_ok-assign.ensures.at next moved)
+    c.args.self.now.table.graph.order _ (c.in_ok-self.ensures.at next moved)
     (subst (λ (nodes : List Node). LeavesReached mid.graph new.graph nodes)
-    (λ i. held_nodes (sym c.give_back.ensures.same.0 i).items (sym c.give_back.ensures.same.1 i)) c.in_ok-assign.ensures.reached) so_far.order c.in_ok-assign.ensures.count in
+    (λ i. held_nodes (sym c.give_back.ensures.same.0 i).items (sym c.give_back.ensures.same.1 i)) c.in_ok-self.ensures.reached) so_far.order c.in_ok-self.ensures.count in
     inr (inr were)
 
-pub returns-in_err-assign-clause-few : goal.returns-in_err-assign-clause-few
-returns-in_err-assign-clause-few g c stage next at is width most =
-    subst (λ (graph : Graph). AddsFew (live_nodes c.args.self.now.table.graph) (live_nodes graph) width) (sym c.in_err-assign.ensures.kept)
+pub returns-in_err-self-clause-few : goal.returns-in_err-self-clause-few
+returns-in_err-self-clause-few g c stage next at is width most =
+    subst (λ (graph : Graph). AddsFew (live_nodes c.args.self.now.table.graph) (live_nodes graph) width) (sym c.in_err-self.ensures.kept)
     (c.try_twice.ensures.few stage next at is width most)
 
 pub returns-clause-few : goal.returns-clause-few
@@ -67,17 +67,17 @@ returns-clause-few g c stage next at is width most =
     let mid = c.try_twice.new.self.table in
     let new = c.give_back.new.self.table in
     let moved = c.in_ok-refuted.ensures.held stage next at is c.if-refuted.false in
-    let so_far = c.steps_law.ensures.go_on c.args.self.now.table mid new c.in_ok-refuted.ensures.leaves c.in_ok-assign.ensures.leaves in
+    let so_far = c.steps_law.ensures.go_on c.args.self.now.table mid new c.in_ok-refuted.ensures.leaves c.in_ok-self.ensures.leaves in
     let were = were_left formula mid.graph new.graph new.book.state.live c.give_back.new.self.out.items c.give_back.new.self.trail next
-    c.args.self.now.table.graph.order _ (c.in_ok-assign.ensures.at next moved)
+    c.args.self.now.table.graph.order _ (c.in_ok-self.ensures.at next moved)
     (subst (λ (nodes : List Node). LeavesReached mid.graph new.graph nodes)
-    (λ i. held_nodes (sym c.give_back.ensures.same.0 i).items (sym c.give_back.ensures.same.1 i)) c.in_ok-assign.ensures.reached) so_far.order c.in_ok-assign.ensures.count in
+    (λ i. held_nodes (sym c.give_back.ensures.same.0 i).items (sym c.give_back.ensures.same.1 i)) c.in_ok-self.ensures.reached) so_far.order c.in_ok-self.ensures.count in
     let left = few_left c.subfunction_law.ensures c.canonical_law.ensures formula c.args.self.now.table.graph.order
     c.requires.ready.sound.tied.ordered stage next next (in_hand_behind formula stage next c.args.step is) _ were width most in
-    inr (omega (arith, left, c.in_ok-assign.ensures.count))
+    inr (omega (arith, left, c.in_ok-self.ensures.count))
 
-pub returns-in_err-assign-clause-price : goal.returns-in_err-assign-clause-price
-returns-in_err-assign-clause-price g c stage next at is size width price have paid most =
+pub returns-in_err-self-clause-price : goal.returns-in_err-self-clause-price
+returns-in_err-self-clause-price g c stage next at is size width price have paid most =
     let own = c.try_twice.ensures.price stage next at is size width price have paid most in
     omega (arith, own, c.give_back.ensures.top)
 
@@ -98,22 +98,22 @@ returns-then-refuted-clause-no_empty g c whole unrefuted = c.in_ok-refuted.ensur
 pub returns-then-is_tidy-clause-no_empty : goal.returns-then-is_tidy-clause-no_empty
 returns-then-is_tidy-clause-no_empty g c whole unrefuted = c.in_ok-refuted.ensures.no_empty no_error unrefuted
 
-pub returns-in_err-assign-clause-no_empty : goal.returns-in_err-assign-clause-no_empty
-returns-in_err-assign-clause-no_empty g c whole unrefuted =
-    let came = c.in_err-assign.field-0.0 in
+pub returns-in_err-self-clause-no_empty : goal.returns-in_err-self-clause-no_empty
+returns-in_err-self-clause-no_empty g c whole unrefuted =
+    let came = c.in_err-self.field-0.0 in
     further_empty c.args.self.now.table c.try_twice.new.self.table c.give_back.new.self.table
     (c.in_ok-refuted.ensures.no_empty no_error (no_true c.in_ok-refuted.refuted c.if-refuted.false))
-    (fewer_left {T = ℕ} c.try_twice.new.self.table c.give_back.new.self.table (Err came) c.in_err-assign.ensures.leaves
-    (λ torn. whole (handed_on _ came WriteFault c.from_residual-in_err-assign.ensures.1 (same_error torn))) c.give_back.ensures.top)
+    (fewer_left {T = ℕ} c.try_twice.new.self.table c.give_back.new.self.table (Err came) c.in_err-self.ensures.leaves
+    (λ torn. whole (handed_on _ came WriteFault c.from_residual-in_err-self.ensures.1 (same_error torn))) c.give_back.ensures.top)
 
 pub returns-clause-no_empty : goal.returns-clause-no_empty
 returns-clause-no_empty g c whole unrefuted =
     further_empty c.args.self.now.table c.try_twice.new.self.table c.give_back.new.self.table
     (c.in_ok-refuted.ensures.no_empty no_error (no_true c.in_ok-refuted.refuted c.if-refuted.false))
-    (fewer_empty c.try_twice.new.self.table c.give_back.new.self.table c.in_ok-assign.ensures.leaves c.give_back.ensures.top)
+    (fewer_empty c.try_twice.new.self.table c.give_back.new.self.table c.in_ok-self.ensures.leaves c.give_back.ensures.top)
 
-pub returns-in_err-assign-clause-rule : goal.returns-in_err-assign-clause-rule
-returns-in_err-assign-clause-rule g c stage next at is =
+pub returns-in_err-self-clause-rule : goal.returns-in_err-self-clause-rule
+returns-in_err-self-clause-rule g c stage next at is =
     due_behind c.args.self.now.table.graph c.try_twice.new.self.table.graph c.give_back.new.self.table.graph _ _ _ _ _
     c.in_ok-refuted.ensures.leaves.sound.tied.reduced (c.try_twice.ensures.made stage next at is)
     (λ tidy. not_both c.is_tidy.result (c.is_tidy.ensures.1 (many _ c.live.ensures tidy)) c.if-is_tidy.false)
@@ -128,4 +128,4 @@ returns-clause-rule g c stage next at is =
 
 pub returns-clause-leaves : goal.returns-clause-leaves
 returns-clause-leaves g c = c.steps_law.ensures.go_on c.args.self.now.table c.try_twice.new.self.table c.give_back.new.self.table
-    c.in_ok-refuted.ensures.leaves c.in_ok-assign.ensures.leaves
+    c.in_ok-refuted.ensures.leaves c.in_ok-self.ensures.leaves

@@ -188,7 +188,7 @@ recover-requires-clause-node g c =
     let table = c.moves.self.table in
     let held = at_last c.args.formula.now c.args.plan.now c.moves.i table.graph table.book.state.live c.moves.self.out.items c.moves.self.trail
     c.requires.plan.last (omega (arith, c.moves-test.false, c.len-i-end.ensures)) c.requires.plan.possible c.moves.invariant.between in
-    subst (λ (n : Node). is_node table.graph n ≡ true) (sym (c.top.ensures ∙ (λ k. top_node (reverse (c.as_slice.ensures.value k)))))
+    subst (λ (n : Node). is_node table.graph n ≡ true) (sym (c.top-node.ensures ∙ (λ k. top_node (reverse (c.as_slice.ensures.value k)))))
     (top_stands c.args.formula.now table.graph table.book.state.live (reverse c.moves.self.out.items) c.requires.plan.last.stack held.held).0
 
 pub recover-requires-clause-some : goal.recover-requires-clause-some
@@ -197,7 +197,7 @@ recover-requires-clause-some g c is =
     let held = at_last c.args.formula.now c.args.plan.now c.moves.i table.graph table.book.state.live c.moves.self.out.items c.moves.self.trail
     c.requires.plan.last (omega (arith, c.moves-test.false, c.len-i-end.ensures)) c.requires.plan.possible c.moves.invariant.between in
     (top_stands c.args.formula.now table.graph table.book.state.live (reverse c.moves.self.out.items) c.requires.plan.last.stack held.held).1
-    (sym (c.top.ensures ∙ (λ k. top_node (reverse (c.as_slice.ensures.value k)))) ∙ is)
+    (sym (c.top-node.ensures ∙ (λ k. top_node (reverse (c.as_slice.ensures.value k)))) ∙ is)
 
 pub recover-requires-clause-nodes : goal.recover-requires-clause-nodes
 recover-requires-clause-nodes g c kept there =
@@ -225,9 +225,9 @@ returns-clause-found g c =
     let held = at_last formula c.args.plan.now c.moves.i table.graph table.book.state.live c.moves.self.out.items c.moves.self.trail
     c.requires.plan.last (omega (arith, c.moves-test.false, c.len-i-end.ensures)) c.requires.plan.possible c.moves.invariant.between in
     subst (λ (order : List ℕ). IsRecovered formula order c.args.plan.now c.in_ok-model.model) c.moves.invariant.continues.order
-    (recovered formula table.graph c.args.plan.now c.requires.plan c.formula_law.ensures.literals c.moves.invariant.ready.vars c.top.result
+    (recovered formula table.graph c.args.plan.now c.requires.plan c.formula_law.ensures.literals c.moves.invariant.ready.vars c.top-node.result
     (λ a. (λ k. value_of table.graph (by_level table.graph.order a)
-    ((c.top.ensures ∙ (λ m. top_node (reverse (c.as_slice.ensures.value m)))) k))
+    ((c.top-node.ensures ∙ (λ m. top_node (reverse (c.as_slice.ensures.value m)))) k))
     ∙ top_value formula table.graph table.book.state.live (reverse c.moves.self.out.items) c.requires.plan.last.stack held.held
     c.requires.plan.one_term a)
     (reverse c.moves.self.trail) held.kept c.in_ok-model.model c.in_ok-model.ensures.recovered)

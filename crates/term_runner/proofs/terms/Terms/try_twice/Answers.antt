@@ -35,12 +35,12 @@ module _ (g : Over) (c : After-try_move-in-Err g) where
 
   -- what the reclamation left of the run
   at_mid : (stage : Stage) → IsAtStage c.args.formula.now c.args.self.now stage → IsAtStage c.args.formula.now c.give_back.new.self stage
-  at_mid stage at = c.in_ok-assign.ensures.at stage (c.in-Err.ensures.at_again stage at (ap Err at_limit))
+  at_mid stage at = c.in_ok-self-in-Err.ensures.at stage (c.in-Err.ensures.at_again stage at (ap Err at_limit))
 
   reached_mid : LeavesReached c.try_move.new.self.table.graph c.give_back.new.self.table.graph
       (held_nodes c.give_back.new.self.out.items c.give_back.new.self.trail)
   reached_mid = subst (λ (nodes : List Node). LeavesReached c.try_move.new.self.table.graph c.give_back.new.self.table.graph nodes)
-      (λ i. held_nodes (sym c.give_back.ensures.same.0 i).items (sym c.give_back.ensures.same.1 i)) c.in_ok-assign.ensures.reached
+      (λ i. held_nodes (sym c.give_back.ensures.same.0 i).items (sym c.give_back.ensures.same.1 i)) c.in_ok-self-in-Err.ensures.reached
 
   continues_mid : Continues c.args.self.now.table c.give_back.new.self.table
   continues_mid =
@@ -48,7 +48,7 @@ module _ (g : Over) (c : After-try_move-in-Err g) where
       let one = c.try_move.new.self.table in
       let mid = c.give_back.new.self.table in
       c.steps_law.ensures.go_on old one mid
-      (limit_left old one c.in-Err.e at_limit c.in-Err.ensures.leaves).0 c.in_ok-assign-in-Err.ensures.leaves
+      (limit_left old one c.in-Err.e at_limit c.in-Err.ensures.leaves).0 c.in_ok-self-in-Err.ensures.leaves
 
   -- the second try's nodes, over the order at the start
   made_last : (stage next : Stage)
@@ -63,51 +63,51 @@ module _ (g : Over) (c : After-try_move-in-Err g) where
 
   abbrev left_mid : (stage : Stage)
       → IsAt c.args.formula.now c.args.self.now.table.graph c.args.self.now.table.book.state.live c.args.self.now.out.items c.args.self.now.trail stage
-      → WereLeft c.args.formula.now c.args.self.now.table.graph.order stage c.in_ok-assign-in-Err.field-0
+      → WereLeft c.args.formula.now c.args.self.now.table.graph.order stage c.try_move-in-Err.new.self.left
   left_mid stage at =
       let mid = c.give_back.new.self.table in
       were_left c.args.formula.now c.try_move.new.self.table.graph mid.graph mid.book.state.live c.give_back.new.self.out.items c.give_back.new.self.trail
       stage c.args.self.now.table.graph.order _
-      (at_mid stage at) reached_mid continues_mid.order c.in_ok-assign-in-Err.ensures.count
+      (at_mid stage at) reached_mid continues_mid.order (c.try_move-in-Err.ensures.left ∙ c.in_ok-self-in-Err.ensures.count)
 
 pub returns-in-Ok-clause-held : goal.returns-in-Ok-clause-held
 returns-in-Ok-clause-held g c = c.in-Ok.ensures.held
 
-pub returns-in_err-assign-in-Err-clause-made : goal.returns-in_err-assign-in-Err-clause-made
-returns-in_err-assign-in-Err-clause-made g c stage next at is =
+pub returns-in_err-self-in-Err-clause-made : goal.returns-in_err-self-in-Err-clause-made
+returns-in_err-self-in-Err-clause-made g c stage next at is =
     subst (λ (graph : Graph). KeepsOrMakes c.args.self.now.table.graph graph
-    (top_function c.args.formula.now c.args.self.now.table.graph.order next.stack)) (sym c.in_err-assign-in-Err.ensures.kept)
+    (top_function c.args.formula.now c.args.self.now.table.graph.order next.stack)) (sym c.in_err-self-in-Err.ensures.kept)
     (c.try_move.ensures.made stage next at is)
 
-pub returns-in_ok-assign-in-Err-clause-held : goal.returns-in_ok-assign-in-Err-clause-held
-returns-in_ok-assign-in-Err-clause-held g c stage next at is = c.try_move-in-Err.ensures.held stage next (at_mid g c stage at) is
+pub returns-in_ok-self-in-Err-clause-held : goal.returns-in_ok-self-in-Err-clause-held
+returns-in_ok-self-in-Err-clause-held g c stage next at is = c.try_move-in-Err.ensures.held stage next (at_mid g c stage at) is
 
-pub returns-in_ok-assign-in-Err-clause-leaves : goal.returns-in_ok-assign-in-Err-clause-leaves
-returns-in_ok-assign-in-Err-clause-leaves g c =
+pub returns-in_ok-self-in-Err-clause-leaves : goal.returns-in_ok-self-in-Err-clause-leaves
+returns-in_ok-self-in-Err-clause-leaves g c =
     let old = c.args.self.now.table in
     let mid = c.give_back.new.self.table in
     let new = c.try_move-in-Err.new.self.table in
     c.steps_law.ensures.leave old mid new
     (error_of c.try_move-in-Err.result) (continues_mid g c) c.try_move-in-Err.ensures.leaves
 
-pub returns-in_ok-assign-in-Err-clause-made : goal.returns-in_ok-assign-in-Err-clause-made
-returns-in_ok-assign-in-Err-clause-made g c stage next at is =
+pub returns-in_ok-self-in-Err-clause-made : goal.returns-in_ok-self-in-Err-clause-made
+returns-in_ok-self-in-Err-clause-made g c stage next at is =
     made_behind c.args.self.now.table.graph c.try_move.new.self.table.graph c.give_back.new.self.table.graph c.try_move-in-Err.new.self.table.graph
     (held_nodes c.give_back.new.self.out.items c.give_back.new.self.trail)
     (top_function c.args.formula.now c.args.self.now.table.graph.order next.stack) (c.try_move.ensures.made stage next at is) (reached_mid g c)
     (made_last g c stage next at is)
 
-pub returns-in_ok-assign-in-Err-clause-lacks : goal.returns-in_ok-assign-in-Err-clause-lacks
-returns-in_ok-assign-in-Err-clause-lacks g c stage next at is limit =
+pub returns-in_ok-self-in-Err-clause-lacks : goal.returns-in_ok-self-in-Err-clause-lacks
+returns-in_ok-self-in-Err-clause-lacks g c stage next at is limit =
     subst (λ (order : List ℕ). LacksPart c.try_move-in-Err.new.self.table.graph (top_function c.args.formula.now order next.stack))
     (continues_mid g c).order
     (c.try_move-in-Err.ensures.lacks stage next (at_mid g c stage at) is limit)
 
-pub returns-in_ok-assign-in-Err-clause-full : goal.returns-in_ok-assign-in-Err-clause-full
-returns-in_ok-assign-in-Err-clause-full g c stage next at is limit = (left_mid g c stage at, made_last g c stage next at is)
+pub returns-in_ok-self-in-Err-clause-full : goal.returns-in_ok-self-in-Err-clause-full
+returns-in_ok-self-in-Err-clause-full g c stage next at is limit = (left_mid g c stage at, made_last g c stage next at is)
 
-pub returns-in_ok-assign-in-Err-clause-left : goal.returns-in_ok-assign-in-Err-clause-left
-returns-in_ok-assign-in-Err-clause-left g c stage at = inr (left_mid g c stage at)
+pub returns-in_ok-self-in-Err-clause-left : goal.returns-in_ok-self-in-Err-clause-left
+returns-in_ok-self-in-Err-clause-left g c stage at = inr (left_mid g c stage at)
 
 module _ (g : Over) (c : After-try_move g) (stage next : Stage)
     (at : IsAt c.args.formula.now c.args.self.now.table.graph c.args.self.now.table.book.state.live c.args.self.now.out.items c.args.self.now.trail stage)
@@ -147,26 +147,26 @@ returns-in-Err-2-clause-price g c stage next at is size width price have paid mo
 pub returns-in-Err-2-clause-few : goal.returns-in-Err-2-clause-few
 returns-in-Err-2-clause-few g c = once_few g (goal.at.returns-in-Err-2-clause-few g c).After-try_move
 
-pub returns-in_err-assign-in-Err-clause-price : goal.returns-in_err-assign-in-Err-clause-price
-returns-in_err-assign-in-Err-clause-price g c stage next at is size width price have paid most =
-    let first = once g (goal.at.returns-in_err-assign-in-Err-clause-price g c).After-try_move stage next at is width most size price have paid
+pub returns-in_err-self-in-Err-clause-price : goal.returns-in_err-self-in-Err-clause-price
+returns-in_err-self-in-Err-clause-price g c stage next at is size width price have paid most =
+    let first = once g (goal.at.returns-in_err-self-in-Err-clause-price g c).After-try_move stage next at is width most size price have paid
     in
     omega (arith, first, c.give_back.ensures.top)
 
-pub returns-in_err-assign-in-Err-clause-few : goal.returns-in_err-assign-in-Err-clause-few
-returns-in_err-assign-in-Err-clause-few g c stage next at is width most =
-    subst (λ (graph : Graph). AddsFew (live_nodes c.args.self.now.table.graph) (live_nodes graph) width) (sym c.in_err-assign-in-Err.ensures.kept)
-    (once_few g (goal.at.returns-in_err-assign-in-Err-clause-few g c).After-try_move stage next at is width most)
+pub returns-in_err-self-in-Err-clause-few : goal.returns-in_err-self-in-Err-clause-few
+returns-in_err-self-in-Err-clause-few g c stage next at is width most =
+    subst (λ (graph : Graph). AddsFew (live_nodes c.args.self.now.table.graph) (live_nodes graph) width) (sym c.in_err-self-in-Err.ensures.kept)
+    (once_few g (goal.at.returns-in_err-self-in-Err-clause-few g c).After-try_move stage next at is width most)
 
-pub returns-in_ok-assign-in-Err-clause-price : goal.returns-in_ok-assign-in-Err-clause-price
-returns-in_ok-assign-in-Err-clause-price g c stage next at is size width price have paid most =
+pub returns-in_ok-self-in-Err-clause-price : goal.returns-in_ok-self-in-Err-clause-price
+returns-in_ok-self-in-Err-clause-price g c stage next at is size width price have paid most =
     let formula = c.args.formula.now in
     let old = c.args.self.now.table in
     let mid = c.give_back.new.self.table in
     let new = c.try_move-in-Err.new.self.table in
     let own = c.try_move-in-Err.ensures in
     let order = (continues_mid g c).order in
-    let first = once g (goal.at.returns-in_ok-assign-in-Err-clause-price g c).After-try_move stage next at is width most size price have paid
+    let first = once g (goal.at.returns-in_ok-self-in-Err-clause-price g c).After-try_move stage next at is width most size price have paid
     in
     let second = tried c.growth_law.ensures c.canonical_law.ensures formula old.graph.order stage next c.args.step is mid new _ own.leaves
     own.nodes (made_last g c stage next at is) width most
@@ -176,8 +176,8 @@ returns-in_ok-assign-in-Err-clause-price g c stage next at is size width price h
     (subst (λ (o : List ℕ). HoldsAtMost formula o stage next width) (sym order) most)) in
     omega (arith, first, second, c.give_back.ensures.top)
 
-pub returns-in_ok-assign-in-Err-clause-few : goal.returns-in_ok-assign-in-Err-clause-few
-returns-in_ok-assign-in-Err-clause-few g c stage next at is width most =
+pub returns-in_ok-self-in-Err-clause-few : goal.returns-in_ok-self-in-Err-clause-few
+returns-in_ok-self-in-Err-clause-few g c stage next at is width most =
     let formula = c.args.formula.now in
     let old = c.args.self.now.table in
     let mid = c.give_back.new.self.table in
@@ -187,70 +187,59 @@ returns-in_ok-assign-in-Err-clause-few g c stage next at is width most =
     own.nodes (made_last g c stage next at is) width most in
     let left = few_left c.subfunction_law.ensures c.canonical_law.ensures formula old.graph.order c.requires.ready.sound.tied.ordered stage
     next stage (in_hand_before stage next) _ (left_mid g c stage at) width most in
-    inr (omega (arith, second, left, c.in_ok-assign-in-Err.ensures.count))
+    inr (omega (arith, second, left, c.try_move-in-Err.ensures.left, c.in_ok-self-in-Err.ensures.count))
 
-pub returns-in_err-assign-in-Err-clause-no_empty : goal.returns-in_err-assign-in-Err-clause-no_empty
-returns-in_err-assign-in-Err-clause-no_empty g c whole unrefuted =
-    let came = c.in_err-assign-in-Err.field-0.0 in
+pub returns-in_err-self-in-Err-clause-no_empty : goal.returns-in_err-self-in-Err-clause-no_empty
+returns-in_err-self-in-Err-clause-no_empty g c whole unrefuted =
+    let came = c.in_err-self-in-Err.field-0.0 in
     further_empty c.args.self.now.table c.try_move.new.self.table c.give_back.new.self.table
     (c.in-Err.ensures.no_empty (λ torn. no_nodes_left (sym (c.is_node_limit.ensures.0 c.if-is_node_limit.true) ∙ same_error torn))
     (λ is. no_error (sym is)))
-    (fewer_left {T = ℕ} c.try_move.new.self.table c.give_back.new.self.table (Err came) c.in_err-assign-in-Err.ensures.leaves
+    (fewer_left {T = ℕ} c.try_move.new.self.table c.give_back.new.self.table (Err came) c.in_err-self-in-Err.ensures.leaves
     (λ torn. whole (handed_on _ came WriteFault c.from_residual.ensures.1 (same_error torn))) c.give_back.ensures.top)
 
-pub returns-in_ok-assign-in-Err-clause-no_empty : goal.returns-in_ok-assign-in-Err-clause-no_empty
-returns-in_ok-assign-in-Err-clause-no_empty g c whole unrefuted =
+pub returns-in_ok-self-in-Err-clause-no_empty : goal.returns-in_ok-self-in-Err-clause-no_empty
+returns-in_ok-self-in-Err-clause-no_empty g c whole unrefuted =
     let mid = c.give_back.new.self.table in
     further_empty c.args.self.now.table mid c.try_move-in-Err.new.self.table
     (further_empty c.args.self.now.table c.try_move.new.self.table mid
     (c.in-Err.ensures.no_empty (λ torn. no_nodes_left (sym (c.is_node_limit.ensures.0 c.if-is_node_limit.true) ∙ same_error torn))
     (λ is. no_error (sym is)))
-    (fewer_empty c.try_move.new.self.table mid c.in_ok-assign-in-Err.ensures.leaves c.give_back.ensures.top))
+    (fewer_empty c.try_move.new.self.table mid c.in_ok-self-in-Err.ensures.leaves c.give_back.ensures.top))
     (c.try_move-in-Err.ensures.no_empty whole unrefuted)
 
 -- at the limit a reclamation is due
-pub returns-in_err-assign-in-Err-clause-rule : goal.returns-in_err-assign-in-Err-clause-rule
-returns-in_err-assign-in-Err-clause-rule g c stage next at is =
+pub returns-in_err-self-in-Err-clause-rule : goal.returns-in_err-self-in-Err-clause-rule
+returns-in_err-self-in-Err-clause-rule g c stage next at is =
     inr (due_at_limit c.args.self.now.table c.try_move.new.self.table _ _ c.in-Err.e
     (c.is_node_limit.ensures.0 c.if-is_node_limit.true) c.in-Err.ensures.leaves (c.try_move.ensures.made stage next at is))
 
-pub returns-in_ok-assign-in-Err-clause-rule : goal.returns-in_ok-assign-in-Err-clause-rule
-returns-in_ok-assign-in-Err-clause-rule g c stage next at is =
+pub returns-in_ok-self-in-Err-clause-rule : goal.returns-in_ok-self-in-Err-clause-rule
+returns-in_ok-self-in-Err-clause-rule g c stage next at is =
     inr (due_at_limit c.args.self.now.table c.try_move.new.self.table _ _ c.in-Err.e
     (c.is_node_limit.ensures.0 c.if-is_node_limit.true) c.in-Err.ensures.leaves (c.try_move.ensures.made stage next at is))
 
 pub returns-in-Ok-clause-rule : goal.returns-in-Ok-clause-rule
-returns-in-Ok-clause-rule g c stage next at is = inl (c.try_move.ensures.nodes, refl)
+returns-in-Ok-clause-rule g c stage next at is = inl (c.try_move.ensures.nodes, c.try_move.ensures.left)
 
 pub returns-in-Err-2-clause-rule : goal.returns-in-Err-2-clause-rule
-returns-in-Err-2-clause-rule g c stage next at is = inl (c.try_move.ensures.nodes, refl)
+returns-in-Err-2-clause-rule g c stage next at is = inl (c.try_move.ensures.nodes, c.try_move.ensures.left)
 
 pub try_move-requires-in-Err-clause-possible : goal.try_move-requires-in-Err-clause-possible
 try_move-requires-in-Err-clause-possible g c =
-    let formula = c.args.formula.now in
-    let one = c.try_move.new.self.table in
-    let mid = c.give_back.new.self.table in
-    let trail = c.try_move.new.self.trail in
     let possible = c.requires.possible in
     let stage = possible.0 in
-    let limit = c.is_node_limit.ensures.0 c.if-is_node_limit.true in (
-      stage,
-      possible.1,
-      subst (λ (stack : List HeldTerm). IsAt formula mid.graph mid.book.state.live stack trail stage) c.as_slice.ensures.value
-          (c.in_ok-assign-in-Err.ensures.at stage
-          (subst (λ (stack : List HeldTerm). IsAt formula one.graph one.book.state.live stack trail stage) (sym c.as_slice.ensures.value)
-          (c.in-Err.ensures.at_again stage possible.2 (ap Err limit)))),
-      possible.3,
-    )
+    let limit = c.is_node_limit.ensures.0 c.if-is_node_limit.true in
+    (stage, possible.1, c.in_ok-self-in-Err.ensures.at stage (c.in-Err.ensures.at_again stage possible.2 (ap Err limit)), possible.3)
 
-pub returns-in_err-assign-in-Err-clause-leaves : goal.returns-in_err-assign-in-Err-clause-leaves
-returns-in_err-assign-in-Err-clause-leaves g c =
+pub returns-in_err-self-in-Err-clause-leaves : goal.returns-in_err-self-in-Err-clause-leaves
+returns-in_err-self-in-Err-clause-leaves g c =
     let old = c.args.self.now.table in
     let one = c.try_move.new.self.table in
     let new = c.give_back.new.self.table in
-    let came = c.in_err-assign-in-Err.field-0.0 in
+    let came = c.in_err-self-in-Err.field-0.0 in
     subst (λ (error : Option TableError). Leaves old new error)
     (sym (ap error_of (handed_on _ came came c.from_residual.ensures.1 refl)))
     (c.steps_law.ensures.leave old one new (Some came)
     (limit_left old one c.in-Err.e (c.is_node_limit.ensures.0 c.if-is_node_limit.true) c.in-Err.ensures.leaves).0
-    c.in_err-assign-in-Err.ensures.leaves)
+    c.in_err-self-in-Err.ensures.leaves)
