@@ -36,3 +36,5 @@ pub mod Priced
 pub mod WidthExamples
 pub mod NoEmpty
 pub mod Due
+pub mod Tried
+pub mod Moved

@@ -9,6 +9,7 @@ pub mod Ends
 pub mod Opened
 pub mod Held
 pub mod Terms
+pub mod Moves
 pub mod Tidy
 pub mod Examples
 pub mod Trial

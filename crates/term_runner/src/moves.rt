@@ -4,19 +4,19 @@ ghost use Rattle.std.specs.Prelude.{◌≡◌, ◌↔◌, ◌≤◌, ◌⊎◌, 
 ghost use Rattle.std.specs.Prelude.{reverse};
 ghost use Rattle.lrat_rules.specs.State.{clause_at};
 ghost use Rattle.node_table.specs.declared.error.TableError.TheVariants.{NodeLimit};
-ghost use Rattle.node_table.specs.Diagram.{KeepsNodes, levels};
+ghost use Rattle.node_table.specs.Diagram.{levels};
 ghost use Rattle.node_table.specs.Table.{AddsAtMost, IsSound, UnlessTorn};
 ghost use Rattle.node_table.specs.Made.{LacksPart, MakesOnly};
-ghost use Rattle.node_table.specs.Progress.{Leaves, Steps, StepsOrRefutes, error_of};
+ghost use Rattle.node_table.specs.Progress.{Steps, StepsOrRefutes, error_of};
 ghost use Rattle.cnf_base.specs.Formula.{Formula};
 ghost use Rattle.operations.specs.Budget.{most_additions};
 ghost use Rattle.operations.specs.Entries.{Entry, Fits};
 ghost use Rattle.schedule_plan.specs.Plan.{Stage, Term as TermValue, after_move, both, input};
 ghost use Rattle.term_runner.specs.Caches.{HaveRoom, all_entries, sizes};
-ghost use Rattle.term_runner.specs.Width.{HasAtMost, HoldsAtMost, term_function, top_function};
-ghost use Rattle.term_runner.specs.Nodes.{KeepsOrMakes};
+ghost use Rattle.term_runner.specs.Width.{HasAtMost, term_function};
 ghost use Rattle.term_runner.specs.Held.{AreHeld, IsReady, IsUnrefuted, HasUnits};
-ghost use Rattle.term_runner.specs.Terms.{HasOwnUnits, IsAtStage, IsOpen};
+ghost use Rattle.term_runner.specs.Moves.{MayMove, Tried};
+ghost use Rattle.term_runner.specs.Terms.{HasOwnUnits, IsAtStage};
 
 use crate::held::{last_two, put, replace_two};
 use crate::terms::Terms;
@@ -32,42 +32,10 @@ impl<S: Sink + Drop> Terms<S> {
     /// Tries a move, and says whether the empty clause was added: then all is done. Else, and where no more nodes are allowed,
     /// the clauses that were retired are deleted.
     pub fn try_move(&mut self, formula: &Cnf, step: Move) -> Result<bool, TableError>
-        requires ready { IsOpen formula.now self.old }
-        requires possible { (stage next : Stage) × IsAtStage formula.now self.old stage
-            × (after_move formula.now stage step ≡ Some next) }
-        requires settled { self.old.table.retired ≡ [] }
-        requires own { HasOwnUnits self.old }
-        ensures left { self.new.left ≡ self.old.left }
-        ensures held { (stage next : Stage) → IsAtStage formula.now self.old stage
-            → after_move formula.now stage step ≡ Some next
-            → IfOk result (λ refuted. refuted ≡ false
-            → IsAtStage formula.now self.new next) }
-        ensures refuted { IfOk result (λ refuted. IsTrue refuted → (id : ℕ) × (clause_at self.new.table.book.state.live id ≡ Some [])) }
-        ensures ready { UnlessTorn result (IsOpen formula.now self.new) }
+        requires { MayMove formula.now step self.old }
+        ensures tried { (stage next : Stage) → IsAtStage formula.now self.old stage
+            → after_move formula.now stage step ≡ Some next → Tried formula.now stage next self.old self.new result }
         ensures settled { (result ≡ Ok false) ⊎ (result ≡ Err NodeLimit) → self.new.table.retired ≡ [] }
-        ensures own { IfOk result (λ refuted. refuted ≡ false → HasOwnUnits self.new) }
-        // A move that didn't succeed leaves its operands, unless a write failed. At the limit of nodes it may be tried again.
-        ensures unchanged { UnlessTorn result (IsErr result → (self.new.out.items ≡ self.old.out.items) × (self.new.trail ≡ self.old.trail)) }
-        ensures again { result ≡ Err NodeLimit → HasOwnUnits self.new }
-        ensures at_again { (stage : Stage) → IsAtStage formula.now self.old stage
-            → result ≡ Err NodeLimit → IsAtStage formula.now self.new stage }
-        ensures leaves { Leaves self.old.table self.new.table (error_of result) }
-        ensures no_empty { IsUnrefuted self.old.table self.new.table result }
-        // However it ends, nodes stay, and the new clauses are those of new nodes and no more beside them than this, or, where the
-        // caches have room for all pairs of parts in hand, than two for each of these.
-        ensures nodes { KeepsNodes self.old.table.graph self.new.table.graph }
-        ensures adds { AddsAtMost (most_additions (levels self.old.table.graph) + 1) self.old.table self.new.table }
-        ensures pairs { (stage next : Stage) → IsAtStage formula.now self.old stage
-            → after_move formula.now stage step ≡ Some next
-            → (width : ℕ) → HaveRoom self.old.caches width → HoldsAtMost formula.now self.old.table.graph.order stage next width
-            → AddsAtMost (2 * (width * width) + 1) self.old.table self.new.table }
-        ensures sizes { sizes self.new.caches ≡ sizes self.old.caches }
-        ensures made { (stage next : Stage) → IsAtStage formula.now self.old stage
-            → after_move formula.now stage step ≡ Some next
-            → KeepsOrMakes self.old.table.graph self.new.table.graph (top_function formula.now self.old.table.graph.order next.stack) }
-        ensures lacks { (stage next : Stage) → IsAtStage formula.now self.old stage
-            → after_move formula.now stage step ≡ Some next
-            → result ≡ Err NodeLimit → LacksPart self.new.table.graph (top_function formula.now self.old.table.graph.order next.stack) }
     {
         entry_law::<S>();
         steps_law::<S>();
@@ -87,38 +55,9 @@ impl<S: Sink + Drop> Terms<S> {
 
     // Takes a move, and says whether the empty clause was added.
     fn carry_out(&mut self, formula: &Cnf, step: Move) -> Result<bool, TableError>
-        requires ready { IsOpen formula.now self.old }
-        requires possible { (stage next : Stage) × IsAtStage formula.now self.old stage
-            × (after_move formula.now stage step ≡ Some next) }
-        requires settled { self.old.table.retired ≡ [] }
-        requires own { HasOwnUnits self.old }
-        ensures left { self.new.left ≡ self.old.left }
-        ensures held { (stage next : Stage) → IsAtStage formula.now self.old stage
-            → after_move formula.now stage step ≡ Some next
-            → IfOk result (λ refuted. refuted ≡ false
-            → IsAtStage formula.now self.new next) }
-        ensures refuted { IfOk result (λ refuted. IsTrue refuted → (id : ℕ) × (clause_at self.new.table.book.state.live id ≡ Some [])) }
-        ensures own { IfOk result (λ refuted. refuted ≡ false → HasOwnUnits self.new) }
-        ensures ready { UnlessTorn result (IsOpen formula.now self.new) }
-        ensures unchanged { IsErr result → (self.new.out.items ≡ self.old.out.items) × (self.new.trail ≡ self.old.trail) }
-        ensures again { result ≡ Err NodeLimit → HasOwnUnits self.new }
-        ensures at_again { (stage : Stage) → IsAtStage formula.now self.old stage
-            → result ≡ Err NodeLimit → IsAtStage formula.now self.new stage }
-        ensures leaves { Leaves self.old.table self.new.table (error_of result) }
-        ensures no_empty { IsUnrefuted self.old.table self.new.table result }
-        ensures nodes { KeepsNodes self.old.table.graph self.new.table.graph }
-        ensures adds { AddsAtMost (most_additions (levels self.old.table.graph) + 1) self.old.table self.new.table }
-        ensures pairs { (stage next : Stage) → IsAtStage formula.now self.old stage
-            → after_move formula.now stage step ≡ Some next
-            → (width : ℕ) → HaveRoom self.old.caches width → HoldsAtMost formula.now self.old.table.graph.order stage next width
-            → AddsAtMost (2 * (width * width) + 1) self.old.table self.new.table }
-        ensures sizes { sizes self.new.caches ≡ sizes self.old.caches }
-        ensures made { (stage next : Stage) → IsAtStage formula.now self.old stage
-            → after_move formula.now stage step ≡ Some next
-            → KeepsOrMakes self.old.table.graph self.new.table.graph (top_function formula.now self.old.table.graph.order next.stack) }
-        ensures lacks { (stage next : Stage) → IsAtStage formula.now self.old stage
-            → after_move formula.now stage step ≡ Some next
-            → result ≡ Err NodeLimit → LacksPart self.new.table.graph (top_function formula.now self.old.table.graph.order next.stack) }
+        requires { MayMove formula.now step self.old }
+        ensures { (stage next : Stage) → IsAtStage formula.now self.old stage
+            → after_move formula.now stage step ≡ Some next → Tried formula.now stage next self.old self.new result }
     {
         entry_law::<S>();
         growth_law();

@@ -3,21 +3,15 @@
 // the nodes that it looks at, or all were reached, so that its time is a fraction of that in which they were made.
 // (McCarthy: Recursive Functions of Symbolic Expressions, 1960, section 4; Brace, Rudell, Bryant: Efficient Implementation of
 // a BDD Package, DAC 1990, section 3.4.)
-ghost use Rattle.std.specs.Prelude.{◌≡◌, ◌≢◌, ◌↔◌, ◌⊎◌, ◌≤◌, ◌+◌, ℕ, [], Ok, Err, Some, IsTrue, OnOk, OnErr, IfOk, IfErr, false, reverse};
-ghost use Rattle.lrat_rules.specs.State.{clause_at};
-ghost use Rattle.node_table.specs.declared.error.TableError.TheVariants.{NodeLimit, OutOfMemory, WriteFault};
-ghost use Rattle.node_table.specs.Diagram.{levels};
-ghost use Rattle.node_table.specs.Made.{LacksPart};
+ghost use Rattle.std.specs.Prelude.{◌≡◌, ◌↔◌, ◌⊎◌, ◌+◌, [], Ok, Err, Some, IsTrue, OnOk, OnErr, IfOk, IfErr, false};
+ghost use Rattle.node_table.specs.declared.error.TableError.TheVariants.{OutOfMemory, WriteFault};
 ghost use Rattle.node_table.specs.Progress.{Leaves, error_of};
-ghost use Rattle.node_table.specs.Table.{UnlessTorn, live_nodes};
+ghost use Rattle.node_table.specs.Table.{live_nodes};
 ghost use Rattle.schedule_plan.specs.Plan.{Stage, after_move};
-ghost use Rattle.term_runner.specs.Caches.{HaveSize, sizes};
-ghost use Rattle.term_runner.specs.Price.{AddsFew, IsMovePrice};
-ghost use Rattle.term_runner.specs.Width.{HoldsAtMost, top_function};
-ghost use Rattle.term_runner.specs.Nodes.{KeepsOrMakes};
-ghost use Rattle.term_runner.specs.Held.{IsUnrefuted};
+ghost use Rattle.term_runner.specs.Caches.{sizes};
+ghost use Rattle.term_runner.specs.Moves.{MayMove, Moved};
 ghost use Rattle.term_runner.specs.Terms.{HasOwnUnits, IsAtStage, IsOpen};
-ghost use Rattle.term_runner.specs.Tidy.{IsByRule, IsTidy, LeavesReached, WereLeft, held_nodes};
+ghost use Rattle.term_runner.specs.Tidy.{IsTidy, LeavesReached, held_nodes};
 
 use crate::held::HeldTerm;
 use crate::moves::is_node_limit;
@@ -39,53 +33,10 @@ impl<S: Sink + Drop> Terms<S> {
     /// Takes a move, at the limit of nodes after a reclamation, and reclaims behind it where there are many. Says whether the empty
     /// clause was added: then all is done. `left` is how many nodes the last reclamation left.
     pub fn take_move(&mut self, formula: &Cnf, step: Move) -> Result<bool, TableError>
-        requires ready { IsOpen formula.now self.old }
-        requires possible { (stage next : Stage) × IsAtStage formula.now self.old stage
-            × (after_move formula.now stage step ≡ Some next) }
-        requires settled { self.old.table.retired ≡ [] }
-        requires own { HasOwnUnits self.old }
-        ensures held { (stage next : Stage) → IsAtStage formula.now self.old stage
-            → after_move formula.now stage step ≡ Some next
-            → IfOk result (λ refuted. refuted ≡ false
-            → IsAtStage formula.now self.new next) }
-        ensures refuted { IfOk result (λ refuted. IsTrue refuted → (id : ℕ) × (clause_at self.new.table.book.state.live id ≡ Some [])) }
-        ensures ready { OnOk result (IsOpen formula.now self.new) }
-        ensures settled { result ≡ Ok false → self.new.table.retired ≡ [] }
-        ensures own { IfOk result (λ refuted. refuted ≡ false → HasOwnUnits self.new) }
-        ensures leaves { Leaves self.old.table self.new.table (error_of result) }
-        ensures made { (stage next : Stage) → IsAtStage formula.now self.old stage
-            → after_move formula.now stage step ≡ Some next
-            → KeepsOrMakes self.old.table.graph self.new.table.graph (top_function formula.now self.old.table.graph.order next.stack) }
-        ensures lacks { (stage next : Stage) → IsAtStage formula.now self.old stage
-            → after_move formula.now stage step ≡ Some next
-            → result ≡ Err NodeLimit → LacksPart self.new.table.graph (top_function formula.now self.old.table.graph.order next.stack) }
-        // At the limit there are but nodes that the terms reached, and those of the move's own.
-        ensures full { (stage next : Stage) → IsAtStage formula.now self.old stage
-            → after_move formula.now stage step ≡ Some next
-            → result ≡ Err NodeLimit → (were : WereLeft formula.now self.old.table.graph.order stage self.new.left)
-            × KeepsOrMakes were.graph self.new.table.graph (top_function formula.now self.old.table.graph.order next.stack) }
+        requires { MayMove formula.now step self.old }
+        ensures moved { (stage next : Stage) → IsAtStage formula.now self.old stage
+            → after_move formula.now stage step ≡ Some next → Moved formula.now stage next self.old self.new result }
         ensures tidy { result ≡ Ok false → IsTidy (live_nodes self.new.table.graph) self.new.left }
-        ensures left { (stage next : Stage) → IsAtStage formula.now self.old stage
-            → after_move formula.now stage step ≡ Some next
-            → result ≡ Ok false → (self.new.left ≡ self.old.left) ⊎ (WereLeft formula.now self.old.table.graph.order stage self.new.left
-            ⊎ WereLeft formula.now self.old.table.graph.order next self.new.left) }
-        // However it ends, it gave so many numbers at most, and made so few nodes, by the parts in hand at the move.
-        ensures price { (stage next : Stage) → IsAtStage formula.now self.old stage
-            → after_move formula.now stage step ≡ Some next
-            → (size width price : ℕ) → HaveSize self.old.caches size → IsMovePrice (levels self.old.table.graph) size width price
-            → HoldsAtMost formula.now self.old.table.graph.order stage next width
-            → self.new.table.book.state.top ≤ self.old.table.book.state.top + price }
-        ensures sizes { sizes self.new.caches ≡ sizes self.old.caches }
-        ensures no_empty { IsUnrefuted self.old.table self.new.table result }
-        // Nothing is given back but at the limit, or where there are many.
-        ensures rule { (stage next : Stage) → IsAtStage formula.now self.old stage
-            → after_move formula.now stage step ≡ Some next
-            → IsByRule self.old.table.graph self.new.table.graph (top_function formula.now self.old.table.graph.order next.stack)
-            self.old.table.max_nodes self.old.left self.new.left }
-        ensures few { (stage next : Stage) → IsAtStage formula.now self.old stage
-            → after_move formula.now stage step ≡ Some next
-            → (width : ℕ) → HoldsAtMost formula.now self.old.table.graph.order stage next width
-            → AddsFew (live_nodes self.old.table.graph) (live_nodes self.new.table.graph) width }
     {
         canonical_law();
         subfunction_law();
@@ -104,48 +55,9 @@ impl<S: Sink + Drop> Terms<S> {
 
     // Tries a move, and at the limit of nodes once more after a reclamation.
     fn try_twice(&mut self, formula: &Cnf, step: Move) -> Result<bool, TableError>
-        requires ready { IsOpen formula.now self.old }
-        requires possible { (stage next : Stage) × IsAtStage formula.now self.old stage
-            × (after_move formula.now stage step ≡ Some next) }
-        requires settled { self.old.table.retired ≡ [] }
-        requires own { HasOwnUnits self.old }
-        ensures held { (stage next : Stage) → IsAtStage formula.now self.old stage
-            → after_move formula.now stage step ≡ Some next
-            → IfOk result (λ refuted. refuted ≡ false
-            → IsAtStage formula.now self.new next) }
-        ensures refuted { IfOk result (λ refuted. IsTrue refuted → (id : ℕ) × (clause_at self.new.table.book.state.live id ≡ Some [])) }
-        ensures ready { OnOk result (IsOpen formula.now self.new) }
-        ensures settled { result ≡ Ok false → self.new.table.retired ≡ [] }
-        ensures own { IfOk result (λ refuted. refuted ≡ false → HasOwnUnits self.new) }
-        ensures leaves { Leaves self.old.table self.new.table (error_of result) }
-        ensures made { (stage next : Stage) → IsAtStage formula.now self.old stage
-            → after_move formula.now stage step ≡ Some next
-            → KeepsOrMakes self.old.table.graph self.new.table.graph (top_function formula.now self.old.table.graph.order next.stack) }
-        ensures lacks { (stage next : Stage) → IsAtStage formula.now self.old stage
-            → after_move formula.now stage step ≡ Some next
-            → result ≡ Err NodeLimit → LacksPart self.new.table.graph (top_function formula.now self.old.table.graph.order next.stack) }
-        ensures full { (stage next : Stage) → IsAtStage formula.now self.old stage
-            → after_move formula.now stage step ≡ Some next
-            → result ≡ Err NodeLimit → (were : WereLeft formula.now self.old.table.graph.order stage self.new.left)
-            × KeepsOrMakes were.graph self.new.table.graph (top_function formula.now self.old.table.graph.order next.stack) }
-        ensures left { (stage : Stage) → IsAtStage formula.now self.old stage
-            → (self.new.left ≡ self.old.left) ⊎ WereLeft formula.now self.old.table.graph.order stage self.new.left }
-        ensures price { (stage next : Stage) → IsAtStage formula.now self.old stage
-            → after_move formula.now stage step ≡ Some next
-            → (size width price : ℕ) → HaveSize self.old.caches size → IsMovePrice (levels self.old.table.graph) size width price
-            → HoldsAtMost formula.now self.old.table.graph.order stage next width
-            → self.new.table.book.state.top ≤ self.old.table.book.state.top + price }
-        ensures sizes { sizes self.new.caches ≡ sizes self.old.caches }
-        ensures no_empty { IsUnrefuted self.old.table self.new.table result }
-        // Nothing is given back but at the limit, or where there are many.
-        ensures rule { (stage next : Stage) → IsAtStage formula.now self.old stage
-            → after_move formula.now stage step ≡ Some next
-            → IsByRule self.old.table.graph self.new.table.graph (top_function formula.now self.old.table.graph.order next.stack)
-            self.old.table.max_nodes self.old.left self.new.left }
-        ensures few { (stage next : Stage) → IsAtStage formula.now self.old stage
-            → after_move formula.now stage step ≡ Some next
-            → (width : ℕ) → HoldsAtMost formula.now self.old.table.graph.order stage next width
-            → AddsFew (live_nodes self.old.table.graph) (live_nodes self.new.table.graph) width }
+        requires { MayMove formula.now step self.old }
+        ensures { (stage next : Stage) → IsAtStage formula.now self.old stage
+            → after_move formula.now stage step ≡ Some next → Moved formula.now stage next self.old self.new result }
     {
         subfunction_law();
         canonical_law();

@@ -1,5 +1,5 @@
 -- What is left to show of `take_moves`.
-use Rattle.std.proofs.Common.{rules, ◌≡◌, ℕ, suc, ◌+◌, ◌*◌, ◌≤◌, true, List, Option, length, take, reverse, None, Some, Ok, Err, ap}
+use Rattle.std.proofs.Common.{rules, ◌≡◌, ℕ, suc, ◌+◌, ◌*◌, ◌≤◌, Bool, true, List, Option, Result, length, take, reverse, None, Some, Ok, Err, ap}
 use Rattle.std.proofs.Common.{sym, ◌∙◌, subst, arith, inl, inr}
 use Rattle.std.proofs.Math.Nat.{mul-le-mul_right}
 use Rattle.std.specs.List.{slice_get}
@@ -14,6 +14,8 @@ use Rattle.node_table.specs.Table.{live_nodes}
 use Rattle.operations.specs.Entries.{Entry}
 use Rattle.schedule_plan.specs.declared.plan.Move.{Move}
 use Rattle.schedule_plan.specs.Plan.{Stage, after_move, after_moves, no_stage}
+use Rattle.term_runner.specs.Moves.{Moved}
+use Rattle.term_runner.specs.Terms.{IsAtStage}
 use Rattle.term_runner.specs.Price.{IsLeanAtEnd, IsMovePrice, IsPaid, most_nodes}
 use Rattle.term_runner.specs.Width.{HasWidth, HoldsAtMost}
 use Rattle.term_runner.specs.Nodes.{RunsShort}
@@ -22,7 +24,7 @@ use Rattle.term_runner.specs.Held.{IsReady, top_node}
 use Rattle.term_runner.specs.Recovered.{IsRecovered}
 use Rattle.node_table.specs.HandedOn.{no_error, came_from, if_handed, no_answer, same_error}
 use Rattle.term_runner.proofs.Stacks.{top_stands, top_value}
-use Rattle.term_runner.proofs.Between.{at_first, at_last, next_at, some_at}
+use Rattle.term_runner.proofs.Between.{IsNext, at_first, at_last, next_at, some_at}
 use Rattle.term_runner.specs.Caches.{all_entries}
 use Rattle.term_runner.proofs.Giving.{units_none}
 use Rattle.term_runner.proofs.Least.{recovered}
@@ -64,22 +66,22 @@ moves-init g c =
       no_empty = no_change table;
     }
 
-pub take_move-requires-clause-ready : goal.take_move-requires-clause-ready
-take_move-requires-clause-ready g c = c.moves.invariant.ready
-
-pub take_move-requires-clause-settled : goal.take_move-requires-clause-settled
-take_move-requires-clause-settled g c = c.moves.invariant.settled
-
-pub take_move-requires-clause-own : goal.take_move-requires-clause-own
-take_move-requires-clause-own g c = c.moves.invariant.own
-
-pub take_move-requires-clause-possible : goal.take_move-requires-clause-possible
-take_move-requires-clause-possible g c =
-    let between = c.moves.invariant.between in
+pub take_move-requires : goal.take_move-requires
+take_move-requires g c =
+    let held = c.moves.invariant in
+    let between = held.between in
     let at : slice_get c.args.plan.now c.moves.i ≡ Some c.in-Some.step = sym c.get.ensures ∙ c.in-Some.is in
     let next = next_at c.args.formula.now c.args.plan.now c.moves.i c.moves.self.table.graph c.moves.self.table.book.state.live c.moves.self.out.items
     c.moves.self.trail c.requires.plan.last c.in-Some.step c.requires.plan.possible at between in
-    (between.stage, next.next, between.at, next.is)
+    record {
+      ready = held.ready;
+      settled = held.settled;
+      own = held.own;
+      stage = between.stage;
+      next = next.next;
+      at = between.at;
+      leads = next.is;
+    }
 
 -- at each move of the plan no more parts are in hand than its width says
 at_move : (formula : Formula) (plan : List Move) (order : List ℕ) (i : ℕ) (step : Move) (before after : Stage) → slice_get plan i
@@ -95,6 +97,20 @@ at_move formula plan order i step before after at reached leads width has more =
       more = more;
     })
 
+-- the move that was taken, from this stage
+next_here : (g : Over) (c : After-take_move g) → IsNext c.args.formula.now c.args.plan.now c.moves.i c.moves.invariant.between.stage
+    c.in-Some.step c.requires.plan.last
+next_here g c =
+    let between = c.moves.invariant.between in
+    next_at c.args.formula.now c.args.plan.now c.moves.i c.moves.self.table.graph c.moves.self.table.book.state.live c.moves.self.out.items
+    c.moves.self.trail c.requires.plan.last c.in-Some.step c.requires.plan.possible (sym c.get.ensures ∙ c.in-Some.is) between
+
+moved_here : (g : Over) (c : After-take_move g) (r : Result Bool TableError)
+    → ((stage next : Stage) → IsAtStage c.args.formula.now c.moves.self stage → after_move c.args.formula.now stage c.in-Some.step ≡ Some next
+    → Moved c.args.formula.now stage next c.moves.self c.take_move.new.self r)
+    → Moved c.args.formula.now c.moves.invariant.between.stage (next_here g c).next c.moves.self c.take_move.new.self r
+moved_here g c r moved = moved c.moves.invariant.between.stage (next_here g c).next c.moves.invariant.between.at (next_here g c).is
+
 -- a move gives so many numbers, however it ended
 near_by : (g : Over) (c : After-take_move g) (width price : ℕ)
     → HasWidth c.args.formula.now c.args.self.now.table.graph.order c.args.plan.now width
@@ -107,13 +123,12 @@ near_by g c width price has is =
     let between = c.moves.invariant.between in
     let order = c.moves.invariant.continues.order in
     let at : slice_get plan c.moves.i ≡ Some c.in-Some.step = sym c.get.ensures ∙ c.in-Some.is in
-    let next = next_at formula plan c.moves.i table.graph table.book.state.live c.moves.self.out.items c.moves.self.trail c.requires.plan.last
-    c.in-Some.step c.requires.plan.possible at between in
+    let next = next_here g c in
     let most : HoldsAtMost formula table.graph.order between.stage next.next width =
     subst (λ (o : List ℕ). HoldsAtMost formula o between.stage next.next width) (sym order)
     (at_move formula plan c.args.self.now.table.graph.order c.moves.i c.in-Some.step between.stage next.next at between.front next.is width has)
     in
-    c.take_move.ensures.price between.stage next.next between.at next.is c.args.capacity width price c.moves.invariant.size
+    (moved_here g c _ c.take_move.ensures.moved).price c.args.capacity width price c.moves.invariant.size
     (subst (λ (vars : ℕ). IsMovePrice vars c.args.capacity width price) (sym (ap length order)) is) most
 
 -- and all so far
@@ -141,6 +156,7 @@ moves-preserved g c =
     ≡ Some next.next = moved_on c.args.formula.now c.args.plan.now c.moves.i c.in-Some.step no_stage between.stage next.next at
     between.front next.is in
     let shift : suc c.moves.i ≡ c.moves.i + 1 = omega arith in
+    let own = c.in_ok-take_move.ensures.moved between.stage next.next between.at next.is in
     let front : after_moves c.args.formula.now no_stage (take (c.moves.i + 1) c.args.plan.now)
     ≡ Some next.next = subst (λ (n : ℕ). after_moves c.args.formula.now no_stage (take n c.args.plan.now)
     ≡ Some next.next) shift moved in
@@ -148,7 +164,7 @@ moves-preserved g c =
       few = omega (arith, c.moves-test.true, c.len-i-end.ensures);
       counted = omega (arith, c.note.ensures, c.moves.invariant.counted);
       price = λ width price has is. so_far g (goal.at.moves-preserved g c).After-take_move width price has is;
-      size = c.in_ok-take_move.ensures.sizes ∙ c.moves.invariant.size;
+      size = own.sizes ∙ c.moves.invariant.size;
       tidy = c.in_ok-take_move.ensures.tidy (ap Ok c.if-branch.false);
       left = λ width has.
           let before = c.moves.self.table in
@@ -157,7 +173,7 @@ moves-preserved g c =
           let most_here = subst (λ (o : List ℕ). HoldsAtMost c.args.formula.now o between.stage next.next width)
           (sym c.moves.invariant.continues.order) most in
           let ordered = c.moves.invariant.ready.sound.tied.ordered in
-          elim (c.in_ok-take_move.ensures.left between.stage next.next between.at next.is (ap Ok c.if-branch.false)) [
+          elim own.left [
             | inl same ↦ subst (λ (n : ℕ). n ≤ width) (sym same) (c.moves.invariant.left width has)
             | inr were ↦ elim were [
               | inl here ↦ few_left c.subfunction_law.ensures c.canonical_law.ensures c.args.formula.now before.graph.order ordered
@@ -172,15 +188,15 @@ moves-preserved g c =
         stage = next.next;
         front = front;
         rest = next.rest ∙ sym c.requires.plan.possible;
-        at = c.in_ok-take_move.ensures.held between.stage next.next between.at next.is c.if-branch.false;
+        at = own.held c.if-branch.false;
       };
-      ready = c.in_ok-take_move.ensures.ready;
-      settled = c.in_ok-take_move.ensures.settled (ap Ok c.if-branch.false);
-      own = c.in_ok-take_move.ensures.own c.if-branch.false;
+      ready = own.ready;
+      settled = own.settled c.if-branch.false;
+      own = own.own c.if-branch.false;
       continues = c.steps_law.ensures.go_on c.args.self.now.table c.moves.self.table c.take_move.new.self.table c.moves.invariant.continues
-          c.in_ok-take_move.ensures.leaves;
+          own.leaves;
       no_empty = further_empty c.args.self.now.table c.moves.self.table c.take_move.new.self.table c.moves.invariant.no_empty
-          (c.in_ok-take_move.ensures.no_empty no_error (no_true _ c.if-branch.false));
+          (own.no_empty no_error (no_true _ c.if-branch.false));
     }
 
 pub recover-requires-clause-node : goal.recover-requires-clause-node
@@ -249,7 +265,7 @@ returns-in_err-take_move-clause-leaves g c =
     subst (λ (error : Option TableError). Leaves old new error)
     (sym (error_handed _ c.in_err-take_move.field-0.0 c.from_residual.ensures.1))
     (c.steps_law.ensures.leave old mid new
-    (Some c.in_err-take_move.field-0.0) c.moves.invariant.continues c.in_err-take_move.ensures.leaves)
+    (Some c.in_err-take_move.field-0.0) c.moves.invariant.continues (moved_here g (goal.at.returns-in_err-take_move-clause-leaves g c).After-take_move _ c.in_err-take_move.ensures.moved).leaves)
 
 pub returns-in_err-take_move-clause-short : goal.returns-in_err-take_move-clause-short
 returns-in_err-take_move-clause-short g c is =
@@ -263,8 +279,9 @@ returns-in_err-take_move-clause-short g c is =
     c.requires.plan.last c.in-Some.step c.requires.plan.possible at between in
     let limit = ap Err (came_from _ c.in_err-take_move.field-0.0 NodeLimit c.from_residual.ensures.1 is) in
     let same_order = c.moves.invariant.continues.order in
-    let full = c.in_err-take_move.ensures.full between.stage next.next between.at next.is limit in
-    let lacks = c.in_err-take_move.ensures.lacks between.stage next.next between.at next.is limit in
+    let own = c.in_err-take_move.ensures.moved between.stage next.next between.at next.is in
+    let full = own.full limit in
+    let lacks = own.lacks limit in
     subst (λ (o : List ℕ). RunsShort formula o plan new) same_order
     (short_at_limit c.subfunction_law.ensures formula c.moves.self.table.graph.order c.moves.invariant.ready.sound.tied.ordered plan c.moves.i
     between.stage next.next
@@ -273,7 +290,11 @@ returns-in_err-take_move-clause-short g c is =
 pub returns-then-branch-clause-leaves : goal.returns-then-branch-clause-leaves
 returns-then-branch-clause-leaves g c =
     c.steps_law.ensures.go_on c.args.self.now.table c.moves.self.table c.take_move.new.self.table c.moves.invariant.continues
-    c.in_ok-take_move.ensures.leaves
+    (moved_here g (goal.at.returns-then-branch-clause-leaves g c).After-take_move _ c.in_ok-take_move.ensures.moved).leaves
+
+pub returns-then-branch-clause-found : goal.returns-then-branch-clause-found
+returns-then-branch-clause-found g c =
+    (moved_here g (goal.at.returns-then-branch-clause-found g c).After-take_move _ c.in_ok-take_move.ensures.moved).refuted c.if-branch.true
 
 pub returns-in_err-model-clause-leaves : goal.returns-in_err-model-clause-leaves
 returns-in_err-model-clause-leaves g c =
@@ -291,15 +312,14 @@ nodes_so_far g c width has =
     let table = c.moves.self.table in
     let between = c.moves.invariant.between in
     let at : slice_get plan c.moves.i ≡ Some c.in-Some.step = sym c.get.ensures ∙ c.in-Some.is in
-    let next = next_at formula plan c.moves.i table.graph table.book.state.live c.moves.self.out.items c.moves.self.trail c.requires.plan.last
-    c.in-Some.step c.requires.plan.possible at between in
+    let next = next_here g c in
     let most : HoldsAtMost formula table.graph.order between.stage next.next width =
     subst (λ (o : List ℕ). HoldsAtMost formula o between.stage next.next width) (sym c.moves.invariant.continues.order)
     (at_move formula plan c.args.self.now.table.graph.order c.moves.i c.in-Some.step between.stage next.next at between.front next.is width has)
     in
     moved_few (live_nodes table.graph) (live_nodes c.take_move.new.self.table.graph) c.moves.self.left width c.moves.invariant.tidy
     (c.moves.invariant.left width has)
-    (c.take_move.ensures.few between.stage next.next between.at next.is width most)
+    ((moved_here g c _ c.take_move.ensures.moved).few width most)
 
 -- a move that was taken keeps within the price, however it ended
 paid_so_far : (g : Over) (c : After-take_move g) (width price : ℕ)
@@ -330,11 +350,12 @@ returns-in_err-take_move-clause-paid g c width price has is =
     let kind = IsPaid (levels first.graph) first.inputs (length c.args.plan.now) c.args.capacity width price in
     subst (λ (error : Option TableError). LeavesKind first new kind error) (sym (error_handed _ c.in_err-take_move.field-0.0 c.from_residual.ensures.1))
     (paid_so_far g (goal.at.returns-in_err-take_move-clause-paid g c).After-take_move width price has is
-    (Some c.in_err-take_move.field-0.0) c.in_err-take_move.ensures.leaves)
+    (Some c.in_err-take_move.field-0.0) (moved_here g (goal.at.returns-in_err-take_move-clause-paid g c).After-take_move _ c.in_err-take_move.ensures.moved).leaves)
 
 pub returns-then-branch-clause-paid : goal.returns-then-branch-clause-paid
 returns-then-branch-clause-paid g c width price has is = paid_so_far g
-    (goal.at.returns-then-branch-clause-paid g c).After-take_move width price has is None c.in_ok-take_move.ensures.leaves
+    (goal.at.returns-then-branch-clause-paid g c).After-take_move width price has is None
+    (moved_here g (goal.at.returns-then-branch-clause-paid g c).After-take_move _ c.in_ok-take_move.ensures.moved).leaves
 
 -- behind the last move
 paid_at_last : (g : Over) (c : After-few_law-2 g) (width price : ℕ)
@@ -390,7 +411,7 @@ returns-in_err-take_move-clause-no_empty g c =
     let came = c.in_err-take_move.field-0.0 in
     if_handed _ came _ c.from_residual.ensures.1
     (λ whole. further_empty c.args.self.now.table c.moves.self.table c.take_move.new.self.table c.moves.invariant.no_empty
-    (c.in_err-take_move.ensures.no_empty (λ torn. whole (same_error torn)) (λ is. no_error (sym is))))
+    ((moved_here g (goal.at.returns-in_err-take_move-clause-no_empty g c).After-take_move _ c.in_err-take_move.ensures.moved).no_empty (λ torn. whole (same_error torn)) (λ is. no_error (sym is))))
 
 pub returns-in_err-model-clause-no_empty : goal.returns-in_err-model-clause-no_empty
 returns-in_err-model-clause-no_empty g c = if_handed _ OutOfMemory _ c.from_residual-in_err-model.ensures.1 (λ whole. c.moves.invariant.no_empty)
