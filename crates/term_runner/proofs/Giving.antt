@@ -115,23 +115,18 @@ module _ {S : Type 0} where
   }
 
   -- the unit of a conjunction of two terms
-  pub two_give : (old mid new : TableState S) (before after : List Entry) (u v : HeldTerm) (rest : List HeldTerm) (unit : Justification)
-      → IsSound old → IsSound mid → HasUnits old before (v ∷ u ∷ rest)
+  pub two_give : (old mid new : TableState S) (before after : List Entry) (u v : HeldTerm) (unit : Justification) → IsSound mid
+      → ((id : ℕ) → u.unit ≡ Clause id → IsAccounted mid after id → ⊥) → ((id : ℕ) → v.unit ≡ Clause id → IsAccounted mid after id → ⊥)
       → KeepsEntries old mid before after None → Accounts old mid before after → old.book.state.top ≤ mid.book.state.top
       → mid.book.state.top ≤ new.book.state.top → new.retired ≡ mid.retired
       → ((id : ℕ) → IsAddedTo new id → IsAddedTo mid id ⊎ (unit ≡ Clause id)) → (unit ≡ u.unit)
       ⊎ ((unit ≡ v.unit) ⊎ IsNewJustification mid.book.state new.book.state unit)
       → (unit ≡ u.unit) ⊎ ((unit ≡ v.unit) ⊎ ((id : ℕ) → unit ≡ Clause id → IsAddedTo new id))
       → GivesUnit old new before after (v ∷ u ∷ []) unit
-  two_give old mid new before after u v rest unit sound still has keeps accounts less more same alone given added =
+  two_give old mid new before after u v unit still free_u free_v keeps accounts less more same alone given added =
       given_behind old mid new before after (v ∷ u ∷ []) unit accounts keeps.retires (keeps.named none_whole) less more same alone
       (of_two mid new u v unit given added)
-      (unit_own mid new after u.unit v.unit unit still (keeps.fits none_whole) same
-      (λ id is. free id (later_unit v (u ∷ rest) id (first_unit u rest id is)))
-      (λ id is. free id (first_unit v (u ∷ rest) id is)) given)
-    where
-      free : (id : ℕ) → IsUnitOf (v ∷ u ∷ rest) id → IsAccounted mid after id → ⊥
-      free id is = free_after old mid before after (v ∷ u ∷ rest) sound has keeps.retires (keeps.named none_whole) id is
+      (unit_own mid new after u.unit v.unit unit still (keeps.fits none_whole) same free_u free_v given)
 
   -- that of a node that a term implies
   pub one_give : (old mid new : TableState S) (before after : List Entry) (u : HeldTerm) (unit : Justification) → IsSound mid

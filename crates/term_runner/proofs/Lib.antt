@@ -38,3 +38,4 @@ pub mod NoEmpty
 pub mod Due
 pub mod Tried
 pub mod Moved
+pub mod Placed

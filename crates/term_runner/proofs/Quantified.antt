@@ -36,31 +36,31 @@ module _ (graph : Graph) (reduced : IsReduced graph) (ordered : IsOrder graph.or
         (variable_at graph i))
   ]
 
-  -- a term's node with one variable set
-  set_value : (formula : Formula) (term : Term) (u : Node) → is_node graph u ≡ true
-      → ((a : Assignment) → value_of graph (by_level graph.order a) u ≡ term_holds formula a term)
+  -- a node with one variable set
+  set_value : (holds : Assignment → Bool) (u : Node) → is_node graph u ≡ true
+      → ((a : Assignment) → value_of graph (by_level graph.order a) u ≡ holds a)
       → (a : Assignment) (b : Levels) → ((i : ℕ) → i < levels graph → b i ≡ by_level graph.order a i) → (value : Bool)
-      → value_of graph (with_level b level value) u ≡ term_holds formula (with_value a x value) term
-  set_value formula term u stands same a b agree value =
+      → value_of graph (with_level b level value) u ≡ holds (with_value a x value)
+  set_value holds u stands same a b agree value =
       agree_within graph reduced ordered (levels graph) (with_level b level value) (by_level graph.order (with_value a x value)) u stands
       (λ i small. (λ k. if i == level then value else agree i small k) ∙ set_there a value i small)
       ∙ same (with_value a x value)
 
-  -- the quantified term, by assignments and by levels
-  pub quantified_value : (formula : Formula) (term : Term) (u : Node) → is_node graph u ≡ true
-      → ((a : Assignment) → value_of graph (by_level graph.order a) u ≡ term_holds formula a term)
-      → (a : Assignment) → quantification_of graph u level (by_level graph.order a) ≡ term_holds formula a (some_value x term)
-  quantified_value formula term u stands same a =
-      λ k. set_value formula term u stands same a (by_level graph.order a) (λ i small. refl) true k
-      || set_value formula term u stands same a (by_level graph.order a) (λ i small. refl) false k
+  -- the quantified node, by assignments and by levels
+  pub quantified_value : (holds : Assignment → Bool) (u : Node) → is_node graph u ≡ true
+      → ((a : Assignment) → value_of graph (by_level graph.order a) u ≡ holds a) → (a : Assignment)
+      → quantification_of graph u level (by_level graph.order a) ≡ (holds (with_value a x true) || holds (with_value a x false))
+  quantified_value holds u stands same a =
+      λ k. set_value holds u stands same a (by_level graph.order a) (λ i small. refl) true k
+      || set_value holds u stands same a (by_level graph.order a) (λ i small. refl) false k
 
   pub quantified_function : (formula : Formula) (term : Term) (u : Node) → is_node graph u ≡ true
       → ((a : Assignment) → value_of graph (by_level graph.order a) u ≡ term_holds formula a term)
       → quantification_of graph u level ≡ term_function formula graph.order (some_value x term)
   quantified_function formula term u stands same = λ k a.
-      set_value formula term u stands same (by_variable graph.order a) a
+      set_value (λ a. term_holds formula a term) u stands same (by_variable graph.order a) a
       (λ i small. sym (value_there graph reduced ordered a i small)) true k
-      || set_value formula term u stands same (by_variable graph.order a) a
+      || set_value (λ a. term_holds formula a term) u stands same (by_variable graph.order a) a
       (λ i small. sym (value_there graph reduced ordered a i small)) false k
 
 -- where a node holds, so does its quantification
@@ -85,20 +85,3 @@ implies_some graph u level a holds = go (a level) refl
     go true own = (λ k. same true own k || value_of graph (with_level a level false) u)
     go false own = (λ k. value_of graph (with_level a level true) u || same false own k)
         ∙ or_true (value_of graph (with_level a level true) u)
-
--- the quantified term, with its unit
-module _ (graph : Graph) (reduced : IsReduced graph) (ordered : IsOrder graph.order) (level x : ℕ) (within : level
-    < levels graph) (at : variable_at graph level ≡ x) where
-  pub quantified_held : (formula : Formula) (live : Live) (u : HeldTerm) (term : Term) (w : Node) (unit : Justification)
-      → IsHeld formula graph live u term → Quantified graph u.node level w
-      → IsJustified live (atom_of graph w ∷ []) unit → w ≢ False
-      → IsHeld formula graph live (record { node = w; unit = unit }) (some_value x term)
-  quantified_held formula live u term w unit held quantified proved some = record {
-    is = record {
-      stands = quantified.stands;
-      value = λ a. quantified.value (by_level graph.order a)
-          ∙ quantified_value graph reduced ordered level x within at formula term u.node held.is.stands held.is.value a;
-      proved = proved;
-    };
-    not_false = some;
-  }

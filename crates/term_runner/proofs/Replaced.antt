@@ -9,7 +9,7 @@ use Rattle.node_table.specs.Laws.{StepByStep}
 use Rattle.node_table.specs.Table.{TableState, Extends, IsAddedTo, IsSound}
 use Rattle.operations.specs.Entries.{Entry, IsAccounted, NamesOnly, RetiresOwn}
 use Rattle.term_runner.specs.declared.held.HeldTerm.{HeldTerm}
-use Rattle.term_runner.specs.Held.{GivesUnit, HasUnits, IsUnitOf, RetiresBut, UnitsApart}
+use Rattle.term_runner.specs.Held.{GivesUnit, HasUnits, IsUnitOf, RetiresBut, RetiresUnits, UnitsApart}
 use Rattle.term_runner.proofs.OwnUnits.{unaccounted_after, within_top}
 
 -- the unit of a term of the one part of the stack, or of the other
@@ -46,19 +46,12 @@ apart_rest : (one rest : List HeldTerm) → UnitsApart (one ++ rest) → UnitsAp
 apart_rest [] rest apart = apart
 apart_rest (held ∷ one) rest apart = apart_rest one rest apart.1
 
-apart_parts : (one rest : List HeldTerm) → UnitsApart (one ++ rest) → (id : ℕ) → IsUnitOf one id → IsUnitOf rest id → ⊥
+pub apart_parts : (one rest : List HeldTerm) → UnitsApart (one ++ rest) → (id : ℕ) → IsUnitOf one id → IsUnitOf rest id → ⊥
 apart_parts [] rest apart id is other = no_unit id is
 apart_parts (held ∷ one) rest apart id is other = elim (which_unit held one id is) [
   | inl first ↦ apart.0 id first (unit_right one rest id other)
   | inr later ↦ apart_parts one rest apart.1 id later other
 ]
-
--- The operands' units are retired, but for one that is kept, and nothing else.
-pub record RetiresUnits {S : Type 0} (old new : TableState S) (operands : List HeldTerm) (kept : Justification) : Type 0 where
-  pub same : new ≡ record old { retired = new.retired }
-  pub still : (id : ℕ) → Contains old.retired id → Contains new.retired id
-  pub only : (id : ℕ) → Contains new.retired id → Contains old.retired id ⊎ (IsUnitOf operands id × (kept ≡ Clause id → ⊥))
-  pub gone : (id : ℕ) → IsUnitOf operands id → Contains new.retired id ⊎ (kept ≡ Clause id)
 
 module _ {S : Type 0} where
   pub none_retired : (table : TableState S) (kept : Justification) → RetiresUnits table table [] kept
@@ -72,22 +65,25 @@ module _ {S : Type 0} where
   -- one operand more
   pub one_more_retired : (old mid new : TableState S) (operands : List HeldTerm) (held : HeldTerm) (kept : Justification)
       → RetiresUnits old mid operands kept → RetiresBut mid new held.unit kept
-      → RetiresUnits old new (held ∷ operands) kept
+      → RetiresUnits old new (operands ++ held ∷ []) kept
   one_more_retired old mid new operands held kept before more = record {
     same = more.same ∙ ap (λ (t : TableState S). record t { retired = new.retired }) before.same;
     still = λ id there. more.still id (before.still id there);
     only = λ id there. elim (more.only id there) [
       | inl was ↦ elim (before.only id was) [
         | inl at_first ↦ inl at_first
-        | inr one ↦ inr (later_unit held operands id one.0, one.1)
+        | inr one ↦ inr (unit_left operands (held ∷ []) id one.0, one.1)
       ]
-      | inr this ↦ inr (first_unit held operands id this.0, this.1)
+      | inr this ↦ inr (unit_right operands (held ∷ []) id (first_unit held [] id this.0), this.1)
     ];
-    gone = λ id is. elim (which_unit held operands id is) [
-      | inl first ↦ more.gone id first
-      | inr later ↦ elim (before.gone id later) [
+    gone = λ id is. elim (either_unit operands (held ∷ []) id is) [
+      | inl earlier ↦ elim (before.gone id earlier) [
         | inl there ↦ inl (more.still id there)
         | inr own ↦ inr own
+      ]
+      | inr last ↦ elim (which_unit held [] id last) [
+        | inl this ↦ more.gone id this
+        | inr none ↦ absurd (no_unit id none)
       ]
     ];
   }

@@ -1,7 +1,7 @@
 -- A run between two moves: the table is ready, and its stack holds the plan's terms.
 use Rattle.std.specs.Prelude.{◌≡◌, ◌≢◌, ◌⊎◌, ◌<◌, ◌+◌, ℕ, Bool, true, List, [], ◌∷◌, length, Some, Result, Ok, Err, Contains, IsTrue}
 use Rattle.std.specs.Prelude.{IsFalse}
-use Rattle.std.specs.Prelude.{reverse, slice_index_or}
+use Rattle.std.specs.Prelude.{reverse, slice_index_or, take, drop, None}
 use Rattle.cnf_base.specs.Truth.{Assignment}
 use Rattle.cnf_base.specs.Formula.{Formula}
 use Rattle.lrat_rules.specs.State.{Live, clause_at}
@@ -14,6 +14,7 @@ use Rattle.node_table.specs.declared.node.Justification.TheVariants.{Clause, Tri
 use Rattle.node_table.specs.Diagram.{Graph, is_node, levels}
 use Rattle.node_table.specs.Value.{by_level, value_of}
 use Rattle.node_table.specs.Table.{TableState, AddsNoEmpty, IsAddedTo, IsSound}
+use Rattle.node_table.specs.Progress.{Steps}
 use Rattle.operations.specs.Entries.{Entry, Fits, IsAccounted, NamesOnly, RetiresOwn}
 use Rattle.clause_terms.specs.Term.{IsTerm}
 use Rattle.schedule_plan.specs.Plan.{Stage, Term, term_holds}
@@ -104,6 +105,26 @@ pub record RetiresBut {S : Type 0} (old new : TableState S) (unit kept : Justifi
   pub still : (id : ℕ) → Contains old.retired id → Contains new.retired id
   pub only : (id : ℕ) → Contains new.retired id → Contains old.retired id ⊎ ((unit ≡ Clause id) × (kept ≡ Clause id → ⊥))
   pub gone : (id : ℕ) → unit ≡ Clause id → Contains new.retired id ⊎ (kept ≡ Clause id)
+
+-- The operands' units are retired, but for one that is kept, and nothing else.
+pub record RetiresUnits {S : Type 0} (old new : TableState S) (operands : List HeldTerm) (kept : Justification) : Type 0 where
+  pub same : new ≡ record old { retired = new.retired }
+  pub still : (id : ℕ) → Contains old.retired id → Contains new.retired id
+  pub only : (id : ℕ) → Contains new.retired id → Contains old.retired id ⊎ (IsUnitOf operands id × (kept ≡ Clause id → ⊥))
+  pub gone : (id : ℕ) → IsUnitOf operands id → Contains new.retired id ⊎ (kept ≡ Clause id)
+
+-- The units of these terms were added, none of them is retired yet, and each is that of one term.
+pub record MayGiveUp {S : Type 0} (table : TableState S) (operands : List HeldTerm) : Type 0 where
+  pub added : (id : ℕ) → IsUnitOf operands id → IsAddedTo table id
+  pub unretired : (id : ℕ) → IsUnitOf operands id → Contains table.retired id → ⊥
+  pub apart : UnitsApart operands
+
+-- A term whose node isn't False stands in the place of so many last ones, whose units are retired, but for one that is its own.
+pub record IsPlaced {S : Type 0} (operands : ℕ) (held : HeldTerm) (old new : TableState S) (before after : List HeldTerm) : Type 0 where
+  pub some : held.node ≢ False
+  pub out : reverse after ≡ held ∷ drop operands (reverse before)
+  pub retires : RetiresUnits old new (take operands (reverse before)) held.unit
+  pub steps : Steps old new 0 None
 
 -- The table is sound, the entries of the caches fit it, and the clauses of the formula, none of them empty, are live under
 -- 1, 2, ..

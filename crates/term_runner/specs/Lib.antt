@@ -10,6 +10,7 @@ pub mod Opened
 pub mod Held
 pub mod Terms
 pub mod Moves
+pub mod Finds
 pub mod Tidy
 pub mod Examples
 pub mod Trial

@@ -13,27 +13,6 @@ pub struct HeldTerm {
     pub unit: Justification,
 }
 
-/// Stacks a term, unless its node is False: then its unit is the empty clause. Says whether it is.
-pub(crate) fn put(
-    stack: &mut Vec<HeldTerm>,
-    node: Node,
-    unit: Justification,
-) -> Result<bool, TableError>
-    ensures refuted { IfOk result (λ refuted. IsTrue refuted → node ≡ False) }
-    ensures stacked { IfOk result (λ refuted. refuted ≡ false → (node ≢ False)
-        × (stack.new.items ≡ stack.old.items ++ record { node = node; unit = unit } ∷ [])) }
-    ensures failed { IfErr result (λ e. e ≡ OutOfMemory) }
-    ensures unchanged { IsErr result → stack.new.items ≡ stack.old.items }
-{
-    if matches!(node, Node::False) {
-        return Ok(true);
-    }
-    match stack.push(HeldTerm { node, unit }) {
-        Ok(()) => Ok(false),
-        Err(_) => Err(TableError::OutOfMemory),
-    }
-}
-
 /// The last term.
 pub(crate) fn last_term(stack: &[HeldTerm]) -> Option<HeldTerm>
     ensures { MatchOption result (length stack.now < 1) (λ u. (rest : List HeldValue) × (reverse stack.now ≡ u ∷ rest)) }
@@ -55,24 +34,4 @@ pub(crate) fn last_two(stack: &[HeldTerm]) -> Option<(HeldTerm, HeldTerm)>
         Some(u) => Some((u, *v)),
         None => None,
     }
-}
-
-/// A term takes the place of the last one, without memory.
-pub(crate) fn replace_last(stack: &mut Vec<HeldTerm>, node: Node, unit: Justification)
-    requires { (last : HeldValue) × (rest : List HeldValue) × (reverse stack.old.items ≡ last ∷ rest) }
-    ensures { (last : HeldValue) (rest : List HeldValue) → reverse stack.old.items ≡ last ∷ rest → reverse stack.new.items
-        ≡ record { node = node; unit = unit } ∷ rest }
-{
-    let _ = stack.pop();
-    stack.push_reserved(HeldTerm { node, unit });
-}
-
-/// A term takes the place of the two last ones.
-pub(crate) fn replace_two(stack: &mut Vec<HeldTerm>, node: Node, unit: Justification)
-    requires { (last second : HeldValue) × (rest : List HeldValue) × (reverse stack.old.items ≡ last ∷ second ∷ rest) }
-    ensures { (last second : HeldValue) (rest : List HeldValue) → reverse stack.old.items ≡ last ∷ second ∷ rest → reverse stack.new.items
-        ≡ record { node = node; unit = unit } ∷ rest }
-{
-    let _ = stack.pop();
-    replace_last(stack, node, unit);
 }

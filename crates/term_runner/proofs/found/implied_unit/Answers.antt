@@ -21,9 +21,9 @@ use Rattle.term_runner.proofs.Giving.{one_give}
 use Rattle.term_runner.proofs.Pairs.{adds_pairs}
 use Rattle.term_runner.proofs.Stacks.{both_ok, if_ok, justified_kept}
 use Rattle.term_runner.proofs.Units.{not_both}
-use Rattle.term_runner.proofs.quantification.implied_unit.Given.{Over}
-use Rattle.term_runner.proofs.quantification.implied_unit.Goals as goal
-use Rattle.term_runner.proofs.quantification.implied_unit.Goals.{After-implies}
+use Rattle.term_runner.proofs.found.implied_unit.Given.{Over}
+use Rattle.term_runner.proofs.found.implied_unit.Goals as goal
+use Rattle.term_runner.proofs.found.implied_unit.Goals.{After-implies}
 
 pub unreachable-requires : goal.unreachable-requires
 unreachable-requires g c =
@@ -43,11 +43,11 @@ unit_of_implied-requires g c =
     let u = c.args.u.now in
     record {
       sound = c.in_ok-just.ensures.steps.leaves.sound;
-      first = c.growth_law.ensures.stands old.graph mid.graph extends.nodes u.node c.requires.first;
+      first = c.growth_law.ensures.stands old.graph mid.graph extends.nodes u.node c.requires.operand.stands;
       second = c.growth_law.ensures.stands old.graph mid.graph extends.nodes c.args.w c.requires.second;
-      first_open = c.requires.some;
+      first_open = c.requires.operand.not_false;
       first_unit = justified_kept c.growth_law.ensures old.graph mid.graph c.requires.sound.tied.reduced extends.nodes old.book.state.live
-          mid.book.state.live extends.clauses u.node c.requires.first u.unit c.requires.unit;
+          mid.book.state.live extends.clauses u.node c.requires.operand.stands u.unit c.requires.operand.unit;
       implied = subst (IsDecided mid.graph mid.book.state.live u.node c.args.w) c.in-Some.is c.in_ok-just.ensures.decided;
     }
 
@@ -69,7 +69,7 @@ returns-clause-own g c =
     let u = c.args.u.now.unit in
     let own : (id : ℕ) → u ≡ Clause id → IsAccounted mid kept id → ⊥ = λ id is.
     unaccounted_after old mid (all_entries c.args.caches.now) kept id
-    (unit_within old c.requires.sound (atom_of old.graph c.args.u.now.node) u id c.requires.unit is) (c.requires.own id is)
+    (unit_within old c.requires.sound (atom_of old.graph c.args.u.now.node) u id c.requires.operand.unit is) (c.requires.operand.own id is)
     done.keeps.retires (done.keeps.named none_whole) in
     if_ok c.unit_of_implied.result (λ unit. (unit ≡ u) ⊎ IsNewJustification mid.book.state new.book.state unit) (λ unit. (id : ℕ) → unit ≡ Clause id
     → IsAccounted new kept id → ⊥)
@@ -114,8 +114,8 @@ returns-clause-gives g c =
     let u = c.args.u.now in
     let given = c.unit_of_implied.ensures in
     let free : (id : ℕ) → u.unit ≡ Clause id → IsAccounted mid after id → ⊥ = λ id is.
-    unaccounted_after old mid before after id (unit_within old c.requires.sound (atom_of old.graph u.node) u.unit id c.requires.unit is)
-    (c.requires.own id is)
+    unaccounted_after old mid before after id (unit_within old c.requires.sound (atom_of old.graph u.node) u.unit id c.requires.operand.unit is)
+    (c.requires.operand.own id is)
     done.keeps.retires (done.keeps.named none_whole) in
     both_ok c.unit_of_implied.result
     (λ unit. (unit ≡ u.unit) ⊎ IsNewJustification mid.book.state new.book.state unit)
@@ -139,7 +139,7 @@ pairs_found : (g : Over) (c : After-implies g) (width : ℕ) → HaveRoom c.args
     → AddsAtMost (2 * (width * width)) c.args.table.now c.implies.new.table
 pairs_found g c width room few_u few_w =
     adds_pairs c.subfunction_law.ensures c.canonical_law.ensures c.args.table.now c.implies.new.table c.requires.sound.tied.reduced
-    c.args.u.now.node c.args.w c.requires.first c.requires.second c.args.caches.now width room
+    c.args.u.now.node c.args.w c.requires.operand.stands c.requires.second c.args.caches.now width room
     few_u few_w c.implies.ensures.price
 
 pub returns-in_err-just-clause-pairs : goal.returns-in_err-just-clause-pairs

@@ -1,0 +1,202 @@
+-- A term that a call found stands in the place of its operands, and a move is done; or it wasn't found.
+use Rattle.std.proofs.Common.{◌≡◌, ◌∙◌, ◌⊎◌, ◌++◌, ◌+◌, ◌*◌, ◌≤◌, ℕ, Bool, true, false, List, [], ◌∷◌, Contains, length, reverse, Option, None, Some}
+use Rattle.std.proofs.Common.{Result, Ok, Err, refl, sym, ap, subst, arith, inl, inr}
+use Rattle.std.specs.Prelude.{◌≢◌, IfOk, IsTrue}
+use Rattle.cnf_base.specs.Formula.{Formula}
+use Rattle.lrat_rules.specs.State.{clause_at}
+use Rattle.node_table.specs.declared.error.TableError.{TableError}
+use Rattle.node_table.specs.declared.error.TableError.TheVariants.{NodeLimit, OutOfMemory, WriteFault}
+use Rattle.node_table.specs.declared.node.Node.{Node}
+use Rattle.node_table.specs.declared.node.Node.TheVariants.{False}
+use Rattle.node_table.specs.Diagram.{Graph}
+use Rattle.node_table.specs.HandedOn.{no_error, same_error}
+use Rattle.node_table.specs.Laws.{Growth, StepByStep}
+use Rattle.node_table.specs.Made.{LacksPart}
+use Rattle.node_table.specs.Progress.{Continues, Leaves, Steps, error_of}
+use Rattle.node_table.specs.Refused.{no_nodes_left}
+use Rattle.node_table.specs.Table.{TableState, AddsAtMost}
+use Rattle.operations.specs.Budget.{most_additions}
+use Rattle.operations.specs.Entries.{Fits, Fitting}
+use Rattle.schedule_plan.specs.Plan.{Stage, Term, term_holds}
+use Rattle.term_runner.specs.declared.caches.Caches.{Caches}
+use Rattle.term_runner.specs.declared.held.HeldTerm.{HeldTerm}
+use Rattle.term_runner.specs.declared.terms.Terms.{Terms}
+use Rattle.term_runner.specs.Caches.{HaveRoom, all_entries}
+use Rattle.term_runner.specs.Finds.{AreFew, Finds}
+use Rattle.term_runner.specs.Held.{AreHeld, AreKept, HasUnits, IsPlaced, RetiresUnits}
+use Rattle.term_runner.specs.Moves.{Tried}
+use Rattle.term_runner.specs.Nodes.{KeepsOrMakes}
+use Rattle.term_runner.specs.Terms.{HasOwnUnits, IsAtStage, IsOpen}
+use Rattle.term_runner.specs.Width.{HoldsAtMost, term_function, top_function}
+use Rattle.term_runner.proofs.Again.{at_still}
+use Rattle.term_runner.proofs.FewLeft.{result_is}
+use Rattle.term_runner.proofs.Leaving.{went_on}
+use Rattle.term_runner.proofs.NoEmpty.{further_empty}
+use Rattle.term_runner.proofs.Pairs.{few_of_term}
+use Rattle.term_runner.proofs.Planned.{keeps_or_makes}
+use Rattle.term_runner.proofs.Replaced.{free_after, unit_left, units_replaced}
+use Rattle.term_runner.proofs.Stacks.{false_refutes, held_kept, ready_after}
+use Rattle.term_runner.proofs.Tried.{failed_with, no_memory_limit}
+
+module _ {S : Type 0} (growth : Growth) (steps : StepByStep S) (fitting : Fitting S) (formula : Formula) (stage next : Stage)
+    (old : Terms S) (ready : IsOpen formula old) (own : HasOwnUnits old) (at : IsAtStage formula old stage) (term : Term)
+    (terms : List Term) (stack : next.stack ≡ term ∷ terms) (taken rest : List HeldTerm) (items : reverse old.out.items ≡ taken ++ rest)
+    (rest_held : AreHeld formula old.table.graph old.table.book.state.live rest terms)
+    (few : (width : ℕ) → HoldsAtMost formula old.table.graph.order stage next width → AreFew old.table.graph taken width)
+    (mid : TableState S) (caches : Caches) where
+  -- what the call made is kept, or a part of the term
+  made_of : (r : Result HeldTerm TableError) → Finds (term_function formula old.table.graph.order term) (λ a. term_holds formula a term)
+      taken old.table mid old.caches caches r
+      → KeepsOrMakes old.table.graph mid.graph (top_function formula old.table.graph.order next.stack)
+  made_of r found = subst (λ (s : List Term). KeepsOrMakes old.table.graph mid.graph (top_function formula old.table.graph.order s))
+      (sym stack) (keeps_or_makes growth old.table.graph mid.graph (term_function formula old.table.graph.order term)
+      ready.sound.tied.reduced found.steps.extends.nodes found.made)
+
+  pairs_of : (r : Result HeldTerm TableError) → Finds (term_function formula old.table.graph.order term) (λ a. term_holds formula a term)
+      taken old.table mid old.caches caches r → (width : ℕ) → HaveRoom old.caches width
+      → HoldsAtMost formula old.table.graph.order stage next width → AddsAtMost (2 * (width * width) + 1) old.table mid
+  pairs_of r found width room most = found.pairs width room (few width most)
+      (few_of_term formula old.table.graph.order stage next term (inr (inr (result_is term terms next.stack term stack refl))) width most)
+
+  -- it was refused
+  pub not_found : (came : TableError) → Finds (term_function formula old.table.graph.order term) (λ a. term_holds formula a term) taken
+      old.table mid old.caches caches (Err came) → (end : Result Bool TableError) → end ≡ Err came
+      → Tried formula stage next old (record old { table = mid; caches = caches }) end
+  not_found came found end is = record {
+    held = failed_with end came is;
+    refuted = failed_with end came is;
+    ready = λ whole. ready_after formula old.table mid (all_entries old.caches) (all_entries caches) ready
+        (went_on {T = HeldTerm} old.table mid (Err came) found.steps.leaves (untorn whole)).sound found.steps.extends (found.fits (untorn whole));
+    own = failed_with end came is;
+    again = λ limit. found.again (at_limit limit) (reverse old.out.items) own;
+    at_again = λ limit. at_still growth formula old.table.graph mid.graph ready.sound.tied.reduced found.steps.extends.nodes
+        old.table.book.state.live mid.book.state.live found.steps.extends.clauses stage old.out.items old.out.items old.trail old.trail refl
+        refl at;
+    leaves = subst (λ (r : Result Bool TableError). Leaves old.table mid (error_of r)) (sym is) found.steps.leaves;
+    no_empty = λ whole unrefuted. found.no_empty (untorn whole) tt;
+    nodes = found.steps.extends.nodes;
+    adds = found.steps.adds;
+    pairs = pairs_of (Err came) found;
+    made = made_of (Err came) found;
+    lacks = λ limit. subst (λ (s : List Term). LacksPart mid.graph (top_function formula old.table.graph.order s)) (sym stack)
+        (found.lacks (at_limit limit));
+    sizes = found.sizes;
+    left = refl;
+  }
+    where
+      untorn : end ≢ Err WriteFault → ◌≢◌ {A = Result HeldTerm TableError} (Err came) (Err WriteFault)
+      untorn whole torn = whole (is ∙ ap Err (same_error torn))
+
+      at_limit : end ≡ Err NodeLimit → ◌≡◌ {A = Result HeldTerm TableError} (Err came) (Err NodeLimit)
+      at_limit limit = ap Err (same_error (sym is ∙ limit))
+
+  module _ (held : HeldTerm) (found : Finds (term_function formula old.table.graph.order term) (λ a. term_holds formula a term) taken
+      old.table mid old.caches caches (Ok held)) where
+    ready_mid : IsOpen formula (record old { table = mid; caches = caches })
+    ready_mid = ready_after formula old.table mid (all_entries old.caches) (all_entries caches) ready found.steps.leaves.sound
+        found.steps.extends (found.fits no_error)
+
+    -- it is False
+    pub refuted_by : (trail : List (ℕ × Node)) → held.node ≡ False
+        → Tried formula stage next old (record old { table = mid; caches = caches; trail = trail }) (Ok true)
+    refuted_by trail is = record {
+      held = λ open_yet. absurd (let e : true ≡ false = open_yet in cc);
+      refuted = λ true. false_refutes mid.graph mid.book.state.live held.node held.unit is found.term.proved;
+      ready = λ whole. ready_mid;
+      own = λ open_yet. absurd (let e : true ≡ false = open_yet in cc);
+      again = λ limit. absurd (no_error limit);
+      at_again = λ limit. absurd (no_error limit);
+      leaves = found.steps.leaves;
+      no_empty = λ whole unrefuted. absurd (unrefuted refl);
+      nodes = found.steps.extends.nodes;
+      adds = found.steps.adds;
+      pairs = pairs_of (Ok held) found;
+      made = made_of (Ok held) found;
+      lacks = λ limit. absurd (no_error limit);
+      sizes = found.sizes;
+      left = refl;
+    }
+
+    -- memory is wanted behind it
+    pub not_kept : (end : Result Bool TableError) → end ≡ Err OutOfMemory → (held.node ≡ False → ⊥)
+        → Tried formula stage next old (record old { table = mid; caches = caches }) end
+    not_kept end is some = record {
+      held = failed_with end OutOfMemory is;
+      refuted = failed_with end OutOfMemory is;
+      ready = λ whole. ready_mid;
+      own = failed_with end OutOfMemory is;
+      again = λ limit. absurd (no_memory_limit (same_error (sym is ∙ limit)));
+      at_again = λ limit. absurd (no_memory_limit (same_error (sym is ∙ limit)));
+      leaves = subst (λ (r : Result Bool TableError). Leaves old.table mid (error_of r)) (sym is) found.steps.leaves;
+      no_empty = λ whole unrefuted. found.no_empty no_error some;
+      nodes = found.steps.extends.nodes;
+      adds = found.steps.adds;
+      pairs = pairs_of (Ok held) found;
+      made = made_of (Ok held) found;
+      lacks = λ limit. absurd (no_memory_limit (same_error (sym is ∙ limit)));
+      sizes = found.sizes;
+      left = refl;
+    }
+
+    -- it takes the operands' place
+    module _ (new : TableState S) (other : Terms S) (trail : List (ℕ × Node)) (some : held.node ≢ False)
+        (listed : reverse other.out.items ≡ held ∷ rest) (retires : RetiresUnits mid new taken held.unit) (more : Steps mid new 0 None)
+        (kept : AreKept formula mid.graph (reverse trail) next.trail) where
+      same_graph : new.graph ≡ mid.graph
+      same_graph = ap (λ (t : TableState S). t.graph) retires.same
+
+      same_live : new.book.state.live ≡ mid.book.state.live
+      same_live = ap (λ (t : TableState S). t.book.state.live) retires.same
+
+      has : HasUnits old.table (all_entries old.caches) (taken ++ rest)
+      has = subst (λ (s : List HeldTerm). HasUnits old.table (all_entries old.caches) s) items own
+
+      all : Continues old.table new
+      all = steps.go_on old.table mid new found.steps.leaves more.leaves
+
+      held_here : AreHeld formula mid.graph mid.book.state.live (held ∷ rest) (term ∷ terms)
+      held_here = (
+        record { is = found.term; not_false = some },
+        held_kept growth old.table.graph mid.graph ready.sound.tied.reduced found.steps.extends.nodes old.table.book.state.live
+            mid.book.state.live found.steps.extends.clauses formula rest terms rest_held,
+      )
+
+      fits_here : Fits new (all_entries caches)
+      fits_here =
+          let fits = found.fits no_error in
+          fitting.kept mid new (all_entries caches) found.steps.leaves.sound more.leaves.sound more.extends fits
+          (λ id named gone. elim (retires.only id gone) [
+            | inl was ↦ fits.unretired id named was
+            | inr operand ↦ free_after old.table mid (all_entries old.caches) (all_entries caches) (taken ++ rest) ready.sound has
+                found.gives.retires found.gives.named id (unit_left taken rest id operand.0) (inr named)
+          ])
+
+      pub placed : Tried formula stage next old (record old { table = new; caches = caches; out = other.out; trail = trail }) (Ok false)
+      placed = record {
+        held = λ open_yet. record {
+          held = subst (λ (s : List HeldTerm). AreHeld formula new.graph new.book.state.live s next.stack) (sym listed)
+              (subst (λ (s : List Term). AreHeld formula new.graph new.book.state.live (held ∷ rest) s) (sym stack)
+              (subst (λ (t : TableState S). AreHeld formula t.graph t.book.state.live (held ∷ rest) (term ∷ terms)) (sym retires.same)
+              held_here));
+          kept = subst (λ (graph : Graph). AreKept formula graph (reverse trail) next.trail) (sym same_graph) kept;
+        };
+        refuted = λ is. absurd (let e : false ≡ true = is in cc);
+        ready = λ whole. ready_after formula mid new (all_entries caches) (all_entries caches) ready_mid more.leaves.sound more.extends
+            fits_here;
+        own = λ open_yet. subst (λ (s : List HeldTerm). HasUnits new (all_entries caches) s) (sym listed)
+            (units_replaced steps old.table mid new (all_entries old.caches) (all_entries caches) taken rest held ready.sound
+            found.steps.leaves.sound found.steps.extends has found.gives retires);
+        again = λ limit. absurd (no_error limit);
+        at_again = λ limit. absurd (no_error limit);
+        leaves = all;
+        no_empty = λ whole unrefuted. further_empty old.table mid new (found.no_empty no_error some) more.no_empty;
+        nodes = (steps.extend old.table mid new found.steps.extends more.extends).nodes;
+        adds = let first = found.steps.adds in let second = more.adds in omega (arith, first, second);
+        pairs = λ width room most.
+            let first = pairs_of (Ok held) found width room most in let second = more.adds in omega (arith, first, second);
+        made = subst (λ (graph : Graph). KeepsOrMakes old.table.graph graph (top_function formula old.table.graph.order next.stack))
+            (sym same_graph) (made_of (Ok held) found);
+        lacks = λ limit. absurd (no_error limit);
+        sizes = found.sizes;
+        left = refl;
+      }

@@ -1,0 +1,176 @@
+-- The conjunction of two terms, with its unit.
+use Rattle.std.proofs.Common.{◌≡◌, ◌∙◌, ◌+◌, ◌*◌, ◌⊎◌, ◌&&◌, ℕ, Bool, List, [], ◌∷◌, Contains, None, Some, Result, Err, refl, ap, sym, subst}
+use Rattle.std.proofs.Common.{arith, inl, inr}
+use Rattle.std.specs.Prelude.{◌≢◌}
+use Rattle.operations.specs.Accounts.{none_whole, whole_result}
+use Rattle.operations.specs.Budget.{most_additions}
+use Rattle.operations.specs.Entries.{IsAccounted}
+use Rattle.node_table.specs.Defined.{atom_of}
+use Rattle.node_table.specs.Diagram.{Graph, levels}
+use Rattle.node_table.specs.Justification.{IsJustified}
+use Rattle.node_table.specs.Made.{LacksPart, MakesOnly}
+use Rattle.node_table.specs.Table.{TableState, AddsAtMost}
+use Rattle.node_table.specs.Value.{Levels, by_level, value_of}
+use Rattle.node_table.specs.declared.error.TableError.{TableError}
+use Rattle.node_table.specs.declared.error.TableError.TheVariants.{NodeLimit, WriteFault}
+use Rattle.node_table.specs.declared.node.Justification.{Justification}
+use Rattle.node_table.specs.declared.node.Justification.TheVariants.{Clause}
+use Rattle.node_table.specs.HandedOn.{came_from, handed_on, no_answer, no_error, other_cause, same_error}
+use Rattle.apply_and.specs.Conjunction.{conjunction_of}
+use Rattle.clause_terms.specs.Term.{IsTerm}
+use Rattle.term_runner.specs.declared.held.HeldTerm.{HeldTerm}
+use Rattle.term_runner.specs.Caches.{HaveRoom, all_entries}
+use Rattle.term_runner.specs.Finds.{AreFew}
+use Rattle.term_runner.specs.Held.{HasUnits}
+use Rattle.term_runner.proofs.Giving.{two_give, units_behind}
+use Rattle.term_runner.proofs.Leaving.{limit_left, limit_whole, refutes_handed, steps_handed, went_on}
+use Rattle.term_runner.proofs.NoEmpty.{further_empty}
+use Rattle.term_runner.proofs.OwnUnits.{unaccounted_after, unit_within}
+use Rattle.term_runner.proofs.Pairs.{adds_pairs}
+use Rattle.term_runner.proofs.Stacks.{justified_kept, term_kept}
+use Rattle.term_runner.proofs.found.conjunction.Given.{Over}
+use Rattle.term_runner.proofs.found.conjunction.Goals as goal
+use Rattle.term_runner.proofs.found.conjunction.Goals.{After-and}
+
+pub unit_of-requires : goal.unit_of-requires
+unit_of-requires g c =
+    let old = c.args.table.now in
+    let mid = c.and.new.table in
+    let extends = c.in_ok-node.ensures.steps.extends in
+    let reduced = c.requires.sound.tied.reduced in
+    let u = c.args.u.now in
+    let v = c.args.v.now in
+    record {
+      sound = c.in_ok-node.ensures.steps.leaves.sound;
+      first = c.growth_law.ensures.stands old.graph mid.graph extends.nodes u.node c.requires.first.stands;
+      second = c.growth_law.ensures.stands old.graph mid.graph extends.nodes v.node c.requires.second.stands;
+      first_open = c.requires.first.not_false;
+      second_open = c.requires.second.not_false;
+      first_unit = justified_kept c.growth_law.ensures old.graph mid.graph reduced extends.nodes old.book.state.live mid.book.state.live
+          extends.clauses u.node c.requires.first.stands u.unit c.requires.first.unit;
+      second_unit = justified_kept c.growth_law.ensures old.graph mid.graph reduced extends.nodes old.book.state.live mid.book.state.live
+          extends.clauses v.node c.requires.second.stands v.unit c.requires.second.unit;
+      conjoined = c.in_ok-node.ensures.conjoined;
+    }
+
+-- what the conjunction adds
+pairs_found : (g : Over) (c : After-and g) (width : ℕ) → HaveRoom c.args.caches.now width
+    → AreFew c.args.table.now.graph (c.args.v.now ∷ c.args.u.now ∷ []) width
+    → AddsAtMost (2 * (width * width)) c.args.table.now c.and.new.table
+pairs_found g c width room few =
+    adds_pairs c.subfunction_law.ensures c.canonical_law.ensures c.args.table.now c.and.new.table c.requires.sound.tied.reduced
+    c.args.u.now.node c.args.v.now.node c.requires.first.stands c.requires.second.stands c.args.caches.now width room few.1.0 few.0
+    c.and.ensures.price
+
+pub returns : goal.returns
+returns g c one other is_u is_v =
+    let old = c.args.table.now in
+    let mid = c.and.new.table in
+    let new = c.unit_of.new.table in
+    let before = all_entries c.args.caches.now in
+    let after = all_entries c.and.new.self in
+    let u = c.args.u.now in
+    let v = c.args.v.now in
+    let w = c.in_ok-node.node in
+    let found = c.in_ok-node.ensures in
+    let unit = c.in_ok-unit.ensures in
+    let whole = found.keeps.named none_whole in
+    let free_u : (id : ℕ) → u.unit ≡ Clause id → IsAccounted mid after id → ⊥ = λ id is. unaccounted_after old mid before after id
+    (unit_within old c.requires.sound (atom_of old.graph u.node) u.unit id c.requires.first.unit is) (c.requires.first.own id is)
+    found.keeps.retires whole in
+    let free_v : (id : ℕ) → v.unit ≡ Clause id → IsAccounted mid after id → ⊥ = λ id is. unaccounted_after old mid before after id
+    (unit_within old c.requires.sound (atom_of old.graph v.node) v.unit id c.requires.second.unit is) (c.requires.second.own id is)
+    found.keeps.retires whole in
+    let kept = found.keeps.fits none_whole in
+    let most = most_additions (levels old.graph) in
+    let extends = found.steps.extends in
+    let reduced = c.requires.sound.tied.reduced in
+    let up_u = term_kept c.growth_law.ensures old.graph mid.graph reduced extends.nodes old.book.state.live mid.book.state.live
+    extends.clauses one u.node u.unit is_u in
+    let up_v = term_kept c.growth_law.ensures old.graph mid.graph reduced extends.nodes old.book.state.live mid.book.state.live
+    extends.clauses other v.node v.unit is_v in
+    record {
+      term = subst (λ (graph : Graph). IsTerm graph new.book.state.live (λ a. one a && other a) w c.in_ok-unit.unit) (sym unit.nodes)
+          (record {
+            stands = found.conjoined.stands;
+            value = λ a. found.conjoined.value (by_level mid.graph.order a) ∙ (λ k. up_u.value a k && up_v.value a k);
+            proved = unit.unit;
+          });
+      gives = two_give old mid new before after u v c.in_ok-unit.unit found.steps.leaves.sound free_u free_v found.keeps
+          (found.accounts no_error) found.steps.leaves.no_less unit.steps.leaves.no_less unit.retired unit.alone unit.given unit.added;
+      steps = c.steps_law.ensures.refute old mid new most 1 None found.steps unit.steps;
+      no_empty = λ untorn open_yet. further_empty old mid new found.steps.no_empty (unit.some open_yet).no_empty;
+      fits = λ untorn. c.entry_law.ensures.kept mid new after found.steps.leaves.sound unit.steps.leaves.sound unit.steps.extends kept
+          (λ id named gone. kept.unretired id named (subst (λ (list : List ℕ). Contains list id) unit.retired gone));
+      again = λ limit. absurd (no_error limit);
+      made = subst (λ (graph : Graph). MakesOnly old.graph graph (conjunction_of old.graph u.node v.node)) (sym unit.nodes) found.made;
+      lacks = λ limit. absurd (no_error limit);
+      pairs = λ width room few all.
+          let own = pairs_found g (goal.at.returns g c).After-and width room few in
+          omega (arith, own, unit.steps.adds);
+      sizes = c.and.ensures.sizes;
+    }
+
+pub returns-in_err-node : goal.returns-in_err-node
+returns-in_err-node g c one other is_u is_v =
+    let old = c.args.table.now in
+    let mid = c.and.new.table in
+    let before = all_entries c.args.caches.now in
+    let after = all_entries c.and.new.self in
+    let came = c.in_err-node.field-0.0 in
+    let given = c.from_residual.ensures.1 in
+    let found = c.in_err-node.ensures in
+    let most = most_additions (levels old.graph) in
+    record {
+      term = no_answer _ came _ given;
+      gives = no_answer _ came _ given;
+      steps = c.steps_law.ensures.anyhow _ _ _ _ (steps_handed old mid _ _ came given
+          (c.steps_law.ensures.at_most old mid most (most + 1) _ (omega arith) found.steps));
+      no_empty = λ untorn open_yet. found.steps.no_empty;
+      fits = λ untorn. found.keeps.fits (whole_result {T = Bool} (Err came) (other_cause _ came WriteFault given untorn));
+      again = λ limit stack has.
+          let is = came_from _ came NodeLimit given limit in
+          let whole = limit_whole came is in
+          units_behind c.steps_law.ensures old mid before after stack c.requires.sound (limit_left old mid came is found.steps.leaves).0.sound
+          found.steps.extends has found.keeps.retires (found.keeps.named whole)
+          (found.accounts (λ torn. whole (ap Some (same_error torn))));
+      made = found.made;
+      lacks = λ limit. found.lacks (ap Err (came_from _ came NodeLimit given limit));
+      pairs = λ width room few all.
+          let own = pairs_found g (goal.at.returns-in_err-node g c).After-and width room few in omega (arith, own);
+      sizes = c.and.ensures.sizes;
+    }
+
+pub returns-in_err-unit : goal.returns-in_err-unit
+returns-in_err-unit g c one other is_u is_v =
+    let old = c.args.table.now in
+    let mid = c.and.new.table in
+    let new = c.unit_of.new.table in
+    let after = all_entries c.and.new.self in
+    let came = c.in_err-unit.field-0.0 in
+    let given = c.from_residual-in_err-unit.ensures.1 in
+    let found = c.in_ok-node.ensures in
+    let unit = c.in_err-unit.ensures in
+    let kept = found.keeps.fits none_whole in
+    let most = most_additions (levels old.graph) in
+    record {
+      term = no_answer _ came _ given;
+      gives = no_answer _ came _ given;
+      steps = refutes_handed old new (most + 1) _ came given
+          (c.steps_law.ensures.refute old mid new most 1 (Some came) found.steps unit.steps);
+      no_empty = λ untorn open_yet. further_empty old mid new found.steps.no_empty
+          (unit.refused (λ torn. untorn (handed_on _ came WriteFault given torn)));
+      fits = λ untorn.
+          let torn : ◌≡◌ {A = Result Justification TableError} (Err came) (Err WriteFault) → ⊥ = other_cause _ came WriteFault given untorn in
+          c.entry_law.ensures.kept mid new after found.steps.leaves.sound (went_on mid new (Err came) unit.steps.leaves torn).sound
+          unit.steps.extends kept
+          (λ id named gone. kept.unretired id named (subst (λ (list : List ℕ). Contains list id) unit.retired gone));
+      again = λ limit. absurd (unit.no_node_limit (ap Err (came_from _ came NodeLimit given limit)));
+      made = subst (λ (graph : Graph). MakesOnly old.graph graph (conjunction_of old.graph c.args.u.now.node c.args.v.now.node))
+          (sym unit.nodes) found.made;
+      lacks = λ limit. absurd (unit.no_node_limit (ap Err (came_from _ came NodeLimit given limit)));
+      pairs = λ width room few all.
+          let own = pairs_found g (goal.at.returns-in_err-unit g c).After-and width room few in
+          omega (arith, own, unit.steps.adds);
+      sizes = c.and.ensures.sizes;
+    }
