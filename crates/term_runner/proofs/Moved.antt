@@ -44,11 +44,11 @@ module _ {S : Type 0} (canonical : Canonical) (steps : StepByStep S) (formula : 
       → Leaves one.table mid.table (Some came) → mid.table.graph ≡ one.table.graph → mid.left ≡ one.left
       → Moved formula stage next old mid r
   moved_full r came is because leaves graph left = record {
-    held = failed_with r came is;
-    refuted = failed_with r came is;
+    held = failed_with r came is _;
+    refuted = failed_with r came is _;
     ready = subst (λ (r : Result Bool TableError). OnOk r (IsOpen formula mid)) (sym is) tt;
-    settled = failed_with r came is;
-    own = failed_with r came is;
+    settled = failed_with r came is _;
+    own = failed_with r came is _;
     leaves = subst (λ (r : Result Bool TableError). Leaves old.table mid.table (error_of r)) (sym is)
         (steps.leave old.table one.table mid.table (Some came) own.leaves leaves);
     no_empty = λ whole unrefuted. further_empty old.table one.table mid.table unrefuted_yet

@@ -1,9 +1,8 @@
 -- A term that a call found stands in the place of its operands, and a move is done; or it wasn't found.
-use Rattle.std.proofs.Common.{◌≡◌, ◌∙◌, ◌⊎◌, ◌++◌, ◌+◌, ◌*◌, ◌≤◌, ℕ, Bool, true, false, List, [], ◌∷◌, Contains, length, reverse, Option, None, Some}
+use Rattle.std.proofs.Common.{◌≡◌, ◌∙◌, ◌++◌, ◌+◌, ◌*◌, ℕ, Bool, true, false, List, [], ◌∷◌, Contains, take, drop, reverse, None}
 use Rattle.std.proofs.Common.{Result, Ok, Err, refl, sym, ap, subst, arith, inl, inr}
-use Rattle.std.specs.Prelude.{◌≢◌, IfOk, IsTrue}
+use Rattle.std.specs.Prelude.{◌≢◌, IsTrue}
 use Rattle.cnf_base.specs.Formula.{Formula}
-use Rattle.lrat_rules.specs.State.{clause_at}
 use Rattle.node_table.specs.declared.error.TableError.{TableError}
 use Rattle.node_table.specs.declared.error.TableError.TheVariants.{NodeLimit, OutOfMemory, WriteFault}
 use Rattle.node_table.specs.declared.node.Node.{Node}
@@ -13,17 +12,15 @@ use Rattle.node_table.specs.HandedOn.{no_error, same_error}
 use Rattle.node_table.specs.Laws.{Growth, StepByStep}
 use Rattle.node_table.specs.Made.{LacksPart}
 use Rattle.node_table.specs.Progress.{Continues, Leaves, Steps, error_of}
-use Rattle.node_table.specs.Refused.{no_nodes_left}
 use Rattle.node_table.specs.Table.{TableState, AddsAtMost}
-use Rattle.operations.specs.Budget.{most_additions}
-use Rattle.operations.specs.Entries.{Fits, Fitting}
+use Rattle.operations.specs.Entries.{Entry, Fits, Fitting}
 use Rattle.schedule_plan.specs.Plan.{Stage, Term, term_holds}
 use Rattle.term_runner.specs.declared.caches.Caches.{Caches}
 use Rattle.term_runner.specs.declared.held.HeldTerm.{HeldTerm}
 use Rattle.term_runner.specs.declared.terms.Terms.{Terms}
 use Rattle.term_runner.specs.Caches.{HaveRoom, all_entries}
-use Rattle.term_runner.specs.Finds.{AreFew, Finds}
-use Rattle.term_runner.specs.Held.{AreHeld, AreKept, HasUnits, IsPlaced, RetiresUnits}
+use Rattle.term_runner.specs.Finds.{AreFew, Finds, IsOperand}
+use Rattle.term_runner.specs.Held.{AreHeld, AreKept, HasUnits, IsHeld, IsPlaced, MayGiveUp, RetiresUnits, UnitsApart}
 use Rattle.term_runner.specs.Moves.{Tried}
 use Rattle.term_runner.specs.Nodes.{KeepsOrMakes}
 use Rattle.term_runner.specs.Terms.{HasOwnUnits, IsAtStage, IsOpen}
@@ -37,6 +34,21 @@ use Rattle.term_runner.proofs.Planned.{keeps_or_makes}
 use Rattle.term_runner.proofs.Replaced.{free_after, unit_left, units_replaced}
 use Rattle.term_runner.proofs.Stacks.{false_refutes, held_kept, ready_after}
 use Rattle.term_runner.proofs.Tried.{failed_with, no_memory_limit}
+
+apart_first : (one rest : List HeldTerm) → UnitsApart (one ++ rest) → UnitsApart one
+apart_first [] rest apart = tt
+apart_first (held ∷ one) rest apart = (λ id is other. apart.0 id is (unit_left one rest id other), apart_first one rest apart.1)
+
+-- a term of the stack is an operand
+pub operand_of : {S : Type 0} (formula : Formula) (table : TableState S) (entries : List Entry) (held : HeldTerm) (term : Term)
+    (list : List HeldTerm) → HasUnits table entries list → Contains list held → IsHeld formula table.graph table.book.state.live held term
+    → IsOperand table entries held
+operand_of formula table entries held term list has there is = record {
+  stands = is.is.stands;
+  not_false = is.not_false;
+  unit = is.is.proved;
+  own = λ id named. has.own held there id named;
+}
 
 module _ {S : Type 0} (growth : Growth) (steps : StepByStep S) (fitting : Fitting S) (formula : Formula) (stage next : Stage)
     (old : Terms S) (ready : IsOpen formula old) (own : HasOwnUnits old) (at : IsAtStage formula old stage) (term : Term)
@@ -63,11 +75,11 @@ module _ {S : Type 0} (growth : Growth) (steps : StepByStep S) (fitting : Fittin
       old.table mid old.caches caches (Err came) → (end : Result Bool TableError) → end ≡ Err came
       → Tried formula stage next old (record old { table = mid; caches = caches }) end
   not_found came found end is = record {
-    held = failed_with end came is;
-    refuted = failed_with end came is;
+    held = failed_with end came is _;
+    refuted = failed_with end came is _;
     ready = λ whole. ready_after formula old.table mid (all_entries old.caches) (all_entries caches) ready
         (went_on {T = HeldTerm} old.table mid (Err came) found.steps.leaves (untorn whole)).sound found.steps.extends (found.fits (untorn whole));
-    own = failed_with end came is;
+    own = failed_with end came is _;
     again = λ limit. found.again (at_limit limit) (reverse old.out.items) own;
     at_again = λ limit. at_still growth formula old.table.graph mid.graph ready.sound.tied.reduced found.steps.extends.nodes
         old.table.book.state.live mid.book.state.live found.steps.extends.clauses stage old.out.items old.out.items old.trail old.trail refl
@@ -92,39 +104,53 @@ module _ {S : Type 0} (growth : Growth) (steps : StepByStep S) (fitting : Fittin
 
   module _ (held : HeldTerm) (found : Finds (term_function formula old.table.graph.order term) (λ a. term_holds formula a term) taken
       old.table mid old.caches caches (Ok held)) where
+    has : HasUnits old.table (all_entries old.caches) (taken ++ rest)
+    has = subst (λ (s : List HeldTerm). HasUnits old.table (all_entries old.caches) s) items own
+
+    -- the operands' units may be retired
+    pub gives_up : MayGiveUp mid taken
+    gives_up = record {
+      added = λ id is. steps.added old.table mid ready.sound found.steps.leaves.sound found.steps.extends id
+          (has.added id (unit_left taken rest id is));
+      unretired = λ id is gone. free_after old.table mid (all_entries old.caches) (all_entries caches) (taken ++ rest) ready.sound has
+          found.gives.retires found.gives.named id (unit_left taken rest id is) (inl gone);
+      apart = apart_first taken rest has.apart;
+    }
+
     ready_mid : IsOpen formula (record old { table = mid; caches = caches })
     ready_mid = ready_after formula old.table mid (all_entries old.caches) (all_entries caches) ready found.steps.leaves.sound
         found.steps.extends (found.fits no_error)
 
     -- it is False
-    pub refuted_by : (trail : List (ℕ × Node)) → held.node ≡ False
-        → Tried formula stage next old (record old { table = mid; caches = caches; trail = trail }) (Ok true)
-    refuted_by trail is = record {
-      held = λ open_yet. absurd (let e : true ≡ false = open_yet in cc);
-      refuted = λ true. false_refutes mid.graph mid.book.state.live held.node held.unit is found.term.proved;
-      ready = λ whole. ready_mid;
-      own = λ open_yet. absurd (let e : true ≡ false = open_yet in cc);
-      again = λ limit. absurd (no_error limit);
-      at_again = λ limit. absurd (no_error limit);
-      leaves = found.steps.leaves;
-      no_empty = λ whole unrefuted. absurd (unrefuted refl);
-      nodes = found.steps.extends.nodes;
-      adds = found.steps.adds;
-      pairs = pairs_of (Ok held) found;
-      made = made_of (Ok held) found;
-      lacks = λ limit. absurd (no_error limit);
-      sizes = found.sizes;
-      left = refl;
-    }
+    pub refuted_by : (new : TableState S) → new ≡ mid → (other : Terms S) (trail : List (ℕ × Node)) → held.node ≡ False
+        → Tried formula stage next old (record old { table = new; caches = caches; out = other.out; trail = trail }) (Ok true)
+    refuted_by new same other trail is = subst (λ (t : TableState S). Tried formula stage next old
+        (record old { table = t; caches = caches; out = other.out; trail = trail }) (Ok true)) (sym same) (record {
+          held = λ open_yet. absurd (let e : true ≡ false = open_yet in cc);
+          refuted = λ true. false_refutes mid.graph mid.book.state.live held.node held.unit is found.term.proved;
+          ready = λ whole. ready_mid;
+          own = λ open_yet. absurd (let e : true ≡ false = open_yet in cc);
+          again = λ limit. absurd (no_error limit);
+          at_again = λ limit. absurd (no_error limit);
+          leaves = found.steps.leaves;
+          no_empty = λ whole unrefuted. absurd (unrefuted refl);
+          nodes = found.steps.extends.nodes;
+          adds = found.steps.adds;
+          pairs = pairs_of (Ok held) found;
+          made = made_of (Ok held) found;
+          lacks = λ limit. absurd (no_error limit);
+          sizes = found.sizes;
+          left = refl;
+        })
 
     -- memory is wanted behind it
-    pub not_kept : (end : Result Bool TableError) → end ≡ Err OutOfMemory → (held.node ≡ False → ⊥)
-        → Tried formula stage next old (record old { table = mid; caches = caches }) end
-    not_kept end is some = record {
-      held = failed_with end OutOfMemory is;
-      refuted = failed_with end OutOfMemory is;
+    pub not_kept : (end : Result Bool TableError) → end ≡ Err OutOfMemory → held.node ≢ False → (trail : List (ℕ × Node))
+        → Tried formula stage next old (record old { table = mid; caches = caches; trail = trail }) end
+    not_kept end is some trail = record {
+      held = failed_with end OutOfMemory is _;
+      refuted = failed_with end OutOfMemory is _;
       ready = λ whole. ready_mid;
-      own = failed_with end OutOfMemory is;
+      own = failed_with end OutOfMemory is _;
       again = λ limit. absurd (no_memory_limit (same_error (sym is ∙ limit)));
       at_again = λ limit. absurd (no_memory_limit (same_error (sym is ∙ limit)));
       leaves = subst (λ (r : Result Bool TableError). Leaves old.table mid (error_of r)) (sym is) found.steps.leaves;
@@ -148,9 +174,6 @@ module _ {S : Type 0} (growth : Growth) (steps : StepByStep S) (fitting : Fittin
       same_live : new.book.state.live ≡ mid.book.state.live
       same_live = ap (λ (t : TableState S). t.book.state.live) retires.same
 
-      has : HasUnits old.table (all_entries old.caches) (taken ++ rest)
-      has = subst (λ (s : List HeldTerm). HasUnits old.table (all_entries old.caches) s) items own
-
       all : Continues old.table new
       all = steps.go_on old.table mid new found.steps.leaves more.leaves
 
@@ -171,7 +194,7 @@ module _ {S : Type 0} (growth : Growth) (steps : StepByStep S) (fitting : Fittin
                 found.gives.retires found.gives.named id (unit_left taken rest id operand.0) (inr named)
           ])
 
-      pub placed : Tried formula stage next old (record old { table = new; caches = caches; out = other.out; trail = trail }) (Ok false)
+      placed : Tried formula stage next old (record old { table = new; caches = caches; out = other.out; trail = trail }) (Ok false)
       placed = record {
         held = λ open_yet. record {
           held = subst (λ (s : List HeldTerm). AreHeld formula new.graph new.book.state.live s next.stack) (sym listed)
@@ -200,3 +223,54 @@ module _ {S : Type 0} (growth : Growth) (steps : StepByStep S) (fitting : Fittin
         sizes = found.sizes;
         left = refl;
       }
+
+either : (r : Bool) (P : Bool → Type 0) → (r ≡ true → P true) → (r ≡ false → P false) → P r
+either true P when_true when_false = when_true refl
+either false P when_true when_false = when_false refl
+
+-- However it is put, a move is done, or the formula refuted.
+module _ {S : Type 0} (growth : Growth) (steps : StepByStep S) (fitting : Fitting S) (formula : Formula) (stage next : Stage)
+    (old : Terms S) (ready : IsOpen formula old) (own : HasOwnUnits old) (at : IsAtStage formula old stage) (term : Term)
+    (terms : List Term) (stack : next.stack ≡ term ∷ terms) (taken rest : List HeldTerm) (items : reverse old.out.items ≡ taken ++ rest)
+    (rest_held : AreHeld formula old.table.graph old.table.book.state.live rest terms)
+    (few : (width : ℕ) → HoldsAtMost formula old.table.graph.order stage next width → AreFew old.table.graph taken width)
+    (mid : TableState S) (caches : Caches) (held : HeldTerm)
+    (found : Finds (term_function formula old.table.graph.order term) (λ a. term_holds formula a term) taken old.table mid old.caches caches
+    (Ok held)) where
+  pub put_done : (operands : ℕ) → take operands (taken ++ rest) ≡ taken → drop operands (taken ++ rest) ≡ rest → (new : TableState S)
+      (other : Terms S) (trail : List (ℕ × Node)) → AreKept formula mid.graph (reverse trail) next.trail → (refuted : Bool)
+      → (IsTrue refuted → (held.node ≡ False) × ((new ≡ mid) × (other.out ≡ old.out)))
+      → (refuted ≡ false → IsPlaced operands held mid new old.out.items other.out.items)
+      → Tried formula stage next old (record old { table = new; caches = caches; out = other.out; trail = trail }) (Ok refuted)
+  put_done operands front behind new other trail kept refuted when_true when_false =
+      either refuted (λ r. Tried formula stage next old (record old { table = new; caches = caches; out = other.out; trail = trail }) (Ok r))
+      (λ is. let same = when_true is in
+      refuted_by growth steps fitting formula stage next old ready own at term terms stack taken rest items rest_held few mid caches held
+      found new same.1.0 other trail same.0)
+      (λ is. let one = when_false is in
+      placed growth steps fitting formula stage next old ready own at term terms stack taken rest items rest_held few mid caches held found
+      new other trail one.some (one.out ∙ ap (λ (l : List HeldTerm). held ∷ drop operands l) items
+      ∙ ap (λ (l : List HeldTerm). held ∷ l) behind)
+      (subst (λ (l : List HeldTerm). RetiresUnits mid new l held.unit) (ap (λ (l : List HeldTerm). take operands l) items ∙ front)
+      one.retires) one.steps kept)
+
+-- room for one term more changes nothing else
+pub with_room : {S : Type 0} (formula : Formula) (stage next : Stage) (old other new : Terms S) (end : Result Bool TableError)
+    → Tried formula stage next (record old { out = other.out }) new end → Tried formula stage next old new end
+with_room formula stage next old other new end own = record {
+  held = own.held;
+  refuted = own.refuted;
+  ready = own.ready;
+  own = own.own;
+  again = own.again;
+  at_again = own.at_again;
+  leaves = own.leaves;
+  no_empty = own.no_empty;
+  nodes = own.nodes;
+  adds = own.adds;
+  pairs = own.pairs;
+  made = own.made;
+  lacks = own.lacks;
+  sizes = own.sizes;
+  left = own.left;
+}

@@ -1,23 +1,16 @@
 -- A quantified term: its node's function, its implication, and the trail.
-use Rattle.std.proofs.Common.{◌≡◌, ◌≢◌, ℕ, ◌<◌, Bool, true, false, ◌||◌, [], ◌∷◌, refl, sym, ap, ◌∙◌, inl, inr, eq-eqb, ne_eqb}
+use Rattle.std.proofs.Common.{◌≡◌, ℕ, ◌<◌, Bool, true, false, ◌||◌, refl, sym, ap, ◌∙◌, inl, inr, eq-eqb, ne_eqb}
 use Rattle.std.specs.Prelude.{◌==◌, if◌then◌else◌}
 use Rattle.std.proofs.lemmas.Bool.{cases_eq}
 use Rattle.cnf_base.specs.Truth.{Assignment, with_value}
 use Rattle.cnf_base.specs.Formula.{Formula}
-use Rattle.lrat_rules.specs.State.{Live}
 use Rattle.node_table.specs.declared.node.Node.{Node}
-use Rattle.node_table.specs.declared.node.Node.TheVariants.{False}
-use Rattle.node_table.specs.declared.node.Justification.{Justification}
 use Rattle.node_table.specs.Diagram.{Graph, IsOrder, IsReduced, is_node, levels, variable_at}
-use Rattle.node_table.specs.Defined.{atom_of}
-use Rattle.node_table.specs.Justification.{IsJustified}
 use Rattle.node_table.specs.Value.{Levels, by_level, value_of}
-use Rattle.operations.specs.Results.{Quantified, with_level}
+use Rattle.operations.specs.Results.{with_level}
 use Rattle.quantify.specs.Quantification.{quantification_of}
 use Rattle.clause_terms.specs.Term.{by_variable}
 use Rattle.schedule_plan.specs.Plan.{Term, some_value, term_holds}
-use Rattle.term_runner.specs.declared.held.HeldTerm.{HeldTerm}
-use Rattle.term_runner.specs.Held.{IsHeld}
 use Rattle.term_runner.specs.Width.{term_function}
 use Rattle.term_runner.proofs.Planned.{agree_within, value_there}
 

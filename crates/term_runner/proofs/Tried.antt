@@ -187,8 +187,8 @@ moved_at_once growth canonical formula stage next step leads old new r none open
   sizes = own.sizes;
 }
 
-pub failed_with : {P : Bool → Type 0} (r : Result Bool TableError) (came : TableError) → r ≡ Err came → IfOk r P
-failed_with {P} r came is = subst (λ (r : Result Bool TableError). IfOk r P) (sym is) tt
+pub failed_with : (r : Result Bool TableError) (came : TableError) → r ≡ Err came → (P : Bool → Type 0) → IfOk r P
+failed_with r came is P = subst (λ (r : Result Bool TableError). IfOk r P) (sym is) tt
 
 -- At the limit of nodes those that no term reaches are given back.
 module _ {S : Type 0} (growth : Growth) (canonical : Canonical) (steps : StepByStep S) (formula : Formula) (stage next : Stage) (step : Move)
@@ -211,11 +211,11 @@ module _ {S : Type 0} (growth : Growth) (canonical : Canonical) (steps : StepByS
       → Leaves one.table mid.table (Some came) → mid.table.graph ≡ one.table.graph → mid.left ≡ one.left
       → Moved formula stage next old mid r
   moved_refused r came is because leaves graph left = record {
-    held = failed_with r came is;
-    refuted = failed_with r came is;
+    held = failed_with r came is _;
+    refuted = failed_with r came is _;
     ready = subst (λ (r : Result Bool TableError). OnOk r (IsOpen formula mid)) (sym is) tt;
-    settled = failed_with r came is;
-    own = failed_with r came is;
+    settled = failed_with r came is _;
+    own = failed_with r came is _;
     leaves = subst (λ (r : Result Bool TableError). Leaves old.table mid.table (error_of r)) (sym is)
         (steps.leave old.table one.table mid.table (Some came) first.leaves.0 leaves);
     no_empty = λ whole unrefuted. further_empty old.table one.table mid.table unrefuted_yet

@@ -1,5 +1,5 @@
 -- A term that a call finds: its function, its unit, and what the call leaves.
-use Rattle.std.specs.Prelude.{◌≡◌, ◌≢◌, ◌+◌, ◌*◌, ℕ, Bool, List, [], ◌∷◌, Contains, Result, Err, IfOk, IsTrue, ⊤}
+use Rattle.std.specs.Prelude.{◌≡◌, ◌≢◌, ◌+◌, ◌*◌, ℕ, Bool, List, [], ◌∷◌, Result, Err, IfOk, IsTrue, ⊤}
 use Rattle.cnf_base.specs.Truth.{Assignment}
 use Rattle.node_table.specs.declared.error.TableError.{TableError}
 use Rattle.node_table.specs.declared.error.TableError.TheVariants.{NodeLimit, WriteFault}

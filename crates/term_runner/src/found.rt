@@ -124,7 +124,6 @@ fn implied_unit<S: Sink + Drop>(
     requires fits { Fits table.old (all_entries caches.old) }
     requires operand { IsOperand table.old (all_entries caches.old) u.now }
     ensures unit { IfOk result (λ unit. IsJustified table.new.book.state.live (atom_of table.old.graph w ∷ []) unit) }
-    ensures own { IfOk result (λ unit. (id : ℕ) → unit ≡ Clause id → IsAccounted table.new (all_entries caches.new) id → ⊥) }
     ensures gives { IfOk result (λ unit. GivesUnit table.old table.new (all_entries caches.old) (all_entries caches.new) (u.now
         ∷ []) unit) }
     ensures nodes { table.new.graph ≡ table.old.graph }

@@ -1,7 +1,5 @@
 // A stacked term, and the places of the last ones.
-ghost use Rattle.std.specs.Prelude.{◌≡◌, ◌≢◌, ◌<◌, ◌++◌, List, [], ◌∷◌, IsTrue, IsErr, IfOk, IfErr, MatchOption, false, length, reverse};
-ghost use Rattle.node_table.specs.declared.node.Node.TheVariants.{False};
-ghost use Rattle.node_table.specs.declared.error.TableError.TheVariants.{OutOfMemory};
+ghost use Rattle.std.specs.Prelude.{◌≡◌, ◌<◌, List, ◌∷◌, MatchOption, length, reverse};
 ghost use Rattle.term_runner.specs.declared.held.HeldTerm.{HeldTerm as HeldValue};
 
 use node_table::{Justification, Node, TableError};

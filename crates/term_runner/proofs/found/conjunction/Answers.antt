@@ -1,16 +1,14 @@
 -- The conjunction of two terms, with its unit.
-use Rattle.std.proofs.Common.{◌≡◌, ◌∙◌, ◌+◌, ◌*◌, ◌⊎◌, ◌&&◌, ℕ, Bool, List, [], ◌∷◌, Contains, None, Some, Result, Err, refl, ap, sym, subst}
-use Rattle.std.proofs.Common.{arith, inl, inr}
-use Rattle.std.specs.Prelude.{◌≢◌}
+use Rattle.std.proofs.Common.{◌≡◌, ◌∙◌, ◌+◌, ◌*◌, ◌&&◌, ℕ, Bool, List, [], ◌∷◌, Contains, None, Some, Result, Err, ap, sym, subst}
+use Rattle.std.proofs.Common.{arith}
 use Rattle.operations.specs.Accounts.{none_whole, whole_result}
 use Rattle.operations.specs.Budget.{most_additions}
 use Rattle.operations.specs.Entries.{IsAccounted}
 use Rattle.node_table.specs.Defined.{atom_of}
 use Rattle.node_table.specs.Diagram.{Graph, levels}
-use Rattle.node_table.specs.Justification.{IsJustified}
-use Rattle.node_table.specs.Made.{LacksPart, MakesOnly}
-use Rattle.node_table.specs.Table.{TableState, AddsAtMost}
-use Rattle.node_table.specs.Value.{Levels, by_level, value_of}
+use Rattle.node_table.specs.Made.{MakesOnly}
+use Rattle.node_table.specs.Table.{AddsAtMost}
+use Rattle.node_table.specs.Value.{by_level}
 use Rattle.node_table.specs.declared.error.TableError.{TableError}
 use Rattle.node_table.specs.declared.error.TableError.TheVariants.{NodeLimit, WriteFault}
 use Rattle.node_table.specs.declared.node.Justification.{Justification}
@@ -18,10 +16,8 @@ use Rattle.node_table.specs.declared.node.Justification.TheVariants.{Clause}
 use Rattle.node_table.specs.HandedOn.{came_from, handed_on, no_answer, no_error, other_cause, same_error}
 use Rattle.apply_and.specs.Conjunction.{conjunction_of}
 use Rattle.clause_terms.specs.Term.{IsTerm}
-use Rattle.term_runner.specs.declared.held.HeldTerm.{HeldTerm}
 use Rattle.term_runner.specs.Caches.{HaveRoom, all_entries}
 use Rattle.term_runner.specs.Finds.{AreFew}
-use Rattle.term_runner.specs.Held.{HasUnits}
 use Rattle.term_runner.proofs.Giving.{two_give, units_behind}
 use Rattle.term_runner.proofs.Leaving.{limit_left, limit_whole, refutes_handed, steps_handed, went_on}
 use Rattle.term_runner.proofs.NoEmpty.{further_empty}

@@ -1,5 +1,5 @@
 -- What is left to show of `implied_unit`.
-use Rattle.std.proofs.Common.{◌≡◌, ◌⊎◌, ◌*◌, ℕ, [], ◌∷◌, arith, inl, inr, subst, ◌∙◌}
+use Rattle.std.proofs.Common.{◌≡◌, ◌⊎◌, ◌*◌, ℕ, [], ◌∷◌, arith, subst, ◌∙◌}
 use Rattle.node_table.specs.declared.node.Justification.TheVariants.{Clause}
 use Rattle.node_table.specs.Diagram.{Graph, levels}
 use Rattle.node_table.specs.Defined.{atom_of}
@@ -16,7 +16,7 @@ use Rattle.term_runner.specs.Caches.{HaveRoom, all_entries}
 use Rattle.term_runner.specs.Width.{HasAtMost}
 use Rattle.term_runner.proofs.AllCaches.{keeps_all, keeps_further}
 use Rattle.term_runner.proofs.Leaving.{went_on}
-use Rattle.term_runner.proofs.OwnUnits.{unaccounted_after, unit_own, unit_within}
+use Rattle.term_runner.proofs.OwnUnits.{unaccounted_after, unit_within}
 use Rattle.term_runner.proofs.Giving.{one_give}
 use Rattle.term_runner.proofs.Pairs.{adds_pairs}
 use Rattle.term_runner.proofs.Stacks.{both_ok, if_ok, justified_kept}
@@ -58,24 +58,6 @@ returns-clause-unit g c =
     (λ unit. IsJustified new.book.state.live (atom_of c.args.table.now.graph c.args.w ∷ []) unit)
     (λ unit proved. subst (λ (graph : Graph). IsJustified new.book.state.live (atom_of graph c.args.w
     ∷ []) unit) c.implies.ensures.nodes proved) c.unit_of_implied.ensures.unit
-
-pub returns-clause-own : goal.returns-clause-own
-returns-clause-own g c =
-    let old = c.args.table.now in
-    let mid = c.implies.new.table in
-    let new = c.unit_of_implied.new.table in
-    let done = c.in_ok-just.ensures in
-    let kept = all_entries c.implies.new.self in
-    let u = c.args.u.now.unit in
-    let own : (id : ℕ) → u ≡ Clause id → IsAccounted mid kept id → ⊥ = λ id is.
-    unaccounted_after old mid (all_entries c.args.caches.now) kept id
-    (unit_within old c.requires.sound (atom_of old.graph c.args.u.now.node) u id c.requires.operand.unit is) (c.requires.operand.own id is)
-    done.keeps.retires (done.keeps.named none_whole) in
-    if_ok c.unit_of_implied.result (λ unit. (unit ≡ u) ⊎ IsNewJustification mid.book.state new.book.state unit) (λ unit. (id : ℕ) → unit ≡ Clause id
-    → IsAccounted new kept id → ⊥)
-    (λ unit given. unit_own mid new kept u u unit done.steps.leaves.sound
-    (done.keeps.fits none_whole) c.unit_of_implied.ensures.retired own own (elim given [ inl is ↦ inl is | inr came ↦ inr (inr came) ]))
-    c.unit_of_implied.ensures.given
 
 pub returns-clause-nodes : goal.returns-clause-nodes
 returns-clause-nodes g c = c.unit_of_implied.ensures.nodes ∙ c.implies.ensures.nodes

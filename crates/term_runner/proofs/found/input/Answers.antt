@@ -1,12 +1,11 @@
 -- The term of a clause.
-use Rattle.std.proofs.Common.{◌≡◌, ℤ, List, [], Contains, Err, ap, inl, sym, ◌∙◌, subst, arith}
-use Rattle.std.specs.Prelude.{IfOk}
+use Rattle.std.proofs.Common.{◌+◌, refl, ℕ, ℤ, List, Contains, Err, ap, inl, sym, ◌∙◌, subst, arith}
 use Rattle.cnf_base.specs.Truth.{clause_holds}
-use Rattle.lrat_rules.specs.State.{Live}
-use Rattle.node_table.specs.declared.error.TableError.{TableError}
 use Rattle.node_table.specs.declared.error.TableError.TheVariants.{NodeLimit, WriteFault}
 use Rattle.node_table.specs.Diagram.{levels}
-use Rattle.node_table.specs.HandedOn.{came_from, handed_on, no_answer, no_error}
+use Rattle.node_table.specs.HandedOn.{came_from, handed_on, no_answer, no_error, same_error}
+use Rattle.node_table.specs.declared.node.Node.{Node}
+use Rattle.node_table.specs.declared.node.Justification.{Justification}
 use Rattle.node_table.specs.Made.{LacksPart, MakesOnly}
 use Rattle.node_table.specs.Refused.{no_nodes_left}
 use Rattle.operations.specs.Budget.{most_additions}
@@ -78,7 +77,7 @@ returns-in_err-node-clause-finds g c caches fits =
           (c.steps_law.ensures.at_most old new 1 (most_additions (levels old.graph) + 1) _ (omega arith) steps));
       no_empty = λ whole some. steps.no_empty;
       fits = λ whole.
-          let more = (went_on old new c.push_clause.result steps.leaves
+          let more = (went_on {T = Node × Justification} old new (Err came) steps.leaves
           (λ torn. whole (handed_on _ came WriteFault given (same_error torn)))).sound in
           c.entry_law.ensures.kept old new kept sound more steps.extends fits
           (λ id named gone. fits.unretired id named (subst (λ (list : List ℕ). Contains list id) found.retired gone));

@@ -4,7 +4,7 @@ use Rattle.node_table.specs.declared.error.TableError.TheVariants.{NodeLimit, Wr
 use Rattle.node_table.specs.Diagram.{Graph, levels, variable_at}
 use Rattle.node_table.specs.Defined.{atom_of}
 use Rattle.node_table.specs.HandedOn.{came_from, no_answer, no_error, other_cause, same_error}
-use Rattle.node_table.specs.Made.{LacksPart, MakesOnly}
+use Rattle.node_table.specs.Made.{MakesOnly}
 use Rattle.operations.specs.Accounts.{none_whole, whole_result}
 use Rattle.operations.specs.Budget.{most_additions}
 use Rattle.std.specs.Prelude.{slice_index_or}
