@@ -59,9 +59,9 @@ returns-clause-moved g c stage next at leads =
     let reached = subst (λ (nodes : List Node). LeavesReached c.try_twice.new.self.table.graph c.give_back.new.self.table.graph nodes)
     (λ i. held_nodes (sym c.give_back.ensures.same.0 i).items (sym c.give_back.ensures.same.1 i)) back.reached in
     subst (λ (refuted : Bool). Moved c.args.formula.now stage next c.args.self.now
-    (record c.give_back.new.self { left = c.in_ok-self.self }) (Ok refuted)) (sym c.if-refuted.false)
+    (record c.give_back.new.self { left = c.in_ok-self.field-0 }) (Ok refuted)) (sym c.if-refuted.false)
     (moved_back c.canonical_law.ensures c.steps_law.ensures c.args.formula.now stage next c.args.step leads c.args.self.now
-    c.try_twice.new.self (record c.give_back.new.self { left = c.in_ok-self.self }) own
+    c.try_twice.new.self (record c.give_back.new.self { left = c.in_ok-self.field-0 }) own
     (λ tidy. not_both c.is_tidy.result (c.is_tidy.ensures.1 (many _ c.live.ensures tidy)) c.if-is_tidy.false)
     c.give_back.ensures.top c.give_back.ensures.sizes
     c.subfunction_law.ensures c.requires.ready.sound.tied.ordered back.leaves (back.at next (own.held refl)) back.ready back.settled

@@ -18,6 +18,17 @@ settle-requires-in-Err g c =
           (c.in-Err.ensures begun.stage begun.next begun.at begun.leads).leaves).0.sound;
     }
 
+pub settle-requires : goal.settle-requires
+settle-requires g c =
+    let begun = c.requires in
+    record { sound = (c.in-Ok-2.ensures begun.stage begun.next begun.at begun.leads).leaves.sound }
+
+pub returns-in-Ok-clause-tried : goal.returns-in-Ok-clause-tried
+returns-in-Ok-clause-tried g c = c.in-Ok.ensures
+
+pub returns-in-Err-2-clause-tried : goal.returns-in-Err-2-clause-tried
+returns-in-Err-2-clause-tried g c = c.in-Err.ensures
+
 pub returns-in_err-settle-in-Ok-2-clause-tried : goal.returns-in_err-settle-in-Ok-2-clause-tried
 returns-in_err-settle-in-Ok-2-clause-tried g c stage next at leads =
     let old = c.args.self.now in
@@ -33,9 +44,9 @@ pub returns-in_ok-settle-in-Ok-2-clause-tried : goal.returns-in_ok-settle-in-Ok-
 returns-in_ok-settle-in-Ok-2-clause-tried g c stage next at leads =
     let old = c.args.self.now in
     let done = c.in_ok-settle-in-Ok-2.ensures in
-    let own = c.in-Ok-2.ensures stage next at leads in
+    let own = c.in-Ok.ensures stage next at leads in
     settled c.args.formula.now stage next old c.carry_out.new.self c.settle.new.self _ own c.settle.ensures.nodes c.settle.ensures.top
-    c.entry_law.ensures c.if-branch.false done.settled c.settle.ensures.gone c.settle.ensures.stay done.leaves
+    c.entry_law.ensures c.if-refuted.false done.settled c.settle.ensures.gone c.settle.ensures.stay done.leaves
     (c.steps_law.ensures.go_on old.table c.carry_out.new.self.table c.settle.new.self own.leaves done.leaves)
 
 pub returns-in_err-settle-in-Err-clause-tried : goal.returns-in_err-settle-in-Err-clause-tried

@@ -10,20 +10,20 @@ use Rattle.term_runner.proofs.Tried.{moved_again, moved_at_once, moved_refused}
 use Rattle.term_runner.proofs.Units.{not_both}
 use Rattle.term_runner.proofs.terms.Terms.try_twice.Goals as goal
 
-pub give_back-requires-in-Err-clause-ready : goal.give_back-requires-in-Err-clause-ready
-give_back-requires-in-Err-clause-ready g c =
+pub give_back-requires-clause-ready : goal.give_back-requires-clause-ready
+give_back-requires-clause-ready g c =
     let begun = c.requires in
     (c.in-Err.ensures.tried begun.stage begun.next begun.at begun.leads).ready
     (λ torn. no_nodes_left (sym (c.is_node_limit.ensures.0 c.if-is_node_limit.true) ∙ same_error torn))
 
-pub give_back-requires-in-Err-clause-possible : goal.give_back-requires-in-Err-clause-possible
-give_back-requires-in-Err-clause-possible g c =
+pub give_back-requires-clause-possible : goal.give_back-requires-clause-possible
+give_back-requires-clause-possible g c =
     let begun = c.requires in
     (begun.stage, (c.in-Err.ensures.tried begun.stage begun.next begun.at begun.leads).at_again
     (ap Err (c.is_node_limit.ensures.0 c.if-is_node_limit.true)))
 
-pub give_back-requires-in-Err-clause-own : goal.give_back-requires-in-Err-clause-own
-give_back-requires-in-Err-clause-own g c =
+pub give_back-requires-clause-own : goal.give_back-requires-clause-own
+give_back-requires-clause-own g c =
     let begun = c.requires in
     (c.in-Err.ensures.tried begun.stage begun.next begun.at begun.leads).again
     (ap Err (c.is_node_limit.ensures.0 c.if-is_node_limit.true))
@@ -51,9 +51,9 @@ returns-in-Ok g c stage next at leads =
 pub returns-in-Err-2 : goal.returns-in-Err-2
 returns-in-Err-2 g c stage next at leads =
     moved_at_once c.growth_law.ensures c.canonical_law.ensures c.args.formula.now stage next c.args.step leads c.args.self.now
-    c.try_move.new.self _ c.in-Err-2.ensures.settled
+    c.try_move.new.self _ c.in-Err.ensures.settled
     (λ limit. not_both c.is_node_limit.result (c.is_node_limit.ensures.1 (same_error limit)) c.if-is_node_limit.false)
-    (c.in-Err-2.ensures.tried stage next at leads)
+    (c.in-Err.ensures.tried stage next at leads)
 
 pub returns-in_err-self-in-Err : goal.returns-in_err-self-in-Err
 returns-in_err-self-in-Err g c stage next at leads =
@@ -75,7 +75,7 @@ returns-in_ok-self-in-Err g c stage next at leads =
     let reached = subst (λ (nodes : List Node). LeavesReached c.try_move.new.self.table.graph c.give_back.new.self.table.graph nodes)
     (λ i. held_nodes (sym c.give_back.ensures.same.0 i).items (sym c.give_back.ensures.same.1 i)) back.reached in
     moved_again c.growth_law.ensures c.canonical_law.ensures c.steps_law.ensures c.args.formula.now stage next c.args.step leads
-    c.args.self.now c.try_move.new.self (record c.give_back.new.self { left = c.in_ok-self-in-Err.self }) first c.give_back.ensures.top
+    c.args.self.now c.try_move.new.self (record c.give_back.new.self { left = c.in_ok-self-in-Err.field-0 }) first c.give_back.ensures.top
     c.give_back.ensures.sizes
     c.subfunction_law.ensures c.requires.ready.sound.tied.ordered back.leaves at_mid reached back.count c.try_move-in-Err.new.self _
     (c.try_move-in-Err.ensures.tried stage next at_mid leads) c.try_move-in-Err.ensures.settled
