@@ -3,7 +3,6 @@ use Rattle.std.proofs.Common.{◌≡◌, ◌≢◌, ℕ, ◌+◌, ◌++◌, ◌�
 use Rattle.std.proofs.Common.{Result, Ok, Err, refl, sym, ap, ◌∙◌, subst, arith, inl, inr}
 use Rattle.std.specs.Prelude.{IsTrue, IsFalse, IsSome, IfErr, IfOk, MatchOption, slice_index_or}
 use Rattle.std.specs.List.{list_all, list_any}
-use Rattle.std.specs.FinMap as map
 use Rattle.cnf_base.specs.declared.step.Step.{Step}
 use Rattle.cnf_base.specs.Truth.{Assignment, AreClausesOf, Satisfies}
 use Rattle.cnf_base.specs.Formula.{Formula}

@@ -1,6 +1,6 @@
 -- A reclamation between moves: the nodes of the stacked terms and of the trail, which are its roots, stay with their
 -- functions, and so do the terms' units.
-use Rattle.std.proofs.Common.{◌≡◌, ◌∙◌, ◌-◌, ◌||◌, ℕ, zero, suc, ℤ, pos, nat_abs, true, false, List, [], ◌∷◌, map, reverse}
+use Rattle.std.proofs.Common.{◌≡◌, ◌∙◌, ◌||◌, ℕ, zero, suc, ℤ, pos, nat_abs, true, false, List, [], ◌∷◌, map, reverse}
 use Rattle.std.proofs.Common.{Option, None, Some, Contains, is_some, int_eq, refl, sym, ap, subst, arith, inl, inr}
 use Rattle.std.specs.List.{list_any}
 use Rattle.std.proofs.lemmas.Bool.{or_cases}

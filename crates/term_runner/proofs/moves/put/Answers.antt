@@ -1,7 +1,7 @@
 -- The last terms go, one after another, and their units are retired.
-use Rattle.std.proofs.Common.{◌≡◌, ◌∙◌, ◌<◌, ◌+◌, ◌++◌, ◌-◌, ℕ, zero, suc, List, [], ◌∷◌, None, Some, Contains, length, take, drop, reverse, refl, sym, ap, subst}
+use Rattle.std.proofs.Common.{◌≡◌, ◌∙◌, ◌<◌, ◌+◌, ◌++◌, ◌-◌, ℕ, zero, suc, List, [], ◌∷◌, None, Contains, take, drop, reverse, refl, sym, ap, subst}
 use Rattle.std.proofs.Common.{arith, inl, inr}
-use Rattle.std.proofs.lemmas.List.{reverse-append, take-append-drop}
+use Rattle.std.proofs.lemmas.List.{reverse-append}
 use Rattle.node_table.specs.Table.{TableState, IsAddedTo}
 use Rattle.node_table.specs.declared.node.Justification.{Justification}
 use Rattle.node_table.specs.declared.node.Justification.TheVariants.{Clause}
@@ -38,8 +38,14 @@ operands-init g c = record {
 pub unreachable-requires : goal.unreachable-requires
 unreachable-requires g c =
     let held = c.operands.invariant in
-    let some = c.in_default.ensures.variant.1 (omega (arith, held.len, c.operands-test.true, c.requires.there, c.args.out.now.ok,
-    c.operands.out.ok)) in
+    let some = c.in_default.ensures.variant.1 (omega (
+      arith,
+      held.len,
+      c.operands-test.true,
+      c.requires.there,
+      c.args.out.now.ok,
+      c.operands.out.ok,
+    )) in
     cc
 
 take_none : (n : ℕ) → ◌≡◌ {A = List HeldTerm} (take n []) []

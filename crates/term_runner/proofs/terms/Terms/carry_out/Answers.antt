@@ -1,14 +1,13 @@
 -- Each move finds a term, which takes its operands' place.
-use Rattle.std.proofs.Common.{◌≡◌, ◌∙◌, ◌++◌, ◌<◌, ◌&&◌, ◌||◌, ℕ, zero, suc, Bool, true, false, List, [], ◌∷◌, Contains, length, reverse, take, drop}
-use Rattle.std.proofs.Common.{Some, Ok, Err, refl, ap, sym, subst, arith, inl, inr}
-use Rattle.std.specs.Prelude.{⊤, Result}
+use Rattle.std.proofs.Common.{◌≡◌, ◌∙◌, ◌<◌, ◌&&◌, ◌||◌, ℕ, zero, Bool, true, false, List, [], ◌∷◌, Contains, length, reverse, take}
+use Rattle.std.proofs.Common.{Some, Ok, Err, refl, ap, sym, subst, arith, inl}
+use Rattle.std.specs.Prelude.{Result}
 use Rattle.cnf_base.specs.Formula.{Formula}
 use Rattle.cnf_base.specs.Truth.{Assignment, with_value}
 use Rattle.clause_terms.specs.Term.{IsTerm}
 use Rattle.operations.specs.Entries.{Entry}
 use Rattle.node_table.specs.declared.error.TableError.{TableError}
 use Rattle.node_table.specs.declared.error.TableError.TheVariants.{OutOfMemory}
-use Rattle.node_table.specs.declared.node.Node.{Node}
 use Rattle.node_table.specs.Diagram.{variable_at}
 use Rattle.node_table.specs.HandedOn.{handed_on}
 use Rattle.node_table.specs.Table.{TableState, IsSound}
@@ -16,14 +15,13 @@ use Rattle.node_table.specs.Value.{Levels, value_of}
 use Rattle.apply_and.specs.Conjunction.{conjunction_of}
 use Rattle.quantify.specs.Quantification.{quantification_of}
 use Rattle.schedule_plan.specs.Plan.{Stage, Term, after_move, both, input, some_value, term_holds}
-use Rattle.term_runner.specs.declared.caches.Caches.{Caches}
 use Rattle.term_runner.specs.declared.held.HeldTerm.{HeldTerm}
 use Rattle.term_runner.specs.Caches.{all_entries}
 use Rattle.term_runner.specs.Finds.{AreFew, Finds}
 use Rattle.term_runner.specs.Held.{AreHeld, AreKept, HasUnits, IsAt, IsHeld, MayGiveUp}
 use Rattle.term_runner.specs.Terms.{HasOwnUnits, IsAtStage}
 use Rattle.term_runner.specs.Width.{HasAtMost, HoldsAtMost, IsInHand, term_function}
-use Rattle.term_runner.proofs.FewLeft.{in_front, result_is}
+use Rattle.term_runner.proofs.FewLeft.{in_front}
 use Rattle.term_runner.proofs.Pairs.{at_most_same, few_of_term}
 use Rattle.term_runner.proofs.Placed.{gives_up, not_found, not_kept, operand_of, put_done, with_room}
 use Rattle.term_runner.proofs.Planned.{both_function, node_function}

@@ -18,9 +18,11 @@ give_back-requires-clause-ready g c =
 
 pub give_back-requires-clause-possible : goal.give_back-requires-clause-possible
 give_back-requires-clause-possible g c =
-    let begun = c.requires in
-    (begun.stage, (c.in-Err.ensures.tried begun.stage begun.next begun.at begun.leads).at_again
-    (ap Err (c.is_node_limit.ensures.0 c.if-is_node_limit.true)))
+    let begun = c.requires in (
+      begun.stage,
+      (c.in-Err.ensures.tried begun.stage begun.next begun.at begun.leads).at_again
+          (ap Err (c.is_node_limit.ensures.0 c.if-is_node_limit.true)),
+    )
 
 pub give_back-requires-clause-own : goal.give_back-requires-clause-own
 give_back-requires-clause-own g c =
