@@ -1,13 +1,9 @@
 -- A move that ended at the limit of nodes may be tried again: its stack and trail are those of the same stage.
-use Rattle.std.proofs.Common.{◌≡◌, ℕ, List, reverse, Result, Ok, Err, refl, sym, subst}
-use Rattle.std.specs.Prelude.{IsErr}
+use Rattle.std.proofs.Common.{◌≡◌, ℕ, List, reverse, sym, subst}
 use Rattle.cnf_base.specs.Formula.{Formula}
 use Rattle.lrat_rules.specs.State.{Live}
-use Rattle.node_table.specs.declared.error.TableError.{TableError}
-use Rattle.node_table.specs.declared.error.TableError.TheVariants.{NodeLimit}
 use Rattle.node_table.specs.declared.node.Node.{Node}
 use Rattle.node_table.specs.Diagram.{Graph, IsReduced, KeepsNodes}
-use Rattle.node_table.specs.HandedOn.{no_error}
 use Rattle.node_table.specs.Laws.{Growth}
 use Rattle.node_table.specs.Tied.{KeepsClauses}
 use Rattle.schedule_plan.specs.Plan.{Stage}
@@ -15,13 +11,6 @@ use Rattle.term_runner.specs.declared.held.HeldTerm.{HeldTerm}
 use Rattle.term_runner.specs.Held.{AreHeld, AreKept, IsAt}
 use Rattle.term_runner.proofs.Stacks.{held_kept}
 use Rattle.term_runner.proofs.Trails.{kept_grown}
-
-pub failed_limit : {T : Type 0} (result : Result T TableError) → result ≡ Err NodeLimit → IsErr result
-failed_limit (Ok x) is = absurd (no_error is)
-failed_limit {T} (Err e) is = failed
-  where
-    failed : IsErr {T = T} (Err e)
-    failed = refl
 
 pub at_still : Growth → (formula : Formula) (old new : Graph) → IsReduced old → KeepsNodes old new → (live more : Live)
     → KeepsClauses live more → (stage : Stage) (before after : List HeldTerm)

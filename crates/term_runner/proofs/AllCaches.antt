@@ -1,7 +1,6 @@
 -- The entries of all caches as one list: what a call leaves of its own caches' entries beside the others.
-use Rattle.std.proofs.Common.{◌≡◌, ◌∙◌, ◌⊎◌, ◌++◌, ℕ, zero, suc, List, [], ◌∷◌, map, Contains, Option, None, Some, Result, refl, sym, ap}
+use Rattle.std.proofs.Common.{◌≡◌, ◌∙◌, ◌⊎◌, ◌++◌, ℕ, zero, suc, List, [], ◌∷◌, map, Contains, Option, None, Result, refl, sym, ap}
 use Rattle.std.proofs.Common.{subst, arith, inl, inr}
-use Rattle.std.specs.Prelude.{IsErrAnd}
 use Rattle.std.proofs.lemmas.List.Elements.{Contains-append_left, Contains-append_right, Contains-append_cases}
 use Rattle.lrat_rules.specs.State.{State}
 use Rattle.node_table.specs.declared.error.TableError.{TableError}
@@ -16,7 +15,6 @@ use Rattle.quantify.specs.ExistsCache.{ExistsCache, both_caches, quantification,
 use Rattle.quantify.specs.OrCache.{OrCache, disjunction, disjunctions}
 use Rattle.term_runner.specs.declared.caches.Caches.{Caches}
 use Rattle.term_runner.specs.Caches.{KeepsEntries}
-use Rattle.term_runner.proofs.Leaving.{error_handed}
 use Rattle.term_runner.proofs.OwnUnits.{within_top}
 
 -- of which operation an entry is
@@ -196,11 +194,6 @@ module _ {S : Type 0} where
       ];
     };
   }
-
-  pub keeps_handed : {T : Type 0} (old new : TableState S) (before after : List Entry) (r : Result T TableError) (came : TableError)
-      → IsErrAnd r (λ e. e ≡ came) → KeepsEntries old new before after (Some came)
-      → KeepsEntries old new before after (error_of r)
-  keeps_handed old new before after r came is keeps = subst (KeepsEntries old new before after) (sym (error_handed r came is)) keeps
 
   pub keeps_all : Fitting S → (old new : TableState S) (listed : List Entry) (error : Option TableError) → IsSound old
       → (IsWhole error → IsSound new) → Extends old new → new.retired ≡ old.retired → Fits old listed

@@ -1,6 +1,6 @@
 -- What calls leave that may end with an error, one after another.
 use Rattle.std.proofs.Common.{◌≡◌, ◌≢◌, ℕ, zero, suc, ◌-◌, ◌≤◌, Option, None, Some, Result, Ok, Err, refl, sym, ap, ◌∙◌, subst, arith}
-use Rattle.std.specs.Prelude.{IfErr, IsErrAnd}
+use Rattle.std.specs.Prelude.{IsErrAnd}
 use Rattle.clause_ledger.specs.Told.{told_formula, told_origin}
 use Rattle.node_table.specs.declared.error.TableError.{TableError}
 use Rattle.node_table.specs.declared.error.TableError.TheVariants.{NodeLimit, IdLimit, OutOfMemory, WriteFault}
@@ -47,18 +47,6 @@ pub memory_left : {S T : Type 0} (old new : TableState S) (r : Result T TableErr
     → Leaves old new (error_of r)
 memory_left old new r is continues = subst (λ (error : Option TableError). Leaves old new error)
     (sym (error_handed r OutOfMemory is)) continues
-
--- want of memory after steps that succeeded leaves what they left
-pub after_all : {S T : Type 0} (old new : TableState S) (justified : ℕ) (r : Result T TableError)
-    → IfErr r (λ e. e ≡ OutOfMemory)
-    → Steps old new justified None → Steps old new justified (error_of r)
-after_all old new justified (Ok x) failed steps = steps
-after_all old new justified (Err e) failed steps =
-    subst (λ (error : TableError). Steps old new justified (Some error)) (turned e failed)
-    (record { leaves = steps.leaves; extends = steps.extends; adds = steps.adds; no_empty = steps.no_empty })
-  where
-    turned : (e : TableError) → e ≡ OutOfMemory → OutOfMemory ≡ e
-    turned e is = cc
 
 -- a conjunction of few levels adds no more than one of all
 no_less_at : (few more : ℕ) → few ≤ more → most_additions few ≤ most_additions more

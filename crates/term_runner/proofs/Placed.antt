@@ -171,9 +171,6 @@ module _ {S : Type 0} (growth : Growth) (steps : StepByStep S) (fitting : Fittin
       same_graph : new.graph ≡ mid.graph
       same_graph = ap (λ (t : TableState S). t.graph) retires.same
 
-      same_live : new.book.state.live ≡ mid.book.state.live
-      same_live = ap (λ (t : TableState S). t.book.state.live) retires.same
-
       all : Continues old.table new
       all = steps.go_on old.table mid new found.steps.leaves more.leaves
 

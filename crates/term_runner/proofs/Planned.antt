@@ -1,7 +1,7 @@
 -- The nodes that a plan's moves make are of parts of its terms.
-use Rattle.std.proofs.Common.{◌≡◌, ℕ, zero, suc, ◌<◌, Bool, true, ◌&&◌, List, [], ◌∷◌, take, Option, None, Some, is_some, Result, Ok, Err}
+use Rattle.std.proofs.Common.{◌≡◌, ℕ, zero, suc, ◌<◌, Bool, true, ◌&&◌, List, [], ◌∷◌, take, Option, None, Some, is_some}
 use Rattle.std.proofs.Common.{refl, sym, ap, ◌∙◌, arith, inl, inr, eq-eqb, ne_eqb}
-use Rattle.std.specs.Prelude.{IfErr, ◌==◌, if◌then◌else◌}
+use Rattle.std.specs.Prelude.{◌==◌, if◌then◌else◌}
 use Rattle.std.specs.List.{slice_get}
 use Rattle.std.specs.Option.{option_and_then}
 use Rattle.std.proofs.lemmas.List.Sums.{position_or_len_is}
@@ -11,8 +11,6 @@ use Rattle.lrat_rules.specs.State.{Live}
 use Rattle.node_table.specs.declared.node.Node.{Node}
 use Rattle.node_table.specs.declared.node.Node.TheVariants.{False, True, Inner}
 use Rattle.node_table.specs.declared.node.Justification.{Justification}
-use Rattle.node_table.specs.declared.error.TableError.{TableError}
-use Rattle.node_table.specs.declared.error.TableError.TheVariants.{NodeLimit, OutOfMemory}
 use Rattle.node_table.specs.Diagram.{Graph, IsOrder, IsReduced, KeepsNodes, branch_at, is_node, levels, variable_at}
 use Rattle.node_table.specs.Value.{Levels, branch_value, by_level, value_of, value_within}
 use Rattle.node_table.specs.Made.{MakesOnly, inner}
@@ -100,9 +98,3 @@ keeps_or_makes growth old new function reduced keeps made = record {
     | inr part ↦ inr part
   ];
 }
-
--- want of memory is no limit of nodes
-pub no_limit : {T : Type 0} (result : Result T TableError) → IfErr result (λ e. e ≡ OutOfMemory) → result ≡ Err NodeLimit → ⊥
-no_limit (Ok x) failed is = cc
-no_limit (Err e) failed is = let same : e ≡ NodeLimit = cc in let wrong : ◌≡◌ {A = TableError} OutOfMemory NodeLimit = sym failed ∙ same in
-    cc

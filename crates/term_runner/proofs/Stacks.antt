@@ -1,14 +1,11 @@
 -- The stacked terms, as nodes and clauses are added and moves are taken.
-use Rattle.std.proofs.Common.{◌≡◌, ◌≢◌, ℕ, suc, ◌+◌, ◌-◌, ◌<◌, ◌≤◌, Bool, true, false, ◌&&◌, ℤ, List, [], ◌∷◌, ◌++◌, length, reverse}
-use Rattle.std.proofs.Common.{Option, None, Some, Result, Ok, Err, refl, sym, ap, ◌∙◌, subst, arith}
-use Rattle.std.specs.Prelude.{IfOk, IsSome, MatchOption, slice_index_or}
-use Rattle.std.specs.Option.{option_to_list}
-use Rattle.std.proofs.lemmas.List.{reverse-append}
-use Rattle.cnf_base.specs.Truth.{Assignment, clause_holds}
+use Rattle.std.proofs.Common.{◌≡◌, ◌≢◌, ℕ, suc, ◌+◌, ◌-◌, ◌<◌, ◌≤◌, Bool, true, false, ◌&&◌, List, [], ◌∷◌, length, reverse}
+use Rattle.std.proofs.Common.{Some, Result, Ok, Err, refl, sym, ap, ◌∙◌, subst, arith}
+use Rattle.std.specs.Prelude.{IfOk, slice_index_or}
+use Rattle.cnf_base.specs.Truth.{Assignment}
 use Rattle.cnf_base.specs.Formula.{Formula}
 use Rattle.lrat_rules.specs.State.{Live, clause_at}
 use Rattle.hint_chain.specs.declared.atom.Atom.{Atom}
-use Rattle.hint_chain.specs.Additions.{conjunction}
 use Rattle.node_table.specs.declared.node.Node.{Node}
 use Rattle.node_table.specs.declared.node.Node.TheVariants.{False}
 use Rattle.node_table.specs.declared.node.Justification.{Justification}
@@ -21,11 +18,10 @@ use Rattle.node_table.specs.Justification.{IsJustified}
 use Rattle.node_table.specs.Table.{TableState, IsSound, Extends}
 use Rattle.node_table.specs.Laws.{Growth}
 use Rattle.operations.specs.Entries.{Entry, Fits}
-use Rattle.operations.specs.Results.{Conjoined, conjunction_atoms}
 use Rattle.clause_terms.specs.Term.{IsTerm}
-use Rattle.schedule_plan.specs.Plan.{Term, input, both, term_holds}
+use Rattle.schedule_plan.specs.Plan.{Term, term_holds}
 use Rattle.term_runner.specs.declared.held.HeldTerm.{HeldTerm}
-use Rattle.term_runner.specs.Held.{IsHeld, AreHeld, IsReady, top_node}
+use Rattle.term_runner.specs.Held.{AreHeld, IsReady, top_node}
 use Rattle.term_runner.specs.Recovered.{stack_holds}
 
 -- what stays as nodes and clauses are added
@@ -58,37 +54,9 @@ module _ (growth : Growth) (old new : Graph) (reduced : IsReduced old) (keeps : 
 
 -- the stack's last element is the plan's first
 module _ (formula : Formula) (graph : Graph) (live : Live) where
-  pub pushed : (old new : List HeldTerm) (held : HeldTerm) → new ≡ old ++ held ∷ [] → (term : Term) (terms : List Term)
-      → IsHeld formula graph live held term → AreHeld formula graph live (reverse old) terms
-      → AreHeld formula graph live (reverse new) (term ∷ terms)
-  pushed old new held is term terms one are = subst (λ (s : List HeldTerm). AreHeld formula graph live s (term ∷ terms))
-      (sym (ap reverse is ∙ reverse-append old (held ∷ []))) (one, are)
-
   pub none_empty : (old : List HeldTerm) → old ≡ [] → (term : Term) (terms : List Term)
       → AreHeld formula graph live (reverse old) (term ∷ terms) → ⊥
   none_empty old is term terms are = subst (λ (s : List HeldTerm). AreHeld formula graph live s (term ∷ terms)) (ap reverse is) are
-
--- a clause that is pushed
-pub clause_held : (formula : Formula) (graph : Graph) (live : Live) (clause : List ℤ) (number : ℕ) (node : Node) (unit : Justification) → clause
-    ≡ slice_index_or formula.clauses (number - 1) []
-    → IsTerm graph live (λ a. clause_holds a clause) node unit → node ≢ False
-    → IsHeld formula graph live (record { node = node; unit = unit }) (input number)
-clause_held formula graph live clause number node unit is term some =
-    record { is = subst (λ (c : List ℤ). IsTerm graph live (λ a. clause_holds a c) node unit) is term; not_false = some }
-
--- a conjunction, with its unit
-pub conjunction_held : (formula : Formula) (graph : Graph) (live : Live) (u v : HeldTerm) (w : Node) (just unit : Justification) (one other : Term)
-    → IsHeld formula graph live u one → IsHeld formula graph live v other → Conjoined graph live u.node v.node w just
-    → IsJustified live (atom_of graph w ∷ []) unit → w ≢ False
-    → IsHeld formula graph live (record { node = w; unit = unit }) (both one other)
-conjunction_held formula graph live u v w just unit one other is_u is_v conjoined proved some = record {
-  is = record {
-    stands = conjoined.stands;
-    value = λ a. conjoined.value (by_level graph.order a) ∙ (λ k. is_u.is.value a k && is_v.is.value a k);
-    proved = proved;
-  };
-  not_false = some;
-}
 
 -- the unit of False is the empty clause
 pub false_refutes : (graph : Graph) (live : Live) (node : Node) (unit : Justification) → node ≡ False
@@ -142,36 +110,6 @@ pub both_ok : {T F : Type 0} (r : Result T F) (P Q R : T → Type 0) → ((x : T
 both_ok (Ok x) P Q R f p q = f x p q
 both_ok (Err e) P Q R f p q = tt
 
-pub held_one_kept : (growth : Growth) (old new : Graph) → IsReduced old → KeepsNodes old new → (live more : Live) → KeepsClauses live more
-    → (formula : Formula) (held : HeldTerm) (term : Term)
-    → IsHeld formula old live held term → IsHeld formula new more held term
-held_one_kept growth old new reduced keeps live more clauses formula held term is =
-    record {
-      is = term_kept growth old new reduced keeps live more clauses (λ a. term_holds formula a term) held.node held.unit is.is;
-      not_false = is.not_false;
-    }
-
--- a conjunction stays right
-module _ (growth : Growth) (old new : Graph) (reduced : IsReduced old) (keeps : KeepsNodes old new) (live more : Live)
-    (clauses : KeepsClauses live more) where
-  conjoined_kept : (u v w : Node) (just : Justification) → is_node old u ≡ true → is_node old v ≡ true → Conjoined old live u v w just
-      → Conjoined new more u v w just
-  conjoined_kept u v w just is_u is_v conjoined = record {
-    stands = growth.stands old new keeps w conjoined.stands;
-    not_above = λ level first second.
-        subst (λ (n : ℕ). level ≤ n) (sym (growth.level old new keeps w conjoined.stands))
-        (conjoined.not_above level (subst (λ (n : ℕ). level ≤ n) (growth.level old new keeps u is_u) first)
-        (subst (λ (n : ℕ). level ≤ n) (growth.level old new keeps v is_v) second));
-    value = λ a. growth.value old new reduced keeps a w conjoined.stands ∙ conjoined.value a
-        ∙ (λ k. sym (growth.value old new reduced keeps a u is_u) k && sym (growth.value old new reduced keeps a v is_v) k);
-    justified = subst (λ (atoms : List Atom). IsJustified more atoms just) same
-        (growth.justified live more clauses (conjunction_atoms old u v w) just conjoined.justified);
-  }
-    where
-      same : conjunction_atoms old u v w ≡ conjunction_atoms new u v w
-      same = (λ k. conjunction (sym (growth.atom old new keeps u is_u) k) (sym (growth.atom old new keeps v is_v) k)
-          (sym (growth.atom old new keeps w conjoined.stands) k))
-
 -- terms on the stack, though it is empty
 pub none_left : (formula : Formula) (graph : Graph) (live : Live) (old : List HeldTerm) → length old ≡ 0 → (term : Term) (terms : List Term)
     → AreHeld formula graph live (reverse old) (term ∷ terms) → ⊥
@@ -184,35 +122,3 @@ pub few_left : (formula : Formula) (graph : Graph) (live : Live) (old : List Hel
 few_left formula graph live [] few one other terms are = are
 few_left formula graph live (held ∷ []) few one other terms are = are.1
 few_left formula graph live (held ∷ next ∷ old) few one other terms are = absurd (omega (arith, few))
-
--- the last term is taken away
-pub some_there : (old : List HeldTerm) (last : HeldTerm) (rest : List HeldTerm) → reverse old ≡ last ∷ rest → 0 < length old
-some_there [] last rest at = absurd (let e : ◌≡◌ {A = List HeldTerm} [] (last ∷ rest) = at in cc)
-some_there (held ∷ old) last rest at = omega arith
-
-pub one_shorter : (popped : Option HeldTerm) (few more : ℕ) → MatchOption popped ((more ≡ 0) × (few ≡ 0)) (λ _. few + 1 ≡ more)
-    → IsSome popped → few + 1 ≡ more
-one_shorter None few more cases some = absurd (let e : false ≡ true = some in cc)
-one_shorter (Some held) few more cases some = cases
-
-pub rest_left : (old new : List HeldTerm) (popped : Option HeldTerm) → old ≡ new ++ option_to_list popped → IsSome popped
-    → (last : HeldTerm) (rest : List HeldTerm) → reverse old ≡ last ∷ rest → reverse new ≡ rest
-rest_left old new None is some last rest at = absurd (let e : false ≡ true = some in cc)
-rest_left old new (Some held) is some last rest at = tail_same held last (reverse new) rest
-    (sym (ap reverse is ∙ reverse-append new (held ∷ [])) ∙ at)
-  where
-    tail_same : (one other : HeldTerm) (first second : List HeldTerm) → one ∷ first ≡ other ∷ second → first ≡ second
-    tail_same one other first second same = cc
-
--- the conjunction's unit is added after the conjunction
-pub conjunction_kept : (growth : Growth) (mid new : Graph) → IsReduced mid → KeepsNodes mid new → (live more : Live)
-    → KeepsClauses live more → new ≡ mid → (formula : Formula) (u v : HeldTerm) (w : Node) (just unit : Justification) (one other : Term)
-    → IsHeld formula mid live u one → IsHeld formula mid live v other → Conjoined mid live u.node v.node w just
-    → IsJustified more (atom_of mid w ∷ []) unit → w ≢ False
-    → IsHeld formula new more (record { node = w; unit = unit }) (both one other)
-conjunction_kept growth mid new reduced keeps live more clauses same formula u v w just unit one other is_u is_v conjoined proved some =
-    conjunction_held formula new more u v w just unit one other
-    (held_one_kept growth mid new reduced keeps live more clauses formula u one is_u)
-    (held_one_kept growth mid new reduced keeps live more clauses formula v other is_v)
-    (conjoined_kept growth mid new reduced keeps live more clauses u.node v.node w just is_u.is.stands is_v.is.stands conjoined)
-    (subst (λ (h : Graph). IsJustified more (atom_of h w ∷ []) unit) (sym same) proved) some
