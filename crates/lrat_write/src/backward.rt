@@ -94,8 +94,8 @@ fn put_literals(buffer: &mut [u8; BUFFER], end: usize, literals: &[Lit]) -> Opti
     Some(at)
 }
 
-// Puts clause numbers, negative or not.
-fn put_ids(buffer: &mut [u8; BUFFER], end: usize, minus: bool, ids: &[Id]) -> Option<usize>
+/// Puts clause numbers, negative or not, so that they end here. Answers where they begin; None where they may not fit.
+pub fn put_ids(buffer: &mut [u8; BUFFER], end: usize, minus: bool, ids: &[Id]) -> Option<usize>
     requires { end ≤ 256 }
     ensures within { IfSome result (λ start. start ≤ 256) }
     ensures text { IfSome result (λ start. drop start buffer.new ≡ ids_text (lead minus) ids.now ++ drop end buffer.old) }

@@ -3,9 +3,12 @@ ghost use Rattle.std.specs.Prelude.{◌≡◌};
 ghost use Rattle.host_io.specs.Emitted.{Emits};
 ghost use Rattle.lrat_write.specs.LineText.{lead, led_number, literals_text, ids_text};
 
-use crate::backward::{BUFFER, put_number};
+use crate::backward::{BUFFER, put_ids, put_number};
 use cnf_base::{Id, Lit};
 use host_io::{Failed, HeldBytes, Sink, emit};
+
+// So many numbers a buffer holds, however long they are.
+const PIECE: usize = 11;
 
 /// Puts the literals of a clause, each behind a space.
 pub fn emit_literals<S: Sink>(
@@ -42,8 +45,46 @@ pub fn emit_ids<S: Sink>(
     ensures beside { S.beside sink.new ≡ S.beside sink.old }
 {
     let mut buffer = [0; BUFFER];
+    let mut rest = ids;
+    'pieces: while !rest.is_empty() {
+        let (piece, more) = rest.split_at(rest.len().min(PIECE));
+        emit_piece(sink, held, &mut buffer, minus, piece)?;
+        rest = more;
+    }
+    Ok(())
+}
+
+// Puts as many of them as one buffer holds, in a buffer whose bytes are of no use.
+fn emit_piece<S: Sink>(
+    sink: &mut S,
+    held: &mut HeldBytes,
+    buffer: &mut [u8; BUFFER],
+    minus: bool,
+    ids: &[Id],
+) -> Result<(), Failed>
+    ensures emits { Emits S.tells (S.channel sink.old) (S.channel sink.new) held.old.items held.new.items
+        (ids_text (lead minus) ids.now) result }
+    ensures beside { S.beside sink.new ≡ S.beside sink.old }
+{
+    match put_ids(buffer, BUFFER, minus, ids) {
+        Some(start) => emit(sink, held, &buffer[start..]),
+        None => emit_each(sink, held, buffer, minus, ids),
+    }
+}
+
+fn emit_each<S: Sink>(
+    sink: &mut S,
+    held: &mut HeldBytes,
+    buffer: &mut [u8; BUFFER],
+    minus: bool,
+    ids: &[Id],
+) -> Result<(), Failed>
+    ensures emits { Emits S.tells (S.channel sink.old) (S.channel sink.new) held.old.items held.new.items
+        (ids_text (lead minus) ids.now) result }
+    ensures beside { S.beside sink.new ≡ S.beside sink.old }
+{
     for id in ids {
-        emit_led(sink, held, &mut buffer, minus, id.get())?;
+        emit_led(sink, held, buffer, minus, id.get())?;
     }
     Ok(())
 }
