@@ -80,6 +80,7 @@ module _ {S : Type 0} (growth : Growth) (steps : StepByStep S) (fitting : Fittin
     ready = λ whole. ready_after formula old.table mid (all_entries old.caches) (all_entries caches) ready
         (went_on {T = HeldTerm} old.table mid (Err came) found.steps.leaves (untorn whole)).sound found.steps.extends (found.fits (untorn whole));
     own = failed_with end came is _;
+    unchanged = λ whole failed. (refl, refl);
     again = λ limit. found.again (at_limit limit) (reverse old.out.items) own;
     at_again = λ limit. at_still growth formula old.table.graph mid.graph ready.sound.tied.reduced found.steps.extends.nodes
         old.table.book.state.live mid.book.state.live found.steps.extends.clauses stage old.out.items old.out.items old.trail old.trail refl
@@ -130,6 +131,7 @@ module _ {S : Type 0} (growth : Growth) (steps : StepByStep S) (fitting : Fittin
           refuted = λ true. false_refutes mid.graph mid.book.state.live held.node held.unit is found.term.proved;
           ready = λ whole. ready_mid;
           own = λ open_yet. absurd (let e : true ≡ false = open_yet in cc);
+          unchanged = λ whole failed. absurd (let e : false ≡ true = failed in cc);
           again = λ limit. absurd (no_error limit);
           at_again = λ limit. absurd (no_error limit);
           leaves = found.steps.leaves;
@@ -145,12 +147,13 @@ module _ {S : Type 0} (growth : Growth) (steps : StepByStep S) (fitting : Fittin
 
     -- memory is wanted behind it
     pub not_kept : (end : Result Bool TableError) → end ≡ Err OutOfMemory → held.node ≢ False → (trail : List (ℕ × Node))
-        → Tried formula stage next old (record old { table = mid; caches = caches; trail = trail }) end
-    not_kept end is some trail = record {
+        → trail ≡ old.trail → Tried formula stage next old (record old { table = mid; caches = caches; trail = trail }) end
+    not_kept end is some trail same = record {
       held = failed_with end OutOfMemory is _;
       refuted = failed_with end OutOfMemory is _;
       ready = λ whole. ready_mid;
       own = failed_with end OutOfMemory is _;
+      unchanged = λ whole failed. (refl, same);
       again = λ limit. absurd (no_memory_limit (same_error (sym is ∙ limit)));
       at_again = λ limit. absurd (no_memory_limit (same_error (sym is ∙ limit)));
       leaves = subst (λ (r : Result Bool TableError). Leaves old.table mid (error_of r)) (sym is) found.steps.leaves;
@@ -206,6 +209,7 @@ module _ {S : Type 0} (growth : Growth) (steps : StepByStep S) (fitting : Fittin
         own = λ open_yet. subst (λ (s : List HeldTerm). HasUnits new (all_entries caches) s) (sym listed)
             (units_replaced steps old.table mid new (all_entries old.caches) (all_entries caches) taken rest held ready.sound
             found.steps.leaves.sound found.steps.extends has found.gives retires);
+        unchanged = λ whole failed. absurd (let e : false ≡ true = failed in cc);
         again = λ limit. absurd (no_error limit);
         at_again = λ limit. absurd (no_error limit);
         leaves = all;
@@ -253,12 +257,13 @@ module _ {S : Type 0} (growth : Growth) (steps : StepByStep S) (fitting : Fittin
 
 -- room for one term more changes nothing else
 pub with_room : {S : Type 0} (formula : Formula) (stage next : Stage) (old other new : Terms S) (end : Result Bool TableError)
-    → Tried formula stage next (record old { out = other.out }) new end → Tried formula stage next old new end
-with_room formula stage next old other new end own = record {
+    → other.out.items ≡ old.out.items → Tried formula stage next (record old { out = other.out }) new end → Tried formula stage next old new end
+with_room formula stage next old other new end same own = record {
   held = own.held;
   refuted = own.refuted;
   ready = own.ready;
   own = own.own;
+  unchanged = λ whole failed. ((own.unchanged whole failed).0 ∙ same, (own.unchanged whole failed).1);
   again = own.again;
   at_again = own.at_again;
   leaves = own.leaves;

@@ -74,6 +74,7 @@ module _ {S : Type 0} (formula : Formula) (stage next : Stage) (old mid : Terms 
     refuted = torn_ok end is _;
     ready = λ whole. absurd (whole is);
     own = torn_ok end is _;
+    unchanged = λ whole. absurd (whole is);
     again = λ limit. absurd (torn_limit end is limit);
     at_again = λ limit. absurd (torn_limit end is limit);
     leaves = leaves;
@@ -123,6 +124,7 @@ module _ {S : Type 0} (formula : Formula) (stage next : Stage) (old mid : Terms 
       own = both_ok r (λ refuted. refuted ≡ false) (λ refuted. refuted ≡ false → HasOwnUnits mid)
           (λ refuted. refuted ≡ false → HasOwnUnits (record mid { table = new }))
           (λ refuted no units is. own_settled (units is)) open_yet own.own;
+      unchanged = own.unchanged;
       again = λ limit. own_settled (own.again limit);
       at_again = λ limit. at_settled stage (own.again limit) (own.at_again limit);
       leaves = leaves;

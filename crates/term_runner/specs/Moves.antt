@@ -1,5 +1,5 @@
 -- A move of a plan: what it begins with, a try of it, and a move that was taken.
-use Rattle.std.specs.Prelude.{◌≡◌, ◌⊎◌, ◌≤◌, ◌+◌, ◌*◌, ℕ, Bool, false, [], Some, Result, Err, IfOk, OnOk, IsTrue}
+use Rattle.std.specs.Prelude.{◌≡◌, ◌⊎◌, ◌≤◌, ◌+◌, ◌*◌, ℕ, Bool, false, [], Some, Result, Err, IfOk, OnOk, IsErr, IsTrue}
 use Rattle.cnf_base.specs.Formula.{Formula}
 use Rattle.lrat_rules.specs.State.{clause_at}
 use Rattle.node_table.specs.declared.error.TableError.{TableError}
@@ -30,14 +30,15 @@ pub record MayMove {S : Type 0} (formula : Formula) (step : Move) (terms : Terms
   pub at : IsAtStage formula terms stage
   pub leads : after_move formula stage step ≡ Some next
 
--- A try of a move from this stage to the next. Done, it leaves the terms of the next one, or the formula is refuted. At the limit
--- of nodes it may be tried again. However it ends, nodes stay, and the new clauses are those of new nodes and no more beside them
+-- A try of a move from this stage to the next. Done, it leaves the terms of the next one, or the formula is refuted. Else
+-- it leaves its operands, unless a write failed, and at the limit of nodes it may be tried again. However it ends, nodes stay, and the new clauses are those of new nodes and no more beside them
 -- than this, or, where the caches have room for all pairs of parts in hand, than two for each of these.
 pub record Tried {S : Type 0} (formula : Formula) (stage next : Stage) (old new : Terms S) (result : Result Bool TableError) : Type 0 where
   pub held : IfOk result (λ refuted. refuted ≡ false → IsAtStage formula new next)
   pub refuted : IfOk result (λ refuted. IsTrue refuted → (id : ℕ) × (clause_at new.table.book.state.live id ≡ Some []))
   pub ready : UnlessTorn result (IsOpen formula new)
   pub own : IfOk result (λ refuted. refuted ≡ false → HasOwnUnits new)
+  pub unchanged : UnlessTorn result (IsErr result → (new.out.items ≡ old.out.items) × (new.trail ≡ old.trail))
   pub again : result ≡ Err NodeLimit → HasOwnUnits new
   pub at_again : result ≡ Err NodeLimit → IsAtStage formula new stage
   pub leaves : Leaves old.table new.table (error_of result)

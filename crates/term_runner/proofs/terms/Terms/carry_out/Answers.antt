@@ -65,7 +65,7 @@ returns-in_err-held-in-Push g c stage next at leads =
     let inside = (goal.at.returns-in_err-held-in-Push g c).After-input in
     let came = c.in_err-held-in-Push.field-0.0 in
     let move = pushed g inside stage next at leads in
-    with_room formula stage next old (record old { out = c.reserve.new.self }) _ _
+    with_room formula stage next old (record old { out = c.reserve.new.self }) _ _ c.reserve.ensures.items
     (not_found c.growth_law.ensures c.steps_law.ensures c.entry_law.ensures formula stage next (record old { out = c.reserve.new.self })
     c.requires.ready (roomy g inside stage next at leads) (roomy_at g inside stage next at leads) (input c.in-Push.number) stage.stack
     move.stack [] (reverse c.reserve.new.self.items) refl (roomy_at g inside stage next at leads).held (λ width most. tt)
@@ -82,7 +82,7 @@ returns-in_ok-held-in-Push g c stage next at leads =
     let found = c.in_ok-held-in-Push.ensures.finds old.caches c.requires.ready.fits in
     let kept = kept_grown c.growth_law.ensures formula old.table.graph c.input.new.table.graph c.requires.ready.sound.tied.reduced
     found.steps.extends.nodes (reverse old.trail) stage.trail at.kept in
-    with_room formula stage next old roomy_old _ _
+    with_room formula stage next old roomy_old _ _ c.reserve.ensures.items
     (put_done c.growth_law.ensures c.steps_law.ensures c.entry_law.ensures formula stage next roomy_old
     c.requires.ready (roomy g inside stage next at leads) (roomy_at g inside stage next at leads) (input c.in-Push.number) stage.stack
     move.stack [] (reverse c.reserve.new.self.items) refl (roomy_at g inside stage next at leads).held (λ width most. tt)
@@ -328,7 +328,7 @@ returns-in_err-push-in-Exists g c stage next at leads =
     c.in_ok-held-in-Exists.held
     (found_one g inside stage next at leads (Ok c.in_ok-held-in-Exists.held) c.in_ok-held-in-Exists.ensures.finds) _
     (handed_on _ OutOfMemory OutOfMemory c.from_residual-in_err-push-in-Exists.ensures.1 refl) c.in_ok-held-in-Exists.ensures.some
-    c.push.new.self
+    c.push.new.self c.in_err-push-in-Exists.ensures.err
 
 pub put-requires-in-Exists-clause-sound : goal.put-requires-in-Exists-clause-sound
 put-requires-in-Exists-clause-sound g c =
