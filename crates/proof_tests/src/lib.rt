@@ -8,6 +8,4 @@ mod hints;
 #[cfg(test)]
 mod ledger;
 #[cfg(test)]
-mod rules;
-#[cfg(test)]
 mod support;

@@ -1,6 +1,8 @@
-// What the tests share: the fields of a row, and literals and lines from text.
-use cnf_base::{Lit, LitList};
-use std::alloc::Global;
+// What the tests share: the fields of a row, its lines, and a formula.
+ghost use Rattle.std.specs.Prelude.{◌≡◌, [], ◌∷◌, IfOk};
+
+use cnf_base::{Cnf, CnfBuilder, OutOfMemory};
+use std::alloc::{AllocError, Global};
 use std::test::Fail;
 
 /// What stands in front of a row's first semicolon and behind it.
@@ -8,21 +10,16 @@ pub fn cut(row: &str) -> Result<(&str, &str), Fail> {
     Ok(row.split_once(';').ok_or("no semicolon")?)
 }
 
-/// The literal of this number.
-pub fn literal_of(word: &str) -> Result<Lit, Fail> {
-    Ok(Lit::new(word.parse::<i32>()?).ok_or("no literal")?)
-}
-
-/// The literals between the spaces.
-pub fn literals_in(alloc: Global, text: &str) -> Result<LitList, Fail> {
-    let mut literals = LitList::new(alloc);
-    for word in text.split_whitespace() {
-        literals.push(literal_of(word)?)?;
-    }
-    Ok(literals)
-}
-
 /// The text of a row, which writes a slash for a line feed.
-pub fn lines_of(alloc: Global, row: &str) -> Result<String, Fail> {
-    Ok(row.replace(alloc, '/', "\n")?)
+pub fn lines_of(alloc: Global, row: &str) -> Result<String, AllocError> {
+    row.replace(alloc, '/', "\n")
+}
+
+/// The formula of one clause without literals.
+pub fn empty_clause(alloc: Global) -> Result<Cnf, OutOfMemory>
+    ensures { IfOk result (λ formula. formula.clauses ≡ [] ∷ []) }
+{
+    let mut builder = CnfBuilder::new(alloc, 0);
+    builder.end_clause()?;
+    Ok(builder.finish())
 }

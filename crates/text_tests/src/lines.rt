@@ -3,34 +3,23 @@ ghost use Rattle.std.specs.Prelude.{◌≡◌, ◌<◌};
 ghost use Rattle.std.specs.List.{list_all};
 ghost use Rattle.cnf_base.specs.ProofText.{is_id};
 
-use crate::support::{expect_text, failing_host, outcome};
+use crate::support::{cut, text_of};
 use cnf_base::{Id, Lit};
-use host_io::{HostSink, Role};
+use host_io::{FailingHost, HostSink, MemoryHost, Role, Sink};
 use lrat_write::{write_add, write_define};
 use std::alloc::{AllocError, Global};
 use std::process::Abort;
 use std::test::Fail;
 
-// The number, the literals and the hints of an addition, and its line.
-const ADDITIONS: &str = "2;;1;2 0 1 0/
-7;-3;5 6;7 -3 0 5 6 0/
-9;4 -1 2147483647;;9 4 -1 2147483647 0 0/
-999999999999999999;-2147483647;999999999999999998;999999999999999999 -2147483647 0 999999999999999998 0/";
-
-// The number, the literals and the candidates of a definition, and its line.
-const DEFINITIONS: &str = "2;3 -2;;2 3 -2 0 0/
-6;-4 1 3;4 5;6 -4 1 3 0 -4 -5 0/
-8;1;999999999999999999;8 1 0 -999999999999999999 0/";
-
-// How many bytes the line of the numbers 1 to 200 under 201, with the hint 7, has.
-const LINE: u32 = 702;
-
-#[derive(Drop)]
-struct Parts {
-    id: Id,
-    literals: Vec<Lit>,
-    ids: Vec<Id>,
-}
+// The number, the literals, and the hints of an addition or the candidates of a definition; and the line.
+const LINES: &str = "\
+add;2;;1;2 0 1 0/
+add;7;-3;5 6;7 -3 0 5 6 0/
+add;9;4 -1 2147483647;;9 4 -1 2147483647 0 0/
+add;999999999999999999;-2147483647;999999999999999998;999999999999999999 -2147483647 0 999999999999999998 0/
+define;2;3 -2;;2 3 -2 0 0/
+define;6;-4 1 3;4 5;6 -4 1 3 0 -4 -5 0/
+define;8;1;999999999999999999;8 1 0 -999999999999999999 0/";
 
 fn literals(alloc: Global, text: &str) -> Result<Vec<Lit>, Fail> {
     let mut literals = Vec::new(alloc);
@@ -49,46 +38,6 @@ fn ids(alloc: Global, text: &str) -> Result<Vec<Id>, Fail> {
     Ok(ids)
 }
 
-// What a row has before its line.
-fn read_parts(alloc: Global, row: &str) -> Result<Parts, Fail> {
-    let (id, rest) = row.split_once(';').ok_or("no literals")?;
-    let (clause, numbers) = rest.split_once(';').ok_or("no numbers")?;
-    Ok(Parts {
-        id: Id(id.parse::<u64>()?),
-        literals: literals(alloc, clause)?,
-        ids: ids(alloc, numbers)?,
-    })
-}
-
-// A call takes at most so many bytes, and the call of this number fails.
-fn expect_addition(
-    rt: &impl Abort,
-    alloc: Global,
-    row: &str,
-    piece: usize,
-    call: u64,
-) -> Result<(), Fail>
-    requires { 0 < piece }
-{
-    let (rest, wanted) = row.rsplit_once(';').ok_or("no line")?;
-    let line = read_parts(alloc, rest)?;
-    let mut host = failing_host(alloc, piece, call)?;
-    let mut sink = HostSink::new(&mut host, Role::Out);
-    let is_written = write_add(&mut sink, line.id, &line.literals, &line.ids).is_ok();
-    let given = outcome(alloc, &host, is_written)?;
-    expect_text(rt, alloc, given.as_str(), wanted)
-}
-
-/// Lines of additions, in pieces of one byte and by one call.
-#[test]
-fn additions(rt: HostRuntime) -> Result<(), Fail> {
-    for row in ADDITIONS.lines() {
-        expect_addition(&rt, rt.alloc(), row, 1, 0)?;
-        expect_addition(&rt, rt.alloc(), row, 1000, 2)?;
-    }
-    Ok(())
-}
-
 fn are_ids(ids: &[Id]) -> bool
     ensures { result ≡ list_all is_id ids.now }
 {
@@ -96,7 +45,47 @@ fn are_ids(ids: &[Id]) -> bool
         .all(|id| id.get() > 0 && id.get() <= 999999999999999999)
 }
 
-fn expect_definition(
+// Whether the line was written.
+fn is_written<S: Sink>(sink: &mut S, call: &str, id: Id, literals: &[Lit], ids: &[Id]) -> bool {
+    if call == "add" {
+        return write_add(sink, id, literals, ids).is_ok();
+    }
+    are_ids(ids) && write_define(sink, id, literals, ids).is_ok()
+}
+
+fn write<S: Sink>(alloc: Global, sink: &mut S, call: &str, parts: &str) -> Result<bool, Fail> {
+    let (id, rest) = cut(parts)?;
+    let (clause, numbers) = cut(rest)?;
+    let id = Id(id.parse::<u64>()?);
+    let literals = literals(alloc, clause)?;
+    let ids = ids(alloc, numbers)?;
+    Ok(is_written(sink, call, id, &literals, &ids))
+}
+
+// A host that takes at most so many bytes a call, and whose call of this number fails; with 0 none does.
+fn failing_host(alloc: Global, piece: usize, call: u64) -> Result<FailingHost, AllocError>
+    requires { 0 < piece }
+{
+    let fails = vec![in alloc; (Role::Out, call)]?;
+    Ok(FailingHost::new(MemoryHost::new(alloc), fails, piece))
+}
+
+// Compares what was written, behind a word on a failure.
+fn expect_output(
+    rt: &impl Abort,
+    alloc: Global,
+    host: &FailingHost,
+    is_written: bool,
+    wanted: &str,
+) -> Result<(), Fail> {
+    let text = str::from_utf8(host.output(Role::Out)).unwrap_or("no text");
+    let end = if is_written { "" } else { "failed behind " };
+    let given = format!(in alloc; "{end}{text}")?;
+    assert_eq!(rt; given.as_str(), wanted);
+    Ok(())
+}
+
+fn expect_line(
     rt: &impl Abort,
     alloc: Global,
     row: &str,
@@ -105,60 +94,74 @@ fn expect_definition(
 ) -> Result<(), Fail>
     requires { 0 < piece }
 {
-    let (rest, wanted) = row.rsplit_once(';').ok_or("no line")?;
-    let line = read_parts(alloc, rest)?;
-    let ids = line.ids.as_slice();
-    assert!(rt; are_ids(ids));
+    let (name, rest) = cut(row)?;
+    let (parts, wanted) = rest.rsplit_once(';').ok_or("no line")?;
     let mut host = failing_host(alloc, piece, call)?;
     let mut sink = HostSink::new(&mut host, Role::Out);
-    let is_written = write_define(&mut sink, line.id, &line.literals, ids).is_ok();
-    let given = outcome(alloc, &host, is_written)?;
-    expect_text(rt, alloc, given.as_str(), wanted)
+    let is_written = write(alloc, &mut sink, name, parts)?;
+    expect_output(
+        rt,
+        alloc,
+        &host,
+        is_written,
+        text_of(alloc, wanted)?.as_str(),
+    )
 }
 
-/// Lines of definitions, in pieces of one byte and by one call.
+/// In pieces of one byte, and by one call.
 #[test]
-fn definitions(rt: HostRuntime) -> Result<(), Fail> {
-    for row in DEFINITIONS.lines() {
-        expect_definition(&rt, rt.alloc(), row, 1, 0)?;
-        expect_definition(&rt, rt.alloc(), row, 1000, 2)?;
+fn lines(rt: HostRuntime) -> Result<(), Fail> {
+    for row in LINES.lines() {
+        expect_line(&rt, rt.alloc(), row, 1, 0)?;
+        expect_line(&rt, rt.alloc(), row, 1000, 2)?;
     }
     Ok(())
 }
 
-// The numbers 1 to 200, each with a space behind it.
-fn words(alloc: Global) -> Result<String, AllocError> {
+// The row of an addition of the numbers 1 to 200, up to its line.
+fn long_row(alloc: Global) -> Result<String, AllocError> {
     let mut words = String::new(alloc);
     for number in 1..201 {
         write!(words, "{number} ")?;
     }
-    Ok(words)
+    format!(in alloc; "add;201;{words};7;201 {words}0 7 0/")
 }
 
 /// A line longer than the buffer comes whole.
 #[test]
-fn long_clause(rt: HostRuntime) -> Result<(), Fail> {
-    let words = words(rt.alloc())?;
-    let row = format!(in rt.alloc(); "201;{words};7;201 {words}0 7 0/")?;
-    expect_addition(&rt, rt.alloc(), row.as_str(), 1, 0)?;
-    expect_addition(&rt, rt.alloc(), row.as_str(), 100, 0)?;
-    expect_addition(&rt, rt.alloc(), row.as_str(), 1000, 0)
+fn a_long_line(rt: HostRuntime) -> Result<(), Fail> {
+    let row = long_row(rt.alloc())?;
+    expect_line(&rt, rt.alloc(), row.as_str(), 1, 0)?;
+    expect_line(&rt, rt.alloc(), row.as_str(), 100, 0)?;
+    expect_line(&rt, rt.alloc(), row.as_str(), 1000, 0)
 }
 
 // So many calls take one byte each, and the next fails.
-fn expect_fault(rt: &impl Abort, alloc: Global, words: &str, taken: u32) -> Result<(), Fail> {
-    let line = format!(in alloc; "201 {words}0 7 0\n")?;
-    let front = line.as_str().get(..taken as usize).ok_or("no call")?;
-    let row = format!(in alloc; "201;{words};7;failed behind {front}")?;
-    expect_addition(rt, alloc, row.as_str(), 1, u64::from(taken) + 1)
+fn expect_fault(
+    rt: &impl Abort,
+    alloc: Global,
+    front: &str,
+    line: &str,
+    taken: usize,
+) -> Result<(), Fail> {
+    let written = line.get(..taken).unwrap_or(line);
+    let row = format!(in alloc; "{front};failed behind {written}")?;
+    expect_line(rt, alloc, row.as_str(), 1, (taken as u64).saturating_add(1))
+}
+
+fn expect_faults(rt: &impl Abort, alloc: Global, row: &str) -> Result<(), Fail> {
+    let (front, line) = row.rsplit_once(';').ok_or("no line")?;
+    for taken in 0..line.len() {
+        expect_fault(rt, alloc, front, line, taken)?;
+    }
+    Ok(())
 }
 
 /// A call of the sink fails, each in turn: what the calls before it took was written.
 #[test]
 fn faults(rt: HostRuntime) -> Result<(), Fail> {
-    let words = words(rt.alloc())?;
-    for taken in 0..LINE {
-        expect_fault(&rt, rt.alloc(), words.as_str(), taken)?;
+    for row in LINES.lines() {
+        expect_faults(&rt, rt.alloc(), row)?;
     }
-    Ok(())
+    expect_faults(&rt, rt.alloc(), long_row(rt.alloc())?.as_str())
 }

@@ -1,22 +1,17 @@
-// What the tests share: texts in rows, literals and numbers as text, and a host whose writes fail by plan.
-ghost use Rattle.std.specs.Prelude.{◌<◌};
-
+// What the tests share: rows and the texts in them; literals, numbers, orders and moves as text.
 use cnf_base::{Cnf, Id, Lit};
-use host_io::{FailingHost, MemoryHost, Role};
+use schedule_plan::{Order, Plan};
 use std::alloc::{AllocError, Global};
-use std::process::Abort;
 use std::test::Fail;
+
+/// What stands in front of a row's first semicolon and behind it.
+pub fn cut(row: &str) -> Result<(&str, &str), Fail> {
+    Ok(row.split_once(';').ok_or("no semicolon")?)
+}
 
 /// The text of a row, which writes `/` for a line feed.
 pub fn text_of(alloc: Global, row: &str) -> Result<String, AllocError> {
     row.replace(alloc, '/', "\n")
-}
-
-/// Compares a text with the one that a row wants.
-pub fn expect_text(rt: &impl Abort, alloc: Global, given: &str, row: &str) -> Result<(), Fail> {
-    let wanted = text_of(alloc, row)?;
-    assert_eq!(rt; given, wanted.as_str());
-    Ok(())
 }
 
 /// Puts literals, each behind a space.
@@ -46,18 +41,18 @@ pub fn push_clauses(out: &mut String, formula: &Cnf) -> Result<(), AllocError> {
     Ok(())
 }
 
-/// A host that takes at most so many bytes a call, and whose call of this number on standard output fails; with 0 none
-/// does.
-pub fn failing_host(alloc: Global, piece: usize, call: u64) -> Result<FailingHost, AllocError>
-    requires { 0 < piece }
-{
-    let fails = vec![in alloc; (Role::Out, call)]?;
-    Ok(FailingHost::new(MemoryHost::new(alloc), fails, piece))
+/// Puts the variables of an order.
+pub fn push_order(out: &mut String, order: &Order) -> Result<(), AllocError> {
+    let variables = order.as_slice();
+    write!(out, "{variables:?}")
 }
 
-/// What stands on standard output, behind a word on how the call ended.
-pub fn outcome(alloc: Global, host: &FailingHost, is_written: bool) -> Result<String, AllocError> {
-    let text = str::from_utf8(host.output(Role::Out)).unwrap_or("no text");
-    let end = if is_written { "" } else { "failed behind " };
-    format!(in alloc; "{end}{text}")
+/// Puts the moves in turn, each before a space.
+pub fn push_moves(out: &mut String, plan: &Plan) -> Result<(), AllocError> {
+    for place in 0..plan.len() {
+        if let Some(step) = plan.get(place) {
+            write!(out, "{step:?} ")?;
+        }
+    }
+    Ok(())
 }
