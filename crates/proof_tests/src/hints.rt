@@ -1,11 +1,16 @@
 // Hint lists whose expected values were worked out by hand from the diagrams. Rows write atoms: T and F for the
 // constants, else a literal. Parts stand between slashes and are numbered by their places from 1; where the text is
 // empty, or the clause true, there is no part.
-ghost use Rattle.std.specs.Prelude.{◌≤◌, length};
+ghost use Rattle.std.specs.Prelude.{◌≤◌, OnOk, length};
+ghost use Rattle.lrat_rules.specs.Chain.{literals_of};
+ghost use Rattle.hint_chain.specs.Greedy.{PartsClose};
 
 use crate::support::cut;
 use cnf_base::{Id, Lit};
-use hint_chain::{Atom, Part, ShortClause, clause_from_atoms, greedy_hints};
+use hint_chain::{
+    Atom, Part, ShortClause, and_high, and_low, clause_from_atoms, greedy_hints, imply_high,
+    imply_low,
+};
 use std::alloc::Global;
 use std::process::Abort;
 use std::test::Fail;
@@ -104,9 +109,6 @@ the result 12: from w's child up, from u and v down, the children's clause
 -1 -10 11;-10 -1 20 / 11 -1 -21 / -20 21; 1 2 3;the high side of an implication
 -10 11;-1 -10 11 / -10 1 20 / 11 1 -21 / -20 21; 1 2 3 4;the low side of an implication
 -1 -10 -11;-10 -1 11 / -11 -1; 2;what adds nothing is left out
--1 -2 -3 F;F -1 T / -2 -1 T / -3 -1 F / F T F; 3;the high side of the clauses `1` and `-1`, whose conjunction is False
--2 -3 F;-1 -2 -3 F / F 1 T / -2 1 F / -3 1 T / T F F; 1 3;their low side, behind the high addition
--10 11;-1 -10 11 / -10 1 T / 11 1 F / F T; 1 3;the low side of an implication, both children True
 1;2 3 / 1; none;two open literals
 1;1 2 / 2 -3; none;no conflict";
 
@@ -125,6 +127,107 @@ fn expect_choice(rt: &impl Abort, alloc: Global, row: &str) -> Result<(), Fail> 
 fn the_first_conflict_ends_the_list(rt: HostRuntime) -> Result<(), Fail> {
     for row in CHOICES.lines() {
         expect_choice(&rt, rt.alloc(), row)?;
+    }
+    Ok(())
+}
+
+// Fails where no part is a conflict.
+fn check_closes(alloc: Global, clause: &[Lit], parts: &[Option<Part>]) -> Result<(), Fail>
+    requires short { length clause.now ≤ 4 }
+    requires few { length parts.now ≤ 5 }
+    ensures { OnOk result (PartsClose (literals_of clause.now) parts.now) }
+{
+    match greedy_hints(alloc, clause, parts) {
+        Some(_) => Ok(()),
+        None => Err("no part is a conflict")?,
+    }
+}
+
+fn of_and_high(alloc: Global, clause: &[Lit], parts: &[Option<Part>]) -> Result<String, Fail>
+    requires { length clause.now ≤ 4 }
+{
+    let [a, b, c, d] = parts else {
+        return Err("not four parts")?;
+    };
+    let parts = [*a, *b, *c, *d];
+    check_closes(alloc, clause, &parts)?;
+    text_of(alloc, and_high(alloc, clause, parts).as_slice())
+}
+
+fn of_and_low(alloc: Global, clause: &[Lit], parts: &[Option<Part>]) -> Result<String, Fail>
+    requires { length clause.now ≤ 4 }
+{
+    let [a, b, c, d, e] = parts else {
+        return Err("not five parts")?;
+    };
+    let parts = [*a, *b, *c, *d, *e];
+    check_closes(alloc, clause, &parts)?;
+    text_of(alloc, and_low(alloc, clause, parts).as_slice())
+}
+
+fn of_imply_high(alloc: Global, clause: &[Lit], parts: &[Option<Part>]) -> Result<String, Fail>
+    requires { length clause.now ≤ 4 }
+{
+    let [a, b, c] = parts else {
+        return Err("not three parts")?;
+    };
+    let parts = [*a, *b, *c];
+    check_closes(alloc, clause, &parts)?;
+    text_of(alloc, imply_high(alloc, clause, parts).as_slice())
+}
+
+fn of_imply_low(alloc: Global, clause: &[Lit], parts: &[Option<Part>]) -> Result<String, Fail>
+    requires { length clause.now ≤ 4 }
+{
+    let [a, b, c, d] = parts else {
+        return Err("not four parts")?;
+    };
+    let parts = [*a, *b, *c, *d];
+    check_closes(alloc, clause, &parts)?;
+    text_of(alloc, imply_low(alloc, clause, parts).as_slice())
+}
+
+fn answer_of(
+    call: &str,
+    alloc: Global,
+    clause: &[Lit],
+    parts: &[Option<Part>],
+) -> Result<String, Fail>
+    requires { length clause.now ≤ 4 }
+{
+    match call {
+        "and_high" => of_and_high(alloc, clause, parts),
+        "and_low" => of_and_low(alloc, clause, parts),
+        "imply_high" => of_imply_high(alloc, clause, parts),
+        "imply_low" => of_imply_low(alloc, clause, parts),
+        _ => Err("no such call")?,
+    }
+}
+
+// The nodes 2 = (1, True, False) and 3 = (1, False, True) of the clauses `1` and `-1`, whose conjunction is False: the
+// high addition takes only the clause from 3 down, the low one the high addition and the clause from 2 down. And both
+// sides of an implication of 11 by 10; on the low side both children are True.
+const CALLS: &str = "\
+and_high;-1 -2 -3 F;F -1 T / -2 -1 T / -3 -1 F / F T F; 3
+and_low;-2 -3 F;-1 -2 -3 F / F 1 T / -2 1 F / -3 1 T / T F F; 1 3
+imply_high;-1 -10 11;-10 -1 20 / 11 -1 -21 / -20 21; 1 2 3
+imply_low;-10 11;-1 -10 11 / -10 1 T / 11 1 F / F T; 1 3";
+
+fn expect_hints(rt: &impl Abort, alloc: Global, row: &str) -> Result<(), Fail> {
+    let (call, row) = cut(row)?;
+    let (clause, row) = cut(row)?;
+    let (parts, wanted) = cut(row)?;
+    let clause = clause_in(alloc, clause)?.ok_or("no clause")?;
+    let parts = parts_in(alloc, parts)?;
+    let hints = answer_of(call, alloc, clause.as_slice(), parts.as_slice())?;
+    assert_eq!(rt; hints.as_str(), wanted, "{call}");
+    Ok(())
+}
+
+#[test]
+fn conjunctions_and_implications(rt: HostRuntime) -> Result<(), Fail> {
+    for row in CALLS.lines() {
+        expect_hints(&rt, rt.alloc(), row)?;
     }
     Ok(())
 }
