@@ -1,5 +1,5 @@
 -- What the reader's next answer says to what the steps ahead become.
-use Rattle.std.proofs.Common.{◌≡◌, ℕ, List, [], ◌++◌, Option, None, Some, Ok, Err, sym, ◌∙◌, ap, subst}
+use Rattle.std.proofs.Common.{◌≡◌, ℕ, [], ◌++◌, Option, None, Some, Ok, Err, sym, ◌∙◌, ap, subst}
 use Rattle.std.specs.Prelude.{Result}
 use Rattle.cnf_base.specs.declared.step.Step.{Step}
 use Rattle.lrat_text.specs.declared.error.StepError.{StepError}
@@ -9,7 +9,6 @@ use Rattle.lrat_text.specs.Reader.{Gives}
 use Rattle.lrat_rules.specs.declared.outcome.Reason.{Reason}
 use Rattle.lrat_rules.specs.State.{State}
 use Rattle.lrat_rules.specs.Run.{step_fault, after_step}
-use Rattle.drat_text.specs.DratText.{DratStep}
 use Rattle.drat_proof.specs.Drat.{drat_of_step, unless_fault, drat_of}
 
 module _ (state : State) (line : ℕ) (before after : Steps) (answer : Result (Option (Step × ℕ)) StepError)

@@ -1,12 +1,12 @@
 -- How a conversion comes to its answer: at the end, at an error of the reader, at a bad step, and where a step fails.
-use Rattle.std.proofs.Common.{◌≡◌, ℕ, ◌≤◌, Bool, true, false, List, [], ◌∷◌, ◌++◌, take, drop, length, Option, Some, None, Ok, Err, refl, sym}
-use Rattle.std.proofs.Common.{◌∙◌, ap, subst, arith}
+use Rattle.std.proofs.Common.{◌≡◌, ℕ, Bool, true, false, List, [], ◌++◌, take, drop, length, Option, Some, None, Ok, Err, refl, sym}
+use Rattle.std.proofs.Common.{◌∙◌, ap, subst}
 use Rattle.std.specs.Prelude.{◌≢◌, Result, IsTrue}
 use Rattle.std.proofs.lemmas.List.{append-nil}
 use Rattle.cnf_base.specs.declared.step.Step.{Step}
 use Rattle.host_io.specs.declared.source.Failed.{Failed}
 use Rattle.host_io.specs.Channel.{Channel, Rose, WritesAll}
-use Rattle.text_scan.specs.Decides.{gained, gained-then, Decides, Decides-then, OnlyReads, OnlyReads-then}
+use Rattle.text_scan.specs.Decides.{gained, gained-then, Decides, Decides-then, OnlyReads-then}
 use Rattle.lrat_text.specs.declared.error.StepError.{StepError}
 use Rattle.lrat_text.specs.declared.error.StepError.TheVariants.{Syntax, ReadFault as FailedRead, TooLong as LongText, OutOfMemory as NoMemory}
 use Rattle.lrat_text.specs.Reader.{Reader, steps_ahead, so_far}
@@ -24,8 +24,8 @@ use Rattle.drat_text.specs.DratText.{DratStep, drat_text}
 use Rattle.drat_proof.specs.declared.error.ConvertError.{ConvertError}
 use Rattle.drat_proof.specs.declared.error.ConvertError.TheVariants.{ReadFault, TooLong, OutOfMemory, WriteFault}
 use Rattle.drat_proof.specs.Drat.{drat_of_step, drat_of}
-use Rattle.drat_proof.specs.TwoRoles.{OnlyWrites, added}
-use Rattle.drat_proof.specs.Conversion.{HasVerdict, HasWritten, AreFirstLines, ReadsStep, ConvertsSteps, Takes, converted}
+use Rattle.drat_proof.specs.TwoRoles.{added}
+use Rattle.drat_proof.specs.Conversion.{HasWritten, AreFirstLines, ReadsStep, ConvertsSteps, Takes, converted}
 use Rattle.drat_proof.proofs.Roles.{OnlyWrites-then, only_writes}
 use Rattle.drat_proof.proofs.Added.{added_is, appended, front_more, front_of}
 use Rattle.drat_proof.proofs.DratTurns.{none_at_end, none_at_no_step, none_at_limit, none_at_bad_step, some_at_good_step}

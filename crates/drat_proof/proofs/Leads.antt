@@ -1,16 +1,14 @@
 -- How far a conversion has come: what is ahead of the first judge and reader is what was written, and what is ahead of these.
-use Rattle.std.proofs.Common.{◌≡◌, ℕ, Bool, true, false, ◌||◌, List, [], ◌∷◌, ◌++◌, Option, Some, None, Ok, Err, refl, sym, ◌∙◌, ap, append_assoc}
+use Rattle.std.proofs.Common.{◌≡◌, ℕ, Bool, true, false, ◌||◌, List, [], ◌++◌, Option, Some, None, Ok, Err, refl, sym, ◌∙◌, ap, append_assoc}
 use Rattle.std.specs.Prelude.{Result, IsTrue}
 use Rattle.std.proofs.lemmas.List.{append-nil}
 use Rattle.cnf_base.specs.declared.step.Step.{Step}
-use Rattle.host_io.specs.declared.source.Failed.{Failed}
 use Rattle.host_io.specs.Channel.{Channel, WritesAll}
 use Rattle.text_scan.specs.Decides.{gained, gained-none, Decides, Decides-none, Decides-then, front-then, OnlyReads, OnlyReads-then}
 use Rattle.text_scan.specs.Scan.{is_reading as is_scanning}
 use Rattle.lrat_text.specs.declared.error.StepError.{StepError}
-use Rattle.lrat_text.specs.declared.error.StepError.TheVariants.{ReadFault as FailedRead}
 use Rattle.lrat_text.specs.declared.reader.ReaderStatus.TheVariants.{Reading}
-use Rattle.lrat_text.specs.Reader.{Reader, GaveStep, Moves, given, steps_ahead, so_far}
+use Rattle.lrat_text.specs.Reader.{Reader, GaveStep, given, steps_ahead, so_far}
 use Rattle.lrat_text.specs.Wants.{wants_ahead}
 use Rattle.lrat_rules.specs.State.{State}
 use Rattle.lrat_rules.specs.Run.{step_fault, after_step, step_adds_empty}
@@ -19,7 +17,6 @@ use Rattle.lrat_checker.specs.Memory.{reading_may_want_memory}
 use Rattle.lrat_checker.proofs.Turns.{at_good_step, good_so_far}
 use Rattle.lrat_checker.proofs.Wanted.{behind_wants}
 use Rattle.drat_text.specs.DratText.{DratStep, drat_text}
-use Rattle.drat_proof.specs.declared.error.ConvertError.{ConvertError}
 use Rattle.drat_proof.specs.Drat.{drat_of_step, drat_of}
 use Rattle.drat_proof.specs.TwoRoles.{OnlyWrites}
 use Rattle.drat_proof.specs.Conversion.{ReadsStep}

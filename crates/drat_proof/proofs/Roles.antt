@@ -1,5 +1,5 @@
 -- Calls of one of two roles, one after another, leave alone what a call of both does.
-use Rattle.std.proofs.Common.{◌≡◌, ℕ, Bool, List, None, Some, Option, Result, refl, ◌∙◌, sym, arith}
+use Rattle.std.proofs.Common.{◌≡◌, ℕ, Bool, List, None, Option, Result, refl, ◌∙◌, sym, arith}
 use Rattle.host_io.specs.declared.role.Role.{Role}
 use Rattle.host_io.specs.declared.source.Failed.{Failed}
 use Rattle.host_io.specs.Channel.{Channel, WritesAll}

@@ -1,27 +1,17 @@
--- How a step was taken, by its parts.
-use Rattle.std.proofs.Common.{◌≡◌, ℕ, ℤ, Bool, List, [], ◌∷◌, ◌++◌, Option, None, Some, Ok, Err, refl, sym, ap, subst}
+-- How deletions are written, one after another.
+use Rattle.std.proofs.Common.{◌≡◌, ℕ, Bool, List, [], ◌∷◌, ◌++◌, Ok, Err, refl, sym, ap, subst}
 use Rattle.std.proofs.Common.{◌∙◌, ◌<◌, ◌+◌, suc, length, drop, get_or, append_assoc, arith}
 use Rattle.std.proofs.Math.Seq.{drop-cons}
-use Rattle.std.specs.Prelude.{Result, OnOk, IsErr}
+use Rattle.std.specs.Prelude.{Result, IsErr}
 use Rattle.std.specs.FinMap as map
 use Rattle.std.proofs.lemmas.List.{append-nil}
-use Rattle.cnf_base.specs.declared.step.Step.{Step}
 use Rattle.host_io.specs.declared.source.Failed.{Failed}
 use Rattle.host_io.specs.Channel.{Channel, WritesAll}
 use Rattle.host_io.proofs.Emitting.{in_turn, fails_within, alone, written_out, cut_before}
-use Rattle.lrat_rules.specs.State.{State, Live, clause_at, without_clauses}
-use Rattle.lrat_rules.specs.Run.{step_fault, after_step}
+use Rattle.lrat_rules.specs.State.{Live, clause_at, without_clauses}
 use Rattle.drat_text.specs.DratText.{DratStep, line_of_drat, drat_text}
-use Rattle.drat_proof.specs.Drat.{deletion_of, deletions, drat_of_step}
-use Rattle.drat_proof.specs.Conversion.{Takes, step_answer}
+use Rattle.drat_proof.specs.Drat.{deletion_of, deletions}
 use Rattle.drat_proof.proofs.Added.{text-append}
-
--- a good step that was written, or a front of it
-pub taken_by : {tells : Bool} {old new : Channel} (before after : State) (step : Step) (written : Result (Unit {0}) Failed)
-    → step_fault before step ≡ None → OnOk written (after ≡ after_step before step)
-    → WritesAll tells old new (drat_text (drat_of_step before step)) written → Takes tells old new before after step (step_answer written)
-taken_by before after step (Ok u) good moved writes = (good, moved, writes)
-taken_by before after step (Err e) good moved writes = (good, (e, writes))
 
 -- the line of one step is its text
 pub one_line : {tells : Bool} {old new : Channel} {written : Result (Unit {0}) Failed} (step : DratStep)

@@ -1,5 +1,5 @@
 -- What a call leaves alone that reads one role of a host and writes another.
-use Rattle.std.specs.Prelude.{◌≡◌, ℕ, ◌≤◌, List, ◌++◌, Option, IsFalse, length, drop}
+use Rattle.std.specs.Prelude.{◌≡◌, ℕ, ◌≤◌, List, Option, IsFalse, length, drop}
 use Rattle.host_io.specs.declared.role.Role.{Role}
 use Rattle.host_io.specs.Channel.{Channel}
 use Rattle.host_io.specs.Files.{Files, FilesBut, same_role}

@@ -1,5 +1,5 @@
 // One step of the proof: judged, and where it is good taken, and written as what it becomes.
-ghost use Rattle.std.specs.Prelude.{◌≡◌, ◌≢◌, ◌++◌, None, OnOk};
+ghost use Rattle.std.specs.Prelude.{◌≡◌, ◌≢◌, None, OnOk};
 ghost use Rattle.std.specs.Option.{option_copied};
 ghost use Rattle.std.specs.FinMap as map;
 ghost use Rattle.host_io.specs.declared.role.Role.TheVariants.{ProofOut};

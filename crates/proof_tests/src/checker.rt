@@ -30,7 +30,7 @@ fn add_clause(rt: &impl Abort, formula: &mut CnfBuilder, text: &str) -> Result<(
 }
 
 // The clauses stand between slashes.
-fn formula_of(rt: &impl Abort, alloc: Global, text: &str) -> Result<Cnf, Fail> {
+pub fn formula_of(rt: &impl Abort, alloc: Global, text: &str) -> Result<Cnf, Fail> {
     let clauses: Vec<&str> = text.split('/').collect(alloc)?;
     assert!(rt; clauses.len() < 10);
     let mut formula = CnfBuilder::new(alloc, VARS);

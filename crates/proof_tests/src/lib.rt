@@ -1,8 +1,10 @@
-//! Tests of the layers of proofs: `lrat_rules`, `lrat_checker`, `hint_chain`, `clause_ledger`.
+//! Tests of the layers of proofs: `lrat_rules`, `lrat_checker`, `drat_proof`, `hint_chain`, `clause_ledger`.
 #![tactic(auto)]
 
 #[cfg(test)]
 mod checker;
+#[cfg(test)]
+mod drat;
 #[cfg(test)]
 mod hints;
 #[cfg(test)]

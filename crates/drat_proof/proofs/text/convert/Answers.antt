@@ -1,6 +1,5 @@
 -- What is ahead of a new reader are the steps of the text.
 use Rattle.std.proofs.Common.{◌≡◌, ℕ, List, false, length, Err, rules, sym, ◌∙◌, ap, subst, inr, Option}
-use Rattle.std.specs.Prelude.{IsTrue}
 use Rattle.text_scan.specs.Decides.{Decides-map, Decides-none}
 use Rattle.lrat_text.specs.Reader.{steps_ahead, so_far}
 use Rattle.lrat_text.specs.Steps.{steps, steps_so_far}
