@@ -75,6 +75,13 @@ impl Judge {
         self.live.clause(id)
     }
 
+    /// Takes out the clause of this number, and passes over a number that isn't live.
+    pub fn remove(&mut self, id: Id)
+        ensures { self.new ≡ record self.old { live = map.remove self.old.live id } }
+    {
+        self.live.remove(id);
+    }
+
     fn add(
         &mut self,
         id: Id,

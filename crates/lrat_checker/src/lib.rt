@@ -23,5 +23,5 @@ mod verdict;
 
 pub use judge::Judge;
 pub use laws::check_law;
-pub use text::check;
+pub use text::{answer_to, check, or_adds_empty, verdict_at_end};
 pub use verdict::{CheckError, Verdict};

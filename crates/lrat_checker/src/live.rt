@@ -89,7 +89,8 @@ impl IndexedClauses {
         }
     }
 
-    fn remove(&mut self, id: Id)
+    /// Takes out the clause of this number, and passes over a number that isn't live.
+    pub fn remove(&mut self, id: Id)
         ensures { self.new ≡ map.remove self.old id }
     {
         lower(&mut self.counts, &self.clauses, id);

@@ -94,8 +94,8 @@ fn judge_steps<S: Source>(
     }
 }
 
-// A line that spells no step is refused; else there is no verdict.
-fn answer_to(error: StepError) -> Result<Verdict, CheckError>
+/// The answer where the reader of the proof gives an error: a line that spells no step is refused; else there is no verdict.
+pub fn answer_to(error: StepError) -> Result<Verdict, CheckError>
     ensures { result ≡ error_answer error }
 {
     match error {
@@ -109,8 +109,8 @@ fn answer_to(error: StepError) -> Result<Verdict, CheckError>
     }
 }
 
-// Whether an earlier step or this one adds the empty clause.
-fn or_adds_empty(has_empty: bool, step: &Step) -> bool
+/// Whether an earlier step or this one adds the empty clause.
+pub fn or_adds_empty(has_empty: bool, step: &Step) -> bool
     ensures { result ≡ (has_empty || step_adds_empty step.now) }
 {
     has_empty
@@ -120,7 +120,8 @@ fn or_adds_empty(has_empty: bool, step: &Step) -> bool
         }
 }
 
-fn verdict_at_end(has_empty: bool, line: u64) -> Verdict
+/// The verdict behind good steps, at the end of the proof, which stands on this line.
+pub fn verdict_at_end(has_empty: bool, line: u64) -> Verdict
     ensures { result ≡ end_verdict has_empty line }
 {
     if has_empty {

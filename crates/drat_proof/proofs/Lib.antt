@@ -1,0 +1,6 @@
+pub mod Roles
+pub mod Added
+pub mod DratTurns
+pub mod Leads
+pub mod Exits
+pub mod Taking

@@ -1,0 +1,102 @@
+-- What the answer of a conversion says of the text that was read, and of the bytes that were written.
+use Rattle.std.specs.Prelude.{◌≡◌, ◌≢◌, ℕ, Bool, false, List, ◌++◌, length, Option, None, Some, Result, Ok, Err, IsTrue, ⊤}
+use Rattle.cnf_base.specs.declared.step.Step.{Step}
+use Rattle.host_io.specs.Channel.{Channel, Rose, WritesAll}
+use Rattle.host_io.specs.declared.source.Failed.{Failed}
+use Rattle.text_scan.specs.Decides.{gained, Decides, OnlyReads}
+use Rattle.lrat_text.specs.declared.error.StepError.{StepError}
+use Rattle.lrat_text.specs.declared.error.StepError.TheVariants.{ReadFault as FailedRead}
+use Rattle.lrat_text.specs.Reader.{Reader, Gives, GivesSoFar, Moves, steps_ahead, so_far}
+use Rattle.lrat_text.specs.Wants.{Spends, wants_ahead}
+use Rattle.lrat_rules.specs.declared.outcome.Reason.{Reason}
+use Rattle.lrat_rules.specs.State.{State}
+use Rattle.lrat_rules.specs.Run.{step_fault, after_step}
+use Rattle.lrat_checker.specs.declared.verdict.Verdict.{Verdict}
+use Rattle.lrat_checker.specs.declared.verdict.CheckError.{CheckError}
+use Rattle.lrat_checker.specs.declared.verdict.CheckError.TheVariants.{ReadFault as CheckFault, TooLong as LongText, OutOfMemory as CheckMemory}
+use Rattle.lrat_checker.specs.Memory.{may_want_memory, reading_may_want_memory}
+use Rattle.lrat_checker.specs.TextVerdict.{steps_verdict}
+use Rattle.drat_text.specs.DratText.{DratStep, drat_text}
+use Rattle.drat_proof.specs.declared.error.ConvertError.{ConvertError}
+use Rattle.drat_proof.specs.declared.error.ConvertError.TheVariants.{ReadFault, TooLong, OutOfMemory, WriteFault}
+use Rattle.drat_proof.specs.Drat.{drat_of_step, drat_of}
+use Rattle.drat_proof.specs.TwoRoles.{OnlyWrites, added}
+
+-- why a check comes to no verdict, neither does a conversion
+abbrev pub convert_error : CheckError → ConvertError
+convert_error CheckFault = ReadFault
+convert_error LongText = TooLong
+convert_error CheckMemory = OutOfMemory
+
+abbrev pub converted : Result Verdict CheckError → Result Verdict ConvertError
+converted (Ok verdict) = Ok verdict
+converted (Err error) = Err (convert_error error)
+
+-- The answer is the verdict of the text. A failed call and want of memory say nothing of it.
+abbrev pub HasVerdict : Result Verdict ConvertError → Option Verdict → Type 0
+HasVerdict (Ok verdict) text = text ≡ Some verdict
+HasVerdict (Err TooLong) text = text ≡ None
+HasVerdict (Err ReadFault) text = ⊤
+HasVerdict (Err OutOfMemory) text = ⊤
+HasVerdict (Err WriteFault) text = ⊤
+
+-- the lines of the first of these steps
+pub record AreFirstLines (written : List ℕ) (steps : List DratStep) : Type 0 where
+  pub front : List DratStep
+  pub rest : List DratStep
+  pub parts : steps ≡ front ++ rest
+  pub lines : written ≡ drat_text front
+
+-- What was written of the text of these steps: all of it where the proof was read to its end, to a bad line or to the
+-- limit, a front of it after a failed write, and else whole lines.
+abbrev pub HasWritten : Result Verdict ConvertError → List ℕ → List DratStep → Type 0
+HasWritten (Ok verdict) written steps = written ≡ drat_text steps
+HasWritten (Err TooLong) written steps = written ≡ drat_text steps
+HasWritten (Err WriteFault) written steps = (rest : List ℕ) × (drat_text steps ≡ written ++ rest)
+HasWritten (Err ReadFault) written steps = AreFirstLines written steps
+HasWritten (Err OutOfMemory) written steps = AreFirstLines written steps
+
+-- Within a call. The next step was read from a role, as a reader of proofs tells it.
+pub record ReadsStep (tells : Bool) (old new : Channel) (before after : Reader) (answer : Result (Option (Step × ℕ)) StepError) : Type 0 where
+  pub gives : IsTrue tells → Decides old new (λ bytes more. Gives answer after.line (steps_ahead before bytes) (steps_ahead after more))
+  pub so_far : IsTrue tells → GivesSoFar answer before after (gained old new)
+  pub moves : Moves answer before after
+  pub spends : IsTrue tells → Decides old new
+      (λ bytes more. Spends answer (length more) (wants_ahead before bytes) (wants_ahead after more))
+  pub fault : answer ≡ Err FailedRead → Rose old.faults new.faults
+  pub unfailed : answer ≢ Err FailedRead → new.faults ≡ old.faults
+  pub reads : OnlyReads old new
+
+-- A step was judged, and where it is good taken and written, of which a front may be written where a write failed.
+abbrev pub Takes : Bool → Channel → Channel → State → State → Step → Result (Option Reason) ConvertError → Type 0
+Takes tells old new before after step (Ok None) = (step_fault before step ≡ None) × (after ≡ after_step before step)
+    × WritesAll {T = Unit {0}} tells old new (drat_text (drat_of_step before step)) (Ok tt)
+Takes tells old new before after step (Ok (Some reason)) = (step_fault before step ≡ Some reason) × (new ≡ old)
+Takes tells old new before after step (Err OutOfMemory) = IsTrue (may_want_memory before step) × (new ≡ old)
+Takes tells old new before after step (Err WriteFault) = (step_fault before step ≡ None)
+    × ((failed : Failed) × WritesAll {T = Unit {0}} tells old new (drat_text (drat_of_step before step)) (Err failed))
+Takes tells old new before after step (Err ReadFault) = ⊥
+Takes tells old new before after step (Err TooLong) = ⊥
+
+-- the answer for a good step, by how its write ended
+abbrev pub step_answer : Result (Unit {0}) Failed → Result (Option Reason) ConvertError
+step_answer (Ok u) = Ok None
+step_answer (Err e) = Err WriteFault
+
+-- The steps ahead of a judge and a reader were converted, reading one role and writing another.
+pub record ConvertsSteps (tells : Bool) (in_old in_new out_old out_new : Channel) (state : State) (reader : Reader)
+    (result : Result Verdict ConvertError) : Type 0 where
+  pub decides : IsTrue tells → Decides in_old in_new
+      (λ bytes more. HasVerdict result (steps_verdict state false (steps_ahead reader bytes)))
+  pub written : IsTrue tells → Decides in_old in_new
+      (λ bytes more. HasWritten result (added out_old out_new) (drat_of state (steps_ahead reader bytes)))
+  pub appended : IsTrue tells → out_new.written ≡ out_old.written ++ added out_old out_new
+  pub undecided : IsTrue tells → result ≡ Err ReadFault → steps_verdict state false (so_far reader (gained in_old in_new)) ≡ None
+  pub wants : IsTrue tells → result ≡ Err OutOfMemory → Decides in_old in_new
+      (λ bytes more. IsTrue (reading_may_want_memory (length more) state (wants_ahead reader bytes)))
+  pub read_fault : result ≡ Err ReadFault → Rose in_old.faults in_new.faults
+  pub write_fault : result ≡ Err WriteFault → Rose out_old.faults out_new.faults
+  pub unfailed_reads : result ≢ Err ReadFault → in_new.faults ≡ in_old.faults
+  pub unfailed_writes : result ≢ Err WriteFault → out_new.faults ≡ out_old.faults
+  pub reads : OnlyReads in_old in_new
+  pub writes : OnlyWrites out_old out_new

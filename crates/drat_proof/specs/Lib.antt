@@ -1,0 +1,3 @@
+pub mod Drat
+pub mod Conversion
+pub mod TwoRoles

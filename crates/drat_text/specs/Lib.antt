@@ -1,0 +1,2 @@
+pub mod DratText
+pub mod LineText
